@@ -1,0 +1,64 @@
+#!/usr/bin/env python3
+"""Measures `locks sim` in table mode on generated requests: requests per second and peak memory.
+
+Usage: bench/table_mode.py [REQUESTS]   (1,000,000 by default)
+
+The input mixes grants, refusals, repeated numbers and unreadable datagrams of 256 clients over 512 names. It is made
+before the clock starts, from a fixed start, so each run measures the same input.
+"""
+import os
+import random
+import resource
+import subprocess
+import sys
+import tempfile
+import time
+
+HERE = os.path.dirname(os.path.dirname(os.path.abspath(__file__)))
+HEADER = "4c4b0109" + "%016x" % 5 + "00000000"
+
+
+def body(draw, client, number):
+    name = b"name-%03d" % draw.randrange(512)
+    kind = draw.choice((1, 1, 1, 2, 3, 4))
+    text = bytes((kind, len(name))) + name
+    if kind in (2, 4):
+        text += (1 + number // 512).to_bytes(8, "big")
+    return text
+
+
+def lines(count):
+    draw = random.Random(1)
+    numbers = [0] * 257
+    yield "table 5\n"
+    for _ in range(count):
+        client = draw.randrange(1, 257)
+        if draw.random() < 0.9 or numbers[client] == 0:
+            numbers[client] += 1
+        number = numbers[client] if draw.random() < 0.97 else max(1, numbers[client] - 1)
+        text = body(draw, client, number)
+        line = HEADER + "%04x%016x00%02x" % (client, number, len(text)) + text.hex()
+        yield (line[:-2] if draw.random() < 0.02 else line) + "\n"
+
+
+def main():
+    count = int(sys.argv[1]) if len(sys.argv) > 1 else 1_000_000
+    program = os.path.join(HERE, "locks")
+    subprocess.run([program, "sim"], stdin=subprocess.DEVNULL, check=True)
+    with tempfile.TemporaryDirectory() as folder:
+        script = os.path.join(folder, "script.txt")
+        with open(script, "w") as file:
+            file.writelines(lines(count))
+        size = os.path.getsize(script)
+        with open(script, "rb") as source, open(os.devnull, "wb") as sink:
+            start = time.perf_counter()
+            subprocess.run([program, "sim"], stdin=source, stdout=sink, check=True)
+            seconds = time.perf_counter() - start
+    peak = resource.getrusage(resource.RUSAGE_CHILDREN).ru_maxrss
+    print(f"{count} requests, {size} bytes of input: {seconds:.2f} s, {count / seconds:,.0f} requests per second")
+    print(f"peak memory of all children, the generator not among them: {peak / 1024:.1f} MiB")
+    print(f"cores: {os.cpu_count()}, one used")
+
+
+if __name__ == "__main__":
+    main()

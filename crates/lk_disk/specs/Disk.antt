@@ -1,0 +1,52 @@
+-- A disk, what the calls of a device do to it, and what a stop may leave.
+use Rattle.std.specs.Prelude.{◌≡◌, ℕ, ◌+◌, ◌-◌, ◌^◌, ◌≤◌, min, List, [], ◌++◌, length, take, Result, IsErr}
+use Rattle.lk_disk.specs.declared.device.Side.{Side}
+use Rattle.lk_disk.specs.declared.device.Side.TheVariants.{A, B}
+
+-- the bytes that outlast a stop, and those behind them, of which a stop leaves a beginning
+pub record Disk : Type 0 where
+  pub synced : List ℕ
+  pub unsynced : List ℕ
+
+-- the other disk of the device
+abbrev pub other : Side → Side
+other A = B
+other B = A
+
+-- all bytes, as a read returns them
+abbrev pub contents : Disk → List ℕ
+contents d = d.synced ++ d.unsynced
+
+-- a stop leaves the synced bytes and a beginning of the others
+abbrev pub MayLeave : Disk → List ℕ → Type 0
+MayLeave d left = (n : ℕ) × (left ≡ d.synced ++ take n d.unsynced)
+
+-- a piece stands at the end, unsynced
+abbrev pub appended : Disk → List ℕ → Disk
+appended d piece = record { synced = d.synced; unsynced = d.unsynced ++ piece }
+
+-- all bytes are synced
+abbrev pub flushed : Disk → Disk
+flushed d = record { synced = contents d; unsynced = [] }
+
+-- the first n bytes, all of them synced
+abbrev pub cut_to : ℕ → Disk → Disk
+cut_to n d = record { synced = take n (contents d); unsynced = [] }
+
+-- after a stop that keeps up to n unsynced bytes, and is over: what is left is synced
+abbrev pub kept_by : ℕ → Disk → Disk
+kept_by n d = record { synced = d.synced ++ take n d.unsynced; unsynced = [] }
+
+-- a failed append has added a beginning of the piece
+abbrev pub AppendsSome : List ℕ → Disk → Disk → Type 0
+AppendsSome piece old new = (n : ℕ) × (new ≡ appended old (take n piece))
+
+-- a failed cut to n has left a beginning of the bytes, synced as far as n and the synced bytes reached
+pub record CutShort (n : ℕ) (old new : Disk) : Type 0 where
+  pub front : contents new ≡ take (length (contents new)) (contents old)
+  pub kept : min n (length old.synced) ≤ length new.synced
+
+-- failures are counted up to 2^64 - 1: the count never falls, and it rises in a call that fails, unless it stood there
+pub record HasCause {T E : Type 0} (before now : ℕ) (result : Result T E) : Type 0 where
+  pub later : before ≤ now
+  pub rises : IsErr result → min (before + 1) (2 ^ 64 - 1) ≤ now

@@ -1,0 +1,81 @@
+// A device of two disks, each seen as its synced bytes and the unsynced bytes behind them.
+ghost use Rattle.std.specs.Prelude.{◌≡◌, ◌≤◌, ◌<◌, ◌+◌, ℕ, length, slice_range, OnOk, OnErr, IfOk};
+ghost use Rattle.lk_disk.specs.Disk.{Disk, other, contents, appended, flushed, cut_to, AppendsSome, CutShort, HasCause};
+ghost use Rattle.lk_disk.specs.declared.device.Side.{Side};
+
+use thiserror::Error;
+
+/// Names one of the two disks of a device.
+#[derive(Clone, Copy, Debug, PartialEq, Eq)]
+pub enum Side {
+    A,
+    B,
+}
+
+/// The device failed in a call: refusal 7.
+#[derive(Clone, Copy, Debug, PartialEq, Eq, Error)]
+#[error("the device failed")]
+pub struct Device;
+
+impl Device {
+    /// The number of this refusal.
+    pub fn number(self) -> u8
+        ensures { result ≡ 7 }
+    {
+        7
+    }
+}
+
+/// A device of two disks, each a row of bytes that grows at its end.
+///
+/// The bytes up to some point are synced: they outlast a stop, which may take the unsynced bytes behind them from some
+/// byte on. What is said of the disks holds where the device is honest. An `Err` is counted in any case: the count of
+/// failures rose in that call, or stood at 2^64 - 1.
+pub trait LogDisk {
+    /// The two disks.
+    ghost disk: { Self → Side → Disk };
+
+    /// The disks do what is said here. It is a fact of the kind of device, so no call can end it.
+    ghost is_honest: { Type 0 };
+
+    /// How often a call has failed.
+    ghost failures: { Self → ℕ };
+
+    /// The number of bytes of a disk, synced or not.
+    fn length(&mut self, side: Side) -> Result<usize, Device>
+        ensures value { is_honest → IfOk result (λ n. n ≡ length (contents (disk self.old side))) }
+        ensures unchanged { is_honest → (s : Side) → disk self.new s ≡ disk self.old s }
+        ensures cause { HasCause (failures self.old) (failures self.new) result };
+
+    /// Fills the buffer with the bytes from the offset on. A read past the end fails. After an `Err` the buffer may hold
+    /// anything.
+    fn read_into(&mut self, side: Side, offset: usize, buffer: &mut [u8]) -> Result<(), Device>
+        ensures value { is_honest → OnOk result (buffer.new ≡ slice_range (contents (disk self.old side)) offset (offset + length buffer.old)) }
+        ensures within { is_honest → OnOk result (offset + length buffer.old ≤ length (contents (disk self.old side))) }
+        ensures unchanged { is_honest → (s : Side) → disk self.new s ≡ disk self.old s }
+        ensures cause { HasCause (failures self.old) (failures self.new) result };
+
+    /// Adds a piece at the end, unsynced. A failed call adds a beginning of it.
+    fn append(&mut self, side: Side, piece: &[u8]) -> Result<(), Device>
+        ensures ok { is_honest → OnOk result (disk self.new side ≡ appended (disk self.old side) piece.now) }
+        ensures err { is_honest → OnErr result (AppendsSome piece.now (disk self.old side) (disk self.new side)) }
+        ensures beside { is_honest → disk self.new (other side) ≡ disk self.old (other side) }
+        ensures cause { HasCause (failures self.old) (failures self.new) result };
+
+    /// Makes all bytes synced. A failed call changes nothing.
+    fn sync(&mut self, side: Side) -> Result<(), Device>
+        ensures ok { is_honest → OnOk result (disk self.new side ≡ flushed (disk self.old side)) }
+        ensures err { is_honest → OnErr result (disk self.new side ≡ disk self.old side) }
+        ensures beside { is_honest → disk self.new (other side) ≡ disk self.old (other side) }
+        ensures cause { HasCause (failures self.old) (failures self.new) result };
+
+    /// Leaves the first `len` bytes, all of them synced. A failed call leaves those that are synced of them, and may
+    /// leave more. A cut past the end fails and changes nothing.
+    fn cut(&mut self, side: Side, len: usize) -> Result<(), Device>
+        ensures ok { is_honest → OnOk result (disk self.new side ≡ cut_to len (disk self.old side)) }
+        ensures within { is_honest → OnOk result (len ≤ length (contents (disk self.old side))) }
+        ensures err { is_honest → OnErr result (CutShort len (disk self.old side) (disk self.new side)) }
+        ensures past_end { is_honest → length (contents (disk self.old side)) < len → disk self.new side ≡ disk self.old side }
+        ensures beside { is_honest → disk self.new (other side) ≡ disk self.old (other side) }
+        ensures cause { HasCause (failures self.old) (failures self.new) result };
+}

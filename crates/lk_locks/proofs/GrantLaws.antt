@@ -1,0 +1,130 @@
+-- The fences granted for a name are 1, 2, 3 and so on.
+use Rattle.std.proofs.Common.{◌≡◌, ℕ, ◌+◌, ◌⊎◌, Bool, true, false, cond, ltb, eqb, ◌&&◌, List, [], ◌∷◌, ◌++◌, length, Option, Some, None, Ok, Err, refl, sym, ap, subst, ◌∙◌, inl, inr}
+use Rattle.std.specs.Prelude.{is_some}
+use Rattle.std.proofs.lemmas.Bool.{eqb-true}
+use Rattle.std.specs.Ordering.{nat_cmp, eq_by_cmp, is_eq}
+use Rattle.std.specs.declared.cmp.Ordering.{Ordering}
+use Rattle.std.specs.declared.cmp.Ordering.TheVariants.{Less, Equal, Greater}
+use Rattle.std.specs.Cmp.Lexicographic.{slice_cmp, nat_list_cmp_total}
+use Rattle.std.specs.FinMap as map
+use Rattle.lk_types.specs.declared.answer.Answer.TheVariants.{NoRoom, Spent, Valid, Stale}
+use Rattle.lk_locks.specs.declared.body.Body.{Body}
+use Rattle.lk_locks.specs.declared.body.Body.TheVariants.{Acquire, Release, Ask, Check}
+use Rattle.lk_locks.specs.declared.slot.Slot.{Slot}
+use Rattle.lk_locks.specs.Bodies.{body_of}
+use Rattle.lk_locks.specs.Plain.{Table, row, name_of, changed, answer_to, table_after, next, granting_again, granted_to, acquired, is_held_by, released, asked, asked_again, checked}
+use Rattle.lk_locks.specs.Grants.{Call, is_for, fences, grants_from, grants, numbers_from}
+
+-- the last fence of a name
+abbrev last_fence : Option Slot → ℕ
+last_fence None = 0
+last_fence (Some s) = s.fence
+
+-- what a name has after a row
+abbrev after : Option Slot → Option Slot → Option Slot
+after s None = s
+after s (Some t) = Some t
+
+-- either nothing is granted and the last fence stays, or the next one is granted
+abbrev Goes : ℕ → ℕ → List ℕ → Type 0
+Goes old new granted = ((granted ≡ []) × (new ≡ old)) ⊎ ((granted ≡ (old + 1) ∷ []) × (new ≡ old + 1))
+
+stays : (n : ℕ) (granted : List ℕ) → granted ≡ [] → Goes n n granted
+stays n granted e = inl (e, refl)
+
+either : (b : Bool) → (b ≡ true) ⊎ (b ≡ false)
+either true = inl refl
+either false = inr refl
+
+-- ---- each kind of body, at its own name
+
+again : (client fence : ℕ) (holder : Option ℕ) (s : Slot) → s.fence ≡ fence → let r = granted_to client (granting_again fence holder) in Goes s.fence (last_fence (after (Some s) r.change)) (fences r.answer)
+again client fence (Some holder) s e = stays s.fence [] refl
+again client fence None s e =
+    elim (ltb fence 281474976710656) as (λ b. let r = granted_to client (cond b (Ok (fence + 1)) (Err Spent)) in Goes s.fence (last_fence (after (Some s) r.change)) (fences r.answer)) [
+      | true ↦ inr (ap (λ (n : ℕ). (n + 1) ∷ []) (sym e), ap (λ (n : ℕ). n + 1) (sym e))
+      | false ↦ stays s.fence [] refl
+    ]
+
+acquire_goes : (client : ℕ) (s : Option Slot) (names : ℕ) → let r = acquired client s names in Goes (last_fence s) (last_fence (after s r.change)) (fences r.answer)
+acquire_goes client (Some s) names = again client s.fence s.holder s refl
+acquire_goes client None names =
+    elim (ltb names 512) as (λ b. let r = granted_to client (cond b (Ok 1) (Err NoRoom)) in Goes 0 (last_fence (after None r.change)) (fences r.answer)) [
+      | true ↦ inr (refl, refl)
+      | false ↦ stays 0 [] refl
+    ]
+
+tested : (b : Bool) (x y : ℕ) → (((b && eqb x y) ≡ true) × (x ≡ y)) ⊎ ((b && eqb x y) ≡ false)
+tested false x y = inr refl
+tested true x y = elim (either (eqb x y)) [ inl e ↦ inl (e, eqb-true x y e) | inr e ↦ inr e ]
+
+release_goes : (client fence : ℕ) (s : Option Slot) → let r = released client fence s in Goes (last_fence s) (last_fence (after s r.change)) (fences r.answer)
+release_goes client fence None = stays 0 [] refl
+release_goes client fence (Some s) =
+    elim (tested (is_held_by client s.holder) s.fence fence) [
+      | inl h ↦ rw h.0 (inl (refl, sym h.1))
+      | inr h ↦ rw h (stays s.fence [] refl)
+    ]
+
+ask_goes : (s : Option Slot) → fences (asked s) ≡ []
+ask_goes None = refl
+ask_goes (Some s) = by s.fence s.holder
+  where
+    by : (fence : ℕ) (holder : Option ℕ) → fences (asked_again fence holder) ≡ []
+    by fence (Some holder) = refl
+    by fence None = refl
+
+check_goes : (fence : ℕ) (s : Option Slot) → fences (checked fence s) ≡ []
+check_goes fence None = refl
+check_goes fence (Some s) =
+    elim (is_some s.holder && eqb s.fence fence) as (λ b. fences (cond b Valid Stale) ≡ []) [ true ↦ refl | false ↦ refl ]
+
+own_goes : (client : ℕ) (body : Body) (m : Table) → let r = row client body m in let s = map.get m (name_of body) in Goes (last_fence s) (last_fence (after s r.change)) (fences r.answer)
+own_goes client (Acquire name) m = acquire_goes client (map.get m name) (map.len m)
+own_goes client (Release name fence) m = release_goes client fence (map.get m name)
+own_goes client (Ask name) m = stays _ _ (ask_goes (map.get m name))
+own_goes client (Check name fence) m = stays _ _ (check_goes fence (map.get m name))
+
+-- ---- any name
+
+equal : (o : Ordering) → is_eq o ≡ true → o ≡ Equal
+equal Less e = absurd cc
+equal Equal e = refl
+equal Greater e = absurd cc
+
+same_or_not : (q name : List ℕ) → ((eq_by_cmp (slice_cmp nat_cmp) q name ≡ true) × (q ≡ name)) ⊎ (eq_by_cmp (slice_cmp nat_cmp) q name ≡ false)
+same_or_not q name =
+    elim (either (eq_by_cmp (slice_cmp nat_cmp) q name)) [
+      | inl e ↦ inl (e, map.slice_cmp-IsAntisymmetric map.nat_cmp-IsAntisymmetric q name (equal (slice_cmp nat_cmp q name) e))
+      | inr e ↦ inr e
+    ]
+
+-- what a name has in the table after a change of another or of itself
+get-changed : (name : List ℕ) (change : Option Slot) (m : Table) (q : List ℕ) → map.get (changed name change m) q ≡ cond (eq_by_cmp (slice_cmp nat_cmp) q name) (after (map.get m name) change) (map.get m q)
+get-changed name None m q = elim (same_or_not q name) [
+  | inl e ↦ rw e.0 (ap (map.get m) e.1)
+  | inr e ↦ rw e refl
+]
+get-changed name (Some s) m q = map.get-insert nat_list_cmp_total m name s q
+
+one_goes : (client : ℕ) (body : Option Body) (m : Table) (q : List ℕ) → Goes (last_fence (map.get m q)) (last_fence (map.get (table_after client body m) q)) (cond (is_for q body) (fences (answer_to client body m)) [])
+one_goes client None m q = stays _ _ refl
+one_goes client (Some body) m q =
+    let now = get-changed (name_of body) (row client body m).change m q in
+    elim (same_or_not q (name_of body)) [
+      | inl e ↦ rw (now, e.0) (subst (λ (x : List ℕ). Goes (last_fence (map.get m x)) (last_fence (after (map.get m (name_of body)) (row client body m).change)) (fences (row client body m).answer)) (sym e.1) (own_goes client body m))
+      | inr e ↦ rw (now, e) (stays _ _ refl)
+    ]
+
+-- ---- all calls
+
+rise : (q : List ℕ) (m : Table) (calls : List Call) → grants_from q m calls ≡ numbers_from (last_fence (map.get m q) + 1) (length (grants_from q m calls))
+rise q m [] = refl
+rise q m (call ∷ calls) = joined _ _ _ _ (one_goes call.0 (body_of call.1) m q) (rise q (next call.0 call.1 m) calls)
+  where
+    joined : (old new : ℕ) (granted rest : List ℕ) → Goes old new granted → rest ≡ numbers_from (new + 1) (length rest) → granted ++ rest ≡ numbers_from (old + 1) (length (granted ++ rest))
+    joined old new granted rest (inl g) e = rw g.0 (e ∙ ap (λ (n : ℕ). numbers_from (n + 1) (length rest)) g.1)
+    joined old new granted rest (inr g) e = rw g.0 (ap (λ (t : List ℕ). (old + 1) ∷ t) (e ∙ ap (λ (n : ℕ). numbers_from (n + 1) (length rest)) g.1))
+
+pub law : (name : List ℕ) (calls : List Call) → grants name calls ≡ numbers_from 1 (length (grants name calls))
+law name calls = rise name map.empty calls ∙ ap (λ (s : Option Slot). numbers_from (last_fence s + 1) (length (grants name calls))) (map.get-empty (slice_cmp nat_cmp) name)

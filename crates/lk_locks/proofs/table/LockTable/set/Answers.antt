@@ -1,0 +1,20 @@
+use Rattle.std.proofs.Common.{ap, sym, ◌∙◌, Result, Ok, Err}
+use Rattle.std.specs.Prelude.{OnErr}
+use Rattle.std.specs.Cmp.Lexicographic.{nat_list_cmp_total}
+use Rattle.std.specs.FinMap as map
+use Rattle.lk_locks.proofs.Maps.{get_is, one_set}
+use Rattle.lk_locks.proofs.table.LockTable.set.Goals as goal
+
+pub returns-clause-ok : goal.returns-clause-ok
+returns-clause-ok c =
+    one_set nat_list_cmp_total (map.slice_cmp-IsAntisymmetric map.nat_cmp-IsAntisymmetric) c.self.inside.slots.entries c.insert.new.self.entries c.args.name c.args.slot c.in_ok-insert.ensures.updates.0
+    ∙ ap (λ m. map.insert m c.args.name c.args.slot) c.self.view_is
+
+on_err : {T E P : Type 0} (r : Result T E) → P → OnErr r P
+on_err (Ok x) p = tt
+on_err (Err e) p = p
+
+pub returns-in_err-insert-clause-absent : goal.returns-in_err-insert-clause-absent
+returns-in_err-insert-clause-absent c =
+    on_err c.from_residual.result
+    (ap (λ m. map.get m c.args.name) (sym c.self.view_is) ∙ get_is nat_list_cmp_total c.self.inside.slots.entries c.args.name ∙ c.in_err-insert.ensures.absent)

@@ -1,0 +1,15 @@
+//! The lock table: what clients ask of it, and what it answers.
+#![tactic(auto)]
+
+mod body;
+pub mod laws;
+mod name;
+mod slot;
+mod table;
+#[cfg(test)]
+mod tests;
+
+pub use body::Body;
+pub use name::Name;
+pub use slot::Slot;
+pub use table::LockTable;

@@ -1,0 +1,60 @@
+ghost use Rattle.std.specs.Prelude.{◌≡◌, ◌≤◌, ◌↔◌, length, IsSome, IfSome};
+ghost use Rattle.std.specs.List.{list_all};
+ghost use Rattle.lk_locks.specs.Names.{IsName, is_name_byte};
+
+use arrayvec::ArrayVec;
+use std::marker::Model;
+
+/// The name of a lock: 1 to 32 bytes of `a` to `z`, `0` to `9`, `-`, `.` and `/`.
+#[derive(Clone, Debug, PartialEq, Eq, PartialOrd, Ord, Drop)]
+pub struct Name {
+    bytes: ArrayVec<u8, 32>,
+}
+
+impl Model for Name {
+    ghost use Rattle.std.specs.Prelude.{ℕ, List};
+    ghost use Rattle.lk_locks.specs.Names.{IsName};
+
+    ghost Value = { List ℕ };
+
+    ghost view = { λ n. n.bytes.items };
+
+    ghost invariant = { λ n. IsName n.bytes.items };
+
+    ghost inverse = { λ xs. record { bytes = record { items = xs } } };
+}
+
+fn may_stand(byte: u8) -> bool
+    ensures { result ≡ is_name_byte byte }
+{
+    matches!(byte, b'a'..=b'z' | b'0'..=b'9' | b'-' | b'.' | b'/')
+}
+
+fn all_may_stand(bytes: &[u8]) -> bool
+    ensures { result ≡ list_all is_name_byte bytes.now }
+{
+    bytes.iter().all(|byte| may_stand(*byte))
+}
+
+impl Name {
+    /// The name, or `None` where the bytes are none.
+    pub fn of(bytes: &[u8]) -> Option<Name>
+        ensures some { IsSome result ↔ IsName bytes.now }
+        ensures value { IfSome result (λ n. n ≡ bytes.now) }
+    {
+        if bytes.is_empty() || bytes.len() > 32 || !all_may_stand(bytes) {
+            return None;
+        }
+        let bytes = ArrayVec::try_from(bytes).ok()?;
+        Some(Name { bytes })
+    }
+
+    /// The bytes.
+    pub fn as_slice(&self) -> &[u8]
+        ensures value { result.now ≡ self.now }
+        ensures fits { IsName self.now }
+        ensures short { length self.now ≤ 32 }
+    {
+        self.bytes.as_slice()
+    }
+}

@@ -1,0 +1,48 @@
+ghost use Rattle.std.specs.Prelude.{◌≡◌};
+ghost use Rattle.lk_locks.specs.Plain.{granting, asked, checked};
+
+use lk_types::{Answer, ClientNo, Fence, LastFence};
+
+/// The last fence of a name, and who holds it, if anyone does.
+#[derive(Clone, Copy, Debug, PartialEq, Eq)]
+pub struct Slot {
+    pub fence: Fence,
+    pub holder: Option<ClientNo>,
+}
+
+/// The fence at which a name is granted, or why it is not.
+pub(crate) fn grant(slot: Option<Slot>, names: usize) -> Result<Fence, Answer>
+    ensures { result ≡ granting slot names }
+{
+    match slot {
+        None if names >= 512 => Err(Answer::NoRoom),
+        None => Ok(Fence::default()),
+        Some(slot) => match slot.holder {
+            Some(holder) => Err(Answer::Busy(holder, slot.fence)),
+            None => Fence::of(slot.fence.get() + 1).ok_or(Answer::Spent),
+        },
+    }
+}
+
+/// Who holds a name.
+pub(crate) fn ask(slot: Option<Slot>) -> Answer
+    ensures { result ≡ asked slot }
+{
+    match slot {
+        None => Answer::Free(LastFence::default()),
+        Some(slot) => match slot.holder {
+            Some(holder) => Answer::Held(holder, slot.fence),
+            None => Answer::Free(LastFence::of(slot.fence.get()).unwrap()),
+        },
+    }
+}
+
+/// Whether a name is held at that fence, by anyone.
+pub(crate) fn check(slot: Option<Slot>, fence: Fence) -> Answer
+    ensures { result ≡ checked fence slot }
+{
+    match slot {
+        Some(slot) if slot.holder.is_some() && slot.fence == fence => Answer::Valid,
+        _ => Answer::Stale,
+    }
+}

@@ -1,0 +1,5 @@
+pub mod HexSpelling
+pub mod LineLemmas
+pub mod ServerLemmas
+pub mod PrintLemmas
+pub mod ScriptLemmas

@@ -1,0 +1,21 @@
+-- The lines of a text.
+use Rattle.std.specs.Prelude.{◌≡◌, ◌==◌, ℕ, Option, Some, List, [], ◌∷◌, if◌then◌else◌}
+
+-- the first line with one more byte in front
+abbrev pub with_byte : ℕ → List (List ℕ) → List (List ℕ)
+with_byte b [] = (b ∷ []) ∷ []
+with_byte b (line ∷ lines) = (b ∷ line) ∷ lines
+
+-- each line ends with a line feed, which the last may lack
+abbrev pub lines_of : List ℕ → List (List ℕ)
+lines_of [] = []
+lines_of (b ∷ text) = if b == 10 then [] ∷ lines_of text else with_byte b (lines_of text)
+
+-- the bytes before the first line feed
+abbrev pub first_line : List ℕ → List ℕ
+first_line [] = []
+first_line (b ∷ text) = if b == 10 then [] else b ∷ first_line text
+
+-- a line was taken from the front of the text, and the rest is left
+abbrev pub TakesLine : List ℕ → List ℕ → Option (List ℕ) → Type 0
+TakesLine text line left = (rest : List ℕ) × (left ≡ Some rest) × (lines_of text ≡ line ∷ lines_of rest)

@@ -1,0 +1,92 @@
+//! Scripts, line by line.
+
+ghost use Rattle.std.specs.Prelude.{◌≡◌, ◌≢◌, ◌<◌, ◌^◌, List, ℕ, Some, Ok, Err, IfOk, IfErr, IfSome, IfNone, OnOk, IsNone, IsErrOf, string_bytes, codes};
+ghost use Rattle.std.specs.Io.KnownBytes.{Appends};
+ghost use Rattle.lk_main.specs.Lines.{lines_of};
+ghost use Rattle.lk_main.specs.TableMode.{Script, begun, Takes, Runs, IsTableLine};
+ghost use Rattle.lk_main.specs.Script.{IsLeft};
+ghost use Rattle.lk_main.specs.Sums.{Fits};
+
+use crate::fault::{LineFault, ScriptFault};
+use crate::lines::next_line;
+use crate::server::Server;
+use std::alloc::{AllocError, Global};
+use std::io::{BufRead, Write};
+
+/// The number behind the word.
+fn cluster_named(line: &[u8]) -> Option<u64>
+    ensures { (cluster : ℕ) → IsTableLine line.now cluster → result ≡ Some cluster }
+{
+    let digits = line.strip_prefix(b"table ".as_slice())?;
+    let digits = str::from_utf8(digits).ok()?;
+    digits.parse().ok()
+}
+
+/// The line that begins table mode for the cluster.
+fn table_line(alloc: Global, cluster: u64) -> Result<String, AllocError>
+    ensures { IfOk result (λ text. IsTableLine (string_bytes text) cluster) }
+{
+    format!(in alloc; "table {cluster}")
+}
+
+/// The cluster for which a line begins table mode.
+fn cluster_of(alloc: Global, line: &[u8]) -> Result<u64, LineFault>
+    ensures ok { IfOk result (IsTableLine line.now) }
+    ensures not_understood { IsErrOf result LineFault.NotUnderstood → (cluster : ℕ) → IsTableLine line.now cluster → ⊥ }
+{
+    let cluster = cluster_named(line).ok_or(LineFault::NotUnderstood)?;
+    if table_line(alloc, cluster)?.as_bytes() != line {
+        return Err(LineFault::NotUnderstood);
+    }
+    Ok(cluster)
+}
+
+/// Takes a line that is not empty, and answers what it prints.
+fn take_line(alloc: Global, server: &mut Option<Server>, line: &[u8]) -> Result<String, LineFault>
+    ensures ok { IfOk result (λ text. (s : Script) → Fits s server.old → (after : Script) × Takes s line.now (string_bytes text) after × Fits after server.new) }
+    ensures not_understood { IsErrOf result LineFault.NotUnderstood → (s : Script) → Fits s server.old → (out : List ℕ) (after : Script) → Takes s line.now out after → ⊥ }
+{
+    match server {
+        Some(server) => server.print_line(alloc, line),
+        None => {
+            *server = Some(Server::new(alloc, cluster_of(alloc, line)?));
+            Ok(String::new(alloc))
+        }
+    }
+}
+
+/// Writes a text.
+fn write_text<W: Write>(writer: &mut W, text: &str) -> Result<(), ScriptFault>
+    ensures ok { OnOk result (Appends (W.contents writer.old) (W.contents writer.new) text.now) }
+    ensures err { IfErr result (λ fault. fault ≡ ScriptFault.Write) }
+{
+    match writer.write_all(text.as_bytes()) {
+        Ok(()) => Ok(()),
+        Err(_) => Err(ScriptFault::Write),
+    }
+}
+
+/// Runs the script that the reader gives, line by line, and writes what each line prints.
+pub fn run_script<R: BufRead, W: Write>(
+    alloc: Global,
+    reader: &mut R,
+    writer: &mut W,
+) -> Result<(), ScriptFault>
+    ensures ok { result ≡ Ok tt → IfSome (R.remaining reader.old) (λ input. (text : List ℕ) × Runs begun 1 (lines_of input) text None × Appends (W.contents writer.old) (W.contents writer.new) text) }
+    ensures err { IfErr result (λ fault. fault ≢ ScriptFault.Write → IfSome (R.remaining reader.old) (λ input. (text : List ℕ) × IsLeft input text fault × Appends (W.contents writer.old) (W.contents writer.new) text)) }
+{
+    let mut line = Vec::new(alloc);
+    let mut server = None;
+    for number in 1..u32::MAX {
+        if !next_line(reader, &mut line)? {
+            return Ok(());
+        }
+        if !line.is_empty() {
+            match take_line(alloc, &mut server, &line) {
+                Ok(text) => write_text(writer, &text)?,
+                Err(fault) => return Err(fault.at(number)),
+            }
+        }
+    }
+    Err(ScriptFault::Read)
+}

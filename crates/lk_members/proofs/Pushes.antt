@@ -1,0 +1,58 @@
+-- One entry more: which requests count, the roster, and its last change.
+use Rattle.std.proofs.Common.{◌≡◌, ◌+◌, cond, List, [], ◌∷◌, ◌++◌, length, Option, Some, None, fold, refl, ap, sym, ◌∙◌, append_assoc, append-nil}
+use Rattle.std.specs.List.{filter_map}
+use Rattle.std.proofs.lemmas.List.Sums.{fold-append}
+use Rattle.std.proofs.lemmas.List.Elements.{filter_map-append}
+use Rattle.lk_members.specs.Counting.{Command, RequestValue, Placed, counted, placed_behind, placed, counting}
+use Rattle.lk_members.specs.Rosters.{Genesis, PlainRoster, next_roster, first_roster, roster_of, grants, is_change, last_change}
+
+placed_behind-push : (before rest : List Command) (c : Command) → placed_behind before (rest ++ c ∷ []) ≡ placed_behind before rest ++ record { before = before ++ rest; entry = c } ∷ []
+placed_behind-push before [] c = ap (λ (l : List Command). let p : Placed = record { before = l; entry = c } in p ∷ []) (sym (append-nil before))
+placed_behind-push before (x ∷ rest) c =
+    let first : Placed = record { before = before; entry = x } in
+    ap (λ (ps : List Placed). first ∷ ps)
+    (placed_behind-push (before ++ x ∷ []) rest c ∙ ap (λ (l : List Command). let p : Placed = record { before = l; entry = c } in placed_behind (before ++ x ∷ []) rest ++ p ∷ []) (append_assoc before (x ∷ []) rest))
+
+pub placed-push : (L : List Command) (c : Command) → placed (L ++ c ∷ []) ≡ placed L ++ record { before = L; entry = c } ∷ []
+unfolding placed
+placed-push L c = placed_behind-push [] L c
+
+-- the requests that one entry adds to those that count
+abbrev pub added : Option RequestValue → List RequestValue
+added None = []
+added (Some r) = r ∷ []
+
+added_is : (o : Option RequestValue) (p : Placed) → counted p.before p.entry ≡ o → filter_map (λ (p : Placed). counted p.before p.entry) (p ∷ []) ≡ added o
+added_is None p e = rw e refl
+added_is (Some r) p e = rw e refl
+
+pub counting-push : (L : List Command) (c : Command) → counting (L ++ c ∷ []) ≡ counting L ++ added (counted L c)
+unfolding counting
+counting-push L c =
+    let p : Placed = record { before = L; entry = c } in
+    ap (filter_map (λ (p : Placed). counted p.before p.entry)) (placed-push L c)
+    ∙ filter_map-append (λ (p : Placed). counted p.before p.entry) (placed L) (p ∷ [])
+    ∙ ap (λ (rs : List RequestValue). counting L ++ rs) (added_is (counted L c) p refl)
+
+-- the roster behind a request that counts, or none
+abbrev pub roster_behind : PlainRoster → Option RequestValue → PlainRoster
+roster_behind r None = r
+roster_behind r (Some q) = next_roster r q.op
+
+fold_added : (r : PlainRoster) (o : Option RequestValue) → fold (λ (r : PlainRoster) (q : RequestValue). next_roster r q.op) r (added o) ≡ roster_behind r o
+fold_added r None = refl
+fold_added r (Some q) = refl
+
+pub roster_of-push : (genesis : Genesis) (L : List Command) (c : Command) → roster_of genesis (L ++ c ∷ []) ≡ roster_behind (roster_of genesis L) (counted L c)
+unfolding roster_of
+roster_of-push genesis L c =
+    ap (fold (λ (r : PlainRoster) (q : RequestValue). next_roster r q.op) (first_roster genesis)) (counting-push L c)
+    ∙ fold-append (λ (r : PlainRoster) (q : RequestValue). next_roster r q.op) (first_roster genesis) (counting L) (added (counted L c))
+    ∙ fold_added (roster_of genesis L) (counted L c)
+
+pub last_change-push : (genesis : Genesis) (L : List Command) (c : Command) → last_change genesis (L ++ c ∷ []) ≡ cond (grants (roster_of genesis L) (counted L c)) (length L + 1) (last_change genesis L)
+unfolding last_change
+last_change-push genesis L c =
+    let p : Placed = record { before = L; entry = c } in
+    ap (fold (λ last (p : Placed). cond (is_change genesis p) (length p.before + 1) last) 0) (placed-push L c)
+    ∙ fold-append (λ last (p : Placed). cond (is_change genesis p) (length p.before + 1) last) 0 (placed L) (p ∷ [])

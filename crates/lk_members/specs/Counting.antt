@@ -1,0 +1,34 @@
+-- Which entries of a list of commands count.
+pub use Rattle.lk_types.specs.declared.command.Request.{Request as RequestValue}
+pub use Rattle.lk_types.specs.declared.command.Command.{Command}
+pub use Rattle.lk_types.specs.declared.command.Command.TheVariants.{Noop, Request}
+use Rattle.std.specs.Prelude.{Bool, true, not, ◌||◌, ◌==◌, nat_lt, if◌then◌else◌, Option, Some, None, List, [], ◌∷◌, ◌++◌}
+use Rattle.std.specs.List.{list_all, filter_map}
+
+-- the entry is no request of this client with the same number or a greater one
+abbrev pub is_older : RequestValue → Command → Bool
+is_older r Noop = true
+is_older r (Request s) = not (s.client == r.client) || nat_lt s.number r.number
+
+-- the request that the entry is, where it counts behind these entries: its number is above all of its client's before it
+abbrev pub counted : List Command → Command → Option RequestValue
+counted before Noop = None
+counted before (Request r) = if list_all (is_older r) before then Some r else None
+
+-- an entry, and the entries before it
+pub record Placed : Type 0 where
+  pub before : List Command
+  pub entry : Command
+
+-- each entry of `rest`, which stands behind `before`, with the entries before it
+abbrev pub placed_behind : List Command → List Command → List Placed
+placed_behind before [] = []
+placed_behind before (c ∷ rest) = record { before = before; entry = c } ∷ placed_behind (before ++ c ∷ []) rest
+
+-- each entry of the list with the entries before it
+unfoldable pub placed : List Command → List Placed
+placed L = placed_behind [] L
+
+-- the requests that count, in order
+unfoldable pub counting : List Command → List RequestValue
+counting L = filter_map (λ p. counted p.before p.entry) (placed L)

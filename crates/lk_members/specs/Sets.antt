@@ -1,0 +1,17 @@
+-- The sets of members of the next positions, the nearest first.
+use Rattle.std.specs.Prelude.{ℕ, ◌-◌, ◌≤◌, Bool, nat_le, List, [], length, slice_index_or}
+use Rattle.std.specs.List.{AllByRecursion, list_all}
+use Rattle.lk_types.specs.Rosters.{AreMembers}
+use Rattle.lk_types.specs.declared.member.Member.{Member}
+
+-- at most 16 sets
+abbrev pub IsWindow : List (List Member) → Type 0
+IsWindow sets = (length sets ≤ 16) × AllByRecursion AreMembers sets
+
+-- the set of the last position that the roster knows
+abbrev pub newest : List (List Member) → List Member
+newest sets = slice_index_or sets (length sets - 1) []
+
+-- every node of the sets is at most this number
+abbrev pub are_at_most : ℕ → List (List Member) → Bool
+are_at_most greatest sets = list_all (λ set. list_all (λ m. nat_le m.node greatest) set) sets

@@ -1,0 +1,13 @@
+//! The members of the next positions, as the joins and leaves of the list of commands leave them.
+#![tactic(auto)]
+
+mod majority;
+mod roster;
+mod set;
+#[cfg(test)]
+mod tests;
+mod window;
+
+pub use majority::is_majority;
+pub use roster::Roster;
+pub use window::Window;

@@ -1,0 +1,28 @@
+ghost use Rattle.std.specs.Prelude.{◌≡◌, ◌≤◌, ◌==◌, ◌↔◌, IsTrue, length, count_by};
+ghost use Rattle.std.specs.List.{list_any};
+ghost use Rattle.lk_members.specs.Majorities.{IsMajority};
+
+use lk_types::{Member, Members, NodeNo};
+
+/// Whether the node is among them.
+fn is_among(nodes: &[NodeNo], node: NodeNo) -> bool
+    ensures { result ≡ list_any (λ n. n == node) nodes.now }
+{
+    nodes.iter().any(|n| *n == node)
+}
+
+/// How many of the members are among the nodes.
+fn count_among(members: &[Member], nodes: &[NodeNo]) -> usize
+    ensures count { result ≡ count_by (λ m. list_any (λ n. n == m.node) nodes.now) members.now }
+    ensures bound { result ≤ length members.now }
+{
+    members.iter().filter(|m| is_among(nodes, m.node)).count()
+}
+
+/// Whether more than half of the members are among the nodes.
+pub fn is_majority(set: &Members, nodes: &[NodeNo]) -> bool
+    ensures { IsTrue result ↔ IsMajority nodes.now set.now }
+{
+    let members = set.as_slice();
+    members.len() < 2 * count_among(members, nodes)
+}

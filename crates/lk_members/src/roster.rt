@@ -1,0 +1,248 @@
+ghost use Rattle.std.specs.Prelude.{◌≡◌, ℕ, ◌+◌, ◌-◌, ◌<◌, ◌≤◌, ◌↔◌, Some, false, nat_le, List, [], ◌∷◌, ◌++◌, length, slice_get, IsTrue, IsSome, IfSome};
+ghost use Rattle.lk_members.specs.Rosters.{greatest_node};
+ghost use Rattle.lk_members.specs.Windows.{sets_from};
+
+use crate::set::{is_member, with_member, without};
+use crate::window::Window;
+use lk_types::{Answer, Executed, Genesis, Member, Members, NodeNo, Op, Port, Position};
+use std::marker::Model;
+
+/// The members of the next alpha positions, the greatest number that was ever a member, and the position of the last
+/// change. A change at a position is in force alpha positions later (Lamport, Malkhi, Zhou 2010). No call takes memory.
+#[derive(Debug, Drop)]
+pub struct Roster {
+    executed: Executed,
+    window: Window,
+    greatest: NodeNo,
+    changed: Executed,
+}
+
+impl Model for Roster {
+    ghost use Rattle.lk_members.specs.Windows.{RosterValue, IsRoster};
+
+    ghost Value = { RosterValue };
+
+    ghost view = { λ r. record { executed = r.executed; sets = r.window; greatest = r.greatest; changed = r.changed } };
+
+    ghost invariant = { λ r. IsRoster (record { executed = r.executed; sets = r.window; greatest = r.greatest; changed = r.changed }) };
+}
+
+impl Roster {
+    ghost use Rattle.std.specs.Prelude.{◌≡◌, ℕ, ◌+◌, ◌-◌, ◌<◌, ◌≤◌, ◌↔◌, Some, false, nat_le, List, [], ◌∷◌, ◌++◌, length, slice_get, IsTrue, IsSome, IfSome};
+    ghost use Rattle.std.specs.List.{list_all};
+    ghost use Rattle.lk_types.specs.Ranges.{IsAlpha};
+    ghost use Rattle.lk_types.specs.Rosters.{AreMembers};
+    ghost use Rattle.lk_members.specs.Counting.{Command, RequestValue, Request, counted};
+    ghost use Rattle.lk_members.specs.Rosters.{Genesis, Op as OpValue, Join, Leave, IsChange, members, roster_of, roster_answer, join_answer, leave_answer, grants};
+    ghost use Rattle.lk_members.specs.Sets.{newest, are_at_most};
+    ghost use Rattle.lk_members.specs.Windows.{RosterSumsUp, IsRoster, newest_roster, moved, passed, changed_by};
+
+    /// The roster of these parts, or `None` where there is no set or the greatest number is below a node of them.
+    pub fn of(
+        executed: Executed,
+        window: Window,
+        greatest: NodeNo,
+        changed: Executed,
+    ) -> Option<Roster>
+        ensures some { IsSome result ↔ ((0 < length window) × IsTrue (are_at_most greatest window)) }
+        ensures value { IfSome result (λ r. r ≡ record { executed = executed; sets = window; greatest = greatest; changed = changed }) }
+    {
+        let _ = (executed.get(), greatest.get(), changed.get());
+        if window.len() == 0 || !window.is_at_most(greatest) {
+            return None;
+        }
+        Some(Roster {
+            executed,
+            window,
+            greatest,
+            changed,
+        })
+    }
+
+    /// Each part is in its range. It does nothing.
+    pub fn facts(&self)
+        ensures { IsRoster self.now }
+    {
+        let _ = self.executed.get();
+    }
+
+    /// The roster of a cluster that has executed nothing.
+    pub fn begin(genesis: &Genesis) -> Roster
+        ensures { RosterSumsUp genesis.now [] result }
+    {
+        let window = first_window(genesis);
+        let greatest = greatest_of(&genesis.members);
+        Roster::of(Executed::default(), window, greatest, Executed::default()).unwrap()
+    }
+
+    /// How many positions ahead the members are known: 1 to 16.
+    pub fn alpha(&self) -> u8
+        ensures value { result ≡ length self.now.sets }
+        ensures in_range { IsAlpha result }
+    {
+        self.window.len() as u8
+    }
+
+    /// How many positions are executed.
+    pub fn executed(&self) -> Executed
+        ensures { result ≡ self.now.executed }
+    {
+        self.executed
+    }
+
+    /// The position of the last granted change, or 0.
+    pub fn changed(&self) -> Executed
+        ensures { result ≡ self.now.changed }
+    {
+        self.changed
+    }
+
+    /// The greatest number that was ever a member.
+    pub fn greatest(&self) -> NodeNo
+        ensures { result ≡ self.now.greatest }
+    {
+        self.greatest
+    }
+
+    /// The sets of the next positions, the nearest first.
+    pub fn window(&self) -> &Window
+        ensures { result.now ≡ self.now.sets }
+    {
+        &self.window
+    }
+
+    /// The members that stand now, which decide the last of the next alpha positions.
+    pub fn newest(&self) -> &Members
+        ensures value { result.now ≡ newest self.now.sets }
+        ensures fits { AreMembers result.now }
+        ensures bound { IsTrue (list_all (λ m. nat_le m.node self.now.greatest) result.now) }
+    {
+        let set = self.window.newest();
+        let _ = set.as_slice();
+        set
+    }
+
+    /// The members that decide the position, where it is among the next alpha ones.
+    pub fn members_at(&self, position: Position) -> Option<&Members>
+        ensures some { IsSome result ↔ ((self.now.executed < position) × (position ≤ self.now.executed + length self.now.sets)) }
+        ensures value { IfSome result (λ set. slice_get self.now.sets (position - (self.now.executed + 1)) ≡ Some set.now) }
+        ensures sums { (genesis : Genesis) (L : List Command) → RosterSumsUp genesis L self.now → IfSome result (λ set. set.now ≡ members genesis L position) }
+    {
+        let nearest = self.executed.get() + 1;
+        let ahead = position.get().checked_sub(nearest)?;
+        self.window.get(ahead as usize)
+    }
+
+    /// One position on without a change.
+    pub fn pass(&mut self)
+        requires { self.old.executed < 281474976710656 }
+        ensures next { self.new ≡ passed self.old }
+        ensures sums { (genesis : Genesis) (L : List Command) (entry : Command) → RosterSumsUp genesis L self.old
+            → grants (roster_of genesis L) (counted L entry) ≡ false → RosterSumsUp genesis (L ++ entry ∷ []) self.new }
+    {
+        let set = self.newest().copy();
+        let greatest = self.greatest();
+        let changed = self.changed();
+        self.advance(set, greatest, changed);
+    }
+
+    /// One position on: this set comes, with this greatest number and this last change.
+    fn advance(&mut self, set: Members, greatest: NodeNo, changed: Executed)
+        requires room { self.old.executed < 281474976710656 }
+        requires bound { IsTrue (list_all (λ m. nat_le m.node greatest) set) }
+        requires rises { self.old.greatest ≤ greatest }
+        ensures { self.new ≡ moved (record { members = set; greatest = greatest }) changed self.old }
+    {
+        let _ = set.as_slice();
+        let _ = greatest.get();
+        let _ = changed.get();
+        self.executed = Executed::of(self.executed.get() + 1).unwrap();
+        self.window.advance(set);
+        self.greatest = greatest;
+        self.changed = changed;
+    }
+
+    /// The position that is executed next.
+    fn next(&self) -> Executed
+        requires { self.now.executed < 281474976710656 }
+        ensures { result ≡ self.now.executed + 1 }
+    {
+        Executed::of(self.executed.get() + 1).unwrap()
+    }
+
+    /// One position on with a join.
+    fn join(&mut self, node: NodeNo, port: Port) -> Answer
+        requires { self.old.executed < 281474976710656 }
+        ensures answer { result ≡ join_answer (newest_roster self.old) node }
+        ensures next { self.new ≡ changed_by (Join node port) self.old }
+    {
+        if node.get() <= self.greatest().get() {
+            self.pass();
+            return Answer::Used;
+        }
+        if self.newest().as_slice().len() >= 7 {
+            self.pass();
+            return Answer::Full;
+        }
+        let set = with_member(self.newest(), Member { node, port });
+        let changed = self.next();
+        self.advance(set, node, changed);
+        Answer::Joined
+    }
+
+    /// One position on with a leave.
+    fn leave(&mut self, node: NodeNo) -> Answer
+        requires { self.old.executed < 281474976710656 }
+        ensures answer { result ≡ leave_answer (newest_roster self.old) node }
+        ensures next { self.new ≡ changed_by (Leave node) self.old }
+    {
+        if !is_member(self.newest(), node) {
+            self.pass();
+            return Answer::NotMember;
+        }
+        let Some(set) = without(self.newest(), node) else {
+            self.pass();
+            return Answer::Last;
+        };
+        let greatest = self.greatest();
+        let changed = self.next();
+        self.advance(set, greatest, changed);
+        Answer::Left
+    }
+
+    /// One position on with a join or a leave, and what it is answered.
+    pub fn change(&mut self, op: &Op) -> Answer
+        requires room { self.old.executed < 281474976710656 }
+        requires change { IsChange op.now }
+        ensures answer { roster_answer (newest_roster self.old) op.now ≡ Some result }
+        ensures next { self.new ≡ changed_by op.now self.old }
+        ensures answers { (genesis : Genesis) (L : List Command) → RosterSumsUp genesis L self.old → roster_answer (roster_of genesis L) op.now ≡ Some result }
+        ensures sums { (genesis : Genesis) (L : List Command) (request : RequestValue) → RosterSumsUp genesis L self.old → request.op ≡ op.now
+            → counted L (Request request) ≡ Some request → RosterSumsUp genesis (L ++ Request request ∷ []) self.new }
+    {
+        match op {
+            Op::Join(node, port) => self.join(*node, *port),
+            Op::Leave(node) => self.leave(*node),
+            Op::Table(_) => unreachable!(),
+        }
+    }
+}
+
+/// The genesis' set for each of the first alpha positions.
+fn first_window(genesis: &Genesis) -> Window
+    ensures { result ≡ sets_from genesis.now [] 1 genesis.now.alpha }
+{
+    let mut window = Window::new();
+    for _ in 0..genesis.alpha {
+        window.push(genesis.members.copy());
+    }
+    window
+}
+
+/// The greatest number of the members, which is the last's.
+fn greatest_of(set: &Members) -> NodeNo
+    ensures { result ≡ greatest_node set.now }
+{
+    let members = set.as_slice();
+    members[members.len() - 1].node
+}

@@ -1,0 +1,136 @@
+ghost use Rattle.std.specs.Prelude.{◌≡◌, ◌+◌, ◌<◌, ◌≤◌, ◌↔◌, [], ◌∷◌, ◌++◌, length, drop, slice_get, nat_le, IsTrue, IsSome, IfSome};
+ghost use Rattle.std.specs.List.{list_all};
+ghost use Rattle.lk_members.specs.Sets.{IsWindow, newest, are_at_most};
+
+use arrayvec::ArrayVec;
+use lk_types::{Member, Members, NodeNo};
+use std::marker::Model;
+
+/// The set of one position.
+#[derive(Debug, Drop)]
+struct Place {
+    set: Members,
+}
+
+impl Model for Place {
+    ghost use Rattle.std.specs.Prelude.{List};
+    ghost use Rattle.lk_types.specs.declared.member.Member.{Member};
+
+    ghost Value = { List Member };
+
+    ghost view = { λ p. p.set };
+}
+
+impl Default for Place {
+    ghost is_default = { λ p. length p ≡ 1 };
+
+    /// A set of one node.
+    fn default() -> Self {
+        let set = Members::of(&[Member::default()]).unwrap();
+        Place { set }
+    }
+}
+
+impl Place {
+    /// Whether every node of the set is at most this number.
+    fn is_at_most(&self, greatest: NodeNo) -> bool
+        ensures { result ≡ list_all (λ m. nat_le m.node greatest) self.now }
+    {
+        self.set
+            .as_slice()
+            .iter()
+            .all(|member| member.node.get() <= greatest.get())
+    }
+}
+
+/// The sets of the next positions, the nearest first: at most 16. No call takes memory.
+#[derive(Debug, Drop)]
+pub struct Window {
+    places: ArrayVec<Place, 16>,
+}
+
+impl Model for Window {
+    ghost use Rattle.std.specs.Prelude.{List};
+    ghost use Rattle.lk_types.specs.declared.member.Member.{Member};
+    ghost use Rattle.lk_members.specs.Sets.{IsWindow};
+
+    ghost Value = { List (List Member) };
+
+    ghost view = { λ w. w.places.items };
+
+    ghost invariant = { λ w. IsWindow w.places.items };
+}
+
+impl Window {
+    /// No set.
+    pub fn new() -> Window
+        ensures { result ≡ [] }
+    {
+        Window {
+            places: ArrayVec::new(),
+        }
+    }
+
+    /// How many sets there are.
+    pub fn len(&self) -> usize
+        ensures value { result ≡ length self.now }
+        ensures fits { IsWindow self.now }
+    {
+        self.places.len()
+    }
+
+    /// Whether there is no set.
+    pub fn is_empty(&self) -> bool
+        ensures { IsTrue result ↔ (length self.now ≡ 0) }
+    {
+        self.places.is_empty()
+    }
+
+    /// Whether every node of the sets is at most this number.
+    pub fn is_at_most(&self, greatest: NodeNo) -> bool
+        ensures { result ≡ are_at_most greatest self.now }
+    {
+        self.places
+            .as_slice()
+            .iter()
+            .all(|place| place.is_at_most(greatest))
+    }
+
+    /// Adds the set of the position behind the last.
+    pub fn push(&mut self, set: Members)
+        requires { length self.old < 16 }
+        ensures { self.new ≡ self.old ++ set ∷ [] }
+    {
+        let _ = set.as_slice();
+        self.places.push(Place { set });
+    }
+
+    /// The set at this index, the nearest at 0.
+    pub fn get(&self, index: usize) -> Option<&Members>
+        ensures some { IsSome result ↔ (index < length self.now) }
+        ensures value { IfSome result (λ set. slice_get self.now index ≡ Some set.now) }
+    {
+        let place = self.places.as_slice().get(index)?;
+        Some(&place.set)
+    }
+
+    /// The set of the last position.
+    pub fn newest(&self) -> &Members
+        requires { 0 < length self.now }
+        ensures { result.now ≡ newest self.now }
+    {
+        let places = self.places.as_slice();
+        let last = &places[places.len() - 1];
+        &last.set
+    }
+
+    /// One position on: the nearest set goes, and this one comes.
+    pub fn advance(&mut self, set: Members)
+        requires { 0 < length self.old }
+        ensures { self.new ≡ drop 1 self.old ++ set ∷ [] }
+    {
+        let _ = set.as_slice();
+        self.places.remove(0);
+        self.places.push(Place { set });
+    }
+}

@@ -1,0 +1,24 @@
+-- The ranges of what an answer holds, and its text.
+use Rattle.std.specs.Prelude.{ℕ, List, ◌++◌, codes}
+use Rattle.lk_types.specs.Ranges.{IsClient, IsCount, IsTotal}
+use Rattle.lk_types.specs.declared.answer.Answer.{Answer}
+use Rattle.lk_types.specs.declared.answer.Answer.TheVariants.{Granted, Busy, Released, NotHeld, Free, Held, Valid, Stale, NoRoom, Bad, Spent, Joined, Used, Full, Left, NotMember, Last}
+
+abbrev pub IsAnswer : Answer → Type 0
+IsAnswer (Granted fence) = IsCount fence
+IsAnswer (Busy holder fence) = IsClient holder × IsCount fence
+IsAnswer Released = Unit {0}
+IsAnswer NotHeld = Unit {0}
+IsAnswer (Free fence) = IsTotal fence
+IsAnswer (Held holder fence) = IsClient holder × IsCount fence
+IsAnswer Valid = Unit {0}
+IsAnswer Stale = Unit {0}
+IsAnswer NoRoom = Unit {0}
+IsAnswer Bad = Unit {0}
+IsAnswer Spent = Unit {0}
+IsAnswer Joined = Unit {0}
+IsAnswer Used = Unit {0}
+IsAnswer Full = Unit {0}
+IsAnswer Left = Unit {0}
+IsAnswer NotMember = Unit {0}
+IsAnswer Last = Unit {0}

@@ -1,0 +1,7 @@
+-- What a contract sees of a ballot.
+use Rattle.std.specs.Prelude.{ℕ}
+
+-- a round and the node that leads it, both 0 for the ballot below all others
+pub record BallotValue : Type 0 where
+  pub round : ℕ
+  pub node : ℕ

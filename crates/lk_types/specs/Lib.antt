@@ -1,0 +1,9 @@
+pub mod Ranges
+pub mod BallotValue
+pub mod Ballots
+pub mod Payloads
+pub mod Commands
+pub mod Votes
+pub mod Answers
+pub mod Rosters
+pub mod Genesis

@@ -1,0 +1,15 @@
+use crate::ballot::RealBallot;
+use crate::command::Command;
+use crate::position::Position;
+use crate::vote::Vote;
+
+/// What a node writes so that a restart finds it.
+#[derive(Debug, PartialEq, Eq, Drop)]
+pub enum Entry {
+    /// It promised, or began, this ballot.
+    Promise(RealBallot),
+    /// It voted.
+    Vote(Vote),
+    /// It learned the command of a position.
+    Decided(Position, Command),
+}

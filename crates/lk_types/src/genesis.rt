@@ -1,0 +1,66 @@
+ghost use Rattle.std.specs.Prelude.{◌≡◌, ◌≤◌, ◌↔◌, ℕ, IfOk, IfErr, MatchResult, Some, None};
+ghost use Rattle.lk_types.specs.Genesis.{genesis_fault};
+
+use crate::member::{Member, Members};
+use thiserror::Error;
+
+/// Why there is no such genesis. Where several hold, the first of this order is told.
+#[derive(Clone, Copy, Debug, PartialEq, Eq, Error)]
+pub enum GenesisFault {
+    #[error("no members")]
+    NoMembers = 1,
+    #[error("more than seven members")]
+    TooMany = 2,
+    #[error("the members do not rise by node")]
+    NotRising = 3,
+    #[error("alpha is not 1 to 16")]
+    BadAlpha = 4,
+}
+
+/// How a cluster begins: its number, how many positions ahead its members are known, and its first members.
+#[derive(Debug, PartialEq, Eq, Drop)]
+pub struct Genesis {
+    pub cluster: u64,
+    pub alpha: u8,
+    pub members: Members,
+    pub ghost in_range: { (1 ≤ alpha) × (alpha ≤ 16) },
+}
+
+impl Genesis {
+    /// The genesis, or why there is none.
+    pub fn of(cluster: u64, alpha: u8, members: &[Member]) -> Result<Genesis, GenesisFault>
+        ensures ok { IfOk result (λ g. (g.cluster ≡ cluster) × (g.alpha ≡ alpha) × (g.members ≡ members.now)) }
+        ensures fault { MatchResult result (λ _. genesis_fault alpha members.now ≡ None) (λ e. genesis_fault alpha members.now ≡ Some e) }
+    {
+        if members.is_empty() {
+            return Err(GenesisFault::NoMembers);
+        }
+        if members.len() > 7 {
+            return Err(GenesisFault::TooMany);
+        }
+        let Some(members) = Members::of(members) else {
+            return Err(GenesisFault::NotRising);
+        };
+        if alpha < 1 || alpha > 16 {
+            return Err(GenesisFault::BadAlpha);
+        }
+        Ok(Genesis {
+            cluster,
+            alpha,
+            members,
+        })
+    }
+
+    /// The same genesis. It takes no memory.
+    pub fn copy(&self) -> Genesis
+        ensures cluster { result.cluster ≡ self.now.cluster }
+        ensures alpha { result.alpha ≡ self.now.alpha }
+        ensures members { result.members ≡ self.now.members }
+    {
+        Genesis {
+            cluster: self.cluster,
+            alpha: self.alpha,
+            members: self.members.copy(),
+        }
+    }
+}

@@ -1,0 +1,50 @@
+ghost use Rattle.std.specs.Prelude.{◌≡◌, ◌≤◌, ◌↔◌, ℕ, IsSome, IfSome};
+ghost use Rattle.lk_types.specs.Ranges.{IsTotal};
+
+use std::marker::Model;
+
+/// The last fence of a name, from 0 (never granted) to 2^48.
+#[derive(Clone, Copy, Debug, PartialEq, Eq, PartialOrd, Ord, Hash)]
+pub struct LastFence {
+    value: u64,
+}
+
+impl Model for LastFence {
+    ghost Value = { ℕ };
+
+    ghost view = { λ n. n.value };
+
+    ghost invariant = { λ n. IsTotal n.value };
+
+    ghost inverse = { λ n. record { value = n } };
+}
+
+impl LastFence {
+    /// The number, or `None` where it is out of range.
+    pub fn of(value: u64) -> Option<LastFence>
+        ensures some { IsSome result ↔ IsTotal value }
+        ensures value { IfSome result (λ n. n ≡ value) }
+    {
+        if value > 281474976710656 {
+            return None;
+        }
+        Some(LastFence { value })
+    }
+
+    /// The number itself.
+    pub fn get(self) -> u64
+        ensures value { result ≡ self }
+        ensures in_range { IsTotal self }
+    {
+        self.value
+    }
+}
+
+impl Default for LastFence {
+    ghost is_default = { λ n. n ≡ 0 };
+
+    /// The least number.
+    fn default() -> Self {
+        LastFence { value: 0 }
+    }
+}

@@ -1,0 +1,89 @@
+ghost use Rattle.std.specs.Prelude.{◌≡◌, ◌≤◌, ◌↔◌, ℕ, List, length, IsSome, IfSome};
+ghost use Rattle.lk_types.specs.Rosters.{AreMembers, IsMember, are_rising_above};
+
+use crate::node::NodeNo;
+use crate::port::Port;
+use arrayvec::ArrayVec;
+use std::marker::Model;
+
+/// A member: a node and the port at which it is reached.
+#[derive(Clone, Copy, Debug, PartialEq, Eq, PartialOrd, Ord, Hash, Default)]
+pub struct Member {
+    pub node: NodeNo,
+    pub port: Port,
+}
+
+impl Member {
+    /// Each part is in its range. It does nothing.
+    pub fn facts(self)
+        ensures { IsMember self }
+    {
+        let _ = self.node.get();
+        let _ = self.port.get();
+    }
+}
+
+/// 1 to 7 members, rising by node.
+#[derive(Clone, Debug, PartialEq, Eq, Drop)]
+pub struct Members {
+    list: ArrayVec<Member, 7>,
+}
+
+impl Model for Members {
+    ghost use Rattle.std.specs.Prelude.{List};
+    ghost use Rattle.lk_types.specs.declared.member.Member.{Member};
+    ghost use Rattle.lk_types.specs.Rosters.{AreMembers};
+
+    ghost Value = { List Member };
+
+    ghost view = { λ m. m.list.items };
+
+    ghost invariant = { λ m. AreMembers m.list.items };
+
+    ghost inverse = { λ xs. record { list = record { items = xs } } };
+}
+
+/// Whether the nodes rise strictly.
+fn are_rising(members: &[Member]) -> bool
+    ensures { result ≡ are_rising_above 0 members.now }
+{
+    let mut low = 0;
+    for member in members {
+        let node = member.node.get();
+        if node <= low {
+            return false;
+        }
+        low = node;
+    }
+    true
+}
+
+impl Members {
+    /// The set, or `None` where there are not 1 to 7 members, rising strictly by node.
+    pub fn of(members: &[Member]) -> Option<Members>
+        ensures some { IsSome result ↔ AreMembers members.now }
+        ensures value { IfSome result (λ m. m ≡ members.now) }
+    {
+        if members.is_empty() || !are_rising(members) {
+            return None;
+        }
+        let list = ArrayVec::try_from(members).ok()?;
+        Some(Members { list })
+    }
+
+    /// The members, rising by node.
+    pub fn as_slice(&self) -> &[Member]
+        ensures value { result.now ≡ self.now }
+        ensures fits { AreMembers self.now }
+    {
+        self.list.as_slice()
+    }
+
+    /// The same set. It takes no memory.
+    pub fn copy(&self) -> Members
+        ensures { result ≡ self.now }
+    {
+        let list = self.list.clone().unwrap();
+        Members { list }
+    }
+}

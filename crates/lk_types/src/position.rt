@@ -1,0 +1,50 @@
+ghost use Rattle.std.specs.Prelude.{◌≡◌, ◌≤◌, ◌↔◌, ℕ, IsSome, IfSome};
+ghost use Rattle.lk_types.specs.Ranges.{IsCount};
+
+use std::marker::Model;
+
+/// A position of the list of commands, from 1 to 2^48.
+#[derive(Clone, Copy, Debug, PartialEq, Eq, PartialOrd, Ord, Hash)]
+pub struct Position {
+    value: u64,
+}
+
+impl Model for Position {
+    ghost Value = { ℕ };
+
+    ghost view = { λ n. n.value };
+
+    ghost invariant = { λ n. IsCount n.value };
+
+    ghost inverse = { λ n. record { value = n } };
+}
+
+impl Position {
+    /// The number, or `None` where it is out of range.
+    pub fn of(value: u64) -> Option<Position>
+        ensures some { IsSome result ↔ IsCount value }
+        ensures value { IfSome result (λ n. n ≡ value) }
+    {
+        if value < 1 || value > 281474976710656 {
+            return None;
+        }
+        Some(Position { value })
+    }
+
+    /// The number itself.
+    pub fn get(self) -> u64
+        ensures value { result ≡ self }
+        ensures in_range { IsCount self }
+    {
+        self.value
+    }
+}
+
+impl Default for Position {
+    ghost is_default = { λ n. n ≡ 1 };
+
+    /// The least number.
+    fn default() -> Self {
+        Position { value: 1 }
+    }
+}

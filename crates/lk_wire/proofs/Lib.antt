@@ -1,0 +1,11 @@
+pub mod Codec
+pub mod Repeats
+pub mod NumberLaws
+pub mod KindLaws
+pub mod Loop
+pub mod FieldLaws
+pub mod FrontLaws
+pub mod Appends
+pub mod MessageLaws
+pub mod DatagramLaws
+pub mod Lengths

@@ -1,0 +1,7 @@
+pub mod Fields
+pub mod Values
+pub mod Grammar
+pub mod Parser
+pub mod FieldReading
+pub mod Reading
+pub mod Fronts

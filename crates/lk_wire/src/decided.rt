@@ -1,0 +1,77 @@
+ghost use Rattle.std.specs.Prelude.{◌≡◌, ◌≤◌, ◌+◌, ◌↔◌, IsSome, IfSome, IsTrue};
+ghost use Rattle.std.specs.List.{AllByRecursion};
+ghost use Rattle.lk_types.specs.Commands.{IsCommand};
+ghost use Rattle.lk_wire.specs.Values.{IsDecided, are_commands_from};
+
+use lk_types::{Command, Position};
+use std::marker::Model;
+
+/// The decided commands of `first` and of the positions after it.
+#[derive(Debug, Drop)]
+pub struct Decided {
+    first: Position,
+    commands: Vec<Command>,
+}
+
+impl Model for Decided {
+    ghost use Rattle.lk_wire.specs.Values.{DecidedValue, IsDecided};
+
+    ghost Value = { DecidedValue };
+
+    ghost view = { λ d. record { first = d.first; commands = d.commands.items } };
+
+    ghost invariant = { λ d. IsDecided (record { first = d.first; commands = d.commands.items }) };
+}
+
+/// Each command is in its range. It does nothing.
+fn commands_facts(commands: &[Command])
+    ensures { AllByRecursion IsCommand commands.now }
+{
+    for command in commands {
+        command.facts();
+    }
+}
+
+/// Whether there are 1 to 16 commands, the last for a position of at most 2^48.
+fn are_from(first: Position, commands: &[Command]) -> bool
+    ensures { result ≡ are_commands_from first commands.now }
+{
+    let count = commands.len();
+    count >= 1 && count <= 16 && first.get() + count as u64 <= 281474976710657
+}
+
+impl Decided {
+    /// The news, or `None` where there are not 1 to 16 commands or the last one's position is above 2^48.
+    pub fn of(first: Position, commands: Vec<Command>) -> Option<Decided>
+        ensures some { IsSome result ↔ IsTrue (are_commands_from first commands.items) }
+        ensures value { IfSome result (λ d. d ≡ record { first = first; commands = commands.items }) }
+    {
+        let _ = first.get();
+        commands_facts(&commands);
+        if !are_from(first, &commands) {
+            return None;
+        }
+        Some(Decided { first, commands })
+    }
+
+    /// The position of the first command.
+    pub fn first(&self) -> Position
+        ensures { result ≡ self.now.first }
+    {
+        self.first
+    }
+
+    /// The commands, in order of position.
+    pub fn commands(&self) -> &[Command]
+        ensures { result.now ≡ self.now.commands }
+    {
+        &self.commands
+    }
+
+    /// Each part is in its range, and no command lies past the last position. It does nothing.
+    pub fn facts(&self)
+        ensures { IsDecided self.now }
+    {
+        let _first = self.first;
+    }
+}

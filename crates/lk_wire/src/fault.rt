@@ -1,0 +1,30 @@
+ghost use Rattle.std.specs.Prelude.{◌≡◌};
+ghost use Rattle.lk_wire.specs.declared.fault.ReadFault.TheVariants.{NoMemory as memory};
+
+use std::alloc::{AllocError, AllocFailed};
+use thiserror::Error;
+
+/// Why no message was read.
+#[derive(Clone, Copy, Debug, PartialEq, Eq, Error)]
+pub enum ReadFault {
+    #[error("the bytes are no datagram")]
+    Bad = 5,
+    #[error("no memory")]
+    NoMemory = 6,
+}
+
+impl<T: Drop> From<AllocFailed<T>> for ReadFault {
+    ghost from_gives = { λ _ e. e ≡ memory };
+
+    fn from(_error: AllocFailed<T>) -> ReadFault {
+        ReadFault::NoMemory
+    }
+}
+
+impl From<AllocError> for ReadFault {
+    ghost from_gives = { λ _ e. e ≡ memory };
+
+    fn from(_error: AllocError) -> ReadFault {
+        ReadFault::NoMemory
+    }
+}

@@ -1,0 +1,273 @@
+//! Writing a field behind some bytes: its one spelling. Where memory is refused, what stood there stays, and a beginning
+//! of the spelling may stand behind it.
+
+ghost use Rattle.std.specs.Prelude.{◌≡◌, ◌++◌, OnOk, OnErr};
+ghost use Rattle.lk_wire.specs.Fields.{one, two, four, eight, ballot, member, payload, op, request, command, vote, answer, answer_fields, answer_tag};
+ghost use Rattle.lk_wire.specs.Fronts.{Keeps};
+
+use bytes::{BufMut, BytesMut};
+use lk_types::{
+    Answer, Ballot, ClientNo, Command, Executed, Fence, LastFence, Member, NodeNo, Op, Payload,
+    Port, Position, RealBallot, Request, RequestNumber, Vote,
+};
+use std::alloc::AllocError;
+
+/// Writes a byte.
+#[tactic(auto, using(crate::proofs::Appends::keeps_same))]
+pub fn put_u8(out: &mut BytesMut, value: u8) -> Result<(), AllocError>
+    ensures ok { OnOk result (out.new.items ≡ out.old.items ++ one value) }
+    ensures err { OnErr result (Keeps out.old.items out.new.items) }
+{
+    out.put_u8(value)
+}
+
+/// Writes a number in two bytes.
+#[tactic(auto, using(crate::proofs::Appends::keeps_same), unfolding(crate::specs::Fields::two))]
+pub fn put_u16(out: &mut BytesMut, value: u16) -> Result<(), AllocError>
+    ensures ok { OnOk result (out.new.items ≡ out.old.items ++ two value) }
+    ensures err { OnErr result (Keeps out.old.items out.new.items) }
+{
+    out.put_u16(value)
+}
+
+/// Writes a number in four bytes.
+#[tactic(auto, using(crate::proofs::Appends::keeps_same), unfolding(crate::specs::Fields::four))]
+pub fn put_u32(out: &mut BytesMut, value: u32) -> Result<(), AllocError>
+    ensures ok { OnOk result (out.new.items ≡ out.old.items ++ four value) }
+    ensures err { OnErr result (Keeps out.old.items out.new.items) }
+{
+    out.put_u32(value)
+}
+
+/// Writes a number in eight bytes.
+#[tactic(auto, using(crate::proofs::Appends::keeps_same), unfolding(crate::specs::Fields::eight))]
+pub fn put_u64(out: &mut BytesMut, value: u64) -> Result<(), AllocError>
+    ensures ok { OnOk result (out.new.items ≡ out.old.items ++ eight value) }
+    ensures err { OnErr result (Keeps out.old.items out.new.items) }
+{
+    out.put_u64(value)
+}
+
+/// Writes a node in four bytes.
+pub fn put_node(out: &mut BytesMut, node: NodeNo) -> Result<(), AllocError>
+    ensures ok { OnOk result (out.new.items ≡ out.old.items ++ four node) }
+    ensures err { OnErr result (Keeps out.old.items out.new.items) }
+{
+    put_u32(out, node.get())
+}
+
+/// Writes a client in two bytes.
+pub fn put_client(out: &mut BytesMut, client: ClientNo) -> Result<(), AllocError>
+    ensures ok { OnOk result (out.new.items ≡ out.old.items ++ two client) }
+    ensures err { OnErr result (Keeps out.old.items out.new.items) }
+{
+    put_u16(out, client.get())
+}
+
+/// Writes a port in two bytes.
+pub fn put_port(out: &mut BytesMut, port: Port) -> Result<(), AllocError>
+    ensures ok { OnOk result (out.new.items ≡ out.old.items ++ two port) }
+    ensures err { OnErr result (Keeps out.old.items out.new.items) }
+{
+    put_u16(out, port.get())
+}
+
+/// Writes a position in eight bytes.
+pub fn put_position(out: &mut BytesMut, position: Position) -> Result<(), AllocError>
+    ensures ok { OnOk result (out.new.items ≡ out.old.items ++ eight position) }
+    ensures err { OnErr result (Keeps out.old.items out.new.items) }
+{
+    put_u64(out, position.get())
+}
+
+/// Writes a request's number in eight bytes.
+pub fn put_number(out: &mut BytesMut, number: RequestNumber) -> Result<(), AllocError>
+    ensures ok { OnOk result (out.new.items ≡ out.old.items ++ eight number) }
+    ensures err { OnErr result (Keeps out.old.items out.new.items) }
+{
+    put_u64(out, number.get())
+}
+
+/// Writes a fence in eight bytes.
+pub fn put_fence(out: &mut BytesMut, fence: Fence) -> Result<(), AllocError>
+    ensures ok { OnOk result (out.new.items ≡ out.old.items ++ eight fence) }
+    ensures err { OnErr result (Keeps out.old.items out.new.items) }
+{
+    put_u64(out, fence.get())
+}
+
+/// Writes a last fence in eight bytes, 0 where there is none.
+pub fn put_last_fence(out: &mut BytesMut, last: LastFence) -> Result<(), AllocError>
+    ensures ok { OnOk result (out.new.items ≡ out.old.items ++ eight last) }
+    ensures err { OnErr result (Keeps out.old.items out.new.items) }
+{
+    put_u64(out, last.get())
+}
+
+/// Writes how many positions are executed, in eight bytes.
+pub fn put_executed(out: &mut BytesMut, executed: Executed) -> Result<(), AllocError>
+    ensures ok { OnOk result (out.new.items ≡ out.old.items ++ eight executed) }
+    ensures err { OnErr result (Keeps out.old.items out.new.items) }
+{
+    put_u64(out, executed.get())
+}
+
+/// Writes a ballot: its round and its node, twelve zero bytes for `Ballot::ZERO`.
+#[tactic(auto, using(crate::proofs::Appends::keeps_same, crate::proofs::Appends::keeps_behind))]
+pub fn put_mark(out: &mut BytesMut, value: Ballot) -> Result<(), AllocError>
+    ensures ok { OnOk result (out.new.items ≡ out.old.items ++ ballot value) }
+    ensures err { OnErr result (Keeps out.old.items out.new.items) }
+{
+    put_u64(out, value.round())?;
+    put_u32(out, value.node())?;
+    Ok(())
+}
+
+/// Writes a ballot: its round and its node.
+pub fn put_ballot(out: &mut BytesMut, value: RealBallot) -> Result<(), AllocError>
+    ensures ok { OnOk result (out.new.items ≡ out.old.items ++ ballot value) }
+    ensures err { OnErr result (Keeps out.old.items out.new.items) }
+{
+    put_mark(out, value.get())
+}
+
+/// Writes a node and its port.
+#[tactic(auto, using(crate::proofs::Appends::keeps_same, crate::proofs::Appends::keeps_behind))]
+pub fn put_member(out: &mut BytesMut, value: Member) -> Result<(), AllocError>
+    ensures ok { OnOk result (out.new.items ≡ out.old.items ++ member value) }
+    ensures err { OnErr result (Keeps out.old.items out.new.items) }
+{
+    put_node(out, value.node)?;
+    put_port(out, value.port)?;
+    Ok(())
+}
+
+/// Writes the length of a payload in one byte, and its bytes.
+#[tactic(auto, using(crate::proofs::Appends::keeps_same, crate::proofs::Appends::keeps_behind))]
+fn put_payload(out: &mut BytesMut, value: &Payload) -> Result<(), AllocError>
+    ensures ok { OnOk result (out.new.items ≡ out.old.items ++ payload value.now) }
+    ensures err { OnErr result (Keeps out.old.items out.new.items) }
+{
+    let bytes = value.as_slice();
+    put_u8(out, bytes.len() as u8)?;
+    out.put_slice(bytes)?;
+    Ok(())
+}
+
+/// Writes an op behind a byte that says which it is.
+#[tactic(auto, using(crate::proofs::Appends::keeps_same, crate::proofs::Appends::keeps_behind))]
+pub fn put_op(out: &mut BytesMut, value: &Op) -> Result<(), AllocError>
+    ensures ok { OnOk result (out.new.items ≡ out.old.items ++ op value.now) }
+    ensures err { OnErr result (Keeps out.old.items out.new.items) }
+{
+    match value {
+        Op::Table(payload) => {
+            put_u8(out, 0)?;
+            put_payload(out, payload)?;
+        }
+        Op::Join(node, port) => {
+            put_u8(out, 1)?;
+            put_node(out, *node)?;
+            put_port(out, *port)?;
+        }
+        Op::Leave(node) => {
+            put_u8(out, 2)?;
+            put_node(out, *node)?;
+        }
+    }
+    Ok(())
+}
+
+/// Writes a client, a number and an op.
+#[tactic(auto, using(crate::proofs::Appends::keeps_same, crate::proofs::Appends::keeps_behind))]
+pub fn put_request(out: &mut BytesMut, value: &Request) -> Result<(), AllocError>
+    ensures ok { OnOk result (out.new.items ≡ out.old.items ++ request value.now) }
+    ensures err { OnErr result (Keeps out.old.items out.new.items) }
+{
+    put_client(out, value.client)?;
+    put_number(out, value.number)?;
+    put_op(out, &value.op)?;
+    Ok(())
+}
+
+/// Writes a command behind a byte that says whether it is a request.
+#[tactic(auto, using(crate::proofs::Appends::keeps_same, crate::proofs::Appends::keeps_behind))]
+pub fn put_command(out: &mut BytesMut, value: &Command) -> Result<(), AllocError>
+    ensures ok { OnOk result (out.new.items ≡ out.old.items ++ command value.now) }
+    ensures err { OnErr result (Keeps out.old.items out.new.items) }
+{
+    match value {
+        Command::Noop => put_u8(out, 0)?,
+        Command::Request(request) => {
+            put_u8(out, 1)?;
+            put_request(out, request)?;
+        }
+    }
+    Ok(())
+}
+
+/// Writes a position, a ballot and a command.
+#[tactic(auto, using(crate::proofs::Appends::keeps_same, crate::proofs::Appends::keeps_behind))]
+pub fn put_vote(out: &mut BytesMut, value: &Vote) -> Result<(), AllocError>
+    ensures ok { OnOk result (out.new.items ≡ out.old.items ++ vote value.now) }
+    ensures err { OnErr result (Keeps out.old.items out.new.items) }
+{
+    put_position(out, value.position)?;
+    put_ballot(out, value.ballot)?;
+    put_command(out, &value.command)?;
+    Ok(())
+}
+
+/// The byte that says which answer it is.
+fn tag_of(value: &Answer) -> u8
+    ensures { result ≡ answer_tag value.now }
+{
+    match value {
+        Answer::Granted(_) => 1,
+        Answer::Busy(_, _) => 2,
+        Answer::Released => 3,
+        Answer::NotHeld => 4,
+        Answer::Free(_) => 5,
+        Answer::Held(_, _) => 6,
+        Answer::Valid => 7,
+        Answer::Stale => 8,
+        Answer::NoRoom => 9,
+        Answer::Bad => 10,
+        Answer::Spent => 11,
+        Answer::Joined => 32,
+        Answer::Used => 33,
+        Answer::Full => 34,
+        Answer::Left => 35,
+        Answer::NotMember => 36,
+        Answer::Last => 37,
+    }
+}
+
+/// Writes what an answer holds.
+#[tactic(auto, using(crate::proofs::Appends::keeps_same, crate::proofs::Appends::keeps_behind))]
+fn put_answer_fields(out: &mut BytesMut, value: &Answer) -> Result<(), AllocError>
+    ensures ok { OnOk result (out.new.items ≡ out.old.items ++ answer_fields value.now) }
+    ensures err { OnErr result (Keeps out.old.items out.new.items) }
+{
+    match value {
+        Answer::Granted(fence) => put_fence(out, *fence)?,
+        Answer::Busy(holder, fence) | Answer::Held(holder, fence) => {
+            put_client(out, *holder)?;
+            put_fence(out, *fence)?;
+        }
+        Answer::Free(fence) => put_last_fence(out, *fence)?,
+        _ => {}
+    }
+    Ok(())
+}
+
+/// Writes an answer behind a byte that says which it is.
+#[tactic(auto, using(crate::proofs::Appends::keeps_same, crate::proofs::Appends::keeps_behind))]
+pub fn put_answer(out: &mut BytesMut, value: Answer) -> Result<(), AllocError>
+    ensures ok { OnOk result (out.new.items ≡ out.old.items ++ answer value) }
+    ensures err { OnErr result (Keeps out.old.items out.new.items) }
+{
+    put_u8(out, tag_of(&value))?;
+    put_answer_fields(out, &value)?;
+    Ok(())
+}

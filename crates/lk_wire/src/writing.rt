@@ -1,0 +1,215 @@
+ghost use Rattle.std.specs.Prelude.{◌≡◌, ◌<◌, ◌++◌, length, OnOk, OnErr};
+ghost use Rattle.lk_wire.specs.Grammar.{prepare, votes, promise, proposal, nack, commands, decided, want, part, answered, elsewhere, passed, lead, node_kind, node_fields, fields, header, kind, spelling, Spells};
+
+use crate::decided::Decided;
+use crate::fields::{
+    put_answer, put_ballot, put_client, put_command, put_executed, put_mark, put_member,
+    put_number, put_position, put_request, put_u8, put_u16, put_u32, put_u64, put_vote,
+};
+use crate::message::{Answered, Content, Elsewhere, Message, Nack, NodeMessage};
+use crate::part::Part;
+use crate::passed::Passed;
+use crate::promise::Promise;
+use crate::want::Want;
+use bytes::{BufMut, BytesMut};
+use lk_types::{Command, Executed, NoMemory, Position, RealBallot, Vote};
+use std::alloc::{AllocError, Global};
+
+fn put_prepare(out: &mut BytesMut, ballot: RealBallot, first: Position) -> Result<(), AllocError>
+    ensures { OnOk result (out.new.items ≡ out.old.items ++ prepare ballot first) }
+{
+    put_ballot(out, ballot)?;
+    put_position(out, first)?;
+    Ok(())
+}
+
+fn put_votes(out: &mut BytesMut, list: &[Vote]) -> Result<(), AllocError>
+    requires { length list.now < 256 }
+    ensures { OnOk result (out.new.items ≡ out.old.items ++ votes list.now) }
+{
+    put_u8(out, list.len() as u8)?;
+    for vote in list {
+        put_vote(out, vote)?;
+    }
+    Ok(())
+}
+
+fn put_promise(out: &mut BytesMut, value: &Promise) -> Result<(), AllocError>
+    ensures { OnOk result (out.new.items ≡ out.old.items ++ promise value.now) }
+{
+    value.facts();
+    put_ballot(out, value.ballot())?;
+    put_position(out, value.first())?;
+    put_votes(out, value.votes())?;
+    Ok(())
+}
+
+fn put_proposal(out: &mut BytesMut, value: &Vote) -> Result<(), AllocError>
+    ensures { OnOk result (out.new.items ≡ out.old.items ++ proposal value.now) }
+{
+    put_ballot(out, value.ballot)?;
+    put_position(out, value.position)?;
+    put_command(out, &value.command)?;
+    Ok(())
+}
+
+fn put_nack(out: &mut BytesMut, value: &Nack) -> Result<(), AllocError>
+    ensures { OnOk result (out.new.items ≡ out.old.items ++ nack value.now) }
+{
+    put_ballot(out, value.ballot)?;
+    put_mark(out, value.promised)?;
+    put_executed(out, value.executed)?;
+    Ok(())
+}
+
+fn put_commands(out: &mut BytesMut, list: &[Command]) -> Result<(), AllocError>
+    requires { length list.now < 256 }
+    ensures { OnOk result (out.new.items ≡ out.old.items ++ commands list.now) }
+{
+    put_u8(out, list.len() as u8)?;
+    for command in list {
+        put_command(out, command)?;
+    }
+    Ok(())
+}
+
+fn put_decided(out: &mut BytesMut, value: &Decided) -> Result<(), AllocError>
+    ensures { OnOk result (out.new.items ≡ out.old.items ++ decided value.now) }
+{
+    value.facts();
+    put_position(out, value.first())?;
+    put_commands(out, value.commands())?;
+    Ok(())
+}
+
+fn put_want(out: &mut BytesMut, value: &Want) -> Result<(), AllocError>
+    ensures { OnOk result (out.new.items ≡ out.old.items ++ want value.now) }
+{
+    put_position(out, value.first())?;
+    put_u32(out, value.offset())?;
+    Ok(())
+}
+
+fn put_part(out: &mut BytesMut, value: &Part) -> Result<(), AllocError>
+    ensures { OnOk result (out.new.items ≡ out.old.items ++ part value.now) }
+{
+    value.facts();
+    let bytes = value.bytes();
+    put_position(out, value.position())?;
+    put_u32(out, value.total())?;
+    put_u32(out, value.offset())?;
+    put_u16(out, bytes.len() as u16)?;
+    out.put_slice(bytes)?;
+    Ok(())
+}
+
+fn put_answered(out: &mut BytesMut, value: &Answered) -> Result<(), AllocError>
+    ensures { OnOk result (out.new.items ≡ out.old.items ++ answered value.now) }
+{
+    put_client(out, value.client)?;
+    put_number(out, value.number)?;
+    put_answer(out, value.answer)?;
+    Ok(())
+}
+
+fn put_elsewhere(out: &mut BytesMut, value: &Elsewhere) -> Result<(), AllocError>
+    ensures { OnOk result (out.new.items ≡ out.old.items ++ elsewhere value.now) }
+{
+    put_client(out, value.client)?;
+    put_number(out, value.number)?;
+    put_member(out, value.member)?;
+    Ok(())
+}
+
+fn put_passed(out: &mut BytesMut, value: &Passed) -> Result<(), AllocError>
+    ensures { OnOk result (out.new.items ≡ out.old.items ++ passed value.now) }
+{
+    put_client(out, value.client())?;
+    put_number(out, value.number())?;
+    put_number(out, value.last())?;
+    Ok(())
+}
+
+fn put_lead(out: &mut BytesMut, ballot: RealBallot, executed: Executed) -> Result<(), AllocError>
+    ensures { OnOk result (out.new.items ≡ out.old.items ++ lead ballot executed) }
+{
+    put_ballot(out, ballot)?;
+    put_executed(out, executed)?;
+    Ok(())
+}
+
+/// The byte that says which message it is.
+fn kind_of(message: &NodeMessage) -> u8
+    ensures { result ≡ node_kind message.now }
+{
+    match message {
+        NodeMessage::Prepare(_, _) => 1,
+        NodeMessage::Promise(_) => 2,
+        NodeMessage::Accept(_) => 3,
+        NodeMessage::Accepted(_) => 4,
+        NodeMessage::Nack(_) => 5,
+        NodeMessage::Decided(_) => 6,
+        NodeMessage::Want(_) => 7,
+        NodeMessage::Part(_) => 8,
+        NodeMessage::Answer(_) => 10,
+        NodeMessage::Elsewhere(_) => 11,
+        NodeMessage::Passed(_) => 12,
+        NodeMessage::Lead(_, _) => 13,
+    }
+}
+
+fn put_node_fields(out: &mut BytesMut, message: &NodeMessage) -> Result<(), AllocError>
+    ensures { OnOk result (out.new.items ≡ out.old.items ++ node_fields message.now) }
+{
+    match message {
+        NodeMessage::Prepare(ballot, first) => put_prepare(out, *ballot, *first),
+        NodeMessage::Promise(promise) => put_promise(out, promise),
+        NodeMessage::Accept(vote) | NodeMessage::Accepted(vote) => put_proposal(out, vote),
+        NodeMessage::Nack(nack) => put_nack(out, nack),
+        NodeMessage::Decided(decided) => put_decided(out, decided),
+        NodeMessage::Want(want) => put_want(out, want),
+        NodeMessage::Part(part) => put_part(out, part),
+        NodeMessage::Answer(answered) => put_answered(out, answered),
+        NodeMessage::Elsewhere(elsewhere) => put_elsewhere(out, elsewhere),
+        NodeMessage::Passed(passed) => put_passed(out, passed),
+        NodeMessage::Lead(ballot, executed) => put_lead(out, *ballot, *executed),
+    }
+}
+
+fn put_header(out: &mut BytesMut, kind: u8, cluster: u64, sender: u32) -> Result<(), AllocError>
+    ensures { OnOk result (out.new.items ≡ out.old.items ++ header kind cluster sender) }
+{
+    out.put_slice(&[0x4c, 0x4b, 1, kind])?;
+    put_u64(out, cluster)?;
+    put_u32(out, sender)?;
+    Ok(())
+}
+
+fn put_message(out: &mut BytesMut, message: &Message) -> Result<(), AllocError>
+    ensures { OnOk result (out.new.items ≡ out.old.items ++ spelling message.now) }
+{
+    match &message.content {
+        Content::Request(request) => {
+            put_header(out, 9, message.cluster, 0)?;
+            put_request(out, request)?;
+        }
+        Content::Node(node, content) => {
+            put_header(out, kind_of(content), message.cluster, node.get())?;
+            put_node_fields(out, content)?;
+        }
+    }
+    Ok(())
+}
+
+/// Adds the one spelling of the message. Where memory is refused nothing is added.
+pub fn write(alloc: Global, message: &Message, out: &mut BytesMut) -> Result<(), NoMemory>
+    ensures ok { OnOk result (out.new.items ≡ out.old.items ++ spelling message.now) }
+    ensures spells { Spells message.now (spelling message.now) }
+    ensures err { OnErr result (out.new.items ≡ out.old.items) }
+{
+    message.facts();
+    let mut text = BytesMut::new(alloc);
+    put_message(&mut text, message)?;
+    out.extend_from_slice(&text)?;
+    Ok(())
+}
