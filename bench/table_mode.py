@@ -50,14 +50,30 @@ def main():
         with open(script, "w") as file:
             file.writelines(lines(count))
         size = os.path.getsize(script)
+        before = resource.getrusage(resource.RUSAGE_CHILDREN)
         with open(script, "rb") as source, open(os.devnull, "wb") as sink:
             start = time.perf_counter()
-            subprocess.run([program, "sim"], stdin=source, stdout=sink, check=True)
+            run = subprocess.Popen([program, "sim"], stdin=source, stdout=sink)
+            peak = 0
+            while run.poll() is None:
+                peak = max(peak, peak_of(run.pid))
+                time.sleep(0.01)
             seconds = time.perf_counter() - start
-    peak = resource.getrusage(resource.RUSAGE_CHILDREN).ru_maxrss
-    print(f"{count} requests, {size} bytes of input: {seconds:.2f} s, {count / seconds:,.0f} requests per second")
-    print(f"peak memory of all children, the generator not among them: {peak / 1024:.1f} MiB")
-    print(f"cores: {os.cpu_count()}, one used")
+        after = resource.getrusage(resource.RUSAGE_CHILDREN)
+    used = after.ru_utime + after.ru_stime - before.ru_utime - before.ru_stime
+    print(f"{count} requests, {size} bytes of input, status {run.returncode}")
+    print(f"{seconds:.2f} s by the clock: {count / seconds:,.0f} requests per second")
+    print(f"{used:.2f} s of one core: {count / used:,.0f} requests per second")
+    print(f"peak memory: {peak / 1024:.1f} MiB; cores: {os.cpu_count()}, one used")
+
+
+def peak_of(process):
+    """The greatest memory that the process has held, in KiB."""
+    try:
+        with open(f"/proc/{process}/status") as status:
+            return max((int(line.split()[1]) for line in status if line.startswith("VmHWM")), default=0)
+    except FileNotFoundError:
+        return 0
 
 
 if __name__ == "__main__":
