@@ -1,7 +1,6 @@
 -- The fences granted for a name are 1, 2, 3 and so on.
-use Rattle.std.proofs.Common.{◌≡◌, ℕ, ◌+◌, ◌⊎◌, Bool, true, false, cond, ltb, eqb, ◌&&◌, List, [], ◌∷◌, ◌++◌, length, Option, Some, None, Ok, Err, refl, sym, ap, subst, ◌∙◌, inl, inr}
+use Rattle.std.proofs.Common.{◌≡◌, ℕ, ◌+◌, ◌⊎◌, true, false, cond, ltb, eqb, ◌&&◌, List, [], ◌∷◌, ◌++◌, length, Option, Some, None, Ok, Err, refl, sym, ap, subst, ◌∙◌, inl, inr}
 use Rattle.std.specs.Prelude.{is_some}
-use Rattle.std.proofs.lemmas.Bool.{eqb-true}
 use Rattle.std.specs.Ordering.{nat_cmp, eq_by_cmp, is_eq}
 use Rattle.std.specs.declared.cmp.Ordering.{Ordering}
 use Rattle.std.specs.declared.cmp.Ordering.TheVariants.{Less, Equal, Greater}
@@ -13,6 +12,8 @@ use Rattle.lk_locks.specs.declared.body.Body.TheVariants.{Acquire, Release, Ask,
 use Rattle.lk_locks.specs.declared.slot.Slot.{Slot}
 use Rattle.lk_locks.specs.Bodies.{body_of}
 use Rattle.lk_locks.specs.Plain.{Table, row, name_of, changed, answer_to, table_after, next, granting_again, granted_to, acquired, is_held_by, released, asked, asked_again, checked}
+use Rattle.lk_locks.specs.PackedLaws.{decided}
+use Rattle.lk_locks.specs.NextLaws.{tested}
 use Rattle.lk_locks.specs.Grants.{Call, is_for, fences, grants_from, grants, numbers_from}
 
 -- the last fence of a name
@@ -32,10 +33,6 @@ Goes old new granted = ((granted ≡ []) × (new ≡ old)) ⊎ ((granted ≡ (ol
 stays : (n : ℕ) (granted : List ℕ) → granted ≡ [] → Goes n n granted
 stays n granted e = inl (e, refl)
 
-either : (b : Bool) → (b ≡ true) ⊎ (b ≡ false)
-either true = inl refl
-either false = inr refl
-
 -- ---- each kind of body, at its own name
 
 again : (client fence : ℕ) (holder : Option ℕ) (s : Slot) → s.fence ≡ fence → let r = granted_to client (granting_again fence holder) in Goes s.fence (last_fence (after (Some s) r.change)) (fences r.answer)
@@ -53,10 +50,6 @@ acquire_goes client None names =
       | true ↦ inr (refl, refl)
       | false ↦ stays 0 [] refl
     ]
-
-tested : (b : Bool) (x y : ℕ) → (((b && eqb x y) ≡ true) × (x ≡ y)) ⊎ ((b && eqb x y) ≡ false)
-tested false x y = inr refl
-tested true x y = elim (either (eqb x y)) [ inl e ↦ inl (e, eqb-true x y e) | inr e ↦ inr e ]
 
 release_goes : (client fence : ℕ) (s : Option Slot) → let r = released client fence s in Goes (last_fence s) (last_fence (after s r.change)) (fences r.answer)
 release_goes client fence None = stays 0 [] refl
@@ -94,7 +87,7 @@ equal Greater e = absurd cc
 
 same_or_not : (q name : List ℕ) → ((eq_by_cmp (slice_cmp nat_cmp) q name ≡ true) × (q ≡ name)) ⊎ (eq_by_cmp (slice_cmp nat_cmp) q name ≡ false)
 same_or_not q name =
-    elim (either (eq_by_cmp (slice_cmp nat_cmp) q name)) [
+    elim (decided (eq_by_cmp (slice_cmp nat_cmp) q name)) [
       | inl e ↦ inl (e, map.slice_cmp-IsAntisymmetric map.nat_cmp-IsAntisymmetric q name (equal (slice_cmp nat_cmp q name) e))
       | inr e ↦ inr e
     ]

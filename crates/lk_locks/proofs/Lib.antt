@@ -1,3 +1,4 @@
 pub mod Maps
 pub mod BodyLaws
 pub mod GrantLaws
+pub mod TableLaws

@@ -32,7 +32,8 @@ module _ {K X : Type 0} {R : K → K → Ordering} (o : IsTotalOrder R) where
   put_first k v [] h = refl
   put_first k v (e ∷ es) h = rw h.0 refl
 
-  entries_are : (es : List (K × X)) → IsStrictlySortedBy R (keys_of es) → entries (from_entries {R = R} es) ≡ es
+  -- a map that lists its entries in order has these entries
+  pub entries_are : (es : List (K × X)) → IsStrictlySortedBy R (keys_of es) → entries (from_entries {R = R} es) ≡ es
   unfolding IsStrictlySortedBy
   entries_are [] h = nil_from_length _ (sym (len-entries empty) ∙ len-empty R X)
   entries_are (e ∷ es) h = entries-insert o (from_entries es) e.0 e.1 ∙ ap (put R e.0 e.1) (entries_are es h.1) ∙ put_first e.0 e.1 es h.0

@@ -1,25 +1,36 @@
 -- What a client may ask of the table, as bytes.
-use Rattle.std.specs.Prelude.{◌≡◌, ℕ, ◌&&◌, nat_le, ◌==◌, List, [], ◌∷◌, ◌++◌, length, take, drop, Option, Some, None, if◌then◌else◌}
-use Rattle.std.specs.Int.{w64, to_be_bytes, from_be_bytes}
+use Rattle.std.specs.Prelude.{◌≡◌, ℕ, List, ◌∷◌, ◌++◌, length, Option}
 use Rattle.lk_types.specs.Ranges.{IsCount}
+use Rattle.lk_wire.specs.Fields.{eight}
+use Rattle.lk_wire.specs.FieldReading.{count_at}
+use Rattle.lk_wire.specs.Parser.{byte_at, sized, both, made, tested, tagged, kind, no_kind, whole}
 use Rattle.lk_locks.specs.Names.{IsName, is_name}
 use Rattle.lk_locks.specs.declared.body.Body.{Body}
 use Rattle.lk_locks.specs.declared.body.Body.TheVariants.{Acquire, Release, Ask, Check}
 
--- eight bytes, the greatest first
-unfoldable pub eight : ℕ → List ℕ
-eight n = to_be_bytes w64 n
-
 -- a name behind its length
-abbrev pub counted : List ℕ → List ℕ
-counted name = length name ∷ name
+abbrev pub lock_name : List ℕ → List ℕ
+lock_name name = length name ∷ name
+
+-- a name and a fence
+abbrev pub name_and_fence : List ℕ × ℕ → List ℕ
+name_and_fence p = lock_name p.0 ++ eight p.1
+
+abbrev pub body_tag : Body → ℕ
+body_tag (Acquire name) = 1
+body_tag (Release name fence) = 2
+body_tag (Ask name) = 3
+body_tag (Check name fence) = 4
+
+abbrev pub body_fields : Body → List ℕ
+body_fields (Acquire name) = lock_name name
+body_fields (Release name fence) = name_and_fence (name, fence)
+body_fields (Ask name) = lock_name name
+body_fields (Check name fence) = name_and_fence (name, fence)
 
 -- the bytes of a body
 abbrev pub spelling : Body → List ℕ
-spelling (Acquire name) = 1 ∷ counted name
-spelling (Release name fence) = 2 ∷ (counted name ++ eight fence)
-spelling (Ask name) = 3 ∷ counted name
-spelling (Check name fence) = 4 ∷ (counted name ++ eight fence)
+spelling body = body_tag body ∷ body_fields body
 
 -- its parts are in their ranges
 abbrev pub IsBody : Body → Type 0
@@ -34,30 +45,21 @@ Spells body bytes = IsBody body × (bytes ≡ spelling body)
 
 -- ---- the same, from the bytes to the body
 
--- the fence that the bytes are
-unfoldable pub fence_of : List ℕ → Option ℕ
-fence_of bytes =
-    if length bytes == 8 && nat_le 1 (from_be_bytes w64 bytes) && nat_le (from_be_bytes w64 bytes) 281474976710656 then Some (from_be_bytes w64 bytes)
-    else None
+unfoldable pub name_at : List ℕ → Option (List ℕ × List ℕ)
+name_at = tested is_name (sized byte_at)
 
-abbrev pub with_fence : (ℕ → Body) → Option ℕ → Option Body
-with_fence make (Some fence) = Some (make fence)
-with_fence make None = None
+unfoldable pub name_and_fence_at : List ℕ → Option ((List ℕ × ℕ) × List ℕ)
+name_and_fence_at = both name_at count_at
 
-abbrev pub alone : Body → List ℕ → Option Body
-alone body [] = Some body
-alone body (b ∷ rest) = None
+-- what stands behind the first byte
+unfoldable pub fields_of : ℕ → List ℕ → Option (Body × List ℕ)
+fields_of =
+    kind 1 (made Acquire name_at)
+    (kind 2 (made (λ p. Release p.0 p.1) name_and_fence_at)
+    (kind 3 (made Ask name_at)
+    (kind 4 (made (λ p. Check p.0 p.1) name_and_fence_at)
+    no_kind)))
 
--- by its first byte, its name and what stands behind the name
-abbrev pub body_by : ℕ → List ℕ → List ℕ → Option Body
-body_by kind name rest =
-    if kind == 1 then alone (Acquire name) rest
-    else if kind == 2 then with_fence (Release name) (fence_of rest)
-    else if kind == 3 then alone (Ask name) rest
-    else if kind == 4 then with_fence (Check name) (fence_of rest)
-    else None
-
--- the body that the bytes are, if they are one
+-- the body that all of the bytes are, if they are one
 unfoldable pub body_of : List ℕ → Option Body
-body_of (kind ∷ len ∷ rest) = if nat_le len (length rest) && is_name (take len rest) then body_by kind (take len rest) (drop len rest) else None
-body_of _ = None
+body_of = whole (tagged fields_of)

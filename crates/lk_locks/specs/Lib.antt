@@ -3,3 +3,7 @@ pub mod Slots
 pub mod Bodies
 pub mod Plain
 pub mod Grants
+pub mod Packed
+pub mod NameLaws
+pub mod PackedLaws
+pub mod NextLaws

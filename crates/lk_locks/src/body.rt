@@ -1,10 +1,12 @@
 ghost use Rattle.std.specs.Prelude.{◌≡◌, ◌≤◌, ◌∷◌, ◌++◌, List, ℕ, length, Some, IfSome};
+ghost use Rattle.lk_wire.specs.Parser.{Finds};
 ghost use Rattle.lk_locks.specs.declared.body.Body.{Body};
-ghost use Rattle.lk_locks.specs.Bodies.{Spells, counted, spelling, fence_of, body_by, body_of};
+ghost use Rattle.lk_locks.specs.Bodies.{Spells, lock_name, spelling, name_at, name_and_fence_at, fields_of, body_of};
 
 use crate::name::Name;
 use arrayvec::ArrayVec;
 use lk_types::{Fence, Payload};
+use lk_wire::fields::{read_fence, read_u8};
 
 /// What a client asks of the table.
 #[derive(Debug, PartialEq, Eq, Drop)]
@@ -19,50 +21,63 @@ pub enum Body {
     Check(Name, Fence),
 }
 
-/// The fence that the bytes are.
-#[tactic(auto, unfolding(crate::specs::Bodies::fence_of))]
-fn fence_in(bytes: &[u8]) -> Option<Fence>
-    ensures { result ≡ fence_of bytes.now }
+/// A name behind its length, from the front of the bytes.
+#[tactic(auto, unfolding(crate::specs::Bodies::name_at))]
+pub(crate) fn read_name(bytes: &[u8]) -> Option<(Name, &[u8])>
+    ensures { Finds (λ x. (x.0, x.1.now)) result (name_at bytes.now) }
 {
-    let [a, b, c, d, e, f, g, h] = bytes else {
-        return None;
-    };
-    Fence::of(u64::from_be_bytes([*a, *b, *c, *d, *e, *f, *g, *h]))
-}
-
-/// The body of that first byte and that name, with what stands behind the name.
-fn body_with(kind: u8, name: Name, rest: &[u8]) -> Option<Body>
-    ensures { result ≡ body_by kind name rest.now }
-{
-    match kind {
-        1 if rest.is_empty() => Some(Body::Acquire(name)),
-        2 => Some(Body::Release(name, fence_in(rest)?)),
-        3 if rest.is_empty() => Some(Body::Ask(name)),
-        4 => Some(Body::Check(name, fence_in(rest)?)),
-        _ => None,
-    }
-}
-
-/// The body that the bytes are.
-#[tactic(auto, unfolding(crate::specs::Bodies::body_of))]
-fn body_in(bytes: &[u8]) -> Option<Body>
-    ensures { result ≡ body_of bytes.now }
-{
-    let [kind, length, rest @ ..] = bytes else {
-        return None;
-    };
-    let length = *length as usize;
+    let (length, rest) = read_u8(bytes)?;
+    let length = length as usize;
     if rest.len() < length {
         return None;
     }
     let (name, rest) = rest.split_at(length);
-    body_with(*kind, Name::of(name)?, rest)
+    Some((Name::of(name)?, rest))
+}
+
+/// What stands behind the first byte of a body.
+#[tactic(auto, unfolding(crate::specs::Bodies::fields_of, crate::specs::Bodies::name_and_fence_at))]
+fn read_fields(kind: u8, bytes: &[u8]) -> Option<(Body, &[u8])>
+    ensures { Finds (λ x. (x.0, x.1.now)) result (fields_of kind bytes.now) }
+{
+    let Some((name, rest)) = read_name(bytes) else {
+        return None;
+    };
+    match kind {
+        1 => Some((Body::Acquire(name), rest)),
+        2 => {
+            let Some((fence, rest)) = read_fence(rest) else {
+                return None;
+            };
+            Some((Body::Release(name, fence), rest))
+        }
+        3 => Some((Body::Ask(name), rest)),
+        4 => {
+            let Some((fence, rest)) = read_fence(rest) else {
+                return None;
+            };
+            Some((Body::Check(name, fence), rest))
+        }
+        _ => None,
+    }
+}
+
+/// The body that all of the bytes are.
+#[tactic(auto, unfolding(crate::specs::Bodies::body_of))]
+fn read_whole(bytes: &[u8]) -> Option<Body>
+    ensures { result ≡ body_of bytes.now }
+{
+    let (kind, rest) = read_u8(bytes)?;
+    match read_fields(kind, rest) {
+        Some((body, [])) => Some(body),
+        _ => None,
+    }
 }
 
 /// The bytes of a first byte, a name and at most eight bytes behind it.
 fn spelled(kind: u8, name: &Name, rest: &[u8]) -> Payload
     requires { length rest.now ≤ 8 }
-    ensures { result ≡ kind ∷ (counted name.now ++ rest.now) }
+    ensures { result ≡ kind ∷ (lock_name name.now ++ rest.now) }
 {
     let name = name.as_slice();
     let mut bytes = ArrayVec::<u8, 64>::new();
@@ -81,11 +96,11 @@ impl Body {
         ensures found { IfSome result (λ body. Spells body bytes.now) }
         ensures only { (body : Body) → Spells body bytes.now → result ≡ Some body }
     {
-        body_in(bytes)
+        read_whole(bytes)
     }
 
     /// The bytes of the body: 3 to 42. It takes no memory.
-    #[tactic(auto, unfolding(crate::specs::Bodies::eight))]
+    #[tactic(auto, unfolding(lk_wire::specs::Fields::eight))]
     pub fn write(&self) -> Payload
         ensures value { result ≡ spelling self.now }
     {

@@ -2,7 +2,9 @@
 #![tactic(auto)]
 
 mod body;
+mod entry;
 pub mod laws;
+mod machine;
 mod name;
 mod slot;
 mod table;

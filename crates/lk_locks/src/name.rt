@@ -57,4 +57,11 @@ impl Name {
     {
         self.bytes.as_slice()
     }
+
+    /// It is a name. It does nothing.
+    pub(crate) fn facts(&self)
+        ensures { IsName self.now }
+    {
+        let _ = self.as_slice();
+    }
 }

@@ -1,4 +1,5 @@
 ghost use Rattle.std.specs.Prelude.{◌≡◌};
+ghost use Rattle.lk_locks.specs.Packed.{IsSlot};
 ghost use Rattle.lk_locks.specs.Plain.{granting, asked, checked};
 
 use lk_types::{Answer, ClientNo, Fence, LastFence};
@@ -8,6 +9,18 @@ use lk_types::{Answer, ClientNo, Fence, LastFence};
 pub struct Slot {
     pub fence: Fence,
     pub holder: Option<ClientNo>,
+}
+
+impl Slot {
+    /// Each part is in its range. It does nothing.
+    pub(crate) fn facts(&self)
+        ensures { IsSlot self.now }
+    {
+        let _ = self.fence.get();
+        if let Some(holder) = self.holder {
+            let _ = holder.get();
+        }
+    }
 }
 
 /// The fence at which a name is granted, or why it is not.

@@ -1,15 +1,22 @@
-ghost use Rattle.std.specs.Prelude.{◌≡◌, ◌<◌, OnOk, OnErr, IfOk, List, ℕ, None};
+ghost use Rattle.std.specs.Prelude.{◌≡◌, ◌<◌, ◌≤◌, OnOk, OnErr, IfOk, IsErrOf, List, [], ◌∷◌, ◌++◌, ℕ, None, false};
 ghost use Rattle.std.specs.Ordering.{nat_cmp};
 ghost use Rattle.std.specs.Cmp.Lexicographic.{slice_cmp};
 ghost use Rattle.std.specs.FinMap as map;
 ghost use Rattle.lk_locks.specs.Bodies.{body_of};
+ghost use Rattle.lk_locks.specs.Packed.{IsTable, rise, text};
+ghost use Rattle.lk_locks.specs.declared.slot.Slot.{Slot};
+ghost use Rattle.lk_wire.specs.Fronts.{Keeps};
 ghost use Rattle.lk_locks.specs.Plain.{acquired, released, changed, answer, next, IsNewName};
 
 use crate::body::Body;
+use crate::entry::put_entry;
 use crate::name::Name;
 use crate::slot::{Slot, ask, check, grant};
+use bytes::BytesMut;
+use lk_state::UnpackFault;
 use lk_types::{Answer, ClientNo, Fence, NoMemory};
-use std::alloc::Global;
+use lk_wire::fields::put_u16;
+use std::alloc::{AllocError, Global};
 use std::collections::BTreeMap;
 use std::marker::Model;
 
@@ -27,17 +34,21 @@ impl Model for LockTable {
     ghost use Rattle.std.specs.Coded.{coded_ℕ, coded_list};
     ghost use Rattle.lk_locks.specs.declared.slot.Slot.{Slot};
     ghost use Rattle.lk_locks.specs.Slots.{slot_code};
+    ghost use Rattle.std.specs.BTreeMap.{IsOrdered};
+    ghost use Rattle.lk_locks.specs.Packed.{IsTable};
 
     ghost Value = { map.FinMap (slice_cmp nat_cmp) Slot };
 
     ghost coded = { map.code (coded_list coded_ℕ) slot_code };
 
     ghost view = { λ t. map.from_entries t.slots.entries };
+
+    ghost invariant = { λ t. IsOrdered (slice_cmp nat_cmp) t.slots × IsTable (map.from_entries t.slots.entries) };
 }
 
 impl LockTable {
     /// The table that knows no name. It takes no memory yet.
-    pub fn begin(alloc: Global) -> LockTable
+    pub fn new(alloc: Global) -> LockTable
         ensures { result ≡ map.empty }
     {
         LockTable {
@@ -47,9 +58,17 @@ impl LockTable {
 
     /// How many names stand.
     fn len(&self) -> usize
-        ensures { result ≡ map.len self.now }
+        ensures len { result ≡ map.len self.now }
+        ensures short { result ≤ 512 }
     {
         self.slots.len()
+    }
+
+    /// At most 512 names stand, and each part is in its range. It does nothing.
+    pub(crate) fn facts(&self)
+        ensures { IsTable self.now }
+    {
+        let _ = &self.slots;
     }
 
     fn slot(&self, name: &Name) -> Option<Slot>
@@ -60,11 +79,51 @@ impl LockTable {
 
     /// Gives a name that slot. For a name that stands it takes no memory.
     fn set(&mut self, name: Name, slot: Slot) -> Result<(), NoMemory>
+        requires { map.get self.old name ≡ None → map.len self.old < 512 }
         ensures ok { OnOk result (self.new ≡ map.insert self.old name slot) }
         ensures err { OnErr result (self.new ≡ self.old) }
         ensures absent { OnErr result (map.get self.old name ≡ None) }
     {
+        name.facts();
+        slot.facts();
         self.slots.insert(name, slot)?;
+        Ok(())
+    }
+
+    /// Whether all names that stand are below this one.
+    fn is_below(&self, name: &Name) -> bool
+        ensures { (s : Slot) → result ≡ rise (map.entries self.now ++ (name.now, s) ∷ []) }
+    {
+        match self.slots.iter().next_back() {
+            Some((last, _)) => last.cmp(name).is_lt(),
+            None => true,
+        }
+    }
+
+    /// Adds a name above all that stand, where there is room.
+    pub(crate) fn push(&mut self, name: Name, slot: Slot) -> Result<(), UnpackFault>
+        requires { map.len self.old < 512 }
+        ensures ok { OnOk result (map.entries self.new ≡ map.entries self.old ++ (name, slot) ∷ []) }
+        ensures not_packed { IsErrOf result UnpackFault.NotPacked → rise (map.entries self.old ++ (name, slot) ∷ []) ≡ false }
+    {
+        if !self.is_below(&name) {
+            return Err(UnpackFault::NotPacked);
+        }
+        self.set(name, slot)?;
+        Ok(())
+    }
+
+    /// Writes how many names stand, and then each with its slot. Where memory is refused, a beginning of that may stand
+    /// behind what stood.
+    #[tactic(auto, using(lk_wire::proofs::Appends::keeps_same, lk_wire::proofs::Appends::keeps_behind))]
+    pub(crate) fn put(&self, out: &mut BytesMut) -> Result<(), AllocError>
+        ensures ok { OnOk result (out.new.items ≡ out.old.items ++ text self.now) }
+        ensures err { OnErr result (Keeps out.old.items out.new.items) }
+    {
+        put_u16(out, self.len() as u16)?;
+        for (name, slot) in self.slots.iter() {
+            put_entry(out, name, *slot)?;
+        }
         Ok(())
     }
 
@@ -102,7 +161,7 @@ impl LockTable {
     }
 
     /// Answers what a client asks, and does it. It wants memory only for a name that is new. An `Err` changes nothing.
-    pub fn apply(&mut self, client: ClientNo, body: &[u8]) -> Result<Answer, NoMemory>
+    pub fn run(&mut self, client: ClientNo, body: &[u8]) -> Result<Answer, NoMemory>
         ensures answer { IfOk result (λ a. a ≡ answer client body.now self.old) }
         ensures ok { OnOk result (self.new ≡ next client body.now self.old) }
         ensures err { OnErr result (self.new ≡ self.old) }

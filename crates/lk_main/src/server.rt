@@ -49,7 +49,7 @@ impl Server {
     {
         Server {
             cluster,
-            table: LockTable::begin(alloc),
+            table: LockTable::new(alloc),
             sessions: Sessions::new(),
         }
     }
@@ -63,7 +63,7 @@ impl Server {
         ensures cluster { self.new.cluster ≡ self.old.cluster }
     {
         request.facts();
-        let answer = self.table.apply(request.client, payload.as_slice())?;
+        let answer = self.table.run(request.client, payload.as_slice())?;
         self.sessions.keep(request.client, request.number, &answer);
         Ok(answer)
     }

@@ -6,7 +6,7 @@ use Rattle.std.proofs.lemmas.List.Folds.{list_all-append}
 use Rattle.lk_types.specs.Ranges.{IsTotal, IsNode}
 use Rattle.lk_types.specs.Rosters.{are_rising_above, AreMembers}
 use Rattle.lk_members.specs.Rosters.{Member, greatest_node, others, is_nobody}
-use Rattle.lk_members.specs.Sets.{IsWindow, are_at_most, newest}
+use Rattle.lk_members.specs.Sets.{IsSet, IsWindow, are_at_most, newest}
 use Rattle.lk_members.specs.Windows.{RosterValue, IsRoster}
 
 module _ {X : Type 0} where
@@ -52,16 +52,16 @@ length-behind : {X : Type 0} (xs : List X) → length (drop 1 xs) ≤ length xs 
 length-behind [] = omega arith
 length-behind (x ∷ xs) = omega arith
 
-pub IsWindow-push : (sets : List (List Member)) (set : List Member) → length sets < 16 → IsWindow sets → AreMembers set → IsWindow (sets ++ set ∷ [])
-IsWindow-push sets set room h members = (simp length-append (omega arith), AllByRecursion-push AreMembers sets set h.1 members)
+pub IsWindow-push : (sets : List (List Member)) (set : List Member) → length sets < 16 → IsWindow sets → IsSet set → IsWindow (sets ++ set ∷ [])
+IsWindow-push sets set room h members = (simp length-append (omega arith), AllByRecursion-push IsSet sets set h.1 members)
 
-pub IsWindow-moved : (sets : List (List Member)) (set : List Member) → 0 < length sets → IsWindow sets → AreMembers set → IsWindow (drop 1 sets ++ set ∷ [])
+pub IsWindow-moved : (sets : List (List Member)) (set : List Member) → 0 < length sets → IsWindow sets → IsSet set → IsWindow (drop 1 sets ++ set ∷ [])
 IsWindow-moved sets set some h members =
     let few = h.0 in
-    IsWindow-push (drop 1 sets) set (omega (arith, length-behind sets)) (omega (arith, length-behind sets), AllByRecursion-behind AreMembers sets h.1) members
+    IsWindow-push (drop 1 sets) set (omega (arith, length-behind sets)) (omega (arith, length-behind sets), AllByRecursion-behind IsSet sets h.1) members
 
 -- the window that one set left and one entered
-pub IsRoster-moved : (v : RosterValue) (executed greatest changed : ℕ) (set : List Member) → IsRoster v → IsTotal executed → AreMembers set → list_all (λ m. nat_le m.node greatest) set ≡ true
+pub IsRoster-moved : (v : RosterValue) (executed greatest changed : ℕ) (set : List Member) → IsRoster v → IsTotal executed → IsSet set → list_all (λ m. nat_le m.node greatest) set ≡ true
     → v.greatest ≤ greatest → IsNode greatest → IsTotal changed
     → IsRoster (record { executed = executed; sets = drop 1 v.sets ++ set ∷ []; greatest = greatest; changed = changed })
 IsRoster-moved v executed greatest changed set r total members below rises node at =

@@ -10,4 +10,4 @@ mod window;
 
 pub use majority::is_majority;
 pub use roster::Roster;
-pub use window::Window;
+pub use window::{Place, Window};

@@ -2,7 +2,7 @@ ghost use Rattle.std.specs.Prelude.{◌≡◌, ℕ, ◌+◌, ◌-◌, ◌<◌, �
 ghost use Rattle.lk_members.specs.Rosters.{greatest_node};
 ghost use Rattle.lk_members.specs.Windows.{sets_from};
 
-use crate::set::{is_member, with_member, without};
+use crate::set::{facts_of, is_member, with_member, without};
 use crate::window::Window;
 use lk_types::{Answer, Executed, Genesis, Member, Members, NodeNo, Op, Port, Position};
 use std::marker::Model;
@@ -153,7 +153,7 @@ impl Roster {
         requires rises { self.old.greatest ≤ greatest }
         ensures { self.new ≡ moved (record { members = set; greatest = greatest }) changed self.old }
     {
-        let _ = set.as_slice();
+        facts_of(&set);
         let _ = greatest.get();
         let _ = changed.get();
         self.executed = Executed::of(self.executed.get() + 1).unwrap();

@@ -1,9 +1,20 @@
 ghost use Rattle.std.specs.Prelude.{◌≡◌, ◌<◌, ◌↔◌, false, [], ◌∷◌, ◌++◌, length, IsTrue, IsSome, IfSome};
 ghost use Rattle.lk_types.specs.Rosters.{are_rising_above};
+ghost use Rattle.lk_members.specs.Sets.{IsSet};
 ghost use Rattle.lk_members.specs.Rosters.{is_member as is_one, others, is_nobody};
 
 use arrayvec::ArrayVec;
 use lk_types::{Member, Members, NodeNo};
+
+/// Each part of the set is in its range. It does nothing.
+pub(crate) fn facts_of(set: &Members)
+    ensures { IsSet set.now }
+{
+    let members = set.as_slice();
+    for member in members {
+        member.facts();
+    }
+}
 
 /// Whether the node is one of the members.
 pub(crate) fn is_member(set: &Members, node: NodeNo) -> bool

@@ -2,13 +2,14 @@ ghost use Rattle.std.specs.Prelude.{◌≡◌, ◌+◌, ◌<◌, ◌≤◌, ◌�
 ghost use Rattle.std.specs.List.{list_all};
 ghost use Rattle.lk_members.specs.Sets.{IsWindow, newest, are_at_most};
 
+use crate::set::facts_of;
 use arrayvec::ArrayVec;
 use lk_types::{Member, Members, NodeNo};
 use std::marker::Model;
 
 /// The set of one position.
 #[derive(Debug, Drop)]
-struct Place {
+pub struct Place {
     set: Members,
 }
 
@@ -32,6 +33,13 @@ impl Default for Place {
 }
 
 impl Place {
+    /// The set.
+    pub fn set(&self) -> &Members
+        ensures { result.now ≡ self.now }
+    {
+        &self.set
+    }
+
     /// Whether every node of the set is at most this number.
     fn is_at_most(&self, greatest: NodeNo) -> bool
         ensures { result ≡ list_all (λ m. nat_le m.node greatest) self.now }
@@ -71,6 +79,14 @@ impl Window {
         }
     }
 
+    /// The sets, the nearest first.
+    pub fn as_slice(&self) -> &[Place]
+        ensures value { result.now ≡ self.now }
+        ensures fits { IsWindow self.now }
+    {
+        self.places.as_slice()
+    }
+
     /// How many sets there are.
     pub fn len(&self) -> usize
         ensures value { result ≡ length self.now }
@@ -101,7 +117,7 @@ impl Window {
         requires { length self.old < 16 }
         ensures { self.new ≡ self.old ++ set ∷ [] }
     {
-        let _ = set.as_slice();
+        facts_of(&set);
         self.places.push(Place { set });
     }
 
@@ -129,7 +145,7 @@ impl Window {
         requires { 0 < length self.old }
         ensures { self.new ≡ drop 1 self.old ++ set ∷ [] }
     {
-        let _ = set.as_slice();
+        facts_of(&set);
         self.places.remove(0);
         self.places.push(Place { set });
     }

@@ -75,11 +75,7 @@ impl Nack {
     /// Each part is in its range. It does nothing.
     pub fn facts(self)
         ensures { IsNack self }
-    {
-        let _ = self.ballot.get();
-        let _ = self.promised.round();
-        let _ = self.executed.get();
-    }
+    {}
 }
 
 impl Answered {
@@ -88,11 +84,7 @@ impl Answered {
     /// Each part is in its range. It does nothing.
     pub fn facts(self)
         ensures { IsAnswered self }
-    {
-        let _ = self.client.get();
-        let _ = self.number.get();
-        self.answer.facts();
-    }
+    {}
 }
 
 impl Elsewhere {
@@ -101,11 +93,7 @@ impl Elsewhere {
     /// Each part is in its range. It does nothing.
     pub fn facts(self)
         ensures { IsElsewhere self }
-    {
-        let _ = self.client.get();
-        let _ = self.number.get();
-        self.member.facts();
-    }
+    {}
 }
 
 impl NodeMessage {

@@ -65,7 +65,5 @@ impl Passed {
     /// Each part is in its range, and the last number above the other. It does nothing.
     pub fn facts(self)
         ensures { IsPassed self }
-    {
-        let _client = self.client;
-    }
+    {}
 }

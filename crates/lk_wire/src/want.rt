@@ -54,7 +54,5 @@ impl Want {
     /// Each part is in its range. It does nothing.
     pub fn facts(self)
         ensures { IsWant self }
-    {
-        let _first = self.first;
-    }
+    {}
 }

@@ -1,9 +1,20 @@
-use Rattle.std.proofs.Common.{ap, sym, ◌∙◌, Result, Ok, Err}
+use Rattle.std.proofs.Common.{◌≡◌, ◌<◌, None, ap, sym, subst, ◌∙◌, Result, Ok, Err}
 use Rattle.std.specs.Prelude.{OnErr}
 use Rattle.std.specs.Cmp.Lexicographic.{nat_list_cmp_total}
 use Rattle.std.specs.FinMap as map
+use Rattle.lk_locks.specs.Plain.{Table}
+use Rattle.lk_locks.specs.Packed.{IsTable}
 use Rattle.lk_locks.proofs.Maps.{get_is, one_set}
+use Rattle.lk_locks.specs.PackedLaws.{insert_is_table}
 use Rattle.lk_locks.proofs.table.LockTable.set.Goals as goal
+
+pub invariant_of-self-2 : goal.invariant_of-self-2
+invariant_of-self-2 c = (
+  c.insert.ensures.ordered,
+  subst IsTable (sym (one_set nat_list_cmp_total (map.slice_cmp-IsAntisymmetric map.nat_cmp-IsAntisymmetric) c.self.inside.slots.entries c.insert.new.self.entries c.args.name c.args.slot c.in_ok-insert.ensures.updates.0))
+      (insert_is_table (map.from_entries c.self.inside.slots.entries) c.args.name c.args.slot c.self.invariant.1 (c.facts.ensures, c.facts-2.ensures)
+      (subst (λ (m : Table). map.get m c.args.name ≡ None → map.len m < 512) (sym c.self.view_is) c.requires)),
+)
 
 pub returns-clause-ok : goal.returns-clause-ok
 returns-clause-ok c =

@@ -14,4 +14,4 @@ invariant_of-self c =
     let next : c.unwrap-self-inside.result ≡ before.executed + 1 = (rw c.unwrap-self-inside.ensures at c.of.ensures.value) ∙ ap (λ n. n + 1) c.get-3.ensures.value in
     let total : IsTotal c.unwrap-self-inside.result = omega (arith, next, executed_is, c.requires.room) in
     rw c.advance.ensures
-    (IsRoster-moved before c.unwrap-self-inside.result c.args.greatest c.args.changed c.args.set c.self.invariant total c.as_slice.ensures.fits c.requires.bound rises c.get.ensures.in_range c.get-2.ensures.in_range)
+    (IsRoster-moved before c.unwrap-self-inside.result c.args.greatest c.args.changed c.args.set c.self.invariant total c.facts_of.ensures c.requires.bound rises c.get.ensures.in_range c.get-2.ensures.in_range)

@@ -1,0 +1,11 @@
+pub mod Lists
+pub mod BallotOrder
+pub mod Agree
+pub mod Grow
+pub mod Signed
+pub mod Sends
+pub mod Views
+pub mod Runs
+pub mod VoteLists
+pub mod Slices
+pub mod Example

@@ -1,0 +1,9 @@
+pub mod Ballots
+pub mod Datagrams
+pub mod Chosen
+pub mod Soundness
+pub mod Standings
+pub mod Nodes
+pub mod Changes
+pub mod Worlds
+pub mod Snapshots

@@ -1,0 +1,140 @@
+//! Why chosen lists agree: laws over the definitions alone. Each is what a function without a body ensures.
+ghost use Rattle.std.specs.Prelude.{◌≡◌, ◌<◌, ◌≤◌, ◌+◌, ◌==◌, nat_lt, nat_le, not, filter, ◌⊎◌, ℕ, suc, List, [], ◌∷◌, ◌++◌, length, Some, None, Contains};
+ghost use Rattle.lk_wire.specs.Grammar.{Spells};
+ghost use Rattle.lk_wire.specs.Values.{PromiseValue};
+ghost use Rattle.lk_members.specs.Rosters.{members};
+ghost use Rattle.lk_members.specs.Majorities.{IsMajority};
+ghost use Rattle.lk_history.specs.Datagrams.{Genesis, Vote, Datagram, NodeMessage, said_by, HasSent};
+ghost use Rattle.lk_history.specs.Chosen.{Command, command_at, Chosen, ChosenAt, IsBeginning};
+ghost use Rattle.lk_history.specs.Soundness.{Sound};
+ghost use Rattle.lk_history.specs.Standings.{Standing, CoversSent, TakesVote, TakesSnapshot};
+ghost use Rattle.lk_history.specs.Nodes.{Term, View, Stems, ViewFits, MayPromise, MayPostAll};
+ghost use Rattle.lk_history.specs.Changes.{Becomes};
+ghost use Rattle.lk_history.specs.Snapshots.{IsSlice};
+ghost use Rattle.lk_history.specs.Worlds.{World, start, with_sent, with_view, IsAsked, Reaches, WorldFits, IsKept, MembersChange};
+
+/// Of two chosen lists of a sound history one is a beginning of the other, and they name the same members.
+pub fn chosen_lists_agree()
+    ensures lists { (genesis : Genesis) (sent : List Datagram) (L K : List Command) → Sound genesis sent
+        → Chosen genesis sent L → Chosen genesis sent K → IsBeginning L K ⊎ IsBeginning K L }
+    ensures members { (genesis : Genesis) (sent : List Datagram) (L K : List Command) (i : ℕ) → Sound genesis sent
+        → Chosen genesis sent L → Chosen genesis sent K → i ≤ length L + genesis.alpha → i ≤ length K + genesis.alpha
+        → members genesis L i ≡ members genesis K i }
+{}
+
+/// At most one command is chosen at a position, also beyond a gap.
+pub fn one_command_a_position()
+    ensures { (genesis : Genesis) (sent : List Datagram) (i : ℕ) (v w : Command) → Sound genesis sent
+        → ChosenAt genesis sent i v → ChosenAt genesis sent i w → v ≡ w }
+{}
+
+/// A chosen list stays chosen whatever is sent later. With the command that is chosen at its next position it is chosen
+/// too, and each of its commands is chosen at its position.
+pub fn chosen_lists_grow()
+    ensures later { (genesis : Genesis) (sent new : List Datagram) (L : List Command)
+        → Chosen genesis sent L → Chosen genesis (sent ++ new) L }
+    ensures longer { (genesis : Genesis) (sent : List Datagram) (L : List Command) (v : Command) → Sound genesis sent
+        → Chosen genesis sent L → ChosenAt genesis sent (suc (length L)) v → Chosen genesis sent (L ++ v ∷ []) }
+    ensures each { (genesis : Genesis) (sent : List Datagram) (L : List Command) (i : ℕ) (v : Command)
+        → Chosen genesis sent L → command_at L i ≡ Some v → ChosenAt genesis sent i v }
+{}
+
+/// A majority of the members that a chosen list names for a position keeps its command there: each node of it does in
+/// every state that covers what the node has sent and stems from what was sent, so in every image of its disk.
+pub fn chosen_commands_are_kept()
+    ensures { (genesis : Genesis) (sent : List Datagram) (L : List Command) (i : ℕ) (v : Command) → Sound genesis sent
+        → Chosen genesis sent L → command_at L i ≡ Some v
+        → IsKept genesis L i v (λ n state. CoversSent genesis sent n state.standing × Stems genesis sent state) }
+{}
+
+/// What a term has counted from a majority of the members that the executed list names is chosen.
+pub fn what_is_counted_is_chosen()
+    ensures { (genesis : Genesis) (sent : List Datagram) (n : ℕ) (w : View) (t : Term) (i : ℕ) (v : Command) (nodes : List ℕ)
+        → ViewFits genesis sent n w → w.term ≡ Some t → i ≤ length w.done + genesis.alpha → IsMajority nodes (members genesis w.done i)
+        → ((k : ℕ) → Contains nodes k → Contains t.accepted (record { node = k; position = i; command = v }))
+        → ChosenAt genesis sent i v }
+{}
+
+/// In a sound history the node that a datagram names as its sender has sent it.
+pub fn what_is_heard_was_sent()
+    ensures { (genesis : Genesis) (sent : List Datagram) (d : Datagram) (n : ℕ) (m : NodeMessage) → Sound genesis sent
+        → Contains sent d → Spells (said_by genesis n m) d.bytes → HasSent genesis sent n m }
+{}
+
+/// Where nothing was sent all fits.
+pub fn the_start_fits()
+    ensures { (genesis : Genesis) → WorldFits genesis start }
+{}
+
+/// What changes within a node leaves the history sound and every node fitting.
+pub fn changes_keep_the_world()
+    ensures { (genesis : Genesis) (w : World) (n : ℕ) (new : View) → WorldFits genesis w
+        → Becomes genesis w.sent n (w.views n) new → WorldFits genesis (with_view w n new) }
+{}
+
+/// So does whatever a node sends of what it may send as it now is, and a client's request.
+pub fn sends_keep_the_world()
+    ensures node { (genesis : Genesis) (w : World) (n : ℕ) (batch : List Datagram) → WorldFits genesis w
+        → MayPostAll genesis w.sent n (w.views n) batch → WorldFits genesis (with_sent w batch) }
+    ensures client { (genesis : Genesis) (w : World) (d : Datagram) → WorldFits genesis w
+        → IsAsked d → WorldFits genesis (with_sent w (d ∷ [])) }
+{}
+
+/// So does a restart from any image that covers what its node has sent and stems from what was sent.
+pub fn restarts_keep_the_world()
+    ensures { (genesis : Genesis) (w : World) (n : ℕ) (image : View) → WorldFits genesis w
+        → CoversSent genesis w.sent n image.standing → Stems genesis w.sent image → image.term ≡ None
+        → WorldFits genesis (with_view w n image) }
+{}
+
+/// An image that covers what its node had sent, and what it sends now, covers what it has sent then: so where each call
+/// syncs before it sends, every image goes on covering. Those of other nodes do in any case, and what an image holds goes
+/// on stemming from what was sent.
+pub fn images_go_on_covering()
+    ensures own { (genesis : Genesis) (sent batch : List Datagram) (n : ℕ) (image : View)
+        → CoversSent genesis sent n image.standing → CoversSent genesis batch n image.standing
+        → CoversSent genesis (sent ++ batch) n image.standing }
+    ensures others { (genesis : Genesis) (w : World) (n k : ℕ) (batch : List Datagram) (image : View)
+        → MayPostAll genesis w.sent n (w.views n) batch → (n ≡ k → ⊥)
+        → CoversSent genesis w.sent k image.standing → CoversSent genesis (w.sent ++ batch) k image.standing }
+    ensures stems { (genesis : Genesis) (sent new : List Datagram) (image : View)
+        → Stems genesis sent image → Stems genesis (sent ++ new) image }
+{}
+
+/// The plain ways to keep votes in a list are allowed: a vote takes the place of any other for its position, a snapshot that
+/// of those up to its position, and a promise reports those from its first position on.
+pub fn votes_may_be_kept_in_a_list()
+    ensures vote { (old new : Standing) (x : Vote) → new.promised ≡ x.ballot → new.snapshot ≡ old.snapshot
+        → new.votes ≡ filter (λ y. not (y.position == x.position)) old.votes ++ x ∷ [] → TakesVote old x new }
+    ensures snapshot { (old new : Standing) (i : ℕ) → old.snapshot ≤ i → new.promised ≡ old.promised → new.snapshot ≡ i
+        → new.votes ≡ filter (λ y. nat_lt i y.position) old.votes → TakesSnapshot old i new }
+    ensures promise { (s : Standing) (p : PromiseValue) → s.promised ≡ p.ballot → s.snapshot < p.first
+        → p.votes ≡ filter (λ y. nat_le p.first y.position) s.votes → MayPromise s p }
+{}
+
+/// Slices of snapshots of one position, from whichever nodes, join to one text, which when whole is that of a chosen list.
+pub fn slices_join()
+    ensures join { (genesis : Genesis) (sent : List Datagram) (text : List Command → List ℕ) (position total : ℕ) (gathered bytes : List ℕ)
+        → Sound genesis sent → IsSlice genesis sent text position total 0 gathered → IsSlice genesis sent text position total (length gathered) bytes
+        → IsSlice genesis sent text position total 0 (gathered ++ bytes) }
+    ensures whole { (genesis : Genesis) (sent : List Datagram) (text : List Command → List ℕ) (position total : ℕ) (bytes : List ℕ)
+        → IsSlice genesis sent text position total 0 bytes → length bytes ≡ total
+        → (L : List Command) × Chosen genesis sent L × (length L ≡ position) × (bytes ≡ text L) }
+    ensures later { (genesis : Genesis) (sent new : List Datagram) (text : List Command → List ℕ) (position total offset : ℕ) (bytes : List ℕ)
+        → IsSlice genesis sent text position total offset bytes → IsSlice genesis (sent ++ new) text position total offset bytes }
+{}
+
+/// In every world that comes about chosen lists agree, and a majority keeps each command of a chosen list.
+pub fn every_world_agrees()
+    ensures fits { (genesis : Genesis) (w : World) → Reaches genesis w → WorldFits genesis w }
+    ensures agree { (genesis : Genesis) (w : World) (L K : List Command) → Reaches genesis w
+        → Chosen genesis w.sent L → Chosen genesis w.sent K → IsBeginning L K ⊎ IsBeginning K L }
+    ensures kept { (genesis : Genesis) (w : World) (L : List Command) (i : ℕ) (v : Command) → Reaches genesis w
+        → Chosen genesis w.sent L → command_at L i ≡ Some v → IsKept genesis L i v (λ n state. state ≡ w.views n) }
+{}
+
+/// Such worlds come about, and members change in them: the first command of a chosen list is decided by node 1 alone and
+/// makes node 2 a member, and the second is decided by both.
+pub fn members_change_in_some_world()
+    ensures { (genesis : Genesis) × (w : World) × (L : List Command) × MembersChange genesis w L }
+{}

@@ -1,0 +1,8 @@
+use lk_types::{ClientNo, NodeNo};
+
+/// Who sends a datagram, and for whom it is bound.
+#[derive(Clone, Copy, Debug, PartialEq, Eq)]
+pub enum Party {
+    Node(NodeNo),
+    Client(ClientNo),
+}

@@ -1,0 +1,106 @@
+//! The table as a machine: its packed text, and reading it back.
+ghost use Rattle.std.specs.Prelude.{◌≡◌, ◌≤◌, ◌++◌, ℕ, List, length, Some, None, OnOk, OnErr, IfOk, IsErrOf};
+ghost use Rattle.std.specs.FinMap as map;
+ghost use Rattle.lk_wire.specs.Parser.{many, whole};
+ghost use Rattle.lk_locks.specs.Packed.{entry_at, entries_at, DoNotRise};
+
+use crate::entry::read_entry;
+use crate::table::LockTable;
+use bytes::BytesMut;
+use lk_state::{Machine, UnpackFault};
+use lk_types::{Answer, ClientNo, NoMemory};
+use lk_wire::fields::read_u16;
+use std::alloc::Global;
+
+/// The table of so many names with their slots, from the front of the bytes. The names have to rise.
+fn read_entries(alloc: Global, count: u16, bytes: &[u8]) -> Result<(LockTable, &[u8]), UnpackFault>
+    requires { count ≤ 512 }
+    ensures ok { IfOk result (λ x. many entry_at count bytes.now ≡ Some (map.entries x.0, x.1.now)) }
+    ensures not_packed { IsErrOf result UnpackFault.NotPacked → DoNotRise (many entry_at count bytes.now) }
+{
+    let mut table = LockTable::new(alloc);
+    let mut rest = bytes;
+    for _ in 0..count {
+        let Some((name, slot, after)) = read_entry(rest) else {
+            return Err(UnpackFault::NotPacked);
+        };
+        table.push(name, slot)?;
+        rest = after;
+    }
+    Ok((table, rest))
+}
+
+/// The table that all of the bytes are.
+#[tactic(auto, using(crate::proofs::TableLaws::read_is), unfolding(crate::specs::Packed::entries_at, crate::specs::Packed::size_at))]
+fn read_table(alloc: Global, bytes: &[u8]) -> Result<LockTable, UnpackFault>
+    ensures ok { IfOk result (λ t. whole entries_at bytes.now ≡ Some (map.entries t)) }
+    ensures not_packed { IsErrOf result UnpackFault.NotPacked → whole entries_at bytes.now ≡ None }
+{
+    let Some((count, rest)) = read_u16(bytes) else {
+        return Err(UnpackFault::NotPacked);
+    };
+    if count > 512 {
+        return Err(UnpackFault::NotPacked);
+    }
+    let (table, rest) = read_entries(alloc, count, rest)?;
+    if !rest.is_empty() {
+        return Err(UnpackFault::NotPacked);
+    }
+    Ok(table)
+}
+
+impl Machine for LockTable {
+    ghost use Rattle.std.specs.FinMap as map;
+    ghost use Rattle.lk_locks.specs.Bodies.{body_of};
+    ghost use Rattle.lk_locks.specs.Plain.{answer as plain_answer, next as plain_next, IsNewName};
+    ghost use Rattle.lk_locks.specs.Packed.{text as table_text, IsText as IsTableText, table_of};
+    ghost use Rattle.lk_locks.specs.PackedLaws.{empty_is_text, at_most_36000};
+    ghost use Rattle.lk_locks.specs.NextLaws.{next_is_text};
+
+    ghost text = { table_text };
+
+    ghost IsText = { IsTableText };
+
+    ghost first = { table_text map.empty };
+
+    ghost next = { λ client body before. table_text (plain_next client body (table_of before)) };
+
+    ghost answer = { λ client body before. plain_answer client body (table_of before) };
+
+    /// The table that knows no name.
+    fn begin(alloc: Global) -> Self {
+        LockTable::new(alloc)
+    }
+
+    /// Answers what a client asks, and does it: `run`, seen by the packed texts.
+    fn apply(&mut self, client: ClientNo, body: &[u8]) -> Result<Answer, NoMemory>
+        ensures ok { OnOk result (table_text self.new ≡ table_text (plain_next client body.now (table_of (table_text self.old)))) }
+        ensures answer { IfOk result (λ a. a ≡ plain_answer client body.now (table_of (table_text self.old))) }
+        ensures err { OnErr result (table_text self.new ≡ table_text self.old) }
+        ensures memory { OnErr result (IsNewName (body_of body.now) self.old) }
+    {
+        self.facts();
+        self.run(client, body)
+    }
+
+    /// Adds how many names stand, and then in rising order each name with its last fence and its holder.
+    fn pack(&self, out: &mut BytesMut) -> Result<(), NoMemory> {
+        let stood = out.len();
+        if self.put(out).is_err() {
+            out.truncate(stood);
+            return Err(NoMemory);
+        }
+        Ok(())
+    }
+
+    /// The table of this packed text.
+    fn unpack(alloc: Global, bytes: &[u8]) -> Result<Self, UnpackFault> {
+        read_table(alloc, bytes)
+    }
+
+    ghost first_is_text = { empty_is_text };
+
+    ghost next_is_text = { next_is_text };
+
+    ghost short = { at_most_36000 };
+}

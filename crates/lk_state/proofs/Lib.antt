@@ -1,0 +1,4 @@
+pub mod SessionLaws
+pub mod StateLaws
+pub mod ReplyLaws
+pub mod PackedLaws

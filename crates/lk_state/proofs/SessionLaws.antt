@@ -1,0 +1,113 @@
+-- What one session more makes of the sessions.
+use Rattle.std.proofs.Common.{◌≡◌, ℕ, suc, ◌+◌, ◌<◌, ◌≤◌, true, false, eqb, nat_lt, ◌&&◌, List, [], ◌∷◌, length, refl, ap, sym, inl, inr, arith}
+use Rattle.std.specs.Prelude.{slice_get, slice_set, insert}
+use Rattle.std.specs.List.{AllByRecursion, prefix_len}
+use Rattle.std.proofs.lemmas.Bool.{and_parts, and_from, cases_Bool, ltb-true, ltb-false, lt-ltb, le-ltb, eqb-true, eqb-false, eq-eqb, ne_eqb}
+use Rattle.std.proofs.lemmas.List.Sums.{prefix_len-le-length}
+use Rattle.std.proofs.lemmas.List.Edits.{length-insert}
+use Rattle.lk_state.specs.Sessions.{Session, is_at, with_session, are_rising_above, IsSession, AreSessions}
+
+-- how many stand before the client
+abbrev pub before : ℕ → List Session → ℕ
+before client l = prefix_len (λ (s : Session). nat_lt s.client client) l
+
+before_lower : (client : ℕ) (t : Session) (l : List Session) → nat_lt t.client client ≡ true → before client (t ∷ l) ≡ suc (before client l)
+before_lower client t l lower = let n : ℕ = before client l in let e : 1 + n ≡ suc n = omega arith in rw lower e
+
+-- the client's session is replaced where it stands
+pub replaced : (s : Session) (l : List Session) → is_at s.client (slice_get l (before s.client l)) ≡ true → slice_set l (before s.client l) s ≡ with_session s l
+replaced s [] h = absurd cc
+replaced s (t ∷ l) h =
+    elim (cases_Bool (nat_lt t.client s.client)) [
+      | inl lower ↦
+          let lt = ltb-true t.client s.client lower in
+          let not_below : nat_lt s.client t.client ≡ false = le-ltb s.client t.client (omega arith) in
+          let not_same : eqb s.client t.client ≡ false = ne_eqb s.client t.client (λ e. omega arith) in
+          let more = before_lower s.client t l lower in
+          let here : is_at s.client (slice_get l (before s.client l)) ≡ true = rw more at h in
+          rw (more, not_below, not_same) (ap (λ (ts : List Session). t ∷ ts) (replaced s l here))
+      | inr not_lower ↦
+          let le = ltb-false t.client s.client not_lower in
+          let none : before s.client (t ∷ l) ≡ 0 = rw not_lower refl in
+          let same : eqb t.client s.client ≡ true = rw none at h in
+          let is = eqb-true t.client s.client same in
+          let not_below : nat_lt s.client t.client ≡ false = le-ltb s.client t.client (omega arith) in
+          let same_here : eqb s.client t.client ≡ true = eq-eqb s.client t.client (sym is) in
+          rw (none, not_below, same_here) refl
+    ]
+
+-- a new client's session comes in at its place
+pub inserted : (s : Session) (l : List Session) → is_at s.client (slice_get l (before s.client l)) ≡ false → insert l (before s.client l) s ≡ with_session s l
+inserted s [] h = refl
+inserted s (t ∷ l) h =
+    elim (cases_Bool (nat_lt t.client s.client)) [
+      | inl lower ↦
+          let lt = ltb-true t.client s.client lower in
+          let not_below : nat_lt s.client t.client ≡ false = le-ltb s.client t.client (omega arith) in
+          let not_same : eqb s.client t.client ≡ false = ne_eqb s.client t.client (λ e. omega arith) in
+          let more = before_lower s.client t l lower in
+          let here : is_at s.client (slice_get l (before s.client l)) ≡ false = rw more at h in
+          rw (more, not_below, not_same) (ap (λ (ts : List Session). t ∷ ts) (inserted s l here))
+      | inr not_lower ↦
+          let le = ltb-false t.client s.client not_lower in
+          let none : before s.client (t ∷ l) ≡ 0 = rw not_lower refl in
+          let other : eqb t.client s.client ≡ false = rw none at h in
+          let is_not = eqb-false t.client s.client other in
+          let below : nat_lt s.client t.client ≡ true = lt-ltb s.client t.client (omega arith) in
+          rw (none, below) refl
+    ]
+
+sessions_and : (s : Session) (l : List Session) → IsSession s → AllByRecursion IsSession l → AllByRecursion IsSession (with_session s l)
+sessions_and s [] here all = (here, tt)
+sessions_and s (t ∷ l) here all =
+    elim (cases_Bool (nat_lt s.client t.client)) [
+      | inl below ↦ rw below (here, all)
+      | inr not_below ↦
+          elim (cases_Bool (eqb s.client t.client)) [
+            | inl same ↦ rw (not_below, same) (here, all.1)
+            | inr other ↦ rw (not_below, other) (all.0, sessions_and s l here all.1)
+          ]
+    ]
+
+rising_and : (low : ℕ) (s : Session) (l : List Session) → low < s.client → are_rising_above low l ≡ true → are_rising_above low (with_session s l) ≡ true
+rising_and low s [] above h = and_from (nat_lt low s.client) true (lt-ltb low s.client above) refl
+rising_and low s (t ∷ l) above h =
+    let parts = and_parts (nat_lt low t.client) (are_rising_above t.client l) h in
+    let here = lt-ltb low s.client above in
+    elim (cases_Bool (nat_lt s.client t.client)) [
+      | inl below ↦ rw below (and_from (nat_lt low s.client) (nat_lt s.client t.client && are_rising_above t.client l) here (and_from (nat_lt s.client t.client) (are_rising_above t.client l) below parts.1))
+      | inr not_below ↦
+          let le = ltb-false s.client t.client not_below in
+          elim (cases_Bool (eqb s.client t.client)) [
+            | inl same ↦
+                let is = eqb-true s.client t.client same in
+                rw (not_below, same) (and_from (nat_lt low s.client) (are_rising_above s.client l) here (rw is parts.1))
+            | inr other ↦
+                let not_same = eqb-false s.client t.client other in
+                rw (not_below, other) (and_from (nat_lt low t.client) (are_rising_above t.client (with_session s l)) parts.0 (rising_and t.client s l (omega arith) parts.1))
+          ]
+    ]
+
+-- one session more leaves them sessions
+pub with_session-fits : (s : Session) (l : List Session) → IsSession s → AreSessions l → AreSessions (with_session s l)
+with_session-fits s l here h = (sessions_and s l here h.0, rising_and 0 s l (omega (arith, here.0.0)) h.1)
+
+few_above : (low : ℕ) (l : List Session) → low ≤ 256 → AllByRecursion IsSession l → are_rising_above low l ≡ true → length l + low ≤ 256
+few_above low [] le all h = omega arith
+few_above low (s ∷ l) le all h =
+    let parts = and_parts (nat_lt low s.client) (are_rising_above s.client l) h in
+    let above = ltb-true low s.client parts.0 in
+    let client = all.0.0.1 in
+    let rest = few_above s.client l client all.1 parts.1 in
+    omega arith
+
+-- no more than there are clients
+pub few_sessions : (l : List Session) → AreSessions l → length l ≤ 256
+few_sessions l h = omega (arith, few_above 0 l (omega arith) h.0 h.1)
+
+-- there is room for a new client's session
+pub room_for : (s : Session) (l : List Session) → IsSession s → AreSessions l → is_at s.client (slice_get l (before s.client l)) ≡ false → length l < 256
+room_for s l here h new =
+    let le = prefix_len-le-length (λ (t : Session). nat_lt t.client s.client) l in
+    let many = ap length (inserted s l new) in
+    omega (arith, few_sessions (with_session s l) (with_session-fits s l here h), many, length-insert l (before s.client l) s le)

@@ -1,0 +1,57 @@
+-- One command more.
+use Rattle.std.specs.Prelude.{ℕ, Bool, true, false, ◌==◌, nat_lt, if◌then◌else◌, Option, Some, None, List}
+use Rattle.std.specs.Option.{option_map}
+use Rattle.lk_types.specs.declared.answer.Answer.{Answer}
+use Rattle.lk_members.specs.Counting.{Command, RequestValue, Noop, Request}
+use Rattle.lk_members.specs.Rosters.{Op, Table, Join, Leave}
+use Rattle.lk_members.specs.Windows.{newest_roster, passed, changed_by}
+use Rattle.lk_state.specs.Meanings.{Meaning}
+use Rattle.lk_state.specs.Sessions.{Session, session_of, is_new, with_session}
+use Rattle.lk_state.specs.States.{WholeValue, next_text, op_answer}
+use Rattle.lk_state.specs.declared.whole.Seen.{Seen}
+use Rattle.lk_state.specs.declared.whole.Seen.TheVariants as seen
+
+-- the request that the command is, where it counts behind these sessions
+abbrev pub counted_now : List Session → Command → Option RequestValue
+counted_now sessions Noop = None
+counted_now sessions (Request r) = if is_new (session_of r.client sessions) r.number then Some r else None
+
+-- what it is answered
+abbrev pub session_for : Meaning → WholeValue → RequestValue → Session
+session_for m w r = record { client = r.client; number = r.number; answer = op_answer m (newest_roster w.roster) w.text r.client r.op }
+
+-- one position on, with a request that counts or with none
+abbrev pub served_by : Meaning → WholeValue → Option RequestValue → WholeValue
+served_by m w None = record { roster = passed w.roster; sessions = w.sessions; text = w.text }
+served_by m w (Some r) =
+    record {
+      roster = changed_by r.op w.roster;
+      sessions = with_session (session_for m w r) w.sessions;
+      text = next_text m w.text r.client r.op;
+    }
+
+-- what stands behind the command
+abbrev pub ran : Meaning → Command → WholeValue → WholeValue
+ran m command w = served_by m w (counted_now w.sessions command)
+
+-- what the command is answered, where it counts
+abbrev pub answered : Meaning → Command → WholeValue → Option Answer
+answered m command w = option_map (λ r. (session_for m w r).answer) (counted_now w.sessions command)
+
+abbrev pub is_table : Op → Bool
+is_table (Table body) = true
+is_table (Join node port) = false
+is_table (Leave node) = false
+
+-- only a body that the machine runs may need memory
+abbrev pub is_body : Option RequestValue → Bool
+is_body None = false
+is_body (Some r) = is_table r.op
+
+-- where a request stands to its client's last one
+abbrev pub seen_as : Option Session → ℕ → Seen
+seen_as None number = seen.New
+seen_as (Some s) number =
+    if number == s.number then seen.Same s.answer
+    else if nat_lt number s.number then seen.Passed s.number
+    else seen.New

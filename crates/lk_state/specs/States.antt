@@ -1,0 +1,70 @@
+-- What stands once a list was run, and what each request of it is answered.
+use Rattle.std.specs.Prelude.{◌≡◌, ℕ, ◌&&◌, ◌==◌, if◌then◌else◌, Option, Some, None, List, [], fold, find}
+use Rattle.std.specs.List.{filter_map}
+use Rattle.std.specs.Option.{option_map}
+use Rattle.lk_types.specs.declared.answer.Answer.{Answer}
+use Rattle.lk_members.specs.Counting.{Command, RequestValue, Placed, placed, counted, counting}
+use Rattle.lk_members.specs.Rosters.{Genesis, PlainRoster, Op, Table, Join, Leave, join_answer, leave_answer, roster_of}
+use Rattle.lk_members.specs.Windows.{RosterValue, roster_after}
+use Rattle.lk_state.specs.Meanings.{Meaning}
+use Rattle.lk_state.specs.Sessions.{Session, with_session}
+
+-- the machine's text behind an op: joins and leaves are none of its own
+abbrev pub next_text : Meaning → List ℕ → ℕ → Op → List ℕ
+next_text m text client (Table body) = m.next client body text
+next_text m text client (Join node port) = text
+next_text m text client (Leave node) = text
+
+-- what an op is answered by a roster and a machine
+abbrev pub op_answer : Meaning → PlainRoster → List ℕ → ℕ → Op → Answer
+op_answer m roster text client (Table body) = m.answer client body text
+op_answer m roster text client (Join node port) = join_answer roster node
+op_answer m roster text client (Leave node) = leave_answer roster node
+
+-- the machine's text behind the requests that count, in order
+unfoldable pub text_of : Meaning → List Command → List ℕ
+text_of m L = fold (λ text q. next_text m text q.client q.op) m.first (counting L)
+
+-- the answer of a request that counts, or none
+abbrev pub session_in : Meaning → PlainRoster → List ℕ → Option RequestValue → Option Session
+session_in m roster text None = None
+session_in m roster text (Some q) = Some (record { client = q.client; number = q.number; answer = op_answer m roster text q.client q.op })
+
+-- what an entry is answered at its place, where it counts
+abbrev pub served : Meaning → Genesis → Placed → Option Session
+served m genesis p = session_in m (roster_of genesis p.before) (text_of m p.before) (counted p.before p.entry)
+
+-- the requests that count with their answers, in order
+unfoldable pub ledger : Meaning → Genesis → List Command → List Session
+ledger m genesis L = filter_map (λ p. served m genesis p) (placed L)
+
+-- what the client's request of this number is answered at the place where it counts, none where it does nowhere
+abbrev pub reply : Meaning → Genesis → List Command → ℕ → ℕ → Option Answer
+reply m genesis L client number = option_map (λ s. s.answer) (find (λ s. s.client == client && s.number == number) (ledger m genesis L))
+
+-- what the request is answered, none where there is none
+abbrev pub reply_of : Meaning → Genesis → List Command → Option RequestValue → Option Answer
+reply_of m genesis L None = None
+reply_of m genesis L (Some r) = reply m genesis L r.client r.number
+
+-- the client's last request that counts, with its answer
+abbrev pub last_served : Meaning → Genesis → List Command → ℕ → Option Session
+last_served m genesis L client = fold (λ last s. if s.client == client then Some s else last) None (ledger m genesis L)
+
+-- the last request of each client, by client
+abbrev pub sessions_of : Meaning → Genesis → List Command → List Session
+sessions_of m genesis L = fold (λ sessions s. with_session s sessions) [] (ledger m genesis L)
+
+-- a roster, sessions and a machine's text
+pub record WholeValue : Type 0 where
+  pub roster : RosterValue
+  pub sessions : List Session
+  pub text : List ℕ
+
+-- what stands once the list was run
+unfoldable pub whole_after : Meaning → Genesis → List Command → WholeValue
+whole_after m genesis L = record { roster = roster_after genesis L; sessions = sessions_of m genesis L; text = text_of m L }
+
+-- it stands for this list
+abbrev pub SumsUp : Meaning → Genesis → List Command → WholeValue → Type 0
+SumsUp m genesis L w = w ≡ whole_after m genesis L

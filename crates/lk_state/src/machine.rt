@@ -1,0 +1,99 @@
+ghost use Rattle.std.specs.Prelude.{◌≡◌, ◌≤◌, ◌++◌, ℕ, List, length, OnOk, OnErr, IfOk, IsErrOf};
+ghost use Rattle.lk_types.specs.declared.answer.Answer.{Answer as AnswerValue};
+ghost use Rattle.lk_types.specs.Ranges.{IsClient};
+
+use bytes::BytesMut;
+use lk_types::{Answer, ClientNo, NoMemory};
+use std::alloc::{AllocError, AllocFailed, Global};
+use thiserror::Error;
+
+/// Why a packed text was not unpacked.
+#[derive(Clone, Copy, Debug, PartialEq, Eq, Error)]
+pub enum UnpackFault {
+    /// The bytes are no packed text.
+    #[error("not packed")]
+    NotPacked = 12,
+    /// Memory was refused.
+    #[error("no memory")]
+    NoMemory = 13,
+}
+
+impl From<NoMemory> for UnpackFault {
+    ghost use Rattle.lk_state.specs.declared.machine.UnpackFault.TheVariants as fault;
+
+    ghost from_gives = { λ _ e. e ≡ fault.NoMemory };
+
+    fn from(_error: NoMemory) -> UnpackFault {
+        UnpackFault::NoMemory
+    }
+}
+
+impl From<AllocError> for UnpackFault {
+    ghost use Rattle.lk_state.specs.declared.machine.UnpackFault.TheVariants as fault;
+
+    ghost from_gives = { λ _ e. e ≡ fault.NoMemory };
+
+    fn from(_error: AllocError) -> UnpackFault {
+        UnpackFault::NoMemory
+    }
+}
+
+impl<T: Drop> From<AllocFailed<T>> for UnpackFault {
+    ghost use Rattle.lk_state.specs.declared.machine.UnpackFault.TheVariants as fault;
+
+    ghost from_gives = { λ _ e. e ≡ fault.NoMemory };
+
+    fn from(_error: AllocFailed<T>) -> UnpackFault {
+        UnpackFault::NoMemory
+    }
+}
+
+/// A state that the bodies of requests change. Its meaning stands over its packed texts: two machines of one text give
+/// the same answers for ever.
+pub trait Machine: Sized + Drop {
+    // the packed text of a machine
+    ghost text: { Self → List ℕ };
+
+    // which bytes are packed texts
+    ghost IsText: { List ℕ → Type 0 };
+
+    // the text of a machine that has run nothing
+    ghost first: { List ℕ };
+
+    // the text behind a body of a client, by the text before it
+    ghost next: { ℕ → List ℕ → List ℕ → List ℕ };
+
+    // what the client is answered, by the text before its body
+    ghost answer: { ℕ → List ℕ → List ℕ → AnswerValue };
+
+    /// A machine that has run nothing. It takes no memory.
+    fn begin(alloc: Global) -> Self
+        ensures { text result ≡ first };
+
+    /// Runs the body of a client's request and answers it.
+    fn apply(&mut self, client: ClientNo, body: &[u8]) -> Result<Answer, NoMemory>
+        ensures ok { OnOk result (text self.new ≡ next client body.now (text self.old)) }
+        ensures answer { IfOk result (λ a. a ≡ answer client body.now (text self.old)) }
+        ensures err { OnErr result (text self.new ≡ text self.old) };
+
+    /// Adds the packed text, or nothing where memory is refused.
+    fn pack(&self, out: &mut BytesMut) -> Result<(), NoMemory>
+        ensures ok { OnOk result (out.new.items ≡ out.old.items ++ text self.now) }
+        ensures err { OnErr result (out.new.items ≡ out.old.items) };
+
+    /// The machine of this packed text. It is not packed exactly where the bytes are no packed text; memory may be
+    /// refused in either case.
+    fn unpack(alloc: Global, bytes: &[u8]) -> Result<Self, UnpackFault>
+        ensures ok { IfOk result (λ m. text m ≡ bytes.now) }
+        ensures packed { OnOk result (IsText bytes.now) }
+        ensures not_packed { IsErrOf result UnpackFault.NotPacked → IsText bytes.now → ⊥ };
+
+    // a machine begins as a text
+    ghost first_is_text: { IsText first };
+
+    // a text stays one
+    ghost next_is_text: { (client : ℕ) (body before : List ℕ) → IsClient client → IsText before → IsText (next client body before) };
+
+    // no text is long
+    ghost short: { (bytes : List ℕ) → IsText bytes → length bytes ≤ 36000 };
+}

@@ -1,0 +1,86 @@
+//! The packed text of a state.
+
+ghost use Rattle.std.specs.Prelude.{◌≡◌, ◌≤◌, ◌++◌, length, OnOk, OnErr};
+ghost use Rattle.lk_types.specs.Rosters.{AreMembers};
+ghost use Rattle.lk_members.specs.Sets.{IsWindow};
+ghost use Rattle.lk_state.specs.Sessions.{AreSessions};
+ghost use Rattle.lk_state.specs.Packed.{set_text, sets_text, roster_text, session_text, sessions_text, packed, IsWhole};
+
+use crate::machine::Machine;
+use crate::session::Session;
+use crate::whole::Whole;
+use bytes::BytesMut;
+use lk_members::{Roster, Window};
+use lk_types::{Members, NoMemory};
+use lk_wire::fields::{
+    put_answer, put_client, put_executed, put_member, put_node, put_number, put_u8, put_u16,
+};
+use std::alloc::AllocError;
+
+fn put_set(out: &mut BytesMut, set: &Members) -> Result<(), AllocError>
+    ensures { OnOk result (out.new.items ≡ out.old.items ++ set_text set.now) }
+{
+    let members = set.as_slice();
+    put_u8(out, members.len() as u8)?;
+    for member in members {
+        put_member(out, *member)?;
+    }
+    Ok(())
+}
+
+fn put_window(out: &mut BytesMut, window: &Window) -> Result<(), AllocError>
+    ensures { OnOk result (out.new.items ≡ out.old.items ++ sets_text window.now) }
+{
+    let places = window.as_slice();
+    put_u8(out, places.len() as u8)?;
+    for place in places {
+        put_set(out, place.set())?;
+    }
+    Ok(())
+}
+
+fn put_roster(out: &mut BytesMut, roster: &Roster) -> Result<(), AllocError>
+    ensures { OnOk result (out.new.items ≡ out.old.items ++ roster_text roster.now) }
+{
+    put_executed(out, roster.executed())?;
+    put_window(out, roster.window())?;
+    put_node(out, roster.greatest())?;
+    put_executed(out, roster.changed())?;
+    Ok(())
+}
+
+fn put_session(out: &mut BytesMut, session: &Session) -> Result<(), AllocError>
+    ensures { OnOk result (out.new.items ≡ out.old.items ++ session_text session.now) }
+{
+    put_client(out, session.client)?;
+    put_number(out, session.number)?;
+    put_answer(out, session.answer)?;
+    Ok(())
+}
+
+fn put_sessions(out: &mut BytesMut, sessions: &[Session]) -> Result<(), AllocError>
+    requires { length sessions.now ≤ 256 }
+    ensures { OnOk result (out.new.items ≡ out.old.items ++ sessions_text sessions.now) }
+{
+    put_u16(out, sessions.len() as u16)?;
+    for session in sessions {
+        put_session(out, session)?;
+    }
+    Ok(())
+}
+
+impl<M: Machine> Whole<M> {
+    /// Adds the packed text: that of equal states is the same. Where memory is refused nothing is added.
+    pub fn pack(&self, out: &mut BytesMut) -> Result<(), NoMemory>
+        ensures ok { OnOk result (out.new.items ≡ out.old.items ++ packed self.now) }
+        ensures err { OnErr result (out.new.items ≡ out.old.items) }
+        ensures fits { IsWhole M.IsText self.now }
+    {
+        let mut text = BytesMut::new(self.alloc);
+        put_roster(&mut text, &self.roster)?;
+        put_sessions(&mut text, self.sessions.as_slice())?;
+        self.machine.pack(&mut text)?;
+        out.extend_from_slice(&text)?;
+        Ok(())
+    }
+}

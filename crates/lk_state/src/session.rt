@@ -1,0 +1,167 @@
+ghost use Rattle.std.specs.Prelude.{◌≡◌, ◌≤◌, ◌==◌, ◌↔◌, nat_lt, [], length, slice_get, IsTrue, IsSome, IfSome};
+ghost use Rattle.std.specs.List.{prefix_len, AllByRecursion};
+ghost use Rattle.lk_state.specs.Sessions.{session_of, is_at, with_session, are_rising_above, AreSessions, IsSession};
+
+use arrayvec::ArrayVec;
+use lk_types::{Answer, ClientNo, RequestNumber};
+use std::marker::Model;
+
+/// A client's last request that counted, and what it was answered.
+#[derive(Clone, Copy, Debug, PartialEq, Eq)]
+pub struct Session {
+    pub client: ClientNo,
+    pub number: RequestNumber,
+    pub answer: Answer,
+}
+
+impl Session {
+    /// Each part is in its range. It does nothing.
+    pub fn facts(self)
+        ensures { IsSession self }
+    {
+        let _ = self.client.get();
+        let _ = self.number.get();
+        self.answer.facts();
+    }
+}
+
+impl Default for Session {
+    ghost is_default = { λ s. s.client ≡ 1 };
+
+    /// A session of the least client.
+    fn default() -> Self {
+        Session {
+            client: ClientNo::default(),
+            number: RequestNumber::default(),
+            answer: Answer::Bad,
+        }
+    }
+}
+
+/// The sessions, rising by client: at most 256, since there are no more clients. No call takes memory.
+#[derive(Debug, Drop)]
+pub(crate) struct Sessions {
+    list: ArrayVec<Session, 256>,
+}
+
+impl Model for Sessions {
+    ghost use Rattle.std.specs.Prelude.{List};
+    ghost use Rattle.lk_state.specs.Sessions.{Session, AreSessions};
+
+    ghost Value = { List Session };
+
+    ghost view = { λ s. s.list.items };
+
+    ghost invariant = { λ s. AreSessions s.list.items };
+}
+
+impl Sessions {
+    /// No session.
+    pub(crate) fn new() -> Sessions
+        ensures { result ≡ [] }
+    {
+        Sessions {
+            list: ArrayVec::new(),
+        }
+    }
+
+    /// The sessions of this list, or `None` where they do not rise by client.
+    pub(crate) fn of(list: ArrayVec<Session, 256>) -> Option<Sessions>
+        ensures some { IsSome result ↔ IsTrue (are_rising_above 0 list.items) }
+        ensures value { IfSome result (λ s. s ≡ list.items) }
+    {
+        facts_of(list.as_slice());
+        if !are_rising(list.as_slice()) {
+            return None;
+        }
+        Some(Sessions { list })
+    }
+
+    /// The sessions, rising by client.
+    pub(crate) fn as_slice(&self) -> &[Session]
+        ensures value { result.now ≡ self.now }
+        ensures fits { AreSessions self.now }
+        ensures few { length self.now ≤ 256 }
+    {
+        self.list.as_slice()
+    }
+
+    /// The client's session.
+    pub(crate) fn get(&self, client: ClientNo) -> Option<Session>
+        ensures { result ≡ session_of client self.now }
+    {
+        session_in(self.list.as_slice(), client)
+    }
+
+    /// Puts the session in place of an older one of its client.
+    pub(crate) fn put(&mut self, session: &Session)
+        ensures { self.new ≡ with_session session.now self.old }
+    {
+        session.facts();
+        let at = place_of(self.list.as_slice(), session.client);
+        if stands_at(self.list.as_slice(), at, session.client) {
+            self.list[at] = *session;
+        } else {
+            self.list.insert(at, *session);
+        }
+    }
+}
+
+/// Each part of the sessions is in its range. It does nothing.
+fn facts_of(sessions: &[Session])
+    ensures { AllByRecursion IsSession sessions.now }
+{
+    for session in sessions {
+        session.facts();
+    }
+}
+
+/// Whether the clients rise strictly.
+fn are_rising(sessions: &[Session]) -> bool
+    ensures { result ≡ are_rising_above 0 sessions.now }
+{
+    let mut low = 0;
+    for session in sessions {
+        let client = session.client.get();
+        if client <= low {
+            return false;
+        }
+        low = client;
+    }
+    true
+}
+
+/// The client's session.
+fn session_in(sessions: &[Session], client: ClientNo) -> Option<Session>
+    ensures { result ≡ session_of client sessions.now }
+{
+    for session in sessions {
+        if session.client == client {
+            return Some(*session);
+        }
+    }
+    None
+}
+
+/// How many sessions of smaller clients stand in front.
+fn place_of(sessions: &[Session], client: ClientNo) -> usize
+    ensures place { result ≡ prefix_len (λ s. nat_lt s.client client) sessions.now }
+    ensures within { result ≤ length sessions.now }
+{
+    for (i, session) in sessions.iter().enumerate() {
+        if client.get() <= session.client.get() {
+            return i;
+        }
+    }
+    sessions.len()
+}
+
+/// Whether the session at this index is the client's.
+fn stands_at(sessions: &[Session], index: usize, client: ClientNo) -> bool
+    ensures { result ≡ is_at client (slice_get sessions.now index) }
+{
+    match sessions.get(index) {
+        Some(session) => session.client == client,
+        None => false,
+    }
+}

@@ -1,0 +1,197 @@
+//! Reading a packed state: all of the bytes are the roster, the sessions and the machine's text.
+
+ghost use Rattle.std.specs.Prelude.{◌≡◌, ◌<◌, ◌≤◌, length, IfSome};
+ghost use Rattle.lk_wire.specs.Parser.{Finds, many};
+ghost use Rattle.lk_wire.specs.FieldReading.{member_at};
+ghost use Rattle.lk_state.specs.Reading.{set_at, sets_at, roster_at, session_at, sessions_at, front_at};
+
+use crate::machine::{Machine, UnpackFault};
+use crate::session::{Session, Sessions};
+use crate::whole::Whole;
+use arrayvec::ArrayVec;
+use lk_members::{Roster, Window};
+use lk_types::{Member, Members};
+use lk_wire::fields::{
+    read_answer, read_client, read_executed, read_member, read_node, read_number, read_u8, read_u16,
+};
+use std::alloc::Global;
+
+fn many_members(count: u8, bytes: &[u8]) -> Option<(ArrayVec<Member, 7>, &[u8])>
+    requires { count ≤ 7 }
+    ensures read { Finds (λ x. (x.0.items, x.1.now)) result (many member_at count bytes.now) }
+    ensures count { IfSome result (λ x. length x.0.items ≡ count) }
+{
+    let mut members = ArrayVec::new();
+    let mut rest = bytes;
+    for _ in 0..count {
+        let Some((member, after)) = read_member(rest) else {
+            return None;
+        };
+        members.push(member);
+        rest = after;
+    }
+    Some((members, rest))
+}
+
+#[tactic(auto, unfolding(crate::specs::Reading::set_at))]
+fn set_at(bytes: &[u8]) -> Option<(Members, &[u8])>
+    ensures { Finds (λ x. (x.0, x.1.now)) result (set_at bytes.now) }
+{
+    let (count, rest) = read_u8(bytes)?;
+    if count < 1 || count > 7 {
+        return None;
+    }
+    let Some((members, rest)) = many_members(count, rest) else {
+        return None;
+    };
+    let Some(set) = Members::of(members.as_slice()) else {
+        return None;
+    };
+    Some((set, rest))
+}
+
+fn many_sets(count: u8, bytes: &[u8]) -> Option<(Window, &[u8])>
+    requires { count ≤ 16 }
+    ensures read { Finds (λ x. (x.0, x.1.now)) result (many set_at count bytes.now) }
+    ensures count { IfSome result (λ x. length x.0 ≡ count) }
+{
+    let mut window = Window::new();
+    let mut rest = bytes;
+    for _ in 0..count {
+        let Some((set, after)) = set_at(rest) else {
+            return None;
+        };
+        window.push(set);
+        rest = after;
+    }
+    Some((window, rest))
+}
+
+#[tactic(auto, unfolding(crate::specs::Reading::sets_at))]
+fn window_at(bytes: &[u8]) -> Option<(Window, &[u8])>
+    ensures read { Finds (λ x. (x.0, x.1.now)) result (sets_at bytes.now) }
+    ensures some { IfSome result (λ x. 0 < length x.0) }
+{
+    let (count, rest) = read_u8(bytes)?;
+    if count < 1 || count > 16 {
+        return None;
+    }
+    many_sets(count, rest)
+}
+
+#[tactic(auto, unfolding(crate::specs::Reading::roster_at))]
+fn roster_at(bytes: &[u8]) -> Option<(Roster, &[u8])>
+    ensures { Finds (λ x. (x.0, x.1.now)) result (roster_at bytes.now) }
+{
+    let Some((executed, rest)) = read_executed(bytes) else {
+        return None;
+    };
+    let Some((window, rest)) = window_at(rest) else {
+        return None;
+    };
+    let Some((greatest, rest)) = read_node(rest) else {
+        return None;
+    };
+    let Some((changed, rest)) = read_executed(rest) else {
+        return None;
+    };
+    let Some(roster) = Roster::of(executed, window, greatest, changed) else {
+        return None;
+    };
+    Some((roster, rest))
+}
+
+#[tactic(auto, unfolding(crate::specs::Reading::session_at))]
+fn session_at(bytes: &[u8]) -> Option<(Session, &[u8])>
+    ensures { Finds (λ x. (x.0, x.1.now)) result (session_at bytes.now) }
+{
+    let Some((client, rest)) = read_client(bytes) else {
+        return None;
+    };
+    let Some((number, rest)) = read_number(rest) else {
+        return None;
+    };
+    let Some((answer, rest)) = read_answer(rest) else {
+        return None;
+    };
+    let session = Session {
+        client,
+        number,
+        answer,
+    };
+    Some((session, rest))
+}
+
+fn many_sessions(count: u16, bytes: &[u8]) -> Option<(ArrayVec<Session, 256>, &[u8])>
+    requires { count ≤ 256 }
+    ensures { Finds (λ x. (x.0.items, x.1.now)) result (many session_at count bytes.now) }
+{
+    let mut sessions = ArrayVec::new();
+    let mut rest = bytes;
+    for _ in 0..count {
+        let Some((session, after)) = session_at(rest) else {
+            return None;
+        };
+        sessions.push(session);
+        rest = after;
+    }
+    Some((sessions, rest))
+}
+
+#[tactic(auto, unfolding(crate::specs::Reading::sessions_at))]
+fn sessions_at(bytes: &[u8]) -> Option<(Sessions, &[u8])>
+    ensures { Finds (λ x. (x.0, x.1.now)) result (sessions_at bytes.now) }
+{
+    let (count, rest) = read_u16(bytes)?;
+    if count > 256 {
+        return None;
+    }
+    let Some((list, rest)) = many_sessions(count, rest) else {
+        return None;
+    };
+    let Some(sessions) = Sessions::of(list) else {
+        return None;
+    };
+    Some((sessions, rest))
+}
+
+/// All that stands in front of the machine's text.
+#[tactic(auto, unfolding(crate::specs::Reading::front_at))]
+fn front_at(bytes: &[u8]) -> Option<(Roster, Sessions, &[u8])>
+    ensures { Finds (λ x. ((x.0, x.1), x.2.now)) result (front_at bytes.now) }
+{
+    let Some((roster, rest)) = roster_at(bytes) else {
+        return None;
+    };
+    let Some((sessions, rest)) = sessions_at(rest) else {
+        return None;
+    };
+    Some((roster, sessions, rest))
+}
+
+impl<M: Machine> Whole<M> {
+    ghost use Rattle.std.specs.Prelude.{◌≡◌, ◌⊎◌, Ok, Err, IfOk};
+    ghost use Rattle.lk_state.specs.States.{WholeValue};
+    ghost use Rattle.lk_state.specs.Packed.{Packs};
+
+    /// The state that the bytes pack. They are not packed exactly where they pack none; memory may be refused in either
+    /// case.
+    pub fn unpack(alloc: Global, bytes: &[u8]) -> Result<Whole<M>, UnpackFault>
+        ensures ok { IfOk result (λ w. Packs M.IsText w bytes.now) }
+        ensures only { (w : WholeValue) → Packs M.IsText w bytes.now → (result ≡ Ok w) ⊎ (result ≡ Err UnpackFault.NoMemory) }
+        ensures not_packed { result ≡ Err UnpackFault.NotPacked → (w : WholeValue) → Packs M.IsText w bytes.now → ⊥ }
+    {
+        let Some((roster, sessions, rest)) = front_at(bytes) else {
+            return Err(UnpackFault::NotPacked);
+        };
+        roster.facts();
+        let _ = sessions.as_slice();
+        let machine = M::unpack(alloc, rest)?;
+        Ok(Whole {
+            alloc,
+            roster,
+            sessions,
+            machine,
+        })
+    }
+}

@@ -1,0 +1,242 @@
+ghost use Rattle.std.specs.Prelude.{◌≡◌};
+ghost use Rattle.lk_state.specs.Runs.{seen_as};
+
+use crate::machine::Machine;
+use crate::session::{Session, Sessions};
+use lk_members::Roster;
+use lk_types::{
+    Answer, ClientNo, Command, Executed, Genesis, NoMemory, Op, Position, Request, RequestNumber,
+};
+use std::alloc::Global;
+use std::marker::Model;
+
+/// Where a request stands to the last one of its client that counted.
+#[derive(Clone, Copy, Debug, PartialEq, Eq)]
+pub enum Seen {
+    /// Its number is above the client's last one.
+    New,
+    /// It has the number of the client's last one, which was answered so.
+    Same(Answer),
+    /// The client's last number, which is above it.
+    Passed(RequestNumber),
+}
+
+/// A command was executed.
+#[derive(Clone, Copy, Debug, PartialEq, Eq)]
+pub struct Ran {
+    /// The position of the command.
+    pub position: Position,
+    /// What its request is answered, where it counted.
+    pub answer: Option<Answer>,
+}
+
+/// What the list of commands makes: the roster, each client's last request that counted, and a machine.
+#[derive(Drop)]
+pub struct Whole<M: Machine> {
+    pub(crate) alloc: Global,
+    pub(crate) roster: Roster,
+    pub(crate) sessions: Sessions,
+    pub(crate) machine: M,
+}
+
+impl<M: Machine> Model for Whole<M> {
+    ghost use Rattle.lk_state.specs.States.{WholeValue};
+
+    ghost Value = { WholeValue };
+
+    ghost use Rattle.lk_state.specs.Packed.{IsWhole};
+
+    ghost view = { λ w. record { roster = w.roster; sessions = w.sessions; text = M.text w.machine } };
+
+    ghost invariant = { λ w. IsWhole M.IsText (record { roster = w.roster; sessions = w.sessions; text = M.text w.machine }) };
+}
+
+impl<M: Machine> Whole<M> {
+    ghost use Rattle.std.specs.Prelude.{◌≡◌, ◌+◌, ◌<◌, ◌++◌, None, false, List, [], ◌∷◌, OnOk, OnErr, IfOk, IsOk};
+    ghost use Rattle.lk_types.specs.Ranges.{IsCount};
+    ghost use Rattle.lk_members.specs.Counting.{Command, counted};
+    ghost use Rattle.lk_members.specs.Rosters.{Genesis};
+    ghost use Rattle.lk_members.specs.Windows.{newest_roster, changed_by};
+    ghost use Rattle.lk_state.specs.Meanings.{meaning};
+    ghost use Rattle.lk_state.specs.Sessions.{session_of, is_new, with_session};
+    ghost use Rattle.lk_state.specs.States.{SumsUp, next_text, op_answer, reply_of, last_served};
+    ghost use Rattle.lk_state.specs.Runs.{counted_now, served_by, ran, answered, is_table, is_body, seen_as};
+
+    /// What stands before any command is executed. It takes no memory.
+    pub fn begin(alloc: Global, genesis: &Genesis) -> Whole<M>
+        ensures { SumsUp (meaning M.first M.next M.answer) genesis.now [] result }
+    {
+        let roster = Roster::begin(genesis);
+        roster.facts();
+        Whole {
+            alloc,
+            roster,
+            sessions: Sessions::new(),
+            machine: M::begin(alloc),
+        }
+    }
+
+    /// The roster.
+    pub fn roster(&self) -> &Roster
+        ensures { result.now ≡ self.now.roster }
+    {
+        &self.roster
+    }
+
+    /// How many positions are executed.
+    pub fn executed(&self) -> Executed
+        ensures { result ≡ self.now.roster.executed }
+    {
+        self.roster.executed()
+    }
+
+    /// Each client's last request that counted, with its answer, rising by client.
+    pub fn sessions(&self) -> &[Session]
+        ensures { result.now ≡ self.now.sessions }
+    {
+        self.sessions.as_slice()
+    }
+
+    /// Where a request of this client stands to its last one that counted.
+    pub fn seen(&self, client: ClientNo, number: RequestNumber) -> Seen
+        ensures value { result ≡ seen_as (session_of client self.now.sessions) number }
+        ensures last { (genesis : Genesis) (L : List Command) → SumsUp (meaning M.first M.next M.answer) genesis L self.now → result ≡ seen_as (last_served (meaning M.first M.next M.answer) genesis L client) number }
+    {
+        stand(self.sessions.get(client), number)
+    }
+
+    /// Whether the client's request of this number counts.
+    fn is_new(&self, client: ClientNo, number: RequestNumber) -> bool
+        ensures { result ≡ is_new (session_of client self.now.sessions) number }
+    {
+        match self.sessions.get(client) {
+            Some(last) => last.number < number,
+            None => true,
+        }
+    }
+
+    /// Executes the next command of the list. Only a body that the machine runs may need memory; a refused call
+    /// changes nothing.
+    pub fn run(&mut self, command: &Command) -> Result<Ran, NoMemory>
+        requires { self.old.roster.executed < 281474976710656 }
+        ensures ok { OnOk result (self.new ≡ ran (meaning M.first M.next M.answer) command.now self.old) }
+        ensures position { IfOk result (λ r. r.position ≡ self.old.roster.executed + 1) }
+        ensures answer { IfOk result (λ r. r.answer ≡ answered (meaning M.first M.next M.answer) command.now self.old) }
+        ensures err { OnErr result (self.new ≡ self.old) }
+        ensures free { is_body (counted_now self.old.sessions command.now) ≡ false → IsOk result }
+
+        // Behind a list that it sums up it sums up the list with the command at its end, and tells the reply.
+        ensures sums { (genesis : Genesis) (L : List Command) → SumsUp (meaning M.first M.next M.answer) genesis L self.old
+            → OnOk result (SumsUp (meaning M.first M.next M.answer) genesis (L ++ command.now ∷ []) self.new) }
+        ensures reply { (genesis : Genesis) (L : List Command) → SumsUp (meaning M.first M.next M.answer) genesis L self.old
+            → IfOk result (λ r. r.answer ≡ reply_of (meaning M.first M.next M.answer) genesis (L ++ command.now ∷ []) (counted L command.now)) }
+    {
+        let position = self.next_position();
+        let answer = self.run_command(command)?;
+        Ok(Ran { position, answer })
+    }
+
+    /// The position that is executed next.
+    fn next_position(&self) -> Position
+        requires { self.now.roster.executed < 281474976710656 }
+        ensures { result ≡ self.now.roster.executed + 1 }
+    {
+        Position::of(self.executed().get() + 1).unwrap()
+    }
+
+    /// One position on with a command, and what it is answered where it counts.
+    fn run_command(&mut self, command: &Command) -> Result<Option<Answer>, NoMemory>
+        requires { self.old.roster.executed < 281474976710656 }
+        ensures ok { OnOk result (self.new ≡ ran (meaning M.first M.next M.answer) command.now self.old) }
+        ensures answer { IfOk result (λ a. a ≡ answered (meaning M.first M.next M.answer) command.now self.old) }
+        ensures err { OnErr result (self.new ≡ self.old) }
+        ensures free { is_body (counted_now self.old.sessions command.now) ≡ false → IsOk result }
+    {
+        match command {
+            Command::Noop => {
+                self.pass();
+                Ok(None)
+            }
+            Command::Request(request) => self.run_request(request),
+        }
+    }
+
+    /// One position on with an op that counts, and what it is answered.
+    fn run_op(&mut self, client: ClientNo, op: &Op) -> Result<Answer, NoMemory>
+        requires { self.old.roster.executed < 281474976710656 }
+        ensures ok { OnOk result (self.new ≡ record { roster = changed_by op.now self.old.roster; sessions = self.old.sessions; text = next_text (meaning M.first M.next M.answer) self.old.text client op.now }) }
+        ensures answer { IfOk result (λ a. a ≡ op_answer (meaning M.first M.next M.answer) (newest_roster self.old.roster) self.old.text client op.now) }
+        ensures err { OnErr result (self.new ≡ self.old) }
+        ensures free { is_table op.now ≡ false → IsOk result }
+    {
+        let _ = client.get();
+        match op {
+            Op::Table(body) => {
+                let answer = self.machine.apply(client, body.as_slice())?;
+                self.roster.pass();
+                self.roster.facts();
+                Ok(answer)
+            }
+            Op::Join(..) | Op::Leave(_) => {
+                let answer = self.roster.change(op);
+                self.roster.facts();
+                Ok(answer)
+            }
+        }
+    }
+
+    /// One position on with a request, and what it is answered where it counts.
+    fn run_request(&mut self, request: &Request) -> Result<Option<Answer>, NoMemory>
+        requires { self.old.roster.executed < 281474976710656 }
+        ensures ok { OnOk result (self.new ≡ ran (meaning M.first M.next M.answer) (Command.Request request.now) self.old) }
+        ensures answer { IfOk result (λ a. a ≡ answered (meaning M.first M.next M.answer) (Command.Request request.now) self.old) }
+        ensures err { OnErr result (self.new ≡ self.old) }
+        ensures free { is_body (counted_now self.old.sessions (Command.Request request.now)) ≡ false → IsOk result }
+    {
+        if !self.is_new(request.client, request.number) {
+            self.pass();
+            return Ok(None);
+        }
+        let answer = self.run_op(request.client, &request.op)?;
+        let session = Session {
+            client: request.client,
+            number: request.number,
+            answer,
+        };
+        self.keep(&session);
+        Ok(Some(session.answer))
+    }
+
+    /// One position on with nothing that counts.
+    fn pass(&mut self)
+        requires { self.old.roster.executed < 281474976710656 }
+        ensures { self.new ≡ served_by (meaning M.first M.next M.answer) self.old None }
+    {
+        self.roster.pass();
+        self.roster.facts();
+    }
+
+    /// Keeps the answer of the client's last request.
+    fn keep(&mut self, session: &Session)
+        ensures { self.new ≡ record self.old { sessions = with_session session.now self.old.sessions } }
+    {
+        self.sessions.put(session);
+        let _ = self.sessions.as_slice();
+    }
+}
+
+/// Where a number stands to the client's last one.
+fn stand(last: Option<Session>, number: RequestNumber) -> Seen
+    ensures { result ≡ seen_as last number }
+{
+    let Some(last) = last else {
+        return Seen::New;
+    };
+    if number == last.number {
+        return Seen::Same(last.answer);
+    }
+    if number < last.number {
+        return Seen::Passed(last.number);
+    }
+    Seen::New
+}
