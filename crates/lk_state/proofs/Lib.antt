@@ -2,3 +2,4 @@ pub mod SessionLaws
 pub mod StateLaws
 pub mod ReplyLaws
 pub mod PackedLaws
+pub mod LengthLaws

@@ -70,6 +70,14 @@ fn put_sessions(out: &mut BytesMut, sessions: &[Session]) -> Result<(), AllocErr
 }
 
 impl<M: Machine> Whole<M> {
+    /// Each part is in its range, and the packed text is short. It does nothing.
+    pub fn facts(&self)
+        ensures fits { IsWhole M.IsText self.now }
+        ensures short { length (packed self.now) ≤ 42087 }
+    {
+        let _ = &self.roster;
+    }
+
     /// Adds the packed text: that of equal states is the same. Where memory is refused nothing is added.
     pub fn pack(&self, out: &mut BytesMut) -> Result<(), NoMemory>
         ensures ok { OnOk result (out.new.items ≡ out.old.items ++ packed self.now) }

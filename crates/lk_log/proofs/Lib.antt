@@ -1,0 +1,12 @@
+pub mod HeaderLaws
+pub mod EntryLaws
+pub mod Spelling
+pub mod Torn
+pub mod Whole
+pub mod ImageLaws
+pub mod Steps
+pub mod Settle
+pub mod InOrder
+pub mod StandingLaws
+pub mod BeginLaws
+pub mod RecoverLaws

@@ -1,0 +1,67 @@
+use Rattle.std.proofs.Common.{◌∙◌}
+use Rattle.lk_disk.specs.Disk.{other}
+use Rattle.lk_log.specs.Stores.{plain}
+use Rattle.lk_log.proofs.Steps.{stands_at, keeps_at, torn_piece, grows_holds, holds_piece, holds_same, holds_sync, grows_synced}
+use Rattle.lk_log.proofs.adding.add.Goals as goal
+
+-- nothing was written
+pub returns-in_err-bytes-clause-any : goal.returns-in_err-bytes-clause-any
+returns-in_err-bytes-clause-any g c honest ks ls holds = keeps_at c.args.live _ _ ks ls (plain c.args.entries.now) holds
+
+-- a beginning was added
+pub returns-in_err-append_some-clause-any : goal.returns-in_err-append_some-clause-any
+returns-in_err-append_some-clause-any g c honest ks ls holds =
+    let old = g.D.LogDisk.disk c.args.device.now in
+    let new = g.D.LogDisk.disk c.append_some.new.device in
+    stands_at c.args.live (new c.args.live) (new (other c.args.live)) ks _
+    (torn_piece (old c.args.live) (old (other c.args.live)) (new c.args.live) (new (other c.args.live)) ks ls c.args.entries.now c.deref.result.now (c.deref.ensures ∙ c.in_ok-bytes.ensures)
+    holds c.entries_facts.ensures (c.in_err-append_some.ensures.err honest) (c.append_some.ensures.beside honest))
+
+pub returns-then-not-sync-clause-added : goal.returns-then-not-sync-clause-added
+returns-then-not-sync-clause-added g c honest unasked ks ls holds =
+    let old = g.D.LogDisk.disk c.args.device.now in
+    let new = g.D.LogDisk.disk c.append_some.new.device in
+    holds_piece (old c.args.live) (old (other c.args.live)) (new c.args.live) (new (other c.args.live)) ks ls c.args.entries.now c.deref.result.now (c.deref.ensures ∙ c.in_ok-bytes.ensures)
+    holds c.entries_facts.ensures (c.in_ok-append_some.ensures.ok honest) (c.append_some.ensures.beside honest)
+
+pub returns-then-not-sync-clause-any : goal.returns-then-not-sync-clause-any
+returns-then-not-sync-clause-any g c honest ks ls holds =
+    let old = g.D.LogDisk.disk c.args.device.now in
+    let new = g.D.LogDisk.disk c.append_some.new.device in
+    stands_at c.args.live (new c.args.live) (new (other c.args.live)) ks _
+    (grows_holds (new c.args.live) (new (other c.args.live)) ks _
+    (holds_piece (old c.args.live) (old (other c.args.live)) (new c.args.live) (new (other c.args.live)) ks ls c.args.entries.now c.deref.result.now (c.deref.ensures ∙ c.in_ok-bytes.ensures)
+    holds c.entries_facts.ensures (c.in_ok-append_some.ensures.ok honest) (c.append_some.ensures.beside honest)))
+
+pub returns-in_err-sync-clause-any : goal.returns-in_err-sync-clause-any
+returns-in_err-sync-clause-any g c honest ks ls holds =
+    let old = g.D.LogDisk.disk c.args.device.now in
+    let mid = g.D.LogDisk.disk c.append_some.new.device in
+    let new = g.D.LogDisk.disk c.sync.new.self in
+    stands_at c.args.live (new c.args.live) (new (other c.args.live)) ks _
+    (grows_holds (new c.args.live) (new (other c.args.live)) ks _
+    (holds_same (mid c.args.live) (mid (other c.args.live)) (new c.args.live) (new (other c.args.live)) ks _
+    (holds_piece (old c.args.live) (old (other c.args.live)) (mid c.args.live) (mid (other c.args.live)) ks ls c.args.entries.now c.deref.result.now (c.deref.ensures ∙ c.in_ok-bytes.ensures)
+    holds c.entries_facts.ensures (c.in_ok-append_some.ensures.ok honest) (c.append_some.ensures.beside honest))
+    (c.in_err-sync.ensures.err honest) (c.sync.ensures.beside honest)))
+
+pub returns-clause-synced : goal.returns-clause-synced
+returns-clause-synced g c honest asked ks ls holds =
+    let old = g.D.LogDisk.disk c.args.device.now in
+    let mid = g.D.LogDisk.disk c.append_some.new.device in
+    let new = g.D.LogDisk.disk c.sync.new.self in
+    holds_sync (mid c.args.live) (mid (other c.args.live)) (new c.args.live) (new (other c.args.live)) ks _
+    (holds_piece (old c.args.live) (old (other c.args.live)) (mid c.args.live) (mid (other c.args.live)) ks ls c.args.entries.now c.deref.result.now (c.deref.ensures ∙ c.in_ok-bytes.ensures)
+    holds c.entries_facts.ensures (c.in_ok-append_some.ensures.ok honest) (c.append_some.ensures.beside honest))
+    (c.in_ok-sync.ensures.ok honest) (c.sync.ensures.beside honest)
+
+pub returns-clause-any : goal.returns-clause-any
+returns-clause-any g c honest ks ls holds =
+    let old = g.D.LogDisk.disk c.args.device.now in
+    let mid = g.D.LogDisk.disk c.append_some.new.device in
+    let new = g.D.LogDisk.disk c.sync.new.self in
+    stands_at c.args.live (new c.args.live) (new (other c.args.live)) ks _
+    (grows_synced (mid c.args.live) (mid (other c.args.live)) (new c.args.live) (new (other c.args.live)) ks _
+    (holds_piece (old c.args.live) (old (other c.args.live)) (mid c.args.live) (mid (other c.args.live)) ks ls c.args.entries.now c.deref.result.now (c.deref.ensures ∙ c.in_ok-bytes.ensures)
+    holds c.entries_facts.ensures (c.in_ok-append_some.ensures.ok honest) (c.append_some.ensures.beside honest))
+    (c.in_ok-sync.ensures.ok honest) (c.sync.ensures.beside honest))

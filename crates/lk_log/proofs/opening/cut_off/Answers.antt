@@ -1,0 +1,18 @@
+use Rattle.std.proofs.Common.{refl, arith}
+use Rattle.lk_log.proofs.Settle.{file_same, cut_narrows, short_narrows, cut_contents, nothing_behind}
+use Rattle.lk_log.proofs.opening.cut_off.Goals as goal
+
+pub returns-then-size-end-clause-contents : goal.returns-then-size-end-clause-contents
+returns-then-size-end-clause-contents g c honest es found = nothing_behind (g.D.LogDisk.disk c.args.device.now c.args.live) es found.file.whole (omega (arith, found.ends, found.sized))
+
+pub returns-then-size-end-clause-narrows : goal.returns-then-size-end-clause-narrows
+returns-then-size-end-clause-narrows g c honest es found = file_same _ _ refl
+
+pub returns-in_err-cut-clause-narrows : goal.returns-in_err-cut-clause-narrows
+returns-in_err-cut-clause-narrows g c honest es found = short_narrows _ _ c.args.end es found.file found.ends (c.in_err-cut.ensures.err honest)
+
+pub returns-clause-contents : goal.returns-clause-contents
+returns-clause-contents g c honest es found = cut_contents (g.D.LogDisk.disk c.args.device.now c.args.live) (g.D.LogDisk.disk c.cut.new.self c.args.live) c.args.end es found.file.whole found.ends (c.in_ok-cut.ensures.ok honest)
+
+pub returns-clause-narrows : goal.returns-clause-narrows
+returns-clause-narrows g c honest es found = cut_narrows _ _ c.args.end es found.file found.ends (c.in_ok-cut.ensures.ok honest)

@@ -1,0 +1,39 @@
+use Rattle.std.proofs.Common.{◌∙◌}
+use Rattle.lk_disk.specs.Disk.{other}
+use Rattle.lk_disk.specs.declared.device.Side.{Side}
+use Rattle.lk_log.specs.Stores.{FileNarrows}
+use Rattle.lk_log.proofs.ImageLaws.{each_side}
+use Rattle.lk_log.proofs.Settle.{narrows, file_same, file_then, flushed_narrows, settled}
+use Rattle.lk_log.proofs.opening.settle.Goals as goal
+
+pub returns-in_err-cut_off-clause-narrows : goal.returns-in_err-cut_off-clause-narrows
+returns-in_err-cut_off-clause-narrows g c honest es found =
+    let old = g.D.LogDisk.disk c.args.device.now in
+    let new = g.D.LogDisk.disk c.cut_off.new.device in
+    narrows old new (each_side (λ (s : Side). FileNarrows (old s) (new s)) c.args.live (c.cut_off.ensures.narrows honest es found) (file_same _ _ (c.cut_off.ensures.beside honest)))
+
+pub returns-in_err-sync-clause-narrows : goal.returns-in_err-sync-clause-narrows
+returns-in_err-sync-clause-narrows g c honest es found =
+    let old = g.D.LogDisk.disk c.args.device.now in
+    let mid = g.D.LogDisk.disk c.cut_off.new.device in
+    let new = g.D.LogDisk.disk c.sync.new.self in
+    narrows old new
+    (each_side (λ (s : Side). FileNarrows (old s) (new s)) c.args.live
+    (file_then (old c.args.live) (mid c.args.live) (new c.args.live) (c.cut_off.ensures.narrows honest es found) (file_same _ _ (c.in_err-sync.ensures.err honest)))
+    (file_same _ _ (c.sync.ensures.beside honest ∙ c.cut_off.ensures.beside honest)))
+
+pub returns-clause-narrows : goal.returns-clause-narrows
+returns-clause-narrows g c honest es found =
+    let old = g.D.LogDisk.disk c.args.device.now in
+    let mid = g.D.LogDisk.disk c.cut_off.new.device in
+    let new = g.D.LogDisk.disk c.sync.new.self in
+    narrows old new
+    (each_side (λ (s : Side). FileNarrows (old s) (new s)) c.args.live
+    (file_then (old c.args.live) (mid c.args.live) (new c.args.live) (c.cut_off.ensures.narrows honest es found) (flushed_narrows _ _ (c.in_ok-sync.ensures.ok honest)))
+    (file_same _ _ (c.sync.ensures.beside honest ∙ c.cut_off.ensures.beside honest)))
+
+pub returns-clause-holds : goal.returns-clause-holds
+returns-clause-holds g c honest es found =
+    settled (g.D.LogDisk.disk c.cut_off.new.device c.args.live) _ (g.D.LogDisk.disk c.args.device.now (other c.args.live)) _ es found.file.whole.fit found.placed
+    (c.in_ok-cut_off.ensures.contents honest es found) (c.in_ok-sync.ensures.ok honest)
+    (c.sync.ensures.beside honest ∙ c.cut_off.ensures.beside honest) found.older

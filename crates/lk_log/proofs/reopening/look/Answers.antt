@@ -1,0 +1,15 @@
+use Rattle.std.proofs.Common.{◌∙◌, ap}
+use Rattle.lk_log.specs.Images.{generation}
+use Rattle.lk_log.proofs.ImageLaws.{found_is_live, found_positive}
+use Rattle.lk_log.proofs.reopening.look.Goals as goal
+
+pub returns-clause-some : goal.returns-clause-some
+returns-clause-some g c honest =
+    let old = g.D.LogDisk.disk c.args.device.now in
+    let found = rw c.in-Some.is at (c.in_ok-file.ensures.live honest) in
+    record {
+      entries = c.in-Some.file.entries.items;
+      live = found_is_live old c.in-Some.field-0-0 c.in-Some.file.entries.items c.in-Some.file.end c.in-Some.file.size found;
+      generation_is = c.generation_of-generation.ensures ∙ ap generation c.deref.ensures.value;
+      stands = c.in_ok-gather.ensures.stands found.file.whole.fit found.placed (found_positive old c.in-Some.field-0-0 c.in-Some.file.entries.items c.in-Some.file.end c.in-Some.file.size found);
+    }

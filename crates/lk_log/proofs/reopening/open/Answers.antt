@@ -1,0 +1,31 @@
+use Rattle.std.proofs.Common.{refl, inl, subst, List, rules}
+use Rattle.lk_log.specs.Standings.{HasHeader}
+use Rattle.lk_log.specs.declared.stored.Stored.{Stored}
+use Rattle.lk_log.proofs.BeginLaws.{begins_same, begins_narrows}
+use Rattle.lk_log.proofs.ImageLaws.{found_is_live, found_positive}
+use Rattle.lk_log.proofs.reopening.open.Goals as goal
+
+pub returns-then-not-has_header-clause-stays : goal.returns-then-not-has_header-clause-stays
+returns-then-not-has_header-clause-stays g c honest found zero = begins_same (g.D.LogDisk.disk c.args.device.now) (g.D.LogDisk.disk c.args.device.now) c.args.header.now zero (λ s. refl)
+
+pub returns-in_err-settle-clause-stays : goal.returns-in_err-settle-clause-stays
+returns-in_err-settle-clause-stays g c honest found zero =
+    begins_narrows (g.D.LogDisk.disk c.args.device.now) (g.D.LogDisk.disk c.settle.new.device) c.args.header.now zero (c.settle.ensures.narrows honest c.args.file.entries.items found)
+
+pub returns-in_err-standing-clause-stays : goal.returns-in_err-standing-clause-stays
+returns-in_err-standing-clause-stays g c honest found zero =
+    begins_narrows (g.D.LogDisk.disk c.args.device.now) (g.D.LogDisk.disk c.settle.new.device) c.args.header.now zero (c.settle.ensures.narrows honest c.args.file.entries.items found)
+
+pub returns-clause-stays : goal.returns-clause-stays
+returns-clause-stays g c honest found zero =
+    begins_narrows (g.D.LogDisk.disk c.args.device.now) (g.D.LogDisk.disk c.settle.new.device) c.args.header.now zero (c.settle.ensures.narrows honest c.args.file.entries.items found)
+
+pub returns-clause-opens : goal.returns-clause-opens
+returns-clause-opens g c honest found zero = record {
+  entries = c.args.file.entries.items;
+  found = inl (found_is_live (g.D.LogDisk.disk c.args.device.now) c.args.live c.args.file.entries.items c.args.file.end c.args.file.size found);
+  holds = c.in_ok-settle.ensures.holds honest c.args.file.entries.items found;
+  header = subst (λ (l : List Stored). HasHeader l c.args.header.now) c.deref.ensures.value (c.has_header.ensures.0 (search rules));
+  generation_is = search rules;
+  stands = c.in_ok-standing.ensures.stands found.file.whole.fit found.placed (found_positive (g.D.LogDisk.disk c.args.device.now) c.args.live c.args.file.entries.items c.args.file.end c.args.file.size found);
+}

@@ -1,0 +1,56 @@
+use Rattle.std.proofs.Common.{ap}
+use Rattle.lk_disk.specs.Disk.{contents, other}
+use Rattle.lk_log.proofs.BeginLaws.{begins_same, begins_after}
+use Rattle.lk_log.proofs.ImageLaws.{found_is_live}
+use Rattle.lk_log.proofs.RecoverLaws.{ok_then, found_after, empty_after, opens_before}
+use Rattle.lk_log.proofs.reopening.recover.Goals as goal
+
+pub returns-in_err-live-clause-stays : goal.returns-in_err-live-clause-stays
+returns-in_err-live-clause-stays g c honest = begins_same (g.D.LogDisk.disk c.args.device.now) (g.D.LogDisk.disk c.find.new.device) c.args.header.now c.args.zero.now (c.find.ensures.unchanged honest)
+
+pub returns-in-Some-clause-opens : goal.returns-in-Some-clause-opens
+returns-in-Some-clause-opens g c honest =
+    let old = g.D.LogDisk.disk c.args.device.now in
+    let mid = g.D.LogDisk.disk c.find.new.device in
+    let new = g.D.LogDisk.disk c.open.new.device in
+    let same = c.find.ensures.unchanged honest in
+    let found = rw c.in-Some.is at (c.in_ok-live.ensures.live honest) in
+    ok_then c.open.result _ _
+    (λ o p. opens_before old mid same c.args.header.now c.args.zero.now (new o.live) (new (other o.live)) o.generation o.standing p)
+    (c.open.ensures.opens honest (found_after old mid same c.in-Some.live c.in-Some.file.entries.items c.in-Some.file.end c.in-Some.file.size found) c.args.zero.now)
+
+pub returns-in-Some-clause-stays : goal.returns-in-Some-clause-stays
+returns-in-Some-clause-stays g c honest =
+    let old = g.D.LogDisk.disk c.args.device.now in
+    let mid = g.D.LogDisk.disk c.find.new.device in
+    let new = g.D.LogDisk.disk c.open.new.device in
+    let same = c.find.ensures.unchanged honest in
+    let found = rw c.in-Some.is at (c.in_ok-live.ensures.live honest) in
+    begins_after old mid new c.args.header.now c.args.zero.now same (λ s. ap contents (same s))
+    (c.open.ensures.stays honest (found_after old mid same c.in-Some.live c.in-Some.file.entries.items c.in-Some.file.end c.in-Some.file.size found) c.args.zero.now)
+
+pub returns-in-Some-clause-wrong : goal.returns-in-Some-clause-wrong
+returns-in-Some-clause-wrong g c honest e =
+    let old = g.D.LogDisk.disk c.args.device.now in
+    let found = rw c.in-Some.is at (c.in_ok-live.ensures.live honest) in
+    (c.in-Some.file.entries.items, found_is_live old c.in-Some.live c.in-Some.file.entries.items c.in-Some.file.end c.in-Some.file.size found, c.open.ensures.wrong e)
+
+pub returns-in-None-clause-opens : goal.returns-in-None-clause-opens
+returns-in-None-clause-opens g c honest =
+    let old = g.D.LogDisk.disk c.args.device.now in
+    let mid = g.D.LogDisk.disk c.find.new.device in
+    let new = g.D.LogDisk.disk c.begin.new.device in
+    let same = c.find.ensures.unchanged honest in
+    let empty = c.in_ok-live.ensures.empty honest (cc) in
+    ok_then c.begin.result _ _
+    (λ o p. opens_before old mid same c.args.header.now c.args.zero.now (new o.live) (new (other o.live)) o.generation o.standing p)
+    (c.begin.ensures.opens honest (empty_after old mid same empty))
+
+pub returns-in-None-clause-stays : goal.returns-in-None-clause-stays
+returns-in-None-clause-stays g c honest =
+    let old = g.D.LogDisk.disk c.args.device.now in
+    let mid = g.D.LogDisk.disk c.find.new.device in
+    let new = g.D.LogDisk.disk c.begin.new.device in
+    let same = c.find.ensures.unchanged honest in
+    let empty = c.in_ok-live.ensures.empty honest (cc) in
+    begins_after old mid new c.args.header.now c.args.zero.now same (λ s. ap contents (same s)) (c.begin.ensures.stays honest (empty_after old mid same empty))

@@ -1,0 +1,7 @@
+use Rattle.lk_log.proofs.BeginLaws.{begins_pick}
+use Rattle.lk_log.proofs.reopening.reopen.Goals as goal
+
+-- the disks of the store are those of the device
+pub returns-in-Ok-clause-stays : goal.returns-in-Ok-clause-stays
+returns-in-Ok-clause-stays g c honest =
+    begins_pick c.in-Ok.opened.live (g.D.LogDisk.disk c.args.device) (g.D.LogDisk.disk c.recover.new.device) c.args.header.now c.args.zero.now (c.in-Ok.ensures.stays honest)

@@ -1,0 +1,79 @@
+-- Both files as a stop may leave them, and what they come to.
+use Rattle.std.specs.Prelude.{◌≡◌, ℕ, Bool, true, false, nat_lt, ◌||◌, List, [], ◌∷◌, if◌then◌else◌}
+use Rattle.lk_disk.specs.Disk.{Disk, contents, MayLeave}
+use Rattle.lk_disk.specs.declared.device.Side.{Side}
+use Rattle.lk_disk.specs.declared.device.Side.TheVariants.{A, B}
+use Rattle.lk_log.specs.Files.{IsFile}
+use Rattle.lk_log.specs.declared.stored.Stored.{Stored}
+use Rattle.lk_log.specs.declared.stored.Stored.TheVariants.{Base, Plain}
+use Rattle.lk_log.specs.declared.verdict.Verdict.{Verdict}
+use Rattle.lk_log.specs.declared.verdict.Verdict.TheVariants.{Damaged, Empty, Live}
+
+-- the bytes of both files
+abbrev pub Image : Type 0
+Image = Side → List ℕ
+
+abbrev pub MayLeaveBoth : (Side → Disk) → Image → Type 0
+MayLeaveBoth disks image = (s : Side) → MayLeave (disks s) (image s)
+
+-- what a read of both files returns
+abbrev pub seen : (Side → Disk) → Image
+seen disks s = contents (disks s)
+
+abbrev pub has_base : List Stored → Bool
+has_base [] = false
+has_base (Base b ∷ es) = true
+has_base (Plain e ∷ es) = has_base es
+
+-- the first entry is no Base, or a later one is
+abbrev pub is_misplaced : List Stored → Bool
+is_misplaced [] = false
+is_misplaced (Base b ∷ es) = has_base es
+is_misplaced (Plain e ∷ es) = true
+
+-- of the Base in front, which has 1 at least; 0 where none stands there
+abbrev pub generation : List Stored → ℕ
+generation [] = 0
+generation (Base b ∷ es) = b.generation
+generation (Plain e ∷ es) = 0
+
+abbrev pub unless_damaged : Bool → Verdict → Verdict
+unless_damaged is_damaged v = if is_damaged then Damaged else v
+
+-- What files of these whole entries come to, and of this damage behind them: the file whose Base has the greater
+-- generation is live, and of the other one the damage is not looked at. Without a Base they are empty.
+abbrev pub verdict : List Stored → List Stored → Bool → Bool → Verdict
+verdict a b a_damaged b_damaged =
+    if is_misplaced a || is_misplaced b then Damaged
+    else if nat_lt (generation b) (generation a) then unless_damaged a_damaged (Live A)
+    else if nat_lt (generation a) (generation b) then unless_damaged b_damaged (Live B)
+    else if nat_lt 0 (generation a) then Damaged
+    else unless_damaged (a_damaged || b_damaged) Empty
+
+-- the image comes to this, and its files have these whole entries
+pub record Means (image : Image) (v : Verdict) (entries : Side → List Stored) : Type 0 where
+  pub is_damaged : Side → Bool
+  pub file : (s : Side) → IsFile (image s) (entries s) (is_damaged s)
+  pub is : verdict (entries A) (entries B) (is_damaged A) (is_damaged B) ≡ v
+
+-- the live file has these whole entries
+pub record IsLive (image : Image) (es : List Stored) : Type 0 where
+  pub side : Side
+  pub entries : Side → List Stored
+  pub means : Means image (Live side) entries
+  pub are : entries side ≡ es
+
+-- neither file has a Base, and nothing is damaged
+abbrev pub IsEmpty : Image → Type 0
+IsEmpty image = (entries : Side → List Stored) × Means image Empty entries
+
+abbrev pub IsDamaged : Image → Type 0
+IsDamaged image = (entries : Side → List Stored) × Means image Damaged entries
+
+-- whatever the first image comes to, the second comes to
+abbrev pub SameMeaning : Image → Image → Type 0
+SameMeaning before image = (v : Verdict) (entries : Side → List Stored) → Means before v entries → Means image v entries
+
+-- each image after it comes to what an image before it came to
+abbrev pub Narrows : (Side → Disk) → (Side → Disk) → Type 0
+Narrows old new = (image : Image) → MayLeaveBoth new image → (before : Image) × MayLeaveBoth old before × SameMeaning before image

@@ -1,0 +1,10 @@
+pub mod Values
+pub mod Headers
+pub mod StoreValue
+pub mod Causes
+pub mod Entries
+pub mod Parsing
+pub mod Files
+pub mod Images
+pub mod Standings
+pub mod Stores

@@ -1,0 +1,108 @@
+-- An open store, and what a stop may leave of it.
+use Rattle.std.specs.Prelude.{◌≡◌, ℕ, ◌<◌, ◌⊎◌, Bool, false, List, [], ◌∷◌, ◌++◌, length, take}
+use Rattle.std.specs.List.{AllByRecursion}
+use Rattle.lk_types.specs.Ballots.{zero_ballot}
+use Rattle.lk_types.specs.declared.entry.Entry.{Entry}
+use Rattle.lk_disk.specs.Disk.{Disk, other, contents, MayLeave}
+use Rattle.lk_disk.specs.declared.device.Side.{Side}
+use Rattle.lk_log.specs.Entries.{spelling_of_all, IsStored}
+use Rattle.lk_log.specs.Files.{IsFile}
+use Rattle.lk_log.specs.Images.{Image, MayLeaveBoth, is_misplaced, generation, IsLive, IsEmpty, SameMeaning, seen}
+use Rattle.lk_log.specs.Standings.{HasHeader, StandsFor}
+use Rattle.lk_log.specs.StoreValue.{StoreValue, pick}
+use Rattle.lk_log.specs.Values.{HeaderValue, StandingValue, BaseValue}
+use Rattle.lk_log.specs.declared.stored.Stored.{Stored}
+use Rattle.lk_log.specs.declared.stored.Stored.TheVariants.{Base, Plain}
+
+-- what is given to a store, as entries of its file
+abbrev pub plain : List Entry → List Stored
+plain [] = []
+plain (e ∷ es) = Plain e ∷ plain es
+
+-- a file whose Base, if any, has a smaller generation than this
+pub record IsOlder (d : Disk) (newest : ℕ) : Type 0 where
+  pub entries : List Stored
+  pub is_damaged : Bool
+  pub file : IsFile (contents d) entries is_damaged
+  pub placed : is_misplaced entries ≡ false
+  pub less : generation entries < newest
+
+-- the live disk holds these entries, the first of them synced, and the other disk is older
+pub record HoldsOn (live_disk other_disk : Disk) (synced_entries unsynced_entries : List Stored) : Type 0 where
+  pub synced : live_disk.synced ≡ spelling_of_all synced_entries
+  pub unsynced : live_disk.unsynced ≡ spelling_of_all unsynced_entries
+  pub fit : AllByRecursion IsStored (synced_entries ++ unsynced_entries)
+  pub placed : is_misplaced (synced_entries ++ unsynced_entries) ≡ false
+  pub older : IsOlder other_disk (generation synced_entries)
+
+-- a store holds these entries, the first of them synced
+abbrev pub Holds : StoreValue → List Stored → List Stored → Type 0
+Holds s = HoldsOn s.live_disk s.other_disk
+
+-- each image that a stop may leave of these disks has all of the first entries and a beginning of the others
+abbrev pub KeepsAtLeastOn : Side → Disk → Disk → List Stored → List Stored → Type 0
+KeepsAtLeastOn live live_disk other_disk first more = (image : Image) → MayLeaveBoth (pick live live_disk other_disk) image
+    → (k : ℕ) × IsLive image (first ++ take k more)
+
+-- so of a store
+abbrev pub KeepsAtLeast : StoreValue → List Stored → List Stored → Type 0
+KeepsAtLeast s = KeepsAtLeastOn s.live s.live_disk s.other_disk
+
+-- the Base of a store that is begun
+abbrev pub first_base : HeaderValue → List ℕ → BaseValue
+first_base h zero = record {
+  generation = 1;
+  header = h;
+  standing = record { promised = zero_ballot; position = 0; snapshot = zero; votes = []; pairs = [] };
+}
+
+-- what the files stood for as they were read, or that of a store that is begun where nothing stood
+abbrev pub Found : Image → HeaderValue → List ℕ → List Stored → Type 0
+Found before h zero es = IsLive before es ⊎ (IsEmpty before × (es ≡ Base (first_base h zero) ∷ []))
+
+-- what an opening finds is held by these disks, all of it synced, under this header and with this standing
+pub record OpensOn (before : Image) (h : HeaderValue) (zero : List ℕ) (live_disk other_disk : Disk) (number : ℕ) (standing : StandingValue) : Type 0 where
+  pub entries : List Stored
+  pub found : Found before h zero entries
+  pub holds : HoldsOn live_disk other_disk entries []
+  pub header : HasHeader entries h
+  pub generation_is : number ≡ generation entries
+  pub stands : StandsFor entries standing
+
+-- so by an opened store
+abbrev pub Opens : Image → HeaderValue → List ℕ → StoreValue → StandingValue → Type 0
+Opens before h zero s = OpensOn before h zero s.live_disk s.other_disk s.generation
+
+-- the live file is another node's or another cluster's
+abbrev pub IsWrong : Image → HeaderValue → Type 0
+IsWrong before h = (es : List Stored) × IsLive before es × (HasHeader es h → ⊥)
+
+-- the live file has this generation and this standing
+pub record Shows (before : Image) (number : ℕ) (standing : StandingValue) : Type 0 where
+  pub entries : List Stored
+  pub live : IsLive before entries
+  pub generation_is : number ≡ generation entries
+  pub stands : StandsFor entries standing
+
+-- each image of the new disks comes to what an image of the old ones came to, or to a store that is begun where
+-- nothing stood
+abbrev pub NarrowsOrBegins : (Side → Disk) → (Side → Disk) → HeaderValue → List ℕ → Type 0
+NarrowsOrBegins old new h zero = (image : Image) → MayLeaveBoth new image
+    → ((before : Image) × MayLeaveBoth old before × SameMeaning before image) ⊎ (IsEmpty (seen old) × IsLive image (Base (first_base h zero) ∷ []))
+
+-- each image of a file after it has what an image of it before had
+abbrev pub FileNarrows : Disk → Disk → Type 0
+FileNarrows old new = (c : List ℕ) → MayLeave new c → (b : List ℕ) × MayLeave old b
+    × ((es : List Stored) (is_damaged : Bool) → IsFile b es is_damaged → IsFile c es is_damaged)
+
+-- the live file of these disks as it was read: its whole entries, where they end, and how many bytes there are
+pub record FoundLive (disks : Side → Disk) (live : Side) (es : List Stored) (end size : ℕ) : Type 0 where
+  pub file : IsFile (contents (disks live)) es false
+  pub placed : is_misplaced es ≡ false
+  pub older : IsOlder (disks (other live)) (generation es)
+  pub ends : end ≡ length (spelling_of_all es)
+  pub sized : size ≡ length (contents (disks live))
+
+-- each image of a file is a front of what stood there, or of these bytes
+abbrev pub IsWrittenOver : Disk → List ℕ → Disk → Type 0
+IsWrittenOver old bytes new = (c : List ℕ) → MayLeave new c → ((p : ℕ) × (c ≡ take p (contents old))) ⊎ ((p : ℕ) × (c ≡ take p bytes))

@@ -1,0 +1,123 @@
+// Reading a file of a device.
+ghost use Rattle.std.specs.Prelude.{◌≡◌, ◌++◌, length, false, IfOk, IfErr};
+ghost use Rattle.lk_disk.specs.Disk.{contents};
+ghost use Rattle.lk_log.specs.Causes.{IsCaused};
+ghost use Rattle.lk_log.specs.Entries.{spelling_of_all};
+ghost use Rattle.lk_log.specs.Files.{is_torn, IsFile};
+ghost use Rattle.lk_log.specs.Images.{generation, is_misplaced, has_base};
+ghost use Rattle.lk_log.specs.declared.fault.StoreFault.TheVariants.{NoMemory as memory_fault};
+
+use crate::fault::StoreFault;
+use crate::reading::first_entry;
+use crate::stored::Stored;
+use crate::unread::Unread;
+use lk_disk::{LogDisk, Side};
+use lk_wire::fields::read_u32;
+use std::alloc::Global;
+
+// A file as it was read.
+#[derive(Debug, Drop)]
+pub struct File {
+    // The whole entries.
+    pub entries: Vec<Stored>,
+    // Where they end.
+    pub end: usize,
+    // How many bytes there are.
+    pub size: usize,
+    // Whether what stands behind the entries is damage.
+    pub is_damaged: bool,
+}
+
+// Whether a stop may have left this behind whole entries.
+#[tactic(auto, unfolding(crate::specs::Files::told_length, lk_wire::specs::FieldReading::four_at))]
+fn is_torn(rest: &[u8]) -> bool
+    ensures { result ≡ is_torn rest.now }
+{
+    let Some((told, _)) = read_u32(rest) else {
+        return true;
+    };
+    told >= 1 && told <= 65536 && rest.len() < 4 + told as usize
+}
+
+// The file of these bytes.
+fn file_of(alloc: Global, bytes: &[u8]) -> Result<File, StoreFault>
+    ensures file { IfOk result (λ f. IsFile bytes.now f.entries.items f.is_damaged) }
+    ensures end { IfOk result (λ f. f.end ≡ length (spelling_of_all f.entries.items)) }
+    ensures size { IfOk result (λ f. f.size ≡ length bytes.now) }
+    ensures only { IfErr result (λ e. e ≡ memory_fault) }
+{
+    let mut entries = Vec::new(alloc);
+    let mut rest = bytes;
+    'read: loop {
+        match first_entry(alloc, rest) {
+            Ok((entry, more)) => {
+                entries.push(entry)?;
+                rest = more;
+            }
+            Err(Unread::NoEntry) => break,
+            Err(Unread::NoMemory) => return Err(StoreFault::NoMemory),
+        }
+    }
+    Ok(File {
+        entries,
+        end: bytes.len() - rest.len(),
+        size: bytes.len(),
+        is_damaged: !is_torn(rest),
+    })
+}
+
+// The bytes of a file.
+fn read_bytes<D: LogDisk>(alloc: Global, device: &mut D, side: Side) -> Result<Vec<u8>, StoreFault>
+    ensures unchanged { D.is_honest → (s : _) → D.disk device.new s ≡ D.disk device.old s }
+    ensures value { D.is_honest → IfOk result (λ v. v.items ≡ contents (D.disk device.old side)) }
+    ensures cause { IsCaused (D.failures device.old) (D.failures device.new) result }
+{
+    let count = device.length(side)?;
+    let mut bytes = vec![in alloc; 0; count]?;
+    device.read_into(side, 0, &mut bytes)?;
+    Ok(bytes)
+}
+
+// A file of the device.
+pub fn read_file<D: LogDisk>(alloc: Global, device: &mut D, side: Side) -> Result<File, StoreFault>
+    ensures unchanged { D.is_honest → (s : _) → D.disk device.new s ≡ D.disk device.old s }
+    ensures file { D.is_honest → IfOk result (λ f. IsFile (contents (D.disk device.old side)) f.entries.items f.is_damaged) }
+    ensures end { IfOk result (λ f. f.end ≡ length (spelling_of_all f.entries.items)) }
+    ensures size { D.is_honest → IfOk result (λ f. f.size ≡ length (contents (D.disk device.old side))) }
+    ensures cause { IsCaused (D.failures device.old) (D.failures device.new) result }
+{
+    let bytes = read_bytes(alloc, device, side)?;
+    file_of(alloc, &bytes)
+}
+
+// Of the Base in front, 0 where none stands there.
+pub fn generation_of(entries: &[Stored]) -> u64
+    ensures { result ≡ generation entries.now }
+{
+    match entries {
+        [Stored::Base(base), ..] => base.generation,
+        _ => 0,
+    }
+}
+
+fn has_base(entries: &[Stored]) -> bool
+    ensures { result ≡ has_base entries.now }
+{
+    for entry in entries {
+        if let Stored::Base(_) = entry {
+            return true;
+        }
+    }
+    false
+}
+
+// Whether the first entry is no Base, or a later one is.
+pub fn is_misplaced(entries: &[Stored]) -> bool
+    ensures { result ≡ is_misplaced entries.now }
+{
+    match entries {
+        [] => false,
+        [Stored::Base(_), rest @ ..] => has_base(rest),
+        [Stored::Plain(_), ..] => true,
+    }
+}

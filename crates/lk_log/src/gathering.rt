@@ -1,0 +1,181 @@
+// Gathering what entries stand for.
+ghost use Rattle.std.specs.Prelude.{◌≡◌, ◌<◌, ◌≤◌, ◌≢◌, ◌∷◌, [], ◌++◌, List, map, false, length, get_or, OnOk, IfOk, IfErr};
+ghost use Rattle.std.specs.List.{AllByRecursion};
+ghost use Rattle.lk_log.specs.Entries.{IsStored};
+ghost use Rattle.lk_log.specs.Images.{generation, is_misplaced};
+ghost use Rattle.lk_log.specs.Standings.{is_below, greater, greatest_of, ballot_of, votes_below, with_vote, pairs_below, with_pair, with_plain, of_base, StandsFor};
+ghost use Rattle.lk_types.specs.declared.entry.Entry.TheVariants.{Vote as vote_entry, Decided as decided_entry};
+ghost use Rattle.lk_log.specs.declared.fault.StoreFault.TheVariants.{NoMemory as memory_fault};
+
+use crate::base::Base;
+use crate::fault::StoreFault;
+use crate::standing::Standing;
+use crate::stored::Stored;
+use lk_types::{Ballot, Command, Entry, Executed, Position, Vote};
+use std::alloc::{AllocFailed, Global};
+
+fn is_below(a: Ballot, b: Ballot) -> bool
+    ensures { result ≡ is_below a b }
+{
+    a.round() < b.round() || a.round() == b.round() && a.node() < b.node()
+}
+
+fn greater(a: Ballot, b: Ballot) -> Ballot
+    ensures { result ≡ greater a b }
+{
+    if is_below(a, b) { b } else { a }
+}
+
+// The greatest of a ballot and those of the votes.
+fn greatest_of(ballot: Ballot, votes: &[Vote]) -> Ballot
+    ensures { result ≡ greatest_of ballot (map ballot_of votes.now) }
+{
+    let mut greatest = ballot;
+    for vote in votes {
+        greatest = greater(greatest, vote.ballot.get());
+    }
+    greatest
+}
+
+// How many votes of smaller positions are in front.
+fn votes_below(position: Position, votes: &[Vote]) -> usize
+    ensures value { result ≡ votes_below position votes.now }
+    ensures within { result ≤ length votes.now }
+{
+    for (i, vote) in votes.iter().enumerate() {
+        if vote.position.get() >= position.get() {
+            return i;
+        }
+    }
+    votes.len()
+}
+
+// Keeps a vote in its place. Of two votes at a position the one of greater ballot is kept, the earlier where they are
+// equal.
+#[tactic(auto, using(crate::proofs::InOrder::at_end, crate::proofs::InOrder::at_other, crate::proofs::InOrder::at_below, crate::proofs::InOrder::at_above))]
+fn keep_vote(votes: &mut Vec<Vote>, vote: Vote) -> Result<(), AllocFailed<Vote>>
+    ensures { OnOk result (votes.new.items ≡ with_vote vote votes.old.items) }
+{
+    let i = votes_below(vote.position, votes);
+    if i == votes.len() {
+        votes.push(vote)?;
+        return Ok(());
+    }
+    if votes[i].position.get() != vote.position.get() {
+        votes.insert(i, vote)?;
+        return Ok(());
+    }
+    if is_below(votes[i].ballot.get(), vote.ballot.get()) {
+        votes[i] = vote;
+    }
+    Ok(())
+}
+
+// How many pairs of smaller positions are in front.
+fn pairs_below(position: Position, pairs: &[(Position, Command)]) -> usize
+    ensures value { result ≡ pairs_below position pairs.now }
+    ensures within { result ≤ length pairs.now }
+{
+    for (i, pair) in pairs.iter().enumerate() {
+        if pair.0.get() >= position.get() {
+            return i;
+        }
+    }
+    pairs.len()
+}
+
+// Keeps a decided command in its place. Of two of a position the earlier is kept.
+#[tactic(auto, using(crate::proofs::InOrder::pair_at_end, crate::proofs::InOrder::pair_at_other, crate::proofs::InOrder::pair_at_same))]
+fn keep_pair(
+    pairs: &mut Vec<(Position, Command)>,
+    pair: (Position, Command),
+) -> Result<(), AllocFailed<(Position, Command)>>
+    ensures { OnOk result (pairs.new.items ≡ with_pair pair pairs.old.items) }
+{
+    let i = pairs_below(pair.0, pairs);
+    if i == pairs.len() {
+        pairs.push(pair)?;
+        return Ok(());
+    }
+    if pairs[i].0.get() != pair.0.get() {
+        pairs.insert(i, pair)?;
+    }
+    Ok(())
+}
+
+// The standing of no entries.
+fn nothing(alloc: Global) -> Standing {
+    Standing {
+        promised: Ballot::ZERO,
+        position: Executed::default(),
+        snapshot: Vec::new(alloc),
+        votes: Vec::new(alloc),
+        pairs: Vec::new(alloc),
+    }
+}
+
+// The standing of a Base alone.
+fn of_base(base: Base) -> Standing
+    ensures { result ≡ of_base base }
+{
+    let Base {
+        generation: _,
+        header: _,
+        standing,
+    } = base;
+    let mut standing = standing;
+    standing.promised = greatest_of(standing.promised, &standing.votes);
+    standing
+}
+
+fn add_vote(standing: &mut Standing, vote: Vote) -> Result<(), StoreFault>
+    ensures ok { OnOk result (standing.new ≡ with_plain (vote_entry vote) standing.old) }
+    ensures only { IfErr result (λ e. e ≡ memory_fault) }
+{
+    standing.promised = greater(standing.promised, vote.ballot.get());
+    if vote.position.get() > standing.position.get() {
+        keep_vote(&mut standing.votes, vote)?;
+    }
+    Ok(())
+}
+
+fn add_pair(standing: &mut Standing, pair: (Position, Command)) -> Result<(), StoreFault>
+    ensures ok { OnOk result (standing.new ≡ with_plain (decided_entry pair.0 pair.1) standing.old) }
+    ensures only { IfErr result (λ e. e ≡ memory_fault) }
+{
+    if pair.0.get() > standing.position.get() {
+        keep_pair(&mut standing.pairs, pair)?;
+    }
+    Ok(())
+}
+
+// Adds an entry to what others stand for.
+fn add_plain(standing: &mut Standing, entry: Entry) -> Result<(), StoreFault>
+    ensures ok { OnOk result (standing.new ≡ with_plain entry standing.old) }
+    ensures only { IfErr result (λ e. e ≡ memory_fault) }
+{
+    match entry {
+        Entry::Promise(ballot) => {
+            standing.promised = greater(standing.promised, ballot.get());
+            Ok(())
+        }
+        Entry::Vote(vote) => add_vote(standing, vote),
+        Entry::Decided(position, command) => add_pair(standing, (position, command)),
+    }
+}
+
+// What entries with a Base in front stand for.
+pub fn gather(alloc: Global, entries: Vec<Stored>) -> Result<Standing, StoreFault>
+    ensures stands { AllByRecursion IsStored entries.items → is_misplaced entries.items ≡ false → 0 < generation entries.items
+        → IfOk result (StandsFor entries.items) }
+    ensures only { IfErr result (λ e. e ≡ memory_fault) }
+{
+    let mut standing = nothing(alloc);
+    for entry in entries {
+        match entry {
+            Stored::Base(base) => standing = of_base(base),
+            Stored::Plain(entry) => add_plain(&mut standing, entry)?,
+        }
+    }
+    Ok(standing)
+}

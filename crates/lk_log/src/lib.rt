@@ -1,0 +1,27 @@
+//! Two files that remember what a node promised, voted and learned: entries behind a Base, read back after any stop.
+#![tactic(auto)]
+
+mod adding;
+mod base;
+mod fault;
+mod file;
+mod gathering;
+mod header;
+pub mod laws;
+mod opening;
+mod reading;
+mod reopening;
+mod standing;
+mod store;
+mod stored;
+#[cfg(test)]
+mod tests;
+mod unread;
+mod verdict;
+mod writing;
+
+pub use fault::{ReopenFault, StoreFault};
+pub use header::Header;
+pub use reopening::{look, reopen};
+pub use standing::Standing;
+pub use store::Store;

@@ -1,0 +1,99 @@
+// Opening a store that a stop may have left.
+ghost use Rattle.std.specs.Prelude.{◌≡◌, List, [], ◌∷◌, false, length, IfOk, IfErr, IfSome, OnOk, IsErrOf, Ok};
+ghost use Rattle.lk_disk.specs.Disk.{contents, other, flushed, HasCause};
+ghost use Rattle.lk_log.specs.Causes.{IsCaused, IsCounted};
+ghost use Rattle.lk_log.specs.Entries.{spelling_of_all};
+ghost use Rattle.lk_log.specs.Files.{IsFile};
+ghost use Rattle.lk_log.specs.Images.{unless_damaged, verdict, IsEmpty, IsDamaged, Narrows, seen, is_misplaced, generation};
+ghost use Rattle.lk_log.specs.Stores.{FileNarrows, HoldsOn, IsOlder, FoundLive};
+ghost use Rattle.lk_log.specs.declared.stored.Stored.{Stored};
+
+use crate::fault::StoreFault;
+use crate::file::{File, generation_of, is_misplaced, read_file};
+use crate::verdict::Verdict;
+use lk_disk::{Device, LogDisk, Side};
+use std::alloc::Global;
+
+fn unless_damaged(is_damaged: bool, verdict: Verdict) -> Verdict
+    ensures { result ≡ unless_damaged is_damaged verdict }
+{
+    if is_damaged {
+        Verdict::Damaged
+    } else {
+        verdict
+    }
+}
+
+// What both files come to.
+fn verdict(a: &File, b: &File) -> Verdict
+    ensures { result ≡ verdict a.now.entries.items b.now.entries.items a.now.is_damaged b.now.is_damaged }
+{
+    if is_misplaced(&a.entries) || is_misplaced(&b.entries) {
+        return Verdict::Damaged;
+    }
+    let (a_generation, b_generation) = (generation_of(&a.entries), generation_of(&b.entries));
+    if b_generation < a_generation {
+        return unless_damaged(a.is_damaged, Verdict::Live(Side::A));
+    }
+    if a_generation < b_generation {
+        return unless_damaged(b.is_damaged, Verdict::Live(Side::B));
+    }
+    if a_generation > 0 {
+        return Verdict::Damaged;
+    }
+    unless_damaged(a.is_damaged || b.is_damaged, Verdict::Empty)
+}
+
+// The live file, or `None` where there is no Base.
+pub fn find<D: LogDisk>(alloc: Global, device: &mut D) -> Result<Option<(Side, File)>, StoreFault>
+    ensures unchanged { D.is_honest → (s : Side) → D.disk device.new s ≡ D.disk device.old s }
+    ensures damaged { D.is_honest → IsErrOf result StoreFault.Damaged → IsDamaged (seen (D.disk device.old)) }
+    ensures empty { D.is_honest → result ≡ Ok None → IsEmpty (seen (D.disk device.old)) }
+    ensures live { D.is_honest → IfOk result (λ found. IfSome found (λ f. FoundLive (D.disk device.old) f.0 f.1.entries.items f.1.end f.1.size)) }
+    ensures wrong { IsErrOf result StoreFault.WrongStore → ⊥ }
+    ensures failed { IsErrOf result StoreFault.Failed → ⊥ }
+    ensures cause { IsCounted (D.failures device.old) (D.failures device.new) result }
+{
+    let a = read_file(alloc, device, Side::A)?;
+    let b = read_file(alloc, device, Side::B)?;
+    match verdict(&a, &b) {
+        Verdict::Damaged => Err(StoreFault::Damaged),
+        Verdict::Empty => Ok(None),
+        Verdict::Live(Side::A) => Ok(Some((Side::A, a))),
+        Verdict::Live(Side::B) => Ok(Some((Side::B, b))),
+    }
+}
+
+// Cuts off what stands behind the entries, by no call where nothing does.
+fn cut_off<D: LogDisk>(device: &mut D, live: Side, end: usize, size: usize) -> Result<(), Device>
+    ensures contents { D.is_honest → (es : List Stored) → FoundLive (D.disk device.old) live es end size
+        → OnOk result (contents (D.disk device.new live) ≡ spelling_of_all es) }
+    ensures narrows { D.is_honest → (es : List Stored) → FoundLive (D.disk device.old) live es end size
+        → FileNarrows (D.disk device.old live) (D.disk device.new live) }
+    ensures beside { D.is_honest → D.disk device.new (other live) ≡ D.disk device.old (other live) }
+    ensures cause { HasCause (D.failures device.old) (D.failures device.new) result }
+{
+    if size <= end {
+        return Ok(());
+    }
+    device.cut(live, end)?;
+    Ok(())
+}
+
+// Cuts what is torn off the live file, and syncs it.
+pub fn settle<D: LogDisk>(
+    device: &mut D,
+    live: Side,
+    end: usize,
+    size: usize,
+) -> Result<(), StoreFault>
+    ensures holds { D.is_honest → (es : List Stored) → FoundLive (D.disk device.old) live es end size
+        → OnOk result (HoldsOn (D.disk device.new live) (D.disk device.new (other live)) es []) }
+    ensures narrows { D.is_honest → (es : List Stored) → FoundLive (D.disk device.old) live es end size
+        → Narrows (D.disk device.old) (D.disk device.new) }
+    ensures cause { IsCaused (D.failures device.old) (D.failures device.new) result }
+{
+    cut_off(device, live, end, size)?;
+    device.sync(live)?;
+    Ok(())
+}

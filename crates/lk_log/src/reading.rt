@@ -1,0 +1,334 @@
+// Reading an entry of a file from the front of some bytes.
+ghost use Rattle.std.specs.Prelude.{◌≡◌, ◌≤◌, ◌++◌, IfSome, IfOk, Err};
+ghost use Rattle.lk_types.specs.Ranges.{IsAlpha};
+ghost use Rattle.lk_wire.specs.FieldReading.{member_at, vote_at, pair_at};
+ghost use Rattle.lk_wire.specs.Parser.{Finds, many, whole};
+ghost use Rattle.lk_wire.specs.Values.{are_rising_above};
+ghost use Rattle.lk_log.specs.Entries.{are_pairs_above, spelling, IsStored};
+ghost use Rattle.lk_log.specs.Files.{NoneBegins};
+ghost use Rattle.lk_log.specs.Parsing.{Gives, alpha_at, members_at, header_at, snapshot_at, few_at, votes_at, pairs_at, is_in_order, standing_at, base_at, fields_at, body_at, size_at, entry_at};
+
+use crate::base::Base;
+use crate::header::Header;
+use crate::standing::Standing;
+use crate::stored::Stored;
+use crate::unread::Unread;
+use arrayvec::ArrayVec;
+use lk_types::{Command, Entry, Genesis, Member, Members, Position, Vote};
+use lk_wire::fields::{
+    read_ballot, read_command, read_executed, read_mark, read_member, read_node, read_position,
+    read_u8, read_u16, read_u32, read_u64, read_vote,
+};
+use std::alloc::Global;
+
+#[tactic(auto, unfolding(crate::specs::Parsing::alpha_at))]
+fn alpha_at(bytes: &[u8]) -> Option<(u8, &[u8])>
+    ensures parsed { Finds (λ x. (x.0, x.1.now)) result (alpha_at bytes.now) }
+    ensures in_range { IfSome result (λ x. IsAlpha x.0) }
+{
+    let (alpha, rest) = read_u8(bytes)?;
+    if alpha < 1 || alpha > 16 {
+        return None;
+    }
+    Some((alpha, rest))
+}
+
+fn many_members(count: u8, bytes: &[u8]) -> Option<(ArrayVec<Member, 7>, &[u8])>
+    requires { count ≤ 7 }
+    ensures { Finds (λ x. (x.0.items, x.1.now)) result (many member_at count bytes.now) }
+{
+    let mut members = ArrayVec::new();
+    let mut rest = bytes;
+    for _ in 0..count {
+        let Some((member, after)) = read_member(rest) else {
+            return None;
+        };
+        members.push(member);
+        rest = after;
+    }
+    Some((members, rest))
+}
+
+#[tactic(auto, unfolding(crate::specs::Parsing::members_at))]
+fn members_at(bytes: &[u8]) -> Option<(Members, &[u8])>
+    ensures { Finds (λ x. (x.0, x.1.now)) result (members_at bytes.now) }
+{
+    let (count, rest) = read_u8(bytes)?;
+    if count < 1 || count > 7 {
+        return None;
+    }
+    let Some((members, rest)) = many_members(count, rest) else {
+        return None;
+    };
+    Some((Members::of(&members)?, rest))
+}
+
+#[tactic(auto, unfolding(crate::specs::Parsing::header_at))]
+fn header_at(bytes: &[u8]) -> Option<(Header, &[u8])>
+    ensures { Finds (λ x. (x.0, x.1.now)) result (header_at bytes.now) }
+{
+    let (format, rest) = read_u8(bytes)?;
+    if format != 1 {
+        return None;
+    }
+    let (cluster, rest) = read_u64(rest)?;
+    let Some((node, rest)) = read_node(rest) else {
+        return None;
+    };
+    let (alpha, rest) = alpha_at(rest)?;
+    let Some((members, rest)) = members_at(rest) else {
+        return None;
+    };
+    let genesis = Genesis {
+        cluster,
+        alpha,
+        members,
+    };
+    Some((Header::new(node, genesis), rest))
+}
+
+#[tactic(auto, unfolding(crate::specs::Parsing::snapshot_at))]
+fn snapshot_at(alloc: Global, bytes: &[u8]) -> Result<(Vec<u8>, &[u8]), Unread>
+    ensures { Gives (λ x. (x.0.items, x.1.now)) result (snapshot_at bytes.now) }
+{
+    let Some((length, rest)) = read_u32(bytes) else {
+        return Err(Unread::NoEntry);
+    };
+    let length = length as usize;
+    if length < 1 || length > 49152 || rest.len() < length {
+        return Err(Unread::NoEntry);
+    }
+    let (text, rest) = rest.split_at(length);
+    Ok((text.to_vec(alloc)?, rest))
+}
+
+#[tactic(auto, unfolding(crate::specs::Parsing::few_at))]
+fn few_at(bytes: &[u8]) -> Option<(u16, &[u8])>
+    ensures { Finds (λ x. (x.0, x.1.now)) result (few_at bytes.now) }
+{
+    let (count, rest) = read_u16(bytes)?;
+    if count > 32 {
+        return None;
+    }
+    Some((count, rest))
+}
+
+fn many_votes(alloc: Global, count: u16, bytes: &[u8]) -> Result<(Vec<Vote>, &[u8]), Unread>
+    ensures { Gives (λ x. (x.0.items, x.1.now)) result (many vote_at count bytes.now) }
+{
+    let mut votes = Vec::new(alloc);
+    let mut rest = bytes;
+    for _ in 0..count {
+        let Some((vote, after)) = read_vote(rest) else {
+            return Err(Unread::NoEntry);
+        };
+        votes.push(vote)?;
+        rest = after;
+    }
+    Ok((votes, rest))
+}
+
+#[tactic(auto, unfolding(crate::specs::Parsing::votes_at))]
+fn votes_at(alloc: Global, bytes: &[u8]) -> Result<(Vec<Vote>, &[u8]), Unread>
+    ensures { Gives (λ x. (x.0.items, x.1.now)) result (votes_at bytes.now) }
+{
+    let Some((count, rest)) = few_at(bytes) else {
+        return Err(Unread::NoEntry);
+    };
+    many_votes(alloc, count, rest)
+}
+
+#[tactic(auto, unfolding(lk_wire::specs::FieldReading::pair_at))]
+fn pair_at(bytes: &[u8]) -> Option<((Position, Command), &[u8])>
+    ensures { Finds (λ x. (x.0, x.1.now)) result (pair_at bytes.now) }
+{
+    let Some((position, rest)) = read_position(bytes) else {
+        return None;
+    };
+    let Some((command, rest)) = read_command(rest) else {
+        return None;
+    };
+    Some(((position, command), rest))
+}
+
+fn many_pairs(
+    alloc: Global,
+    count: u16,
+    bytes: &[u8],
+) -> Result<(Vec<(Position, Command)>, &[u8]), Unread>
+    ensures { Gives (λ x. (x.0.items, x.1.now)) result (many pair_at count bytes.now) }
+{
+    let mut pairs = Vec::new(alloc);
+    let mut rest = bytes;
+    for _ in 0..count {
+        let Some((pair, after)) = pair_at(rest) else {
+            return Err(Unread::NoEntry);
+        };
+        pairs.push(pair)?;
+        rest = after;
+    }
+    Ok((pairs, rest))
+}
+
+#[tactic(auto, unfolding(crate::specs::Parsing::pairs_at))]
+fn pairs_at(alloc: Global, bytes: &[u8]) -> Result<(Vec<(Position, Command)>, &[u8]), Unread>
+    ensures { Gives (λ x. (x.0.items, x.1.now)) result (pairs_at bytes.now) }
+{
+    let Some((count, rest)) = few_at(bytes) else {
+        return Err(Unread::NoEntry);
+    };
+    many_pairs(alloc, count, rest)
+}
+
+// Whether the votes rise strictly by position, the first above `low`.
+fn are_votes_above(low: u64, votes: &[Vote]) -> bool
+    ensures { result ≡ are_rising_above low votes.now }
+{
+    let mut low = low;
+    for vote in votes {
+        let position = vote.position.get();
+        if position <= low {
+            return false;
+        }
+        low = position;
+    }
+    true
+}
+
+// Whether the pairs rise strictly by position, the first above `low`.
+fn are_pairs_above(low: u64, pairs: &[(Position, Command)]) -> bool
+    ensures { result ≡ are_pairs_above low pairs.now }
+{
+    let mut low = low;
+    for (position, _) in pairs {
+        let position = position.get();
+        if position <= low {
+            return false;
+        }
+        low = position;
+    }
+    true
+}
+
+// Whether all votes and pairs lie above the snapshot and rise.
+fn is_in_order(standing: &Standing) -> bool
+    ensures { result ≡ is_in_order standing.now }
+{
+    let low = standing.position.get();
+    are_votes_above(low, &standing.votes) && are_pairs_above(low, &standing.pairs)
+}
+
+#[tactic(auto, unfolding(crate::specs::Parsing::standing_at))]
+fn standing_at(alloc: Global, bytes: &[u8]) -> Result<(Standing, &[u8]), Unread>
+    ensures { Gives (λ x. (x.0, x.1.now)) result (standing_at bytes.now) }
+{
+    let Some((promised, rest)) = read_mark(bytes) else {
+        return Err(Unread::NoEntry);
+    };
+    let Some((position, rest)) = read_executed(rest) else {
+        return Err(Unread::NoEntry);
+    };
+    let (snapshot, rest) = snapshot_at(alloc, rest)?;
+    let (votes, rest) = votes_at(alloc, rest)?;
+    let (pairs, rest) = pairs_at(alloc, rest)?;
+    let standing = Standing {
+        promised,
+        position,
+        snapshot,
+        votes,
+        pairs,
+    };
+    if !is_in_order(&standing) {
+        return Err(Unread::NoEntry);
+    }
+    Ok((standing, rest))
+}
+
+#[tactic(auto, unfolding(crate::specs::Parsing::base_at))]
+fn base_at(alloc: Global, bytes: &[u8]) -> Result<(Base, &[u8]), Unread>
+    ensures { Gives (λ x. (x.0, x.1.now)) result (base_at bytes.now) }
+{
+    let Some((generation, rest)) = read_position(bytes) else {
+        return Err(Unread::NoEntry);
+    };
+    let Some((header, rest)) = header_at(rest) else {
+        return Err(Unread::NoEntry);
+    };
+    let (standing, rest) = standing_at(alloc, rest)?;
+    let base = Base {
+        generation: generation.get(),
+        header,
+        standing,
+    };
+    Ok((base, rest))
+}
+
+// What stands behind the byte that tells an entry's kind.
+#[tactic(auto, unfolding(crate::specs::Parsing::fields_at))]
+fn fields_at(alloc: Global, kind: u8, bytes: &[u8]) -> Result<(Stored, &[u8]), Unread>
+    ensures { Gives (λ x. (x.0, x.1.now)) result (fields_at kind bytes.now) }
+{
+    match kind {
+        1 => {
+            let (base, rest) = base_at(alloc, bytes)?;
+            Ok((Stored::Base(base), rest))
+        }
+        2 => {
+            let Some((ballot, rest)) = read_ballot(bytes) else {
+                return Err(Unread::NoEntry);
+            };
+            Ok((Stored::Plain(Entry::Promise(ballot)), rest))
+        }
+        3 => {
+            let Some((vote, rest)) = read_vote(bytes) else {
+                return Err(Unread::NoEntry);
+            };
+            Ok((Stored::Plain(Entry::Vote(vote)), rest))
+        }
+        4 => {
+            let Some(((position, command), rest)) = pair_at(bytes) else {
+                return Err(Unread::NoEntry);
+            };
+            Ok((Stored::Plain(Entry::Decided(position, command)), rest))
+        }
+        _ => Err(Unread::NoEntry),
+    }
+}
+
+// The entry of which all of the bytes are the body.
+fn body_of(alloc: Global, bytes: &[u8]) -> Result<Stored, Unread>
+    ensures { Gives (λ e. e) result (whole body_at bytes.now) }
+{
+    let Some((kind, rest)) = read_u8(bytes) else {
+        return Err(Unread::NoEntry);
+    };
+    let (entry, rest) = fields_at(alloc, kind, rest)?;
+    if !rest.is_empty() {
+        return Err(Unread::NoEntry);
+    }
+    Ok(entry)
+}
+
+#[tactic(auto, unfolding(crate::specs::Parsing::entry_at, crate::specs::Parsing::size_at))]
+fn entry_at(alloc: Global, bytes: &[u8]) -> Result<(Stored, &[u8]), Unread>
+    ensures { Gives (λ x. (x.0, x.1.now)) result (entry_at bytes.now) }
+{
+    let Some((length, rest)) = read_u32(bytes) else {
+        return Err(Unread::NoEntry);
+    };
+    let length = length as usize;
+    if length > 49148 || rest.len() < length {
+        return Err(Unread::NoEntry);
+    }
+    let (text, rest) = rest.split_at(length);
+    Ok((body_of(alloc, text)?, rest))
+}
+
+// The entry that begins the bytes, and the bytes behind it.
+#[tactic(auto, using(crate::proofs::EntryLaws::is_found, crate::proofs::EntryLaws::is_none))]
+pub fn first_entry(alloc: Global, bytes: &[u8]) -> Result<(Stored, &[u8]), Unread>
+    ensures found { IfOk result (λ x. IsStored x.0 × (bytes.now ≡ spelling x.0 ++ x.1.now)) }
+    ensures none { result ≡ Err Unread.NoEntry → NoneBegins bytes.now }
+{
+    entry_at(alloc, bytes)
+}

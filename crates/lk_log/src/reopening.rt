@@ -1,0 +1,236 @@
+// Opening a store, and looking at one.
+ghost use Rattle.std.specs.Prelude.{◌≡◌, ◌≤◌, ◌<◌, ◌+◌, ◌-◌, ◌^◌, ◌↔◌, List, ℕ, [], min, true, false, length, IsTrue, IfOk, IfErr, IfSome, OnOk, IsErrOf, Ok};
+ghost use Rattle.lk_disk.specs.Disk.{other};
+ghost use Rattle.lk_disk.specs.declared.device.Side.{Side};
+ghost use Rattle.lk_disk.specs.declared.device.Side.TheVariants.{A, B};
+ghost use Rattle.lk_log.specs.Causes.{IsCaused, IsCounted};
+ghost use Rattle.lk_log.specs.Headers.{IsHeader};
+ghost use Rattle.lk_log.specs.Images.{IsEmpty, IsDamaged, seen, generation};
+ghost use Rattle.lk_log.specs.Standings.{HasHeader};
+ghost use Rattle.lk_log.specs.StoreValue.{disks};
+ghost use Rattle.lk_log.specs.Stores.{first_base, FoundLive, IsWrittenOver, OpensOn, Opens, IsWrong, Shows, NarrowsOrBegins};
+ghost use Rattle.lk_log.specs.declared.stored.Stored.{Stored};
+
+use crate::base::Base;
+use crate::fault::{ReopenFault, StoreFault};
+use crate::file::{File, generation_of};
+use crate::gathering::gather;
+use crate::header::Header;
+use crate::opening::{find, settle};
+use crate::standing::Standing;
+use crate::store::Store;
+use crate::stored::Stored;
+use crate::writing::spelled_base;
+use lk_disk::{LogDisk, Side};
+use lk_types::{Ballot, Executed};
+use std::alloc::{AllocError, Global};
+
+// What an opening comes to.
+#[derive(Debug, Drop)]
+struct Opened {
+    live: Side,
+    generation: u64,
+    standing: Standing,
+}
+
+// Writes these bytes in the place of a file's, and syncs them.
+fn write_over<D: LogDisk>(device: &mut D, side: Side, bytes: &[u8]) -> Result<(), StoreFault>
+    ensures ok { D.is_honest → OnOk result (D.disk device.new side ≡ record { synced = bytes.now; unsynced = [] }) }
+    ensures any { D.is_honest → IsWrittenOver (D.disk device.old side) bytes.now (D.disk device.new side) }
+    ensures beside { D.is_honest → D.disk device.new (other side) ≡ D.disk device.old (other side) }
+    ensures cause { IsCaused (D.failures device.old) (D.failures device.new) result }
+{
+    device.cut(side, 0)?;
+    device.append(side, bytes)?;
+    device.sync(side)?;
+    Ok(())
+}
+
+// The Base of a store that is begun.
+fn first_base(alloc: Global, header: &Header, zero: &[u8]) -> Result<Base, AllocError>
+    requires some { 1 ≤ length zero.now }
+    requires room { length zero.now ≤ 49054 }
+    ensures value { IfOk result (λ b. b ≡ first_base header.now zero.now) }
+    ensures header { IsHeader header.now }
+{
+    header.facts();
+    Ok(Base {
+        generation: 1,
+        header: header.copy(),
+        standing: Standing {
+            promised: Ballot::ZERO,
+            position: Executed::default(),
+            snapshot: zero.to_vec(alloc)?,
+            votes: Vec::new(alloc),
+            pairs: Vec::new(alloc),
+        },
+    })
+}
+
+// Begins a store in A.
+fn begin<D: LogDisk>(
+    alloc: Global,
+    device: &mut D,
+    header: &Header,
+    zero: &[u8],
+) -> Result<Opened, StoreFault>
+    requires some { 1 ≤ length zero.now }
+    requires room { length zero.now ≤ 49054 }
+    ensures opens { D.is_honest → IsEmpty (seen (D.disk device.old))
+        → IfOk result (λ o. OpensOn (seen (D.disk device.old)) header.now zero.now (D.disk device.new o.live) (D.disk device.new (other o.live)) o.generation o.standing) }
+    ensures stays { D.is_honest → IsEmpty (seen (D.disk device.old)) → NarrowsOrBegins (D.disk device.old) (D.disk device.new) header.now zero.now }
+    ensures cause { IsCaused (D.failures device.old) (D.failures device.new) result }
+{
+    let base = first_base(alloc, header, zero)?;
+    let bytes = spelled_base(alloc, &base)?;
+    write_over(device, Side::A, &bytes)?;
+    let Base {
+        generation,
+        header: _,
+        standing,
+    } = base;
+    Ok(Opened {
+        live: Side::A,
+        generation,
+        standing,
+    })
+}
+
+// Whether the Base in front is of this node and this genesis.
+fn has_header(entries: &[Stored], header: &Header) -> bool
+    ensures { IsTrue result ↔ HasHeader entries.now header.now }
+{
+    match entries {
+        [Stored::Base(base), ..] => base.header.is_same(header),
+        _ => false,
+    }
+}
+
+// Opens the live file.
+fn open<D: LogDisk>(
+    alloc: Global,
+    device: &mut D,
+    header: &Header,
+    live: Side,
+    file: File,
+) -> Result<Opened, StoreFault>
+    ensures opens { D.is_honest → FoundLive (D.disk device.old) live file.entries.items file.end file.size → (zero : List ℕ)
+        → IfOk result (λ o. OpensOn (seen (D.disk device.old)) header.now zero (D.disk device.new o.live) (D.disk device.new (other o.live)) o.generation o.standing) }
+    ensures stays { D.is_honest → FoundLive (D.disk device.old) live file.entries.items file.end file.size → (zero : List ℕ)
+        → NarrowsOrBegins (D.disk device.old) (D.disk device.new) header.now zero }
+    ensures wrong { IsErrOf result StoreFault.WrongStore → HasHeader file.entries.items header.now → ⊥ }
+    ensures damaged { IsErrOf result StoreFault.Damaged → ⊥ }
+    ensures failed { IsErrOf result StoreFault.Failed → ⊥ }
+    ensures cause { IsCounted (D.failures device.old) (D.failures device.new) result }
+{
+    let File {
+        entries,
+        end,
+        size,
+        ..
+    } = file;
+    if !has_header(&entries, header) {
+        return Err(StoreFault::WrongStore);
+    }
+    settle(device, live, end, size)?;
+    let generation = generation_of(&entries);
+    let standing = gather(alloc, entries)?;
+    Ok(Opened {
+        live,
+        generation,
+        standing,
+    })
+}
+
+// Opens or begins a store.
+fn recover<D: LogDisk>(
+    alloc: Global,
+    device: &mut D,
+    header: &Header,
+    zero: &[u8],
+) -> Result<Opened, StoreFault>
+    requires some { 1 ≤ length zero.now }
+    requires room { length zero.now ≤ 49054 }
+    ensures opens { D.is_honest
+        → IfOk result (λ o. OpensOn (seen (D.disk device.old)) header.now zero.now (D.disk device.new o.live) (D.disk device.new (other o.live)) o.generation o.standing) }
+    ensures stays { D.is_honest → NarrowsOrBegins (D.disk device.old) (D.disk device.new) header.now zero.now }
+    ensures damaged { D.is_honest → IsErrOf result StoreFault.Damaged → IsDamaged (seen (D.disk device.old)) }
+    ensures wrong { D.is_honest → IsErrOf result StoreFault.WrongStore → IsWrong (seen (D.disk device.old)) header.now }
+    ensures failed { IsErrOf result StoreFault.Failed → ⊥ }
+    ensures cause { IsCounted (D.failures device.old) (D.failures device.new) result }
+{
+    match find(alloc, device)? {
+        Some((live, file)) => open(alloc, device, header, live, file),
+        None => begin(alloc, device, header, zero),
+    }
+}
+
+/// Opens a store that a stop may have left, or begins one where nothing stands: then `zero` is the packed state at
+/// position 0, of 1 to 49,054 bytes.
+///
+/// What is torn is cut off the live file, and that file is synced. It refuses with `Device` (7), `NoMemory` (8),
+/// `Damaged` (9) and `WrongStore` (10), and hands the device back. It may be stopped too, and opened again.
+pub fn reopen<D: LogDisk + Drop>(
+    alloc: Global,
+    device: D,
+    header: &Header,
+    zero: &[u8],
+) -> Result<(Store<D>, Standing), ReopenFault<D>>
+    requires some { 1 ≤ length zero.now }
+    requires room { length zero.now ≤ 49054 }
+    // The standing is that of the whole entries of the live file, or of a store that is begun, and all of it is synced.
+    ensures ok { D.is_honest → IfOk result (λ r. Opens (seen (D.disk device)) header.now zero.now r.0 r.1) }
+    ensures open { IfOk result (λ r. r.0.failed ≡ false) }
+    // After any exit each image comes to what an image before it came to, or to a store that is begun.
+    ensures stays { D.is_honest → IfOk result (λ r. NarrowsOrBegins (D.disk device) (disks r.0) header.now zero.now) }
+    ensures stays_err { D.is_honest → IfErr result (λ e. NarrowsOrBegins (D.disk device) (D.disk e.device) header.now zero.now) }
+    ensures damaged { D.is_honest → IfErr result (λ e. e.fault ≡ StoreFault.Damaged → IsDamaged (seen (D.disk device))) }
+    ensures wrong { D.is_honest → IfErr result (λ e. e.fault ≡ StoreFault.WrongStore → IsWrong (seen (D.disk device)) header.now) }
+    ensures failed { IfErr result (λ e. e.fault ≡ StoreFault.Failed → ⊥) }
+    ensures later { IfOk result (λ r. D.failures device ≤ r.0.failures) }
+    ensures later_err { IfErr result (λ e. D.failures device ≤ D.failures e.device) }
+    ensures cause { IfErr result (λ e. e.fault ≡ StoreFault.Device → min (D.failures device + 1) (2 ^ 64 - 1) ≤ D.failures e.device) }
+{
+    let mut device = device;
+    match recover(alloc, &mut device, header, zero) {
+        Ok(opened) => {
+            let Opened {
+                live,
+                generation,
+                standing,
+            } = opened;
+            let store = Store {
+                alloc,
+                device,
+                live,
+                generation,
+                failed: false,
+            };
+            Ok((store, standing))
+        }
+        Err(fault) => Err(ReopenFault { fault, device }),
+    }
+}
+
+/// The generation and the standing of the live file, or `None` where no Base stands. It changes nothing.
+///
+/// It refuses with `Device` (7), `NoMemory` (8) and `Damaged` (9).
+pub fn look<D: LogDisk>(
+    alloc: Global,
+    device: &mut D,
+) -> Result<Option<(u64, Standing)>, StoreFault>
+    ensures unchanged { D.is_honest → (s : Side) → D.disk device.new s ≡ D.disk device.old s }
+    ensures some { D.is_honest → IfOk result (λ r. IfSome r (λ x. Shows (seen (D.disk device.old)) x.0 x.1)) }
+    ensures none { D.is_honest → result ≡ Ok None → IsEmpty (seen (D.disk device.old)) }
+    ensures damaged { D.is_honest → IsErrOf result StoreFault.Damaged → IsDamaged (seen (D.disk device.old)) }
+    ensures wrong { IsErrOf result StoreFault.WrongStore → ⊥ }
+    ensures failed { IsErrOf result StoreFault.Failed → ⊥ }
+    ensures cause { IsCounted (D.failures device.old) (D.failures device.new) result }
+{
+    let Some((_, file)) = find(alloc, device)? else {
+        return Ok(None);
+    };
+    let generation = generation_of(&file.entries);
+    let File { entries, .. } = file;
+    Ok(Some((generation, gather(alloc, entries)?)))
+}

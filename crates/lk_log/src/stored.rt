@@ -1,0 +1,9 @@
+use crate::base::Base;
+use lk_types::Entry;
+
+// An entry of a file.
+#[derive(Debug, Drop)]
+pub enum Stored {
+    Base(Base),
+    Plain(Entry),
+}

@@ -1,0 +1,11 @@
+use lk_disk::Side;
+
+// What both files come to.
+#[derive(Clone, Copy, Debug, PartialEq, Eq)]
+pub enum Verdict {
+    Damaged,
+    // Neither has a Base.
+    Empty,
+    // One of them is live.
+    Live(Side),
+}
