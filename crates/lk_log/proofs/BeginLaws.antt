@@ -29,9 +29,6 @@ use Rattle.lk_log.proofs.StandingLaws.{base_stands}
 
 -- ---- a file that is written over
 
-pub over_same : (old new : Disk) (bytes : List ℕ) → new ≡ old → IsWrittenOver old bytes new
-over_same old new bytes same c left = inl (left_front old c (subst (λ (d : Disk). MayLeave d c) same left))
-
 pub over_short : (old new : Disk) (bytes : List ℕ) → CutShort 0 old new → IsWrittenOver old bytes new
 over_short old new bytes short c left = inl (length c, short_front old new 0 short c left)
 

@@ -110,8 +110,8 @@ live_unique image es fs a b =
     let side : a.side ≡ b.side = ap side_of (one_verdict image (Live a.side) (Live b.side) a.entries b.entries a.means b.means) in
     sym a.are ∙ same_entries image (Live a.side) (Live b.side) a.entries b.entries a.means b.means a.side ∙ ap b.entries side ∙ b.are
 
-pub means_of : (image : Image) (a b : List Stored) (d f : Bool) (v : Verdict) → IsFile (image A) a d → IsFile (image B) b f → verdict a b d f ≡ v → Means image v (pick A a b)
-means_of image a b d f v at_a at_b is = record { is_damaged = pick A d f; file = each_side (λ (s : Side). IsFile (image s) (pick A a b s) (pick A d f s)) A at_a at_b; is = is }
+pub means_of : (image : Image) (a b : List Stored) (d f : Bool) (v : Verdict) → IsFile (image A) a d → IsFile (image B) b f → v ≡ verdict a b d f → Means image v (pick A a b)
+means_of image a b d f v at_a at_b is = record { is_damaged = pick A d f; file = each_side (λ (s : Side). IsFile (image s) (pick A a b s) (pick A d f s)) A at_a at_b; is = sym is }
 
 -- ---- what a verdict tells
 
@@ -196,17 +196,14 @@ nothing_there image es m =
       b = subst (λ (d : Bool). IsFile (image B) [] d) c.1.1 (subst (λ (l : List Stored). IsFile (image B) l (m.is_damaged B)) none_b (m.file B));
     }
 
-pub is_empty : (image : Image) → Nothing image → Means image Empty (pick A [] [])
-is_empty image n = means_of image [] [] false false Empty n.a n.b refl
-
 pub means_same : (before image : Image) (v : Verdict) (es : Side → List Stored) → ((s : Side) → before s ≡ image s) → Means before v es → Means image v es
 means_same before image v es same m = record { is_damaged = m.is_damaged; file = λ s. subst (λ (l : List ℕ). IsFile l (es s) (m.is_damaged s)) (same s) (m.file s); is = m.is }
 
 -- ---- a file that was found live
 
-pub found_a : (disks : Side → Disk) (a b : List Stored) (d f : Bool) (end size : ℕ) → IsFile (contents (disks A)) a d → IsFile (contents (disks B)) b f → verdict a b d f ≡ Live A → end ≡ length (spelling_of_all a) → size ≡ length (contents (disks A)) → FoundLive disks A a end size
+pub found_a : (disks : Side → Disk) (a b : List Stored) (d f : Bool) (end size : ℕ) → IsFile (contents (disks A)) a d → IsFile (contents (disks B)) b f → Live A ≡ verdict a b d f → end ≡ length (spelling_of_all a) → size ≡ length (contents (disks A)) → FoundLive disks A a end size
 found_a disks a b d f end size at_a at_b is ends sized =
-    let w = wins_a a b d f is in
+    let w = wins_a a b d f (sym is) in
     record {
       file = subst (λ (x : Bool). IsFile (contents (disks A)) a x) w.sound at_a;
       placed = w.placed;
@@ -215,9 +212,9 @@ found_a disks a b d f end size at_a at_b is ends sized =
       sized = sized;
     }
 
-pub found_b : (disks : Side → Disk) (a b : List Stored) (d f : Bool) (end size : ℕ) → IsFile (contents (disks A)) a d → IsFile (contents (disks B)) b f → verdict a b d f ≡ Live B → end ≡ length (spelling_of_all b) → size ≡ length (contents (disks B)) → FoundLive disks B b end size
+pub found_b : (disks : Side → Disk) (a b : List Stored) (d f : Bool) (end size : ℕ) → IsFile (contents (disks A)) a d → IsFile (contents (disks B)) b f → Live B ≡ verdict a b d f → end ≡ length (spelling_of_all b) → size ≡ length (contents (disks B)) → FoundLive disks B b end size
 found_b disks a b d f end size at_a at_b is ends sized =
-    let w = wins_b a b d f is in
+    let w = wins_b a b d f (sym is) in
     record {
       file = subst (λ (x : Bool). IsFile (contents (disks B)) b x) w.sound at_b;
       placed = w.placed;

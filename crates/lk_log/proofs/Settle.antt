@@ -103,11 +103,3 @@ settled mid new o o' es fit placed is sync same older =
 
 pub cut_contents : (old new : Disk) (n : ℕ) (es : List Stored) → IsWhole (contents old) es → n ≡ length (spelling_of_all es) → new ≡ cut_to n old → contents new ≡ spelling_of_all es
 cut_contents old new n es w end is = ap contents is ∙ append-nil (take n (contents old)) ∙ cut_whole old n es w end
-
--- where nothing changed before
-pub narrows_after : (old mid new : Side → Disk) → ((s : Side) → mid s ≡ old s) → Narrows mid new → Narrows old new
-narrows_after old mid new same then_on image left =
-    let from = then_on image left in (from.0, λ s. subst (λ (d : Disk). MayLeave d (from.0 s)) (same s) (from.1 s), from.2)
-
-pub narrows_same : (old new : Side → Disk) → ((s : Side) → new s ≡ old s) → Narrows old new
-narrows_same old new same = narrows old new (λ s. file_same (old s) (new s) (same s))

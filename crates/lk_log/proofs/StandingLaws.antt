@@ -144,9 +144,6 @@ base_stands b fits = record {
 pub record StandsSoFar (es : List Stored) (s : StandingValue) : Type 0 where
   pub stands : AllByRecursion IsStored es → is_misplaced es ≡ false → 0 < generation es → StandsFor es s
 
-pub so_far_none : (s : StandingValue) → StandsSoFar [] s
-so_far_none s = record { stands = λ fit placed some. absurd (omega (arith, some)) }
-
 all-front : (es : List Stored) (e : Stored) → AllByRecursion IsStored (es ++ e ∷ []) → AllByRecursion IsStored es × IsStored e
 all-front [] e a = (tt, a.0)
 all-front (x ∷ es) e a = let more = all-front es e a.1 in ((a.0, more.0), more.1)

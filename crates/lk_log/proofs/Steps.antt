@@ -1,9 +1,9 @@
 -- What the device's calls make of an open store.
-use Rattle.std.proofs.Common.{◌≡◌, inl, inr, ℕ, zero, suc, min, ◌+◌, ◌<◌, ◌≤◌, Bool, false, List, [], ◌++◌, length, take, refl, sym, ◌∙◌, ap, subst, arith, append_assoc, length-append}
+use Rattle.std.proofs.Common.{◌≡◌, inl, inr, ℕ, zero, suc, min, ◌+◌, ◌<◌, Bool, false, List, [], ◌++◌, length, take, refl, sym, ◌∙◌, ap, subst, arith, append_assoc, length-append}
 use Rattle.std.specs.List.{AllByRecursion}
 use Rattle.std.proofs.Math.Seq.{take-append-add}
 use Rattle.std.proofs.lemmas.Bool.{cases_lt}
-use Rattle.std.proofs.lemmas.List.{append-nil, take-take, take_all, take_min, take-append-le, length-take, nil_from_length}
+use Rattle.std.proofs.lemmas.List.{append-nil, take-take, take_all, take_min, take-append-le, length-take}
 use Rattle.lk_types.specs.declared.entry.Entry.{Entry}
 use Rattle.lk_disk.specs.Disk.{Disk, other, contents, appended, flushed, AppendsSome, MayLeave}
 use Rattle.lk_disk.specs.declared.device.Side.{Side}
@@ -141,10 +141,6 @@ holds_sync d o d' o' ks ls h is same =
 pub grows_holds : (d o : Disk) (ks ls : List Stored) → HoldsOn d o ks ls → Grows d o ks ls
 grows_holds d o ks ls h = record { front = λ c left. (left.0, left.1 ∙ (λ i. h.synced i ++ take left.0 (h.unsynced i))); fit = h.fit; placed = h.placed; older = h.older }
 
--- nothing was written
-pub grows_same : (d o : Disk) (ks ls : List Stored) (given : List Entry) → HoldsOn d o ks ls → AllByRecursion IsStored (plain given) → Grows d o ks (ls ++ plain given)
-grows_same d o ks ls given h fits = grows_torn d o d o ks ls given h fits 0 (λ i. record { synced = d.synced; unsynced = sym (append-nil d.unsynced) i }) refl
-
 -- all of it is synced
 pub grows_synced : (d o d' o' : Disk) (ks ls : List Stored) → HoldsOn d o ks ls → d' ≡ flushed d → o' ≡ o → Grows d' o' ks ls
 grows_synced d o d' o' ks ls h is same = record {
@@ -156,13 +152,6 @@ grows_synced d o d' o' ks ls h is same = record {
   placed = h.placed;
   older = older_same o o' (generation ks) same h.older;
 }
-
--- nothing is added by no bytes
-pub appended_none : (d : Disk) (bytes : List ℕ) → length bytes ≤ 0 → d ≡ appended d bytes
-appended_none d bytes short =
-    let nothing : bytes ≡ [] = nil_from_length bytes (omega arith) in
-    let same : d.unsynced ≡ d.unsynced ++ bytes = sym (ap (λ (l : List ℕ). d.unsynced ++ l) nothing ∙ append-nil d.unsynced) in
-    λ i. record { synced = d.synced; unsynced = same i }
 
 -- the same, where the piece that was given is these bytes
 module _ (d o d' o' : Disk) (ks ls : List Stored) (given : List Entry) (bytes : List ℕ) (piece : bytes ≡ spelling_of_all (plain given)) where

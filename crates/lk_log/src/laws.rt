@@ -1,7 +1,7 @@
 //! Laws of the files' grammar: each is the contract of a function that does nothing.
-ghost use Rattle.std.specs.Prelude.{◌≡◌, ◌++◌, List, ℕ};
+ghost use Rattle.std.specs.Prelude.{◌≡◌, ◌<◌, ◌++◌, List, ℕ, length};
 ghost use Rattle.lk_disk.specs.declared.device.Side.{Side};
-ghost use Rattle.lk_log.specs.Entries.{IsStored, spelling};
+ghost use Rattle.lk_log.specs.Entries.{IsStored, spelling, Spells};
 ghost use Rattle.lk_log.specs.Files.{IsWhole};
 ghost use Rattle.lk_log.specs.Images.{Image, Means};
 ghost use Rattle.lk_log.specs.declared.stored.Stored.{Stored};
@@ -21,7 +21,9 @@ pub fn one_meaning()
     ensures entries { (image : Image) (v w : Verdict) (es fs : Side → List Stored) → Means image v es → Means image w fs → (s : Side) → es s ≡ fs s }
 {}
 
-/// No spelling begins another one.
+/// Bytes spell one entry at most, no spelling begins another one, and none is empty.
 pub fn one_spelling()
-    ensures { (e f : Stored) (x y : List ℕ) → IsStored e → IsStored f → spelling e ++ x ≡ spelling f ++ y → (e ≡ f) × (x ≡ y) }
+    ensures one { (e f : Stored) (bytes : List ℕ) → Spells e bytes → Spells f bytes → e ≡ f }
+    ensures no_front { (e f : Stored) (x y : List ℕ) → IsStored e → IsStored f → spelling e ++ x ≡ spelling f ++ y → (e ≡ f) × (x ≡ y) }
+    ensures long { (e : Stored) → 0 < length (spelling e) }
 {}
