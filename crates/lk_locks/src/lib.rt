@@ -10,6 +10,8 @@ mod slot;
 mod table;
 #[cfg(test)]
 mod tests;
+#[cfg(test)]
+mod whole_tests;
 
 pub use body::Body;
 pub use name::Name;
