@@ -12,7 +12,7 @@ abbrev pub fault_at : ℕ → LineFault → ScriptFault
 fault_at number NoMemory = ScriptMemory
 fault_at number NotUnderstood = BadLine number
 
--- the text is what some of the input's lines print, all those before the one at which the run ended
+-- the text is what a beginning of the input's lines prints (how long a beginning is not said)
 pub record IsEarlier (input text : List ℕ) : Type 0 where
   pub front : List (List ℕ)
   pub back : List (List ℕ)

@@ -19,7 +19,7 @@ abbrev pub is_new : Option Session → ℕ → Bool
 is_new None number = true
 is_new (Some s) number = nat_lt s.number number
 
--- with this session, in place of an older one of its client
+-- the sessions with s in the place of an older one of its client
 abbrev pub with_session : Session → List Session → List Session
 with_session s [] = s ∷ []
 with_session s (t ∷ sessions) =
