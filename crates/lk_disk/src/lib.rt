@@ -5,8 +5,6 @@
 mod device;
 mod memory;
 mod memory_file;
-#[cfg(test)]
-mod tests;
 mod trap;
 
 pub use device::{Device, LogDisk, Side};

@@ -14,8 +14,6 @@ mod reopening;
 mod standing;
 mod store;
 mod stored;
-#[cfg(test)]
-mod tests;
 mod unread;
 mod verdict;
 mod writing;

@@ -1,3 +1,4 @@
 pub mod Pushes
 pub mod WindowLaws
 pub mod SetLaws
+pub mod CountingLaws

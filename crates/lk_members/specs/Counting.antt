@@ -2,7 +2,7 @@
 pub use Rattle.lk_types.specs.declared.command.Request.{Request as RequestValue}
 pub use Rattle.lk_types.specs.declared.command.Command.{Command}
 pub use Rattle.lk_types.specs.declared.command.Command.TheVariants.{Noop, Request}
-use Rattle.std.specs.Prelude.{Bool, true, not, ◌||◌, ◌==◌, nat_lt, if◌then◌else◌, Option, Some, None, List, [], ◌∷◌, ◌++◌}
+use Rattle.std.specs.Prelude.{◌≡◌, ℕ, Bool, true, not, ◌||◌, ◌==◌, nat_lt, nat_le, if◌then◌else◌, Option, Some, None, List, [], ◌∷◌, ◌++◌, Contains}
 use Rattle.std.specs.List.{list_all, filter_map}
 
 -- the entry is no request of this client with the same number or a greater one
@@ -32,3 +32,23 @@ placed L = placed_behind [] L
 -- the requests that count, in order
 unfoldable pub counting : List Command → List RequestValue
 counting L = filter_map (λ p. counted p.before p.entry) (placed L)
+
+-- ---- the last request of a client
+
+-- the entry is no request of this client
+abbrev pub is_of_another : ℕ → Command → Bool
+is_of_another client Noop = true
+is_of_another client (Request r) = not (r.client == client)
+
+-- the entry is no request of this client with a greater number
+abbrev pub is_at_most : ℕ → ℕ → Command → Bool
+is_at_most client number Noop = true
+is_at_most client number (Request r) = not (r.client == client) || nat_le r.number number
+
+-- the greatest number that the client used in the list
+pub record IsLast (L : List Command) (client number : ℕ) : Type 0 where
+  pub request : RequestValue
+  pub used : Contains L (Request request)
+  pub of_client : request.client ≡ client
+  pub of_number : request.number ≡ number
+  pub greatest : list_all (is_at_most client number) L ≡ true

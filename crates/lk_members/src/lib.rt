@@ -1,11 +1,10 @@
 //! The members of the next positions, as the joins and leaves of the list of commands leave them.
 #![tactic(auto)]
 
+pub mod laws;
 mod majority;
 mod roster;
 mod set;
-#[cfg(test)]
-mod tests;
 mod window;
 
 pub use majority::is_majority;

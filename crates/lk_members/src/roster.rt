@@ -141,8 +141,7 @@ impl Roster {
             → grants (roster_of genesis L) (counted L entry) ≡ false → RosterSumsUp genesis (L ++ entry ∷ []) self.new }
     {
         let set = self.newest().copy();
-        let greatest = self.greatest();
-        let changed = self.changed();
+        let (greatest, changed) = (self.greatest(), self.changed());
         self.advance(set, greatest, changed);
     }
 
@@ -156,7 +155,7 @@ impl Roster {
         facts_of(&set);
         let _ = greatest.get();
         let _ = changed.get();
-        self.executed = Executed::of(self.executed.get() + 1).unwrap();
+        self.executed = self.next();
         self.window.advance(set);
         self.greatest = greatest;
         self.changed = changed;

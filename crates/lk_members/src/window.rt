@@ -145,8 +145,7 @@ impl Window {
         requires { 0 < length self.old }
         ensures { self.new ≡ drop 1 self.old ++ set ∷ [] }
     {
-        facts_of(&set);
         self.places.remove(0);
-        self.places.push(Place { set });
+        self.push(set);
     }
 }

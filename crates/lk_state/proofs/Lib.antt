@@ -3,3 +3,4 @@ pub mod StateLaws
 pub mod ReplyLaws
 pub mod PackedLaws
 pub mod LengthLaws
+pub mod LastLaws

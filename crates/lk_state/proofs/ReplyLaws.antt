@@ -55,17 +55,17 @@ asks_more m genesis L c so_far r older =
 unanswered : (m : Meaning) (genesis : Genesis) (L : List Command) → AsksNothing m genesis L
 unanswered m genesis = by_pushes (AsksNothing m genesis) (nothing_asked m genesis) (asks_more m genesis)
 
-abbrev session_now : Meaning → Genesis → List Command → RequestValue → Session
+abbrev pub session_now : Meaning → Genesis → List Command → RequestValue → Session
 session_now m genesis L r = record { client = r.client; number = r.number; answer = op_answer m (roster_of genesis L) (text_of m L) r.client r.op }
 
-reply_here : (m : Meaning) (genesis : Genesis) (L : List Command) (r : RequestValue) → list_all (is_older r) L ≡ true
+pub reply_here : (m : Meaning) (genesis : Genesis) (L : List Command) (r : RequestValue) → list_all (is_older r) L ≡ true
     → reply m genesis (L ++ Request r ∷ []) r.client r.number ≡ option_map (λ (s : Session). s.answer) (find (is_asked r) (session_now m genesis L r ∷ []))
 reply_here m genesis L r all =
     let entries : entered (served_here m genesis L (Request r)) ≡ session_now m genesis L r ∷ [] = rw all refl in
     ap (λ (l : List Session). option_map (λ (s : Session). s.answer) (find (is_asked r) l)) (ledger-push m genesis L (Request r))
     ∙ ap (option_map (λ (s : Session). s.answer)) (find-append (is_asked r) (ledger m genesis L) (entered (served_here m genesis L (Request r))) ∙ rw (unanswered m genesis L r all, entries) refl)
 
-mine_is_asked : (r : RequestValue) → (eqb r.client r.client && eqb r.number r.number) ≡ true
+pub mine_is_asked : (r : RequestValue) → (eqb r.client r.client && eqb r.number r.number) ≡ true
 mine_is_asked r = rw (eq-eqb r.client r.client refl, eq-eqb r.number r.number refl) refl
 
 -- what a command is answered is the reply of the list with it

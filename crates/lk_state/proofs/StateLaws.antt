@@ -44,7 +44,7 @@ ledger-push m genesis L c =
     ∙ ap (λ (s : List Session). ledger m genesis L ++ s) (entered_is m genesis p (served m genesis p) refl)
 
 -- the machine's text behind a request that counts, or none
-abbrev text_behind : Meaning → List ℕ → Option RequestValue → List ℕ
+abbrev pub text_behind : Meaning → List ℕ → Option RequestValue → List ℕ
 text_behind m text None = text
 text_behind m text (Some q) = next_text m text q.client q.op
 
@@ -52,7 +52,7 @@ text_added : (m : Meaning) (text : List ℕ) (o : Option RequestValue) → fold 
 text_added m text None = refl
 text_added m text (Some q) = refl
 
-text_of-push : (m : Meaning) (L : List Command) (c : Command) → text_of m (L ++ c ∷ []) ≡ text_behind m (text_of m L) (counted L c)
+pub text_of-push : (m : Meaning) (L : List Command) (c : Command) → text_of m (L ++ c ∷ []) ≡ text_behind m (text_of m L) (counted L c)
 unfolding text_of
 text_of-push m L c =
     ap (fold (λ (text : List ℕ) (q : RequestValue). next_text m text q.client q.op) m.first) (counting-push L c)
@@ -229,7 +229,7 @@ ran-whole_after m genesis L c =
 -- ---- each client's last request
 
 -- the session, or the one of the client that came
-abbrev session_or : ℕ → Option Session → Option Session → Option Session
+abbrev pub session_or : ℕ → Option Session → Option Session → Option Session
 session_or client last None = last
 session_or client last (Some s) = cond (eqb s.client client) (Some s) last
 
@@ -237,12 +237,17 @@ last_entered : (last : Option Session) (client : ℕ) (o : Option Session) → f
 last_entered last client None = refl
 last_entered last client (Some s) = refl
 
-last_more : (m : Meaning) (genesis : Genesis) (L : List Command) (c : Command) → ((client : ℕ) → last_served m genesis L client ≡ session_of client (sessions_of m genesis L))
-    → (client : ℕ) → last_served m genesis (L ++ c ∷ []) client ≡ session_of client (sessions_of m genesis (L ++ c ∷ []))
-last_more m genesis L c so_far client =
+-- the client's last request behind one entry more
+pub last_served-push : (m : Meaning) (genesis : Genesis) (L : List Command) (c : Command) (client : ℕ) → last_served m genesis (L ++ c ∷ []) client ≡ session_or client (last_served m genesis L client) (served_here m genesis L c)
+last_served-push m genesis L c client =
     ap (fold (λ (last : Option Session) (s : Session). cond (eqb s.client client) (Some s) last) None) (ledger-push m genesis L c)
     ∙ fold-append (λ (last : Option Session) (s : Session). cond (eqb s.client client) (Some s) last) None (ledger m genesis L) (entered (served_here m genesis L c))
     ∙ last_entered (last_served m genesis L client) client (served_here m genesis L c)
+
+last_more : (m : Meaning) (genesis : Genesis) (L : List Command) (c : Command) → ((client : ℕ) → last_served m genesis L client ≡ session_of client (sessions_of m genesis L))
+    → (client : ℕ) → last_served m genesis (L ++ c ∷ []) client ≡ session_of client (sessions_of m genesis (L ++ c ∷ []))
+last_more m genesis L c so_far client =
+    last_served-push m genesis L c client
     ∙ ap (λ (last : Option Session). session_or client last (served_here m genesis L c)) (so_far client)
     ∙ sym (kept (served_here m genesis L c))
     ∙ ap (session_of client) (sym (sessions_of-push m genesis L c))
@@ -251,7 +256,7 @@ last_more m genesis L c so_far client =
     kept None = refl
     kept (Some s) = session_of-with_session client s (sessions_of m genesis L)
 
-nothing_last : (m : Meaning) (genesis : Genesis) (client : ℕ) → last_served m genesis [] client ≡ None
+pub nothing_last : (m : Meaning) (genesis : Genesis) (client : ℕ) → last_served m genesis [] client ≡ None
 unfolding ledger placed
 nothing_last m genesis client = refl
 

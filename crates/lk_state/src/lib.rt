@@ -1,6 +1,7 @@
 //! The state that a node reaches by executing the list of commands: roster, sessions and a machine.
 #![tactic(auto)]
 
+pub mod laws;
 mod machine;
 mod packing;
 mod session;

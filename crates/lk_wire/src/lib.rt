@@ -23,6 +23,3 @@ pub use promise::Promise;
 pub use reading::read;
 pub use want::Want;
 pub use writing::write;
-
-#[cfg(test)]
-mod tests;

@@ -1,0 +1,39 @@
+//! Laws of the definitions alone.
+ghost use Rattle.std.specs.Prelude.{◌≡◌, if◌then◌else◌, true, Some, None, List, ℕ, Contains};
+ghost use Rattle.std.specs.List.{list_all};
+ghost use Rattle.lk_types.specs.declared.answer.Answer.{Answer};
+ghost use Rattle.lk_members.specs.Counting.{Command, RequestValue, Request, Placed, placed, counted, is_of_another, IsLast};
+ghost use Rattle.lk_members.specs.Rosters.{Genesis};
+ghost use Rattle.lk_state.specs.Meanings.{Meaning};
+ghost use Rattle.lk_state.specs.Sessions.{Session, is_new};
+ghost use Rattle.lk_state.specs.States.{served, reply, last_served};
+
+/// A request counts behind a list exactly where its number is above that of its client's last one that counts.
+pub fn counts_above_last()
+    ensures { (m : Meaning) (genesis : Genesis) (L : List Command) (r : RequestValue) → counted L (Request r) ≡ (if is_new (last_served m genesis L r.client) r.number then Some r else None) }
+{}
+
+/// A client's last request that counts has the greatest number that it used.
+pub fn last_is_greatest()
+    ensures { (m : Meaning) (genesis : Genesis) (L : List Command) (client : ℕ) (s : Session) → last_served m genesis L client ≡ Some s → IsLast L client s.number }
+{}
+
+/// A client of which no request counts has none in the list.
+pub fn none_is_unused()
+    ensures { (m : Meaning) (genesis : Genesis) (L : List Command) (client : ℕ) → last_served m genesis L client ≡ None → list_all (is_of_another client) L ≡ true }
+{}
+
+/// What a client's last request that counts was answered is its reply.
+pub fn last_is_replied()
+    ensures { (m : Meaning) (genesis : Genesis) (L : List Command) (client : ℕ) (s : Session) → last_served m genesis L client ≡ Some s → reply m genesis L client s.number ≡ Some s.answer }
+{}
+
+/// A reply is what an entry that counts gets at its place.
+pub fn replies_stand()
+    ensures { (m : Meaning) (genesis : Genesis) (L : List Command) (client number : ℕ) (a : Answer) → reply m genesis L client number ≡ Some a → (p : Placed) × Contains (placed L) p × (served m genesis p ≡ Some (record { client = client; number = number; answer = a })) }
+{}
+
+/// What an entry that counts is answered at its place is the reply of its client's number.
+pub fn one_reply()
+    ensures { (m : Meaning) (genesis : Genesis) (L : List Command) (p : Placed) (s : Session) → Contains (placed L) p → served m genesis p ≡ Some s → reply m genesis L s.client s.number ≡ Some s.answer }
+{}
