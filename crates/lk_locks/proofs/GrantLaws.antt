@@ -11,7 +11,7 @@ use Rattle.lk_locks.specs.declared.body.Body.{Body}
 use Rattle.lk_locks.specs.declared.body.Body.TheVariants.{Acquire, Release, Ask, Check}
 use Rattle.lk_locks.specs.declared.slot.Slot.{Slot}
 use Rattle.lk_locks.specs.Bodies.{body_of}
-use Rattle.lk_locks.specs.Plain.{Table, row, name_of, changed, answer_to, table_after, next, granting_again, granted_to, acquired, is_held_by, released, asked, asked_again, checked}
+use Rattle.lk_locks.specs.Plain.{Table, row, name_of, changed, answer_to, next_by, next, granting_again, granted_to, acquired, is_held_by, released, asked, asked_again, checked}
 use Rattle.lk_locks.specs.PackedLaws.{decided}
 use Rattle.lk_locks.specs.NextLaws.{tested}
 use Rattle.lk_locks.specs.Grants.{Call, is_for, fences, grants_from, grants, numbers_from}
@@ -100,7 +100,7 @@ get-changed name None m q = elim (same_or_not q name) [
 ]
 get-changed name (Some s) m q = map.get-insert nat_list_cmp_total m name s q
 
-one_goes : (client : ℕ) (body : Option Body) (m : Table) (q : List ℕ) → Goes (last_fence (map.get m q)) (last_fence (map.get (table_after client body m) q)) (cond (is_for q body) (fences (answer_to client body m)) [])
+one_goes : (client : ℕ) (body : Option Body) (m : Table) (q : List ℕ) → Goes (last_fence (map.get m q)) (last_fence (map.get (next_by client body m) q)) (cond (is_for q body) (fences (answer_to client body m)) [])
 one_goes client None m q = stays _ _ refl
 one_goes client (Some body) m q =
     let now = get-changed (name_of body) (row client body m).change m q in

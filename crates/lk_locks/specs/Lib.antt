@@ -7,3 +7,5 @@ pub mod Packed
 pub mod NameLaws
 pub mod PackedLaws
 pub mod NextLaws
+pub mod Meaning
+pub mod Lists

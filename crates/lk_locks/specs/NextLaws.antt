@@ -11,8 +11,8 @@ use Rattle.lk_wire.specs.FieldReading.{count_at}
 use Rattle.lk_wire.proofs.Codec.{bind_ok, chosen, some_is}
 use Rattle.lk_locks.specs.Names.{IsName, is_name}
 use Rattle.lk_locks.specs.Bodies.{name_at, name_and_fence_at, fields_of, body_of}
-use Rattle.lk_locks.specs.Plain.{Table, row, name_of, changed, table_after, next, granting_again, granted_to, acquired, is_held_by, released}
-use Rattle.lk_locks.specs.Packed.{Entry, IsSlot, IsEntry, IsTable, IsText, text, table_of}
+use Rattle.lk_locks.specs.Plain.{Table, row, name_of, changed, next_by, next, granting_again, granted_to, acquired, is_held_by, released}
+use Rattle.lk_locks.specs.Packed.{Entry, IsSlot, IsEntry, IsTable, IsText, text, table_in}
 use Rattle.lk_locks.specs.declared.body.Body.{Body}
 use Rattle.lk_locks.specs.declared.body.Body.TheVariants.{Acquire, Release, Ask, Check}
 use Rattle.lk_locks.specs.declared.slot.Slot.{Slot}
@@ -135,7 +135,7 @@ changed_is_table : (m : Table) (name : List ℕ) (change : Option Slot) → IsTa
 changed_is_table m name None fits named may = fits
 changed_is_table m name (Some s) fits named may = insert_is_table m name s fits (named, may.0) may.1
 
-after_is_table : (client : ℕ) (body : Option Body) (m : Table) → IsClient client → ((b : Body) → body ≡ Some b → IsName (name_of b)) → IsTable m → IsTable (table_after client body m)
+after_is_table : (client : ℕ) (body : Option Body) (m : Table) → IsClient client → ((b : Body) → body ≡ Some b → IsName (name_of b)) → IsTable m → IsTable (next_by client body m)
 after_is_table client None m is_client named fits = fits
 after_is_table client (Some b) m is_client named fits = changed_is_table m (name_of b) (row client b m).change fits (named b refl) (row_may client b m is_client (kept m (name_of b) fits))
 
@@ -143,7 +143,7 @@ pub next_is_table : (client : ℕ) (bytes : List ℕ) (m : Table) → IsClient c
 next_is_table client bytes m is_client fits = after_is_table client (body_of bytes) m is_client (λ b e. body_fits bytes b e) fits
 
 -- the text behind a body, by the text before it
-pub next_is_text : (client : ℕ) (body before : List ℕ) → IsClient client → IsText before → IsText (text (next client body (table_of before)))
+pub next_is_text : (client : ℕ) (body before : List ℕ) → IsClient client → IsText before → IsText (text (next client body (table_in before)))
 next_is_text client body before is_client t =
     let is = text_is before t in
-    (next client body (table_of before), next_is_table client body (table_of before) is_client (subst IsTable (sym is.3) is.1), refl)
+    (next client body (table_in before), next_is_table client body (table_in before) is_client (subst IsTable (sym is.3) is.1), refl)

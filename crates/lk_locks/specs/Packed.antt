@@ -92,5 +92,5 @@ table_of_entries (Some es) = map.from_sorted es
 table_of_entries None = map.empty
 
 -- the table whose text the bytes are; any, where they are none
-unfoldable pub table_of : List ℕ → Table
-table_of bytes = table_of_entries (whole entries_at bytes)
+unfoldable pub table_in : List ℕ → Table
+table_in bytes = table_of_entries (whole entries_at bytes)

@@ -22,7 +22,7 @@ use Rattle.lk_wire.proofs.Repeats.{counted_reads}
 use Rattle.lk_locks.specs.Names.{IsName}
 use Rattle.lk_locks.specs.Bodies.{lock_name, name_at}
 use Rattle.lk_locks.specs.Plain.{Table}
-use Rattle.lk_locks.specs.Packed.{Entry, holder_number, slot, entry, packed, text, IsHolder, IsSlot, IsEntry, IsTable, IsText, holder_of, holder_at, slot_at, entry_at, size_at, rise, entries_at, table_of_entries, table_of}
+use Rattle.lk_locks.specs.Packed.{Entry, holder_number, slot, entry, packed, text, IsHolder, IsSlot, IsEntry, IsTable, IsText, holder_of, holder_at, slot_at, entry_at, size_at, rise, entries_at, table_of_entries, table_in}
 use Rattle.lk_locks.specs.declared.slot.Slot.{Slot}
 use Rattle.lk_locks.specs.NameLaws.{name_length, name_reads}
 
@@ -106,8 +106,8 @@ entries_again m fits = whole_again entries_at packed AreEntries entries_reads (m
 same_again : (m : Table) → map.from_sorted (map.entries m) ≡ m
 same_again m = map.same_entries_map (map.from_sorted (map.entries m)) m (map.entries-from_sorted (slice_cmp nat_cmp) (map.entries m) (map.entries_sorted m))
 
-pub again : (m : Table) → IsTable m → table_of (text m) ≡ m
-unfolding table_of
+pub again : (m : Table) → IsTable m → table_in (text m) ≡ m
+unfolding table_in
 again m fits =
     ap table_of_entries (entries_again m fits) ∙ same_again m
 
@@ -124,8 +124,8 @@ pub unpacked : (bytes : List ℕ) (m : Table) → IsBytes bytes → whole entrie
 unpacked bytes m h e = let t = takes bytes (map.entries m) h e in (subst IsTable (same_again m) t.0, ap text (sym (same_again m)) ∙ sym t.1)
 
 -- what is read of a text
-pub text_is : (bytes : List ℕ) → IsText bytes → (m : Table) × IsTable m × (whole entries_at bytes ≡ Some (map.entries m)) × (table_of bytes ≡ m)
-text_is bytes t = (t.0, t.1, ap (whole entries_at) t.2 ∙ entries_again t.0 t.1, ap table_of t.2 ∙ again t.0 t.1)
+pub text_is : (bytes : List ℕ) → IsText bytes → (m : Table) × IsTable m × (whole entries_at bytes ≡ Some (map.entries m)) × (table_in bytes ≡ m)
+text_is bytes t = (t.0, t.1, ap (whole entries_at) t.2 ∙ entries_again t.0 t.1, ap table_in t.2 ∙ again t.0 t.1)
 
 -- ---- how long a text is
 

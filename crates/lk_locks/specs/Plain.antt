@@ -92,9 +92,9 @@ abbrev pub answer_to : ℕ → Option Body → Table → Answer
 answer_to client None m = Bad
 answer_to client (Some body) m = (row client body m).answer
 
-abbrev pub table_after : ℕ → Option Body → Table → Table
-table_after client None m = m
-table_after client (Some body) m = changed (name_of body) (row client body m).change m
+abbrev pub next_by : ℕ → Option Body → Table → Table
+next_by client None m = m
+next_by client (Some body) m = changed (name_of body) (row client body m).change m
 
 -- what a client's bytes are answered
 abbrev pub answer : ℕ → List ℕ → Table → Answer
@@ -102,7 +102,7 @@ answer client bytes m = answer_to client (body_of bytes) m
 
 -- the table after a client's bytes
 abbrev pub next : ℕ → List ℕ → Table → Table
-next client bytes m = table_after client (body_of bytes) m
+next client bytes m = next_by client (body_of bytes) m
 
 -- it acquires a name that is unknown, and there is room for it
 abbrev pub IsNewName : Option Body → Table → Type 0

@@ -1,11 +1,16 @@
 //! Laws of the definitions alone.
 ghost use Rattle.std.specs.Prelude.{◌≡◌, ◌≤◌, List, ℕ, length};
+ghost use Rattle.std.specs.List.{AllByRecursion};
+ghost use Rattle.lk_types.specs.Commands.{IsCommand};
 ghost use Rattle.lk_members.specs.Counting.{Command};
+ghost use Rattle.lk_state.specs.States.{text_of};
 ghost use Rattle.lk_locks.specs.declared.body.Body.{Body};
 ghost use Rattle.lk_locks.specs.Bodies.{Spells};
-ghost use Rattle.lk_locks.specs.Plain.{Table};
-ghost use Rattle.lk_locks.specs.Packed.{IsTable, IsText, text, table_of};
+ghost use Rattle.lk_locks.specs.Plain.{Table, answer};
+ghost use Rattle.lk_locks.specs.Packed.{IsTable, IsText, text, table_in};
 ghost use Rattle.lk_locks.specs.Grants.{Call, grants, grants_in, numbers_from};
+ghost use Rattle.lk_locks.specs.Meaning.{table_meaning};
+ghost use Rattle.lk_locks.specs.Lists.{table_of};
 
 /// Over any list of commands, the fences that a name is granted are 1, 2, 3 and so on.
 pub fn fences_count_up()
@@ -24,10 +29,20 @@ pub fn one_body()
 
 /// A table is the one of its text, so no two tables have one text.
 pub fn one_table()
-    ensures { (m : Table) → IsTable m → table_of (text m) ≡ m }
+    ensures { (m : Table) → IsTable m → table_in (text m) ≡ m }
 {}
 
 /// The text of a table has at most 22,018 bytes: 2, and for each of 512 names 43.
 pub fn short_texts()
     ensures { (bytes : List ℕ) → IsText bytes → length bytes ≤ 22018 }
+{}
+
+/// The text that the table has as a machine, once a list was run, is that of the plain table behind the list.
+pub fn texts_are_of_tables()
+    ensures { (L : List Command) → AllByRecursion IsCommand L → text_of table_meaning L ≡ text (table_of L) }
+{}
+
+/// What the machine answers behind a list is what the plain table behind the list answers.
+pub fn answers_are_plain()
+    ensures { (L : List Command) → AllByRecursion IsCommand L → (client : ℕ) (body : List ℕ) → table_meaning.answer client body (text_of table_meaning L) ≡ answer client body (table_of L) }
 {}

@@ -8,10 +8,6 @@ mod machine;
 mod name;
 mod slot;
 mod table;
-#[cfg(test)]
-mod tests;
-#[cfg(test)]
-mod whole_tests;
 
 pub use body::Body;
 pub use name::Name;

@@ -50,10 +50,10 @@ fn read_table(alloc: Global, bytes: &[u8]) -> Result<LockTable, UnpackFault>
 }
 
 impl Machine for LockTable {
-    ghost use Rattle.std.specs.FinMap as map;
     ghost use Rattle.lk_locks.specs.Bodies.{body_of};
-    ghost use Rattle.lk_locks.specs.Plain.{answer as plain_answer, next as plain_next, IsNewName};
-    ghost use Rattle.lk_locks.specs.Packed.{text as table_text, IsText as IsTableText, table_of};
+    ghost use Rattle.lk_locks.specs.Plain.{IsNewName};
+    ghost use Rattle.lk_locks.specs.Packed.{text as table_text, IsText as IsTableText};
+    ghost use Rattle.lk_locks.specs.Meaning.{table_meaning};
     ghost use Rattle.lk_locks.specs.PackedLaws.{empty_is_text, at_most_36000};
     ghost use Rattle.lk_locks.specs.NextLaws.{next_is_text};
 
@@ -61,11 +61,11 @@ impl Machine for LockTable {
 
     ghost IsText = { IsTableText };
 
-    ghost first = { table_text map.empty };
+    ghost first = { table_meaning.first };
 
-    ghost next = { λ client body before. table_text (plain_next client body (table_of before)) };
+    ghost next = { table_meaning.next };
 
-    ghost answer = { λ client body before. plain_answer client body (table_of before) };
+    ghost answer = { table_meaning.answer };
 
     /// The table that knows no name.
     fn begin(alloc: Global) -> Self {
@@ -74,8 +74,8 @@ impl Machine for LockTable {
 
     /// Answers what a client asks, and does it: `run`, seen by the packed texts.
     fn apply(&mut self, client: ClientNo, body: &[u8]) -> Result<Answer, NoMemory>
-        ensures ok { OnOk result (table_text self.new ≡ table_text (plain_next client body.now (table_of (table_text self.old)))) }
-        ensures answer { IfOk result (λ a. a ≡ plain_answer client body.now (table_of (table_text self.old))) }
+        ensures ok { OnOk result (table_text self.new ≡ table_meaning.next client body.now (table_text self.old)) }
+        ensures answer { IfOk result (λ a. a ≡ table_meaning.answer client body.now (table_text self.old)) }
         ensures err { OnErr result (table_text self.new ≡ table_text self.old) }
         ensures memory { OnErr result (IsNewName (body_of body.now) self.old) }
     {
