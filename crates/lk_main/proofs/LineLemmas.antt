@@ -1,8 +1,9 @@
 -- The first line of a text, and the rest.
 use Rattle.std.proofs.Common.{◌≡◌, ℕ, ◌⊎◌, inl, inr, Bool, true, false, cond, eqb, List, [], ◌∷◌, ◌++◌, Option, Some, None, IfSome, refl, sym, ap, ◌∙◌, ◌≢◌}
 use Rattle.std.proofs.lemmas.Bool.{eqb-true, eqb-false}
+use Rattle.std.proofs.lemmas.List.Elements.{All-nil}
 use Rattle.std.specs.Io.BufRead.{take_through, drop_through, DropsThrough}
-use Rattle.lk_main.specs.Lines.{lines_of, with_byte, first_line, TakesLine}
+use Rattle.lk_main.specs.Lines.{lines_of, with_byte, first_line, TakesLine, TakesWithinLine}
 
 -- the last elements of equal lists, and what stands before them
 pub snoc_same : (a b : List ℕ) (x y : ℕ) → a ++ x ∷ [] ≡ b ++ y ∷ [] → (x ≡ y) × (a ≡ b)
@@ -80,3 +81,8 @@ no_line (b ∷ text) line taken e =
       | inl is ↦ absurd (let bad : b ∷ [] ≡ [] = rw is at none in cc)
       | inr other ↦ absurd (let bad : b ∷ take_through 10 text ≡ [] = rw other at none in cc)
     ]
+
+-- nothing was taken
+pub took_nothing : (left : Option (List ℕ)) → IfSome left (λ text. TakesWithinLine text left)
+took_nothing None = tt
+took_nothing (Some text) = ([], All-nil (λ (x : ℕ). x ≢ 10), refl)

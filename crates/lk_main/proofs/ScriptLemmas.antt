@@ -4,7 +4,7 @@ use Rattle.std.proofs.lemmas.List.{append-nil}
 use Rattle.std.specs.Io.KnownBytes.{Appends}
 use Rattle.lk_members.specs.Counting.{Command}
 use Rattle.lk_main.specs.HexLines.{SpellsBytes}
-use Rattle.lk_main.specs.Lines.{lines_of, TakesLine}
+use Rattle.lk_main.specs.Lines.{lines_of, TakesLine, TakesWithinLine}
 use Rattle.lk_main.specs.TableMode.{Script, begun, table, Prints, Takes, Runs, IsTableLine}
 use Rattle.lk_main.specs.TableMode.Takes.{begins, prints}
 use Rattle.lk_main.specs.TableMode.Runs.{ends, skips, takes, stops}
@@ -131,14 +131,16 @@ stopped input before written left server number line filled s read refused = (
 )
 
 -- the run broke off
-pub earlier : (input : List ℕ) (before written left : Option (List ℕ)) (server : Option Server) (number : ℕ) → SoFar input before written left server number → (text : List ℕ) × IsEarlier input text × Appends before written text
-earlier input before written left server number s = (
+pub earlier : (input : List ℕ) (before written left left' : Option (List ℕ)) (server : Option Server) (number : ℕ) → (so_far : SoFar input before written left server number) → TakesWithinLine so_far.rest left'
+    → (text : List ℕ) × IsEarlier input text left' × Appends before written text
+earlier input before written left left' server number s within = (
   s.text ++ [],
   record {
     front = s.front;
-    back = lines_of s.rest;
+    rest = s.rest;
     lines = s.lines;
     printed = subst (λ (ls : List (List ℕ)). Runs begun 1 ls (s.text ++ []) None) (append-nil s.front) (s.on [] [] None (ends s.state number));
+    taken = within;
   },
   subst (Appends before written) (sym (append-nil s.text)) s.appended,
 )
@@ -162,24 +164,25 @@ pub known_ended : (o before written left : Option (List ℕ)) (server : Option S
 known_ended None before written left server number s h = tt
 known_ended (Some input) before written left server number s h = ended input before written left server number s (at_rest left s.rest (λ (t : List ℕ). t ≡ []) s.left_is h)
 
-pub known_broke : (fault : ScriptFault) → (fault ≡ Read) ⊎ (fault ≡ ScriptMemory) → (o before written left : Option (List ℕ)) (server : Option Server) (number : ℕ) → Known before written left server number o
-    → IfSome o (λ (input : List ℕ). (text : List ℕ) × IsLeft input text fault × Appends before written text)
-known_broke fault why None before written left server number s = tt
-known_broke fault (inl e) (Some input) before written left server number s =
-    subst (λ (f : ScriptFault). (text : List ℕ) × IsLeft input text f × Appends before written text) (sym e) (earlier input before written left server number s)
-known_broke fault (inr e) (Some input) before written left server number s =
-    subst (λ (f : ScriptFault). (text : List ℕ) × IsLeft input text f × Appends before written text) (sym e) (earlier input before written left server number s)
+pub known_broke : (fault : ScriptFault) → (fault ≡ Read) ⊎ (fault ≡ ScriptMemory) → (o before written left left' : Option (List ℕ)) (server : Option Server) (number : ℕ)
+    → IfSome left (λ (t : List ℕ). TakesWithinLine t left') → Known before written left server number o → IfSome o (λ (input : List ℕ). (text : List ℕ) × IsLeft input text left' fault × Appends before written text)
+known_broke fault why None before written left left' server number within s = tt
+known_broke fault (inl e) (Some input) before written left left' server number within s =
+    subst (λ (f : ScriptFault). (text : List ℕ) × IsLeft input text left' f × Appends before written text) (sym e)
+    (earlier input before written left left' server number s (at_rest left s.rest (λ (t : List ℕ). TakesWithinLine t left') s.left_is within))
+known_broke fault (inr e) (Some input) before written left left' server number within s =
+    subst (λ (f : ScriptFault). (text : List ℕ) × IsLeft input text left' f × Appends before written text) (sym e)
+    (earlier input before written left left' server number s (at_rest left s.rest (λ (t : List ℕ). TakesWithinLine t left') s.left_is within))
 
 pub known_failed : (why : LineFault) (fault : ScriptFault) (number : ℕ) → fault ≡ fault_at number why → (line items : List ℕ) → line ≡ items → items ≢ []
-    → (o before written left left' : Option (List ℕ)) (server : Option Server) → IfSome left (λ (t : List ℕ). TakesLine t items left')
+    → (o before written left left' : Option (List ℕ)) (server : Option Server) → IfSome left (λ (t : List ℕ). TakesLine t items left') → IfSome left (λ (t : List ℕ). TakesWithinLine t left')
     → (why ≡ NotUnderstood → (s : Script) → Fits s server → (out : List ℕ) (after : Script) → Takes s line out after → ⊥) → Known before written left server number o
-    → IfSome o (λ (input : List ℕ). (text : List ℕ) × IsLeft input text fault × Appends before written text)
-known_failed why fault number e line items is filled None before written left left' server read refused s = tt
-known_failed NoMemory fault number e line items is filled (Some input) before written left left' server read refused s =
-    subst (λ (f : ScriptFault). (text : List ℕ) × IsLeft input text f × Appends before written text) (sym e) (earlier input before written left server number s)
-known_failed NotUnderstood fault number e line items is filled (Some input) before written left left' server read refused s =
+    → IfSome o (λ (input : List ℕ). (text : List ℕ) × IsLeft input text left' fault × Appends before written text)
+known_failed why fault number e line items is filled None before written left left' server read within refused s = tt
+known_failed NoMemory fault number e line items is filled (Some input) before written left left' server read within refused s = known_broke fault (inr e) (Some input) before written left left' server number within s
+known_failed NotUnderstood fault number e line items is filled (Some input) before written left left' server read within refused s =
     let taken = at_rest left s.rest (λ (t : List ℕ). TakesLine t items left') s.left_is read in
-    subst (λ (f : ScriptFault). (text : List ℕ) × IsLeft input text f × Appends before written text) (sym e)
+    subst (λ (f : ScriptFault). (text : List ℕ) × IsLeft input text left' f × Appends before written text) (sym e)
     (stopped input before written left server number items filled s (taken.0, taken.2) (λ st fits out after t. refused refl st fits out after (subst (λ (l : List ℕ). Takes st l out after) (sym is) t)))
 
 pub known_skipped : (o before written left left' : Option (List ℕ)) (server : Option Server) (number : ℕ) (line : List ℕ) → line ≡ [] → IfSome left (λ (t : List ℕ). TakesLine t line left')

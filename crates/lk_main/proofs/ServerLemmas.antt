@@ -1,242 +1,183 @@
--- How the replies of a list go on with one more request.
-use Rattle.std.proofs.Common.{◌≡◌, ◌≢◌, ℕ, ◌-◌, ◌<◌, ◌≤◌, Bool, true, false, not, ◌&&◌, ◌||◌, eqb, ltb, List, [], ◌∷◌, ◌++◌, Option, Some, None, refl, sym, ap, subst, ◌∙◌, arith, get_or, set, length, replicate, inl, inr, ◌⊎◌}
-use Rattle.std.specs.Prelude.{nat_le, Contains, fold}
-use Rattle.std.specs.List.{list_all}
-use Rattle.std.specs.FinMap as map
-use Rattle.std.proofs.lemmas.Bool.{eqb-true, eqb-false}
-use Rattle.std.proofs.lemmas.List.{get_or-replicate, get_or-set_same, get_or-set_other}
-use Rattle.std.proofs.lemmas.List.Folds.{list_all-append}
-use Rattle.std.proofs.lemmas.List.Elements.{All-contains, Contains-append_left, Contains-push}
-use Rattle.std.proofs.lemmas.List.Sums.{fold-append, AllPass-from_list_all}
-use Rattle.lk_types.specs.Ranges.{IsClient}
+-- What a server replies, by the list that it stands for.
+use Rattle.std.proofs.Common.{◌≡◌, ℕ, ◌<◌, ◌≤◌, true, eqb, nat_lt, List, [], ◌∷◌, ◌++◌, Option, Some, None, refl, sym, ap, subst, ◌∙◌, arith, inl, inr}
+use Rattle.std.specs.Prelude.{Contains}
+use Rattle.std.specs.List.{AllByRecursion}
+use Rattle.std.proofs.lemmas.Bool.{cases_Bool, eqb-true, ltb-true, le-ltb}
+use Rattle.lk_types.specs.Commands.{IsCommand, IsRequest}
 use Rattle.lk_types.specs.declared.answer.Answer.{Answer}
-use Rattle.lk_members.specs.Counting.{Command, RequestValue, Noop, Request, Placed, placed, counted, counting, is_older}
-use Rattle.lk_members.proofs.Pushes.{placed-push, counting-push, added}
-use Rattle.lk_main.specs.Replies.{table_of, table_after, table_answer, IsReply, IsLast, is_at_most, with_request}
 use Rattle.lk_types.specs.declared.command.Op.{Op}
-use Rattle.lk_types.specs.declared.command.Op.TheVariants.{Table}
+use Rattle.lk_types.specs.declared.command.Op.TheVariants.{Table, Join, Leave}
 use Rattle.lk_wire.specs.declared.message.NodeMessage.{NodeMessage}
-use Rattle.lk_wire.specs.declared.message.NodeMessage.TheVariants as reply
-use Rattle.lk_locks.specs.Plain.{answer, next}
-use Rattle.lk_main.specs.TableMode.{Replies}
+use Rattle.lk_wire.specs.declared.message.NodeMessage.TheVariants as message
+use Rattle.lk_members.specs.Counting.{Command, RequestValue, Noop, Request, Placed, placed, counted, IsLast}
+use Rattle.lk_members.specs.Rosters.{Genesis, roster_of}
+use Rattle.lk_members.specs.Windows.{roster_after}
+use Rattle.lk_members.proofs.SetLaws.{AllByRecursion-push}
+use Rattle.lk_members.proofs.CountingLaws.{placed_entries_stand, counted_behind, IsLast-new}
+use Rattle.lk_state.specs.Sessions.{session_of, is_new}
+use Rattle.lk_state.specs.States.{WholeValue, op_answer, session_in, text_of, reply, reply_of, last_served, whole_after, SumsUp as StandsFor}
+use Rattle.lk_state.specs.Runs.{seen_as}
+use Rattle.lk_state.specs.declared.session.Session.{Session}
+use Rattle.lk_state.specs.declared.whole.Seen.TheVariants as seen
+use Rattle.lk_state.proofs.StateLaws.{seen_last}
+use Rattle.lk_state.proofs.LastLaws.{counts_above_last, last_is_greatest, last_is_replied, replies_stand}
+use Rattle.lk_locks.specs.Lists.{table_of, table_answer}
+use Rattle.lk_locks.specs.Meaning.{table_meaning}
+use Rattle.lk_locks.proofs.ListLaws.{answer-text_of}
+use Rattle.lk_main.specs.Replies.{IsReply, with_request}
+use Rattle.lk_main.specs.TableMode.{is_for_table, Replies}
 use Rattle.lk_main.specs.TableMode.Replies.{answers, passes}
-use Rattle.lk_main.specs.Sums.{is_of_another, TellsLast, SessionsTell, SumsUp}
+use Rattle.lk_main.specs.Sums.{IsAsked, IsFirst, SumsUp, executed_of}
 use Rattle.lk_main.specs.declared.server.Server.{Server}
-use Rattle.lk_main.specs.declared.sessions.Session.{Session}
 
-is_both : (a b : Bool) → (a && b) ≡ true → (a ≡ true) × (b ≡ true)
-is_both true b e = (refl, e)
-is_both false b e = absurd cc
+-- ---- before any request
 
-both_are : (a b : Bool) → a ≡ true → b ≡ true → (a && b) ≡ true
-both_are true b ea eb = eb
-both_are false b ea eb = absurd cc
+module _ (genesis : Genesis) (server : Server) (whole : StandsFor table_meaning genesis [] server.whole) where
+  pub begins : IsFirst server.cluster genesis → SumsUp [] server
+  begins first = record { genesis = genesis; first = first; asked = tt; whole = whole }
 
--- an entry of another client is older than any request of this one
-another_is_older : (r : RequestValue) (c : Command) → is_of_another r.client c ≡ true → is_older r c ≡ true
-another_is_older r Noop h = refl
-another_is_older r (Request s) h = rw h refl
+  pub nothing_executed : executed_of server ≡ 0
+  unfolding whole_after roster_after
+  nothing_executed = ap (λ (w : WholeValue). w.roster.executed) whole
 
-pub none_is_older : (r : RequestValue) (L : List Command) → list_all (is_of_another r.client) L ≡ true → list_all (is_older r) L ≡ true
-none_is_older r [] h = refl
-none_is_older r (c ∷ L) h =
-    let parts = is_both (is_of_another r.client c) (list_all (is_of_another r.client) L) h in
-    both_are (is_older r c) (list_all (is_older r) L) (another_is_older r c parts.0) (none_is_older r L parts.1)
+-- ---- what stands in a list that only asks
 
-smaller_is_older : (r : RequestValue) (n : ℕ) (c : Command) → n < r.number → is_at_most r.client n c ≡ true → is_older r c ≡ true
-smaller_is_older r n Noop lt h = refl
-smaller_is_older r n (Request s) lt h = grind arith
+commands_of : (L : List Command) → AllByRecursion IsAsked L → AllByRecursion IsCommand L
+commands_of [] asked = tt
+commands_of (Noop ∷ L) asked = absurd asked.0
+commands_of (Request r ∷ L) asked = (asked.0.0, commands_of L asked.1)
 
-pub last_is_older : (r : RequestValue) (n : ℕ) (L : List Command) → n < r.number → list_all (is_at_most r.client n) L ≡ true → list_all (is_older r) L ≡ true
-last_is_older r n [] lt h = refl
-last_is_older r n (c ∷ L) lt h =
-    let parts = is_both (is_at_most r.client n c) (list_all (is_at_most r.client n) L) h in
-    both_are (is_older r c) (list_all (is_older r) L) (smaller_is_older r n c lt parts.0) (last_is_older r n L lt parts.1)
+-- an entry, and those before it
+parts_of : (before : List Command) (c : Command) (rest : List Command) → AllByRecursion IsAsked (before ++ (c ∷ rest)) → AllByRecursion IsAsked before × IsAsked c
+parts_of [] c rest asked = (tt, asked.0)
+parts_of (b ∷ before) c rest asked = let parts = parts_of before c rest asked.1 in ((asked.0, parts.0), parts.1)
 
-pub begins : (last : List (Option Session)) → last ≡ replicate 256 None → SessionsTell [] last
-begins last e client in_range =
-    subst (TellsLast [] client) (sym (ap (λ (l : List (Option Session)). get_or l (client - 1) None) e ∙ get_or-replicate 256 (client - 1) None None (omega arith))) refl
+-- ---- the reply of a list is that of the plain table
 
-pub table_of-begin : table_of [] ≡ map.empty
-unfolding table_of counting placed
-table_of-begin = refl
+-- what the machine answers at a place, if it asks the table, the plain table answers
+table_answer-op_answer : (genesis : Genesis) (before : List Command) (client : ℕ) (op : Op) → AllByRecursion IsCommand before → is_for_table op ≡ true
+    → table_answer client op (table_of before) ≡ Some (op_answer table_meaning (roster_of genesis before) (text_of table_meaning before) client op)
+table_answer-op_answer genesis before client (Table body) commands table = ap Some (sym (answer-text_of before commands client body))
+table_answer-op_answer genesis before client (Join node port) commands table = absurd cc
+table_answer-op_answer genesis before client (Leave node) commands table = absurd cc
 
--- the number is above that of the session, if there is one
-abbrev pub IsAbove : ℕ → Option Session → Type 0
-IsAbove number (Some s) = s.number < number
-IsAbove number None = Unit {0}
+-- an entry that counts, with its answer
+abbrev answer_at : Genesis → Placed → RequestValue → Answer
+answer_at genesis p q = op_answer table_meaning (roster_of genesis p.before) (text_of table_meaning p.before) q.client q.op
 
--- ---- which requests count
+module _ (genesis : Genesis) (L : List Command) (asked : AllByRecursion IsAsked L) (p : Placed) (stands : Contains (placed L) p) where
+  reply_at : (client number : ℕ) (a : Answer) (o : Option RequestValue) → counted p.before p.entry ≡ o
+      → session_in table_meaning (roster_of genesis p.before) (text_of table_meaning p.before) o ≡ Some (record { client = client; number = number; answer = a }) → IsReply L client number a
+  reply_at client number a None counts e = absurd cc
+  reply_at client number a (Some q) counts e =
+      let s : Session = record { client = q.client; number = q.number; answer = answer_at genesis p q } in
+      let t : Session = record { client = client; number = number; answer = a } in
+      let is : s ≡ t = same s t e in
+      let behind = placed_entries_stand L p stands in
+      let parts = parts_of p.before p.entry behind.0 (subst (AllByRecursion IsAsked) behind.1 asked) in
+      let ask : IsAsked (Request q) = subst IsAsked (counted_behind p.before p.entry q counts).0 parts.1 in
+      record {
+        place = p;
+        stands = stands;
+        request = q;
+        counts = counts;
+        of_client = ap (λ (x : Session). x.client) is;
+        of_number = ap (λ (x : Session). x.number) is;
+        answered = table_answer-op_answer genesis p.before q.client q.op (commands_of p.before parts.0) ask.1 ∙ ap (λ (x : Session). Some x.answer) is;
+      }
+    where
+      same : (s t : Session) → Some s ≡ Some t → s ≡ t
+      same s t e = cc
 
-chosen : (t : Bool) → (t ≡ true) ⊎ (t ≡ false)
-chosen true = inl refl
-chosen false = inr refl
+reply_is_plain : (genesis : Genesis) (L : List Command) (client number : ℕ) (a : Answer) → AllByRecursion IsAsked L → reply table_meaning genesis L client number ≡ Some a → IsReply L client number a
+reply_is_plain genesis L client number a asked e =
+    let found = replies_stand table_meaning genesis L client number a e in
+    reply_at genesis L asked found.0 found.1 client number a (counted found.0.before found.0.entry) refl found.2
 
-pub is_counted : (L : List Command) (r : RequestValue) → list_all (is_older r) L ≡ true → counted L (Request r) ≡ Some r
-is_counted L r h = rw h refl
+-- ---- where a number stands to the client's last one
 
-pub with_new : (L : List Command) (r : RequestValue) → list_all (is_older r) L ≡ true → with_request L r ≡ L ++ Request r ∷ []
-with_new L r h = rw h refl
-
--- a number that the client passed, or used last, does not count again
-pub with_old : (L : List Command) (r : RequestValue) (n : ℕ) → IsLast L r.client n → r.number ≤ n → with_request L r ≡ L
-with_old L r n last le =
-    elim (chosen (list_all (is_older r) L)) [
-      | inl all ↦
-          let older = All-contains (λ (c : Command). is_older r c ≡ true) L (Request last.request) (AllPass-from_list_all (is_older r) L all) last.used in
-          absurd (not_older r last.request n last.of_client last.of_number le older)
-      | inr some ↦ rw some refl
-    ]
-  where
-    not_older : (r q : RequestValue) (n : ℕ) → q.client ≡ r.client → q.number ≡ n → r.number ≤ n → (not (eqb q.client r.client) || ltb q.number r.number) ≡ true → ⊥
-    not_older r q n ec en le h = grind arith
-
--- ---- one more request
-
-at_most_push : (client n : ℕ) (L : List Command) (c : Command) → list_all (is_at_most client n) L ≡ true → is_at_most client n c ≡ true → list_all (is_at_most client n) (L ++ c ∷ []) ≡ true
-at_most_push client n L c h one = list_all-append (is_at_most client n) L (c ∷ []) ∙ both_are (list_all (is_at_most client n) L) (is_at_most client n c && true) h (both_are (is_at_most client n c) true one refl)
-
-another_push : (client : ℕ) (L : List Command) (c : Command) → list_all (is_of_another client) L ≡ true → is_of_another client c ≡ true → list_all (is_of_another client) (L ++ c ∷ []) ≡ true
-another_push client L c h one = list_all-append (is_of_another client) L (c ∷ []) ∙ both_are (list_all (is_of_another client) L) (is_of_another client c && true) h (both_are (is_of_another client c) true one refl)
-
-IsReply-push : (L : List Command) (c : Command) (client number : ℕ) (a : Answer) → IsReply L client number a → IsReply (L ++ c ∷ []) client number a
-IsReply-push L c client number a h = record {
-  place = h.place;
-  stands = subst (λ (ps : List Placed). Contains ps h.place) (sym (placed-push L c)) (Contains-append_left (placed L) (record { before = L; entry = c } ∷ []) h.place h.stands);
-  request = h.request;
-  counts = h.counts;
-  of_client = h.of_client;
-  of_number = h.of_number;
-  answered = h.answered;
-}
-
-IsLast-push : (L : List Command) (r : RequestValue) (client number : ℕ) → client ≢ r.client → IsLast L client number → IsLast (L ++ Request r ∷ []) client number
-IsLast-push L r client number other h = record {
-  request = h.request;
-  used = Contains-append_left L (Request r ∷ []) (Request h.request) h.used;
-  of_client = h.of_client;
-  of_number = h.of_number;
-  greatest = at_most_push client number L (Request r) h.greatest (apart r client other);
-}
-  where
-    apart : (r : RequestValue) (client : ℕ) → client ≢ r.client → (not (eqb r.client client) || nat_le r.number number) ≡ true
-    apart r client other = grind arith
-
--- what the client's new session tells
-new_reply : (L : List Command) (r : RequestValue) (a : Answer) → counted L (Request r) ≡ Some r → table_answer r.client r.op (table_of L) ≡ Some a → IsReply (L ++ Request r ∷ []) r.client r.number a
-new_reply L r a counts answered = record {
-  place = record { before = L; entry = Request r };
-  stands = subst (λ (ps : List Placed). Contains ps (record { before = L; entry = Request r })) (sym (placed-push L (Request r))) (Contains-push (placed L) (record { before = L; entry = Request r }));
-  request = r;
-  counts = counts;
-  of_client = refl;
-  of_number = refl;
-  answered = answered;
-}
-
-older_at_most : (r : RequestValue) (L : List Command) → list_all (is_older r) L ≡ true → list_all (is_at_most r.client r.number) L ≡ true
-older_at_most r [] h = refl
-older_at_most r (c ∷ L) h =
-    let parts = is_both (is_older r c) (list_all (is_older r) L) h in
-    both_are (is_at_most r.client r.number c) (list_all (is_at_most r.client r.number) L) (one r c parts.0) (older_at_most r L parts.1)
-  where
-    one : (r : RequestValue) (c : Command) → is_older r c ≡ true → is_at_most r.client r.number c ≡ true
-    one r Noop h = refl
-    one r (Request s) h = grind arith
-
-new_last : (L : List Command) (r : RequestValue) → list_all (is_older r) L ≡ true → IsLast (L ++ Request r ∷ []) r.client r.number
-new_last L r h = record {
-  request = r;
-  used = Contains-push L (Request r);
-  of_client = refl;
-  of_number = refl;
-  greatest = at_most_push r.client r.number L (Request r) (older_at_most r L h) (itself r);
-}
-  where
-    itself : (r : RequestValue) → (not (eqb r.client r.client) || nat_le r.number r.number) ≡ true
-    itself r = grind arith
-
-older_of : (L : List Command) (r : RequestValue) → counted L (Request r) ≡ Some r → list_all (is_older r) L ≡ true
-older_of L r counts =
-    elim (chosen (list_all (is_older r) L)) [
-      | inl all ↦ all
-      | inr some ↦ let none : absent ≡ Some r = rw some at counts in absurd cc
-    ]
-  where
-    absent : Option RequestValue
-    absent = None
-
--- the sessions of the others go on
-TellsLast-push : (L : List Command) (r : RequestValue) (client : ℕ) (s : Option Session) → client ≢ r.client → TellsLast L client s → TellsLast (L ++ Request r ∷ []) client s
-TellsLast-push L r client (Some s) other h = (IsLast-push L r client s.number other h.0, IsReply-push L (Request r) client s.number s.answer h.1)
-TellsLast-push L r client None other h = another_push client L (Request r) h (apart r client other)
-  where
-    apart : (r : RequestValue) (client : ℕ) → client ≢ r.client → not (eqb r.client client) ≡ true
-    apart r client other = grind arith
-
-SessionsTell-push : (L : List Command) (r : RequestValue) (a : Answer) (last : List (Option Session)) → length last ≡ 256 → IsClient r.client → counted L (Request r) ≡ Some r
-    → table_answer r.client r.op (table_of L) ≡ Some a → SessionsTell L last → SessionsTell (L ++ Request r ∷ []) (set last (r.client - 1) (Some (record { number = r.number; answer = a })))
-SessionsTell-push L r a last full in_range counts answered told client client_in_range =
-    elim (chosen (eqb client r.client)) [
-      | inl same ↦
-          let is : client ≡ r.client = eqb-true client r.client same in
-          subst (λ (c : ℕ). TellsLast (L ++ Request r ∷ []) c (get_or (set last (r.client - 1) kept) (c - 1) None)) (sym is)
-          (subst (TellsLast (L ++ Request r ∷ []) r.client) (sym (get_or-set_same last (r.client - 1) kept None (omega arith))) (new_last L r (older_of L r counts), new_reply L r a counts answered))
+same_is : (o : Option Session) (number : ℕ) (a : Answer) → seen_as o number ≡ seen.Same a → (s : Session) × (o ≡ Some s) × (number ≡ s.number) × (s.answer ≡ a)
+same_is None number a e = absurd cc
+same_is (Some s) number a e =
+    elim (cases_Bool (eqb number s.number)) [
+      | inl equal ↦ (s, refl, eqb-true number s.number equal, answered (rw equal at e))
       | inr other ↦
-          let apart : client ≢ r.client = eqb-false client r.client other in
-          let elsewhere : client - 1 ≢ r.client - 1 = omega arith in
-          subst (TellsLast (L ++ Request r ∷ []) client) (sym (get_or-set_other last (r.client - 1) (client - 1) kept None elsewhere)) (TellsLast-push L r client (get_or last (client - 1) None) apart (told client client_in_range))
+          elim (cases_Bool (nat_lt number s.number)) [
+            | inl below ↦ let bad : seen.Passed s.number ≡ seen.Same a = rw (other, below) at e in absurd cc
+            | inr above ↦ let bad : seen.New ≡ seen.Same a = rw (other, above) at e in absurd cc
+          ]
     ]
   where
-    kept : Option Session
-    kept = Some (record { number = r.number; answer = a })
+    answered : seen.Same s.answer ≡ seen.Same a → s.answer ≡ a
+    answered e = cc
 
-table_of-push : (L : List Command) (r : RequestValue) → counted L (Request r) ≡ Some r → table_of (L ++ Request r ∷ []) ≡ table_after r.client r.op (table_of L)
-unfolding table_of
-table_of-push L r counts =
-    ap (fold (λ m r. table_after r.client r.op m) map.empty) (counting-push L (Request r) ∙ ap (λ (q : Option RequestValue). counting L ++ added q) counts)
-    ∙ fold-append (λ m r. table_after r.client r.op m) map.empty (counting L) (r ∷ [])
+passed_is : (o : Option Session) (number last : ℕ) → seen_as o number ≡ seen.Passed last → (s : Session) × (o ≡ Some s) × (s.number ≡ last) × (number < s.number)
+passed_is None number last e = absurd cc
+passed_is (Some s) number last e =
+    elim (cases_Bool (eqb number s.number)) [
+      | inl equal ↦ let bad : seen.Same s.answer ≡ seen.Passed last = rw equal at e in absurd cc
+      | inr other ↦
+          elim (cases_Bool (nat_lt number s.number)) [
+            | inl below ↦ (s, refl, passed (rw (other, below) at e), ltb-true number s.number below)
+            | inr above ↦ let bad : seen.New ≡ seen.Passed last = rw (other, above) at e in absurd cc
+          ]
+    ]
+  where
+    passed : seen.Passed s.number ≡ seen.Passed last → s.number ≡ last
+    passed e = cc
 
--- a server that has run a request that counts
-pub runs : (L : List Command) (r : RequestValue) (body : List ℕ) (a : Answer) (old new : Server) → IsClient r.client → length old.sessions.last ≡ 256 → r.op ≡ Table body
-    → a ≡ answer r.client body old.table → new.table ≡ next r.client body old.table → new.sessions.last ≡ set old.sessions.last (r.client - 1) (Some (record { number = r.number; answer = a }))
-    → SumsUp L old → counted L (Request r) ≡ Some r
-    → Replies (L ++ Request r ∷ []) r (reply.Answer (record { client = r.client; number = r.number; answer = a })) × SumsUp (L ++ Request r ∷ []) new
-runs L r body a old new in_range full op answered after kept sums counts =
-    let is : table_answer r.client r.op (table_of L) ≡ Some a =
-    ap (λ (o : Op). table_answer r.client o (table_of L)) op ∙ ap Some (ap (answer r.client body) (sym sums.table) ∙ sym answered) in
-    let stands : new.table ≡ table_of (L ++ Request r ∷ []) =
-    after ∙ ap (next r.client body) sums.table ∙ ap (λ (o : Op). table_after r.client o (table_of L)) (sym op) ∙ sym (table_of-push L r counts) in (
-      answers a (new_last L r (older_of L r counts)) (new_reply L r a counts is),
-      record { table = stands; sessions = subst (SessionsTell (L ++ Request r ∷ [])) (sym kept) (SessionsTell-push L r a old.sessions.last full in_range counts is sums.sessions) },
+-- ---- a request that does not count adds nothing
+
+module _ (L : List Command) (r : RequestValue) (server : Server) (sums : SumsUp L server) where
+  last : last_served table_meaning sums.genesis L r.client ≡ session_of r.client server.whole.sessions
+  last = sym (seen_last table_meaning sums.genesis L server.whole r.client sums.whole)
+
+  not_counted : (s : Session) → session_of r.client server.whole.sessions ≡ Some s → r.number ≤ s.number → counted L (Request r) ≡ None
+  not_counted s is below = counts_above_last table_meaning sums.genesis L r ∙ rw (last ∙ is, le-ltb s.number r.number below) refl
+
+  unchanged : (m : NodeMessage) (s : Session) → session_of r.client server.whole.sessions ≡ Some s → r.number ≤ s.number → Replies L r m → Replies (with_request L r) r m × SumsUp (with_request L r) server
+  unchanged m s is below replies =
+      let same : with_request L r ≡ L = rw (not_counted s is below) refl in
+      subst (λ (K : List Command). Replies K r m × SumsUp K server) (sym same) (replies, sums)
+
+  -- the number of the client's last one again
+  pub again : (a : Answer) → seen_as (session_of r.client server.whole.sessions) r.number ≡ seen.Same a
+      → Replies (with_request L r) r (message.Answer (record { client = r.client; number = r.number; answer = a })) × SumsUp (with_request L r) server
+  again a e =
+      let s = same_is (session_of r.client server.whole.sessions) r.number a e in
+      let greatest = last_is_greatest table_meaning sums.genesis L r.client s.0 (last ∙ s.1) in
+      let replied = last_is_replied table_meaning sums.genesis L r.client s.0 (last ∙ s.1) in
+      let plain = reply_is_plain sums.genesis L r.client r.number a sums.asked (ap (reply table_meaning sums.genesis L r.client) s.2 ∙ replied ∙ ap Some s.3) in
+      unchanged (message.Answer (record { client = r.client; number = r.number; answer = a })) s.0 s.1 (omega (arith, s.2)) (answers a (subst (IsLast L r.client) (sym s.2) greatest) plain)
+
+  -- a number below it
+  pub passed : (number : ℕ) → seen_as (session_of r.client server.whole.sessions) r.number ≡ seen.Passed number
+      → Replies (with_request L r) r (message.Passed (record { client = r.client; number = r.number; last = number })) × SumsUp (with_request L r) server
+  passed number e =
+      let s = passed_is (session_of r.client server.whole.sessions) r.number number e in
+      let greatest = last_is_greatest table_meaning sums.genesis L r.client s.0 (last ∙ s.1) in
+      unchanged (message.Passed (record { client = r.client; number = r.number; last = number })) s.0 s.1 (omega (arith, s.3))
+      (passes number (subst (IsLast L r.client) s.2 greatest) (subst (λ (n : ℕ). r.number < n) s.2 s.3))
+
+-- ---- a request that counts goes to the end
+
+-- what a server that has run it replies
+pub runs : (L : List Command) (r : RequestValue) (a : Answer) (old new : Server) (answered : Option Answer) → IsRequest r → is_for_table r.op ≡ true
+    → is_new (session_of r.client old.whole.sessions) r.number ≡ true → answered ≡ Some a → new.cluster ≡ old.cluster
+    → ((genesis : Genesis) (L : List Command) → StandsFor table_meaning genesis L old.whole → StandsFor table_meaning genesis (L ++ Request r ∷ []) new.whole)
+    → ((genesis : Genesis) (L : List Command) → StandsFor table_meaning genesis L old.whole → answered ≡ reply_of table_meaning genesis (L ++ Request r ∷ []) (counted L (Request r)))
+    → SumsUp L old → Replies (with_request L r) r (message.Answer (record { client = r.client; number = r.number; answer = a })) × SumsUp (with_request L r) new
+runs L r a old new answered fits table above is same behind replied sums =
+    let counts : counted L (Request r) ≡ Some r = counts_above_last table_meaning sums.genesis L r ∙ rw (last L r old sums, above) refl in
+    let longer : with_request L r ≡ L ++ Request r ∷ [] = rw counts refl in
+    let asked : AllByRecursion IsAsked (L ++ Request r ∷ []) = AllByRecursion-push IsAsked L (Request r) sums.asked (fits, table) in
+    let told : reply table_meaning sums.genesis (L ++ Request r ∷ []) r.client r.number ≡ Some a =
+    sym (replied sums.genesis L sums.whole ∙ ap (reply_of table_meaning sums.genesis (L ++ Request r ∷ [])) counts) ∙ is in
+    let m : NodeMessage = message.Answer (record { client = r.client; number = r.number; answer = a }) in
+    subst (λ (K : List Command). Replies K r m × SumsUp K new) (sym longer) (
+      answers a (IsLast-new L r (counted_behind L (Request r) r counts).1) (reply_is_plain sums.genesis (L ++ Request r ∷ []) r.client r.number a asked told),
+      record { genesis = sums.genesis; first = first; asked = asked; whole = behind sums.genesis L sums.whole },
     )
-
--- a request whose number is below the client's last one, and the last one again
-pub passed : (L : List Command) (r : RequestValue) (s : Session) (last : ℕ) (server : Server) → IsClient r.client → get_or server.sessions.last (r.client - 1) None ≡ Some s → last ≡ s.number → r.number < last → SumsUp L server
-    → Replies (with_request L r) r (reply.Passed (record { client = r.client; number = r.number; last = last })) × SumsUp (with_request L r) server
-passed L r s last server in_range found is lt sums =
-    let told : TellsLast L r.client (Some s) = subst (TellsLast L r.client) found (sums.sessions r.client in_range) in
-    let greatest : IsLast L r.client last = subst (IsLast L r.client) (sym is) told.0 in
-    subst (λ (K : List Command). Replies K r (reply.Passed (record { client = r.client; number = r.number; last = last })) × SumsUp K server) (sym (with_old L r last greatest (omega arith)))
-    (passes last greatest lt, sums)
-
-pub again : (L : List Command) (r : RequestValue) (s : Session) (server : Server) → IsClient r.client → get_or server.sessions.last (r.client - 1) None ≡ Some s → r.number ≡ s.number → SumsUp L server
-    → Replies (with_request L r) r (reply.Answer (record { client = r.client; number = r.number; answer = s.answer })) × SumsUp (with_request L r) server
-again L r s server in_range found is sums =
-    let told : TellsLast L r.client (Some s) = subst (TellsLast L r.client) found (sums.sessions r.client in_range) in
-    let greatest : IsLast L r.client r.number = subst (IsLast L r.client) (sym is) told.0 in
-    let at_its_place : IsReply L r.client r.number s.answer = subst (λ (n : ℕ). IsReply L r.client n s.answer) (sym is) told.1 in
-    subst (λ (K : List Command). Replies K r (reply.Answer (record { client = r.client; number = r.number; answer = s.answer })) × SumsUp K server) (sym (with_old L r r.number greatest (omega arith)))
-    (answers s.answer greatest at_its_place, sums)
-
--- a request whose number is above the client's last one, or the first of its client
-pub is_new : (L : List Command) (r : RequestValue) (s : Option Session) (server : Server) → IsClient r.client → get_or server.sessions.last (r.client - 1) None ≡ s → IsAbove r.number s → SumsUp L server → list_all (is_older r) L ≡ true
-is_new L r (Some s) server in_range found above sums =
-    let told : TellsLast L r.client (Some s) = subst (TellsLast L r.client) found (sums.sessions r.client in_range) in
-    last_is_older r s.number L above told.0.greatest
-is_new L r None server in_range found above sums = none_is_older r L (subst (TellsLast L r.client) found (sums.sessions r.client in_range))
-
--- what is replied to it
-pub runs_new : (L : List Command) (r : RequestValue) (m : NodeMessage) (new : Server) → list_all (is_older r) L ≡ true
-    → (counted L (Request r) ≡ Some r → Replies (L ++ Request r ∷ []) r m × SumsUp (L ++ Request r ∷ []) new) → Replies (with_request L r) r m × SumsUp (with_request L r) new
-runs_new L r m new h ran = subst (λ (K : List Command). Replies K r m × SumsUp K new) (sym (with_new L r h)) (ran (is_counted L r h))
+  where
+    first : IsFirst new.cluster sums.genesis
+    first = subst (λ (k : ℕ). IsFirst k sums.genesis) (sym same) sums.first

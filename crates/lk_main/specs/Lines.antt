@@ -1,5 +1,7 @@
 -- The lines of a text.
 use Rattle.std.specs.Prelude.{◌≡◌, ◌==◌, ℕ, Option, Some, List, [], ◌∷◌, if◌then◌else◌}
+use Rattle.std.specs.Io.{StopsAt}
+use Rattle.std.specs.Io.KnownBytes.{Consumes}
 
 -- the first line with one more byte in front
 abbrev pub with_byte : ℕ → List (List ℕ) → List (List ℕ)
@@ -19,3 +21,7 @@ first_line (b ∷ text) = if b == 10 then [] else b ∷ first_line text
 -- a line was taken from the front of the text, and the rest is left
 abbrev pub TakesLine : List ℕ → List ℕ → Option (List ℕ) → Type 0
 TakesLine text line left = (rest : List ℕ) × (left ≡ Some rest) × (lines_of text ≡ line ∷ lines_of rest)
+
+-- no more than one line, with its line feed, was taken from the front of the text, and the rest is left
+abbrev pub TakesWithinLine : List ℕ → Option (List ℕ) → Type 0
+TakesWithinLine text left = (part : List ℕ) × StopsAt part 10 × Consumes (Some text) left part

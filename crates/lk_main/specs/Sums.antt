@@ -1,31 +1,35 @@
 -- What a server stands for: the list of the requests that counted so far.
-use Rattle.std.specs.Prelude.{◌≡◌, ℕ, ◌-◌, ◌==◌, Bool, true, not, List, Option, Some, None, slice_index_or, ⊤}
-use Rattle.std.specs.List.{list_all}
-use Rattle.lk_types.specs.Ranges.{IsClient}
+use Rattle.std.specs.Prelude.{◌≡◌, ℕ, true, List, [], ◌∷◌, Option, Some, None, ⊤}
+use Rattle.std.specs.List.{AllByRecursion}
+use Rattle.lk_types.specs.Commands.{IsRequest}
 use Rattle.lk_members.specs.Counting.{Command, Noop, Request}
-use Rattle.lk_main.specs.Replies.{IsReply, IsLast, table_of}
-use Rattle.lk_main.specs.TableMode.{Script, begun, table}
+use Rattle.lk_members.specs.Rosters.{Genesis}
+use Rattle.lk_state.specs.States as state
+use Rattle.lk_locks.specs.Meaning.{table_meaning}
+use Rattle.lk_main.specs.TableMode.{Script, begun, table, is_for_table}
 use Rattle.lk_main.specs.declared.server.Server.{Server}
-use Rattle.lk_main.specs.declared.sessions.Session.{Session}
 
--- the entry is no request of this client
-abbrev pub is_of_another : ℕ → Command → Bool
-is_of_another client Noop = true
-is_of_another client (Request r) = not (r.client == client)
+-- the entry is a request that asks something of the lock table
+abbrev pub IsAsked : Command → Type 0
+IsAsked Noop = ⊥
+IsAsked (Request r) = IsRequest r × (is_for_table r.op ≡ true)
 
--- a client's session tells its last number in the list and what that was answered; a client without one is not in the list
-abbrev pub TellsLast : List Command → ℕ → Option Session → Type 0
-TellsLast L client (Some s) = IsLast L client s.number × IsReply L client s.number s.answer
-TellsLast L client None = list_all (is_of_another client) L ≡ true
+-- the cluster begins with node 1 alone
+pub record IsFirst (cluster : ℕ) (genesis : Genesis) : Type 0 where
+  pub number : genesis.cluster ≡ cluster
+  pub alpha : genesis.alpha ≡ 1
+  pub members : genesis.members ≡ record { node = 1; port = 1 } ∷ []
 
--- the sessions of all clients, by their numbers
-abbrev pub SessionsTell : List Command → List (Option Session) → Type 0
-SessionsTell L last = (client : ℕ) → IsClient client → TellsLast L client (slice_index_or last (client - 1) None)
-
--- the table is that of the list, and the sessions are its clients'
+-- the server's state is that of the list, which asks things of the lock table only
 pub record SumsUp (L : List Command) (server : Server) : Type 0 where
-  pub table : server.table ≡ table_of L
-  pub sessions : SessionsTell L server.sessions.last
+  pub genesis : Genesis
+  pub first : IsFirst server.cluster genesis
+  pub asked : AllByRecursion IsAsked L
+  pub whole : state.SumsUp table_meaning genesis L server.whole
+
+-- how many positions a server has executed
+abbrev pub executed_of : Server → ℕ
+executed_of server = server.whole.roster.executed
 
 -- what a script has set up so far, as the program keeps it
 abbrev pub Fits : Script → Option Server → Type 0
@@ -33,3 +37,8 @@ Fits begun None = ⊤
 Fits begun (Some server) = ⊥
 Fits (table cluster L) None = ⊥
 Fits (table cluster L) (Some server) = (server.cluster ≡ cluster) × SumsUp L server
+
+-- how many positions were executed for a script so far
+abbrev pub executed_in : Option Server → ℕ
+executed_in None = 0
+executed_in (Some server) = executed_of server

@@ -11,9 +11,9 @@ use Rattle.lk_wire.specs.declared.message.Content.{Content}
 use Rattle.lk_wire.specs.declared.message.Content.TheVariants as content
 use Rattle.lk_wire.specs.declared.message.Message.{Message}
 use Rattle.lk_wire.specs.Grammar.{spelling, Spells}
-use Rattle.lk_members.specs.Counting.{Command, RequestValue}
+use Rattle.lk_members.specs.Counting.{Command, RequestValue, IsLast}
 use Rattle.lk_main.specs.HexLines.{SpellsBytes}
-use Rattle.lk_main.specs.Replies.{IsReply, IsLast, with_request}
+use Rattle.lk_main.specs.Replies.{IsReply, with_request}
 
 -- what a request is replied, by the list in which it stands if it counts: the answer that it got, where its number is the
 -- client's last one, and else that last one

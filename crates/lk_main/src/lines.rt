@@ -2,7 +2,7 @@
 
 ghost use Rattle.std.specs.Prelude.{◌≡◌, ◌⊎◌, ℕ, List, [], true, false, Ok, IfErr, IfSome};
 ghost use Rattle.std.specs.Io.BufRead.{take_through};
-ghost use Rattle.lk_main.specs.Lines.{first_line, TakesLine};
+ghost use Rattle.lk_main.specs.Lines.{first_line, TakesLine, TakesWithinLine};
 ghost use Rattle.lk_main.specs.declared.fault.ScriptFault.TheVariants as fault;
 
 use crate::fault::ScriptFault;
@@ -34,6 +34,7 @@ fn read_fault(error: &Error) -> ScriptFault
 pub fn next_line<R: BufRead>(reader: &mut R, line: &mut Vec<u8>) -> Result<bool, ScriptFault>
     ensures line { result ≡ Ok true → IfSome (R.remaining reader.old) (λ text. TakesLine text line.new.items (R.remaining reader.new)) }
     ensures end { result ≡ Ok false → IfSome (R.remaining reader.old) (λ text. text ≡ []) }
+    ensures within { IfSome (R.remaining reader.old) (λ text. TakesWithinLine text (R.remaining reader.new)) }
     ensures err { IfErr result (λ e. (e ≡ ScriptFault.Read) ⊎ (e ≡ ScriptFault.ScriptMemory)) }
 {
     line.clear();

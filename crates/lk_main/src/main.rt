@@ -6,7 +6,6 @@ mod hex_line;
 mod lines;
 mod script;
 mod server;
-mod sessions;
 mod words;
 
 use std::io::{BufReader, BufWriter};

@@ -1,11 +1,11 @@
 //! Scripts, line by line.
 
-ghost use Rattle.std.specs.Prelude.{◌≡◌, ◌≢◌, ◌<◌, ◌^◌, List, ℕ, Some, Ok, Err, IfOk, IfErr, IfSome, IfNone, OnOk, IsNone, IsErrOf, string_bytes, codes};
+ghost use Rattle.std.specs.Prelude.{◌≡◌, ◌≢◌, ◌+◌, ◌<◌, ◌≤◌, ◌^◌, List, ℕ, Some, Ok, Err, IfOk, IfErr, IfSome, IfNone, OnOk, IsNone, IsErrOf, string_bytes, codes};
 ghost use Rattle.std.specs.Io.KnownBytes.{Appends};
 ghost use Rattle.lk_main.specs.Lines.{lines_of};
 ghost use Rattle.lk_main.specs.TableMode.{Script, begun, Takes, Runs, IsTableLine};
 ghost use Rattle.lk_main.specs.Script.{IsLeft};
-ghost use Rattle.lk_main.specs.Sums.{Fits};
+ghost use Rattle.lk_main.specs.Sums.{Fits, executed_in};
 
 use crate::fault::{LineFault, ScriptFault};
 use crate::lines::next_line;
@@ -43,8 +43,10 @@ fn cluster_of(alloc: Global, line: &[u8]) -> Result<u64, LineFault>
 
 /// Takes a line that is not empty, and answers what it prints.
 fn take_line(alloc: Global, server: &mut Option<Server>, line: &[u8]) -> Result<String, LineFault>
+    requires { executed_in server.old < 281474976710656 }
     ensures ok { IfOk result (λ text. (s : Script) → Fits s server.old → (after : Script) × Takes s line.now (string_bytes text) after × Fits after server.new) }
     ensures not_understood { IsErrOf result LineFault.NotUnderstood → (s : Script) → Fits s server.old → (out : List ℕ) (after : Script) → Takes s line.now out after → ⊥ }
+    ensures paces { executed_in server.new ≤ executed_in server.old + 1 }
 {
     match server {
         Some(server) => server.print_line(alloc, line),
@@ -73,7 +75,7 @@ pub fn run_script<R: BufRead, W: Write>(
     writer: &mut W,
 ) -> Result<(), ScriptFault>
     ensures ok { result ≡ Ok tt → IfSome (R.remaining reader.old) (λ input. (text : List ℕ) × Runs begun 1 (lines_of input) text None × Appends (W.contents writer.old) (W.contents writer.new) text) }
-    ensures err { IfErr result (λ fault. fault ≢ ScriptFault.Write → IfSome (R.remaining reader.old) (λ input. (text : List ℕ) × IsLeft input text fault × Appends (W.contents writer.old) (W.contents writer.new) text)) }
+    ensures err { IfErr result (λ fault. fault ≢ ScriptFault.Write → IfSome (R.remaining reader.old) (λ input. (text : List ℕ) × IsLeft input text (R.remaining reader.new) fault × Appends (W.contents writer.old) (W.contents writer.new) text)) }
 {
     let mut line = Vec::new(alloc);
     let mut server = None;

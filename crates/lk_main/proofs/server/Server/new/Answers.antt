@@ -1,6 +1,14 @@
-use Rattle.std.proofs.Common.{◌∙◌, sym}
-use Rattle.lk_main.proofs.ServerLemmas.{begins, table_of-begin}
+use Rattle.std.proofs.Common.{rules, ◌≡◌, ◌∙◌, ap, [], ◌∷◌}
+use Rattle.lk_types.specs.declared.member.Member.{Member}
+use Rattle.lk_main.proofs.ServerLemmas.{begins, nothing_executed}
 use Rattle.lk_main.proofs.server.Server.new.Goals as goal
 
 pub returns-clause-empty : goal.returns-clause-empty
-returns-clause-empty c = record { table = c.new.ensures ∙ sym table_of-begin; sessions = begins c.new-2.result.last c.new-2.ensures }
+returns-clause-empty c =
+    let genesis = rw c.unwrap-genesis.ensures at c.of.ensures.ok in
+    let node_one : c.default.result ≡ record { node = 1; port = 1 } = search rules in
+    begins c.unwrap-genesis.result (record { cluster = c.args.cluster; whole = c.begin-whole.result }) c.begin-whole.ensures
+    (record { number = genesis.0; alpha = genesis.1; members = genesis.2 ∙ ap (λ (m : Member). m ∷ []) node_one })
+
+pub returns-clause-executed : goal.returns-clause-executed
+returns-clause-executed c = nothing_executed c.unwrap-genesis.result (record { cluster = c.args.cluster; whole = c.begin-whole.result }) c.begin-whole.ensures

@@ -10,11 +10,8 @@ use Rattle.lk_main.specs.TableMode.Prints.{elsewhere, replied}
 use Rattle.lk_main.proofs.PrintLemmas.{is_change}
 use Rattle.lk_main.proofs.server.Server.print_request.Goals as goal
 
-pub returns-in_default : goal.returns-in_default
-returns-in_default c = record {
-  ok = λ bytes L spells sums. (L, rw c.in_ok-from_str.ensures.ok (elsewhere c.args.request.now spells (is_change c.args.request.now.op c.in_default.not-Table)), sums);
-  cluster = search rules;
-}
+pub returns-in_default-clause-ok : goal.returns-in_default-clause-ok
+returns-in_default-clause-ok c = λ bytes L spells sums. (L, rw c.in_ok-from_str.ensures.ok (elsewhere c.args.request.now spells (is_change c.args.request.now.op c.in_default.not-Table)), sums)
 
 pub returns-clause-ok : goal.returns-clause-ok
 returns-clause-ok c = λ bytes L spells sums.
