@@ -1,0 +1,18 @@
+//! Tests of the crates below the program, by what each shows to those above it. They stand here, and not in those crates,
+//! since a crate that has tests is proved twice.
+#![tactic(auto)]
+
+#[cfg(test)]
+mod digits;
+#[cfg(test)]
+mod disk;
+#[cfg(test)]
+mod locks;
+#[cfg(test)]
+mod log;
+#[cfg(test)]
+mod members;
+#[cfg(test)]
+mod state;
+#[cfg(test)]
+mod wire;
