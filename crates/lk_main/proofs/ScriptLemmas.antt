@@ -33,11 +33,10 @@ some_line (table cluster L) server new line text fits same printed =
     )
 
 -- the line that sets a table up
-pub none_line : (s : Script) (new : Server) (line text : List ℕ) (cluster : ℕ) → Fits s None → IsTableLine line cluster → text ≡ [] → new.cluster ≡ cluster → SumsUp [] new
-    → (after : Script) × Takes s line text after × Fits after (Some new)
-none_line begun new line text cluster fits names empty same sums =
-    (table cluster [], subst (λ (t : List ℕ). Takes begun line t (table cluster [])) (sym empty) (begins line cluster names), (same, sums))
-none_line (table k L) new line text cluster fits names empty same sums = absurd fits
+pub none_line : (s : Script) (new : Option Server) (line text : List ℕ) → Fits s None → (cluster : ℕ) × IsTableLine line cluster × Fits (table cluster []) new → text ≡ []
+    → (after : Script) × Takes s line text after × Fits after new
+none_line begun new line text fits begun_so empty = (table begun_so.0 [], subst (λ (t : List ℕ). Takes begun line t (table begun_so.0 [])) (sym empty) (begins line begun_so.0 begun_so.1), begun_so.2)
+none_line (table k L) new line text fits begun_so empty = absurd fits
 
 -- a run so far: the lines read, what they printed, and what is set up behind them
 pub record SoFar (input : List ℕ) (before written left : Option (List ℕ)) (server : Option Server) (number : ℕ) : Type 0 where

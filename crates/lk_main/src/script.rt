@@ -1,9 +1,9 @@
 //! Scripts, line by line.
 
-ghost use Rattle.std.specs.Prelude.{◌≡◌, ◌≢◌, ◌+◌, ◌<◌, ◌≤◌, ◌^◌, List, ℕ, Some, Ok, Err, IfOk, IfErr, IfSome, IfNone, OnOk, IsNone, IsErrOf, string_bytes, codes};
+ghost use Rattle.std.specs.Prelude.{◌≡◌, ◌≢◌, ◌+◌, ◌<◌, ◌≤◌, ◌^◌, List, [], ℕ, Some, Ok, Err, IfOk, IfErr, IfSome, IfNone, OnOk, IsNone, IsErrOf, string_bytes, codes};
 ghost use Rattle.std.specs.Io.KnownBytes.{Appends};
 ghost use Rattle.lk_main.specs.Lines.{lines_of};
-ghost use Rattle.lk_main.specs.TableMode.{Script, begun, Takes, Runs, IsTableLine};
+ghost use Rattle.lk_main.specs.TableMode.{Script, begun, table, Takes, Runs, IsTableLine};
 ghost use Rattle.lk_main.specs.Script.{IsLeft};
 ghost use Rattle.lk_main.specs.Sums.{Fits, executed_in};
 
@@ -41,6 +41,18 @@ fn cluster_of(alloc: Global, line: &[u8]) -> Result<u64, LineFault>
     Ok(cluster)
 }
 
+/// Sets up the table that the first line asks for. It is a function of its own since the server is large: in `take_line`
+/// each line would pay for the place of a new one.
+#[inline(never)]
+fn begin(alloc: Global, server: &mut Option<Server>, line: &[u8]) -> Result<(), LineFault>
+    ensures ok { OnOk result ((cluster : ℕ) × IsTableLine line.now cluster × Fits (table cluster []) server.new) }
+    ensures not_understood { IsErrOf result LineFault.NotUnderstood → (cluster : ℕ) → IsTableLine line.now cluster → ⊥ }
+    ensures executed { executed_in server.new ≤ executed_in server.old }
+{
+    *server = Some(Server::new(alloc, cluster_of(alloc, line)?));
+    Ok(())
+}
+
 /// Takes a line that is not empty, and answers what it prints.
 fn take_line(alloc: Global, server: &mut Option<Server>, line: &[u8]) -> Result<String, LineFault>
     requires { executed_in server.old < 281474976710656 }
@@ -51,7 +63,7 @@ fn take_line(alloc: Global, server: &mut Option<Server>, line: &[u8]) -> Result<
     match server {
         Some(server) => server.print_line(alloc, line),
         None => {
-            *server = Some(Server::new(alloc, cluster_of(alloc, line)?));
+            begin(alloc, server, line)?;
             Ok(String::new(alloc))
         }
     }

@@ -1,11 +1,13 @@
 -- What one session more makes of the sessions.
-use Rattle.std.proofs.Common.{◌≡◌, ℕ, suc, ◌+◌, ◌<◌, ◌≤◌, true, false, eqb, nat_lt, ◌&&◌, List, [], ◌∷◌, length, refl, ap, sym, inl, inr, arith}
+use Rattle.std.proofs.Common.{◌≡◌, ℕ, zero, suc, ◌+◌, ◌<◌, ◌≤◌, true, false, eqb, nat_lt, ◌&&◌, List, [], ◌∷◌, length, get_or, None, refl, ap, sym, inl, inr, arith}
 use Rattle.std.specs.Prelude.{slice_get, slice_set, insert}
+use Rattle.std.specs.List.Sorted.{IsNonDecreasingBy, IsPartitionPoint}
 use Rattle.std.specs.List.{AllByRecursion, prefix_len}
 use Rattle.std.proofs.lemmas.Bool.{and_parts, and_from, cases_Bool, ltb-true, ltb-false, lt-ltb, le-ltb, eqb-true, eqb-false, eq-eqb, ne_eqb}
-use Rattle.std.proofs.lemmas.List.Sums.{prefix_len-le-length}
+use Rattle.std.proofs.lemmas.List.Sums.{prefix_len-le-length, prefix_len_is}
 use Rattle.std.proofs.lemmas.List.Edits.{length-insert}
-use Rattle.lk_state.specs.Sessions.{Session, is_at, with_session, are_rising_above, IsSession, AreSessions}
+use Rattle.lk_types.specs.declared.answer.Answer.TheVariants.{Bad}
+use Rattle.lk_state.specs.Sessions.{Session, session_of, own, is_at, with_session, are_rising_above, IsSession, AreSessions}
 
 -- how many stand before the client
 abbrev pub before : ℕ → List Session → ℕ
@@ -111,3 +113,53 @@ room_for s l here h new =
     let le = prefix_len-le-length (λ (t : Session). nat_lt t.client s.client) l in
     let many = ap length (inserted s l new) in
     omega (arith, few_sessions (with_session s l) (with_session-fits s l here h), many, length-insert l (before s.client l) s le)
+
+-- ---- finding a client's session
+
+-- each client of rising sessions is above the one in front of them
+above : (low : ℕ) (l : List Session) → are_rising_above low l ≡ true → (k : ℕ) (d : Session) → k < length l → low < (get_or l k d).client
+above low [] h k d lt = absurd (omega arith)
+above low (s ∷ l) h zero d lt = ltb-true low s.client (and_parts (nat_lt low s.client) (are_rising_above s.client l) h).0
+above low (s ∷ l) h (suc k) d lt =
+    let parts = and_parts (nat_lt low s.client) (are_rising_above s.client l) h in
+    omega (arith, ltb-true low s.client parts.0, above s.client l parts.1 k d (omega arith))
+
+-- rising sessions rise by client
+pub clients_rise : (low : ℕ) (l : List Session) → are_rising_above low l ≡ true → IsNonDecreasingBy (λ (s : Session). s.client) l
+clients_rise low [] h i j d le lt = absurd (omega arith)
+clients_rise low (s ∷ l) h zero zero d le lt = omega arith
+clients_rise low (s ∷ l) h zero (suc j) d le lt = omega (arith, above s.client l (and_parts (nat_lt low s.client) (are_rising_above s.client l) h).1 j d (omega arith))
+clients_rise low (s ∷ l) h (suc i) zero d le lt = absurd (omega arith)
+clients_rise low (s ∷ l) h (suc i) (suc j) d le lt = clients_rise s.client l (and_parts (nat_lt low s.client) (are_rising_above s.client l) h).1 i j d (omega arith) (omega arith)
+
+-- where the clients in front are below and the others are not
+pub place_is_before : (client n : ℕ) (l : List Session) → IsPartitionPoint (λ (s : Session). nat_lt s.client client ≡ true) (λ (s : Session). nat_lt s.client client ≡ false) l n → n ≤ length l → n ≡ before client l
+place_is_before client n l point le = sym (prefix_len_is (λ (s : Session). nat_lt s.client client) l n (record { client = 0; number = 0; answer = Bad }) le (λ k lt. point.0 k _ (omega arith) lt) (λ lt. point.1 n _ (omega arith) lt))
+
+none_above : (client low : ℕ) (l : List Session) → client ≤ low → are_rising_above low l ≡ true → session_of client l ≡ None
+none_above client low [] le h = refl
+none_above client low (s ∷ l) le h =
+    let parts = and_parts (nat_lt low s.client) (are_rising_above s.client l) h in
+    let lt = ltb-true low s.client parts.0 in
+    let other : eqb s.client client ≡ false = ne_eqb s.client client (λ e. omega arith) in
+    rw other (none_above client s.client l (omega arith) parts.1)
+
+-- in rising sessions a client's stands behind those of smaller clients, or nowhere
+pub session_of-before : (client low : ℕ) (l : List Session) → are_rising_above low l ≡ true → session_of client l ≡ own client (slice_get l (before client l))
+session_of-before client low [] h = refl
+session_of-before client low (s ∷ l) h =
+    let parts = and_parts (nat_lt low s.client) (are_rising_above s.client l) h in
+    elim (cases_Bool (nat_lt s.client client)) [
+      | inl lower ↦
+          let lt = ltb-true s.client client lower in
+          let other : eqb s.client client ≡ false = ne_eqb s.client client (λ e. omega arith) in
+          let more = before_lower client s l lower in
+          rw (other, more) (session_of-before client s.client l parts.1)
+      | inr not_lower ↦
+          let le = ltb-false s.client client not_lower in
+          let none : before client (s ∷ l) ≡ 0 = rw not_lower refl in
+          elim (cases_Bool (eqb s.client client)) [
+            | inl same ↦ rw (none, same) refl
+            | inr other ↦ rw (none, other) (none_above client s.client l le parts.1)
+          ]
+    ]

@@ -9,6 +9,11 @@ use Rattle.lk_types.specs.Answers.{IsAnswer}
 abbrev pub session_of : ℕ → List Session → Option Session
 session_of client sessions = find (λ s. s.client == client) sessions
 
+-- the session, where it is the client's
+abbrev pub own : ℕ → Option Session → Option Session
+own client None = None
+own client (Some s) = if s.client == client then Some s else None
+
 -- it is the client's session
 abbrev pub is_at : ℕ → Option Session → Bool
 is_at client None = false

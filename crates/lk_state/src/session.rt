@@ -1,6 +1,6 @@
 ghost use Rattle.std.specs.Prelude.{◌≡◌, ◌≤◌, ◌==◌, ◌↔◌, nat_lt, [], length, slice_get, IsTrue, IsSome, IfSome};
 ghost use Rattle.std.specs.List.{prefix_len, AllByRecursion};
-ghost use Rattle.lk_state.specs.Sessions.{session_of, is_at, with_session, are_rising_above, AreSessions, IsSession};
+ghost use Rattle.lk_state.specs.Sessions.{session_of, own, is_at, with_session, are_rising_above, AreSessions, IsSession};
 
 use arrayvec::ArrayVec;
 use lk_types::{Answer, ClientNo, RequestNumber};
@@ -90,7 +90,8 @@ impl Sessions {
     pub(crate) fn get(&self, client: ClientNo) -> Option<Session>
         ensures { result ≡ session_of client self.now }
     {
-        session_in(self.list.as_slice(), client)
+        let sessions = self.list.as_slice();
+        own_at(sessions, place_of(sessions, client), client)
     }
 
     /// Puts the session in place of an older one of its client.
@@ -131,29 +132,23 @@ fn are_rising(sessions: &[Session]) -> bool
     true
 }
 
-/// The client's session.
-fn session_in(sessions: &[Session], client: ClientNo) -> Option<Session>
-    ensures { result ≡ session_of client sessions.now }
-{
-    for session in sessions {
-        if session.client == client {
-            return Some(*session);
-        }
-    }
-    None
-}
-
 /// How many sessions of smaller clients stand in front.
 fn place_of(sessions: &[Session], client: ClientNo) -> usize
+    requires { IsTrue (are_rising_above 0 sessions.now) }
     ensures place { result ≡ prefix_len (λ s. nat_lt s.client client) sessions.now }
     ensures within { result ≤ length sessions.now }
 {
-    for (i, session) in sessions.iter().enumerate() {
-        if client.get() <= session.client.get() {
-            return i;
-        }
+    sessions.partition_point(|session| session.client < client)
+}
+
+/// The session at this index, where it is the client's.
+fn own_at(sessions: &[Session], index: usize, client: ClientNo) -> Option<Session>
+    ensures { result ≡ own client (slice_get sessions.now index) }
+{
+    match sessions.get(index) {
+        Some(session) => (session.client == client).then_some(*session),
+        None => None,
     }
-    sessions.len()
 }
 
 /// Whether the session at this index is the client's.

@@ -8,6 +8,6 @@ returns-in-Some-clause-ok c = if_ok c.print_line.result _ _
     (λ text printed s fits. some_line s c.in-Some.server c.print_line.new.self c.args.line.now _ (subst (Fits s) c.in-Some.is fits) c.print_line.ensures.cluster printed)
     c.print_line.ensures.ok
 
-pub returns-in_ok-cluster_of-in-None-clause-ok : goal.returns-in_ok-cluster_of-in-None-clause-ok
-returns-in_ok-cluster_of-in-None-clause-ok c = λ s fits.
-    none_line s c.new.result c.args.line.now _ c.in_ok-cluster_of-in-None.field-0 (subst (Fits s) c.in-None.is fits) c.in_ok-cluster_of-in-None.ensures.ok c.new-in-None.ensures.bytes c.new.ensures.cluster c.new.ensures.empty
+pub returns-in_ok-begin-in-None-clause-ok : goal.returns-in_ok-begin-in-None-clause-ok
+returns-in_ok-begin-in-None-clause-ok c = λ s fits.
+    none_line s c.begin.new.server c.args.line.now _ (subst (Fits s) c.in-None.is fits) c.in_ok-begin-in-None.ensures.ok c.new.ensures.bytes

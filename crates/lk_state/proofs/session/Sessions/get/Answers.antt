@@ -1,0 +1,16 @@
+-- The client's session stands behind those of smaller clients.
+use Rattle.std.proofs.Common.{◌∙◌, ap, sym, ℕ, List}
+use Rattle.std.specs.Prelude.{slice_get}
+use Rattle.lk_state.specs.Sessions.{Session, session_of, own}
+use Rattle.lk_state.proofs.SessionLaws.{before, session_of-before}
+use Rattle.lk_state.proofs.session.Sessions.get.Goals as goal
+
+pub returns : goal.returns
+returns c =
+    let client : ℕ = c.args.client in
+    let l : List Session = c.self.inside.list.items in
+    c.own_at.ensures
+    ∙ ap (λ (n : ℕ). own client (slice_get c.as_slice-sessions.result.now n)) c.place_of.ensures.place
+    ∙ ap (λ (m : List Session). own client (slice_get m (before client m))) c.as_slice-sessions.ensures.value
+    ∙ sym (session_of-before client 0 l c.self.invariant.1)
+    ∙ ap (session_of client) c.self.view_is
