@@ -1,5 +1,4 @@
 -- The ranges of what an answer holds, and its text.
-use Rattle.std.specs.Prelude.{ℕ, List, ◌++◌, codes}
 use Rattle.lk_types.specs.Ranges.{IsClient, IsCount, IsTotal}
 use Rattle.lk_types.specs.declared.answer.Answer.{Answer}
 use Rattle.lk_types.specs.declared.answer.Answer.TheVariants.{Granted, Busy, Released, NotHeld, Free, Held, Valid, Stale, NoRoom, Bad, Spent, Joined, Used, Full, Left, NotMember, Last}

@@ -1,17 +1,19 @@
 -- The order of ballots, and which there are.
-use Rattle.std.specs.Prelude.{◌≡◌, ℕ, ◌⊎◌, ◌<◌, Bool, nat_lt, ◌&&◌, ◌||◌, ◌==◌}
-use Rattle.std.specs.Ordering.{nat_cmp, ordering_then}
-use Rattle.std.specs.declared.cmp.Ordering.{Ordering}
+use Rattle.std.specs.Prelude.{◌≡◌, ◌⊎◌, ◌<◌, Bool, nat_lt, ◌&&◌, ◌||◌, ◌==◌}
 use Rattle.lk_types.specs.BallotValue.{BallotValue}
 use Rattle.lk_types.specs.Ranges.{IsCount, IsNode}
-
--- by round, and then by node
-abbrev pub ballot_cmp : BallotValue → BallotValue → Ordering
-ballot_cmp a b = ordering_then (nat_cmp a.round b.round) (nat_cmp a.node b.node)
 
 -- one ballot is below another: a smaller round, or the same round and a smaller node
 abbrev pub IsBelow : BallotValue → BallotValue → Type 0
 IsBelow a b = (a.round < b.round) ⊎ ((a.round ≡ b.round) × (a.node < b.node))
+
+-- below it, or the same
+abbrev pub IsAtMost : BallotValue → BallotValue → Type 0
+IsAtMost a b = IsBelow a b ⊎ (a ≡ b)
+
+-- whether one is below another, for definitions that choose by it
+abbrev pub is_below : BallotValue → BallotValue → Bool
+is_below a b = nat_lt a.round b.round || (a.round == b.round && nat_lt a.node b.node)
 
 -- below all real ballots
 abbrev pub zero_ballot : BallotValue

@@ -1,5 +1,4 @@
 -- The ranges of what a command holds.
-use Rattle.std.specs.Prelude.{ℕ}
 use Rattle.lk_types.specs.Ranges.{IsNode, IsPort, IsCount, IsClient}
 use Rattle.lk_types.specs.Payloads.{IsPayload}
 use Rattle.lk_types.specs.declared.command.Op.{Op}

@@ -1,6 +1,7 @@
--- When a genesis is refused.
+-- When a genesis is refused, and under which number.
 use Rattle.std.specs.Prelude.{ℕ, nat_lt, ◌||◌, not, List, length, Option, Some, None, if◌then◌else◌}
-use Rattle.lk_types.specs.Rosters.{are_rising_above}
+use Rattle.lk_types.specs.Limits.{max_members, max_alpha}
+use Rattle.lk_types.specs.Rosters.{are_members_above}
 use Rattle.lk_types.specs.declared.member.Member.{Member}
 use Rattle.lk_types.specs.declared.genesis.GenesisFault.{GenesisFault}
 use Rattle.lk_types.specs.declared.genesis.GenesisFault.TheVariants as fault
@@ -9,7 +10,14 @@ use Rattle.lk_types.specs.declared.genesis.GenesisFault.TheVariants as fault
 abbrev pub genesis_fault : ℕ → List Member → Option GenesisFault
 genesis_fault alpha ms =
     if nat_lt (length ms) 1 then Some fault.NoMembers
-    else if nat_lt 7 (length ms) then Some fault.TooMany
-    else if not (are_rising_above 0 ms) then Some fault.NotRising
-    else if nat_lt alpha 1 || nat_lt 16 alpha then Some fault.BadAlpha
+    else if nat_lt max_members (length ms) then Some fault.TooMany
+    else if not (are_members_above 0 ms) then Some fault.NotRising
+    else if nat_lt alpha 1 || nat_lt max_alpha alpha then Some fault.BadAlpha
     else None
+
+-- the numbers of the faults, in that order
+abbrev pub fault_number : GenesisFault → ℕ
+fault_number fault.NoMembers = 1
+fault_number fault.TooMany = 2
+fault_number fault.NotRising = 3
+fault_number fault.BadAlpha = 4

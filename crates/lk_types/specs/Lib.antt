@@ -1,3 +1,4 @@
+pub mod Limits
 pub mod Ranges
 pub mod BallotValue
 pub mod Ballots
@@ -7,3 +8,4 @@ pub mod Votes
 pub mod Answers
 pub mod Rosters
 pub mod Genesis
+pub mod Geneses

@@ -1,6 +1,7 @@
 -- What the body of a request to the machine may be.
 use Rattle.std.specs.Prelude.{ℕ, ◌≤◌, List, length}
+use Rattle.lk_types.specs.Limits.{max_payload}
 
 -- it has 1 to 64 bytes
 abbrev pub IsPayload : List ℕ → Type 0
-IsPayload bytes = (1 ≤ length bytes) × (length bytes ≤ 64)
+IsPayload bytes = (1 ≤ length bytes) × (length bytes ≤ max_payload)

@@ -1,26 +1,27 @@
 -- The ranges of the numbers.
 use Rattle.std.specs.Prelude.{ℕ, ◌≤◌}
+use Rattle.lk_types.specs.Limits.{max_count, max_node, max_client, max_port, max_alpha}
 
 -- a node's number: 1 to 2^31
 abbrev pub IsNode : ℕ → Type 0
-IsNode n = (1 ≤ n) × (n ≤ 2147483648)
+IsNode n = (1 ≤ n) × (n ≤ max_node)
 
 -- a client's number: 1 to 256
 abbrev pub IsClient : ℕ → Type 0
-IsClient n = (1 ≤ n) × (n ≤ 256)
+IsClient n = (1 ≤ n) × (n ≤ max_client)
 
 -- a port: 1 to 65,535
 abbrev pub IsPort : ℕ → Type 0
-IsPort n = (1 ≤ n) × (n ≤ 65535)
+IsPort n = (1 ≤ n) × (n ≤ max_port)
 
 -- a position, a round, a fence or a request's number: 1 to 2^48
 abbrev pub IsCount : ℕ → Type 0
-IsCount n = (1 ≤ n) × (n ≤ 281474976710656)
+IsCount n = (1 ≤ n) × (n ≤ max_count)
 
 -- so many positions, or the last fence of a name that may be unknown: 0 to 2^48
 abbrev pub IsTotal : ℕ → Type 0
-IsTotal n = n ≤ 281474976710656
+IsTotal n = n ≤ max_count
 
 -- how many positions ahead the members are known: 1 to 16
 abbrev pub IsAlpha : ℕ → Type 0
-IsAlpha n = (1 ≤ n) × (n ≤ 16)
+IsAlpha n = (1 ≤ n) × (n ≤ max_alpha)

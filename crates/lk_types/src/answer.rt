@@ -48,43 +48,54 @@ impl Answer {
     /// Each part is in its range. It does nothing.
     pub fn facts(self)
         ensures { IsAnswer self }
-    {
+    {}
+
+    /// The answer in words, without its numbers.
+    fn word(self) -> &'static str {
         match self {
-            Answer::Granted(fence) => {
-                let _ = fence.get();
-            }
-            Answer::Busy(holder, fence) | Answer::Held(holder, fence) => {
-                let _ = holder.get();
-                let _ = fence.get();
-            }
-            Answer::Free(fence) => {
-                let _ = fence.get();
-            }
-            _ => {}
+            Answer::Granted(_) => "granted",
+            Answer::Busy(_, _) => "busy",
+            Answer::Released => "released",
+            Answer::NotHeld => "not held",
+            Answer::Free(_) => "free",
+            Answer::Held(_, _) => "held",
+            Answer::Valid => "valid",
+            Answer::Stale => "stale",
+            Answer::NoRoom => "no room",
+            Answer::Bad => "bad",
+            Answer::Spent => "spent",
+            Answer::Joined => "joined",
+            Answer::Used => "used",
+            Answer::Full => "full",
+            Answer::Left => "left",
+            Answer::NotMember => "not a member",
+            Answer::Last => "last",
         }
     }
 }
 
 impl fmt::Display for Answer {
     fn fmt<W: fmt::Write>(&self, f: &mut fmt::Formatter<W>) -> fmt::Result {
+        let word = self.word();
         match self {
-            Answer::Granted(fence) => write!(f, "granted {}", fence.get()),
-            Answer::Busy(holder, fence) => write!(f, "busy {} {}", holder.get(), fence.get()),
-            Answer::Released => write!(f, "released"),
-            Answer::NotHeld => write!(f, "not held"),
-            Answer::Free(fence) => write!(f, "free {}", fence.get()),
-            Answer::Held(holder, fence) => write!(f, "held {} {}", holder.get(), fence.get()),
-            Answer::Valid => write!(f, "valid"),
-            Answer::Stale => write!(f, "stale"),
-            Answer::NoRoom => write!(f, "no room"),
-            Answer::Bad => write!(f, "bad"),
-            Answer::Spent => write!(f, "spent"),
-            Answer::Joined => write!(f, "joined"),
-            Answer::Used => write!(f, "used"),
-            Answer::Full => write!(f, "full"),
-            Answer::Left => write!(f, "left"),
-            Answer::NotMember => write!(f, "not a member"),
-            Answer::Last => write!(f, "last"),
+            Answer::Granted(fence) => write!(f, "{word} {}", fence.get()),
+            Answer::Busy(holder, fence) | Answer::Held(holder, fence) => {
+                write!(f, "{word} {} {}", holder.get(), fence.get())
+            }
+            Answer::Free(fence) => write!(f, "{word} {}", fence.get()),
+            Answer::Released
+            | Answer::NotHeld
+            | Answer::Valid
+            | Answer::Stale
+            | Answer::NoRoom
+            | Answer::Bad
+            | Answer::Spent
+            | Answer::Joined
+            | Answer::Used
+            | Answer::Full
+            | Answer::Left
+            | Answer::NotMember
+            | Answer::Last => f.write_str(word),
         }
     }
 }

@@ -1,6 +1,6 @@
 ghost use Rattle.std.specs.Prelude.{◌≡◌, ◌≤◌, ◌↔◌, ℕ, IsSome, IfSome, IsTrue};
 ghost use Rattle.lk_types.specs.Ranges.{IsNode, IsCount};
-ghost use Rattle.lk_types.specs.Ballots.{IsMark, IsReal, zero_ballot};
+ghost use Rattle.lk_types.specs.Ballots.{IsBelow, IsMark, IsReal, is_below};
 
 use crate::node::NodeNo;
 use crate::round::Round;
@@ -58,6 +58,14 @@ impl Ballot {
         ensures in_range { IsMark self }
     {
         self.node
+    }
+
+    /// Whether it is below another: its round is smaller, or the rounds are equal and its node is.
+    pub fn is_below(self, other: Ballot) -> bool
+        ensures order { IsTrue result ↔ IsBelow self other }
+        ensures test { result ≡ is_below self other }
+    {
+        self < other
     }
 }
 

@@ -1,6 +1,7 @@
 ghost use Rattle.std.specs.Prelude.{◌≡◌, ◌≤◌, ◌↔◌, ℕ, IsSome, IfSome};
 ghost use Rattle.lk_types.specs.Ranges.{IsClient};
 
+use crate::limits::MAX_CLIENT;
 use std::marker::Model;
 
 /// A client's number, from 1 to 256.
@@ -25,7 +26,7 @@ impl ClientNo {
         ensures some { IsSome result ↔ IsClient value }
         ensures value { IfSome result (λ n. n ≡ value) }
     {
-        if value < 1 || value > 256 {
+        if value < 1 || value > MAX_CLIENT {
             return None;
         }
         Some(ClientNo { value })

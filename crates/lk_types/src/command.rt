@@ -3,6 +3,7 @@ ghost use Rattle.lk_types.specs.Payloads.{IsPayload};
 ghost use Rattle.lk_types.specs.Commands.{IsOp, IsRequest, IsCommand};
 
 use crate::client::ClientNo;
+use crate::limits::MAX_PAYLOAD;
 use crate::node::NodeNo;
 use crate::port::Port;
 use crate::request_number::RequestNumber;
@@ -12,7 +13,7 @@ use std::marker::Model;
 /// The body of a request to the machine: 1 to 64 bytes, which only the machine reads.
 #[derive(Clone, Debug, PartialEq, Eq, PartialOrd, Ord, Hash, Drop)]
 pub struct Payload {
-    bytes: ArrayVec<u8, 64>,
+    bytes: ArrayVec<u8, MAX_PAYLOAD>,
 }
 
 impl Model for Payload {

@@ -1,6 +1,8 @@
-ghost use Rattle.std.specs.Prelude.{◌≡◌, ◌≤◌, ◌↔◌, ℕ, IfOk, IfErr, MatchResult, Some, None};
-ghost use Rattle.lk_types.specs.Genesis.{genesis_fault};
+ghost use Rattle.std.specs.Prelude.{◌≡◌, ◌≤◌, ◌<◌, ℕ, IfOk, MatchResult, Some, None};
+ghost use Rattle.lk_types.specs.Limits.{max_alpha};
+ghost use Rattle.lk_types.specs.Genesis.{genesis_fault, fault_number};
 
+use crate::limits::{MAX_ALPHA, MAX_MEMBERS};
 use crate::member::{Member, Members};
 use thiserror::Error;
 
@@ -17,16 +19,27 @@ pub enum GenesisFault {
     BadAlpha = 4,
 }
 
+impl GenesisFault {
+    /// The number of this refusal.
+    pub fn number(self) -> u8
+        ensures { result ≡ fault_number self }
+    {
+        self as u8
+    }
+}
+
 /// How a cluster begins: its number, how many positions ahead its members are known, and its first members.
 #[derive(Debug, PartialEq, Eq, Drop)]
 pub struct Genesis {
     pub cluster: u64,
     pub alpha: u8,
     pub members: Members,
-    pub ghost in_range: { (1 ≤ alpha) × (alpha ≤ 16) },
+    pub ghost in_range: { (1 ≤ alpha) × (alpha ≤ max_alpha) },
 }
 
 impl Genesis {
+    ghost use Rattle.lk_types.specs.Geneses.{IsGenesis};
+
     /// The genesis, or why there is none.
     pub fn of(cluster: u64, alpha: u8, members: &[Member]) -> Result<Genesis, GenesisFault>
         ensures ok { IfOk result (λ g. (g.cluster ≡ cluster) × (g.alpha ≡ alpha) × (g.members ≡ members.now)) }
@@ -35,13 +48,13 @@ impl Genesis {
         if members.is_empty() {
             return Err(GenesisFault::NoMembers);
         }
-        if members.len() > 7 {
+        if members.len() > MAX_MEMBERS {
             return Err(GenesisFault::TooMany);
         }
         let Some(members) = Members::of(members) else {
             return Err(GenesisFault::NotRising);
         };
-        if alpha < 1 || alpha > 16 {
+        if alpha < 1 || alpha > MAX_ALPHA {
             return Err(GenesisFault::BadAlpha);
         }
         Ok(Genesis {
@@ -62,5 +75,13 @@ impl Genesis {
             alpha: self.alpha,
             members: self.members.copy(),
         }
+    }
+
+    /// Each part is in its range, and the members rise by node. It does nothing.
+    pub fn facts(&self)
+        ensures { IsGenesis self.now }
+    {
+        let _cluster = self.cluster;
+        self.members.facts();
     }
 }

@@ -1,6 +1,7 @@
 ghost use Rattle.std.specs.Prelude.{◌≡◌, ◌≤◌, ◌↔◌, ℕ, IsSome, IfSome};
 ghost use Rattle.lk_types.specs.Ranges.{IsTotal};
 
+use crate::limits::MAX_COUNT;
 use std::marker::Model;
 
 /// The last fence of a name, from 0 (never granted) to 2^48.
@@ -25,7 +26,7 @@ impl LastFence {
         ensures some { IsSome result ↔ IsTotal value }
         ensures value { IfSome result (λ n. n ≡ value) }
     {
-        if value > 281474976710656 {
+        if value > MAX_COUNT {
             return None;
         }
         Some(LastFence { value })

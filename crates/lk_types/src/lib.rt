@@ -11,6 +11,7 @@ mod executed;
 mod fence;
 mod genesis;
 mod last_fence;
+pub mod limits;
 mod member;
 mod memory;
 mod node;

@@ -1,6 +1,8 @@
 ghost use Rattle.std.specs.Prelude.{◌≡◌, ◌≤◌, ◌↔◌, ℕ, List, length, IsSome, IfSome};
-ghost use Rattle.lk_types.specs.Rosters.{AreMembers, IsMember, are_rising_above};
+ghost use Rattle.std.specs.List.{AllByRecursion};
+ghost use Rattle.lk_types.specs.Rosters.{AreMembers, IsMember, are_members_above};
 
+use crate::limits::MAX_MEMBERS;
 use crate::node::NodeNo;
 use crate::port::Port;
 use arrayvec::ArrayVec;
@@ -17,16 +19,13 @@ impl Member {
     /// Each part is in its range. It does nothing.
     pub fn facts(self)
         ensures { IsMember self }
-    {
-        let _ = self.node.get();
-        let _ = self.port.get();
-    }
+    {}
 }
 
 /// 1 to 7 members, rising by node.
 #[derive(Clone, Debug, PartialEq, Eq, Drop)]
 pub struct Members {
-    list: ArrayVec<Member, 7>,
+    list: ArrayVec<Member, MAX_MEMBERS>,
 }
 
 impl Model for Members {
@@ -45,7 +44,7 @@ impl Model for Members {
 
 /// Whether the nodes rise strictly.
 fn are_rising(members: &[Member]) -> bool
-    ensures { result ≡ are_rising_above 0 members.now }
+    ensures { result ≡ are_members_above 0 members.now }
 {
     let mut low = 0;
     for member in members {
@@ -77,6 +76,17 @@ impl Members {
         ensures fits { AreMembers self.now }
     {
         self.list.as_slice()
+    }
+
+    /// Each member is in its ranges, and they rise by node. It does nothing.
+    pub fn facts(&self)
+        ensures members { AreMembers self.now }
+        ensures ranges { AllByRecursion IsMember self.now }
+    {
+        let members = self.as_slice();
+        for member in members {
+            member.facts();
+        }
     }
 
     /// The same set. It takes no memory.

@@ -1,6 +1,7 @@
 ghost use Rattle.std.specs.Prelude.{◌≡◌, ◌≤◌, ◌↔◌, ℕ, IsSome, IfSome};
 ghost use Rattle.lk_types.specs.Ranges.{IsNode};
 
+use crate::limits::MAX_NODE;
 use std::marker::Model;
 
 /// A node's number, from 1 to 2^31.
@@ -25,7 +26,7 @@ impl NodeNo {
         ensures some { IsSome result ↔ IsNode value }
         ensures value { IfSome result (λ n. n ≡ value) }
     {
-        if value < 1 || value > 2147483648 {
+        if value < 1 || value > MAX_NODE {
             return None;
         }
         Some(NodeNo { value })

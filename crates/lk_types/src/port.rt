@@ -1,6 +1,7 @@
 ghost use Rattle.std.specs.Prelude.{◌≡◌, ◌≤◌, ◌↔◌, ℕ, IsSome, IfSome};
 ghost use Rattle.lk_types.specs.Ranges.{IsPort};
 
+use crate::limits::MAX_PORT;
 use std::marker::Model;
 
 /// A UDP port, from 1 to 65,535.
@@ -25,7 +26,7 @@ impl Port {
         ensures some { IsSome result ↔ IsPort value }
         ensures value { IfSome result (λ n. n ≡ value) }
     {
-        if value < 1 || value > 65535 {
+        if value < 1 || value > MAX_PORT {
             return None;
         }
         Some(Port { value })

@@ -1,6 +1,7 @@
 ghost use Rattle.std.specs.Prelude.{◌≡◌, ◌≤◌, ◌↔◌, ℕ, IsSome, IfSome};
 ghost use Rattle.lk_types.specs.Ranges.{IsCount};
 
+use crate::limits::MAX_COUNT;
 use std::marker::Model;
 
 /// A position of the list of commands, from 1 to 2^48.
@@ -25,7 +26,7 @@ impl Position {
         ensures some { IsSome result ↔ IsCount value }
         ensures value { IfSome result (λ n. n ≡ value) }
     {
-        if value < 1 || value > 281474976710656 {
+        if value < 1 || value > MAX_COUNT {
             return None;
         }
         Some(Position { value })

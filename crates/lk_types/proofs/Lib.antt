@@ -1,0 +1,3 @@
+mod BallotOrder
+mod SameGenesis
+pub mod Values

@@ -1,0 +1,66 @@
+-- The limits that all crates share. `src/limits.rt` has them for the code, under the same names and with their reasons.
+use Rattle.std.specs.Prelude.{ℕ, ◌*◌, ◌^◌}
+
+-- rounds, positions, fences, request numbers and generations
+abbrev pub max_count : ℕ
+max_count = 2 ^ 48
+
+-- numbers of nodes
+abbrev pub max_node : ℕ
+max_node = 2 ^ 31
+
+-- clients, and so sessions
+abbrev pub max_client : ℕ
+max_client = 256
+
+-- ports
+abbrev pub max_port : ℕ
+max_port = 65535
+
+-- how many positions ahead the members are known
+abbrev pub max_alpha : ℕ
+max_alpha = 16
+
+-- members of a position
+abbrev pub max_members : ℕ
+max_members = 7
+
+-- bytes of a payload
+abbrev pub max_payload : ℕ
+max_payload = 64
+
+-- names in a table
+abbrev pub max_names : ℕ
+max_names = 512
+
+-- bytes of a name
+abbrev pub max_name : ℕ
+max_name = 32
+
+-- votes, or decided commands, above a snapshot
+abbrev pub max_votes : ℕ
+max_votes = 2 * max_alpha
+
+-- commands that one Decided tells
+abbrev pub max_commands : ℕ
+max_commands = max_alpha
+
+-- bytes of a snapshot in one Part
+abbrev pub max_part : ℕ
+max_part = 1024
+
+-- bytes of a datagram
+abbrev pub max_datagram : ℕ
+max_datagram = 8192
+
+-- bytes of a packed machine
+abbrev pub max_machine : ℕ
+max_machine = 36000
+
+-- bytes of a Base with its length in front, and so of the snapshot in it
+abbrev pub max_base : ℕ
+max_base = 48 * 1024
+
+-- the greatest length that an entry which is not all there may tell
+abbrev pub max_torn : ℕ
+max_torn = 64 * 1024
