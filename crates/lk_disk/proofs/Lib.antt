@@ -1,2 +1,3 @@
-pub mod Counts
-pub mod Keep
+mod Counts
+mod Keep
+pub mod Images

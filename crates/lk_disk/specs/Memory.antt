@@ -29,8 +29,8 @@ with_disk A d m = record m { a = d }
 with_disk B d m = record m { b = d }
 
 -- a count goes up by one, and stays at its greatest value
-abbrev pub counted : ℕ → ℕ
-counted n = if nat_lt n (2 ^ 64 - 1) then n + 1 else n
+abbrev pub one_more : ℕ → ℕ
+one_more n = if nat_lt n (2 ^ 64 - 1) then n + 1 else n
 
 -- no more calls pass
 abbrev pub is_blown : Option ℕ → Bool
@@ -51,13 +51,13 @@ abbrev pub called : Memory → Memory
 called m = record m {
   trap = trap_behind m.trap;
   fuse = fuse_behind m.fuse;
-  calls = counted m.calls;
+  calls = one_more m.calls;
   sprung = m.sprung || is_due m.trap;
 }
 
 -- a call failed
 abbrev pub failed : Memory → Memory
-failed m = record m { failures = counted m.failures }
+failed m = record m { failures = one_more m.failures }
 
 -- a changing call failed, and no disk has changed
 abbrev pub refused : Memory → Memory

@@ -15,9 +15,9 @@ pub enum Side {
 /// The device failed in a call: refusal 7.
 #[derive(Clone, Copy, Debug, PartialEq, Eq, Error)]
 #[error("the device failed")]
-pub struct Device;
+pub struct DeviceFault;
 
-impl Device {
+impl DeviceFault {
     /// The number of this refusal.
     pub fn number(self) -> u8
         ensures { result ≡ 7 }
@@ -42,28 +42,28 @@ pub trait LogDisk {
     ghost failures: { Self → ℕ };
 
     /// The number of bytes of a disk, synced or not.
-    fn length(&mut self, side: Side) -> Result<usize, Device>
+    fn length(&mut self, side: Side) -> Result<usize, DeviceFault>
         ensures value { is_honest → IfOk result (λ n. n ≡ length (contents (disk self.old side))) }
         ensures unchanged { is_honest → (s : Side) → disk self.new s ≡ disk self.old s }
         ensures cause { HasCause (failures self.old) (failures self.new) result };
 
     /// Fills the buffer with the bytes from the offset on. A read past the end fails. After an `Err` the buffer may hold
     /// anything.
-    fn read_into(&mut self, side: Side, offset: usize, buffer: &mut [u8]) -> Result<(), Device>
+    fn read_into(&mut self, side: Side, offset: usize, buffer: &mut [u8]) -> Result<(), DeviceFault>
         ensures value { is_honest → OnOk result (buffer.new ≡ slice_range (contents (disk self.old side)) offset (offset + length buffer.old)) }
         ensures within { is_honest → OnOk result (offset + length buffer.old ≤ length (contents (disk self.old side))) }
         ensures unchanged { is_honest → (s : Side) → disk self.new s ≡ disk self.old s }
         ensures cause { HasCause (failures self.old) (failures self.new) result };
 
     /// Adds a piece at the end, unsynced. A failed call adds a beginning of it.
-    fn append(&mut self, side: Side, piece: &[u8]) -> Result<(), Device>
+    fn append(&mut self, side: Side, piece: &[u8]) -> Result<(), DeviceFault>
         ensures ok { is_honest → OnOk result (disk self.new side ≡ appended (disk self.old side) piece.now) }
         ensures err { is_honest → OnErr result (AppendsSome piece.now (disk self.old side) (disk self.new side)) }
         ensures beside { is_honest → disk self.new (other side) ≡ disk self.old (other side) }
         ensures cause { HasCause (failures self.old) (failures self.new) result };
 
     /// Makes all bytes synced. A failed call changes nothing.
-    fn sync(&mut self, side: Side) -> Result<(), Device>
+    fn sync(&mut self, side: Side) -> Result<(), DeviceFault>
         ensures ok { is_honest → OnOk result (disk self.new side ≡ flushed (disk self.old side)) }
         ensures err { is_honest → OnErr result (disk self.new side ≡ disk self.old side) }
         ensures beside { is_honest → disk self.new (other side) ≡ disk self.old (other side) }
@@ -71,7 +71,7 @@ pub trait LogDisk {
 
     /// Leaves the first `len` bytes, all of them synced. A failed call leaves those that are synced of them, and may
     /// leave more. A cut past the end fails and changes nothing.
-    fn cut(&mut self, side: Side, len: usize) -> Result<(), Device>
+    fn cut(&mut self, side: Side, len: usize) -> Result<(), DeviceFault>
         ensures ok { is_honest → OnOk result (disk self.new side ≡ cut_to len (disk self.old side)) }
         ensures within { is_honest → OnOk result (len ≤ length (contents (disk self.old side))) }
         ensures err { is_honest → OnErr result (CutShort len (disk self.old side) (disk self.new side)) }

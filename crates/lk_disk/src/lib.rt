@@ -7,6 +7,6 @@ mod memory;
 mod memory_file;
 mod trap;
 
-pub use device::{Device, LogDisk, Side};
+pub use device::{DeviceFault, LogDisk, Side};
 pub use memory::MemoryDisk;
 pub use trap::{Trap, Trapped};

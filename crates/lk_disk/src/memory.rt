@@ -4,7 +4,7 @@ ghost use Rattle.lk_disk.specs.Disk.{MayLeave, contents, appended, flushed, cut_
 ghost use Rattle.lk_disk.specs.Memory.{disk_of, with_disk, is_refused, called, failed, refused, wanting};
 ghost use Rattle.lk_disk.specs.declared.device.Side.{Side};
 
-use crate::device::{Device, LogDisk, Side};
+use crate::device::{DeviceFault, LogDisk, Side};
 use crate::memory_file::MemoryFile;
 use crate::trap::{Trap, Trapped};
 use std::alloc::{AllocError, Global};
@@ -122,7 +122,7 @@ impl MemoryDisk {
     }
 
     // Counts a changing call, which the trap or the fuse may fail.
-    fn begin(&mut self) -> Result<(), Device>
+    fn begin(&mut self) -> Result<(), DeviceFault>
         ensures ok { OnOk result (IsFalse (is_refused self.old) × (self.new ≡ called self.old)) }
         ensures err { OnErr result (IsTrue (is_refused self.old) × (self.new ≡ refused self.old)) }
     {
@@ -139,11 +139,11 @@ impl MemoryDisk {
     }
 
     // Counts a failure.
-    fn fail(&mut self) -> Device
+    fn fail(&mut self) -> DeviceFault
         ensures { self.new ≡ failed self.old }
     {
         self.failures = self.failures.saturating_add(1);
-        Device
+        DeviceFault
     }
 
     fn len_of(&self, side: Side) -> usize
@@ -192,14 +192,14 @@ impl LogDisk for MemoryDisk {
 
     ghost failures = { λ m. m.failures };
 
-    fn length(&mut self, side: Side) -> Result<usize, Device>
+    fn length(&mut self, side: Side) -> Result<usize, DeviceFault>
         ensures value { result ≡ Ok (length (contents (disk_of self.old side))) }
         ensures unchanged { self.new ≡ self.old }
     {
         Ok(self.len_of(side))
     }
 
-    fn read_into(&mut self, side: Side, offset: usize, buffer: &mut [u8]) -> Result<(), Device>
+    fn read_into(&mut self, side: Side, offset: usize, buffer: &mut [u8]) -> Result<(), DeviceFault>
         ensures within { IsOk result ↔ (offset + length buffer.old ≤ length (contents (disk_of self.old side))) }
         ensures value { OnOk result (buffer.new ≡ slice_range (contents (disk_of self.old side)) offset (offset + length buffer.old)) }
         ensures ok { OnOk result (self.new ≡ self.old) }
@@ -212,7 +212,7 @@ impl LogDisk for MemoryDisk {
         if is_read { Ok(()) } else { Err(self.fail()) }
     }
 
-    fn append(&mut self, side: Side, piece: &[u8]) -> Result<(), Device>
+    fn append(&mut self, side: Side, piece: &[u8]) -> Result<(), DeviceFault>
         ensures refused { IsTrue (is_refused self.old) → IsErr result × (self.new ≡ refused self.old) }
         ensures passed { IsFalse (is_refused self.old) → MatchResult result
             (λ _. self.new ≡ with_disk side (appended (disk_of self.old side) piece.now) (called self.old))
@@ -226,7 +226,7 @@ impl LogDisk for MemoryDisk {
         Ok(())
     }
 
-    fn sync(&mut self, side: Side) -> Result<(), Device>
+    fn sync(&mut self, side: Side) -> Result<(), DeviceFault>
         ensures refused { IsTrue (is_refused self.old) → IsErr result × (self.new ≡ refused self.old) }
         ensures passed { IsFalse (is_refused self.old) → IsOk result
             × (self.new ≡ with_disk side (flushed (disk_of self.old side)) (called self.old)) }
@@ -236,7 +236,7 @@ impl LogDisk for MemoryDisk {
         Ok(())
     }
 
-    fn cut(&mut self, side: Side, len: usize) -> Result<(), Device>
+    fn cut(&mut self, side: Side, len: usize) -> Result<(), DeviceFault>
         ensures refused { IsTrue (is_refused self.old) → IsErr result × (self.new ≡ refused self.old) }
         ensures past_end { length (contents (disk_of self.old side)) < len → IsErr result × (self.new ≡ refused self.old) }
         ensures passed { IsFalse (is_refused self.old) → len ≤ length (contents (disk_of self.old side)) → IsOk result
