@@ -3,7 +3,7 @@ use Rattle.std.proofs.Common.{◌≡◌, ℕ, suc, ◌+◌, ◌<◌, ◌≤◌, 
 use Rattle.std.proofs.lemmas.Bool.{cases_lt, ltb-false}
 use Rattle.std.proofs.lemmas.List.{length-take, get_or-drop, get_or-take, get_or_past, append-nil, nil_from_length}
 use Rattle.lk_wire.specs.Fronts.{ReadsFront}
-use Rattle.lk_wire.specs.Parser.{◌>>=◌, Finds, byte_at, both, made, tested, whole}
+use Rattle.lk_wire.specs.Parser.{◌>>=◌, Finds, read_byte, both, made, tested, whole}
 
 abbrev pub IsBytes : List ℕ → Type 0
 IsBytes bytes = (i : ℕ) → get_or bytes i 0 < 256
@@ -123,13 +123,13 @@ module _ {X : Type 0} where
 
 -- ---- a byte
 
-byte_takes : (bytes : List ℕ) (x : ℕ) (rest : List ℕ) → IsBytes bytes → byte_at bytes ≡ Some (x, rest) → Took (λ (n : ℕ). n ∷ []) (λ (n : ℕ). n < 256) bytes x rest
+byte_takes : (bytes : List ℕ) (x : ℕ) (rest : List ℕ) → IsBytes bytes → read_byte bytes ≡ Some (x, rest) → Took (λ (n : ℕ). n ∷ []) (λ (n : ℕ). n < 256) bytes x rest
 byte_takes [] x rest h e = absurd cc
 byte_takes (b ∷ bytes) x rest h e =
     let read : ℕ × List ℕ = (b, bytes) in
     subst (λ (z : ℕ × List ℕ). Took (λ (n : ℕ). n ∷ []) (λ (n : ℕ). n < 256) (b ∷ bytes) z.0 z.1) (some_is read (x, rest) e) (record { parts = refl; rest_fits = IsBytes-rest b bytes h; fits = h 0 })
 
-pub byte_reads : Reads byte_at (λ (n : ℕ). n ∷ []) (λ (n : ℕ). n < 256)
+pub byte_reads : Reads read_byte (λ (n : ℕ). n ∷ []) (λ (n : ℕ). n < 256)
 byte_reads = record { takes = byte_takes; again = λ x rest fits. refl }
 
 -- ---- what follows for any reader

@@ -13,9 +13,9 @@ use Rattle.lk_wire.specs.declared.message.Content.TheVariants as content
 use Rattle.lk_wire.specs.declared.message.Message.{Message}
 use Rattle.lk_wire.specs.Fields.{one, four, eight, request}
 use Rattle.lk_wire.specs.Grammar.{kind, sender, fields, header, spelling, IsContent, IsMessage, Spells}
-use Rattle.lk_wire.specs.Parser.{◌>>=◌, byte_at, both, made}
-use Rattle.lk_wire.specs.FieldReading.{is_from_1_to, four_at, eight_at, request_at}
-use Rattle.lk_wire.specs.Reading.{Gives, node_of, asked_at, content_of, header_at, message_at, all_of}
+use Rattle.lk_wire.specs.Parser.{◌>>=◌, read_byte, both, made}
+use Rattle.lk_wire.specs.FieldReading.{is_from_1_to, read_four, read_eight, read_request}
+use Rattle.lk_wire.specs.Reading.{Gives, node_of, read_asked, content_of, read_header, read_message, all_of}
 use Rattle.lk_wire.proofs.Codec.{IsBytes, bind_ok, chosen, some_is, Took, Reads, both_reads, made_as, byte_reads, one_front, whole_takes, whole_again}
 use Rattle.lk_wire.proofs.NumberLaws.{four_reads, eight_reads}
 use Rattle.lk_wire.proofs.FieldLaws.{is_in, passes, request_reads}
@@ -29,11 +29,11 @@ record Holds (k from : ℕ) (bytes : List ℕ) (c : Content) (rest : List ℕ) :
   sender_is : sender c ≡ from
   took : Took fields IsContent bytes c rest
 
-asked_takes : (k from : ℕ) (bytes : List ℕ) (c : Content) (rest : List ℕ) → k ≡ 9 → IsBytes bytes → asked_at from bytes ≡ Some (c, rest) → Holds k from bytes c rest
-unfolding asked_at
+asked_takes : (k from : ℕ) (bytes : List ℕ) (c : Content) (rest : List ℕ) → k ≡ 9 → IsBytes bytes → read_asked from bytes ≡ Some (c, rest) → Holds k from bytes c rest
+unfolding read_asked
 asked_takes k from bytes c rest k9 h e =
-    elim (chosen (eqb from 0) (made content.Request request_at bytes) None (Some (c, rest)) e) [
-      | inl nobody ↦ made_as content.Request request_at request IsRequest request_reads (Holds k from bytes) bytes c rest h nobody.1
+    elim (chosen (eqb from 0) (made content.Request read_request bytes) None (Some (c, rest)) e) [
+      | inl nobody ↦ made_as content.Request read_request request IsRequest request_reads (Holds k from bytes) bytes c rest h nobody.1
           (λ r t. record { kind_is = sym k9; sender_is = sym (eqb-true _ _ nobody.0); took = record { parts = t.parts; rest_fits = t.rest_fits; fits = t.fits } })
       | inr failing ↦ let bad = failing.1 in absurd cc
     ]
@@ -58,7 +58,7 @@ content_takes k from bytes c rest h e =
     ]
 
 content_again : (c : Content) (rest : List ℕ) → IsContent c → content_of (kind c) (sender c) (fields c ++ rest) ≡ Some (c, rest)
-unfolding content_of asked_at
+unfolding content_of read_asked
 content_again (content.Request r) rest fits = rw (request_reads.again r rest fits) refl
 content_again (content.Node node m) rest fits = rw (kind_other m, passes 2147483648 node fits.0.0 fits.0.1, node_again m rest fits.1) refl
 
@@ -71,8 +71,8 @@ plain h = one h.0 ++ (eight h.1.0 ++ four h.1.1)
 abbrev IsHeader : ℕ × (ℕ × ℕ) → Type 0
 IsHeader h = (h.0 < 256) × ((h.1.0 < 2 ^ 64) × (h.1.1 < 2 ^ 32))
 
-plain_reads : Reads (both byte_at (both eight_at four_at)) plain IsHeader
-plain_reads = both_reads byte_at one (λ n. n < 256) _ _ _ byte_reads (both_reads eight_at eight (λ n. n < 2 ^ 64) four_at four (λ n. n < 2 ^ 32) eight_reads four_reads)
+plain_reads : Reads (both read_byte (both read_eight read_four)) plain IsHeader
+plain_reads = both_reads read_byte one (λ n. n < 256) _ _ _ byte_reads (both_reads read_eight eight (λ n. n < 2 ^ 64) read_four four (λ n. n < 2 ^ 32) eight_reads four_reads)
 
 abbrev header_of : ℕ × (ℕ × ℕ) → List ℕ
 header_of h = header h.0 h.1.0 h.1.1
@@ -80,8 +80,8 @@ header_of h = header h.0 h.1.0 h.1.1
 letters : (a b c : ℕ) → (eqb a 76 && eqb b 75 && eqb c 1) ≡ true → (a ≡ 76) × (b ≡ 75) × (c ≡ 1)
 letters a b c e = grind (arith, nat_tests)
 
-header_takes : (bytes : List ℕ) (x : ℕ × (ℕ × ℕ)) (rest : List ℕ) → IsBytes bytes → header_at bytes ≡ Some (x, rest) → Took header_of IsHeader bytes x rest
-unfolding header_at
+header_takes : (bytes : List ℕ) (x : ℕ × (ℕ × ℕ)) (rest : List ℕ) → IsBytes bytes → read_header bytes ≡ Some (x, rest) → Took header_of IsHeader bytes x rest
+unfolding read_header
 header_takes (a ∷ b ∷ c ∷ bytes) x rest h e =
     elim (chosen (eqb a 76 && eqb b 75 && eqb c 1) _ _ (Some (x, rest)) e) [
       | inr failing ↦ let bad = failing.1 in absurd cc
@@ -94,8 +94,8 @@ header_takes [] x rest h e = absurd cc
 header_takes (a ∷ []) x rest h e = absurd cc
 header_takes (a ∷ b ∷ []) x rest h e = absurd cc
 
-header_reads : Reads header_at header_of IsHeader
-unfolding header_at
+header_reads : Reads read_header header_of IsHeader
+unfolding read_header
 header_reads = record { takes = header_takes; again = λ x rest fits. plain_reads.again x rest fits }
 
 -- ---- a message
@@ -111,10 +111,10 @@ sender_fits (content.Node node m) f = omega (arith, f.0)
 joined : (bytes front other mid first rest : List ℕ) → bytes ≡ front ++ mid → mid ≡ first ++ rest → other ≡ front → bytes ≡ (other ++ first) ++ rest
 joined bytes front other mid first rest p q e = p ∙ ap (λ (w : List ℕ). front ++ w) q ∙ ap (λ (w : List ℕ). w ++ (first ++ rest)) (sym e) ∙ sym (append_assoc other first rest)
 
-message_takes : (bytes : List ℕ) (m : Message) (rest : List ℕ) → IsBytes bytes → message_at bytes ≡ Some (m, rest) → Took spelling IsMessage bytes m rest
-unfolding message_at
+message_takes : (bytes : List ℕ) (m : Message) (rest : List ℕ) → IsBytes bytes → read_message bytes ≡ Some (m, rest) → Took spelling IsMessage bytes m rest
+unfolding read_message
 message_takes bytes m rest h e =
-    let a = bind_ok (header_at bytes) (λ h. content_of h.0.0 h.0.1.1 h.1 >>= λ c. Some (record { cluster = h.0.1.0; content = c.0 }, c.1)) (m, rest) e in
+    let a = bind_ok (read_header bytes) (λ h. content_of h.0.0 h.0.1.1 h.1 >>= λ c. Some (record { cluster = h.0.1.0; content = c.0 }, c.1)) (m, rest) e in
     let b = bind_ok (content_of a.0.0.0 a.0.0.1.1 a.0.1) (λ c. Some (record { cluster = a.0.0.1.0; content = c.0 }, c.1)) (m, rest) a.2 in
     let first = header_reads.takes bytes a.0.0 a.0.1 h a.1 in
     let second = content_takes a.0.0.0 a.0.0.1.1 a.0.1 b.0.0 b.0.1 first.rest_fits b.1 in
@@ -127,23 +127,23 @@ message_takes bytes m rest h e =
       fits = (first.fits.1.0, second.took.fits);
     })
 
-message_again : (m : Message) (rest : List ℕ) → IsMessage m → message_at (spelling m ++ rest) ≡ Some (m, rest)
-unfolding message_at
+message_again : (m : Message) (rest : List ℕ) → IsMessage m → read_message (spelling m ++ rest) ≡ Some (m, rest)
+unfolding read_message
 message_again m rest fits =
-    ap message_at (append_assoc (header (kind m.content) m.cluster (sender m.content)) (fields m.content) rest)
+    ap read_message (append_assoc (header (kind m.content) m.cluster (sender m.content)) (fields m.content) rest)
     ∙ rw (header_reads.again (kind m.content, (m.cluster, sender m.content)) (fields m.content ++ rest) (kind_is_byte m.content, (fits.0, sender_fits m.content fits.1)), content_again m.content rest fits.1) refl
 
-pub message_reads : Reads message_at spelling IsMessage
+pub message_reads : Reads read_message spelling IsMessage
 message_reads = record { takes = message_takes; again = message_again }
 
 -- ---- what read promises
 
 pub is_found : (bytes : List ℕ) (r : Result Message ReadFault) → IsBytes bytes → Gives (λ m. m) r (all_of bytes) → IfOk r (λ m. Spells m bytes)
-is_found bytes (Ok m) h given = whole_takes message_at spelling IsMessage message_reads bytes m h given
+is_found bytes (Ok m) h given = whole_takes read_message spelling IsMessage message_reads bytes m h given
 is_found bytes (Err e) h given = tt
 
 again : (m : Message) (bytes : List ℕ) → Spells m bytes → all_of bytes ≡ Some m
-again m bytes s = ap all_of s.1 ∙ whole_again message_at spelling IsMessage message_reads m s.0
+again m bytes s = ap all_of s.1 ∙ whole_again read_message spelling IsMessage message_reads m s.0
 
 pub is_only : (m : Message) (bytes : List ℕ) (r : Result Message ReadFault) → Gives (λ m. m) r (all_of bytes) → Spells m bytes → (r ≡ Ok m) ⊎ (r ≡ Err faults.NoMemory)
 is_only m bytes (Ok n) given s =
@@ -163,5 +163,5 @@ is_bad bytes r given e m s =
 pub one_message : (m n : Message) (bytes : List ℕ) → Spells m bytes → Spells n bytes → m ≡ n
 one_message m n bytes s t = some_is m n (sym (again m bytes s) ∙ again n bytes t)
 
-pub no_front : (m n : Message) (rest : List ℕ) → IsMessage m → IsMessage n → spelling m ++ rest ≡ spelling n → (m ≡ n) × (rest ≡ [])
-no_front m n rest fm fn e = one_front message_at spelling IsMessage message_reads m n rest [] fm fn (e ∙ sym (append-nil (spelling n)))
+pub prefix_free : (m n : Message) (rest : List ℕ) → IsMessage m → IsMessage n → spelling m ++ rest ≡ spelling n → (m ≡ n) × (rest ≡ [])
+prefix_free m n rest fm fn e = one_front read_message spelling IsMessage message_reads m n rest [] fm fn (e ∙ sym (append-nil (spelling n)))

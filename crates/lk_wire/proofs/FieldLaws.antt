@@ -19,8 +19,8 @@ use Rattle.lk_types.specs.declared.command.Command.TheVariants.{Noop, Request}
 use Rattle.lk_types.specs.declared.member.Member.{Member}
 use Rattle.lk_types.specs.declared.vote.Vote.{Vote}
 use Rattle.lk_wire.specs.Fields.{one, two, four, eight, ballot, member, payload, op_tag, op_fields, op, request, command_tag, command_fields, command, vote, pair, answer_tag, answer_fields, answer}
-use Rattle.lk_wire.specs.Parser.{byte_at, sized, tested, kind, bare}
-use Rattle.lk_wire.specs.FieldReading.{is_from_1_to, two_at, four_at, eight_at, node_at, client_at, port_at, count_at, total_at, ballot_at, is_mark, mark_at, member_at, payload_at, op_of, op_at, request_at, command_of, command_at, vote_at, pair_at, bare_answer, held_at, answer_of, answer_at}
+use Rattle.lk_wire.specs.Parser.{read_byte, sized, tested, kind, bare}
+use Rattle.lk_wire.specs.FieldReading.{is_from_1_to, read_two, read_four, read_eight, read_node, read_client, read_port, read_count, read_total, read_ballot, is_mark, read_mark, read_member, read_payload, op_of, read_op, read_request, command_of, read_command, read_vote, read_pair, bare_answer, read_held, answer_of, read_answer}
 use Rattle.lk_wire.proofs.Codec.{Reads, fitting, both_reads, made_reads, tested_reads, byte_reads}
 use Rattle.lk_wire.proofs.NumberLaws.{two_reads, four_reads, eight_reads, sized_reads}
 use Rattle.lk_wire.proofs.KindLaws.{TakesKinds, no_kind_takes, bare_takes, kind_takes, tagged_reads}
@@ -50,34 +50,34 @@ pub limited_reads : (most limit : ℕ) → most < limit → (p : List ℕ → Op
 limited_reads most limit lt p s r = fitting (tested (λ n. leb n most) p) s (λ n. (n < limit) × (leb n most ≡ true)) (λ n. n ≤ most)
     (λ n h. at_most most n h.1) (λ n h. (omega (arith, h), is_at_most most n h)) (tested_reads (λ n. leb n most) p s (λ n. n < limit) r)
 
-pub node_reads : Reads node_at four IsNode
-unfolding node_at
-node_reads = ranged_reads 2147483648 (2 ^ 32) (omega arith) four_at four four_reads
+pub node_reads : Reads read_node four IsNode
+unfolding read_node
+node_reads = ranged_reads 2147483648 (2 ^ 32) (omega arith) read_four four four_reads
 
-pub client_reads : Reads client_at two IsClient
-unfolding client_at
-client_reads = ranged_reads 256 (2 ^ 16) (omega arith) two_at two two_reads
+pub client_reads : Reads read_client two IsClient
+unfolding read_client
+client_reads = ranged_reads 256 (2 ^ 16) (omega arith) read_two two two_reads
 
-pub port_reads : Reads port_at two IsPort
-unfolding port_at
-port_reads = ranged_reads 65535 (2 ^ 16) (omega arith) two_at two two_reads
+pub port_reads : Reads read_port two IsPort
+unfolding read_port
+port_reads = ranged_reads 65535 (2 ^ 16) (omega arith) read_two two two_reads
 
-pub count_reads : Reads count_at eight IsCount
-unfolding count_at
-count_reads = ranged_reads 281474976710656 (2 ^ 64) (omega arith) eight_at eight eight_reads
+pub count_reads : Reads read_count eight IsCount
+unfolding read_count
+count_reads = ranged_reads 281474976710656 (2 ^ 64) (omega arith) read_eight eight eight_reads
 
-pub total_reads : Reads total_at eight IsTotal
-unfolding total_at
-total_reads = limited_reads 281474976710656 (2 ^ 64) (omega arith) eight_at eight eight_reads
+pub total_reads : Reads read_total eight IsTotal
+unfolding read_total
+total_reads = limited_reads 281474976710656 (2 ^ 64) (omega arith) read_eight eight eight_reads
 
 -- ---- ballots and members
 
 abbrev ballot_of : ℕ × ℕ → BallotValue
 ballot_of b = record { round = b.0; node = b.1 }
 
-pub ballot_reads : Reads ballot_at ballot IsReal
-unfolding ballot_at
-ballot_reads = made_reads ballot_of (λ (v : BallotValue). (v.round, v.node)) (λ x. refl) (λ y. refl) _ _ _ (both_reads count_at eight IsCount node_at four IsNode count_reads node_reads)
+pub ballot_reads : Reads read_ballot ballot IsReal
+unfolding read_ballot
+ballot_reads = made_reads ballot_of (λ (v : BallotValue). (v.round, v.node)) (λ x. refl) (λ y. refl) _ _ _ (both_reads read_count eight IsCount read_node four IsNode count_reads node_reads)
 
 either : (a b : Bool) → (a || b) ≡ true → (a ≡ true) ⊎ (b ≡ true)
 either true b e = inl refl
@@ -106,32 +106,32 @@ are_marks : (b : BallotValue) → IsMark b → (b.round < 2 ^ 64) × (b.node < 2
 are_marks b (inl real) = (omega (arith, real.0), omega (arith, real.1), rw (is_real b.round b.node real.0 real.1) refl)
 are_marks b (inr zero) = rw zero (lit< tt, lit< tt, refl)
 
-pub mark_reads : Reads mark_at ballot IsMark
-unfolding mark_at
-mark_reads = fitting mark_at ballot (λ (b : BallotValue). ((b.round < 2 ^ 64) × (b.node < 2 ^ 32)) × (is_mark b ≡ true)) IsMark
+pub mark_reads : Reads read_mark ballot IsMark
+unfolding read_mark
+mark_reads = fitting read_mark ballot (λ (b : BallotValue). ((b.round < 2 ^ 64) × (b.node < 2 ^ 32)) × (is_mark b ≡ true)) IsMark
     (λ b f. marks b f.1) (λ b f. let m = are_marks b f in ((m.0, m.1), m.2))
     (tested_reads is_mark _ ballot _
     (made_reads ballot_of (λ (v : BallotValue). (v.round, v.node)) (λ x. refl) (λ y. refl) _ _ _
-    (both_reads eight_at eight (λ n. n < 2 ^ 64) four_at four (λ n. n < 2 ^ 32) eight_reads four_reads)))
+    (both_reads read_eight eight (λ n. n < 2 ^ 64) read_four four (λ n. n < 2 ^ 32) eight_reads four_reads)))
 
-pub member_reads : Reads member_at member IsMember
-unfolding member_at
-member_reads = made_reads (λ (m : ℕ × ℕ). let x : Member = record { node = m.0; port = m.1 } in x) (λ (m : Member). (m.node, m.port)) (λ x. refl) (λ y. refl) _ _ _ (both_reads node_at four IsNode port_at two IsPort node_reads port_reads)
+pub member_reads : Reads read_member member IsMember
+unfolding read_member
+member_reads = made_reads (λ (m : ℕ × ℕ). let x : Member = record { node = m.0; port = m.1 } in x) (λ (m : Member). (m.node, m.port)) (λ x. refl) (λ y. refl) _ _ _ (both_reads read_node four IsNode read_port two IsPort node_reads port_reads)
 
 -- ---- ops, requests and commands
 
-pub payload_reads : Reads payload_at payload IsPayload
-unfolding payload_at
-payload_reads = fitting payload_at payload (λ bytes. (length bytes < 256) × (is_from_1_to 64 (length bytes) ≡ true)) IsPayload
+pub payload_reads : Reads read_payload payload IsPayload
+unfolding read_payload
+payload_reads = fitting read_payload payload (λ bytes. (length bytes < 256) × (is_from_1_to 64 (length bytes) ≡ true)) IsPayload
     (λ bytes f. is_in 64 (length bytes) f.1) (λ bytes f. (omega (arith, f.1), passes 64 (length bytes) f.0 f.1))
-    (tested_reads (λ bytes. is_from_1_to 64 (length bytes)) (sized byte_at) payload (λ bytes. length bytes < 256) (sized_reads byte_at one (λ n. n < 256) byte_reads))
+    (tested_reads (λ bytes. is_from_1_to 64 (length bytes)) (sized read_byte) payload (λ bytes. length bytes < 256) (sized_reads read_byte one (λ n. n < 256) byte_reads))
 
 op_takes : TakesKinds op_tag op_fields IsOp op_of
 unfolding op_of
 op_takes =
-    kind_takes op_tag op_fields IsOp 0 Table payload_at payload IsPayload payload_reads (λ y. refl) (λ y. refl) (λ y f. f) _
-    (kind_takes op_tag op_fields IsOp 1 (λ (m : Member). Join m.node m.port) member_at member IsMember member_reads (λ y. refl) (λ y. refl) (λ y f. f) _
-    (kind_takes op_tag op_fields IsOp 2 Leave node_at four IsNode node_reads (λ y. refl) (λ y. refl) (λ y f. f) _
+    kind_takes op_tag op_fields IsOp 0 Table read_payload payload IsPayload payload_reads (λ y. refl) (λ y. refl) (λ y f. f) _
+    (kind_takes op_tag op_fields IsOp 1 (λ (m : Member). Join m.node m.port) read_member member IsMember member_reads (λ y. refl) (λ y. refl) (λ y f. f) _
+    (kind_takes op_tag op_fields IsOp 2 Leave read_node four IsNode node_reads (λ y. refl) (λ y. refl) (λ y f. f) _
     (no_kind_takes op_tag op_fields IsOp)))
 
 op_again : (o : Op) (rest : List ℕ) → IsOp o → op_of (op_tag o) (op_fields o ++ rest) ≡ Some (o, rest)
@@ -140,20 +140,20 @@ op_again (Table bytes) rest fits = rw (payload_reads.again bytes rest fits) refl
 op_again (Join node port) rest fits = rw (member_reads.again (record { node = node; port = port }) rest fits) refl
 op_again (Leave node) rest fits = rw (node_reads.again node rest fits) refl
 
-pub op_reads : Reads op_at op IsOp
+pub op_reads : Reads read_op op IsOp
 op_reads = tagged_reads op_tag op_fields IsOp op_of op_takes op_again
 
-pub request_reads : Reads request_at request IsRequest
-unfolding request_at
-request_reads = fitting request_at request (λ (r : RequestValue). IsClient r.client × (IsCount r.number × IsOp r.op)) IsRequest (λ r f. (f.0, f.1.0, f.1.1)) (λ r f. (f.0, (f.1, f.2)))
+pub request_reads : Reads read_request request IsRequest
+unfolding read_request
+request_reads = fitting read_request request (λ (r : RequestValue). IsClient r.client × (IsCount r.number × IsOp r.op)) IsRequest (λ r f. (f.0, f.1.0, f.1.1)) (λ r f. (f.0, (f.1, f.2)))
     (made_reads (λ (r : ℕ × (ℕ × Op)). let x : RequestValue = record { client = r.0; number = r.1.0; op = r.1.1 } in x) (λ (r : RequestValue). (r.client, (r.number, r.op))) (λ x. refl) (λ y. refl) _ _ _
-    (both_reads client_at two IsClient _ _ _ client_reads (both_reads count_at eight IsCount op_at op IsOp count_reads op_reads)))
+    (both_reads read_client two IsClient _ _ _ client_reads (both_reads read_count eight IsCount read_op op IsOp count_reads op_reads)))
 
 command_takes : TakesKinds command_tag command_fields IsCommand command_of
 unfolding command_of
 command_takes =
     bare_takes command_tag command_fields IsCommand 0 Noop refl refl tt _
-    (kind_takes command_tag command_fields IsCommand 1 Request request_at request IsRequest request_reads (λ y. refl) (λ y. refl) (λ y f. f) _
+    (kind_takes command_tag command_fields IsCommand 1 Request read_request request IsRequest request_reads (λ y. refl) (λ y. refl) (λ y f. f) _
     (no_kind_takes command_tag command_fields IsCommand))
 
 command_again : (c : Command) (rest : List ℕ) → IsCommand c → command_of (command_tag c) (command_fields c ++ rest) ≡ Some (c, rest)
@@ -161,20 +161,20 @@ unfolding command_of
 command_again Noop rest fits = refl
 command_again (Request r) rest fits = rw (request_reads.again r rest fits) refl
 
-pub command_reads : Reads command_at command IsCommand
+pub command_reads : Reads read_command command IsCommand
 command_reads = tagged_reads command_tag command_fields IsCommand command_of command_takes command_again
 
 -- ---- votes and pairs
 
-pub vote_reads : Reads vote_at vote IsVote
-unfolding vote_at
-vote_reads = fitting vote_at vote (λ (v : Vote). IsCount v.position × (IsReal v.ballot × IsCommand v.command)) IsVote (λ v f. (f.0, f.1.0, f.1.1)) (λ v f. (f.0, (f.1, f.2)))
+pub vote_reads : Reads read_vote vote IsVote
+unfolding read_vote
+vote_reads = fitting read_vote vote (λ (v : Vote). IsCount v.position × (IsReal v.ballot × IsCommand v.command)) IsVote (λ v f. (f.0, f.1.0, f.1.1)) (λ v f. (f.0, (f.1, f.2)))
     (made_reads (λ (v : ℕ × (BallotValue × Command)). let x : Vote = record { position = v.0; ballot = v.1.0; command = v.1.1 } in x) (λ (v : Vote). (v.position, (v.ballot, v.command))) (λ x. refl) (λ y. refl) _ _ _
-    (both_reads count_at eight IsCount _ _ _ count_reads (both_reads ballot_at ballot IsReal command_at command IsCommand ballot_reads command_reads)))
+    (both_reads read_count eight IsCount _ _ _ count_reads (both_reads read_ballot ballot IsReal read_command command IsCommand ballot_reads command_reads)))
 
-pub pair_reads : Reads pair_at pair (λ (p : ℕ × Command). IsCount p.0 × IsCommand p.1)
-unfolding pair_at
-pair_reads = both_reads count_at eight IsCount command_at command IsCommand count_reads command_reads
+pub pair_reads : Reads read_pair pair (λ (p : ℕ × Command). IsCount p.0 × IsCommand p.1)
+unfolding read_pair
+pair_reads = both_reads read_count eight IsCount read_command command IsCommand count_reads command_reads
 
 -- ---- answers
 
@@ -184,8 +184,8 @@ IsHolder h = IsClient h.0 × IsCount h.1
 abbrev holder : ℕ × ℕ → List ℕ
 holder h = two h.0 ++ eight h.1
 
-held_reads : Reads held_at holder IsHolder
-held_reads = both_reads client_at two IsClient count_at eight IsCount client_reads count_reads
+held_reads : Reads read_held holder IsHolder
+held_reads = both_reads read_client two IsClient read_count eight IsCount client_reads count_reads
 
 one_more : (k : ℕ) (a : Answer) → answer_tag a ≡ k → answer_fields a ≡ [] → IsAnswer a → (q : ℕ → List ℕ → Option (Answer × List ℕ)) → TakesKinds answer_tag answer_fields IsAnswer q → TakesKinds answer_tag answer_fields IsAnswer (kind k (bare a) q)
 one_more = bare_takes answer_tag answer_fields IsAnswer
@@ -211,10 +211,10 @@ bare_answer_takes =
 answer_takes : TakesKinds answer_tag answer_fields IsAnswer answer_of
 unfolding answer_of
 answer_takes =
-    kind_takes answer_tag answer_fields IsAnswer 1 Granted count_at eight IsCount count_reads (λ y. refl) (λ y. refl) (λ y f. f) _
-    (kind_takes answer_tag answer_fields IsAnswer 2 (λ (h : ℕ × ℕ). Busy h.0 h.1) held_at holder IsHolder held_reads (λ y. refl) (λ y. refl) (λ y f. f) _
-    (kind_takes answer_tag answer_fields IsAnswer 5 Free total_at eight IsTotal total_reads (λ y. refl) (λ y. refl) (λ y f. f) _
-    (kind_takes answer_tag answer_fields IsAnswer 6 (λ (h : ℕ × ℕ). Held h.0 h.1) held_at holder IsHolder held_reads (λ y. refl) (λ y. refl) (λ y f. f) _
+    kind_takes answer_tag answer_fields IsAnswer 1 Granted read_count eight IsCount count_reads (λ y. refl) (λ y. refl) (λ y f. f) _
+    (kind_takes answer_tag answer_fields IsAnswer 2 (λ (h : ℕ × ℕ). Busy h.0 h.1) read_held holder IsHolder held_reads (λ y. refl) (λ y. refl) (λ y f. f) _
+    (kind_takes answer_tag answer_fields IsAnswer 5 Free read_total eight IsTotal total_reads (λ y. refl) (λ y. refl) (λ y f. f) _
+    (kind_takes answer_tag answer_fields IsAnswer 6 (λ (h : ℕ × ℕ). Held h.0 h.1) read_held holder IsHolder held_reads (λ y. refl) (λ y. refl) (λ y f. f) _
     bare_answer_takes)))
 
 answer_again : (a : Answer) (rest : List ℕ) → IsAnswer a → answer_of (answer_tag a) (answer_fields a ++ rest) ≡ Some (a, rest)
@@ -237,5 +237,5 @@ answer_again Left rest fits = refl
 answer_again NotMember rest fits = refl
 answer_again Last rest fits = refl
 
-pub answer_reads : Reads answer_at answer IsAnswer
+pub answer_reads : Reads read_answer answer IsAnswer
 answer_reads = tagged_reads answer_tag answer_fields IsAnswer answer_of answer_takes answer_again

@@ -1,11 +1,12 @@
-pub mod Codec
-pub mod Repeats
-pub mod NumberLaws
-pub mod KindLaws
-pub mod Loop
-pub mod FieldLaws
-pub mod FrontLaws
-pub mod Appends
-pub mod MessageLaws
-pub mod DatagramLaws
-pub mod Lengths
+mod Codec
+mod Repeats
+mod NumberLaws
+mod KindLaws
+mod Loop
+mod FieldLaws
+mod FrontLaws
+mod Appends
+mod MessageLaws
+mod DatagramLaws
+mod Lengths
+pub mod Spellings

@@ -5,8 +5,8 @@ use Rattle.std.proofs.lemmas.Bool.{ltb-false, le-ltb}
 use Rattle.std.proofs.lemmas.List.{take_at, drop_at, take-append-drop, length-append, length-take}
 use Rattle.std.proofs.lemmas.Nat.{be_bytes_2, be_bytes_4, be_bytes_8, from_be_bytes-to_be_bytes_2, from_be_bytes-to_be_bytes_4, from_be_bytes-to_be_bytes_8}
 use Rattle.lk_wire.specs.Fields.{two, four, eight}
-use Rattle.lk_wire.specs.Parser.{number_at, sized}
-use Rattle.lk_wire.specs.FieldReading.{two_at, four_at, eight_at}
+use Rattle.lk_wire.specs.Parser.{read_number, sized}
+use Rattle.lk_wire.specs.FieldReading.{read_two, read_four, read_eight}
 use Rattle.lk_wire.proofs.Codec.{IsBytes, IsBytes-drop, IsBytes-take, bind_ok, chosen, some_is, Took, Reads}
 
 pub record IsWide (w : Width) (limit : ℕ) : Type 0 where
@@ -39,7 +39,7 @@ wide64 = record {
   below = λ bytes fits. omega (arith, fits 0, fits 1, fits 2, fits 3, fits 4, fits 5, fits 6, fits 7);
 }
 
-number_takes : (w : Width) (limit : ℕ) (wide : IsWide w limit) (bytes : List ℕ) (n : ℕ) (rest : List ℕ) → IsBytes bytes → number_at w bytes ≡ Some (n, rest) → Took (to_be_bytes w) (λ (n : ℕ). n < limit) bytes n rest
+number_takes : (w : Width) (limit : ℕ) (wide : IsWide w limit) (bytes : List ℕ) (n : ℕ) (rest : List ℕ) → IsBytes bytes → read_number w bytes ≡ Some (n, rest) → Took (to_be_bytes w) (λ (n : ℕ). n < limit) bytes n rest
 number_takes w limit wide bytes n rest fits e =
     elim (chosen (ltb (length bytes) (byte_len w)) None (Some (from_be_bytes w (take (byte_len w) bytes), drop (byte_len w) bytes)) (Some (n, rest)) e) [
       | inl short ↦ let bad = short.1 in absurd cc
@@ -54,25 +54,25 @@ number_takes w limit wide bytes n rest fits e =
           })
     ]
 
-number_again : (w : Width) (limit : ℕ) (wide : IsWide w limit) (n : ℕ) (rest : List ℕ) → n < limit → number_at w (to_be_bytes w n ++ rest) ≡ Some (n, rest)
+number_again : (w : Width) (limit : ℕ) (wide : IsWide w limit) (n : ℕ) (rest : List ℕ) → n < limit → read_number w (to_be_bytes w n ++ rest) ≡ Some (n, rest)
 number_again w limit wide n rest lt =
     let len = wide.len n in
     let long : ltb (length (to_be_bytes w n ++ rest)) (byte_len w) ≡ false = le-ltb _ _ (omega (arith, length-append (to_be_bytes w n) rest)) in
     rw (long, take_at (to_be_bytes w n) rest (byte_len w) len, drop_at (to_be_bytes w n) rest (byte_len w) len, wide.again n lt) refl
 
-number_reads : (w : Width) (limit : ℕ) → IsWide w limit → Reads (number_at w) (to_be_bytes w) (λ (n : ℕ). n < limit)
+number_reads : (w : Width) (limit : ℕ) → IsWide w limit → Reads (read_number w) (to_be_bytes w) (λ (n : ℕ). n < limit)
 number_reads w limit wide = record { takes = number_takes w limit wide; again = number_again w limit wide }
 
-pub two_reads : Reads two_at two (λ (n : ℕ). n < 2 ^ 16)
-unfolding two two_at
+pub two_reads : Reads read_two two (λ (n : ℕ). n < 2 ^ 16)
+unfolding two read_two
 two_reads = number_reads w16 (2 ^ 16) wide16
 
-pub four_reads : Reads four_at four (λ (n : ℕ). n < 2 ^ 32)
-unfolding four four_at
+pub four_reads : Reads read_four four (λ (n : ℕ). n < 2 ^ 32)
+unfolding four read_four
 four_reads = number_reads w32 (2 ^ 32) wide32
 
-pub eight_reads : Reads eight_at eight (λ (n : ℕ). n < 2 ^ 64)
-unfolding eight eight_at
+pub eight_reads : Reads read_eight eight (λ (n : ℕ). n < 2 ^ 64)
+unfolding eight read_eight
 eight_reads = number_reads w64 (2 ^ 64) wide64
 
 -- ---- bytes behind their length

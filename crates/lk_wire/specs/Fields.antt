@@ -97,7 +97,19 @@ answer_fields (Granted fence) = eight fence
 answer_fields (Busy holder fence) = two holder ++ eight fence
 answer_fields (Free fence) = eight fence
 answer_fields (Held holder fence) = two holder ++ eight fence
-answer_fields _ = []
+answer_fields Released = []
+answer_fields NotHeld = []
+answer_fields Valid = []
+answer_fields Stale = []
+answer_fields NoRoom = []
+answer_fields Bad = []
+answer_fields Spent = []
+answer_fields Joined = []
+answer_fields Used = []
+answer_fields Full = []
+answer_fields Left = []
+answer_fields NotMember = []
+answer_fields Last = []
 
 abbrev pub answer : Answer → List ℕ
 answer a = answer_tag a ∷ answer_fields a

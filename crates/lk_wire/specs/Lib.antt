@@ -5,3 +5,5 @@ pub mod Parser
 pub mod FieldReading
 pub mod Reading
 pub mod Fronts
+pub mod Faults
+pub mod Rooms

@@ -12,13 +12,13 @@ abbrev pub Finds : {X Y : Type 0} → (X → Y) → Option X → Option Y → Ty
 Finds view (Some x) read = read ≡ Some (view x)
 Finds view None read = read ≡ None
 
-abbrev pub byte_at : List ℕ → Option (ℕ × List ℕ)
-byte_at [] = None
-byte_at (b ∷ rest) = Some (b, rest)
+abbrev pub read_byte : List ℕ → Option (ℕ × List ℕ)
+read_byte [] = None
+read_byte (b ∷ rest) = Some (b, rest)
 
 -- a number of so many bytes
-abbrev pub number_at : Width → List ℕ → Option (ℕ × List ℕ)
-number_at w bytes = if nat_lt (length bytes) (byte_len w) then None else Some (from_be_bytes w (take (byte_len w) bytes), drop (byte_len w) bytes)
+abbrev pub read_number : Width → List ℕ → Option (ℕ × List ℕ)
+read_number w bytes = if nat_lt (length bytes) (byte_len w) then None else Some (from_be_bytes w (take (byte_len w) bytes), drop (byte_len w) bytes)
 
 -- a length, and so many bytes
 abbrev pub sized : (List ℕ → Option (ℕ × List ℕ)) → List ℕ → Option (List ℕ × List ℕ)
@@ -49,7 +49,7 @@ module _ {X : Type 0} where
 
   -- a byte that says what stands behind it
   abbrev pub tagged : (ℕ → List ℕ → Option (X × List ℕ)) → List ℕ → Option (X × List ℕ)
-  tagged q bytes = byte_at bytes >>= λ t. q t.0 t.1
+  tagged q bytes = read_byte bytes >>= λ t. q t.0 t.1
 
   -- behind the tag k this, behind another one what the others say
   abbrev pub kind : ℕ → (List ℕ → Option (X × List ℕ)) → (ℕ → List ℕ → Option (X × List ℕ)) → ℕ → List ℕ → Option (X × List ℕ)

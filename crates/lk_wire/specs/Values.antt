@@ -1,6 +1,7 @@
 -- What a contract sees of the parts of a message whose fields are tied to one another.
 use Rattle.std.specs.Prelude.{ℕ, ◌+◌, ◌<◌, ◌≤◌, ◌-◌, Bool, true, nat_lt, nat_le, ◌&&◌, List, [], ◌∷◌, length, IsTrue}
 use Rattle.std.specs.List.{AllByRecursion}
+use Rattle.lk_types.specs.Limits.{max_count, max_votes, max_commands, max_part, max_base}
 use Rattle.lk_types.specs.Ranges.{IsCount, IsClient}
 use Rattle.lk_types.specs.BallotValue.{BallotValue}
 use Rattle.lk_types.specs.Ballots.{IsReal}
@@ -16,13 +17,13 @@ pub record PromiseValue : Type 0 where
   pub votes : List Vote
 
 -- the positions rise strictly, the first above low
-abbrev pub are_rising_above : ℕ → List Vote → Bool
-are_rising_above low [] = true
-are_rising_above low (v ∷ vs) = nat_lt low v.position && are_rising_above v.position vs
+abbrev pub are_votes_above : ℕ → List Vote → Bool
+are_votes_above low [] = true
+are_votes_above low (v ∷ vs) = nat_lt low v.position && are_votes_above v.position vs
 
 -- at most 32 votes, strictly rising by position, all at first or above
 abbrev pub are_votes_from : ℕ → List Vote → Bool
-are_votes_from first vs = nat_le (length vs) 32 && are_rising_above (first - 1) vs
+are_votes_from first vs = nat_le (length vs) max_votes && are_votes_above (first - 1) vs
 
 abbrev pub IsPromise : PromiseValue → Type 0
 IsPromise p = IsReal p.ballot × IsCount p.first × AllByRecursion IsVote p.votes × IsTrue (are_votes_from p.first p.votes)
@@ -34,7 +35,7 @@ pub record DecidedValue : Type 0 where
 
 -- 1 to 16 commands, the last for a position of at most 2^48
 abbrev pub are_commands_from : ℕ → List Command → Bool
-are_commands_from first cs = nat_le 1 (length cs) && nat_le (length cs) 16 && nat_le (first + length cs) 281474976710657
+are_commands_from first cs = nat_le 1 (length cs) && nat_le (length cs) max_commands && nat_le (first + length cs) (max_count + 1)
 
 abbrev pub IsDecided : DecidedValue → Type 0
 IsDecided d = IsCount d.first × AllByRecursion IsCommand d.commands × IsTrue (are_commands_from d.first d.commands)
@@ -45,7 +46,7 @@ pub record WantValue : Type 0 where
   pub offset : ℕ
 
 abbrev pub IsWant : WantValue → Type 0
-IsWant w = IsCount w.first × (w.offset ≤ 49152)
+IsWant w = IsCount w.first × (w.offset ≤ max_base)
 
 -- so many bytes of a snapshot at a position, of which it has total
 pub record PartValue : Type 0 where
@@ -56,7 +57,7 @@ pub record PartValue : Type 0 where
 
 -- it lies within its total
 abbrev pub IsWithin : PartValue → Type 0
-IsWithin p = (1 ≤ p.total) × (p.total ≤ 49152) × (1 ≤ length p.bytes) × (length p.bytes ≤ 1024) × (p.offset + length p.bytes ≤ p.total)
+IsWithin p = (1 ≤ p.total) × (p.total ≤ max_base) × (1 ≤ length p.bytes) × (length p.bytes ≤ max_part) × (p.offset + length p.bytes ≤ p.total)
 
 abbrev pub IsPart : PartValue → Type 0
 IsPart p = IsCount p.position × IsWithin p

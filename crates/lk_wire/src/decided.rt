@@ -3,6 +3,7 @@ ghost use Rattle.std.specs.List.{AllByRecursion};
 ghost use Rattle.lk_types.specs.Commands.{IsCommand};
 ghost use Rattle.lk_wire.specs.Values.{IsDecided, are_commands_from};
 
+use lk_types::limits::{MAX_COMMANDS, MAX_COUNT};
 use lk_types::{Command, Position};
 use std::marker::Model;
 
@@ -37,7 +38,7 @@ fn are_from(first: Position, commands: &[Command]) -> bool
     ensures { result ≡ are_commands_from first commands.now }
 {
     let count = commands.len();
-    count >= 1 && count <= 16 && first.get() + count as u64 <= 281474976710657
+    count >= 1 && count <= MAX_COMMANDS && first.get() + count as u64 <= MAX_COUNT + 1
 }
 
 impl Decided {

@@ -13,6 +13,17 @@ pub enum ReadFault {
     NoMemory = 6,
 }
 
+impl ReadFault {
+    ghost use Rattle.lk_wire.specs.Faults.{fault_number};
+
+    /// The number of this refusal.
+    pub fn number(self) -> u8
+        ensures { result ≡ fault_number self }
+    {
+        self as u8
+    }
+}
+
 impl<T: Drop> From<AllocFailed<T>> for ReadFault {
     ghost from_gives = { λ _ e. e ≡ memory };
 

@@ -4,6 +4,7 @@
 pub(crate) mod number;
 mod put;
 mod read;
+pub(crate) mod room;
 pub(crate) mod value;
 
 pub use put::{

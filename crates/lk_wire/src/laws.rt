@@ -22,8 +22,8 @@ pub fn one_message()
     ensures { (m n : Message) (bytes : List ℕ) → Spells m bytes → Spells n bytes → m ≡ n }
 {}
 
-/// No datagram begins another one.
-pub fn no_front()
+/// No datagram is a prefix of another one.
+pub fn prefix_free()
     ensures { (m n : Message) (rest : List ℕ) → IsMessage m → IsMessage n → spelling m ++ rest ≡ spelling n → (m ≡ n) × (rest ≡ []) }
 {}
 

@@ -2,6 +2,7 @@ ghost use Rattle.std.specs.Prelude.{◌≡◌, ◌↔◌, IsSome, IfSome};
 ghost use Rattle.lk_wire.specs.Values.{IsPart, IsWithin};
 
 use lk_types::Position;
+use lk_types::limits::{MAX_BASE, MAX_PART};
 use std::marker::Model;
 
 /// A piece of a packed snapshot: the snapshot's position and length, where in it the piece stands, and its bytes.
@@ -31,7 +32,11 @@ impl Part {
         ensures value { IfSome result (λ p. p ≡ record { position = position; total = total; offset = offset; bytes = bytes.items }) }
     {
         let _ = position.get();
-        if total > 49152 || offset > total || bytes.is_empty() || bytes.len() > 1024 {
+        if total as usize > MAX_BASE
+            || offset > total
+            || bytes.is_empty()
+            || bytes.len() > MAX_PART
+        {
             return None;
         }
         if bytes.len() > (total - offset) as usize {

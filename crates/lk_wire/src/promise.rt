@@ -3,6 +3,7 @@ ghost use Rattle.std.specs.List.{AllByRecursion};
 ghost use Rattle.lk_types.specs.Votes.{IsVote};
 ghost use Rattle.lk_wire.specs.Values.{IsPromise, are_votes_from};
 
+use lk_types::limits::MAX_VOTES;
 use lk_types::{Position, RealBallot, Vote};
 use std::marker::Model;
 
@@ -38,7 +39,7 @@ fn votes_facts(votes: &[Vote])
 fn are_from(first: Position, votes: &[Vote]) -> bool
     ensures { result ≡ are_votes_from first votes.now }
 {
-    if votes.len() > 32 {
+    if votes.len() > MAX_VOTES {
         return false;
     }
     let mut low = first.get() - 1; // so that `first` itself passes

@@ -4,30 +4,30 @@ ghost use Rattle.std.specs.Prelude.{◌≡◌, List, ℕ, IfOk, Ok, Err, ◌⊎�
 ghost use Rattle.lk_wire.specs.Grammar.{Spells};
 ghost use Rattle.lk_wire.specs.declared.message.Message.{Message};
 ghost use Rattle.lk_wire.specs.Parser.{Finds};
-ghost use Rattle.lk_wire.specs.Reading.{Gives, node_of, asked_at, content_of, header_at, message_at, all_of};
+ghost use Rattle.lk_wire.specs.Reading.{Gives, node_of, read_asked, content_of, read_header, read_message, all_of};
 
 mod kind;
 mod list;
 
 use crate::fault::ReadFault;
-use crate::fields::number::{u8_at, u32_at, u64_at};
-use crate::fields::value::request_at;
+use crate::fields::number::{read_u8, read_u32, read_u64};
+use crate::fields::value::read_request;
 use crate::message::{Content, Message, NodeMessage};
 use kind::small_of;
-use list::{decided_at, part_at, promise_at};
+use list::{read_decided, read_part, read_promise};
 use lk_types::NodeNo;
 use std::alloc::Global;
 
 /// The kind, the cluster and the sender.
-#[tactic(auto, unfolding(crate::specs::Reading::header_at))]
-fn header_at(bytes: &[u8]) -> Option<(u8, u64, u32, &[u8])>
-    ensures { Finds (λ x. ((x.0, (x.1, x.2)), x.3.now)) result (header_at bytes.now) }
+#[tactic(auto, unfolding(crate::specs::Reading::read_header))]
+fn read_header(bytes: &[u8]) -> Option<(u8, u64, u32, &[u8])>
+    ensures { Finds (λ x. ((x.0, (x.1, x.2)), x.3.now)) result (read_header bytes.now) }
 {
     match bytes {
         [0x4c, 0x4b, 1, rest @ ..] => {
-            let (kind, rest) = u8_at(rest)?;
-            let (cluster, rest) = u64_at(rest)?;
-            let (sender, rest) = u32_at(rest)?;
+            let (kind, rest) = read_u8(rest)?;
+            let (cluster, rest) = read_u64(rest)?;
+            let (sender, rest) = read_u32(rest)?;
             Some((kind, cluster, sender, rest))
         }
         _ => None,
@@ -40,22 +40,22 @@ fn node_of(alloc: Global, kind: u8, bytes: &[u8]) -> Result<(NodeMessage, &[u8])
     ensures { Gives (λ x. (x.0, x.1.now)) result (node_of kind bytes.now) }
 {
     match kind {
-        2 => promise_at(alloc, bytes),
-        6 => decided_at(alloc, bytes),
-        8 => part_at(alloc, bytes),
+        2 => read_promise(alloc, bytes),
+        6 => read_decided(alloc, bytes),
+        8 => read_part(alloc, bytes),
         _ => small_of(kind, bytes).ok_or(ReadFault::Bad),
     }
 }
 
 /// A client's request, which no node sends.
-#[tactic(auto, unfolding(crate::specs::Reading::asked_at))]
-fn asked_at(sender: u32, bytes: &[u8]) -> Option<(Content, &[u8])>
-    ensures { Finds (λ x. (x.0, x.1.now)) result (asked_at sender bytes.now) }
+#[tactic(auto, unfolding(crate::specs::Reading::read_asked))]
+fn read_asked(sender: u32, bytes: &[u8]) -> Option<(Content, &[u8])>
+    ensures { Finds (λ x. (x.0, x.1.now)) result (read_asked sender bytes.now) }
 {
     if sender != 0 {
         return None;
     }
-    let Some((request, rest)) = request_at(bytes) else {
+    let Some((request, rest)) = read_request(bytes) else {
         return None;
     };
     Some((Content::Request(request), rest))
@@ -72,7 +72,7 @@ fn content_of(
     ensures { Gives (λ x. (x.0, x.1.now)) result (content_of kind sender bytes.now) }
 {
     if kind == 9 {
-        return asked_at(sender, bytes).ok_or(ReadFault::Bad);
+        return read_asked(sender, bytes).ok_or(ReadFault::Bad);
     }
     let Some(node) = NodeNo::of(sender) else {
         return Err(ReadFault::Bad);
@@ -82,11 +82,11 @@ fn content_of(
 }
 
 /// All of the bytes.
-#[tactic(auto, unfolding(crate::specs::Reading::message_at))]
+#[tactic(auto, unfolding(crate::specs::Reading::read_message))]
 fn all_of(alloc: Global, bytes: &[u8]) -> Result<Message, ReadFault>
     ensures { Gives (λ m. m) result (all_of bytes.now) }
 {
-    let Some((kind, cluster, sender, rest)) = header_at(bytes) else {
+    let Some((kind, cluster, sender, rest)) = read_header(bytes) else {
         return Err(ReadFault::Bad);
     };
     let (content, rest) = content_of(alloc, kind, sender, rest)?;

@@ -1,7 +1,9 @@
 ghost use Rattle.std.specs.Prelude.{◌≡◌, ◌≤◌, ◌↔◌, IsSome, IfSome};
+ghost use Rattle.lk_types.specs.Limits.{max_base};
 ghost use Rattle.lk_wire.specs.Values.{IsWant};
 
 use lk_types::Position;
+use lk_types::limits::MAX_BASE;
 use std::marker::Model;
 
 /// What a node that lies behind asks for: the commands from a position on, or, where these are gone, a snapshot from
@@ -27,11 +29,11 @@ impl Model for Want {
 impl Want {
     /// The wish, or `None` where the offset is above 49,152.
     pub fn of(first: Position, offset: u32) -> Option<Want>
-        ensures some { IsSome result ↔ (offset ≤ 49152) }
+        ensures some { IsSome result ↔ (offset ≤ max_base) }
         ensures value { IfSome result (λ w. w ≡ record { first = first; offset = offset }) }
     {
         let _ = first.get();
-        if offset > 49152 {
+        if offset as usize > MAX_BASE {
             return None;
         }
         Some(Want { first, offset })

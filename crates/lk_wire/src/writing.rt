@@ -1,10 +1,11 @@
-ghost use Rattle.std.specs.Prelude.{◌≡◌, ◌<◌, ◌++◌, length, OnOk, OnErr};
+ghost use Rattle.std.specs.Prelude.{◌≡◌, ◌<◌, ◌+◌, ◌*◌, ◌++◌, length, OnOk, OnErr};
+ghost use Rattle.lk_wire.specs.Rooms.{UsesRoom, mark_room, member_room, command_room, vote_room, answer_room, header_room, node_fields_room, fields_room};
 ghost use Rattle.lk_wire.specs.Grammar.{prepare, votes, promise, proposal, nack, commands, decided, want, part, answered, elsewhere, passed, lead, node_kind, node_fields, fields, header, kind, spelling, Spells};
 
 use crate::decided::Decided;
 use crate::fields::{
     put_answer, put_ballot, put_client, put_command, put_executed, put_mark, put_member,
-    put_number, put_position, put_request, put_u8, put_u16, put_u32, put_u64, put_vote,
+    put_number, put_position, put_request, put_u8, put_u16, put_u32, put_u64, put_vote, room,
 };
 use crate::message::{Answered, Content, Elsewhere, Message, Nack, NodeMessage};
 use crate::part::Part;
@@ -13,10 +14,11 @@ use crate::promise::Promise;
 use crate::want::Want;
 use bytes::{BufMut, BytesMut};
 use lk_types::{Command, Executed, NoMemory, Position, RealBallot, Vote};
-use std::alloc::{AllocError, Global};
+use std::alloc::AllocError;
 
 fn put_prepare(out: &mut BytesMut, ballot: RealBallot, first: Position) -> Result<(), AllocError>
-    ensures { OnOk result (out.new.items ≡ out.old.items ++ prepare ballot first) }
+    ensures ok { OnOk result (out.new.items ≡ out.old.items ++ prepare ballot first) }
+    ensures room { UsesRoom result out.old.spare out.new.spare (mark_room + 8) }
 {
     put_ballot(out, ballot)?;
     put_position(out, first)?;
@@ -25,7 +27,8 @@ fn put_prepare(out: &mut BytesMut, ballot: RealBallot, first: Position) -> Resul
 
 fn put_votes(out: &mut BytesMut, list: &[Vote]) -> Result<(), AllocError>
     requires { length list.now < 256 }
-    ensures { OnOk result (out.new.items ≡ out.old.items ++ votes list.now) }
+    ensures ok { OnOk result (out.new.items ≡ out.old.items ++ votes list.now) }
+    ensures room { UsesRoom result out.old.spare out.new.spare (1 + vote_room * length list.now) }
 {
     put_u8(out, list.len() as u8)?;
     for vote in list {
@@ -35,7 +38,8 @@ fn put_votes(out: &mut BytesMut, list: &[Vote]) -> Result<(), AllocError>
 }
 
 fn put_promise(out: &mut BytesMut, value: &Promise) -> Result<(), AllocError>
-    ensures { OnOk result (out.new.items ≡ out.old.items ++ promise value.now) }
+    ensures ok { OnOk result (out.new.items ≡ out.old.items ++ promise value.now) }
+    ensures room { UsesRoom result out.old.spare out.new.spare (mark_room + 8 + 1 + vote_room * length value.now.votes) }
 {
     value.facts();
     put_ballot(out, value.ballot())?;
@@ -45,7 +49,8 @@ fn put_promise(out: &mut BytesMut, value: &Promise) -> Result<(), AllocError>
 }
 
 fn put_proposal(out: &mut BytesMut, value: &Vote) -> Result<(), AllocError>
-    ensures { OnOk result (out.new.items ≡ out.old.items ++ proposal value.now) }
+    ensures ok { OnOk result (out.new.items ≡ out.old.items ++ proposal value.now) }
+    ensures room { UsesRoom result out.old.spare out.new.spare vote_room }
 {
     put_ballot(out, value.ballot)?;
     put_position(out, value.position)?;
@@ -54,7 +59,8 @@ fn put_proposal(out: &mut BytesMut, value: &Vote) -> Result<(), AllocError>
 }
 
 fn put_nack(out: &mut BytesMut, value: &Nack) -> Result<(), AllocError>
-    ensures { OnOk result (out.new.items ≡ out.old.items ++ nack value.now) }
+    ensures ok { OnOk result (out.new.items ≡ out.old.items ++ nack value.now) }
+    ensures room { UsesRoom result out.old.spare out.new.spare (mark_room + mark_room + 8) }
 {
     put_ballot(out, value.ballot)?;
     put_mark(out, value.promised)?;
@@ -64,7 +70,8 @@ fn put_nack(out: &mut BytesMut, value: &Nack) -> Result<(), AllocError>
 
 fn put_commands(out: &mut BytesMut, list: &[Command]) -> Result<(), AllocError>
     requires { length list.now < 256 }
-    ensures { OnOk result (out.new.items ≡ out.old.items ++ commands list.now) }
+    ensures ok { OnOk result (out.new.items ≡ out.old.items ++ commands list.now) }
+    ensures room { UsesRoom result out.old.spare out.new.spare (1 + command_room * length list.now) }
 {
     put_u8(out, list.len() as u8)?;
     for command in list {
@@ -74,7 +81,8 @@ fn put_commands(out: &mut BytesMut, list: &[Command]) -> Result<(), AllocError>
 }
 
 fn put_decided(out: &mut BytesMut, value: &Decided) -> Result<(), AllocError>
-    ensures { OnOk result (out.new.items ≡ out.old.items ++ decided value.now) }
+    ensures ok { OnOk result (out.new.items ≡ out.old.items ++ decided value.now) }
+    ensures room { UsesRoom result out.old.spare out.new.spare (8 + 1 + command_room * length value.now.commands) }
 {
     value.facts();
     put_position(out, value.first())?;
@@ -83,7 +91,8 @@ fn put_decided(out: &mut BytesMut, value: &Decided) -> Result<(), AllocError>
 }
 
 fn put_want(out: &mut BytesMut, value: &Want) -> Result<(), AllocError>
-    ensures { OnOk result (out.new.items ≡ out.old.items ++ want value.now) }
+    ensures ok { OnOk result (out.new.items ≡ out.old.items ++ want value.now) }
+    ensures room { UsesRoom result out.old.spare out.new.spare (8 + 4) }
 {
     put_position(out, value.first())?;
     put_u32(out, value.offset())?;
@@ -91,7 +100,8 @@ fn put_want(out: &mut BytesMut, value: &Want) -> Result<(), AllocError>
 }
 
 fn put_part(out: &mut BytesMut, value: &Part) -> Result<(), AllocError>
-    ensures { OnOk result (out.new.items ≡ out.old.items ++ part value.now) }
+    ensures ok { OnOk result (out.new.items ≡ out.old.items ++ part value.now) }
+    ensures room { UsesRoom result out.old.spare out.new.spare (8 + 4 + 4 + 2 + length value.now.bytes) }
 {
     value.facts();
     let bytes = value.bytes();
@@ -104,7 +114,8 @@ fn put_part(out: &mut BytesMut, value: &Part) -> Result<(), AllocError>
 }
 
 fn put_answered(out: &mut BytesMut, value: &Answered) -> Result<(), AllocError>
-    ensures { OnOk result (out.new.items ≡ out.old.items ++ answered value.now) }
+    ensures ok { OnOk result (out.new.items ≡ out.old.items ++ answered value.now) }
+    ensures room { UsesRoom result out.old.spare out.new.spare (2 + 8 + answer_room) }
 {
     put_client(out, value.client)?;
     put_number(out, value.number)?;
@@ -113,7 +124,8 @@ fn put_answered(out: &mut BytesMut, value: &Answered) -> Result<(), AllocError>
 }
 
 fn put_elsewhere(out: &mut BytesMut, value: &Elsewhere) -> Result<(), AllocError>
-    ensures { OnOk result (out.new.items ≡ out.old.items ++ elsewhere value.now) }
+    ensures ok { OnOk result (out.new.items ≡ out.old.items ++ elsewhere value.now) }
+    ensures room { UsesRoom result out.old.spare out.new.spare (2 + 8 + member_room) }
 {
     put_client(out, value.client)?;
     put_number(out, value.number)?;
@@ -122,7 +134,8 @@ fn put_elsewhere(out: &mut BytesMut, value: &Elsewhere) -> Result<(), AllocError
 }
 
 fn put_passed(out: &mut BytesMut, value: &Passed) -> Result<(), AllocError>
-    ensures { OnOk result (out.new.items ≡ out.old.items ++ passed value.now) }
+    ensures ok { OnOk result (out.new.items ≡ out.old.items ++ passed value.now) }
+    ensures room { UsesRoom result out.old.spare out.new.spare (2 + 8 + 8) }
 {
     put_client(out, value.client())?;
     put_number(out, value.number())?;
@@ -131,7 +144,8 @@ fn put_passed(out: &mut BytesMut, value: &Passed) -> Result<(), AllocError>
 }
 
 fn put_lead(out: &mut BytesMut, ballot: RealBallot, executed: Executed) -> Result<(), AllocError>
-    ensures { OnOk result (out.new.items ≡ out.old.items ++ lead ballot executed) }
+    ensures ok { OnOk result (out.new.items ≡ out.old.items ++ lead ballot executed) }
+    ensures room { UsesRoom result out.old.spare out.new.spare (mark_room + 8) }
 {
     put_ballot(out, ballot)?;
     put_executed(out, executed)?;
@@ -159,7 +173,8 @@ fn kind_of(message: &NodeMessage) -> u8
 }
 
 fn put_node_fields(out: &mut BytesMut, message: &NodeMessage) -> Result<(), AllocError>
-    ensures { OnOk result (out.new.items ≡ out.old.items ++ node_fields message.now) }
+    ensures ok { OnOk result (out.new.items ≡ out.old.items ++ node_fields message.now) }
+    ensures room { UsesRoom result out.old.spare out.new.spare (node_fields_room message.now) }
 {
     match message {
         NodeMessage::Prepare(ballot, first) => put_prepare(out, *ballot, *first),
@@ -177,7 +192,8 @@ fn put_node_fields(out: &mut BytesMut, message: &NodeMessage) -> Result<(), Allo
 }
 
 fn put_header(out: &mut BytesMut, kind: u8, cluster: u64, sender: u32) -> Result<(), AllocError>
-    ensures { OnOk result (out.new.items ≡ out.old.items ++ header kind cluster sender) }
+    ensures ok { OnOk result (out.new.items ≡ out.old.items ++ header kind cluster sender) }
+    ensures room { UsesRoom result out.old.spare out.new.spare header_room }
 {
     out.put_slice(&[0x4c, 0x4b, 1, kind])?;
     put_u64(out, cluster)?;
@@ -186,7 +202,8 @@ fn put_header(out: &mut BytesMut, kind: u8, cluster: u64, sender: u32) -> Result
 }
 
 fn put_message(out: &mut BytesMut, message: &Message) -> Result<(), AllocError>
-    ensures { OnOk result (out.new.items ≡ out.old.items ++ spelling message.now) }
+    ensures ok { OnOk result (out.new.items ≡ out.old.items ++ spelling message.now) }
+    ensures room { UsesRoom result out.old.spare out.new.spare (header_room + fields_room message.now.content) }
 {
     match &message.content {
         Content::Request(request) => {
@@ -201,15 +218,39 @@ fn put_message(out: &mut BytesMut, message: &Message) -> Result<(), AllocError>
     Ok(())
 }
 
-/// Adds the one spelling of the message. Where memory is refused nothing is added.
-pub fn write(alloc: Global, message: &Message, out: &mut BytesMut) -> Result<(), NoMemory>
+/// How many bytes the fields of a message take at most.
+fn room_of(content: &Content) -> usize
+    ensures { result ≡ fields_room content.now }
+{
+    content.facts();
+    match content {
+        Content::Request(_) => room::REQUEST,
+        Content::Node(_, NodeMessage::Promise(promise)) => {
+            promise.facts();
+            room::MARK + 8 + 1 + room::VOTE * promise.votes().len()
+        }
+        Content::Node(_, NodeMessage::Decided(decided)) => {
+            decided.facts();
+            8 + 1 + room::COMMAND * decided.commands().len()
+        }
+        Content::Node(_, NodeMessage::Part(part)) => {
+            part.facts();
+            8 + 4 + 4 + 2 + part.bytes().len()
+        }
+        Content::Node(_, _) => room::VOTE,
+    }
+}
+
+/// Adds the one spelling of the message. It asks for its room before it begins, once; where memory is refused nothing is
+/// added.
+pub fn write(message: &Message, out: &mut BytesMut) -> Result<(), NoMemory>
     ensures ok { OnOk result (out.new.items ≡ out.old.items ++ spelling message.now) }
     ensures spells { Spells message.now (spelling message.now) }
     ensures err { OnErr result (out.new.items ≡ out.old.items) }
+    ensures room { UsesRoom result out.old.spare out.new.spare (header_room + fields_room message.now.content) }
 {
     message.facts();
-    let mut text = BytesMut::new(alloc);
-    put_message(&mut text, message)?;
-    out.extend_from_slice(&text)?;
+    out.reserve(room::HEADER + room_of(&message.content))?;
+    put_message(out, message)?;
     Ok(())
 }

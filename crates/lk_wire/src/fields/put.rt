@@ -1,10 +1,11 @@
-//! Writing a field behind some bytes: its one spelling. Where memory is refused, what stood there stays, and a beginning
-//! of the spelling may stand behind it.
+//! Writing a field behind some bytes: its one spelling. Where memory is refused nothing is written. A writer asks for
+//! its room before it begins, and where that room was there, memory is not refused.
 
 ghost use Rattle.std.specs.Prelude.{◌≡◌, ◌++◌, OnOk, OnErr};
 ghost use Rattle.lk_wire.specs.Fields.{one, two, four, eight, ballot, member, payload, op, request, command, vote, answer, answer_fields, answer_tag};
-ghost use Rattle.lk_wire.specs.Fronts.{Keeps};
+ghost use Rattle.lk_wire.specs.Rooms.{UsesRoom, mark_room, member_room, payload_room, op_room, request_room, command_room, vote_room, held_room, answer_room};
 
+use crate::fields::room::{ANSWER, COMMAND, MARK, MEMBER, OP, REQUEST, VOTE};
 use bytes::{BufMut, BytesMut};
 use lk_types::{
     Answer, Ballot, ClientNo, Command, Executed, Fence, LastFence, Member, NodeNo, Op, Payload,
@@ -13,37 +14,40 @@ use lk_types::{
 use std::alloc::AllocError;
 
 /// Writes a byte.
-#[tactic(auto, using(crate::proofs::Appends::keeps_same))]
 pub fn put_u8(out: &mut BytesMut, value: u8) -> Result<(), AllocError>
     ensures ok { OnOk result (out.new.items ≡ out.old.items ++ one value) }
-    ensures err { OnErr result (Keeps out.old.items out.new.items) }
+    ensures err { OnErr result (out.new.items ≡ out.old.items) }
+    ensures room { UsesRoom result out.old.spare out.new.spare 1 }
 {
     out.put_u8(value)
 }
 
 /// Writes a number in two bytes.
-#[tactic(auto, using(crate::proofs::Appends::keeps_same), unfolding(crate::specs::Fields::two))]
+#[tactic(auto, unfolding(crate::specs::Fields::two))]
 pub fn put_u16(out: &mut BytesMut, value: u16) -> Result<(), AllocError>
     ensures ok { OnOk result (out.new.items ≡ out.old.items ++ two value) }
-    ensures err { OnErr result (Keeps out.old.items out.new.items) }
+    ensures err { OnErr result (out.new.items ≡ out.old.items) }
+    ensures room { UsesRoom result out.old.spare out.new.spare 2 }
 {
     out.put_u16(value)
 }
 
 /// Writes a number in four bytes.
-#[tactic(auto, using(crate::proofs::Appends::keeps_same), unfolding(crate::specs::Fields::four))]
+#[tactic(auto, unfolding(crate::specs::Fields::four))]
 pub fn put_u32(out: &mut BytesMut, value: u32) -> Result<(), AllocError>
     ensures ok { OnOk result (out.new.items ≡ out.old.items ++ four value) }
-    ensures err { OnErr result (Keeps out.old.items out.new.items) }
+    ensures err { OnErr result (out.new.items ≡ out.old.items) }
+    ensures room { UsesRoom result out.old.spare out.new.spare 4 }
 {
     out.put_u32(value)
 }
 
 /// Writes a number in eight bytes.
-#[tactic(auto, using(crate::proofs::Appends::keeps_same), unfolding(crate::specs::Fields::eight))]
+#[tactic(auto, unfolding(crate::specs::Fields::eight))]
 pub fn put_u64(out: &mut BytesMut, value: u64) -> Result<(), AllocError>
     ensures ok { OnOk result (out.new.items ≡ out.old.items ++ eight value) }
-    ensures err { OnErr result (Keeps out.old.items out.new.items) }
+    ensures err { OnErr result (out.new.items ≡ out.old.items) }
+    ensures room { UsesRoom result out.old.spare out.new.spare 8 }
 {
     out.put_u64(value)
 }
@@ -51,7 +55,8 @@ pub fn put_u64(out: &mut BytesMut, value: u64) -> Result<(), AllocError>
 /// Writes a node in four bytes.
 pub fn put_node(out: &mut BytesMut, node: NodeNo) -> Result<(), AllocError>
     ensures ok { OnOk result (out.new.items ≡ out.old.items ++ four node) }
-    ensures err { OnErr result (Keeps out.old.items out.new.items) }
+    ensures err { OnErr result (out.new.items ≡ out.old.items) }
+    ensures room { UsesRoom result out.old.spare out.new.spare 4 }
 {
     put_u32(out, node.get())
 }
@@ -59,7 +64,8 @@ pub fn put_node(out: &mut BytesMut, node: NodeNo) -> Result<(), AllocError>
 /// Writes a client in two bytes.
 pub fn put_client(out: &mut BytesMut, client: ClientNo) -> Result<(), AllocError>
     ensures ok { OnOk result (out.new.items ≡ out.old.items ++ two client) }
-    ensures err { OnErr result (Keeps out.old.items out.new.items) }
+    ensures err { OnErr result (out.new.items ≡ out.old.items) }
+    ensures room { UsesRoom result out.old.spare out.new.spare 2 }
 {
     put_u16(out, client.get())
 }
@@ -67,7 +73,8 @@ pub fn put_client(out: &mut BytesMut, client: ClientNo) -> Result<(), AllocError
 /// Writes a port in two bytes.
 pub fn put_port(out: &mut BytesMut, port: Port) -> Result<(), AllocError>
     ensures ok { OnOk result (out.new.items ≡ out.old.items ++ two port) }
-    ensures err { OnErr result (Keeps out.old.items out.new.items) }
+    ensures err { OnErr result (out.new.items ≡ out.old.items) }
+    ensures room { UsesRoom result out.old.spare out.new.spare 2 }
 {
     put_u16(out, port.get())
 }
@@ -75,7 +82,8 @@ pub fn put_port(out: &mut BytesMut, port: Port) -> Result<(), AllocError>
 /// Writes a position in eight bytes.
 pub fn put_position(out: &mut BytesMut, position: Position) -> Result<(), AllocError>
     ensures ok { OnOk result (out.new.items ≡ out.old.items ++ eight position) }
-    ensures err { OnErr result (Keeps out.old.items out.new.items) }
+    ensures err { OnErr result (out.new.items ≡ out.old.items) }
+    ensures room { UsesRoom result out.old.spare out.new.spare 8 }
 {
     put_u64(out, position.get())
 }
@@ -83,7 +91,8 @@ pub fn put_position(out: &mut BytesMut, position: Position) -> Result<(), AllocE
 /// Writes a request's number in eight bytes.
 pub fn put_number(out: &mut BytesMut, number: RequestNumber) -> Result<(), AllocError>
     ensures ok { OnOk result (out.new.items ≡ out.old.items ++ eight number) }
-    ensures err { OnErr result (Keeps out.old.items out.new.items) }
+    ensures err { OnErr result (out.new.items ≡ out.old.items) }
+    ensures room { UsesRoom result out.old.spare out.new.spare 8 }
 {
     put_u64(out, number.get())
 }
@@ -91,7 +100,8 @@ pub fn put_number(out: &mut BytesMut, number: RequestNumber) -> Result<(), Alloc
 /// Writes a fence in eight bytes.
 pub fn put_fence(out: &mut BytesMut, fence: Fence) -> Result<(), AllocError>
     ensures ok { OnOk result (out.new.items ≡ out.old.items ++ eight fence) }
-    ensures err { OnErr result (Keeps out.old.items out.new.items) }
+    ensures err { OnErr result (out.new.items ≡ out.old.items) }
+    ensures room { UsesRoom result out.old.spare out.new.spare 8 }
 {
     put_u64(out, fence.get())
 }
@@ -99,7 +109,8 @@ pub fn put_fence(out: &mut BytesMut, fence: Fence) -> Result<(), AllocError>
 /// Writes a last fence in eight bytes, 0 where there is none.
 pub fn put_last_fence(out: &mut BytesMut, last: LastFence) -> Result<(), AllocError>
     ensures ok { OnOk result (out.new.items ≡ out.old.items ++ eight last) }
-    ensures err { OnErr result (Keeps out.old.items out.new.items) }
+    ensures err { OnErr result (out.new.items ≡ out.old.items) }
+    ensures room { UsesRoom result out.old.spare out.new.spare 8 }
 {
     put_u64(out, last.get())
 }
@@ -107,17 +118,19 @@ pub fn put_last_fence(out: &mut BytesMut, last: LastFence) -> Result<(), AllocEr
 /// Writes how many positions are executed, in eight bytes.
 pub fn put_executed(out: &mut BytesMut, executed: Executed) -> Result<(), AllocError>
     ensures ok { OnOk result (out.new.items ≡ out.old.items ++ eight executed) }
-    ensures err { OnErr result (Keeps out.old.items out.new.items) }
+    ensures err { OnErr result (out.new.items ≡ out.old.items) }
+    ensures room { UsesRoom result out.old.spare out.new.spare 8 }
 {
     put_u64(out, executed.get())
 }
 
 /// Writes a ballot: its round and its node, twelve zero bytes for `Ballot::ZERO`.
-#[tactic(auto, using(crate::proofs::Appends::keeps_same, crate::proofs::Appends::keeps_behind))]
 pub fn put_mark(out: &mut BytesMut, value: Ballot) -> Result<(), AllocError>
     ensures ok { OnOk result (out.new.items ≡ out.old.items ++ ballot value) }
-    ensures err { OnErr result (Keeps out.old.items out.new.items) }
+    ensures err { OnErr result (out.new.items ≡ out.old.items) }
+    ensures room { UsesRoom result out.old.spare out.new.spare mark_room }
 {
+    out.reserve(MARK)?;
     put_u64(out, value.round())?;
     put_u32(out, value.node())?;
     Ok(())
@@ -126,27 +139,28 @@ pub fn put_mark(out: &mut BytesMut, value: Ballot) -> Result<(), AllocError>
 /// Writes a ballot: its round and its node.
 pub fn put_ballot(out: &mut BytesMut, value: RealBallot) -> Result<(), AllocError>
     ensures ok { OnOk result (out.new.items ≡ out.old.items ++ ballot value) }
-    ensures err { OnErr result (Keeps out.old.items out.new.items) }
+    ensures err { OnErr result (out.new.items ≡ out.old.items) }
+    ensures room { UsesRoom result out.old.spare out.new.spare mark_room }
 {
     put_mark(out, value.get())
 }
 
 /// Writes a node and its port.
-#[tactic(auto, using(crate::proofs::Appends::keeps_same, crate::proofs::Appends::keeps_behind))]
 pub fn put_member(out: &mut BytesMut, value: Member) -> Result<(), AllocError>
     ensures ok { OnOk result (out.new.items ≡ out.old.items ++ member value) }
-    ensures err { OnErr result (Keeps out.old.items out.new.items) }
+    ensures err { OnErr result (out.new.items ≡ out.old.items) }
+    ensures room { UsesRoom result out.old.spare out.new.spare member_room }
 {
+    out.reserve(MEMBER)?;
     put_node(out, value.node)?;
     put_port(out, value.port)?;
     Ok(())
 }
 
 /// Writes the length of a payload in one byte, and its bytes.
-#[tactic(auto, using(crate::proofs::Appends::keeps_same, crate::proofs::Appends::keeps_behind))]
 fn put_payload(out: &mut BytesMut, value: &Payload) -> Result<(), AllocError>
     ensures ok { OnOk result (out.new.items ≡ out.old.items ++ payload value.now) }
-    ensures err { OnErr result (Keeps out.old.items out.new.items) }
+    ensures room { UsesRoom result out.old.spare out.new.spare payload_room }
 {
     let bytes = value.as_slice();
     put_u8(out, bytes.len() as u8)?;
@@ -155,11 +169,12 @@ fn put_payload(out: &mut BytesMut, value: &Payload) -> Result<(), AllocError>
 }
 
 /// Writes an op behind a byte that says which it is.
-#[tactic(auto, using(crate::proofs::Appends::keeps_same, crate::proofs::Appends::keeps_behind))]
 pub fn put_op(out: &mut BytesMut, value: &Op) -> Result<(), AllocError>
     ensures ok { OnOk result (out.new.items ≡ out.old.items ++ op value.now) }
-    ensures err { OnErr result (Keeps out.old.items out.new.items) }
+    ensures err { OnErr result (out.new.items ≡ out.old.items) }
+    ensures room { UsesRoom result out.old.spare out.new.spare op_room }
 {
+    out.reserve(OP)?;
     match value {
         Op::Table(payload) => {
             put_u8(out, 0)?;
@@ -179,11 +194,12 @@ pub fn put_op(out: &mut BytesMut, value: &Op) -> Result<(), AllocError>
 }
 
 /// Writes a client, a number and an op.
-#[tactic(auto, using(crate::proofs::Appends::keeps_same, crate::proofs::Appends::keeps_behind))]
 pub fn put_request(out: &mut BytesMut, value: &Request) -> Result<(), AllocError>
     ensures ok { OnOk result (out.new.items ≡ out.old.items ++ request value.now) }
-    ensures err { OnErr result (Keeps out.old.items out.new.items) }
+    ensures err { OnErr result (out.new.items ≡ out.old.items) }
+    ensures room { UsesRoom result out.old.spare out.new.spare request_room }
 {
+    out.reserve(REQUEST)?;
     put_client(out, value.client)?;
     put_number(out, value.number)?;
     put_op(out, &value.op)?;
@@ -191,11 +207,12 @@ pub fn put_request(out: &mut BytesMut, value: &Request) -> Result<(), AllocError
 }
 
 /// Writes a command behind a byte that says whether it is a request.
-#[tactic(auto, using(crate::proofs::Appends::keeps_same, crate::proofs::Appends::keeps_behind))]
 pub fn put_command(out: &mut BytesMut, value: &Command) -> Result<(), AllocError>
     ensures ok { OnOk result (out.new.items ≡ out.old.items ++ command value.now) }
-    ensures err { OnErr result (Keeps out.old.items out.new.items) }
+    ensures err { OnErr result (out.new.items ≡ out.old.items) }
+    ensures room { UsesRoom result out.old.spare out.new.spare command_room }
 {
+    out.reserve(COMMAND)?;
     match value {
         Command::Noop => put_u8(out, 0)?,
         Command::Request(request) => {
@@ -207,11 +224,12 @@ pub fn put_command(out: &mut BytesMut, value: &Command) -> Result<(), AllocError
 }
 
 /// Writes a position, a ballot and a command.
-#[tactic(auto, using(crate::proofs::Appends::keeps_same, crate::proofs::Appends::keeps_behind))]
 pub fn put_vote(out: &mut BytesMut, value: &Vote) -> Result<(), AllocError>
     ensures ok { OnOk result (out.new.items ≡ out.old.items ++ vote value.now) }
-    ensures err { OnErr result (Keeps out.old.items out.new.items) }
+    ensures err { OnErr result (out.new.items ≡ out.old.items) }
+    ensures room { UsesRoom result out.old.spare out.new.spare vote_room }
 {
+    out.reserve(VOTE)?;
     put_position(out, value.position)?;
     put_ballot(out, value.ballot)?;
     put_command(out, &value.command)?;
@@ -244,10 +262,9 @@ fn tag_of(value: &Answer) -> u8
 }
 
 /// Writes what an answer holds.
-#[tactic(auto, using(crate::proofs::Appends::keeps_same, crate::proofs::Appends::keeps_behind))]
 fn put_answer_fields(out: &mut BytesMut, value: &Answer) -> Result<(), AllocError>
     ensures ok { OnOk result (out.new.items ≡ out.old.items ++ answer_fields value.now) }
-    ensures err { OnErr result (Keeps out.old.items out.new.items) }
+    ensures room { UsesRoom result out.old.spare out.new.spare held_room }
 {
     match value {
         Answer::Granted(fence) => put_fence(out, *fence)?,
@@ -256,17 +273,30 @@ fn put_answer_fields(out: &mut BytesMut, value: &Answer) -> Result<(), AllocErro
             put_fence(out, *fence)?;
         }
         Answer::Free(fence) => put_last_fence(out, *fence)?,
-        _ => {}
+        Answer::Released
+        | Answer::NotHeld
+        | Answer::Valid
+        | Answer::Stale
+        | Answer::NoRoom
+        | Answer::Bad
+        | Answer::Spent
+        | Answer::Joined
+        | Answer::Used
+        | Answer::Full
+        | Answer::Left
+        | Answer::NotMember
+        | Answer::Last => {}
     }
     Ok(())
 }
 
 /// Writes an answer behind a byte that says which it is.
-#[tactic(auto, using(crate::proofs::Appends::keeps_same, crate::proofs::Appends::keeps_behind))]
 pub fn put_answer(out: &mut BytesMut, value: Answer) -> Result<(), AllocError>
     ensures ok { OnOk result (out.new.items ≡ out.old.items ++ answer value) }
-    ensures err { OnErr result (Keeps out.old.items out.new.items) }
+    ensures err { OnErr result (out.new.items ≡ out.old.items) }
+    ensures room { UsesRoom result out.old.spare out.new.spare answer_room }
 {
+    out.reserve(ANSWER)?;
     put_u8(out, tag_of(&value))?;
     put_answer_fields(out, &value)?;
     Ok(())

@@ -10,8 +10,8 @@ ghost use Rattle.lk_types.specs.Votes.{IsVote};
 ghost use Rattle.lk_types.specs.Answers.{IsAnswer};
 ghost use Rattle.lk_wire.specs.Fields.{one, two, four, eight, ballot, member, op, request, command, vote, answer};
 ghost use Rattle.lk_wire.specs.Fronts.{ReadsFront};
-ghost use Rattle.lk_wire.specs.Parser.{Finds, byte_at};
-ghost use Rattle.lk_wire.specs.FieldReading.{two_at, four_at, eight_at, node_at, client_at, port_at, count_at, total_at, ballot_at, mark_at, member_at, op_at, request_at, command_at, vote_at, answer_at};
+ghost use Rattle.lk_wire.specs.Parser.{Finds, read_byte};
+ghost use Rattle.lk_wire.specs.FieldReading.{read_two, read_four, read_eight, read_node, read_client, read_port, read_count, read_total, read_ballot, read_mark, read_member, read_op, read_request, read_command, read_vote, read_answer};
 
 use crate::fields::{number, value};
 use lk_types::{
@@ -23,178 +23,178 @@ use lk_types::{
 #[tactic(auto, using(crate::proofs::FrontLaws::one_front))]
 pub fn read_u8(bytes: &[u8]) -> Option<(u8, &[u8])>
     ensures front { ReadsFront (λ x. (x.0, x.1.now)) one (λ n. n < 256) bytes.now result }
-    ensures parsed { Finds (λ x. (x.0, x.1.now)) result (byte_at bytes.now) }
+    ensures parsed { Finds (λ x. (x.0, x.1.now)) result (read_byte bytes.now) }
 {
-    number::u8_at(bytes)
+    number::read_u8(bytes)
 }
 
 /// A number in two bytes.
 #[tactic(auto, using(crate::proofs::FrontLaws::two_front))]
 pub fn read_u16(bytes: &[u8]) -> Option<(u16, &[u8])>
     ensures front { ReadsFront (λ x. (x.0, x.1.now)) two (λ n. n < 2 ^ 16) bytes.now result }
-    ensures parsed { Finds (λ x. (x.0, x.1.now)) result (two_at bytes.now) }
+    ensures parsed { Finds (λ x. (x.0, x.1.now)) result (read_two bytes.now) }
 {
-    number::u16_at(bytes)
+    number::read_u16(bytes)
 }
 
 /// A number in four bytes.
 #[tactic(auto, using(crate::proofs::FrontLaws::four_front))]
 pub fn read_u32(bytes: &[u8]) -> Option<(u32, &[u8])>
     ensures front { ReadsFront (λ x. (x.0, x.1.now)) four (λ n. n < 2 ^ 32) bytes.now result }
-    ensures parsed { Finds (λ x. (x.0, x.1.now)) result (four_at bytes.now) }
+    ensures parsed { Finds (λ x. (x.0, x.1.now)) result (read_four bytes.now) }
 {
-    number::u32_at(bytes)
+    number::read_u32(bytes)
 }
 
 /// A number in eight bytes.
 #[tactic(auto, using(crate::proofs::FrontLaws::eight_front))]
 pub fn read_u64(bytes: &[u8]) -> Option<(u64, &[u8])>
     ensures front { ReadsFront (λ x. (x.0, x.1.now)) eight (λ n. n < 2 ^ 64) bytes.now result }
-    ensures parsed { Finds (λ x. (x.0, x.1.now)) result (eight_at bytes.now) }
+    ensures parsed { Finds (λ x. (x.0, x.1.now)) result (read_eight bytes.now) }
 {
-    number::u64_at(bytes)
+    number::read_u64(bytes)
 }
 
 /// A node in four bytes.
 #[tactic(auto, using(crate::proofs::FrontLaws::node_front))]
 pub fn read_node(bytes: &[u8]) -> Option<(NodeNo, &[u8])>
     ensures front { ReadsFront (λ x. (x.0, x.1.now)) four IsNode bytes.now result }
-    ensures parsed { Finds (λ x. (x.0, x.1.now)) result (node_at bytes.now) }
+    ensures parsed { Finds (λ x. (x.0, x.1.now)) result (read_node bytes.now) }
 {
-    number::node_at(bytes)
+    number::read_node(bytes)
 }
 
 /// A client in two bytes.
 #[tactic(auto, using(crate::proofs::FrontLaws::client_front))]
 pub fn read_client(bytes: &[u8]) -> Option<(ClientNo, &[u8])>
     ensures front { ReadsFront (λ x. (x.0, x.1.now)) two IsClient bytes.now result }
-    ensures parsed { Finds (λ x. (x.0, x.1.now)) result (client_at bytes.now) }
+    ensures parsed { Finds (λ x. (x.0, x.1.now)) result (read_client bytes.now) }
 {
-    number::client_at(bytes)
+    number::read_client(bytes)
 }
 
 /// A port in two bytes.
 #[tactic(auto, using(crate::proofs::FrontLaws::port_front))]
 pub fn read_port(bytes: &[u8]) -> Option<(Port, &[u8])>
     ensures front { ReadsFront (λ x. (x.0, x.1.now)) two IsPort bytes.now result }
-    ensures parsed { Finds (λ x. (x.0, x.1.now)) result (port_at bytes.now) }
+    ensures parsed { Finds (λ x. (x.0, x.1.now)) result (read_port bytes.now) }
 {
-    number::port_at(bytes)
+    number::read_port(bytes)
 }
 
 /// A position in eight bytes.
 #[tactic(auto, using(crate::proofs::FrontLaws::count_front))]
 pub fn read_position(bytes: &[u8]) -> Option<(Position, &[u8])>
     ensures front { ReadsFront (λ x. (x.0, x.1.now)) eight IsCount bytes.now result }
-    ensures parsed { Finds (λ x. (x.0, x.1.now)) result (count_at bytes.now) }
+    ensures parsed { Finds (λ x. (x.0, x.1.now)) result (read_count bytes.now) }
 {
-    number::position_at(bytes)
+    number::read_position(bytes)
 }
 
 /// A request's number in eight bytes.
 #[tactic(auto, using(crate::proofs::FrontLaws::count_front))]
 pub fn read_number(bytes: &[u8]) -> Option<(RequestNumber, &[u8])>
     ensures front { ReadsFront (λ x. (x.0, x.1.now)) eight IsCount bytes.now result }
-    ensures parsed { Finds (λ x. (x.0, x.1.now)) result (count_at bytes.now) }
+    ensures parsed { Finds (λ x. (x.0, x.1.now)) result (read_count bytes.now) }
 {
-    number::number_at(bytes)
+    number::read_number(bytes)
 }
 
 /// A fence in eight bytes.
 #[tactic(auto, using(crate::proofs::FrontLaws::count_front))]
 pub fn read_fence(bytes: &[u8]) -> Option<(Fence, &[u8])>
     ensures front { ReadsFront (λ x. (x.0, x.1.now)) eight IsCount bytes.now result }
-    ensures parsed { Finds (λ x. (x.0, x.1.now)) result (count_at bytes.now) }
+    ensures parsed { Finds (λ x. (x.0, x.1.now)) result (read_count bytes.now) }
 {
-    number::fence_at(bytes)
+    number::read_fence(bytes)
 }
 
 /// A last fence in eight bytes, 0 where there is none.
 #[tactic(auto, using(crate::proofs::FrontLaws::total_front))]
 pub fn read_last_fence(bytes: &[u8]) -> Option<(LastFence, &[u8])>
     ensures front { ReadsFront (λ x. (x.0, x.1.now)) eight IsTotal bytes.now result }
-    ensures parsed { Finds (λ x. (x.0, x.1.now)) result (total_at bytes.now) }
+    ensures parsed { Finds (λ x. (x.0, x.1.now)) result (read_total bytes.now) }
 {
-    number::last_fence_at(bytes)
+    number::read_last_fence(bytes)
 }
 
 /// How many positions are executed, in eight bytes.
 #[tactic(auto, using(crate::proofs::FrontLaws::total_front))]
 pub fn read_executed(bytes: &[u8]) -> Option<(Executed, &[u8])>
     ensures front { ReadsFront (λ x. (x.0, x.1.now)) eight IsTotal bytes.now result }
-    ensures parsed { Finds (λ x. (x.0, x.1.now)) result (total_at bytes.now) }
+    ensures parsed { Finds (λ x. (x.0, x.1.now)) result (read_total bytes.now) }
 {
-    number::executed_at(bytes)
+    number::read_executed(bytes)
 }
 
 /// A real ballot: its round and its node.
 #[tactic(auto, using(crate::proofs::FrontLaws::ballot_front))]
 pub fn read_ballot(bytes: &[u8]) -> Option<(RealBallot, &[u8])>
     ensures front { ReadsFront (λ x. (x.0, x.1.now)) ballot IsReal bytes.now result }
-    ensures parsed { Finds (λ x. (x.0, x.1.now)) result (ballot_at bytes.now) }
+    ensures parsed { Finds (λ x. (x.0, x.1.now)) result (read_ballot bytes.now) }
 {
-    value::ballot_at(bytes)
+    value::read_ballot(bytes)
 }
 
 /// A ballot, `Ballot::ZERO` too.
 #[tactic(auto, using(crate::proofs::FrontLaws::mark_front))]
 pub fn read_mark(bytes: &[u8]) -> Option<(Ballot, &[u8])>
     ensures front { ReadsFront (λ x. (x.0, x.1.now)) ballot IsMark bytes.now result }
-    ensures parsed { Finds (λ x. (x.0, x.1.now)) result (mark_at bytes.now) }
+    ensures parsed { Finds (λ x. (x.0, x.1.now)) result (read_mark bytes.now) }
 {
-    value::mark_at(bytes)
+    value::read_mark(bytes)
 }
 
 /// A node and its port.
 #[tactic(auto, using(crate::proofs::FrontLaws::member_front))]
 pub fn read_member(bytes: &[u8]) -> Option<(Member, &[u8])>
     ensures front { ReadsFront (λ x. (x.0, x.1.now)) member IsMember bytes.now result }
-    ensures parsed { Finds (λ x. (x.0, x.1.now)) result (member_at bytes.now) }
+    ensures parsed { Finds (λ x. (x.0, x.1.now)) result (read_member bytes.now) }
 {
-    value::member_at(bytes)
+    value::read_member(bytes)
 }
 
 /// What a request asks for, behind a byte that says which op it is.
 #[tactic(auto, using(crate::proofs::FrontLaws::op_front))]
 pub fn read_op(bytes: &[u8]) -> Option<(Op, &[u8])>
     ensures front { ReadsFront (λ x. (x.0, x.1.now)) op IsOp bytes.now result }
-    ensures parsed { Finds (λ x. (x.0, x.1.now)) result (op_at bytes.now) }
+    ensures parsed { Finds (λ x. (x.0, x.1.now)) result (read_op bytes.now) }
 {
-    value::op_at(bytes)
+    value::read_op(bytes)
 }
 
 /// A client, a number and an op.
 #[tactic(auto, using(crate::proofs::FrontLaws::request_front))]
 pub fn read_request(bytes: &[u8]) -> Option<(Request, &[u8])>
     ensures front { ReadsFront (λ x. (x.0, x.1.now)) request IsRequest bytes.now result }
-    ensures parsed { Finds (λ x. (x.0, x.1.now)) result (request_at bytes.now) }
+    ensures parsed { Finds (λ x. (x.0, x.1.now)) result (read_request bytes.now) }
 {
-    value::request_at(bytes)
+    value::read_request(bytes)
 }
 
 /// Nothing or a request, behind a byte that says which.
 #[tactic(auto, using(crate::proofs::FrontLaws::command_front))]
 pub fn read_command(bytes: &[u8]) -> Option<(Command, &[u8])>
     ensures front { ReadsFront (λ x. (x.0, x.1.now)) command IsCommand bytes.now result }
-    ensures parsed { Finds (λ x. (x.0, x.1.now)) result (command_at bytes.now) }
+    ensures parsed { Finds (λ x. (x.0, x.1.now)) result (read_command bytes.now) }
 {
-    value::command_at(bytes)
+    value::read_command(bytes)
 }
 
 /// A position, a ballot and a command.
 #[tactic(auto, using(crate::proofs::FrontLaws::vote_front))]
 pub fn read_vote(bytes: &[u8]) -> Option<(Vote, &[u8])>
     ensures front { ReadsFront (λ x. (x.0, x.1.now)) vote IsVote bytes.now result }
-    ensures parsed { Finds (λ x. (x.0, x.1.now)) result (vote_at bytes.now) }
+    ensures parsed { Finds (λ x. (x.0, x.1.now)) result (read_vote bytes.now) }
 {
-    value::vote_at(bytes)
+    value::read_vote(bytes)
 }
 
 /// What a request is answered, behind a byte that says which answer it is.
 #[tactic(auto, using(crate::proofs::FrontLaws::answer_front))]
 pub fn read_answer(bytes: &[u8]) -> Option<(Answer, &[u8])>
     ensures front { ReadsFront (λ x. (x.0, x.1.now)) answer IsAnswer bytes.now result }
-    ensures parsed { Finds (λ x. (x.0, x.1.now)) result (answer_at bytes.now) }
+    ensures parsed { Finds (λ x. (x.0, x.1.now)) result (read_answer bytes.now) }
 {
-    value::answer_at(bytes)
+    value::read_answer(bytes)
 }

@@ -1,58 +1,58 @@
 ghost use Rattle.std.specs.Prelude.{◌≡◌};
 ghost use Rattle.lk_wire.specs.Parser.{Finds};
-ghost use Rattle.lk_wire.specs.FieldReading.{ballot_at, mark_at, member_at, payload_at, op_at, request_at, command_at, vote_at, bare_answer, held_at, answer_at};
+ghost use Rattle.lk_wire.specs.FieldReading.{read_ballot, read_mark, read_member, read_payload, read_op, read_request, read_command, read_vote, bare_answer, read_held, read_answer};
 
 use crate::fields::number::{
-    client_at, fence_at, last_fence_at, node_at, number_at, port_at, position_at, round_at, u8_at,
-    u32_at, u64_at,
+    read_client, read_fence, read_last_fence, read_node, read_number, read_port, read_position,
+    read_round, read_u8, read_u32, read_u64,
 };
 use lk_types::{
     Answer, Ballot, ClientNo, Command, Fence, Member, Op, Payload, RealBallot, Request, Vote,
 };
 
-#[tactic(auto, unfolding(crate::specs::FieldReading::ballot_at))]
-pub(crate) fn ballot_at(bytes: &[u8]) -> Option<(RealBallot, &[u8])>
-    ensures { Finds (λ x. (x.0, x.1.now)) result (ballot_at bytes.now) }
+#[tactic(auto, unfolding(crate::specs::FieldReading::read_ballot))]
+pub fn read_ballot(bytes: &[u8]) -> Option<(RealBallot, &[u8])>
+    ensures { Finds (λ x. (x.0, x.1.now)) result (read_ballot bytes.now) }
 {
-    let Some((round, rest)) = round_at(bytes) else {
+    let Some((round, rest)) = read_round(bytes) else {
         return None;
     };
-    let Some((node, rest)) = node_at(rest) else {
+    let Some((node, rest)) = read_node(rest) else {
         return None;
     };
     Some((RealBallot::new(round, node), rest))
 }
 
-#[tactic(auto, unfolding(crate::specs::FieldReading::mark_at))]
-pub(crate) fn mark_at(bytes: &[u8]) -> Option<(Ballot, &[u8])>
-    ensures { Finds (λ x. (x.0, x.1.now)) result (mark_at bytes.now) }
+#[tactic(auto, unfolding(crate::specs::FieldReading::read_mark))]
+pub fn read_mark(bytes: &[u8]) -> Option<(Ballot, &[u8])>
+    ensures { Finds (λ x. (x.0, x.1.now)) result (read_mark bytes.now) }
 {
-    let (round, rest) = u64_at(bytes)?;
-    let (node, rest) = u32_at(rest)?;
+    let (round, rest) = read_u64(bytes)?;
+    let (node, rest) = read_u32(rest)?;
     if round == 0 && node == 0 {
         return Some((Ballot::ZERO, rest));
     }
     Some((Ballot::of(round, node)?, rest))
 }
 
-#[tactic(auto, unfolding(crate::specs::FieldReading::member_at))]
-pub(crate) fn member_at(bytes: &[u8]) -> Option<(Member, &[u8])>
-    ensures { Finds (λ x. (x.0, x.1.now)) result (member_at bytes.now) }
+#[tactic(auto, unfolding(crate::specs::FieldReading::read_member))]
+pub fn read_member(bytes: &[u8]) -> Option<(Member, &[u8])>
+    ensures { Finds (λ x. (x.0, x.1.now)) result (read_member bytes.now) }
 {
-    let Some((node, rest)) = node_at(bytes) else {
+    let Some((node, rest)) = read_node(bytes) else {
         return None;
     };
-    let Some((port, rest)) = port_at(rest) else {
+    let Some((port, rest)) = read_port(rest) else {
         return None;
     };
     Some((Member { node, port }, rest))
 }
 
-#[tactic(auto, unfolding(crate::specs::FieldReading::payload_at))]
-pub(crate) fn payload_at(bytes: &[u8]) -> Option<(Payload, &[u8])>
-    ensures { Finds (λ x. (x.0, x.1.now)) result (payload_at bytes.now) }
+#[tactic(auto, unfolding(crate::specs::FieldReading::read_payload))]
+pub fn read_payload(bytes: &[u8]) -> Option<(Payload, &[u8])>
+    ensures { Finds (λ x. (x.0, x.1.now)) result (read_payload bytes.now) }
 {
-    let (length, rest) = u8_at(bytes)?;
+    let (length, rest) = read_u8(bytes)?;
     let length = length as usize;
     if rest.len() < length {
         return None;
@@ -62,25 +62,25 @@ pub(crate) fn payload_at(bytes: &[u8]) -> Option<(Payload, &[u8])>
 }
 
 #[tactic(auto, unfolding(crate::specs::FieldReading::op_of))]
-pub(crate) fn op_at(bytes: &[u8]) -> Option<(Op, &[u8])>
-    ensures { Finds (λ x. (x.0, x.1.now)) result (op_at bytes.now) }
+pub fn read_op(bytes: &[u8]) -> Option<(Op, &[u8])>
+    ensures { Finds (λ x. (x.0, x.1.now)) result (read_op bytes.now) }
 {
-    let (tag, rest) = u8_at(bytes)?;
+    let (tag, rest) = read_u8(bytes)?;
     match tag {
         0 => {
-            let Some((payload, rest)) = payload_at(rest) else {
+            let Some((payload, rest)) = read_payload(rest) else {
                 return None;
             };
             Some((Op::Table(payload), rest))
         }
         1 => {
-            let Some((member, rest)) = member_at(rest) else {
+            let Some((member, rest)) = read_member(rest) else {
                 return None;
             };
             Some((Op::Join(member.node, member.port), rest))
         }
         2 => {
-            let Some((node, rest)) = node_at(rest) else {
+            let Some((node, rest)) = read_node(rest) else {
                 return None;
             };
             Some((Op::Leave(node), rest))
@@ -89,17 +89,17 @@ pub(crate) fn op_at(bytes: &[u8]) -> Option<(Op, &[u8])>
     }
 }
 
-#[tactic(auto, unfolding(crate::specs::FieldReading::request_at))]
-pub(crate) fn request_at(bytes: &[u8]) -> Option<(Request, &[u8])>
-    ensures { Finds (λ x. (x.0, x.1.now)) result (request_at bytes.now) }
+#[tactic(auto, unfolding(crate::specs::FieldReading::read_request))]
+pub fn read_request(bytes: &[u8]) -> Option<(Request, &[u8])>
+    ensures { Finds (λ x. (x.0, x.1.now)) result (read_request bytes.now) }
 {
-    let Some((client, rest)) = client_at(bytes) else {
+    let Some((client, rest)) = read_client(bytes) else {
         return None;
     };
-    let Some((number, rest)) = number_at(rest) else {
+    let Some((number, rest)) = read_number(rest) else {
         return None;
     };
-    let Some((op, rest)) = op_at(rest) else {
+    let Some((op, rest)) = read_op(rest) else {
         return None;
     };
     let request = Request { client, number, op };
@@ -107,14 +107,14 @@ pub(crate) fn request_at(bytes: &[u8]) -> Option<(Request, &[u8])>
 }
 
 #[tactic(auto, unfolding(crate::specs::FieldReading::command_of))]
-pub(crate) fn command_at(bytes: &[u8]) -> Option<(Command, &[u8])>
-    ensures { Finds (λ x. (x.0, x.1.now)) result (command_at bytes.now) }
+pub fn read_command(bytes: &[u8]) -> Option<(Command, &[u8])>
+    ensures { Finds (λ x. (x.0, x.1.now)) result (read_command bytes.now) }
 {
-    let (tag, rest) = u8_at(bytes)?;
+    let (tag, rest) = read_u8(bytes)?;
     match tag {
         0 => Some((Command::Noop, rest)),
         1 => {
-            let Some((request, rest)) = request_at(rest) else {
+            let Some((request, rest)) = read_request(rest) else {
                 return None;
             };
             Some((Command::Request(request), rest))
@@ -123,17 +123,17 @@ pub(crate) fn command_at(bytes: &[u8]) -> Option<(Command, &[u8])>
     }
 }
 
-#[tactic(auto, unfolding(crate::specs::FieldReading::vote_at))]
-pub(crate) fn vote_at(bytes: &[u8]) -> Option<(Vote, &[u8])>
-    ensures { Finds (λ x. (x.0, x.1.now)) result (vote_at bytes.now) }
+#[tactic(auto, unfolding(crate::specs::FieldReading::read_vote))]
+pub fn read_vote(bytes: &[u8]) -> Option<(Vote, &[u8])>
+    ensures { Finds (λ x. (x.0, x.1.now)) result (read_vote bytes.now) }
 {
-    let Some((position, rest)) = position_at(bytes) else {
+    let Some((position, rest)) = read_position(bytes) else {
         return None;
     };
-    let Some((ballot, rest)) = ballot_at(rest) else {
+    let Some((ballot, rest)) = read_ballot(rest) else {
         return None;
     };
-    let Some((command, rest)) = command_at(rest) else {
+    let Some((command, rest)) = read_command(rest) else {
         return None;
     };
     let vote = Vote {
@@ -169,44 +169,44 @@ fn bare_answer<'a>(tag: u8, rest: &'a [u8]) -> Option<(Answer, &'a [u8])>
 }
 
 /// A holder and its fence.
-fn held_at(bytes: &[u8]) -> Option<(ClientNo, Fence, &[u8])>
-    ensures { Finds (λ x. ((x.0, x.1), x.2.now)) result (held_at bytes.now) }
+fn read_held(bytes: &[u8]) -> Option<(ClientNo, Fence, &[u8])>
+    ensures { Finds (λ x. ((x.0, x.1), x.2.now)) result (read_held bytes.now) }
 {
-    let Some((holder, rest)) = client_at(bytes) else {
+    let Some((holder, rest)) = read_client(bytes) else {
         return None;
     };
-    let Some((fence, rest)) = fence_at(rest) else {
+    let Some((fence, rest)) = read_fence(rest) else {
         return None;
     };
     Some((holder, fence, rest))
 }
 
 #[tactic(auto, unfolding(crate::specs::FieldReading::answer_of))]
-pub(crate) fn answer_at(bytes: &[u8]) -> Option<(Answer, &[u8])>
-    ensures { Finds (λ x. (x.0, x.1.now)) result (answer_at bytes.now) }
+pub fn read_answer(bytes: &[u8]) -> Option<(Answer, &[u8])>
+    ensures { Finds (λ x. (x.0, x.1.now)) result (read_answer bytes.now) }
 {
-    let (tag, rest) = u8_at(bytes)?;
+    let (tag, rest) = read_u8(bytes)?;
     match tag {
         1 => {
-            let Some((fence, rest)) = fence_at(rest) else {
+            let Some((fence, rest)) = read_fence(rest) else {
                 return None;
             };
             Some((Answer::Granted(fence), rest))
         }
         2 => {
-            let Some((holder, fence, rest)) = held_at(rest) else {
+            let Some((holder, fence, rest)) = read_held(rest) else {
                 return None;
             };
             Some((Answer::Busy(holder, fence), rest))
         }
         5 => {
-            let Some((fence, rest)) = last_fence_at(rest) else {
+            let Some((fence, rest)) = read_last_fence(rest) else {
                 return None;
             };
             Some((Answer::Free(fence), rest))
         }
         6 => {
-            let Some((holder, fence, rest)) = held_at(rest) else {
+            let Some((holder, fence, rest)) = read_held(rest) else {
                 return None;
             };
             Some((Answer::Held(holder, fence), rest))

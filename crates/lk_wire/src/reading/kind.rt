@@ -1,38 +1,38 @@
 ghost use Rattle.std.specs.Prelude.{◌≡◌};
 ghost use Rattle.lk_wire.specs.Parser.{Finds, made};
-ghost use Rattle.lk_wire.specs.Reading.{prepare_at, proposal_at, nack_at, want_at, answered_at, elsewhere_at, passed_at, lead_at, small_of};
+ghost use Rattle.lk_wire.specs.Reading.{read_prepare, read_proposal, read_nack, read_want, read_answered, read_elsewhere, read_passed, read_lead, small_of};
 
-use crate::fields::number::{client_at, executed_at, number_at, position_at, u32_at};
-use crate::fields::value::{answer_at, ballot_at, command_at, mark_at, member_at};
+use crate::fields::number::{read_client, read_executed, read_number, read_position, read_u32};
+use crate::fields::value::{read_answer, read_ballot, read_command, read_mark, read_member};
 use crate::message::{Answered, Elsewhere, Nack, NodeMessage};
 use crate::passed::Passed;
 use crate::want::Want;
 use lk_types::Vote;
 
-#[tactic(auto, unfolding(crate::specs::Reading::prepare_at))]
-fn prepare_at(bytes: &[u8]) -> Option<(NodeMessage, &[u8])>
-    ensures { Finds (λ x. (x.0, x.1.now)) result (prepare_at bytes.now) }
+#[tactic(auto, unfolding(crate::specs::Reading::read_prepare))]
+fn read_prepare(bytes: &[u8]) -> Option<(NodeMessage, &[u8])>
+    ensures { Finds (λ x. (x.0, x.1.now)) result (read_prepare bytes.now) }
 {
-    let Some((ballot, rest)) = ballot_at(bytes) else {
+    let Some((ballot, rest)) = read_ballot(bytes) else {
         return None;
     };
-    let Some((first, rest)) = position_at(rest) else {
+    let Some((first, rest)) = read_position(rest) else {
         return None;
     };
     Some((NodeMessage::Prepare(ballot, first), rest))
 }
 
-#[tactic(auto, unfolding(crate::specs::Reading::proposal_at))]
-fn proposal_at(bytes: &[u8]) -> Option<(Vote, &[u8])>
-    ensures { Finds (λ x. (x.0, x.1.now)) result (proposal_at bytes.now) }
+#[tactic(auto, unfolding(crate::specs::Reading::read_proposal))]
+fn read_proposal(bytes: &[u8]) -> Option<(Vote, &[u8])>
+    ensures { Finds (λ x. (x.0, x.1.now)) result (read_proposal bytes.now) }
 {
-    let Some((ballot, rest)) = ballot_at(bytes) else {
+    let Some((ballot, rest)) = read_ballot(bytes) else {
         return None;
     };
-    let Some((position, rest)) = position_at(rest) else {
+    let Some((position, rest)) = read_position(rest) else {
         return None;
     };
-    let Some((command, rest)) = command_at(rest) else {
+    let Some((command, rest)) = read_command(rest) else {
         return None;
     };
     let vote = Vote {
@@ -43,35 +43,35 @@ fn proposal_at(bytes: &[u8]) -> Option<(Vote, &[u8])>
     Some((vote, rest))
 }
 
-fn accept_at(bytes: &[u8]) -> Option<(NodeMessage, &[u8])>
-    ensures { Finds (λ x. (x.0, x.1.now)) result (made NodeMessage.Accept proposal_at bytes.now) }
+fn read_accept(bytes: &[u8]) -> Option<(NodeMessage, &[u8])>
+    ensures { Finds (λ x. (x.0, x.1.now)) result (made NodeMessage.Accept read_proposal bytes.now) }
 {
-    let Some((vote, rest)) = proposal_at(bytes) else {
+    let Some((vote, rest)) = read_proposal(bytes) else {
         return None;
     };
     Some((NodeMessage::Accept(vote), rest))
 }
 
-fn accepted_at(bytes: &[u8]) -> Option<(NodeMessage, &[u8])>
-    ensures { Finds (λ x. (x.0, x.1.now)) result (made NodeMessage.Accepted proposal_at bytes.now) }
+fn read_accepted(bytes: &[u8]) -> Option<(NodeMessage, &[u8])>
+    ensures { Finds (λ x. (x.0, x.1.now)) result (made NodeMessage.Accepted read_proposal bytes.now) }
 {
-    let Some((vote, rest)) = proposal_at(bytes) else {
+    let Some((vote, rest)) = read_proposal(bytes) else {
         return None;
     };
     Some((NodeMessage::Accepted(vote), rest))
 }
 
-#[tactic(auto, unfolding(crate::specs::Reading::nack_at))]
-fn nack_at(bytes: &[u8]) -> Option<(NodeMessage, &[u8])>
-    ensures { Finds (λ x. (x.0, x.1.now)) result (made NodeMessage.Nack nack_at bytes.now) }
+#[tactic(auto, unfolding(crate::specs::Reading::read_nack))]
+fn read_nack(bytes: &[u8]) -> Option<(NodeMessage, &[u8])>
+    ensures { Finds (λ x. (x.0, x.1.now)) result (made NodeMessage.Nack read_nack bytes.now) }
 {
-    let Some((ballot, rest)) = ballot_at(bytes) else {
+    let Some((ballot, rest)) = read_ballot(bytes) else {
         return None;
     };
-    let Some((promised, rest)) = mark_at(rest) else {
+    let Some((promised, rest)) = read_mark(rest) else {
         return None;
     };
-    let Some((executed, rest)) = executed_at(rest) else {
+    let Some((executed, rest)) = read_executed(rest) else {
         return None;
     };
     let nack = Nack {
@@ -82,29 +82,29 @@ fn nack_at(bytes: &[u8]) -> Option<(NodeMessage, &[u8])>
     Some((NodeMessage::Nack(nack), rest))
 }
 
-#[tactic(auto, unfolding(crate::specs::Reading::want_at))]
-fn want_at(bytes: &[u8]) -> Option<(NodeMessage, &[u8])>
-    ensures { Finds (λ x. (x.0, x.1.now)) result (made NodeMessage.Want want_at bytes.now) }
+#[tactic(auto, unfolding(crate::specs::Reading::read_want))]
+fn read_want(bytes: &[u8]) -> Option<(NodeMessage, &[u8])>
+    ensures { Finds (λ x. (x.0, x.1.now)) result (made NodeMessage.Want read_want bytes.now) }
 {
-    let Some((first, rest)) = position_at(bytes) else {
+    let Some((first, rest)) = read_position(bytes) else {
         return None;
     };
-    let (offset, rest) = u32_at(rest)?;
+    let (offset, rest) = read_u32(rest)?;
     let want = Want::of(first, offset)?;
     Some((NodeMessage::Want(want), rest))
 }
 
-#[tactic(auto, unfolding(crate::specs::Reading::answered_at))]
-fn answered_at(bytes: &[u8]) -> Option<(NodeMessage, &[u8])>
-    ensures { Finds (λ x. (x.0, x.1.now)) result (made NodeMessage.Answer answered_at bytes.now) }
+#[tactic(auto, unfolding(crate::specs::Reading::read_answered))]
+fn read_answered(bytes: &[u8]) -> Option<(NodeMessage, &[u8])>
+    ensures { Finds (λ x. (x.0, x.1.now)) result (made NodeMessage.Answer read_answered bytes.now) }
 {
-    let Some((client, rest)) = client_at(bytes) else {
+    let Some((client, rest)) = read_client(bytes) else {
         return None;
     };
-    let Some((number, rest)) = number_at(rest) else {
+    let Some((number, rest)) = read_number(rest) else {
         return None;
     };
-    let Some((answer, rest)) = answer_at(rest) else {
+    let Some((answer, rest)) = read_answer(rest) else {
         return None;
     };
     let answered = Answered {
@@ -115,17 +115,17 @@ fn answered_at(bytes: &[u8]) -> Option<(NodeMessage, &[u8])>
     Some((NodeMessage::Answer(answered), rest))
 }
 
-#[tactic(auto, unfolding(crate::specs::Reading::elsewhere_at))]
-fn elsewhere_at(bytes: &[u8]) -> Option<(NodeMessage, &[u8])>
-    ensures { Finds (λ x. (x.0, x.1.now)) result (made NodeMessage.Elsewhere elsewhere_at bytes.now) }
+#[tactic(auto, unfolding(crate::specs::Reading::read_elsewhere))]
+fn read_elsewhere(bytes: &[u8]) -> Option<(NodeMessage, &[u8])>
+    ensures { Finds (λ x. (x.0, x.1.now)) result (made NodeMessage.Elsewhere read_elsewhere bytes.now) }
 {
-    let Some((client, rest)) = client_at(bytes) else {
+    let Some((client, rest)) = read_client(bytes) else {
         return None;
     };
-    let Some((number, rest)) = number_at(rest) else {
+    let Some((number, rest)) = read_number(rest) else {
         return None;
     };
-    let Some((member, rest)) = member_at(rest) else {
+    let Some((member, rest)) = read_member(rest) else {
         return None;
     };
     let elsewhere = Elsewhere {
@@ -136,31 +136,31 @@ fn elsewhere_at(bytes: &[u8]) -> Option<(NodeMessage, &[u8])>
     Some((NodeMessage::Elsewhere(elsewhere), rest))
 }
 
-#[tactic(auto, unfolding(crate::specs::Reading::passed_at))]
-fn passed_at(bytes: &[u8]) -> Option<(NodeMessage, &[u8])>
-    ensures { Finds (λ x. (x.0, x.1.now)) result (made NodeMessage.Passed passed_at bytes.now) }
+#[tactic(auto, unfolding(crate::specs::Reading::read_passed))]
+fn read_passed(bytes: &[u8]) -> Option<(NodeMessage, &[u8])>
+    ensures { Finds (λ x. (x.0, x.1.now)) result (made NodeMessage.Passed read_passed bytes.now) }
 {
-    let Some((client, rest)) = client_at(bytes) else {
+    let Some((client, rest)) = read_client(bytes) else {
         return None;
     };
-    let Some((number, rest)) = number_at(rest) else {
+    let Some((number, rest)) = read_number(rest) else {
         return None;
     };
-    let Some((last, rest)) = number_at(rest) else {
+    let Some((last, rest)) = read_number(rest) else {
         return None;
     };
     let passed = Passed::of(client, number, last)?;
     Some((NodeMessage::Passed(passed), rest))
 }
 
-#[tactic(auto, unfolding(crate::specs::Reading::lead_at))]
-fn lead_at(bytes: &[u8]) -> Option<(NodeMessage, &[u8])>
-    ensures { Finds (λ x. (x.0, x.1.now)) result (lead_at bytes.now) }
+#[tactic(auto, unfolding(crate::specs::Reading::read_lead))]
+fn read_lead(bytes: &[u8]) -> Option<(NodeMessage, &[u8])>
+    ensures { Finds (λ x. (x.0, x.1.now)) result (read_lead bytes.now) }
 {
-    let Some((ballot, rest)) = ballot_at(bytes) else {
+    let Some((ballot, rest)) = read_ballot(bytes) else {
         return None;
     };
-    let Some((executed, rest)) = executed_at(rest) else {
+    let Some((executed, rest)) = read_executed(rest) else {
         return None;
     };
     Some((NodeMessage::Lead(ballot, executed), rest))
@@ -168,19 +168,19 @@ fn lead_at(bytes: &[u8]) -> Option<(NodeMessage, &[u8])>
 
 /// A message of a kind that is read without memory.
 #[tactic(auto, unfolding(crate::specs::Reading::small_of))]
-pub(crate) fn small_of(kind: u8, bytes: &[u8]) -> Option<(NodeMessage, &[u8])>
+pub fn small_of(kind: u8, bytes: &[u8]) -> Option<(NodeMessage, &[u8])>
     ensures { Finds (λ x. (x.0, x.1.now)) result (small_of kind bytes.now) }
 {
     match kind {
-        1 => prepare_at(bytes),
-        3 => accept_at(bytes),
-        4 => accepted_at(bytes),
-        5 => nack_at(bytes),
-        7 => want_at(bytes),
-        10 => answered_at(bytes),
-        11 => elsewhere_at(bytes),
-        12 => passed_at(bytes),
-        13 => lead_at(bytes),
+        1 => read_prepare(bytes),
+        3 => read_accept(bytes),
+        4 => read_accepted(bytes),
+        5 => read_nack(bytes),
+        7 => read_want(bytes),
+        10 => read_answered(bytes),
+        11 => read_elsewhere(bytes),
+        12 => read_passed(bytes),
+        13 => read_lead(bytes),
         _ => None,
     }
 }

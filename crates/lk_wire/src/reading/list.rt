@@ -1,12 +1,12 @@
 ghost use Rattle.std.specs.Prelude.{◌≡◌};
 ghost use Rattle.lk_wire.specs.Parser.{Finds, many, made, sized};
-ghost use Rattle.lk_wire.specs.FieldReading.{two_at, vote_at, command_at};
-ghost use Rattle.lk_wire.specs.Reading.{Gives, promise_at, decided_at, part_at};
+ghost use Rattle.lk_wire.specs.FieldReading.{read_two, read_vote, read_command};
+ghost use Rattle.lk_wire.specs.Reading.{Gives, read_promise, read_decided, read_part};
 
 use crate::decided::Decided;
 use crate::fault::ReadFault;
-use crate::fields::number::{position_at, u8_at, u16_at, u32_at};
-use crate::fields::value::{ballot_at, command_at, vote_at};
+use crate::fields::number::{read_position, read_u8, read_u16, read_u32};
+use crate::fields::value::{read_ballot, read_command, read_vote};
 use crate::message::NodeMessage;
 use crate::part::Part;
 use crate::promise::Promise;
@@ -14,12 +14,12 @@ use lk_types::{Command, Vote};
 use std::alloc::Global;
 
 fn many_votes(alloc: Global, count: u8, bytes: &[u8]) -> Result<(Vec<Vote>, &[u8]), ReadFault>
-    ensures { Gives (λ x. (x.0.items, x.1.now)) result (many vote_at count bytes.now) }
+    ensures { Gives (λ x. (x.0.items, x.1.now)) result (many read_vote count bytes.now) }
 {
     let mut votes = Vec::new(alloc);
     let mut rest = bytes;
     for _ in 0..count {
-        let Some((vote, after)) = vote_at(rest) else {
+        let Some((vote, after)) = read_vote(rest) else {
             return Err(ReadFault::Bad);
         };
         votes.push(vote)?;
@@ -28,17 +28,17 @@ fn many_votes(alloc: Global, count: u8, bytes: &[u8]) -> Result<(Vec<Vote>, &[u8
     Ok((votes, rest))
 }
 
-#[tactic(auto, unfolding(crate::specs::Reading::promise_at, crate::specs::Reading::votes_at))]
-pub(crate) fn promise_at(alloc: Global, bytes: &[u8]) -> Result<(NodeMessage, &[u8]), ReadFault>
-    ensures { Gives (λ x. (x.0, x.1.now)) result (made NodeMessage.Promise promise_at bytes.now) }
+#[tactic(auto, unfolding(crate::specs::Reading::read_promise, crate::specs::Reading::read_votes))]
+pub fn read_promise(alloc: Global, bytes: &[u8]) -> Result<(NodeMessage, &[u8]), ReadFault>
+    ensures { Gives (λ x. (x.0, x.1.now)) result (made NodeMessage.Promise read_promise bytes.now) }
 {
-    let Some((ballot, rest)) = ballot_at(bytes) else {
+    let Some((ballot, rest)) = read_ballot(bytes) else {
         return Err(ReadFault::Bad);
     };
-    let Some((first, rest)) = position_at(rest) else {
+    let Some((first, rest)) = read_position(rest) else {
         return Err(ReadFault::Bad);
     };
-    let Some((count, rest)) = u8_at(rest) else {
+    let Some((count, rest)) = read_u8(rest) else {
         return Err(ReadFault::Bad);
     };
     let (votes, rest) = many_votes(alloc, count, rest)?;
@@ -49,12 +49,12 @@ pub(crate) fn promise_at(alloc: Global, bytes: &[u8]) -> Result<(NodeMessage, &[
 }
 
 fn many_commands(alloc: Global, count: u8, bytes: &[u8]) -> Result<(Vec<Command>, &[u8]), ReadFault>
-    ensures { Gives (λ x. (x.0.items, x.1.now)) result (many command_at count bytes.now) }
+    ensures { Gives (λ x. (x.0.items, x.1.now)) result (many read_command count bytes.now) }
 {
     let mut commands = Vec::new(alloc);
     let mut rest = bytes;
     for _ in 0..count {
-        let Some((command, after)) = command_at(rest) else {
+        let Some((command, after)) = read_command(rest) else {
             return Err(ReadFault::Bad);
         };
         commands.push(command)?;
@@ -63,14 +63,14 @@ fn many_commands(alloc: Global, count: u8, bytes: &[u8]) -> Result<(Vec<Command>
     Ok((commands, rest))
 }
 
-#[tactic(auto, unfolding(crate::specs::Reading::decided_at, crate::specs::Reading::commands_at))]
-pub(crate) fn decided_at(alloc: Global, bytes: &[u8]) -> Result<(NodeMessage, &[u8]), ReadFault>
-    ensures { Gives (λ x. (x.0, x.1.now)) result (made NodeMessage.Decided decided_at bytes.now) }
+#[tactic(auto, unfolding(crate::specs::Reading::read_decided, crate::specs::Reading::read_commands))]
+pub fn read_decided(alloc: Global, bytes: &[u8]) -> Result<(NodeMessage, &[u8]), ReadFault>
+    ensures { Gives (λ x. (x.0, x.1.now)) result (made NodeMessage.Decided read_decided bytes.now) }
 {
-    let Some((first, rest)) = position_at(bytes) else {
+    let Some((first, rest)) = read_position(bytes) else {
         return Err(ReadFault::Bad);
     };
-    let Some((count, rest)) = u8_at(rest) else {
+    let Some((count, rest)) = read_u8(rest) else {
         return Err(ReadFault::Bad);
     };
     let (commands, rest) = many_commands(alloc, count, rest)?;
@@ -81,10 +81,10 @@ pub(crate) fn decided_at(alloc: Global, bytes: &[u8]) -> Result<(NodeMessage, &[
 }
 
 /// The length of some bytes and then these.
-fn slice_at(bytes: &[u8]) -> Option<(&[u8], &[u8])>
-    ensures { Finds (λ x. (x.0.now, x.1.now)) result (sized two_at bytes.now) }
+fn read_slice(bytes: &[u8]) -> Option<(&[u8], &[u8])>
+    ensures { Finds (λ x. (x.0.now, x.1.now)) result (sized read_two bytes.now) }
 {
-    let (length, rest) = u16_at(bytes)?;
+    let (length, rest) = read_u16(bytes)?;
     let length = length as usize;
     if rest.len() < length {
         return None;
@@ -92,20 +92,20 @@ fn slice_at(bytes: &[u8]) -> Option<(&[u8], &[u8])>
     Some(rest.split_at(length))
 }
 
-#[tactic(auto, unfolding(crate::specs::Reading::part_at))]
-pub(crate) fn part_at(alloc: Global, bytes: &[u8]) -> Result<(NodeMessage, &[u8]), ReadFault>
-    ensures { Gives (λ x. (x.0, x.1.now)) result (made NodeMessage.Part part_at bytes.now) }
+#[tactic(auto, unfolding(crate::specs::Reading::read_part))]
+pub fn read_part(alloc: Global, bytes: &[u8]) -> Result<(NodeMessage, &[u8]), ReadFault>
+    ensures { Gives (λ x. (x.0, x.1.now)) result (made NodeMessage.Part read_part bytes.now) }
 {
-    let Some((position, rest)) = position_at(bytes) else {
+    let Some((position, rest)) = read_position(bytes) else {
         return Err(ReadFault::Bad);
     };
-    let Some((total, rest)) = u32_at(rest) else {
+    let Some((total, rest)) = read_u32(rest) else {
         return Err(ReadFault::Bad);
     };
-    let Some((offset, rest)) = u32_at(rest) else {
+    let Some((offset, rest)) = read_u32(rest) else {
         return Err(ReadFault::Bad);
     };
-    let Some((piece, rest)) = slice_at(rest) else {
+    let Some((piece, rest)) = read_slice(rest) else {
         return Err(ReadFault::Bad);
     };
     let piece = piece.to_vec(alloc)?;

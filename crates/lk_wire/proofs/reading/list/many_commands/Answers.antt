@@ -1,11 +1,11 @@
 use Rattle.lk_wire.specs.Parser.{many}
-use Rattle.lk_wire.specs.FieldReading.{command_at}
+use Rattle.lk_wire.specs.FieldReading.{read_command}
 use Rattle.lk_wire.proofs.Loop.{goes_on, ends}
 use Rattle.lk_wire.proofs.reading.list.many_commands.Goals as goal
 
 pub returns-in_default : goal.returns-in_default
-returns-in_default c = ends command_at c.loop.commands.items c.args.count c.loop.counter c.loop.rest.now (many command_at c.args.count c.args.bytes.now) c.loop-test.true c.in_default.ensures c.loop.invariant
+returns-in_default c = ends read_command c.loop.commands.items c.args.count c.loop.counter c.loop.rest.now (many read_command c.args.count c.args.bytes.now) c.loop-test.true c.in_default.ensures c.loop.invariant
 
 pub loop-preserved : goal.loop-preserved
 loop-preserved c =
-    rw c.in_ok-push.ensures.items (goes_on command_at c.loop.commands.items c.args.count c.loop.counter c.loop.rest.now c.in-Some.command c.in-Some.after.now (many command_at c.args.count c.args.bytes.now) c.loop-test.true c.in-Some.ensures c.loop.invariant)
+    rw c.in_ok-push.ensures.items (goes_on read_command c.loop.commands.items c.args.count c.loop.counter c.loop.rest.now c.in-Some.command c.in-Some.after.now (many read_command c.args.count c.args.bytes.now) c.loop-test.true c.in-Some.ensures c.loop.invariant)
