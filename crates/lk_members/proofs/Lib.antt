@@ -1,4 +1,8 @@
-pub mod Pushes
-pub mod WindowLaws
-pub mod SetLaws
-pub mod CountingLaws
+mod Pushes
+mod WindowLaws
+mod SetLaws
+mod CountingLaws
+mod MajorityLaws
+mod PortLaws
+mod RosterLaws
+pub mod Memberships

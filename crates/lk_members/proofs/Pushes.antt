@@ -4,7 +4,7 @@ use Rattle.std.specs.List.{filter_map}
 use Rattle.std.proofs.lemmas.List.Sums.{fold-append}
 use Rattle.std.proofs.lemmas.List.Elements.{filter_map-append}
 use Rattle.lk_members.specs.Counting.{Command, RequestValue, Placed, counted, placed_behind, placed, counting}
-use Rattle.lk_members.specs.Rosters.{Genesis, PlainRoster, next_roster, first_roster, roster_of, grants, is_change, last_change}
+use Rattle.lk_members.specs.Rosters.{Genesis, PlainRoster, next_roster, first_roster, roster_of, is_granted_change, is_change, last_change}
 
 placed_behind-push : (before rest : List Command) (c : Command) → placed_behind before (rest ++ c ∷ []) ≡ placed_behind before rest ++ record { before = before ++ rest; entry = c } ∷ []
 placed_behind-push before [] c = ap (λ (l : List Command). let p : Placed = record { before = l; entry = c } in p ∷ []) (sym (append-nil before))
@@ -50,7 +50,7 @@ roster_of-push genesis L c =
     ∙ fold-append (λ (r : PlainRoster) (q : RequestValue). next_roster r q.op) (first_roster genesis) (counting L) (added (counted L c))
     ∙ fold_added (roster_of genesis L) (counted L c)
 
-pub last_change-push : (genesis : Genesis) (L : List Command) (c : Command) → last_change genesis (L ++ c ∷ []) ≡ cond (grants (roster_of genesis L) (counted L c)) (length L + 1) (last_change genesis L)
+pub last_change-push : (genesis : Genesis) (L : List Command) (c : Command) → last_change genesis (L ++ c ∷ []) ≡ cond (is_granted_change (roster_of genesis L) (counted L c)) (length L + 1) (last_change genesis L)
 unfolding last_change
 last_change-push genesis L c =
     let p : Placed = record { before = L; entry = c } in

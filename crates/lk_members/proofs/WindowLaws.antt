@@ -7,16 +7,16 @@ use Rattle.std.proofs.lemmas.Bool.{and_from}
 use Rattle.std.proofs.lemmas.List.{take-append-le}
 use Rattle.std.proofs.lemmas.Option.{slice_get_within, get_or_from_slice_get}
 use Rattle.lk_members.specs.Counting.{Command, RequestValue, Request, counted, placed, counting}
-use Rattle.lk_members.specs.Rosters.{Member, Genesis, PlainRoster, Op, Answer, Table, Join, Leave, greatest_node, next_roster, roster_answer, is_granted, grants, members, roster_of, last_change}
+use Rattle.lk_members.specs.Rosters.{Member, Genesis, PlainRoster, Op, Answer, Table, Join, Leave, greatest_node, next_roster, roster_answer, is_granted, is_granted_change, members, roster_of, last_change}
 use Rattle.lk_members.specs.Sets.{newest, are_at_most}
-use Rattle.lk_members.specs.Windows.{RosterValue, sets_from, roster_after, newest_roster, moved, passed, changed_by}
+use Rattle.lk_members.specs.Windows.{RosterValue, sets_from, roster_after, newest_roster, moved, moved_unchanged, changed_by}
 use Rattle.lk_members.proofs.SetLaws.{at_most_greatest}
 use Rattle.lk_members.proofs.Pushes.{roster_behind, roster_of-push, last_change-push}
 
 -- the members of a position hang on the entries alpha positions before it
-pub members-append : (genesis : Genesis) (L rest : List Command) (i : ℕ) → i ≤ length L + genesis.alpha → members genesis (L ++ rest) i ≡ members genesis L i
+pub members_stay : (genesis : Genesis) (L rest : List Command) (i : ℕ) → i ≤ length L + genesis.alpha → members genesis (L ++ rest) i ≡ members genesis L i
 unfolding members
-members-append genesis L rest i h =
+members_stay genesis L rest i h =
     let le : i - genesis.alpha ≤ length L = omega arith in
     ap (λ (l : List Command). (roster_of genesis l).members) (take-append-le (i - genesis.alpha) L rest le)
 
@@ -40,7 +40,7 @@ sets_from-snoc genesis L i (suc n) =
 sets_from-append : (genesis : Genesis) (L rest : List Command) (i n : ℕ) → i + n ≤ length L + genesis.alpha + 1 → sets_from genesis (L ++ rest) i n ≡ sets_from genesis L i n
 sets_from-append genesis L rest i zero h = refl
 sets_from-append genesis L rest i (suc n) h =
-    let first = members-append genesis L rest i (omega arith) in
+    let first = members_stay genesis L rest i (omega arith) in
     let more = sets_from-append genesis L rest (i + 1) n (omega arith) in
     cc
 
@@ -81,7 +81,7 @@ newest_roster-roster_after genesis L h =
 
 -- one entry more
 pub roster_after-push : (genesis : Genesis) (L : List Command) (c : Command) → 0 < genesis.alpha
-    → roster_after genesis (L ++ c ∷ []) ≡ moved (roster_behind (newest_roster (roster_after genesis L)) (counted L c)) (cond (grants (newest_roster (roster_after genesis L)) (counted L c)) (length L + 1) (last_change genesis L)) (roster_after genesis L)
+    → roster_after genesis (L ++ c ∷ []) ≡ moved (roster_behind (newest_roster (roster_after genesis L)) (counted L c)) (cond (is_granted_change (newest_roster (roster_after genesis L)) (counted L c)) (length L + 1) (last_change genesis L)) (roster_after genesis L)
 unfolding roster_after
 roster_after-push genesis L c h =
     let K : List Command = L ++ c ∷ [] in
@@ -90,7 +90,7 @@ roster_after-push genesis L c h =
     let plain_is : plain ≡ roster_of genesis L = newest_roster-roster_after genesis L h in
     let sets = windows genesis L c genesis.alpha refl h in
     let behind : roster_of genesis K ≡ roster_behind plain (counted L c) = roster_of-push genesis L c ∙ ap (λ (r : PlainRoster). roster_behind r (counted L c)) (sym plain_is) in
-    let changed : last_change genesis K ≡ cond (grants plain (counted L c)) (length L + 1) (last_change genesis L) = last_change-push genesis L c ∙ ap (λ (r : PlainRoster). cond (grants r (counted L c)) (length L + 1) (last_change genesis L)) (sym plain_is) in
+    let changed : last_change genesis K ≡ cond (is_granted_change plain (counted L c)) (length L + 1) (last_change genesis L) = last_change-push genesis L c ∙ ap (λ (r : PlainRoster). cond (is_granted_change r (counted L c)) (length L + 1) (last_change genesis L)) (sym plain_is) in
     let rest : List (List Member) = drop 1 (sets_from genesis L (length L + 1) genesis.alpha) in
     let sets_is : sets_from genesis K (length K + 1) genesis.alpha ≡ rest ++ (roster_behind plain (counted L c)).members ∷ [] = sets ∙ ap (λ (r : PlainRoster). rest ++ r.members ∷ []) behind in
     let greatest_is : (roster_of genesis K).greatest ≡ (roster_behind plain (counted L c)).greatest = ap (λ (r : PlainRoster). r.greatest) behind in
@@ -101,18 +101,18 @@ behind_no_grant r (Table body) e = refl
 behind_no_grant r (Join node port) e = rw e refl
 behind_no_grant r (Leave node) e = rw e refl
 
-no_grant : (r : PlainRoster) (o : Option RequestValue) → grants r o ≡ false → roster_behind r o ≡ r
+no_grant : (r : PlainRoster) (o : Option RequestValue) → is_granted_change r o ≡ false → roster_behind r o ≡ r
 no_grant r None e = refl
 no_grant r (Some q) e = behind_no_grant r q.op e
 
 -- an entry that is granted no change
-pub passed-sums_up : (genesis : Genesis) (L : List Command) (c : Command) → 0 < genesis.alpha → grants (roster_of genesis L) (counted L c) ≡ false
-    → passed (roster_after genesis L) ≡ roster_after genesis (L ++ c ∷ [])
+pub unchanged-sums_up : (genesis : Genesis) (L : List Command) (c : Command) → 0 < genesis.alpha → is_granted_change (roster_of genesis L) (counted L c) ≡ false
+    → moved_unchanged (roster_after genesis L) ≡ roster_after genesis (L ++ c ∷ [])
 unfolding roster_after
-passed-sums_up genesis L c h none =
+unchanged-sums_up genesis L c h none =
     let plain : PlainRoster = newest_roster (roster_after genesis L) in
     let plain_is : plain ≡ roster_of genesis L = newest_roster-roster_after genesis L h in
-    let none_here : grants plain (counted L c) ≡ false = rw plain_is none in
+    let none_here : is_granted_change plain (counted L c) ≡ false = rw plain_is none in
     let step = roster_after-push genesis L c h in
     let stays = no_grant plain (counted L c) none_here in
     sym (step ∙ rw (stays, none_here) refl)
@@ -141,7 +141,7 @@ sets_from-get genesis L i k set sets e at is =
     let within : k < genesis.alpha = omega (arith, slice_get_within all k set here, length-sets_from genesis L (length L + 1) genesis.alpha) in
     sym (get_or_from_slice_get all k set [] here) ∙ get_or-sets_from genesis L (length L + 1) genesis.alpha k [] within ∙ ap (members genesis L) (sym is)
 
-members-begin : (genesis : Genesis) (i : ℕ) → members genesis [] i ≡ genesis.members
+pub members-begin : (genesis : Genesis) (i : ℕ) → members genesis [] i ≡ genesis.members
 unfolding members roster_of counting placed
 members-begin genesis i = ap (λ (l : List Command). (roster_of genesis l).members) (take-nil (i - genesis.alpha))
 
@@ -159,3 +159,20 @@ are_at_most-begin genesis i (suc n) =
 pub roster_after-begin : (genesis : Genesis) → roster_after genesis [] ≡ record { executed = 0; sets = sets_from genesis [] 1 genesis.alpha; greatest = greatest_node genesis.members; changed = 0 }
 unfolding roster_after roster_of counting placed last_change
 roster_after-begin genesis = refl
+
+-- the set that decides a position is at its index of the window
+pub get-sets_from : (genesis : Genesis) (L : List Command) (i n k : ℕ) → k < n → slice_get (sets_from genesis L i n) k ≡ Some (members genesis L (i + k))
+get-sets_from genesis L i zero k h = absurd (omega arith)
+get-sets_from genesis L i (suc n) zero h = let e : i ≡ i + 0 = omega arith in ap (λ (j : ℕ). Some (members genesis L j)) e
+get-sets_from genesis L i (suc n) (suc k) h =
+    let e : i + 1 + k ≡ i + suc k = omega arith in
+    get-sets_from genesis L (i + 1) n k (omega arith) ∙ ap (λ (j : ℕ). Some (members genesis L j)) e
+
+pub length_of_window : (genesis : Genesis) (L : List Command) (v : RosterValue) → v ≡ roster_after genesis L → length v.sets ≡ genesis.alpha
+unfolding roster_after
+length_of_window genesis L v e = ap (λ (w : RosterValue). length w.sets) e ∙ length-sets_from genesis L (length L + 1) genesis.alpha
+
+pub set_of_window : (genesis : Genesis) (L : List Command) (v : RosterValue) (k : ℕ) → v ≡ roster_after genesis L → k < genesis.alpha
+    → slice_get v.sets k ≡ Some (members genesis L (length L + 1 + k))
+unfolding roster_after
+set_of_window genesis L v k e h = ap (λ (w : RosterValue). slice_get w.sets k) e ∙ get-sets_from genesis L (length L + 1) genesis.alpha k h

@@ -1,5 +1,6 @@
 pub mod Counting
 pub mod Rosters
 pub mod Majorities
+pub mod Ports
 pub mod Sets
 pub mod Windows

@@ -1,8 +1,10 @@
 -- When nodes are a majority of a set.
-use Rattle.std.specs.Prelude.{ℕ, ◌*◌, ◌<◌, ◌==◌, List, length, count_by}
-use Rattle.std.specs.List.{list_any}
+use Rattle.std.specs.Prelude.{ℕ, ◌*◌, ◌<◌, ◌==◌, List, length, count_by, IsTrue}
+use Rattle.std.specs.List.{list_any, list_all}
 use Rattle.lk_types.specs.declared.member.Member.{Member}
+use Rattle.lk_members.specs.Rosters.{is_member}
 
--- more than half of the members are among the nodes
-abbrev pub IsMajority : List ℕ → List Member → Type 0
-IsMajority nodes set = length set < 2 * count_by (λ m. list_any (λ n. n == m.node) nodes) set
+-- the nodes lie in the set, and more than half of its members are among them
+pub record IsMajority (nodes : List ℕ) (set : List Member) : Type 0 where
+  pub within : IsTrue (list_all (λ n. is_member n set) nodes)
+  pub more_than_half : length set < 2 * count_by (λ m. list_any (λ n. n == m.node) nodes) set

@@ -83,12 +83,12 @@ unfoldable pub members : Genesis → List Command → ℕ → List Member
 members genesis L i = (roster_of genesis (take (i - genesis.alpha) L)).members
 
 -- the entry counts behind the entries before it, and is granted a change of the members
-abbrev pub grants : PlainRoster → Option RequestValue → Bool
-grants r None = false
-grants r (Some q) = is_granted (roster_answer r q.op)
+abbrev pub is_granted_change : PlainRoster → Option RequestValue → Bool
+is_granted_change r None = false
+is_granted_change r (Some q) = is_granted (roster_answer r q.op)
 
 abbrev pub is_change : Genesis → Placed → Bool
-is_change genesis p = grants (roster_of genesis p.before) (counted p.before p.entry)
+is_change genesis p = is_granted_change (roster_of genesis p.before) (counted p.before p.entry)
 
 -- the position of the last change that was granted, 0 where there is none
 unfoldable pub last_change : Genesis → List Command → ℕ

@@ -40,8 +40,8 @@ abbrev pub moved : PlainRoster → ℕ → RosterValue → RosterValue
 moved r changed v = record { executed = v.executed + 1; sets = drop 1 v.sets ++ r.members ∷ []; greatest = r.greatest; changed = changed }
 
 -- one position on without a change
-abbrev pub passed : RosterValue → RosterValue
-passed v = moved (newest_roster v) v.changed v
+abbrev pub moved_unchanged : RosterValue → RosterValue
+moved_unchanged v = moved (newest_roster v) v.changed v
 
 -- one position on with a join or a leave
 abbrev pub changed_by : Op → RosterValue → RosterValue

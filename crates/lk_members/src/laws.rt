@@ -1,6 +1,8 @@
 //! Laws of the definitions alone.
-ghost use Rattle.std.specs.Prelude.{◌≡◌, ◌∷◌, ◌++◌, Some, List, Contains};
+ghost use Rattle.std.specs.Prelude.{◌≡◌, ℕ, ◌+◌, ◌≤◌, ◌∷◌, ◌++◌, Some, List, length, Contains};
 ghost use Rattle.lk_members.specs.Counting.{Command, RequestValue, Placed, placed, counted};
+ghost use Rattle.lk_members.specs.Rosters.{Genesis, Member, members};
+ghost use Rattle.lk_members.specs.Majorities.{IsMajority};
 
 /// What stands before a placed entry is a beginning of the list, and the entry comes next.
 pub fn placed_entries_stand()
@@ -10,4 +12,14 @@ pub fn placed_entries_stand()
 /// At most one entry of a list counts for a client's number.
 pub fn numbers_count_once()
     ensures { (L : List Command) (p q : Placed) (r s : RequestValue) → Contains (placed L) p → Contains (placed L) q → counted p.before p.entry ≡ Some r → counted q.before q.entry ≡ Some s → r.client ≡ s.client → r.number ≡ s.number → p ≡ q }
+{}
+
+/// Two majorities of one set share a node.
+pub fn majorities_meet()
+    ensures { (set : List Member) (W V : List ℕ) → IsMajority W set → IsMajority V set → (n : ℕ) × Contains W n × Contains V n }
+{}
+
+/// What a list names for the positions up to alpha behind its end, each longer list names.
+pub fn members_stay()
+    ensures { (genesis : Genesis) (L rest : List Command) (i : ℕ) → i ≤ length L + genesis.alpha → members genesis (L ++ rest) i ≡ members genesis L i }
 {}

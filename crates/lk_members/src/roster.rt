@@ -1,9 +1,11 @@
 ghost use Rattle.std.specs.Prelude.{◌≡◌, ℕ, ◌+◌, ◌-◌, ◌<◌, ◌≤◌, ◌↔◌, Some, false, nat_le, List, [], ◌∷◌, ◌++◌, length, slice_get, IsTrue, IsSome, IfSome};
+ghost use Rattle.lk_types.specs.Limits.{max_count};
 ghost use Rattle.lk_members.specs.Rosters.{greatest_node};
 ghost use Rattle.lk_members.specs.Windows.{sets_from};
 
 use crate::set::{facts_of, is_member, with_member, without};
 use crate::window::Window;
+use lk_types::limits::MAX_MEMBERS;
 use lk_types::{Answer, Executed, Genesis, Member, Members, NodeNo, Op, Port, Position};
 use std::marker::Model;
 
@@ -33,9 +35,10 @@ impl Roster {
     ghost use Rattle.lk_types.specs.Ranges.{IsAlpha};
     ghost use Rattle.lk_types.specs.Rosters.{AreMembers};
     ghost use Rattle.lk_members.specs.Counting.{Command, RequestValue, Request, counted};
-    ghost use Rattle.lk_members.specs.Rosters.{Genesis, Op as OpValue, Join, Leave, IsChange, members, roster_of, roster_answer, join_answer, leave_answer, grants};
+    ghost use Rattle.lk_members.specs.Rosters.{Genesis, Op as OpValue, Join, Leave, IsChange, members, roster_of, roster_answer, join_answer, leave_answer, is_granted_change};
     ghost use Rattle.lk_members.specs.Sets.{newest, are_at_most};
-    ghost use Rattle.lk_members.specs.Windows.{RosterSumsUp, IsRoster, newest_roster, moved, passed, changed_by};
+    ghost use Rattle.lk_members.specs.Windows.{RosterSumsUp, IsRoster, newest_roster, moved, moved_unchanged, changed_by};
+    ghost use Rattle.lk_members.specs.Ports.{is_named, port_of};
 
     /// The roster of these parts, or `None` where there is no set or the greatest number is below a node of them.
     pub fn of(
@@ -133,12 +136,39 @@ impl Roster {
         self.window.get(ahead as usize)
     }
 
+    /// Whether one of the sets of the next positions names the node.
+    pub fn is_in_window(&self, node: NodeNo) -> bool
+        ensures { result ≡ is_named node self.now.sets }
+    {
+        self.window.is_named(node)
+    }
+
+    /// The port of the node, by the nearest set of the window that names it; `None` where none does.
+    pub fn port_of(&self, node: NodeNo) -> Option<Port>
+        ensures value { result ≡ port_of node self.now.sets }
+        ensures some { IsSome result ↔ IsTrue (is_named node self.now.sets) }
+    {
+        self.window.port_of(node)
+    }
+
+    /// The same roster. It takes no memory.
+    pub fn copy(&self) -> Roster
+        ensures { result ≡ self.now }
+    {
+        Roster {
+            executed: self.executed,
+            window: self.window.copy(),
+            greatest: self.greatest,
+            changed: self.changed,
+        }
+    }
+
     /// One position on without a change.
     pub fn pass(&mut self)
-        requires { self.old.executed < 281474976710656 }
-        ensures next { self.new ≡ passed self.old }
+        requires { self.old.executed < max_count }
+        ensures next { self.new ≡ moved_unchanged self.old }
         ensures sums { (genesis : Genesis) (L : List Command) (entry : Command) → RosterSumsUp genesis L self.old
-            → grants (roster_of genesis L) (counted L entry) ≡ false → RosterSumsUp genesis (L ++ entry ∷ []) self.new }
+            → is_granted_change (roster_of genesis L) (counted L entry) ≡ false → RosterSumsUp genesis (L ++ entry ∷ []) self.new }
     {
         let set = self.newest().copy();
         let (greatest, changed) = (self.greatest(), self.changed());
@@ -147,7 +177,7 @@ impl Roster {
 
     /// One position on: this set comes, with this greatest number and this last change.
     fn advance(&mut self, set: Members, greatest: NodeNo, changed: Executed)
-        requires room { self.old.executed < 281474976710656 }
+        requires room { self.old.executed < max_count }
         requires bound { IsTrue (list_all (λ m. nat_le m.node greatest) set) }
         requires rises { self.old.greatest ≤ greatest }
         ensures { self.new ≡ moved (record { members = set; greatest = greatest }) changed self.old }
@@ -163,7 +193,7 @@ impl Roster {
 
     /// The position that is executed next.
     fn next(&self) -> Executed
-        requires { self.now.executed < 281474976710656 }
+        requires { self.now.executed < max_count }
         ensures { result ≡ self.now.executed + 1 }
     {
         Executed::of(self.executed.get() + 1).unwrap()
@@ -171,7 +201,7 @@ impl Roster {
 
     /// One position on with a join.
     fn join(&mut self, node: NodeNo, port: Port) -> Answer
-        requires { self.old.executed < 281474976710656 }
+        requires { self.old.executed < max_count }
         ensures answer { result ≡ join_answer (newest_roster self.old) node }
         ensures next { self.new ≡ changed_by (Join node port) self.old }
     {
@@ -179,7 +209,7 @@ impl Roster {
             self.pass();
             return Answer::Used;
         }
-        if self.newest().as_slice().len() >= 7 {
+        if self.newest().as_slice().len() >= MAX_MEMBERS {
             self.pass();
             return Answer::Full;
         }
@@ -191,7 +221,7 @@ impl Roster {
 
     /// One position on with a leave.
     fn leave(&mut self, node: NodeNo) -> Answer
-        requires { self.old.executed < 281474976710656 }
+        requires { self.old.executed < max_count }
         ensures answer { result ≡ leave_answer (newest_roster self.old) node }
         ensures next { self.new ≡ changed_by (Leave node) self.old }
     {
@@ -211,7 +241,7 @@ impl Roster {
 
     /// One position on with a join or a leave, and what it is answered.
     pub fn change(&mut self, op: &Op) -> Answer
-        requires room { self.old.executed < 281474976710656 }
+        requires room { self.old.executed < max_count }
         requires change { IsChange op.now }
         ensures answer { roster_answer (newest_roster self.old) op.now ≡ Some result }
         ensures next { self.new ≡ changed_by op.now self.old }

@@ -1,13 +1,16 @@
 ghost use Rattle.std.specs.Prelude.{◌≡◌, ◌<◌, ◌↔◌, false, [], ◌∷◌, ◌++◌, length, IsTrue, IsSome, IfSome};
-ghost use Rattle.lk_types.specs.Rosters.{are_rising_above};
+ghost use Rattle.lk_types.specs.Limits.{max_members};
+ghost use Rattle.lk_types.specs.Rosters.{are_members_above};
 ghost use Rattle.lk_members.specs.Sets.{IsSet};
 ghost use Rattle.lk_members.specs.Rosters.{is_member as is_one, others, is_nobody};
+ghost use Rattle.lk_members.specs.Ports.{port_in as port_of};
 
 use arrayvec::ArrayVec;
-use lk_types::{Member, Members, NodeNo};
+use lk_types::limits::MAX_MEMBERS;
+use lk_types::{Member, Members, NodeNo, Port};
 
 /// Each part of the set is in its range. It does nothing.
-pub(crate) fn facts_of(set: &Members)
+pub fn facts_of(set: &Members)
     ensures { IsSet set.now }
 {
     let members = set.as_slice();
@@ -17,30 +20,42 @@ pub(crate) fn facts_of(set: &Members)
 }
 
 /// Whether the node is one of the members.
-pub(crate) fn is_member(set: &Members, node: NodeNo) -> bool
+pub fn is_member(set: &Members, node: NodeNo) -> bool
     ensures { result ≡ is_one node set.now }
 {
     set.as_slice().iter().any(|m| m.node == node)
 }
 
+/// The port that the set gives the node.
+pub fn port_in(set: &Members, node: NodeNo) -> Option<Port>
+    ensures { result ≡ port_of node set.now }
+{
+    for member in set.as_slice() {
+        if member.node == node {
+            return Some(member.port);
+        }
+    }
+    None
+}
+
 /// The set with one member more.
-pub(crate) fn with_member(set: &Members, member: Member) -> Members
-    requires room { length set.now < 7 }
-    requires rises { IsTrue (are_rising_above 0 (set.now ++ member ∷ [])) }
+pub fn with_member(set: &Members, member: Member) -> Members
+    requires room { length set.now < max_members }
+    requires rises { IsTrue (are_members_above 0 (set.now ++ member ∷ [])) }
     ensures { result ≡ set.now ++ member ∷ [] }
 {
-    let mut list: ArrayVec<Member, 7> = ArrayVec::try_from(set.as_slice()).unwrap();
+    let mut list: ArrayVec<Member, MAX_MEMBERS> = ArrayVec::try_from(set.as_slice()).unwrap();
     list.push(member);
     Members::of(list.as_slice()).unwrap()
 }
 
 /// The set without this node, or `None` where nobody is left.
-pub(crate) fn without(set: &Members, node: NodeNo) -> Option<Members>
+pub fn without(set: &Members, node: NodeNo) -> Option<Members>
     ensures some { IsSome result ↔ (is_nobody (others node set.now) ≡ false) }
     ensures value { IfSome result (λ s. s ≡ others node set.now) }
 {
     let members = set.as_slice();
-    let mut left: ArrayVec<Member, 7> = ArrayVec::new();
+    let mut left: ArrayVec<Member, MAX_MEMBERS> = ArrayVec::new();
     for member in members {
         if member.node != node {
             left.push(*member);

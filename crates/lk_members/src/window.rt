@@ -1,10 +1,12 @@
 ghost use Rattle.std.specs.Prelude.{◌≡◌, ◌+◌, ◌<◌, ◌≤◌, ◌↔◌, [], ◌∷◌, ◌++◌, length, drop, slice_get, nat_le, IsTrue, IsSome, IfSome};
 ghost use Rattle.std.specs.List.{list_all};
+ghost use Rattle.lk_members.specs.Rosters.{is_member as is_one};
 ghost use Rattle.lk_members.specs.Sets.{IsWindow, newest, are_at_most};
+ghost use Rattle.lk_members.specs.Ports.{is_named, port_of};
 
-use crate::set::facts_of;
+use crate::set::{facts_of, is_member, port_in};
 use arrayvec::ArrayVec;
-use lk_types::{Member, Members, NodeNo};
+use lk_types::{Member, Members, NodeNo, Port};
 use std::marker::Model;
 
 /// The set of one position.
@@ -48,6 +50,13 @@ impl Place {
             .as_slice()
             .iter()
             .all(|member| member.node.get() <= greatest.get())
+    }
+
+    /// Whether the node is one of the set.
+    fn names(&self, node: NodeNo) -> bool
+        ensures { result ≡ is_one node self.now }
+    {
+        is_member(&self.set, node)
     }
 }
 
@@ -110,6 +119,38 @@ impl Window {
             .as_slice()
             .iter()
             .all(|place| place.is_at_most(greatest))
+    }
+
+    /// Whether some set names the node.
+    pub fn is_named(&self, node: NodeNo) -> bool
+        ensures { result ≡ is_named node self.now }
+    {
+        self.places.as_slice().iter().any(|place| place.names(node))
+    }
+
+    /// The port that the nearest set which names the node gives it.
+    pub fn port_of(&self, node: NodeNo) -> Option<Port>
+        ensures { result ≡ port_of node self.now }
+    {
+        let places = self.as_slice();
+        for place in places {
+            if place.names(node) {
+                return port_in(&place.set, node);
+            }
+        }
+        None
+    }
+
+    /// The same sets.
+    pub fn copy(&self) -> Window
+        ensures { result ≡ self.now }
+    {
+        let places = self.as_slice();
+        let mut window = Window::new();
+        for place in places {
+            window.push(place.set.copy());
+        }
+        window
     }
 
     /// Adds the set of the position behind the last.
