@@ -8,7 +8,8 @@ use Rattle.lk_history.specs.Ballots.{BallotValue, IsBelow, IsAtMost}
 use Rattle.lk_history.specs.Datagrams.{Vote, Datagram, Accept, Accepted, HasSent, WasSent}
 use Rattle.lk_history.specs.Chosen.{Command, command_at, IsAcceptedIn, Chosen, ChosenAt, IsBeginning}
 use Rattle.lk_history.specs.Soundness.{Report, Justified, Sound}
-use Rattle.lk_history.proofs.Lists.{shared_node, entry_at, take_next}
+use Rattle.lk_members.proofs.Memberships.{majorities_meet}
+use Rattle.lk_history.proofs.Lists.{entry_at, take_next}
 use Rattle.lk_history.proofs.BallotOrder.{cases_ballot, at_most_trans, ballot_induction}
 
 -- chosen lists agree on their first n commands
@@ -39,7 +40,7 @@ module _ (genesis : Genesis) (sent : List Datagram) where
   pub accepted_once : (L : List Command) (i : ℕ) (b : BallotValue) (v : Command) → IsAcceptedIn genesis sent (members genesis L i) b i v
       → (n : ℕ) × HasSent genesis sent n (Accepted (vote i b v))
   accepted_once L i b v a =
-      let n = shared_node (members genesis L i) a.nodes a.nodes a.majority a.majority in
+      let n = majorities_meet (members genesis L i) a.nodes a.nodes a.majority a.majority in
       (n.0, a.accepted n.0 n.1)
 
 module _ (genesis : Genesis) (sent : List Datagram) (sound : Sound genesis sent) where
@@ -73,7 +74,7 @@ module _ (genesis : Genesis) (sent : List Datagram) (sound : Sound genesis sent)
 
     by_majority : (c : BallotValue) → Earlier c → (w : Command) → IsBelow b c → (j : Justified genesis sent c i w) → IsMajority j.nodes (members genesis M i) → w ≡ v
     by_majority c earlier w lt j majority =
-        let n = shared_node (members genesis M i) j.nodes acc.nodes majority acc.majority in
+        let n = majorities_meet (members genesis M i) j.nodes acc.nodes majority acc.majority in
         let r = j.reporters n.0 n.1 in
         by_report c earlier w lt j r.0 r.1 (subst (λ k. HasSent genesis sent k (Accepted (vote i b v))) (sym r.2) (acc.accepted n.0 n.2))
 

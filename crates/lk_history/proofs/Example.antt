@@ -12,7 +12,7 @@ use Rattle.lk_history.specs.Ballots.{BallotValue}
 use Rattle.lk_history.specs.Datagrams.{Genesis, Vote, NodeMessage, Datagram, said_by, Promise, Accept, Accepted, HasSent, WasSent}
 use Rattle.lk_history.specs.Chosen.{Command, IsAcceptedIn, Chosen, ChosenAt}
 use Rattle.lk_history.specs.Soundness.{Report, IsReported, IsReporter}
-use Rattle.lk_history.specs.Standings.{Standing, TakesVote}
+use Rattle.lk_history.specs.Acceptors.{AcceptorState, TakesVote}
 use Rattle.lk_history.specs.Nodes.{Pair, Term, new_term, View, MayPromise, MaySend, MayPost, MayPostAll}
 use Rattle.lk_history.specs.Changes.{MayPropose, AreAmong, promises, accepts, begins, hears, proposes, learns, executes}
 use Rattle.lk_history.specs.Worlds.{World, start, with_sent, with_view, sends, changes, Reaches, begin, next, MembersChange}
@@ -95,13 +95,13 @@ post sent n w m fits may d h = subst (λ x. MayPost alone sent n w x) (only (say
 
 -- ---- why it may be sent
 
-abbrev empty : ℕ → Standing
-empty round = record { promised = record { round = round; node = round }; votes = []; snapshot = 0 }
+abbrev empty : ℕ → AcceptorState
+empty round = record { promised = record { round = round; node = round }; votes = []; snapshot_position = 0 }
 
 promise_of : (first : ℕ) → 1 ≤ first → MayPromise (empty 1) (promise_from first)
 promise_of first h = record { promised = refl; above = omega arith; all = λ x c. absurd (omega (arith, c.1)); only = λ x c. c }
 
-takes : (old : Standing) (x : Vote) → TakesVote old x (record { promised = x.ballot; votes = old.votes ++ x ∷ []; snapshot = old.snapshot })
+takes : (old : AcceptorState) (x : Vote) → TakesVote old x (record { promised = x.ballot; votes = old.votes ++ x ∷ []; snapshot_position = old.snapshot_position })
 takes old x = record {
   promised = refl;
   snapshot = refl;
@@ -126,7 +126,7 @@ first_choice = record {
   reports = report 1 1 ∷ [];
   among = λ r h. (h, subst (λ (q : Report). q.first ≤ 1) (only (report 1 1) r h) (omega arith));
   nodes = 1 ∷ [];
-  majority = omega arith;
+  majority = record { within = refl; more_than_half = omega arith };
   reporters = λ n h. (report 1 1, (0, omega arith, refl), only 1 n h);
   highest = λ x told at. absurd (none_reported (report 1 1 ∷ []) (λ r h. ap (λ (q : Report). q.votes) (sym (only (report 1 1) r h))) x told);
 }
@@ -157,7 +157,7 @@ second_choice = record {
   reports = both_reports;
   among = λ r h. (h, each_report (λ q. q.first ≤ 2) (omega arith) (omega arith) r h);
   nodes = 1 ∷ 2 ∷ [];
-  majority = omega arith;
+  majority = record { within = refl; more_than_half = omega arith };
   reporters = λ n h. each_node (λ k. IsReporter both_reports k) (report 1 1, (0, omega arith, refl), refl) (report 2 2, (1, omega arith, refl), refl) n h;
   highest = λ x told at. absurd (none_reported both_reports (each_report (λ q. q.votes ≡ []) refl refl) x told);
 }
@@ -179,7 +179,7 @@ first_accepted : (sent : List Datagram) (L : List Command) → Contains sent (sa
 unfolding members roster_of counting placed
 first_accepted sent L h = record {
   nodes = 1 ∷ [];
-  majority = omega arith;
+  majority = record { within = refl; more_than_half = omega arith };
   accepted = λ n c. subst (λ k. HasSent alone sent k (Accepted first_vote)) (only 1 n c) (has_said sent 1 (Accepted first_vote) (says 1 (Accepted first_vote) (omega arith) (omega arith) first_fits) h);
 }
 
@@ -227,14 +227,14 @@ no_pairs pairs p h = absurd (omega (arith, h.1))
 
 -- ---- the world at each step
 
-abbrev standing_of : List Vote → Standing
-standing_of votes = record { promised = ballot; votes = votes; snapshot = 0 }
+abbrev standing_of : List Vote → AcceptorState
+standing_of votes = record { promised = ballot; votes = votes; snapshot_position = 0 }
 
 abbrev one_view : List Vote → List Command → List Pair → Term → View
-one_view votes done pairs t = record { standing = standing_of votes; done = done; pairs = pairs; term = Some t }
+one_view votes done pairs t = record { acceptor = standing_of votes; done = done; pairs = pairs; term = Some t }
 
 abbrev two_view : List Vote → View
-two_view votes = record { standing = standing_of votes; done = []; pairs = []; term = None }
+two_view votes = record { acceptor = standing_of votes; done = []; pairs = []; term = None }
 
 abbrev w1 : World
 w1 = with_view start 1 (one_view [] [] [] (new_term ballot))
@@ -351,7 +351,7 @@ second_accepted : IsAcceptedIn alone all_sent (members alone two_commands 2) bal
 unfolding members roster_of counting placed
 second_accepted = record {
   nodes = 1 ∷ 2 ∷ [];
-  majority = omega arith;
+  majority = record { within = refl; more_than_half = omega arith };
   accepted = each_node (λ k. HasSent alone all_sent k (Accepted second_vote))
       (has_said all_sent 1 (Accepted second_vote) one_votes_second (5, omega arith, refl))
       (has_said all_sent 2 (Accepted second_vote) two_votes_second (6, omega arith, refl));

@@ -1,11 +1,13 @@
-pub mod Lists
-pub mod BallotOrder
-pub mod Agree
-pub mod Grow
-pub mod Signed
-pub mod Sends
-pub mod Views
-pub mod Runs
-pub mod VoteLists
-pub mod Slices
-pub mod Example
+mod Lists
+mod BallotOrder
+mod Agree
+mod Ranges
+mod Grow
+mod Signed
+mod Sends
+mod Views
+mod Runs
+mod VoteLists
+mod Slices
+mod Example
+pub mod Histories

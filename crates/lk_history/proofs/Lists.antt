@@ -1,42 +1,7 @@
--- Lists, their beginnings, and majorities.
-use Rattle.std.proofs.Common.{◌≡◌, ℕ, zero, suc, ◌+◌, ◌<◌, ◌≤◌, Bool, true, false, cond, ◌==◌, List, [], ◌∷◌, ◌++◌, length, take, Some, slice_get, Contains, count_by, filter, get_or, ◌⊎◌, refl, ap, sym, ◌∙◌, inl, inr, arith, eqb-true}
-use Rattle.std.specs.List.{list_any}
-use Rattle.std.proofs.lemmas.Bool.{or_cases, false≢true}
-use Rattle.std.proofs.lemmas.List.Sums.{sum_by-cons}
+-- Lists and their beginnings.
+use Rattle.std.proofs.Common.{◌≡◌, ℕ, zero, suc, ◌<◌, Bool, true, false, cond, List, [], ◌∷◌, ◌++◌, length, take, Some, slice_get, Contains, filter, get_or, ◌⊎◌, refl, ap, sym, ◌∙◌, inl, inr, arith}
+use Rattle.std.proofs.lemmas.Bool.{false≢true}
 use Rattle.std.proofs.lemmas.List.Elements.{All-contains, filter_passes}
-use Rattle.lk_members.specs.Rosters.{Member}
-use Rattle.lk_members.specs.Majorities.{IsMajority}
-
--- where two tests together pass more often than there are elements, one element passes both
-pub both_pass : {X : Type 0} (p q : X → Bool) (xs : List X) → length xs < count_by p xs + count_by q xs → (x : X) × (p x ≡ true) × (q x ≡ true)
-both_pass p q [] h = absurd (omega arith)
-both_pass {X} p q (x ∷ xs) h = at_head (p x) (q x) refl refl (both_pass p q xs)
-  where
-    at_most : (t : Bool) → cond t 1 0 ≤ 1
-    at_most true = omega arith
-    at_most false = omega arith
-
-    none : (t : Bool) → t ≡ false → ◌≡◌ {A = ℕ} (cond t 1 0) 0
-    none t e = rw e
-
-    at_head : (a b : Bool) → p x ≡ a → q x ≡ b → (length xs < count_by p xs + count_by q xs → (y : X) × (p y ≡ true) × (q y ≡ true)) → (y : X) × (p y ≡ true) × (q y ≡ true)
-    at_head true true e f rest = (x, e, f)
-    at_head false b e f rest = rest (omega (arith, sum_by-cons (λ y. cond (p y) 1 0) x xs, sum_by-cons (λ y. cond (q y) 1 0) x xs, none (p x) e, at_most (q x)))
-    at_head a false e f rest = rest (omega (arith, sum_by-cons (λ y. cond (p y) 1 0) x xs, sum_by-cons (λ y. cond (q y) 1 0) x xs, none (q x) f, at_most (p x)))
-
-pub listed : (nodes : List ℕ) (m : ℕ) → list_any (λ n. n == m) nodes ≡ true → Contains nodes m
-listed [] m h = absurd cc
-listed (n ∷ nodes) m h =
-    elim (or_cases (n == m) (list_any (λ k. k == m) nodes) h) [
-      | inl e ↦ (0, omega arith, eqb-true n m e)
-      | inr e ↦ let r = listed nodes m e in (suc r.0, omega (arith, r.1), r.2)
-    ]
-
--- two majorities of one set share a node
-pub shared_node : (set : List Member) (W V : List ℕ) → IsMajority W set → IsMajority V set → (n : ℕ) × Contains W n × Contains V n
-shared_node set W V w v =
-    let b = both_pass (λ (m : Member). list_any (λ n. n == m.node) W) (λ (m : Member). list_any (λ n. n == m.node) V) set (omega arith) in
-    (b.0.node, listed W b.0.node b.1, listed V b.0.node b.2)
 
 pub entry_at : {X : Type 0} (L : List X) (k : ℕ) → k < length L → (v : X) × (slice_get L k ≡ Some v)
 entry_at [] k h = absurd (omega arith)

@@ -7,10 +7,10 @@ use Rattle.lk_history.specs.Ballots.{BallotValue, IsBelow}
 use Rattle.lk_history.specs.Datagrams.{Genesis, Vote, NodeMessage, Datagram, said_by, Accept, Accepted, HasSent, WasSent}
 use Rattle.lk_history.specs.Chosen.{Command, command_at, IsAcceptedIn, Chosen}
 use Rattle.lk_history.specs.Soundness.{Sound}
-use Rattle.lk_history.specs.Standings.{Standing, Covers, CoversSent}
+use Rattle.lk_history.specs.Acceptors.{AcceptorState, Covers, CoversSent}
 use Rattle.lk_history.specs.Nodes.{View, fresh, Stems, ViewFits, MaySend, MayPostAll}
 use Rattle.lk_history.specs.Changes.{Becomes}
-use Rattle.lk_history.specs.Worlds.{World, start, with_sent, with_view, IsAsked, Happens, sends, asks, changes, Reaches, begin, next, WorldFits, Holds, IsKept}
+use Rattle.lk_history.specs.Worlds.{World, start, with_sent, with_view, IsClientRequest, Happens, sends, asks, changes, Reaches, begin, next, WorldFits, HoldsCommand, IsKept}
 use Rattle.lk_history.proofs.Lists.{entry_at, only}
 use Rattle.lk_history.proofs.Agree.{vote, command_within, entry_chosen, one_chosen, later_value_in}
 use Rattle.lk_history.proofs.Signed.{said_alike, asked_is_no_saying, sent_cases}
@@ -52,7 +52,7 @@ start_fits genesis = record {
 }
 
 -- an image that covers what was sent before, and what is sent now
-pub covers_both : (genesis : Genesis) (sent batch : List Datagram) (n : ℕ) (s : Standing) → CoversSent genesis sent n s → CoversSent genesis batch n s → CoversSent genesis (sent ++ batch) n s
+pub covers_both : (genesis : Genesis) (sent batch : List Datagram) (n : ℕ) (s : AcceptorState) → CoversSent genesis sent n s → CoversSent genesis batch n s → CoversSent genesis (sent ++ batch) n s
 covers_both genesis sent batch n s before now m h = elim (sent_cases genesis sent batch n m h) [ inl old ↦ before m old | inr new ↦ now m new ]
 
 -- a batch that a node may send
@@ -76,12 +76,12 @@ module _ (genesis : Genesis) (w : World) (n : ℕ) (batch : List Datagram) (may 
   }
 
   -- the images of other nodes go on covering
-  pub covers_elsewhere : (k : ℕ) (s : Standing) → (n ≡ k → ⊥) → CoversSent genesis w.sent k s → CoversSent genesis (w.sent ++ batch) k s
+  pub covers_elsewhere : (k : ℕ) (s : AcceptorState) → (n ≡ k → ⊥) → CoversSent genesis w.sent k s → CoversSent genesis (w.sent ++ batch) k s
   covers_elsewhere k s other covers =
       covers_both genesis w.sent batch k s covers (λ m now. absurd (other (batch_says k m now.datagram now.listed now.spelled).0))
 
 -- a client's request
-pub asked_fits : (genesis : Genesis) (w : World) (d : Datagram) → WorldFits genesis w → IsAsked d → WorldFits genesis (with_sent w (d ∷ []))
+pub asked_fits : (genesis : Genesis) (w : World) (d : Datagram) → WorldFits genesis w → IsClientRequest d → WorldFits genesis (with_sent w (d ∷ []))
 asked_fits genesis w d f a = record {
   sound = sound_after genesis w.sent (d ∷ []) w.views f.sound f.views signed 0 cases;
   views = fits_after genesis w.sent (d ∷ []) w.views f.sound f.views signed 0 cases;
@@ -122,7 +122,7 @@ command_there L K (suc k) v at le = entry_at K k (omega arith)
 
 -- a majority keeps each command of a chosen list
 module _ (genesis : Genesis) (sent : List Datagram) (sound : Sound genesis sent) (L : List Command) (chosen : Chosen genesis sent L) (i : ℕ) (v : Command) (at : command_at L i ≡ Some v) where
-  in_snapshot : (state : View) → Stems genesis sent state → i ≤ state.standing.snapshot → command_at state.done i ≡ Some v
+  in_snapshot : (state : View) → Stems genesis sent state → i ≤ state.acceptor.snapshot_position → command_at state.done i ≡ Some v
   in_snapshot state s under =
       let u = command_there L state.done i v at (omega (arith, s.snapshot)) in
       u.1 ∙ ap Some (one_chosen genesis sent sound i u.0 v (entry_chosen genesis sent state.done s.done i u.0 u.1) (entry_chosen genesis sent L chosen i v at))
@@ -134,23 +134,25 @@ module _ (genesis : Genesis) (sent : List Datagram) (sound : Sound genesis sent)
       let now : WasSent genesis sent (Accept (vote i x.ballot x.command)) = subst (λ j. WasSent genesis sent (Accept (vote j x.ballot x.command))) place was in
       later_value_in genesis sent sound i L chosen (omega (arith, command_within L i v at)) b v a x.ballot x.command lt now
 
-  holds : (state : View) (b : BallotValue) → Stems genesis sent state → IsAcceptedIn genesis sent (members genesis L i) b i v → Covers state.standing (Accepted (vote i b v)) → Holds state i v
+  holds : (state : View) (b : BallotValue) → Stems genesis sent state → IsAcceptedIn genesis sent (members genesis L i) b i v → Covers state.acceptor (Accepted (vote i b v)) → HoldsCommand state i v
   holds state b s a c =
       elim c.1 [ inl under ↦ inl (under, in_snapshot state s under) | inr x ↦ inr (x.0, x.1, x.2, of_vote b a x.0 (s.votes x.0 x.1).0 x.2 x.3) ]
 
-  pub kept_by_majority : IsKept genesis L i v (λ n state. CoversSent genesis sent n state.standing × Stems genesis sent state)
+  pub kept_by_majority : IsKept genesis sent L i v (λ n state. CoversSent genesis sent n state.acceptor × Stems genesis sent state)
   unfolding Chosen
   kept_by_majority =
       let c = chosen i v at in
       record {
+        ballot = c.0;
         nodes = c.1.nodes;
         majority = c.1.majority;
+        accepted = c.1.accepted;
         held = λ n h state m. holds state c.0 m.1 c.1 (m.0 (Accepted (vote i c.0 v)) (c.1.accepted n h));
       }
 
 -- so do the nodes of a world, as they are
 pub kept_in_world : (genesis : Genesis) (w : World) → WorldFits genesis w → (L : List Command) → Chosen genesis w.sent L → (i : ℕ) (v : Command) → command_at L i ≡ Some v
-    → IsKept genesis L i v (λ n state. state ≡ w.views n)
+    → IsKept genesis w.sent L i v (λ n state. state ≡ w.views n)
 kept_in_world genesis w f L chosen i v at =
     let k = kept_by_majority genesis w.sent f.sound L chosen i v at in
-    record { nodes = k.nodes; majority = k.majority; held = λ n h state is. subst (λ s. Holds s i v) (sym is) (k.held n h (w.views n) ((f.views n).covers, (f.views n).stems)) }
+    record { ballot = k.ballot; nodes = k.nodes; majority = k.majority; accepted = k.accepted; held = λ n h state is. subst (λ s. HoldsCommand s i v) (sym is) (k.held n h (w.views n) ((f.views n).covers, (f.views n).stems)) }

@@ -8,14 +8,14 @@ use Rattle.lk_history.specs.Ballots.{BallotValue, IsBelow, IsAtMost}
 use Rattle.lk_history.specs.Datagrams.{Genesis, Vote, NodeMessage, Datagram, said_by, Prepare, Promise, Accept, Accepted, Decided, HasSent, WasSent}
 use Rattle.lk_history.specs.Chosen.{Command}
 use Rattle.lk_history.specs.Soundness.{ReportsFrom, Justified, Sound}
-use Rattle.lk_history.specs.Standings.{Standing, Covers}
+use Rattle.lk_history.specs.Acceptors.{AcceptorState, Covers}
 use Rattle.lk_history.specs.Nodes.{Term, View, TermFits, ViewFits, MayPromise, MaySend}
 use Rattle.lk_history.proofs.BallotOrder.{below_self, below_at_most}
 use Rattle.lk_history.proofs.Agree.{vote}
 use Rattle.lk_history.proofs.Grow.{still_sent, still_was, still_chosen_from, still_justified, still_stems}
 
 -- a promise reports what its node has accepted
-answers_now : (s : Standing) (p : PromiseValue) (x : Vote) → MayPromise s p → Covers s (Accepted x) → p.first ≤ x.position → ReportsFrom p.votes x.position x.ballot
+answers_now : (s : AcceptorState) (p : PromiseValue) (x : Vote) → MayPromise s p → Covers s (Accepted x) → p.first ≤ x.position → ReportsFrom p.votes x.position x.ballot
 answers_now s p x o c le =
     elim c.1 [
       | inl under ↦ absurd (omega (arith, o.above))
@@ -23,18 +23,18 @@ answers_now s p x o c le =
     ]
 
 -- a promise and a vote of one standing: the vote is not in an earlier ballot
-not_earlier : (s : Standing) (p : PromiseValue) (x : Vote) → s.promised ≡ x.ballot → IsAtMost p.ballot s.promised → IsBelow x.ballot p.ballot → ⊥
+not_earlier : (s : AcceptorState) (p : PromiseValue) (x : Vote) → s.promised ≡ x.ballot → IsAtMost p.ballot s.promised → IsBelow x.ballot p.ballot → ⊥
 not_earlier s p x e le lt = below_self x.ballot (subst (λ d. IsBelow x.ballot d) e (below_at_most x.ballot p.ballot s.promised lt le))
 
 -- two proposals of one term
-same_value : (genesis : Genesis) (sent : List Datagram) (n : ℕ) (w : View) (b : BallotValue) (i : ℕ) (v u : Command) → ((t : Term) → w.term ≡ Some t → TermFits genesis sent n w.standing t)
+same_value : (genesis : Genesis) (sent : List Datagram) (n : ℕ) (w : View) (b : BallotValue) (i : ℕ) (v u : Command) → ((t : Term) → w.term ≡ Some t → TermFits genesis sent n w.acceptor t)
     → MaySend genesis sent w (Accept (vote i b v)) → MaySend genesis sent w (Accept (vote i b u)) → v ≡ u
 same_value genesis sent n w b i v u f o p =
     let same : p.0 ≡ o.0 = cc (p.1, o.1) in
     (f o.0 o.1).one_each i v u o.3 (subst (λ (t : Term). Contains t.proposals (i, u)) same p.3)
 
 -- a proposal of a term, and one that was sent before
-own_value : (genesis : Genesis) (sent : List Datagram) (n : ℕ) (w : View) (b : BallotValue) (i : ℕ) (v u : Command) → ((t : Term) → w.term ≡ Some t → TermFits genesis sent n w.standing t)
+own_value : (genesis : Genesis) (sent : List Datagram) (n : ℕ) (w : View) (b : BallotValue) (i : ℕ) (v u : Command) → ((t : Term) → w.term ≡ Some t → TermFits genesis sent n w.acceptor t)
     → MaySend genesis sent w (Accept (vote i b v)) → WasSent genesis sent (Accept (vote i b u)) → v ≡ u
 own_value genesis sent n w b i v u f o h =
     let t = f o.0 o.1 in
@@ -59,7 +59,7 @@ module _ (genesis : Genesis) (sent new : List Datagram) (views : ℕ → View) (
         ]
       ]
 
-  reported_now : (k : ℕ) (p : PromiseValue) → MayPromise (views k).standing p → (x : Vote) → Contains p.votes x → WasSent genesis sent (Accept x) × IsAtMost x.ballot p.ballot
+  reported_now : (k : ℕ) (p : PromiseValue) → MayPromise (views k).acceptor p → (x : Vote) → Contains p.votes x → WasSent genesis sent (Accept x) × IsAtMost x.ballot p.ballot
   reported_now k p o x h = let q = (fits k).stems.votes x (o.only x h) in (q.0, subst (λ d. IsAtMost x.ballot d) o.promised q.1)
 
   answers : (k : ℕ) (p : PromiseValue) (x : Vote) → HasSent genesis (sent ++ new) k (Promise p) → HasSent genesis (sent ++ new) k (Accepted x)
@@ -68,11 +68,11 @@ module _ (genesis : Genesis) (sent new : List Datagram) (views : ℕ → View) (
       elim (cases k (Promise p) hp) [
         | inl old ↦ elim (cases k (Accepted x) ha) [
           | inl old' ↦ sound.answers k p x old old' lt le
-          | inr o ↦ absurd (not_earlier (views k).standing p x o.1.0 ((fits k).covers (Promise p) old) lt)
+          | inr o ↦ absurd (not_earlier (views k).acceptor p x o.1.0 ((fits k).covers (Promise p) old) lt)
         ]
         | inr o ↦ elim (cases k (Accepted x) ha) [
-          | inl old' ↦ answers_now (views k).standing p x o.1 ((fits k).covers (Accepted x) old') le
-          | inr o' ↦ absurd (not_earlier (views k).standing p x o'.1.0 (inr (sym o.1.promised)) lt)
+          | inl old' ↦ answers_now (views k).acceptor p x o.1 ((fits k).covers (Accepted x) old') le
+          | inr o' ↦ absurd (not_earlier (views k).acceptor p x o'.1.0 (inr (sym o.1.promised)) lt)
         ]
       ]
 
@@ -104,10 +104,10 @@ module _ (genesis : Genesis) (sent new : List Datagram) (views : ℕ → View) (
   }
 
   -- a node covers what it may send
-  covers_own : (k : ℕ) (m : NodeMessage) → MaySend genesis sent (views k) m → Covers (views k).standing m
+  covers_own : (k : ℕ) (m : NodeMessage) → MaySend genesis sent (views k) m → Covers (views k).acceptor m
   covers_own k (Prepare b first) o = o
   covers_own k (Promise p) o = inr (sym o.promised)
-  covers_own k (Accept x) o = subst (λ d. IsAtMost d (views k).standing.promised) o.2 ((fits k).term o.0 o.1).promised
+  covers_own k (Accept x) o = subst (λ d. IsAtMost d (views k).acceptor.promised) o.2 ((fits k).term o.0 o.1).promised
   covers_own k (Accepted x) o = (inr (sym o.0), inr (x, o.1, refl, inr (refl, refl)))
   covers_own k _ o = tt
 

@@ -4,10 +4,10 @@ use Rattle.std.proofs.lemmas.List.Elements.{Contains-append_cases}
 use Rattle.lk_types.specs.declared.command.Request.{Request}
 use Rattle.lk_wire.specs.Grammar.{Spells}
 use Rattle.lk_wire.specs.declared.message.Content.TheVariants as content
-use Rattle.lk_wire.proofs.DatagramLaws.{one_message}
+use Rattle.lk_wire.proofs.Spellings.{one_message}
 use Rattle.lk_history.specs.Datagrams.{Genesis, Datagram, NodeMessage, Message, said_by, HasSent}
 use Rattle.lk_history.specs.Soundness.{Sound}
-use Rattle.lk_history.specs.Worlds.{IsAsked}
+use Rattle.lk_history.specs.Worlds.{IsClientRequest}
 
 -- what one says is said by one node alone, and is one message
 node_alike : (n k : ℕ) (m M : NodeMessage) → content.Node n m ≡ content.Node k M → (n ≡ k) × (m ≡ M)
@@ -31,7 +31,7 @@ pub heard_was_sent : (genesis : Genesis) (sent : List Datagram) → Sound genesi
 heard_was_sent genesis sent sound d h n m s = record { datagram = d; listed = h; from = sound.signed d h n m s; spelled = s }
 
 -- a client's request says nothing for a node
-pub asked_is_no_saying : (genesis : Genesis) (d : Datagram) → IsAsked d → (n : ℕ) (m : NodeMessage) → Spells (said_by genesis n m) d.bytes → ⊥
+pub asked_is_no_saying : (genesis : Genesis) (d : Datagram) → IsClientRequest d → (n : ℕ) (m : NodeMessage) → Spells (said_by genesis n m) d.bytes → ⊥
 asked_is_no_saying genesis d a n m s = no_node a.request n m (ap (λ (x : Message). x.content) (one_message _ _ d.bytes a.spelled s))
   where
     no_node : (r : Request) (k : ℕ) (x : NodeMessage) → content.Request r ≡ content.Node k x → ⊥

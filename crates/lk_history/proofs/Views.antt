@@ -8,18 +8,18 @@ use Rattle.lk_history.specs.Ballots.{BallotValue, IsBelow, IsAtMost}
 use Rattle.lk_history.specs.Datagrams.{Genesis, Vote, NodeMessage, Datagram, Prepare, Promise, Accept, Accepted, HasSent, WasSent}
 use Rattle.lk_history.specs.Chosen.{Command, Chosen, ChosenAt}
 use Rattle.lk_history.specs.Soundness.{Report, WasPromised, IsReported, Justified, Sound}
-use Rattle.lk_history.specs.Standings.{Standing, CoversVote, Covers, CoversSent, AreProposed, TakesVote, TakesSnapshot}
+use Rattle.lk_history.specs.Acceptors.{AcceptorState, CoversVote, Covers, CoversSent, AreProposed, TakesVote, TakesSnapshot}
 use Rattle.lk_history.specs.Nodes.{Pair, Acceptance, Term, new_term, View, TermFits, Stems, ViewFits}
-use Rattle.lk_history.specs.Changes.{MayPropose, with_promise, with_standing, with_term, with_report, with_proposal, with_acceptance, Changes, promises, accepts, packs, begins, hears, proposes, counts, leaves, learns, executes, installs, restarts, Becomes, stays, goes_on}
+use Rattle.lk_history.specs.Changes.{MayPropose, with_promise, with_acceptor, with_term, with_report, with_proposal, with_acceptance, Changes, promises, accepts, packs, begins, hears, proposes, counts, leaves, learns, executes, installs, restarts, Becomes, stays, goes_on}
 use Rattle.lk_history.proofs.BallotOrder.{below_self, below_trans, at_most_below, at_most_trans}
 use Rattle.lk_history.proofs.Agree.{vote}
 use Rattle.lk_history.proofs.Grow.{chosen_push}
 
 -- the new standing has what the old one had, or what stands above it
-record Advances (old new : Standing) : Type 0 where
+record Advances (old new : AcceptorState) : Type 0 where
   promised : IsAtMost old.promised new.promised
-  snapshot : old.snapshot ≤ new.snapshot
-  votes : (x : Vote) → Contains old.votes x → (x.position ≤ new.snapshot) ⊎ CoversVote new.votes x
+  snapshot : old.snapshot_position ≤ new.snapshot_position
+  votes : (x : Vote) → Contains old.votes x → (x.position ≤ new.snapshot_position) ⊎ CoversVote new.votes x
 
 -- what a vote covers is covered by what covers the vote
 cover_trans : (kept : List Vote) (x y : Vote) → y.position ≡ x.position → IsBelow x.ballot y.ballot ⊎ ((y.ballot ≡ x.ballot) × (y.command ≡ x.command))
@@ -34,7 +34,7 @@ cover_trans kept x y at over z = (z.0, z.1, z.2 ∙ at, both over z.3)
     both (inr f) (inr e) = inr (e.0 ∙ f.0, e.1 ∙ f.1)
 
 -- a standing that is ahead covers as much
-covers_ahead : (old new : Standing) → Advances old new → (m : NodeMessage) → Covers old m → Covers new m
+covers_ahead : (old new : AcceptorState) → Advances old new → (m : NodeMessage) → Covers old m → Covers new m
 covers_ahead old new a (Prepare b first) c = at_most_trans b old.promised new.promised c a.promised
 covers_ahead old new a (Promise p) c = at_most_trans p.ballot old.promised new.promised c a.promised
 covers_ahead old new a (Accept x) c = at_most_trans x.ballot old.promised new.promised c a.promised
@@ -48,10 +48,10 @@ covers_ahead old new a (Accepted x) c = (
 covers_ahead old new a _ c = tt
 
 -- the same votes, under a greater promise
-promise_ahead : (s : Standing) (b : BallotValue) → IsAtMost s.promised b → Advances s (with_promise s b)
+promise_ahead : (s : AcceptorState) (b : BallotValue) → IsAtMost s.promised b → Advances s (with_promise s b)
 promise_ahead s b le = record { promised = le; snapshot = omega arith; votes = λ x h. inr (x, h, refl, inr (refl, refl)) }
 
-snapshot_ahead : (old new : Standing) (i : ℕ) → TakesSnapshot old i new → Advances old new
+snapshot_ahead : (old new : AcceptorState) (i : ℕ) → TakesSnapshot old i new → Advances old new
 snapshot_ahead old new i t = record {
   promised = inr (sym t.promised);
   snapshot = omega (arith, t.snapshot, t.later);
@@ -59,7 +59,7 @@ snapshot_ahead old new i t = record {
 }
 
 -- an image that covers what was sent and stems from it, and has no term
-pub restart_fits : (genesis : Genesis) (sent : List Datagram) (n : ℕ) (image : View) → CoversSent genesis sent n image.standing → Stems genesis sent image → image.term ≡ None
+pub restart_fits : (genesis : Genesis) (sent : List Datagram) (n : ℕ) (image : View) → CoversSent genesis sent n image.acceptor → Stems genesis sent image → image.term ≡ None
     → ViewFits genesis sent n image
 restart_fits genesis sent n image covers stems ended = record { covers = covers; stems = stems; term = λ t at. absurd (cc (ended, at)) }
 
@@ -72,7 +72,7 @@ module _ (genesis : Genesis) (sent : List Datagram) (sound : Sound genesis sent)
       let mine = subst₂ (λ i b. WasSent genesis sent (Accept (vote i b y.command))) at e was in
       inr (sym e, sound.one_value x.ballot x.position x.command y.command now mine)
 
-  vote_ahead : (old new : Standing) (x : Vote) → IsAtMost old.promised x.ballot → AreProposed genesis sent old → WasSent genesis sent (Accept x) → TakesVote old x new → Advances old new
+  vote_ahead : (old new : AcceptorState) (x : Vote) → IsAtMost old.promised x.ballot → AreProposed genesis sent old → WasSent genesis sent (Accept x) → TakesVote old x new → Advances old new
   vote_ahead old new x le proposed was t = record {
     promised = subst (λ b. IsAtMost old.promised b) (sym t.promised) le;
     snapshot = omega (arith, t.snapshot);
@@ -82,7 +82,7 @@ module _ (genesis : Genesis) (sent : List Datagram) (sound : Sound genesis sent)
     ]);
   }
 
-  vote_proposed : (old new : Standing) (x : Vote) → IsAtMost old.promised x.ballot → AreProposed genesis sent old → WasSent genesis sent (Accept x) → TakesVote old x new → AreProposed genesis sent new
+  vote_proposed : (old new : AcceptorState) (x : Vote) → IsAtMost old.promised x.ballot → AreProposed genesis sent old → WasSent genesis sent (Accept x) → TakesVote old x new → AreProposed genesis sent new
   vote_proposed old new x le proposed was t y h =
       subst (λ b. WasSent genesis sent (Accept y) × IsAtMost y.ballot b) (sym t.promised) (elim (t.only y h) [
         | inl e ↦ subst (λ (z : Vote). WasSent genesis sent (Accept z) × IsAtMost z.ballot x.ballot) (sym e) (was, inr refl)
@@ -90,7 +90,7 @@ module _ (genesis : Genesis) (sent : List Datagram) (sound : Sound genesis sent)
       ])
 
   module _ (n : ℕ) where
-    term_ahead : (old new : Standing) (t : Term) → IsAtMost old.promised new.promised → TermFits genesis sent n old t → TermFits genesis sent n new t
+    term_ahead : (old new : AcceptorState) (t : Term) → IsAtMost old.promised new.promised → TermFits genesis sent n old t → TermFits genesis sent n new t
     term_ahead old new t le f = record {
       own = f.own;
       promised = at_most_trans t.ballot old.promised new.promised f.promised le;
@@ -101,25 +101,25 @@ module _ (genesis : Genesis) (sent : List Datagram) (sound : Sound genesis sent)
       justified = f.justified;
     }
 
-    with_standing_fits : (old : View) (s : Standing) → ViewFits genesis sent n old → Advances old.standing s → AreProposed genesis sent s → s.snapshot ≤ length old.done
-        → ViewFits genesis sent n (with_standing old s)
-    with_standing_fits old s f a proposed within = record {
-      covers = λ m h. covers_ahead old.standing s a m (f.covers m h);
+    with_acceptor_fits : (old : View) (s : AcceptorState) → ViewFits genesis sent n old → Advances old.acceptor s → AreProposed genesis sent s → s.snapshot_position ≤ length old.done
+        → ViewFits genesis sent n (with_acceptor old s)
+    with_acceptor_fits old s f a proposed within = record {
+      covers = λ m h. covers_ahead old.acceptor s a m (f.covers m h);
       stems = record { votes = proposed; done = f.stems.done; snapshot = within; pairs = f.stems.pairs };
-      term = λ t at. term_ahead old.standing s t a.promised (f.term t at);
+      term = λ t at. term_ahead old.acceptor s t a.promised (f.term t at);
     }
 
-    promise_fits : (old : View) (b : BallotValue) → ViewFits genesis sent n old → IsAtMost old.standing.promised b → ViewFits genesis sent n (with_standing old (with_promise old.standing b))
-    promise_fits old b f le = with_standing_fits old (with_promise old.standing b) f (promise_ahead old.standing b le)
-        (λ x h. let p = f.stems.votes x h in (p.0, at_most_trans x.ballot old.standing.promised b p.1 le)) f.stems.snapshot
+    promise_fits : (old : View) (b : BallotValue) → ViewFits genesis sent n old → IsAtMost old.acceptor.promised b → ViewFits genesis sent n (with_acceptor old (with_promise old.acceptor b))
+    promise_fits old b f le = with_acceptor_fits old (with_promise old.acceptor b) f (promise_ahead old.acceptor b le)
+        (λ x h. let p = f.stems.votes x h in (p.0, at_most_trans x.ballot old.acceptor.promised b p.1 le)) f.stems.snapshot
 
     -- a ballot above all that the node promised was never used
-    unused : (s : Standing) (b : BallotValue) (i : ℕ) (v : Command) → CoversSent genesis sent n s → b.node ≡ n → IsBelow s.promised b → WasSent genesis sent (Accept (vote i b v)) → ⊥
+    unused : (s : AcceptorState) (b : BallotValue) (i : ℕ) (v : Command) → CoversSent genesis sent n s → b.node ≡ n → IsBelow s.promised b → WasSent genesis sent (Accept (vote i b v)) → ⊥
     unused s b i v c own lt h =
         let mine : HasSent genesis sent n (Accept (vote i b v)) = subst (λ k. HasSent genesis sent k (Accept (vote i b v))) (sym (sound.owned h.sender (vote i b v) h.has_sent) ∙ own) h.has_sent in
         below_self b (at_most_below b s.promised b (c (Accept (vote i b v)) mine) lt)
 
-    new_term_fits : (s new : Standing) (b : BallotValue) → new.promised ≡ b → CoversSent genesis sent n s → b.node ≡ n → IsBelow s.promised b
+    new_term_fits : (s new : AcceptorState) (b : BallotValue) → new.promised ≡ b → CoversSent genesis sent n s → b.node ≡ n → IsBelow s.promised b
         → TermFits genesis sent n new (new_term b)
     new_term_fits s new b is c own lt = record {
       own = own;
@@ -131,7 +131,7 @@ module _ (genesis : Genesis) (sent : List Datagram) (sound : Sound genesis sent)
       justified = λ i v h. absurd (omega (arith, h.1));
     }
 
-    report_fits : (s : Standing) (t : Term) (r : Report) → WasPromised genesis sent t.ballot r → TermFits genesis sent n s t → TermFits genesis sent n s (with_report t r)
+    report_fits : (s : AcceptorState) (t : Term) (r : Report) → WasPromised genesis sent t.ballot r → TermFits genesis sent n s t → TermFits genesis sent n s (with_report t r)
     report_fits s t r h f = record {
       own = f.own;
       promised = f.promised;
@@ -142,7 +142,7 @@ module _ (genesis : Genesis) (sent : List Datagram) (sound : Sound genesis sent)
       justified = f.justified;
     }
 
-    acceptance_fits : (s : Standing) (t : Term) (a : Acceptance) → HasSent genesis sent a.node (Accepted (vote a.position t.ballot a.command)) → TermFits genesis sent n s t
+    acceptance_fits : (s : AcceptorState) (t : Term) (a : Acceptance) → HasSent genesis sent a.node (Accepted (vote a.position t.ballot a.command)) → TermFits genesis sent n s t
         → TermFits genesis sent n s (with_acceptance t a)
     acceptance_fits s t a h f = record {
       own = f.own;
@@ -158,7 +158,7 @@ module _ (genesis : Genesis) (sent : List Datagram) (sound : Sound genesis sent)
     }
 
     -- a vote that a term's promises report, where the term has proposed nothing, is of an earlier ballot
-    earlier_vote : (s : Standing) (t : Term) (y : Vote) → TermFits genesis sent n s t → IsReported t.reports y
+    earlier_vote : (s : AcceptorState) (t : Term) (y : Vote) → TermFits genesis sent n s t → IsReported t.reports y
         → ((w : Command) → Contains t.proposals (y.position, w) → ⊥) → IsBelow y.ballot t.ballot
     earlier_vote s t y f told new =
         let r = sound.reported told.0.node (record { ballot = t.ballot; first = told.0.first; votes = told.0.votes }) (f.reports told.0 told.1) y told.2 in
@@ -167,7 +167,7 @@ module _ (genesis : Genesis) (sent : List Datagram) (sound : Sound genesis sent)
           | inr e ↦ absurd (new y.command (f.complete y.position y.command (subst (λ d. WasSent genesis sent (Accept (vote y.position d y.command))) e r.0)))
         ]
 
-    justify : (s : Standing) (done : List Command) (t : Term) (i : ℕ) (v : Command) → TermFits genesis sent n s t → Chosen genesis sent done → MayPropose genesis done t i v
+    justify : (s : AcceptorState) (done : List Command) (t : Term) (i : ℕ) (v : Command) → TermFits genesis sent n s t → Chosen genesis sent done → MayPropose genesis done t i v
         → Justified genesis sent t.ballot i v
     justify s done t i v f chosen c = record {
       under = done;
@@ -188,7 +188,7 @@ module _ (genesis : Genesis) (sent : List Datagram) (sound : Sound genesis sent)
     pair_cases proposals i j v w h =
         elim (Contains-push_cases proposals (i, v) (j, w) h) [ inl old ↦ inl old | inr e ↦ inr (ap (λ (p : Pair). p.0) e, ap (λ (p : Pair). p.1) e) ]
 
-    proposal_fits : (s : Standing) (done : List Command) (t : Term) (i : ℕ) (v : Command) → Chosen genesis sent done → MayPropose genesis done t i v → TermFits genesis sent n s t
+    proposal_fits : (s : AcceptorState) (done : List Command) (t : Term) (i : ℕ) (v : Command) → Chosen genesis sent done → MayPropose genesis done t i v → TermFits genesis sent n s t
         → TermFits genesis sent n s (with_proposal t (i, v))
     proposal_fits s done t i v chosen c f = record {
       own = f.own;
@@ -213,28 +213,28 @@ module _ (genesis : Genesis) (sent : List Datagram) (sound : Sound genesis sent)
     }
 
     -- the term of a view that has just this one
-    only_term : (s : Standing) (t : Term) → TermFits genesis sent n s t → (u : Term) → Some t ≡ Some u → TermFits genesis sent n s u
+    only_term : (s : AcceptorState) (t : Term) → TermFits genesis sent n s t → (u : Term) → Some t ≡ Some u → TermFits genesis sent n s u
     only_term s t f u e = let same : t ≡ u = cc e in subst (λ x. TermFits genesis sent n s x) same f
 
     with_term_stems : (w : View) (t : Option Term) → Stems genesis sent w → Stems genesis sent (with_term w t)
     with_term_stems w t f = record { votes = f.votes; done = f.done; snapshot = f.snapshot; pairs = f.pairs }
 
-    with_term_fits : (w : View) (t : Term) → ViewFits genesis sent n w → TermFits genesis sent n w.standing t → ViewFits genesis sent n (with_term w (Some t))
-    with_term_fits w t f g = record { covers = f.covers; stems = with_term_stems w (Some t) f.stems; term = only_term w.standing t g }
+    with_term_fits : (w : View) (t : Term) → ViewFits genesis sent n w → TermFits genesis sent n w.acceptor t → ViewFits genesis sent n (with_term w (Some t))
+    with_term_fits w t f g = record { covers = f.covers; stems = with_term_stems w (Some t) f.stems; term = only_term w.acceptor t g }
 
     pub change_fits : (old new : View) → ViewFits genesis sent n old → Changes genesis sent n old new → ViewFits genesis sent n new
     change_fits old new f (promises b le) = promise_fits old b f le
     change_fits old new f (accepts x s le was t) =
-        with_standing_fits old s f (vote_ahead old.standing s x le f.stems.votes was t) (vote_proposed old.standing s x le f.stems.votes was t) (omega (arith, t.snapshot, f.stems.snapshot))
+        with_acceptor_fits old s f (vote_ahead old.acceptor s x le f.stems.votes was t) (vote_proposed old.acceptor s x le f.stems.votes was t) (omega (arith, t.snapshot, f.stems.snapshot))
     change_fits old new f (packs i s within t) =
-        with_standing_fits old s f (snapshot_ahead old.standing s i t) (λ x h. subst (λ b. WasSent genesis sent (Accept x) × IsAtMost x.ballot b) (sym t.promised) (f.stems.votes x (t.only x h)))
+        with_acceptor_fits old s f (snapshot_ahead old.acceptor s i t) (λ x h. subst (λ b. WasSent genesis sent (Accept x) × IsAtMost x.ballot b) (sym t.promised) (f.stems.votes x (t.only x h)))
         (omega (arith, t.snapshot))
     change_fits old new f (begins b own lt) =
-        with_term_fits (with_standing old (with_promise old.standing b)) (new_term b) (promise_fits old b f (inl lt))
-        (new_term_fits old.standing (with_promise old.standing b) b refl f.covers own lt)
-    change_fits old new f (hears t r at h) = with_term_fits old (with_report t r) f (report_fits old.standing t r h (f.term t at))
-    change_fits old new f (proposes t i v at c) = with_term_fits old (with_proposal t (i, v)) f (proposal_fits old.standing old.done t i v f.stems.done c (f.term t at))
-    change_fits old new f (counts t a at h) = with_term_fits old (with_acceptance t a) f (acceptance_fits old.standing t a h (f.term t at))
+        with_term_fits (with_acceptor old (with_promise old.acceptor b)) (new_term b) (promise_fits old b f (inl lt))
+        (new_term_fits old.acceptor (with_promise old.acceptor b) b refl f.covers own lt)
+    change_fits old new f (hears t r at h) = with_term_fits old (with_report t r) f (report_fits old.acceptor t r h (f.term t at))
+    change_fits old new f (proposes t i v at c) = with_term_fits old (with_proposal t (i, v)) f (proposal_fits old.acceptor old.done t i v f.stems.done c (f.term t at))
+    change_fits old new f (counts t a at h) = with_term_fits old (with_acceptance t a) f (acceptance_fits old.acceptor t a h (f.term t at))
     change_fits old new f leaves = record { covers = f.covers; stems = with_term_stems old None f.stems; term = λ t at. absurd (cc at) }
     change_fits old new f (learns i v c) = record {
       covers = f.covers;

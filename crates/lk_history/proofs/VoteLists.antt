@@ -4,7 +4,7 @@ use Rattle.std.proofs.lemmas.Bool.{cases_lt}
 use Rattle.std.proofs.lemmas.List.Elements.{Contains-push, Contains-push_cases, Contains-append_left}
 use Rattle.lk_wire.specs.Values.{PromiseValue}
 use Rattle.lk_history.specs.Datagrams.{Vote}
-use Rattle.lk_history.specs.Standings.{Standing, TakesVote, TakesSnapshot}
+use Rattle.lk_history.specs.Acceptors.{AcceptorState, TakesVote, TakesSnapshot}
 use Rattle.lk_history.specs.Nodes.{MayPromise}
 use Rattle.lk_history.proofs.Lists.{filter_has, filter_from}
 
@@ -14,7 +14,7 @@ has xs ys x e h = subst (λ l. Contains l x) (sym e) h
 from : (xs ys : List Vote) (x : Vote) → xs ≡ ys → Contains xs x → Contains ys x
 from xs ys x e h = subst (λ l. Contains l x) e h
 
-pub pushed_takes_vote : (old new : Standing) (x : Vote) → new.promised ≡ x.ballot → new.snapshot ≡ old.snapshot
+pub pushed_takes_vote : (old new : AcceptorState) (x : Vote) → new.promised ≡ x.ballot → new.snapshot_position ≡ old.snapshot_position
     → new.votes ≡ filter (λ y. not (y.position == x.position)) old.votes ++ x ∷ [] → TakesVote old x new
 pushed_takes_vote old new x promised snapshot votes = record {
   promised = promised;
@@ -27,7 +27,7 @@ pushed_takes_vote old new x promised snapshot votes = record {
   ];
 }
 
-pub filtered_takes_snapshot : (old new : Standing) (i : ℕ) → old.snapshot ≤ i → new.promised ≡ old.promised → new.snapshot ≡ i
+pub filtered_takes_snapshot : (old new : AcceptorState) (i : ℕ) → old.snapshot_position ≤ i → new.promised ≡ old.promised → new.snapshot_position ≡ i
     → new.votes ≡ filter (λ y. nat_lt i y.position) old.votes → TakesSnapshot old i new
 filtered_takes_snapshot old new i later promised snapshot votes = record {
   promised = promised;
@@ -40,7 +40,7 @@ filtered_takes_snapshot old new i later promised snapshot votes = record {
   only = λ y h. filter_from (λ (z : Vote). nat_lt i z.position) old.votes y (from new.votes _ y votes h);
 }
 
-pub filtered_may_promise : (s : Standing) (p : PromiseValue) → s.promised ≡ p.ballot → s.snapshot < p.first → p.votes ≡ filter (λ y. nat_le p.first y.position) s.votes → MayPromise s p
+pub filtered_may_promise : (s : AcceptorState) (p : PromiseValue) → s.promised ≡ p.ballot → s.snapshot_position < p.first → p.votes ≡ filter (λ y. nat_le p.first y.position) s.votes → MayPromise s p
 filtered_may_promise s p promised above votes = record {
   promised = promised;
   above = above;

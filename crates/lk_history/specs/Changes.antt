@@ -6,7 +6,7 @@ use Rattle.lk_history.specs.Ballots.{BallotValue, IsBelow, IsAtMost}
 use Rattle.lk_history.specs.Datagrams.{Genesis, Vote, Datagram, Accept, Accepted, HasSent, WasSent}
 use Rattle.lk_history.specs.Chosen.{Command, Chosen, ChosenAt}
 use Rattle.lk_history.specs.Soundness.{Report, WasPromised, IsReported, IsReporter}
-use Rattle.lk_history.specs.Standings.{Standing, CoversSent, TakesVote, TakesSnapshot}
+use Rattle.lk_history.specs.Acceptors.{AcceptorState, CoversSent, TakesVote, TakesSnapshot}
 use Rattle.lk_history.specs.Nodes.{Pair, Acceptance, Term, new_term, View, Stems}
 
 -- why a term may propose the command at the position: it has proposed nothing there, a majority of the members that the
@@ -26,17 +26,17 @@ pub record MayPropose (genesis : Genesis) (done : List Command) (t : Term) (i : 
 abbrev pub AreAmong : List Pair → List Pair → Type 0
 AreAmong rest pairs = (p : Pair) → Contains rest p → Contains pairs p
 
-abbrev pub with_promise : Standing → BallotValue → Standing
-with_promise s b = record { promised = b; votes = s.votes; snapshot = s.snapshot }
+abbrev pub with_promise : AcceptorState → BallotValue → AcceptorState
+with_promise s b = record { promised = b; votes = s.votes; snapshot_position = s.snapshot_position }
 
-abbrev pub with_standing : View → Standing → View
-with_standing w s = record { standing = s; done = w.done; pairs = w.pairs; term = w.term }
+abbrev pub with_acceptor : View → AcceptorState → View
+with_acceptor w s = record { acceptor = s; done = w.done; pairs = w.pairs; term = w.term }
 
 abbrev pub with_term : View → Option Term → View
-with_term w t = record { standing = w.standing; done = w.done; pairs = w.pairs; term = t }
+with_term w t = record { acceptor = w.acceptor; done = w.done; pairs = w.pairs; term = t }
 
 abbrev pub with_done : View → List Command → List Pair → View
-with_done w done pairs = record { standing = w.standing; done = done; pairs = pairs; term = w.term }
+with_done w done pairs = record { acceptor = w.acceptor; done = done; pairs = pairs; term = w.term }
 
 abbrev pub with_report : Term → Report → Term
 with_report t r = record { ballot = t.ballot; reports = t.reports ++ r ∷ []; proposals = t.proposals; accepted = t.accepted }
@@ -50,17 +50,17 @@ with_acceptance t a = record { ballot = t.ballot; reports = t.reports; proposals
 -- one change of a node, by what was sent so far
 pub data Changes (genesis : Genesis) (sent : List Datagram) (n : ℕ) : View → View → Type 0 where
   -- it promises a ballot that is not below the promised one
-  promises : {old : View} (b : BallotValue) → IsAtMost old.standing.promised b
-      → Changes genesis sent n old (with_standing old (with_promise old.standing b))
+  promises : {old : View} (b : BallotValue) → IsAtMost old.acceptor.promised b
+      → Changes genesis sent n old (with_acceptor old (with_promise old.acceptor b))
   -- it votes for what was proposed, in a ballot that is not below the promised one
-  accepts : {old : View} (x : Vote) (s : Standing) → IsAtMost old.standing.promised x.ballot → WasSent genesis sent (Accept x) → TakesVote old.standing x s
-      → Changes genesis sent n old (with_standing old s)
+  accepts : {old : View} (x : Vote) (s : AcceptorState) → IsAtMost old.acceptor.promised x.ballot → WasSent genesis sent (Accept x) → TakesVote old.acceptor x s
+      → Changes genesis sent n old (with_acceptor old s)
   -- it writes a snapshot of what it has executed
-  packs : {old : View} (i : ℕ) (s : Standing) → i ≤ length old.done → TakesSnapshot old.standing i s
-      → Changes genesis sent n old (with_standing old s)
+  packs : {old : View} (i : ℕ) (s : AcceptorState) → i ≤ length old.done → TakesSnapshot old.acceptor i s
+      → Changes genesis sent n old (with_acceptor old s)
   -- it begins a ballot of its own, above all that it promised
-  begins : {old : View} (b : BallotValue) → b.node ≡ n → IsBelow old.standing.promised b
-      → Changes genesis sent n old (with_term (with_standing old (with_promise old.standing b)) (Some (new_term b)))
+  begins : {old : View} (b : BallotValue) → b.node ≡ n → IsBelow old.acceptor.promised b
+      → Changes genesis sent n old (with_term (with_acceptor old (with_promise old.acceptor b)) (Some (new_term b)))
   -- it hears a promise of its ballot
   hears : {old : View} (t : Term) (r : Report) → old.term ≡ Some t → WasPromised genesis sent t.ballot r
       → Changes genesis sent n old (with_term old (Some (with_report t r)))
@@ -80,10 +80,10 @@ pub data Changes (genesis : Genesis) (sent : List Datagram) (n : ℕ) : View →
   executes : {old : View} (v : Command) (rest : List Pair) → Contains old.pairs (suc (length old.done), v) → AreAmong rest old.pairs
       → Changes genesis sent n old (with_done old (old.done ++ v ∷ []) rest)
   -- it installs a snapshot of a chosen list, which reaches as far as its own
-  installs : {old : View} (L : List Command) (rest : List Pair) → Chosen genesis sent L → old.standing.snapshot ≤ length L → AreAmong rest old.pairs
+  installs : {old : View} (L : List Command) (rest : List Pair) → Chosen genesis sent L → old.acceptor.snapshot_position ≤ length L → AreAmong rest old.pairs
       → Changes genesis sent n old (with_done old L rest)
   -- it stops, and is restarted from an image of its disk that covers all it has sent, and stems from what was sent
-  restarts : {old : View} (image : View) → CoversSent genesis sent n image.standing → Stems genesis sent image → image.term ≡ None
+  restarts : {old : View} (image : View) → CoversSent genesis sent n image.acceptor → Stems genesis sent image → image.term ≡ None
       → Changes genesis sent n old image
 
 -- any number of changes, one after another

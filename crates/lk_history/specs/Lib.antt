@@ -2,7 +2,7 @@ pub mod Ballots
 pub mod Datagrams
 pub mod Chosen
 pub mod Soundness
-pub mod Standings
+pub mod Acceptors
 pub mod Nodes
 pub mod Changes
 pub mod Worlds

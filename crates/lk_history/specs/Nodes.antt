@@ -8,7 +8,7 @@ use Rattle.lk_history.specs.Ballots.{BallotValue, IsAtMost}
 use Rattle.lk_history.specs.Datagrams.{Genesis, Vote, NodeMessage, Datagram, said_by, Prepare, Promise, Accept, Accepted, Decided, HasSent, WasSent}
 use Rattle.lk_history.specs.Chosen.{Command, Chosen, ChosenAt, AreChosenFrom}
 use Rattle.lk_history.specs.Soundness.{Report, WasPromised, Justified}
-use Rattle.lk_history.specs.Standings.{Standing, CoversSent, AreProposed}
+use Rattle.lk_history.specs.Acceptors.{AcceptorState, CoversSent, AreProposed}
 
 -- a position and its command
 abbrev pub Pair : Type 0
@@ -32,18 +32,18 @@ new_term b = record { ballot = b; reports = []; proposals = []; accepted = [] }
 
 -- an acceptor's standing, the commands that were executed, decided commands of later positions, and the term, if any
 pub record View : Type 0 where
-  pub standing : Standing
+  pub acceptor : AcceptorState
   pub done : List Command
   pub pairs : List Pair
   pub term : Option Term
 
 -- nothing promised, voted for or executed
 abbrev pub fresh : View
-fresh = record { standing = record { promised = zero_ballot; votes = []; snapshot = 0 }; done = []; pairs = []; term = None }
+fresh = record { acceptor = record { promised = zero_ballot; votes = []; snapshot_position = 0 }; done = []; pairs = []; term = None }
 
 -- ---- how it fits to what was sent
 
-pub record TermFits (genesis : Genesis) (sent : List Datagram) (n : ℕ) (s : Standing) (t : Term) : Type 0 where
+pub record TermFits (genesis : Genesis) (sent : List Datagram) (n : ℕ) (s : AcceptorState) (t : Term) : Type 0 where
   pub own : t.ballot.node ≡ n
   pub promised : IsAtMost t.ballot s.promised
   pub reports : (r : Report) → Contains t.reports r → WasPromised genesis sent t.ballot r
@@ -55,32 +55,32 @@ pub record TermFits (genesis : Genesis) (sent : List Datagram) (n : ℕ) (s : St
 
 -- all that the node holds stems from what was sent
 pub record Stems (genesis : Genesis) (sent : List Datagram) (w : View) : Type 0 where
-  pub votes : AreProposed genesis sent w.standing
+  pub votes : AreProposed genesis sent w.acceptor
   pub done : Chosen genesis sent w.done
   -- what the snapshot took over was executed
-  pub snapshot : w.standing.snapshot ≤ length w.done
+  pub snapshot : w.acceptor.snapshot_position ≤ length w.done
   pub pairs : (i : ℕ) (v : Command) → Contains w.pairs (i, v) → ChosenAt genesis sent i v
 
 pub record ViewFits (genesis : Genesis) (sent : List Datagram) (n : ℕ) (w : View) : Type 0 where
-  pub covers : CoversSent genesis sent n w.standing
+  pub covers : CoversSent genesis sent n w.acceptor
   pub stems : Stems genesis sent w
-  pub term : (t : Term) → w.term ≡ Some t → TermFits genesis sent n w.standing t
+  pub term : (t : Term) → w.term ≡ Some t → TermFits genesis sent n w.acceptor t
 
 -- ---- what it may send
 
 -- the promise reports the votes that are kept from its first position on, and the snapshot has taken none of these
-pub record MayPromise (s : Standing) (p : PromiseValue) : Type 0 where
+pub record MayPromise (s : AcceptorState) (p : PromiseValue) : Type 0 where
   pub promised : s.promised ≡ p.ballot
-  pub above : s.snapshot < p.first
+  pub above : s.snapshot_position < p.first
   pub all : (x : Vote) → Contains s.votes x → p.first ≤ x.position → Contains p.votes x
   pub only : (x : Vote) → Contains p.votes x → Contains s.votes x
 
 -- the message is one that the node, as it is now, may send
 abbrev pub MaySend : Genesis → List Datagram → View → NodeMessage → Type 0
-MaySend genesis sent w (Prepare b first) = IsAtMost b w.standing.promised
-MaySend genesis sent w (Promise p) = MayPromise w.standing p
+MaySend genesis sent w (Prepare b first) = IsAtMost b w.acceptor.promised
+MaySend genesis sent w (Promise p) = MayPromise w.acceptor p
 MaySend genesis sent w (Accept x) = (t : Term) × (w.term ≡ Some t) × (t.ballot ≡ x.ballot) × Contains t.proposals (x.position, x.command)
-MaySend genesis sent w (Accepted x) = (w.standing.promised ≡ x.ballot) × Contains w.standing.votes x
+MaySend genesis sent w (Accepted x) = (w.acceptor.promised ≡ x.ballot) × Contains w.acceptor.votes x
 MaySend genesis sent w (Decided d) = AreChosenFrom genesis sent d.first d.commands
 MaySend genesis sent w _ = Unit {0}
 

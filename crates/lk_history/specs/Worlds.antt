@@ -6,7 +6,8 @@ use Rattle.lk_wire.specs.declared.message.Content.TheVariants as content
 use Rattle.lk_members.specs.Rosters.{members}
 use Rattle.lk_members.specs.Majorities.{IsMajority}
 use Rattle.lk_history.specs.declared.party.Party.TheVariants as party
-use Rattle.lk_history.specs.Datagrams.{Genesis, Vote, Datagram}
+use Rattle.lk_history.specs.Ballots.{BallotValue}
+use Rattle.lk_history.specs.Datagrams.{Genesis, Vote, Datagram, Accepted, HasSent}
 use Rattle.lk_history.specs.Chosen.{Command, command_at, Chosen}
 use Rattle.lk_history.specs.Soundness.{Sound}
 use Rattle.lk_history.specs.Nodes.{View, fresh, ViewFits, MayPostAll}
@@ -29,7 +30,7 @@ abbrev pub with_view : World → ℕ → View → World
 with_view w n new = record { sent = w.sent; views = λ k. if k == n then new else w.views k }
 
 -- the datagram is a client's request
-pub record IsAsked (d : Datagram) : Type 0 where
+pub record IsClientRequest (d : Datagram) : Type 0 where
   pub client : ℕ
   pub cluster : ℕ
   pub request : Request
@@ -41,7 +42,7 @@ pub record IsAsked (d : Datagram) : Type 0 where
 pub data Happens (genesis : Genesis) : World → World → Type 0 where
   sends : {w : World} (n : ℕ) (batch : List Datagram) → MayPostAll genesis w.sent n (w.views n) batch
       → Happens genesis w (with_sent w batch)
-  asks : {w : World} (d : Datagram) → IsAsked d
+  asks : {w : World} (d : Datagram) → IsClientRequest d
       → Happens genesis w (with_sent w (d ∷ []))
   changes : {w : World} (n : ℕ) (new : View) → Changes genesis w.sent n (w.views n) new
       → Happens genesis w (with_view w n new)
@@ -57,16 +58,19 @@ pub record WorldFits (genesis : Genesis) (w : World) : Type 0 where
   pub views : (n : ℕ) → ViewFits genesis w.sent n (w.views n)
 
 -- the state holds the command at the position: in its snapshot, or as its vote
-abbrev pub Holds : View → ℕ → Command → Type 0
-Holds state i v =
-    ((i ≤ state.standing.snapshot) × (command_at state.done i ≡ Some v))
-    ⊎ ((x : Vote) × Contains state.standing.votes x × (x.position ≡ i) × (x.command ≡ v))
+abbrev pub HoldsCommand : View → ℕ → Command → Type 0
+HoldsCommand state i v =
+    ((i ≤ state.acceptor.snapshot_position) × (command_at state.done i ≡ Some v))
+    ⊎ ((x : Vote) × Contains state.acceptor.votes x × (x.position ≡ i) × (x.command ≡ v))
 
--- a majority of the members that the list names for the position holds the command there, in each state that may be a node's
-pub record IsKept (genesis : Genesis) (L : List Command) (i : ℕ) (v : Command) (may_be : ℕ → View → Type 0) : Type 0 where
+-- a majority of the members that the list names for the position has accepted the command there, and holds it in each
+-- state that may be a node's
+pub record IsKept (genesis : Genesis) (sent : List Datagram) (L : List Command) (i : ℕ) (v : Command) (may_be : ℕ → View → Type 0) : Type 0 where
+  pub ballot : BallotValue
   pub nodes : List ℕ
   pub majority : IsMajority nodes (members genesis L i)
-  pub held : (n : ℕ) → Contains nodes n → (state : View) → may_be n state → Holds state i v
+  pub accepted : (n : ℕ) → Contains nodes n → HasSent genesis sent n (Accepted (record { position = i; ballot = ballot; command = v }))
+  pub held : (n : ℕ) → Contains nodes n → (state : View) → may_be n state → HoldsCommand state i v
 
 -- that there are such worlds, and that members change in them: a world that comes about, and a list of two commands that is
 -- chosen in it. The first is decided by node 1 alone, and makes node 2 a member; the second is decided by both

@@ -1,17 +1,21 @@
 //! Why chosen lists agree: laws over the definitions alone. Each is what a function without a body ensures.
 ghost use Rattle.std.specs.Prelude.{◌≡◌, ◌<◌, ◌≤◌, ◌+◌, ◌==◌, nat_lt, nat_le, not, filter, ◌⊎◌, ℕ, suc, List, [], ◌∷◌, ◌++◌, length, Some, None, Contains};
+ghost use Rattle.lk_types.specs.Limits.{max_count};
 ghost use Rattle.lk_wire.specs.Grammar.{Spells};
 ghost use Rattle.lk_wire.specs.Values.{PromiseValue};
 ghost use Rattle.lk_members.specs.Rosters.{members};
 ghost use Rattle.lk_members.specs.Majorities.{IsMajority};
-ghost use Rattle.lk_history.specs.Datagrams.{Genesis, Vote, Datagram, NodeMessage, said_by, HasSent};
+ghost use Rattle.lk_types.specs.Ranges.{IsCount};
+ghost use Rattle.lk_types.specs.Commands.{IsCommand};
+ghost use Rattle.lk_history.specs.Ballots.{BallotValue};
+ghost use Rattle.lk_history.specs.Datagrams.{Genesis, Vote, Datagram, NodeMessage, Accepted, said_by, HasSent};
 ghost use Rattle.lk_history.specs.Chosen.{Command, command_at, Chosen, ChosenAt, IsBeginning};
 ghost use Rattle.lk_history.specs.Soundness.{Sound};
-ghost use Rattle.lk_history.specs.Standings.{Standing, CoversSent, TakesVote, TakesSnapshot};
+ghost use Rattle.lk_history.specs.Acceptors.{AcceptorState, CoversSent, TakesVote, TakesSnapshot};
 ghost use Rattle.lk_history.specs.Nodes.{Term, View, Stems, ViewFits, MayPromise, MayPostAll};
 ghost use Rattle.lk_history.specs.Changes.{Becomes};
 ghost use Rattle.lk_history.specs.Snapshots.{IsSlice};
-ghost use Rattle.lk_history.specs.Worlds.{World, start, with_sent, with_view, IsAsked, Reaches, WorldFits, IsKept, MembersChange};
+ghost use Rattle.lk_history.specs.Worlds.{World, start, with_sent, with_view, IsClientRequest, Reaches, WorldFits, IsKept, MembersChange};
 
 /// Of two chosen lists of a sound history one is a beginning of the other, and they name the same members.
 pub fn chosen_lists_agree()
@@ -39,12 +43,12 @@ pub fn chosen_lists_grow()
         → Chosen genesis sent L → command_at L i ≡ Some v → ChosenAt genesis sent i v }
 {}
 
-/// A majority of the members that a chosen list names for a position keeps its command there: each node of it does in
-/// every state that covers what the node has sent and stems from what was sent, so in every image of its disk.
+/// A majority of the members that a chosen list names for a position has accepted its command there, and keeps it: each
+/// node of it does in every state that covers what the node has sent and stems from what was sent, so in every image of its disk.
 pub fn chosen_commands_are_kept()
     ensures { (genesis : Genesis) (sent : List Datagram) (L : List Command) (i : ℕ) (v : Command) → Sound genesis sent
         → Chosen genesis sent L → command_at L i ≡ Some v
-        → IsKept genesis L i v (λ n state. CoversSent genesis sent n state.standing × Stems genesis sent state) }
+        → IsKept genesis sent L i v (λ n state. CoversSent genesis sent n state.acceptor × Stems genesis sent state) }
 {}
 
 /// What a term has counted from a majority of the members that the executed list names is chosen.
@@ -53,6 +57,16 @@ pub fn what_is_counted_is_chosen()
         → ViewFits genesis sent n w → w.term ≡ Some t → i ≤ length w.done + genesis.alpha → IsMajority nodes (members genesis w.done i)
         → ((k : ℕ) → Contains nodes k → Contains t.accepted (record { node = k; position = i; command = v }))
         → ChosenAt genesis sent i v }
+{}
+
+/// What is chosen at a position was sent as accepted by some node there. So each command of a chosen list and its position
+/// are in their ranges, and the list has at most 2^48 commands.
+pub fn what_is_chosen_was_accepted()
+    ensures sent { (genesis : Genesis) (sent : List Datagram) (i : ℕ) (v : Command) → ChosenAt genesis sent i v
+        → (n : ℕ) × (b : BallotValue) × HasSent genesis sent n (Accepted (record { position = i; ballot = b; command = v })) }
+    ensures in_range { (genesis : Genesis) (sent : List Datagram) (L : List Command) (i : ℕ) (v : Command)
+        → Chosen genesis sent L → command_at L i ≡ Some v → IsCount i × IsCommand v }
+    ensures short { (genesis : Genesis) (sent : List Datagram) (L : List Command) → Chosen genesis sent L → length L ≤ max_count }
 {}
 
 /// In a sound history the node that a datagram names as its sender has sent it.
@@ -66,6 +80,13 @@ pub fn the_start_fits()
     ensures { (genesis : Genesis) → WorldFits genesis start }
 {}
 
+/// A node that fits to what was sent fits to it behind any changes. It takes this node's view alone, so a node can show it
+/// that knows of no other.
+pub fn changes_keep_the_node()
+    ensures { (genesis : Genesis) (sent : List Datagram) (n : ℕ) (old new : View) → Sound genesis sent → ViewFits genesis sent n old
+        → Becomes genesis sent n old new → ViewFits genesis sent n new }
+{}
+
 /// What changes within a node leaves the history sound and every node fitting.
 pub fn changes_keep_the_world()
     ensures { (genesis : Genesis) (w : World) (n : ℕ) (new : View) → WorldFits genesis w
@@ -77,13 +98,13 @@ pub fn sends_keep_the_world()
     ensures node { (genesis : Genesis) (w : World) (n : ℕ) (batch : List Datagram) → WorldFits genesis w
         → MayPostAll genesis w.sent n (w.views n) batch → WorldFits genesis (with_sent w batch) }
     ensures client { (genesis : Genesis) (w : World) (d : Datagram) → WorldFits genesis w
-        → IsAsked d → WorldFits genesis (with_sent w (d ∷ [])) }
+        → IsClientRequest d → WorldFits genesis (with_sent w (d ∷ [])) }
 {}
 
 /// So does a restart from any image that covers what its node has sent and stems from what was sent.
 pub fn restarts_keep_the_world()
     ensures { (genesis : Genesis) (w : World) (n : ℕ) (image : View) → WorldFits genesis w
-        → CoversSent genesis w.sent n image.standing → Stems genesis w.sent image → image.term ≡ None
+        → CoversSent genesis w.sent n image.acceptor → Stems genesis w.sent image → image.term ≡ None
         → WorldFits genesis (with_view w n image) }
 {}
 
@@ -92,11 +113,11 @@ pub fn restarts_keep_the_world()
 /// on stemming from what was sent.
 pub fn images_go_on_covering()
     ensures own { (genesis : Genesis) (sent batch : List Datagram) (n : ℕ) (image : View)
-        → CoversSent genesis sent n image.standing → CoversSent genesis batch n image.standing
-        → CoversSent genesis (sent ++ batch) n image.standing }
+        → CoversSent genesis sent n image.acceptor → CoversSent genesis batch n image.acceptor
+        → CoversSent genesis (sent ++ batch) n image.acceptor }
     ensures others { (genesis : Genesis) (w : World) (n k : ℕ) (batch : List Datagram) (image : View)
         → MayPostAll genesis w.sent n (w.views n) batch → (n ≡ k → ⊥)
-        → CoversSent genesis w.sent k image.standing → CoversSent genesis (w.sent ++ batch) k image.standing }
+        → CoversSent genesis w.sent k image.acceptor → CoversSent genesis (w.sent ++ batch) k image.acceptor }
     ensures stems { (genesis : Genesis) (sent new : List Datagram) (image : View)
         → Stems genesis sent image → Stems genesis (sent ++ new) image }
 {}
@@ -104,11 +125,11 @@ pub fn images_go_on_covering()
 /// The plain ways to keep votes in a list are allowed: a vote takes the place of any other for its position, a snapshot that
 /// of those up to its position, and a promise reports those from its first position on.
 pub fn votes_may_be_kept_in_a_list()
-    ensures vote { (old new : Standing) (x : Vote) → new.promised ≡ x.ballot → new.snapshot ≡ old.snapshot
+    ensures vote { (old new : AcceptorState) (x : Vote) → new.promised ≡ x.ballot → new.snapshot_position ≡ old.snapshot_position
         → new.votes ≡ filter (λ y. not (y.position == x.position)) old.votes ++ x ∷ [] → TakesVote old x new }
-    ensures snapshot { (old new : Standing) (i : ℕ) → old.snapshot ≤ i → new.promised ≡ old.promised → new.snapshot ≡ i
+    ensures snapshot { (old new : AcceptorState) (i : ℕ) → old.snapshot_position ≤ i → new.promised ≡ old.promised → new.snapshot_position ≡ i
         → new.votes ≡ filter (λ y. nat_lt i y.position) old.votes → TakesSnapshot old i new }
-    ensures promise { (s : Standing) (p : PromiseValue) → s.promised ≡ p.ballot → s.snapshot < p.first
+    ensures promise { (s : AcceptorState) (p : PromiseValue) → s.promised ≡ p.ballot → s.snapshot_position < p.first
         → p.votes ≡ filter (λ y. nat_le p.first y.position) s.votes → MayPromise s p }
 {}
 
@@ -130,7 +151,7 @@ pub fn every_world_agrees()
     ensures agree { (genesis : Genesis) (w : World) (L K : List Command) → Reaches genesis w
         → Chosen genesis w.sent L → Chosen genesis w.sent K → IsBeginning L K ⊎ IsBeginning K L }
     ensures kept { (genesis : Genesis) (w : World) (L : List Command) (i : ℕ) (v : Command) → Reaches genesis w
-        → Chosen genesis w.sent L → command_at L i ≡ Some v → IsKept genesis L i v (λ n state. state ≡ w.views n) }
+        → Chosen genesis w.sent L → command_at L i ≡ Some v → IsKept genesis w.sent L i v (λ n state. state ≡ w.views n) }
 {}
 
 /// Such worlds come about, and members change in them: the first command of a chosen list is decided by node 1 alone and
