@@ -6,7 +6,7 @@ use Rattle.lk_types.specs.Ranges.{IsNode, IsCount, IsTotal, IsAlpha}
 use Rattle.lk_types.specs.Ballots.{IsReal, IsMark}
 use Rattle.lk_types.specs.BallotValue.{BallotValue}
 use Rattle.lk_types.specs.Commands.{IsCommand, IsOp}
-use Rattle.lk_types.specs.Rosters.{IsMember, AreMembers, are_rising_above as are_members_above}
+use Rattle.lk_types.specs.Rosters.{IsMember, AreMembers, are_members_above}
 use Rattle.lk_types.specs.Votes.{IsVote}
 use Rattle.lk_types.specs.declared.command.Command.{Command}
 use Rattle.lk_types.specs.declared.command.Command.TheVariants.{Noop, Request}
@@ -17,18 +17,14 @@ use Rattle.lk_types.specs.declared.entry.Entry.TheVariants.{Promise, Vote, Decid
 use Rattle.lk_types.specs.declared.member.Member.{Member}
 use Rattle.lk_types.specs.declared.vote.Vote.{Vote as VoteValue}
 use Rattle.lk_wire.specs.Fields.{one, two, four, eight, ballot, member, op, command, vote, pair}
-use Rattle.lk_wire.specs.Parser.{◌>>=◌, byte_at, made, tested, sized, kind as kind_of, no_kind, whole}
-use Rattle.lk_wire.specs.FieldReading.{is_from_1_to, two_at, four_at, eight_at, node_at, count_at, total_at, ballot_at, mark_at, member_at, vote_at, pair_at}
-use Rattle.lk_wire.specs.Values.{are_rising_above}
-use Rattle.lk_wire.proofs.Codec.{IsBytes, IsBytes-drop, IsBytes-take, Took, Reads, bind_ok, some_is, fitting, both_reads, made_reads, tested_reads, byte_reads, whole_takes, whole_again}
-use Rattle.lk_wire.proofs.NumberLaws.{two_reads, four_reads, eight_reads, sized_reads}
-use Rattle.lk_wire.proofs.Repeats.{counted_reads}
-use Rattle.lk_wire.proofs.KindLaws.{TakesKinds, no_kind_takes, kind_takes, tagged_reads}
-use Rattle.lk_wire.proofs.FieldLaws.{ranged_reads, limited_reads, node_reads, count_reads, total_reads, ballot_reads, mark_reads, member_reads, vote_reads, pair_reads}
+use Rattle.lk_wire.specs.Parser.{◌>>=◌, read_byte, made, tested, sized, kind as kind_of, no_kind, whole}
+use Rattle.lk_wire.specs.FieldReading.{is_from_1_to, read_two, read_four, read_eight, read_node, read_count, read_total, read_ballot, read_mark, read_member, read_vote, read_pair}
+use Rattle.lk_wire.specs.Values.{are_votes_above}
+use Rattle.lk_wire.proofs.Spellings.{IsBytes, IsBytes-drop, IsBytes-take, Took, Reads, bind_ok, some_is, fitting, both_reads, made_reads, tested_reads, byte_reads, whole_takes, whole_again, two_reads, four_reads, eight_reads, sized_reads, counted_reads, TakesKinds, no_kind_takes, kind_takes, tagged_reads, ranged_reads, limited_reads, node_reads, count_reads, total_reads, ballot_reads, mark_reads, member_reads, vote_reads, pair_reads}
 use Rattle.lk_log.specs.Values.{HeaderValue, StandingValue, BaseValue}
 use Rattle.lk_log.specs.Headers.{IsHeader}
 use Rattle.lk_log.specs.Entries.{members, header, snapshot, votes, pairs, standing, base, kind, fields, body, spelling, IsPair, are_pairs_above, IsStanding, IsBase, IsEntry, IsStored}
-use Rattle.lk_log.specs.Parsing.{alpha_at, members_at, header_fields_at, header_at, snapshot_at, few_at, votes_at, pairs_at, is_in_order, standing_at, base_at, fields_at, body_at, size_at, within, entry_at, Gives}
+use Rattle.lk_log.specs.Parsing.{read_alpha, read_members, read_header_fields, read_header, read_snapshot, read_few, read_votes, read_pairs, is_in_order, read_standing, read_base, read_fields, read_body, read_size, within, read_entry, Gives}
 use Rattle.lk_log.specs.Files.{NoneBegins}
 use Rattle.lk_log.specs.declared.unread.Unread.{Unread}
 use Rattle.lk_log.specs.declared.unread.Unread.TheVariants.{NoEntry, NoMemory}
@@ -37,19 +33,19 @@ use Rattle.lk_log.specs.declared.stored.Stored.TheVariants.{Base, Plain}
 
 -- ---- the header
 
-alpha_reads : Reads alpha_at one IsAlpha
-unfolding alpha_at
-alpha_reads = ranged_reads 16 256 (omega arith) byte_at one byte_reads
+alpha_reads : Reads read_alpha one IsAlpha
+unfolding read_alpha
+alpha_reads = ranged_reads 16 256 (omega arith) read_byte one byte_reads
 
 AreAll : List Member → Type 0
 AreAll ms = AllByRecursion IsMember ms × AreMembers ms
 
-members_reads : Reads members_at members AreAll
-unfolding members_at AreAll
-members_reads = fitting members_at members (λ (ms : List Member). (((1 ≤ length ms) × (length ms ≤ 7)) × AllByRecursion IsMember ms) × (are_members_above 0 ms ≡ true)) AreAll
+members_reads : Reads read_members members AreAll
+unfolding read_members AreAll
+members_reads = fitting read_members members (λ (ms : List Member). (((1 ≤ length ms) × (length ms ≤ 7)) × AllByRecursion IsMember ms) × (are_members_above 0 ms ≡ true)) AreAll
     (λ ms f. (f.0.1, (f.0.0.0, f.0.0.1, f.1))) (λ ms f. (((f.1.0, f.1.1), f.0), f.1.2))
     (tested_reads (are_members_above 0) _ members _
-    (counted_reads (tested (is_from_1_to 7) byte_at) one _ (ranged_reads 7 256 (omega arith) byte_at one byte_reads) member_at member IsMember member_reads))
+    (counted_reads (tested (is_from_1_to 7) read_byte) one _ (ranged_reads 7 256 (omega arith) read_byte one byte_reads) read_member member IsMember member_reads))
 
 header_fields : HeaderValue → List ℕ
 header_fields h = eight h.cluster ++ (four h.node ++ (one h.alpha ++ members h.members))
@@ -57,30 +53,30 @@ header_fields h = eight h.cluster ++ (four h.node ++ (one h.alpha ++ members h.m
 header_of : ℕ × (ℕ × (ℕ × List Member)) → HeaderValue
 header_of h = record { node = h.1.0; cluster = h.0; alpha = h.1.1.0; members = h.1.1.1 }
 
-header_fields_reads : Reads header_fields_at header_fields IsHeader
+header_fields_reads : Reads read_header_fields header_fields IsHeader
 unfolding header_fields header_of AreAll
-header_fields_reads = fitting header_fields_at header_fields (λ (h : HeaderValue). (h.cluster < 2 ^ 64) × (IsNode h.node × (IsAlpha h.alpha × AreAll h.members))) IsHeader
+header_fields_reads = fitting read_header_fields header_fields (λ (h : HeaderValue). (h.cluster < 2 ^ 64) × (IsNode h.node × (IsAlpha h.alpha × AreAll h.members))) IsHeader
     (λ h f. (f.0, f.1.0, f.1.1.0, f.1.1.1.0, f.1.1.1.1)) (λ h f. (f.0, (f.1, (f.2, (f.3, f.4)))))
     (made_reads header_of (λ (h : HeaderValue). (h.cluster, (h.node, (h.alpha, h.members)))) (λ x. refl) (λ y. refl) _ _ _
-    (both_reads eight_at eight (λ n. n < 2 ^ 64) _ _ _ eight_reads (both_reads node_at four IsNode _ _ _ node_reads (both_reads alpha_at one IsAlpha members_at members AreAll alpha_reads members_reads))))
+    (both_reads read_eight eight (λ n. n < 2 ^ 64) _ _ _ eight_reads (both_reads read_node four IsNode _ _ _ node_reads (both_reads read_alpha one IsAlpha read_members members AreAll alpha_reads members_reads))))
 
-header_takes : TakesKinds (λ (h : HeaderValue). 1) header_fields IsHeader (kind_of 1 (made (λ (h : HeaderValue). h) header_fields_at) no_kind)
-header_takes = kind_takes (λ (h : HeaderValue). 1) header_fields IsHeader 1 (λ (h : HeaderValue). h) header_fields_at header_fields IsHeader header_fields_reads (λ y. refl) (λ y. refl) (λ y f. f) _
+header_takes : TakesKinds (λ (h : HeaderValue). 1) header_fields IsHeader (kind_of 1 (made (λ (h : HeaderValue). h) read_header_fields) no_kind)
+header_takes = kind_takes (λ (h : HeaderValue). 1) header_fields IsHeader 1 (λ (h : HeaderValue). h) read_header_fields header_fields IsHeader header_fields_reads (λ y. refl) (λ y. refl) (λ y f. f) _
     (no_kind_takes (λ (h : HeaderValue). 1) header_fields IsHeader)
 
-pub header_reads : Reads header_at header IsHeader
-unfolding header_at header_fields
+pub header_reads : Reads read_header header IsHeader
+unfolding read_header header_fields
 header_reads = tagged_reads (λ (h : HeaderValue). 1) header_fields IsHeader _ header_takes (λ h rest fits. rw (header_fields_reads.again h rest fits) refl)
 
 -- ---- the standing
 
-snapshot_reads : Reads snapshot_at snapshot (λ (text : List ℕ). (1 ≤ length text) × (length text ≤ 49152))
-unfolding snapshot_at
-snapshot_reads = sized_reads (tested (is_from_1_to 49152) four_at) four (λ n. (1 ≤ n) × (n ≤ 49152)) (ranged_reads 49152 (2 ^ 32) (omega arith) four_at four four_reads)
+snapshot_reads : Reads read_snapshot snapshot (λ (text : List ℕ). (1 ≤ length text) × (length text ≤ 49152))
+unfolding read_snapshot
+snapshot_reads = sized_reads (tested (is_from_1_to 49152) read_four) four (λ n. (1 ≤ n) × (n ≤ 49152)) (ranged_reads 49152 (2 ^ 32) (omega arith) read_four four four_reads)
 
-few_reads : Reads few_at two (λ n. n ≤ 32)
-unfolding few_at
-few_reads = limited_reads 32 (2 ^ 16) (omega arith) two_at two two_reads
+few_reads : Reads read_few two (λ n. n ≤ 32)
+unfolding read_few
+few_reads = limited_reads 32 (2 ^ 16) (omega arith) read_two two two_reads
 
 AreVotes : List VoteValue → Type 0
 AreVotes vs = (length vs ≤ 32) × AllByRecursion IsVote vs
@@ -88,13 +84,13 @@ AreVotes vs = (length vs ≤ 32) × AllByRecursion IsVote vs
 ArePairs : List (ℕ × Command) → Type 0
 ArePairs ps = (length ps ≤ 32) × AllByRecursion IsPair ps
 
-votes_reads : Reads votes_at votes AreVotes
-unfolding votes_at AreVotes
-votes_reads = counted_reads few_at two (λ n. n ≤ 32) few_reads vote_at vote IsVote vote_reads
+votes_reads : Reads read_votes votes AreVotes
+unfolding read_votes AreVotes
+votes_reads = counted_reads read_few two (λ n. n ≤ 32) few_reads read_vote vote IsVote vote_reads
 
-pairs_reads : Reads pairs_at pairs ArePairs
-unfolding pairs_at ArePairs
-pairs_reads = counted_reads few_at two (λ n. n ≤ 32) few_reads pair_at pair IsPair pair_reads
+pairs_reads : Reads read_pairs pairs ArePairs
+unfolding read_pairs ArePairs
+pairs_reads = counted_reads read_few two (λ n. n ≤ 32) few_reads read_pair pair IsPair pair_reads
 
 standing_of : BallotValue × (ℕ × (List ℕ × (List VoteValue × List (ℕ × Command)))) → StandingValue
 standing_of s = record { promised = s.0; position = s.1.0; snapshot = s.1.1.0; votes = s.1.1.1.0; pairs = s.1.1.1.1 }
@@ -113,29 +109,29 @@ Parts s = IsMark s.promised × (IsTotal s.position × (((1 ≤ length s.snapshot
 parts_fit : (s : StandingValue) → Parts s × (is_in_order s ≡ true) → IsStanding s
 unfolding Parts AreVotes ArePairs
 parts_fit s f =
-    let order = both_true (are_rising_above s.position s.votes) (are_pairs_above s.position s.pairs) f.1 in
+    let order = both_true (are_votes_above s.position s.votes) (are_pairs_above s.position s.pairs) f.1 in
     (f.0.0, f.0.1.0, f.0.1.1.0.0, f.0.1.1.0.1, f.0.1.1.1.0.0, f.0.1.1.1.0.1, order.0, f.0.1.1.1.1.0, f.0.1.1.1.1.1, order.1)
 
 fit_parts : (s : StandingValue) → IsStanding s → Parts s × (is_in_order s ≡ true)
 unfolding Parts AreVotes ArePairs
-fit_parts s f = ((f.0, (f.1, ((f.2, f.3), ((f.4, f.5), (f.7, f.8))))), are_true (are_rising_above s.position s.votes) (are_pairs_above s.position s.pairs) f.6 f.9)
+fit_parts s f = ((f.0, (f.1, ((f.2, f.3), ((f.4, f.5), (f.7, f.8))))), are_true (are_votes_above s.position s.votes) (are_pairs_above s.position s.pairs) f.6 f.9)
 
-standing_reads : Reads standing_at standing IsStanding
-unfolding standing_at standing_of Parts
-standing_reads = fitting standing_at standing (λ (s : StandingValue). Parts s × (is_in_order s ≡ true)) IsStanding parts_fit fit_parts
+standing_reads : Reads read_standing standing IsStanding
+unfolding read_standing standing_of Parts
+standing_reads = fitting read_standing standing (λ (s : StandingValue). Parts s × (is_in_order s ≡ true)) IsStanding parts_fit fit_parts
     (tested_reads is_in_order _ standing Parts
     (made_reads standing_of (λ (s : StandingValue). (s.promised, (s.position, (s.snapshot, (s.votes, s.pairs))))) (λ x. refl) (λ y. refl) _ _ _
-    (both_reads mark_at ballot IsMark _ _ _ mark_reads (both_reads total_at eight IsTotal _ _ _ total_reads (both_reads snapshot_at snapshot (λ (text : List ℕ). (1 ≤ length text) × (length text ≤ 49152)) _ _ _ snapshot_reads
-    (both_reads votes_at votes AreVotes pairs_at pairs ArePairs votes_reads pairs_reads))))))
+    (both_reads read_mark ballot IsMark _ _ _ mark_reads (both_reads read_total eight IsTotal _ _ _ total_reads (both_reads read_snapshot snapshot (λ (text : List ℕ). (1 ≤ length text) × (length text ≤ 49152)) _ _ _ snapshot_reads
+    (both_reads read_votes votes AreVotes read_pairs pairs ArePairs votes_reads pairs_reads))))))
 
 base_of : ℕ × (HeaderValue × StandingValue) → BaseValue
 base_of b = record { generation = b.0; header = b.1.0; standing = b.1.1 }
 
-base_reads : Reads base_at base IsBase
-unfolding base_at base base_of
-base_reads = fitting base_at base (λ (b : BaseValue). IsCount b.generation × (IsHeader b.header × IsStanding b.standing)) IsBase (λ b f. (f.0, f.1.0, f.1.1)) (λ b f. (f.0, (f.1, f.2)))
+base_reads : Reads read_base base IsBase
+unfolding read_base base base_of
+base_reads = fitting read_base base (λ (b : BaseValue). IsCount b.generation × (IsHeader b.header × IsStanding b.standing)) IsBase (λ b f. (f.0, f.1.0, f.1.1)) (λ b f. (f.0, (f.1, f.2)))
     (made_reads base_of (λ (b : BaseValue). (b.generation, (b.header, b.standing))) (λ x. refl) (λ y. refl) _ _ _
-    (both_reads count_at eight IsCount _ _ _ count_reads (both_reads header_at header IsHeader standing_at standing IsStanding header_reads standing_reads)))
+    (both_reads read_count eight IsCount _ _ _ count_reads (both_reads read_header header IsHeader read_standing standing IsStanding header_reads standing_reads)))
 
 -- ---- the body of an entry
 
@@ -143,30 +139,30 @@ abbrev IsBody : Stored → Type 0
 IsBody (Base b) = IsBase b
 IsBody (Plain e) = IsEntry e
 
-fields_takes : TakesKinds kind fields IsBody fields_at
-unfolding fields_at
+fields_takes : TakesKinds kind fields IsBody read_fields
+unfolding read_fields
 fields_takes =
-    kind_takes kind fields IsBody 1 Base base_at base IsBase base_reads (λ y. refl) (λ y. refl) (λ y f. f) _
-    (kind_takes kind fields IsBody 2 (λ (b : BallotValue). Plain (Promise b)) ballot_at ballot IsReal ballot_reads (λ y. refl) (λ y. refl) (λ y f. f) _
-    (kind_takes kind fields IsBody 3 (λ (v : VoteValue). Plain (Vote v)) vote_at vote IsVote vote_reads (λ y. refl) (λ y. refl) (λ y f. f) _
-    (kind_takes kind fields IsBody 4 (λ (p : ℕ × Command). Plain (Decided p.0 p.1)) pair_at pair IsPair pair_reads (λ y. refl) (λ y. refl) (λ y f. f) _
+    kind_takes kind fields IsBody 1 Base read_base base IsBase base_reads (λ y. refl) (λ y. refl) (λ y f. f) _
+    (kind_takes kind fields IsBody 2 (λ (b : BallotValue). Plain (Promise b)) read_ballot ballot IsReal ballot_reads (λ y. refl) (λ y. refl) (λ y f. f) _
+    (kind_takes kind fields IsBody 3 (λ (v : VoteValue). Plain (Vote v)) read_vote vote IsVote vote_reads (λ y. refl) (λ y. refl) (λ y f. f) _
+    (kind_takes kind fields IsBody 4 (λ (p : ℕ × Command). Plain (Decided p.0 p.1)) read_pair pair IsPair pair_reads (λ y. refl) (λ y. refl) (λ y f. f) _
     (no_kind_takes kind fields IsBody))))
 
-fields_again : (e : Stored) (rest : List ℕ) → IsBody e → fields_at (kind e) (fields e ++ rest) ≡ Some (e, rest)
-unfolding fields_at
+fields_again : (e : Stored) (rest : List ℕ) → IsBody e → read_fields (kind e) (fields e ++ rest) ≡ Some (e, rest)
+unfolding read_fields
 fields_again (Base b) rest fits = rw (base_reads.again b rest fits) refl
 fields_again (Plain (Promise b)) rest fits = rw (ballot_reads.again b rest fits) refl
 fields_again (Plain (Vote v)) rest fits = rw (vote_reads.again v rest fits) refl
 fields_again (Plain (Decided position c)) rest fits = rw (pair_reads.again (position, c) rest fits) refl
 
-body_reads : Reads body_at body IsBody
-body_reads = tagged_reads kind fields IsBody fields_at fields_takes fields_again
+body_reads : Reads read_body body IsBody
+body_reads = tagged_reads kind fields IsBody read_fields fields_takes fields_again
 
 -- ---- the length before it
 
-size_reads : Reads size_at four (λ n. n ≤ 49148)
-unfolding size_at
-size_reads = limited_reads 49148 (2 ^ 32) (omega arith) four_at four four_reads
+size_reads : Reads read_size four (λ n. n ≤ 49148)
+unfolding read_size
+size_reads = limited_reads 49148 (2 ^ 32) (omega arith) read_four four four_reads
 
 bytes_between : (a text rest bytes : List ℕ) → bytes ≡ (a ++ text) ++ rest → IsBytes bytes → IsBytes text
 bytes_between a text rest bytes is h =
@@ -230,23 +226,23 @@ fits_stored : (e : Stored) → IsStored e → IsBody e × (length (body e) ≤ 4
 fits_stored (Base b) f = (f.0, omega (arith, f.1))
 fits_stored (Plain e) f = (f, plain_short e f)
 
-pub entry_reads : Reads entry_at spelling IsStored
-unfolding entry_at spelling
-entry_reads = fitting entry_at spelling (λ (e : Stored). IsBody e × (length (body e) ≤ 49148)) IsStored stored_fits fits_stored (within_reads size_at four (λ n. n ≤ 49148) size_reads body_at body IsBody body_reads)
+pub entry_reads : Reads read_entry spelling IsStored
+unfolding read_entry spelling
+entry_reads = fitting read_entry spelling (λ (e : Stored). IsBody e × (length (body e) ≤ 49148)) IsStored stored_fits fits_stored (within_reads read_size four (λ n. n ≤ 49148) size_reads read_body body IsBody body_reads)
 
 pub body_short : (e : Stored) → IsStored e → length (body e) ≤ 49148
 body_short e f = (fits_stored e f).1
 
 -- ---- the entry in front
 
-pub is_found : {Y : Type 0} (view : Y → Stored × List ℕ) (bytes : List ℕ) (result : Result Y Unread) → IsBytes bytes → Gives view result (entry_at bytes) → IfOk result (λ y. IsStored (view y).0 × (bytes ≡ spelling (view y).0 ++ (view y).1))
+pub is_found : {Y : Type 0} (view : Y → Stored × List ℕ) (bytes : List ℕ) (result : Result Y Unread) → IsBytes bytes → Gives view result (read_entry bytes) → IfOk result (λ y. IsStored (view y).0 × (bytes ≡ spelling (view y).0 ++ (view y).1))
 is_found view bytes (Ok y) h given = let t = entry_reads.takes bytes (view y).0 (view y).1 h given in (t.fits, t.parts)
 is_found view bytes (Err e) h given = tt
 
-pub none_at : (bytes : List ℕ) → entry_at bytes ≡ None → NoneBegins bytes
-none_at bytes none e more fits is = let some : entry_at bytes ≡ Some (e, more) = ap entry_at is ∙ entry_reads.again e more fits in absurd cc
+pub none_at : (bytes : List ℕ) → read_entry bytes ≡ None → NoneBegins bytes
+none_at bytes none e more fits is = let some : read_entry bytes ≡ Some (e, more) = ap read_entry is ∙ entry_reads.again e more fits in absurd cc
 
-pub is_none : {Y : Type 0} (view : Y → Stored × List ℕ) (bytes : List ℕ) (result : Result Y Unread) → Gives view result (entry_at bytes) → result ≡ Err NoEntry → NoneBegins bytes
+pub is_none : {Y : Type 0} (view : Y → Stored × List ℕ) (bytes : List ℕ) (result : Result Y Unread) → Gives view result (read_entry bytes) → result ≡ Err NoEntry → NoneBegins bytes
 is_none view bytes (Ok y) given bad = absurd cc
 is_none view bytes (Err NoEntry) given bad = none_at bytes given
 is_none view bytes (Err NoMemory) given bad = absurd cc

@@ -6,9 +6,10 @@ use Rattle.std.proofs.lemmas.Bool.Decides.{nat_tests}
 use Rattle.std.proofs.lemmas.Bool.{ltb-true, ltb-false, lt-ltb, eqb-true, eq-eqb}
 use Rattle.lk_types.specs.declared.command.Command.{Command}
 use Rattle.lk_types.specs.declared.vote.Vote.{Vote}
-use Rattle.lk_wire.specs.Values.{are_rising_above}
+use Rattle.lk_wire.specs.Values.{are_votes_above}
 use Rattle.lk_log.specs.Entries.{are_pairs_above}
-use Rattle.lk_log.specs.Standings.{is_below, better, best_from, vote_at, decided_at, votes_below, with_vote, pairs_below, with_pair}
+use Rattle.lk_types.specs.Ballots.{is_below}
+use Rattle.lk_log.specs.Standings.{better, best_from, vote_at, decided_at, votes_below, with_vote, pairs_below, with_pair}
 
 -- the two ways of a test
 bool_cases : (b : Bool) → (b ≡ true) ⊎ (b ≡ false)
@@ -31,14 +32,14 @@ eqb-ne a b e = grind (arith, nat_tests)
 
 -- ---- votes
 
-above_low : (low : ℕ) (v : Vote) (vs : List Vote) → are_rising_above low (v ∷ vs) ≡ true → (low < v.position) × (are_rising_above v.position vs ≡ true)
-above_low low v vs e = let b = and_both (ltb low v.position) (are_rising_above v.position vs) e in (ltb-true low v.position b.0, b.1)
+above_low : (low : ℕ) (v : Vote) (vs : List Vote) → are_votes_above low (v ∷ vs) ≡ true → (low < v.position) × (are_votes_above v.position vs ≡ true)
+above_low low v vs e = let b = and_both (ltb low v.position) (are_votes_above v.position vs) e in (ltb-true low v.position b.0, b.1)
 
-low_above : (low : ℕ) (v : Vote) (vs : List Vote) → low < v.position → are_rising_above v.position vs ≡ true → are_rising_above low (v ∷ vs) ≡ true
-low_above low v vs less e = both_and (ltb low v.position) (are_rising_above v.position vs) (lt-ltb low v.position less) e
+low_above : (low : ℕ) (v : Vote) (vs : List Vote) → low < v.position → are_votes_above v.position vs ≡ true → are_votes_above low (v ∷ vs) ≡ true
+low_above low v vs less e = both_and (ltb low v.position) (are_votes_above v.position vs) (lt-ltb low v.position less) e
 
 -- none stands at or below where they rise from
-none_at : (i low : ℕ) (vs : List Vote) → are_rising_above low vs ≡ true → i ≤ low → vote_at i vs ≡ None
+none_at : (i low : ℕ) (vs : List Vote) → are_votes_above low vs ≡ true → i ≤ low → vote_at i vs ≡ None
 none_at i low [] e h = refl
 none_at i low (v ∷ vs) e h =
     let b = above_low low v vs e in
@@ -49,7 +50,7 @@ none_at i low (v ∷ vs) e h =
 abbrev pub vote_then : ℕ → Option Vote → Vote → Option Vote
 vote_then i o v = cond (eqb v.position i) (better o v) o
 
-pub vote_at-with : (i low : ℕ) (v : Vote) (vs : List Vote) → are_rising_above low vs ≡ true → vote_at i (with_vote v vs) ≡ vote_then i (vote_at i vs) v
+pub vote_at-with : (i low : ℕ) (v : Vote) (vs : List Vote) → are_votes_above low vs ≡ true → vote_at i (with_vote v vs) ≡ vote_then i (vote_at i vs) v
 vote_at-with i low v [] e = refl
 vote_at-with i low v (w ∷ ws) e =
     let b = above_low low w ws e in
@@ -94,7 +95,7 @@ vote_at-with i low v (w ∷ ws) e =
           ]
         ]
 
-pub rising-with : (low : ℕ) (v : Vote) (vs : List Vote) → are_rising_above low vs ≡ true → low < v.position → are_rising_above low (with_vote v vs) ≡ true
+pub rising-with : (low : ℕ) (v : Vote) (vs : List Vote) → are_votes_above low vs ≡ true → low < v.position → are_votes_above low (with_vote v vs) ≡ true
 rising-with low v [] e less = low_above low v [] less refl
 rising-with low v (w ∷ ws) e less =
     let b = above_low low w ws e in
@@ -104,7 +105,7 @@ rising-with low v (w ∷ ws) e less =
         | inl same ↦
             let at : w.position ≡ v.position = eqb-true w.position v.position same in
             elim (bool_cases (is_below w.ballot v.ballot)) [
-              | inl below ↦ rw (not_before, same, below) (low_above low v ws less (subst (λ (p : ℕ). are_rising_above p ws ≡ true) at b.1))
+              | inl below ↦ rw (not_before, same, below) (low_above low v ws less (subst (λ (p : ℕ). are_votes_above p ws ≡ true) at b.1))
               | inr above ↦ rw (not_before, same, above) (low_above low w ws b.0 b.1)
             ]
         | inr differs ↦
@@ -119,7 +120,7 @@ pub best-push : (i : ℕ) (o : Option Vote) (vs : List Vote) (v : Vote) → best
 best-push i o [] v = refl
 best-push i o (w ∷ vs) v = best-push i (vote_then i o w) vs v
 
-best-none : (i low : ℕ) (o : Option Vote) (vs : List Vote) → are_rising_above low vs ≡ true → i ≤ low → best_from i o vs ≡ o
+best-none : (i low : ℕ) (o : Option Vote) (vs : List Vote) → are_votes_above low vs ≡ true → i ≤ low → best_from i o vs ≡ o
 best-none i low o [] e h = refl
 best-none i low o (v ∷ vs) e h =
     let b = above_low low v vs e in
@@ -127,7 +128,7 @@ best-none i low o (v ∷ vs) e h =
     rw other (best-none i v.position o vs b.1 (omega arith))
 
 -- where positions rise there is one vote at most
-pub best-rising : (i low : ℕ) (vs : List Vote) → are_rising_above low vs ≡ true → vote_at i vs ≡ best_from i None vs
+pub best-rising : (i low : ℕ) (vs : List Vote) → are_votes_above low vs ≡ true → vote_at i vs ≡ best_from i None vs
 best-rising i low [] e = refl
 best-rising i low (v ∷ vs) e =
     let b = above_low low v vs e in

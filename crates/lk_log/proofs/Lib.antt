@@ -1,12 +1,14 @@
-pub mod HeaderLaws
-pub mod EntryLaws
-pub mod Spelling
-pub mod Torn
-pub mod Whole
-pub mod ImageLaws
-pub mod Steps
-pub mod Settle
-pub mod InOrder
-pub mod StandingLaws
-pub mod BeginLaws
-pub mod RecoverLaws
+mod HeaderLaws
+mod EntryLaws
+mod Spelling
+mod Torn
+mod Whole
+mod ImageLaws
+mod Steps
+mod Settle
+mod InOrder
+mod StandingLaws
+mod BeginLaws
+mod RecoverLaws
+mod OneStanding
+pub mod StoreLaws

@@ -7,7 +7,7 @@ use Rattle.std.proofs.lemmas.List.{append-nil, take-take, take_all, take_at, len
 use Rattle.lk_disk.specs.Disk.{Disk, contents, cut_to, flushed, CutShort, MayLeave}
 use Rattle.lk_disk.specs.declared.device.Side.{Side}
 use Rattle.lk_log.specs.Entries.{spelling_of_all, IsStored}
-use Rattle.lk_log.specs.Files.{IsWhole, IsFile}
+use Rattle.lk_log.specs.Files.{AreWholeEntries, IsFile}
 use Rattle.lk_log.specs.Images.{is_misplaced, generation, Narrows}
 use Rattle.lk_log.specs.Stores.{IsOlder, HoldsOn, FileNarrows}
 use Rattle.lk_log.specs.declared.stored.Stored.{Stored}
@@ -47,7 +47,7 @@ all_synced : (d : Disk) (bytes c : List ℕ) → d ≡ record { synced = bytes; 
 all_synced d bytes c is left = left.1 ∙ (λ i. (is i).synced ++ take left.0 (is i).unsynced) ∙ ap (λ (l : List ℕ). bytes ++ l) (take_nil left.0) ∙ append-nil bytes
 
 -- cut behind its whole entries a file is these
-pub cut_whole : (d : Disk) (n : ℕ) (es : List Stored) → IsWhole (contents d) es → n ≡ length (spelling_of_all es) → take n (contents d) ≡ spelling_of_all es
+pub cut_whole : (d : Disk) (n : ℕ) (es : List Stored) → AreWholeEntries (contents d) es → n ≡ length (spelling_of_all es) → take n (contents d) ≡ spelling_of_all es
 cut_whole d n es w end = ap (λ (l : List ℕ). take n l) w.is ∙ take_at (spelling_of_all es) w.rest n (sym end)
 
 pub cut_narrows : (old new : Disk) (n : ℕ) (es : List Stored) → IsFile (contents old) es false → n ≡ length (spelling_of_all es) → new ≡ cut_to n old → FileNarrows old new
@@ -84,7 +84,7 @@ short_narrows old new n es f end short c left = elim (cases_lt (length c) (lengt
 ]
 
 -- nothing stands behind the whole entries
-pub nothing_behind : (d : Disk) (es : List Stored) → IsWhole (contents d) es → length (contents d) ≤ length (spelling_of_all es) → contents d ≡ spelling_of_all es
+pub nothing_behind : (d : Disk) (es : List Stored) → AreWholeEntries (contents d) es → length (contents d) ≤ length (spelling_of_all es) → contents d ≡ spelling_of_all es
 nothing_behind d es w short =
     let nothing : w.rest ≡ [] = nil_from_length w.rest (omega (arith, ap length w.is, length-append (spelling_of_all es) w.rest)) in
     w.is ∙ ap (λ (l : List ℕ). spelling_of_all es ++ l) nothing ∙ append-nil (spelling_of_all es)
@@ -101,5 +101,5 @@ settled mid new o o' es fit placed is sync same older =
       older = subst (λ (d : Disk). IsOlder d (generation es)) (sym same) older;
     }
 
-pub cut_contents : (old new : Disk) (n : ℕ) (es : List Stored) → IsWhole (contents old) es → n ≡ length (spelling_of_all es) → new ≡ cut_to n old → contents new ≡ spelling_of_all es
+pub cut_contents : (old new : Disk) (n : ℕ) (es : List Stored) → AreWholeEntries (contents old) es → n ≡ length (spelling_of_all es) → new ≡ cut_to n old → contents new ≡ spelling_of_all es
 cut_contents old new n es w end is = ap contents is ∙ append-nil (take n (contents old)) ∙ cut_whole old n es w end

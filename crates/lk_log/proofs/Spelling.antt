@@ -3,18 +3,18 @@ use Rattle.std.proofs.Common.{◌≡◌, ℕ, zero, suc, ◌+◌, ◌<◌, List,
 use Rattle.std.specs.List.{AllByRecursion}
 use Rattle.std.proofs.lemmas.List.{append-nil, length-take}
 use Rattle.lk_wire.specs.Fields.{four}
-use Rattle.lk_wire.proofs.Codec.{one_front}
-use Rattle.lk_log.specs.Entries.{body, spelling, spelling_of_all, IsStored, Spells}
+use Rattle.lk_wire.proofs.Spellings.{one_front}
+use Rattle.lk_log.specs.Entries.{body, spelling, spelling_of_all, IsStored, SpellsEntry}
 use Rattle.lk_log.specs.Files.{NoneBegins}
-use Rattle.lk_log.specs.Parsing.{entry_at}
+use Rattle.lk_log.specs.Parsing.{read_entry}
 use Rattle.lk_log.specs.declared.stored.Stored.{Stored}
 use Rattle.lk_log.proofs.EntryLaws.{entry_reads}
 
 pub same_front : (e f : Stored) (x y : List ℕ) → IsStored e → IsStored f → spelling e ++ x ≡ spelling f ++ y → (e ≡ f) × (x ≡ y)
-same_front e f x y = one_front entry_at spelling IsStored entry_reads e f x y
+same_front e f x y = one_front read_entry spelling IsStored entry_reads e f x y
 
 -- bytes spell one entry at most
-pub one_entry : (e f : Stored) (bytes : List ℕ) → Spells e bytes → Spells f bytes → e ≡ f
+pub one_entry : (e f : Stored) (bytes : List ℕ) → SpellsEntry e bytes → SpellsEntry f bytes → e ≡ f
 one_entry e f bytes a b = (same_front e f [] [] a.0 b.0 (append-nil (spelling e) ∙ sym a.1 ∙ b.1 ∙ sym (append-nil (spelling f)))).0
 
 pub spelled_long : (e : Stored) → 0 < length (spelling e)

@@ -5,15 +5,15 @@ use Rattle.std.proofs.lemmas.Bool.Decides.{nat_tests}
 use Rattle.std.proofs.lemmas.Bool.{ltb-true}
 use Rattle.std.proofs.lemmas.List.{append-nil}
 use Rattle.lk_types.specs.BallotValue.{BallotValue}
-use Rattle.lk_types.specs.Ballots.{zero_ballot}
+use Rattle.lk_types.specs.Ballots.{is_below, zero_ballot}
 use Rattle.lk_types.specs.declared.command.Command.{Command}
 use Rattle.lk_types.specs.declared.entry.Entry.{Entry}
 use Rattle.lk_types.specs.declared.entry.Entry.TheVariants.{Promise, Vote, Decided}
 use Rattle.lk_types.specs.declared.vote.Vote.{Vote as VoteValue}
-use Rattle.lk_wire.specs.Values.{are_rising_above}
+use Rattle.lk_wire.specs.Values.{are_votes_above}
 use Rattle.lk_log.specs.Entries.{are_pairs_above, IsBase, IsStored}
 use Rattle.lk_log.specs.Images.{has_base, is_misplaced, generation}
-use Rattle.lk_log.specs.Standings.{is_below, greater, greatest_of, ballot_of, ballots_in, ballots, votes_in, all_votes, pairs_in, all_pairs, best_vote, vote_at, decided_at, HasSnapshot, StandsFor, with_vote, with_pair, with_plain, of_base}
+use Rattle.lk_log.specs.Standings.{greater, greatest_of, ballot_of, ballots_in, ballots, votes_in, all_votes, pairs_in, all_pairs, best_vote, vote_at, decided_at, HasSnapshot, StandsFor, with_vote, with_pair, with_plain, of_base}
 use Rattle.lk_log.specs.Values.{StandingValue, BaseValue}
 use Rattle.lk_log.specs.declared.stored.Stored.{Stored}
 use Rattle.lk_log.specs.declared.stored.Stored.TheVariants.{Base, Plain}
@@ -66,10 +66,10 @@ module _ (es : List Stored) (s : StandingValue) (h : StandsFor es s) where
       by_test true e = vote_at-with i s.position v s.votes h.votes_rise
       by_test false e = let other = apart i s.position v.position above e in rw other refl
 
-  votes_still_rise : (v : VoteValue) → are_rising_above s.position (cond (ltb s.position v.position) (with_vote v s.votes) s.votes) ≡ true
+  votes_still_rise : (v : VoteValue) → are_votes_above s.position (cond (ltb s.position v.position) (with_vote v s.votes) s.votes) ≡ true
   votes_still_rise v = by_test (ltb s.position v.position) refl
     where
-      by_test : (b : Bool) → ltb s.position v.position ≡ b → are_rising_above s.position (cond b (with_vote v s.votes) s.votes) ≡ true
+      by_test : (b : Bool) → ltb s.position v.position ≡ b → are_votes_above s.position (cond b (with_vote v s.votes) s.votes) ≡ true
       by_test true e = rising-with s.position v s.votes h.votes_rise (ltb-true s.position v.position e)
       by_test false e = h.votes_rise
 

@@ -4,10 +4,10 @@ use Rattle.std.specs.List.{AllByRecursion}
 use Rattle.std.proofs.Math.Seq.{take-append-add}
 use Rattle.std.proofs.lemmas.Bool.{cases_lt}
 use Rattle.std.proofs.lemmas.List.{append_cancel_left, append-nil, take-append-le, take_all, nil_from_length}
-use Rattle.lk_wire.proofs.Codec.{IsBytes}
+use Rattle.lk_wire.proofs.Spellings.{IsBytes}
 use Rattle.lk_log.specs.Entries.{spelling, spelling_of_all, IsStored}
-use Rattle.lk_log.specs.Files.{NoneBegins, IsWhole, is_torn, IsFile}
-use Rattle.lk_log.specs.Parsing.{entry_at}
+use Rattle.lk_log.specs.Files.{NoneBegins, AreWholeEntries, is_torn, IsFile}
+use Rattle.lk_log.specs.Parsing.{read_entry}
 use Rattle.lk_log.specs.declared.stored.Stored.{Stored}
 use Rattle.lk_log.proofs.EntryLaws.{entry_reads, none_at}
 use Rattle.lk_log.proofs.Spelling.{same_front, spelled_long, front_begins_none, none_begins_nil, spelled-append, all-append, all-take}
@@ -44,7 +44,7 @@ front n (e ∷ es) fit = elim (cases_lt n (length (spelling e))) [
       }
 ]
 
-pub whole_unique : (es fs : List Stored) (c d : List ℕ) → c ≡ d → IsWhole c es → IsWhole d fs → es ≡ fs
+pub whole_unique : (es fs : List Stored) (c d : List ℕ) → c ≡ d → AreWholeEntries c es → AreWholeEntries d fs → es ≡ fs
 whole_unique [] [] c d same a b = refl
 whole_unique [] (f ∷ fs) c d same a b = absurd (a.ends f (spelling_of_all fs ++ b.rest) b.fit.0 (sym a.is ∙ same ∙ b.is ∙ append_assoc (spelling f) (spelling_of_all fs) b.rest))
 whole_unique (e ∷ es) [] c d same a b = absurd (b.ends e (spelling_of_all es ++ a.rest) a.fit.0 (sym b.is ∙ sym same ∙ a.is ∙ append_assoc (spelling e) (spelling_of_all es) a.rest))
@@ -56,7 +56,7 @@ whole_unique (e ∷ es) (f ∷ fs) c d same a b =
     whole_unique es fs (spelling_of_all es ++ a.rest) (spelling_of_all fs ++ b.rest) heads.1 (record { fit = a.fit.1; rest = a.rest; is = refl; ends = a.ends }) (record { fit = b.fit.1; rest = b.rest; is = refl; ends = b.ends }) in
     λ i. heads.0 i ∷ rests i
 
-pub rest_unique : (es fs : List Stored) (c : List ℕ) (a : IsWhole c es) (b : IsWhole c fs) → a.rest ≡ b.rest
+pub rest_unique : (es fs : List Stored) (c : List ℕ) (a : AreWholeEntries c es) (b : AreWholeEntries c fs) → a.rest ≡ b.rest
 rest_unique es fs c a b =
     let same : es ≡ fs = whole_unique es fs c c refl a b in
     append_cancel_left (spelling_of_all es) a.rest b.rest (sym a.is ∙ b.is ∙ ap (λ (l : List Stored). spelling_of_all l ++ b.rest) (sym same))
@@ -96,7 +96,7 @@ pub record FrontFile (n : ℕ) (c : List ℕ) (es : List Stored) : Type 0 where
   pub is_damaged : Bool
   pub file : IsFile (take n c) (take count es) is_damaged
 
-pub front_file : (n : ℕ) (c : List ℕ) (es : List Stored) (w : IsWhole c es) → FrontFile n c es
+pub front_file : (n : ℕ) (c : List ℕ) (es : List Stored) (w : AreWholeEntries c es) → FrontFile n c es
 front_file n c es w = elim (cases_lt (length (spelling_of_all es)) n) [
   | inl past ↦
       let at : n ≡ length (spelling_of_all es) + (n - length (spelling_of_all es)) = omega arith in
@@ -148,9 +148,9 @@ front_past n c es f past =
 
 record HasWhole (bytes : List ℕ) : Type 0 where
   entries : List Stored
-  whole : IsWhole bytes entries
+  whole : AreWholeEntries bytes entries
 
-decided : (n : ℕ) → ((b : List ℕ) → length b ≤ n → IsBytes b → HasWhole b) → (bytes : List ℕ) → length bytes ≤ suc n → IsBytes bytes → (r : Option (Stored × List ℕ)) → entry_at bytes ≡ r → HasWhole bytes
+decided : (n : ℕ) → ((b : List ℕ) → length b ≤ n → IsBytes b → HasWhole b) → (bytes : List ℕ) → length bytes ≤ suc n → IsBytes bytes → (r : Option (Stored × List ℕ)) → read_entry bytes ≡ r → HasWhole bytes
 decided n shorter bytes short fits None e = record { entries = []; whole = record { fit = tt; rest = bytes; is = refl; ends = none_at bytes e } }
 decided n shorter bytes short fits (Some x) e =
     let t = entry_reads.takes bytes x.0 x.1 fits e in
@@ -167,7 +167,7 @@ decided n shorter bytes short fits (Some x) e =
 
 has_whole : (n : ℕ) (bytes : List ℕ) → length bytes ≤ n → IsBytes bytes → HasWhole bytes
 has_whole zero bytes short fits = record { entries = []; whole = record { fit = tt; rest = []; is = nil_from_length bytes (omega arith); ends = none_begins_nil } }
-has_whole (suc n) bytes short fits = decided n (λ b s f. has_whole n b s f) bytes short fits (entry_at bytes) refl
+has_whole (suc n) bytes short fits = decided n (λ b s f. has_whole n b s f) bytes short fits (read_entry bytes) refl
 
-pub every_whole : (bytes : List ℕ) → IsBytes bytes → (es : List Stored) × IsWhole bytes es
+pub every_whole : (bytes : List ℕ) → IsBytes bytes → (es : List Stored) × AreWholeEntries bytes es
 every_whole bytes fits = let h = has_whole (length bytes) bytes (omega arith) fits in (h.entries, h.whole)

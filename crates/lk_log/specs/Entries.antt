@@ -1,6 +1,7 @@
 -- The one spelling of each entry of a file, and which entries fit.
 use Rattle.std.specs.Prelude.{◌≡◌, ℕ, ◌+◌, ◌≤◌, Bool, true, nat_lt, ◌&&◌, List, [], ◌∷◌, ◌++◌, length, IsTrue}
 use Rattle.std.specs.List.{flat_map, AllByRecursion}
+use Rattle.lk_types.specs.Limits.{max_votes, max_base}
 use Rattle.lk_types.specs.Ranges.{IsCount, IsTotal}
 use Rattle.lk_types.specs.Ballots.{IsReal, IsMark}
 use Rattle.lk_types.specs.Commands.{IsCommand}
@@ -11,7 +12,7 @@ use Rattle.lk_types.specs.declared.entry.Entry.TheVariants.{Promise, Vote, Decid
 use Rattle.lk_types.specs.declared.member.Member.{Member}
 use Rattle.lk_types.specs.declared.vote.Vote.{Vote as VoteValue}
 use Rattle.lk_wire.specs.Fields.{one, two, four, eight, ballot, member, vote, pair}
-use Rattle.lk_wire.specs.Values.{are_rising_above}
+use Rattle.lk_wire.specs.Values.{are_votes_above}
 use Rattle.lk_log.specs.Headers.{IsHeader}
 use Rattle.lk_log.specs.Values.{HeaderValue, StandingValue, BaseValue}
 use Rattle.lk_log.specs.declared.stored.Stored.{Stored}
@@ -79,9 +80,9 @@ are_pairs_above low (p ∷ ps) = nat_lt low p.0 && are_pairs_above p.0 ps
 -- a snapshot, and above it at most 32 votes and at most 32 pairs, each strictly rising by position
 abbrev pub IsStanding : StandingValue → Type 0
 IsStanding s = IsMark s.promised × IsTotal s.position
-    × (1 ≤ length s.snapshot) × (length s.snapshot ≤ 49152)
-    × (length s.votes ≤ 32) × AllByRecursion IsVote s.votes × IsTrue (are_rising_above s.position s.votes)
-    × (length s.pairs ≤ 32) × AllByRecursion IsPair s.pairs × IsTrue (are_pairs_above s.position s.pairs)
+    × (1 ≤ length s.snapshot) × (length s.snapshot ≤ max_base)
+    × (length s.votes ≤ max_votes) × AllByRecursion IsVote s.votes × IsTrue (are_votes_above s.position s.votes)
+    × (length s.pairs ≤ max_votes) × AllByRecursion IsPair s.pairs × IsTrue (are_pairs_above s.position s.pairs)
 
 abbrev pub IsBase : BaseValue → Type 0
 IsBase b = IsCount b.generation × IsHeader b.header × IsStanding b.standing
@@ -93,9 +94,9 @@ IsEntry (Decided position c) = IsCount position × IsCommand c
 
 -- a whole Base has at most 49,152 bytes, with the four of its length
 abbrev pub IsStored : Stored → Type 0
-IsStored (Base b) = IsBase b × (4 + length (body (Base b)) ≤ 49152)
+IsStored (Base b) = IsBase b × (4 + length (body (Base b)) ≤ max_base)
 IsStored (Plain e) = IsEntry e
 
 -- the grammar: the bytes are those of the entry
-abbrev pub Spells : Stored → List ℕ → Type 0
-Spells e bytes = IsStored e × (bytes ≡ spelling e)
+abbrev pub SpellsEntry : Stored → List ℕ → Type 0
+SpellsEntry e bytes = IsStored e × (bytes ≡ spelling e)

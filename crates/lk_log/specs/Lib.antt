@@ -8,3 +8,4 @@ pub mod Files
 pub mod Images
 pub mod Standings
 pub mod Stores
+pub mod EveryImage

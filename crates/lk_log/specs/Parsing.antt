@@ -1,13 +1,14 @@
 -- Reading the entries of a file from the front of a list.
-use Rattle.std.specs.Prelude.{◌≡◌, ℕ, Bool, List, Option, Some, None, Result, Ok, Err, nat_le, ◌&&◌}
-use Rattle.lk_types.specs.Rosters.{are_rising_above as are_members_above}
+use Rattle.std.specs.Prelude.{◌≡◌, ℕ, Bool, List, Option, Some, None, Result, Ok, Err, nat_le, ◌&&◌, ◌-◌}
+use Rattle.lk_types.specs.Limits.{max_votes, max_base}
+use Rattle.lk_types.specs.Rosters.{are_members_above}
 use Rattle.lk_types.specs.declared.command.Command.{Command}
 use Rattle.lk_types.specs.declared.entry.Entry.TheVariants.{Promise, Vote, Decided}
 use Rattle.lk_types.specs.declared.member.Member.{Member}
 use Rattle.lk_types.specs.declared.vote.Vote.{Vote as VoteValue}
-use Rattle.lk_wire.specs.Parser.{◌>>=◌, byte_at, both, made, tested, counted, sized, tagged, kind, no_kind, whole}
-use Rattle.lk_wire.specs.FieldReading.{is_from_1_to, two_at, four_at, eight_at, node_at, count_at, total_at, ballot_at, mark_at, member_at, vote_at, pair_at}
-use Rattle.lk_wire.specs.Values.{are_rising_above}
+use Rattle.lk_wire.specs.Parser.{◌>>=◌, read_byte, both, made, tested, counted, sized, tagged, kind, no_kind, whole}
+use Rattle.lk_wire.specs.FieldReading.{is_from_1_to, read_two, read_four, read_eight, read_node, read_count, read_total, read_ballot, read_mark, read_member, read_vote, read_pair}
+use Rattle.lk_wire.specs.Values.{are_votes_above}
 use Rattle.lk_log.specs.Entries.{are_pairs_above}
 use Rattle.lk_log.specs.Values.{HeaderValue, StandingValue, BaseValue}
 use Rattle.lk_log.specs.declared.unread.Unread.{Unread}
@@ -25,61 +26,61 @@ abbrev pub Gives : {X Y : Type 0} → (X → Y) → Result X Unread → Option Y
 Gives view (Ok x) read = read ≡ Some (view x)
 Gives view (Err e) read = Fails e read
 
-unfoldable pub alpha_at : List ℕ → Option (ℕ × List ℕ)
-alpha_at = tested (is_from_1_to 16) byte_at
+unfoldable pub read_alpha : List ℕ → Option (ℕ × List ℕ)
+read_alpha = tested (is_from_1_to 16) read_byte
 
-unfoldable pub members_at : List ℕ → Option (List Member × List ℕ)
-members_at = tested (are_members_above 0) (counted (tested (is_from_1_to 7) byte_at) member_at)
+unfoldable pub read_members : List ℕ → Option (List Member × List ℕ)
+read_members = tested (are_members_above 0) (counted (tested (is_from_1_to 7) read_byte) read_member)
 
-abbrev pub header_fields_at : List ℕ → Option (HeaderValue × List ℕ)
-header_fields_at = made (λ h. record { node = h.1.0; cluster = h.0; alpha = h.1.1.0; members = h.1.1.1 }) (both eight_at (both node_at (both alpha_at members_at)))
+abbrev pub read_header_fields : List ℕ → Option (HeaderValue × List ℕ)
+read_header_fields = made (λ h. record { node = h.1.0; cluster = h.0; alpha = h.1.1.0; members = h.1.1.1 }) (both read_eight (both read_node (both read_alpha read_members)))
 
-unfoldable pub header_at : List ℕ → Option (HeaderValue × List ℕ)
-header_at = tagged (kind 1 (made (λ h. h) header_fields_at) no_kind)
+unfoldable pub read_header : List ℕ → Option (HeaderValue × List ℕ)
+read_header = tagged (kind 1 (made (λ h. h) read_header_fields) no_kind)
 
-unfoldable pub snapshot_at : List ℕ → Option (List ℕ × List ℕ)
-snapshot_at = sized (tested (is_from_1_to 49152) four_at)
+unfoldable pub read_snapshot : List ℕ → Option (List ℕ × List ℕ)
+read_snapshot = sized (tested (is_from_1_to max_base) read_four)
 
 -- how many votes or pairs
-unfoldable pub few_at : List ℕ → Option (ℕ × List ℕ)
-few_at = tested (λ n. nat_le n 32) two_at
+unfoldable pub read_few : List ℕ → Option (ℕ × List ℕ)
+read_few = tested (λ n. nat_le n max_votes) read_two
 
-unfoldable pub votes_at : List ℕ → Option (List VoteValue × List ℕ)
-votes_at = counted few_at vote_at
+unfoldable pub read_votes : List ℕ → Option (List VoteValue × List ℕ)
+read_votes = counted read_few read_vote
 
-unfoldable pub pairs_at : List ℕ → Option (List (ℕ × Command) × List ℕ)
-pairs_at = counted few_at pair_at
+unfoldable pub read_pairs : List ℕ → Option (List (ℕ × Command) × List ℕ)
+read_pairs = counted read_few read_pair
 
 -- all votes and pairs lie above the snapshot
 abbrev pub is_in_order : StandingValue → Bool
-is_in_order s = are_rising_above s.position s.votes && are_pairs_above s.position s.pairs
+is_in_order s = are_votes_above s.position s.votes && are_pairs_above s.position s.pairs
 
-unfoldable pub standing_at : List ℕ → Option (StandingValue × List ℕ)
-standing_at = tested is_in_order
+unfoldable pub read_standing : List ℕ → Option (StandingValue × List ℕ)
+read_standing = tested is_in_order
     (made (λ s. record { promised = s.0; position = s.1.0; snapshot = s.1.1.0; votes = s.1.1.1.0; pairs = s.1.1.1.1 })
-    (both mark_at (both total_at (both snapshot_at (both votes_at pairs_at)))))
+    (both read_mark (both read_total (both read_snapshot (both read_votes read_pairs)))))
 
-unfoldable pub base_at : List ℕ → Option (BaseValue × List ℕ)
-base_at = made (λ b. record { generation = b.0; header = b.1.0; standing = b.1.1 }) (both count_at (both header_at standing_at))
+unfoldable pub read_base : List ℕ → Option (BaseValue × List ℕ)
+read_base = made (λ b. record { generation = b.0; header = b.1.0; standing = b.1.1 }) (both read_count (both read_header read_standing))
 
-unfoldable pub fields_at : ℕ → List ℕ → Option (Stored × List ℕ)
-fields_at =
-    kind 1 (made Base base_at)
-    (kind 2 (made (λ b. Plain (Promise b)) ballot_at)
-    (kind 3 (made (λ v. Plain (Vote v)) vote_at)
-    (kind 4 (made (λ p. Plain (Decided p.0 p.1)) pair_at)
+unfoldable pub read_fields : ℕ → List ℕ → Option (Stored × List ℕ)
+read_fields =
+    kind 1 (made Base read_base)
+    (kind 2 (made (λ b. Plain (Promise b)) read_ballot)
+    (kind 3 (made (λ v. Plain (Vote v)) read_vote)
+    (kind 4 (made (λ p. Plain (Decided p.0 p.1)) read_pair)
     no_kind)))
 
-abbrev pub body_at : List ℕ → Option (Stored × List ℕ)
-body_at = tagged fields_at
+abbrev pub read_body : List ℕ → Option (Stored × List ℕ)
+read_body = tagged read_fields
 
 -- how many bytes stand behind the length: with its own four at most 49,152
-unfoldable pub size_at : List ℕ → Option (ℕ × List ℕ)
-size_at = tested (λ n. nat_le n 49148) four_at
+unfoldable pub read_size : List ℕ → Option (ℕ × List ℕ)
+read_size = tested (λ n. nat_le n (max_base - 4)) read_four
 
 -- all of the bytes that the length tells are one body
 abbrev pub within : {X : Type 0} → (List ℕ → Option (ℕ × List ℕ)) → (List ℕ → Option (X × List ℕ)) → List ℕ → Option (X × List ℕ)
 within c p bytes = sized c bytes >>= λ text. whole p text.0 >>= λ x. Some (x, text.1)
 
-unfoldable pub entry_at : List ℕ → Option (Stored × List ℕ)
-entry_at = within size_at body_at
+unfoldable pub read_entry : List ℕ → Option (Stored × List ℕ)
+read_entry = within read_size read_body

@@ -1,21 +1,18 @@
 -- What entries stand for.
-use Rattle.std.specs.Prelude.{◌≡◌, ℕ, suc, ◌<◌, Bool, nat_lt, ◌&&◌, ◌||◌, ◌==◌, List, [], ◌∷◌, ◌++◌, Option, Some, None, map, IsTrue, if◌then◌else◌}
+use Rattle.std.specs.Prelude.{◌≡◌, ℕ, suc, ◌<◌, nat_lt, ◌==◌, List, [], ◌∷◌, ◌++◌, Option, Some, None, map, IsTrue, if◌then◌else◌}
 use Rattle.lk_types.specs.BallotValue.{BallotValue}
-use Rattle.lk_types.specs.Ballots.{zero_ballot}
+use Rattle.lk_types.specs.Ballots.{is_below, zero_ballot}
 use Rattle.lk_types.specs.declared.command.Command.{Command}
 use Rattle.lk_types.specs.declared.entry.Entry.{Entry}
 use Rattle.lk_types.specs.declared.entry.Entry.TheVariants.{Promise, Vote, Decided}
 use Rattle.lk_types.specs.declared.vote.Vote.{Vote as VoteValue}
-use Rattle.lk_wire.specs.Values.{are_rising_above}
+use Rattle.lk_wire.specs.Values.{are_votes_above}
 use Rattle.lk_log.specs.Entries.{are_pairs_above}
 use Rattle.lk_log.specs.Values.{HeaderValue, StandingValue, BaseValue}
 use Rattle.lk_log.specs.declared.stored.Stored.{Stored}
 use Rattle.lk_log.specs.declared.stored.Stored.TheVariants.{Base, Plain}
 
 -- ---- ballots
-
-abbrev pub is_below : BallotValue → BallotValue → Bool
-is_below a b = nat_lt a.round b.round || (a.round == b.round && nat_lt a.node b.node)
 
 -- the greater of two ballots
 abbrev pub greater : BallotValue → BallotValue → BallotValue
@@ -106,7 +103,7 @@ pub record StandsFor (es : List Stored) (s : StandingValue) : Type 0 where
   pub snapshot : HasSnapshot es s
   pub promised : s.promised ≡ greatest_of zero_ballot (ballots es)
   pub votes : (i : ℕ) → s.position < i → vote_at i s.votes ≡ best_vote i (all_votes es)
-  pub votes_rise : IsTrue (are_rising_above s.position s.votes)
+  pub votes_rise : IsTrue (are_votes_above s.position s.votes)
   pub pairs : (i : ℕ) → s.position < i → decided_at i s.pairs ≡ decided_at i (all_pairs es)
   pub pairs_rise : IsTrue (are_pairs_above s.position s.pairs)
 
@@ -145,6 +142,11 @@ with_plain (Vote v) s = record s {
   votes = if nat_lt s.position v.position then with_vote v s.votes else s.votes;
 }
 with_plain (Decided position c) s = record s { pairs = if nat_lt s.position position then with_pair (position, c) s.pairs else s.pairs }
+
+-- a standing with more entries, one behind the other
+abbrev pub with_all : List Entry → StandingValue → StandingValue
+with_all [] s = s
+with_all (e ∷ es) s = with_all es (with_plain e s)
 
 -- that of a Base alone
 abbrev pub of_base : BaseValue → StandingValue

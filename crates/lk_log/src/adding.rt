@@ -1,5 +1,5 @@
 // Adding entries to the live file of a device.
-ghost use Rattle.std.specs.Prelude.{◌≡◌, ◌++◌, List, [], take, true, false, OnOk, OnErr};
+ghost use Rattle.std.specs.Prelude.{◌≡◌, ◌++◌, List, [], take, true, false, OnOk, OnErr, IsErrOf};
 ghost use Rattle.lk_disk.specs.Disk.{other, appended, AppendsSome, HasCause};
 ghost use Rattle.lk_log.specs.Causes.{IsCaused};
 ghost use Rattle.lk_log.specs.Images.{Image, MayLeaveBoth, IsLive};
@@ -9,12 +9,12 @@ ghost use Rattle.lk_log.specs.declared.stored.Stored.{Stored};
 
 use crate::fault::StoreFault;
 use crate::writing::{entries_facts, spelled};
-use lk_disk::{Device, LogDisk, Side};
+use lk_disk::{DeviceFault, LogDisk, Side};
 use lk_types::Entry;
 use std::alloc::Global;
 
 // Appends the bytes, by no call where there are none.
-fn append_some<D: LogDisk>(device: &mut D, side: Side, bytes: &[u8]) -> Result<(), Device>
+fn append_some<D: LogDisk>(device: &mut D, side: Side, bytes: &[u8]) -> Result<(), DeviceFault>
     ensures ok { D.is_honest → OnOk result (D.disk device.new side ≡ appended (D.disk device.old side) bytes.now) }
     ensures err { D.is_honest → OnErr result (AppendsSome bytes.now (D.disk device.old side) (D.disk device.new side)) }
     ensures beside { D.is_honest → D.disk device.new (other side) ≡ D.disk device.old (other side) }
@@ -40,6 +40,8 @@ pub fn add<D: LogDisk>(
         → OnOk result (HoldsOn (D.disk device.new live) (D.disk device.new (other live)) (ks ++ (ls ++ plain entries.now)) []) }
     ensures any { D.is_honest → (ks ls : List Stored) → HoldsOn (D.disk device.old live) (D.disk device.old (other live)) ks ls
         → KeepsAtLeastOn live (D.disk device.new live) (D.disk device.new (other live)) ks (ls ++ plain entries.now) }
+    ensures beside { D.is_honest → D.disk device.new (other live) ≡ D.disk device.old (other live) }
+    ensures no_memory { D.is_honest → IsErrOf result StoreFault.NoMemory → D.disk device.new live ≡ D.disk device.old live }
     ensures cause { IsCaused (D.failures device.old) (D.failures device.new) result }
 {
     entries_facts(entries);

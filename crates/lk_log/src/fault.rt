@@ -1,7 +1,8 @@
 ghost use Rattle.std.specs.Prelude.{◌≡◌};
+ghost use Rattle.lk_log.specs.Causes.{number_of};
 ghost use Rattle.lk_log.specs.declared.fault.StoreFault.TheVariants.{Device as device_fault, NoMemory as memory_fault};
 
-use lk_disk::Device;
+use lk_disk::DeviceFault;
 use std::alloc::{AllocError, AllocFailed};
 use thiserror::Error;
 
@@ -9,21 +10,36 @@ use thiserror::Error;
 #[derive(Clone, Copy, Debug, PartialEq, Eq, Error)]
 pub enum StoreFault {
     #[error("the device failed")]
-    Device = 7,
+    Device,
     #[error("no memory")]
-    NoMemory = 8,
+    NoMemory,
     #[error("the store is damaged")]
-    Damaged = 9,
+    Damaged,
     #[error("the store is another node's or another cluster's")]
-    WrongStore = 10,
+    WrongStore,
     #[error("the store has failed before")]
-    Failed = 11,
+    Failed,
 }
 
-impl From<Device> for StoreFault {
+impl StoreFault {
+    /// The number of this refusal, 7 to 11.
+    pub fn number(self) -> u8
+        ensures { result ≡ number_of self }
+    {
+        match self {
+            StoreFault::Device => 7,
+            StoreFault::NoMemory => 8,
+            StoreFault::Damaged => 9,
+            StoreFault::WrongStore => 10,
+            StoreFault::Failed => 11,
+        }
+    }
+}
+
+impl From<DeviceFault> for StoreFault {
     ghost from_gives = { λ _ e. e ≡ device_fault };
 
-    fn from(_: Device) -> StoreFault {
+    fn from(_: DeviceFault) -> StoreFault {
         StoreFault::Device
     }
 }
@@ -49,4 +65,13 @@ impl<T: Drop> From<AllocFailed<T>> for StoreFault {
 pub struct ReopenFault<D> {
     pub fault: StoreFault,
     pub device: D,
+}
+
+impl<D> ReopenFault<D> {
+    /// The number of this refusal, 7 to 10.
+    pub fn number(&self) -> u8
+        ensures { result ≡ number_of self.now.fault }
+    {
+        self.fault.number()
+    }
 }

@@ -12,6 +12,7 @@ use crate::reading::first_entry;
 use crate::stored::Stored;
 use crate::unread::Unread;
 use lk_disk::{LogDisk, Side};
+use lk_types::limits::MAX_TORN;
 use lk_wire::fields::read_u32;
 use std::alloc::Global;
 
@@ -29,14 +30,15 @@ pub struct File {
 }
 
 // Whether a stop may have left this behind whole entries.
-#[tactic(auto, unfolding(crate::specs::Files::told_length, lk_wire::specs::FieldReading::four_at))]
+#[tactic(auto, unfolding(crate::specs::Files::told_length, lk_wire::specs::FieldReading::read_four))]
 fn is_torn(rest: &[u8]) -> bool
     ensures { result ≡ is_torn rest.now }
 {
     let Some((told, _)) = read_u32(rest) else {
         return true;
     };
-    told >= 1 && told <= 65536 && rest.len() < 4 + told as usize
+    let told = told as usize;
+    told >= 1 && told <= MAX_TORN && rest.len() < 4 + told
 }
 
 // The file of these bytes.

@@ -1,9 +1,9 @@
 // Gathering what entries stand for.
-ghost use Rattle.std.specs.Prelude.{◌≡◌, ◌<◌, ◌≤◌, ◌≢◌, ◌∷◌, [], ◌++◌, List, map, false, length, get_or, OnOk, IfOk, IfErr};
+ghost use Rattle.std.specs.Prelude.{◌≡◌, ◌<◌, ◌≤◌, ◌≢◌, ◌∷◌, [], ◌++◌, List, map, false, length, get_or, OnOk, OnErr, IfOk, IfErr};
 ghost use Rattle.std.specs.List.{AllByRecursion};
 ghost use Rattle.lk_log.specs.Entries.{IsStored};
 ghost use Rattle.lk_log.specs.Images.{generation, is_misplaced};
-ghost use Rattle.lk_log.specs.Standings.{is_below, greater, greatest_of, ballot_of, votes_below, with_vote, pairs_below, with_pair, with_plain, of_base, StandsFor};
+ghost use Rattle.lk_log.specs.Standings.{greater, greatest_of, ballot_of, votes_below, with_vote, pairs_below, with_pair, with_plain, of_base, StandsFor};
 ghost use Rattle.lk_types.specs.declared.entry.Entry.TheVariants.{Vote as vote_entry, Decided as decided_entry};
 ghost use Rattle.lk_log.specs.declared.fault.StoreFault.TheVariants.{NoMemory as memory_fault};
 
@@ -14,16 +14,10 @@ use crate::stored::Stored;
 use lk_types::{Ballot, Command, Entry, Executed, Position, Vote};
 use std::alloc::{AllocFailed, Global};
 
-fn is_below(a: Ballot, b: Ballot) -> bool
-    ensures { result ≡ is_below a b }
-{
-    a.round() < b.round() || a.round() == b.round() && a.node() < b.node()
-}
-
 fn greater(a: Ballot, b: Ballot) -> Ballot
     ensures { result ≡ greater a b }
 {
-    if is_below(a, b) { b } else { a }
+    if a.is_below(b) { b } else { a }
 }
 
 // The greatest of a ballot and those of the votes.
@@ -54,7 +48,8 @@ fn votes_below(position: Position, votes: &[Vote]) -> usize
 // equal.
 #[tactic(auto, using(crate::proofs::InOrder::at_end, crate::proofs::InOrder::at_other, crate::proofs::InOrder::at_below, crate::proofs::InOrder::at_above))]
 fn keep_vote(votes: &mut Vec<Vote>, vote: Vote) -> Result<(), AllocFailed<Vote>>
-    ensures { OnOk result (votes.new.items ≡ with_vote vote votes.old.items) }
+    ensures ok { OnOk result (votes.new.items ≡ with_vote vote votes.old.items) }
+    ensures err { OnErr result (votes.new.items ≡ votes.old.items) }
 {
     let i = votes_below(vote.position, votes);
     if i == votes.len() {
@@ -65,7 +60,7 @@ fn keep_vote(votes: &mut Vec<Vote>, vote: Vote) -> Result<(), AllocFailed<Vote>>
         votes.insert(i, vote)?;
         return Ok(());
     }
-    if is_below(votes[i].ballot.get(), vote.ballot.get()) {
+    if votes[i].ballot.get().is_below(vote.ballot.get()) {
         votes[i] = vote;
     }
     Ok(())
@@ -90,7 +85,8 @@ fn keep_pair(
     pairs: &mut Vec<(Position, Command)>,
     pair: (Position, Command),
 ) -> Result<(), AllocFailed<(Position, Command)>>
-    ensures { OnOk result (pairs.new.items ≡ with_pair pair pairs.old.items) }
+    ensures ok { OnOk result (pairs.new.items ≡ with_pair pair pairs.old.items) }
+    ensures err { OnErr result (pairs.new.items ≡ pairs.old.items) }
 {
     let i = pairs_below(pair.0, pairs);
     if i == pairs.len() {
@@ -128,39 +124,48 @@ fn of_base(base: Base) -> Standing
     standing
 }
 
-fn add_vote(standing: &mut Standing, vote: Vote) -> Result<(), StoreFault>
-    ensures ok { OnOk result (standing.new ≡ with_plain (vote_entry vote) standing.old) }
-    ensures only { IfErr result (λ e. e ≡ memory_fault) }
-{
-    standing.promised = greater(standing.promised, vote.ballot.get());
-    if vote.position.get() > standing.position.get() {
-        keep_vote(&mut standing.votes, vote)?;
-    }
-    Ok(())
-}
-
-fn add_pair(standing: &mut Standing, pair: (Position, Command)) -> Result<(), StoreFault>
-    ensures ok { OnOk result (standing.new ≡ with_plain (decided_entry pair.0 pair.1) standing.old) }
-    ensures only { IfErr result (λ e. e ≡ memory_fault) }
-{
-    if pair.0.get() > standing.position.get() {
-        keep_pair(&mut standing.pairs, pair)?;
-    }
-    Ok(())
-}
-
-// Adds an entry to what others stand for.
-fn add_plain(standing: &mut Standing, entry: Entry) -> Result<(), StoreFault>
-    ensures ok { OnOk result (standing.new ≡ with_plain entry standing.old) }
-    ensures only { IfErr result (λ e. e ≡ memory_fault) }
-{
-    match entry {
-        Entry::Promise(ballot) => {
-            standing.promised = greater(standing.promised, ballot.get());
-            Ok(())
+impl Standing {
+    /// Adds an entry behind those that it stands for. Of two votes at a position the one of greater ballot is kept, the
+    /// earlier where they are equal, and the first decided command of a position.
+    ///
+    /// It refuses with `NoMemory` (8) alone, and then nothing has changed.
+    pub fn add(&mut self, entry: Entry) -> Result<(), StoreFault>
+        ensures ok { OnOk result (self.new ≡ with_plain entry self.old) }
+        ensures err { OnErr result (self.new ≡ self.old) }
+        ensures only { IfErr result (λ e. e ≡ memory_fault) }
+    {
+        match entry {
+            Entry::Promise(ballot) => {
+                self.promised = greater(self.promised, ballot.get());
+                Ok(())
+            }
+            Entry::Vote(vote) => self.add_vote(vote),
+            Entry::Decided(position, command) => self.add_pair((position, command)),
         }
-        Entry::Vote(vote) => add_vote(standing, vote),
-        Entry::Decided(position, command) => add_pair(standing, (position, command)),
+    }
+
+    fn add_vote(&mut self, vote: Vote) -> Result<(), StoreFault>
+        ensures ok { OnOk result (self.new ≡ with_plain (vote_entry vote) self.old) }
+        ensures err { OnErr result (self.new ≡ self.old) }
+        ensures only { IfErr result (λ e. e ≡ memory_fault) }
+    {
+        let ballot = vote.ballot.get();
+        if vote.position.get() > self.position.get() {
+            keep_vote(&mut self.votes, vote)?;
+        }
+        self.promised = greater(self.promised, ballot);
+        Ok(())
+    }
+
+    fn add_pair(&mut self, pair: (Position, Command)) -> Result<(), StoreFault>
+        ensures ok { OnOk result (self.new ≡ with_plain (decided_entry pair.0 pair.1) self.old) }
+        ensures err { OnErr result (self.new ≡ self.old) }
+        ensures only { IfErr result (λ e. e ≡ memory_fault) }
+    {
+        if pair.0.get() > self.position.get() {
+            keep_pair(&mut self.pairs, pair)?;
+        }
+        Ok(())
     }
 }
 
@@ -174,7 +179,7 @@ pub fn gather(alloc: Global, entries: Vec<Stored>) -> Result<Standing, StoreFaul
     for entry in entries {
         match entry {
             Stored::Base(base) => standing = of_base(base),
-            Stored::Plain(entry) => add_plain(&mut standing, entry)?,
+            Stored::Plain(entry) => standing.add(entry)?,
         }
     }
     Ok(standing)

@@ -48,13 +48,15 @@ impl Header {
         Header { node, genesis }
     }
 
-    pub(crate) fn node(&self) -> NodeNo
+    /// The node whose store it is.
+    pub fn node(&self) -> NodeNo
         ensures { result ≡ self.now.node }
     {
         self.node
     }
 
-    pub(crate) fn genesis(&self) -> &Genesis
+    /// How its cluster began.
+    pub fn genesis(&self) -> &Genesis
         ensures cluster { result.now.cluster ≡ self.now.cluster }
         ensures alpha { result.now.alpha ≡ self.now.alpha }
         ensures members { result.now.members ≡ self.now.members }

@@ -1,16 +1,24 @@
-//! Laws of the files' grammar: each is the contract of a function that does nothing.
-ghost use Rattle.std.specs.Prelude.{◌≡◌, ◌<◌, ◌++◌, List, ℕ, length};
+//! Laws of the files' grammar and of what a stop may leave of a store: each is the contract of a function that does nothing.
+ghost use Rattle.std.specs.Prelude.{◌≡◌, ◌<◌, ◌++◌, ◌∷◌, [], List, ℕ, Bool, true, length, take};
+ghost use Rattle.lk_types.specs.declared.entry.Entry.{Entry};
+ghost use Rattle.lk_disk.specs.Disk.{Disk};
 ghost use Rattle.lk_disk.specs.declared.device.Side.{Side};
-ghost use Rattle.lk_log.specs.Entries.{IsStored, spelling, Spells};
-ghost use Rattle.lk_log.specs.Files.{IsWhole};
-ghost use Rattle.lk_log.specs.Images.{Image, Means};
+ghost use Rattle.lk_log.specs.Entries.{IsStored, spelling, SpellsEntry};
+ghost use Rattle.lk_log.specs.EveryImage.{EveryFound, AllMean, NarrowsOrBeganSome};
+ghost use Rattle.lk_log.specs.Files.{AreWholeEntries};
+ghost use Rattle.lk_log.specs.Images.{Image, MayLeaveBoth, Means, IsLive, IsEmpty, seen};
+ghost use Rattle.lk_log.specs.Standings.{StandsFor, with_plain};
+ghost use Rattle.lk_log.specs.StoreValue.{StoreValue, disks};
+ghost use Rattle.lk_log.specs.Stores.{plain, Holds, KeepsAtLeast, NarrowsOrBegins};
+ghost use Rattle.lk_log.specs.Values.{HeaderValue, StandingValue};
 ghost use Rattle.lk_log.specs.declared.stored.Stored.{Stored};
+ghost use Rattle.lk_log.specs.declared.stored.Stored.TheVariants.{Plain};
 ghost use Rattle.lk_log.specs.declared.verdict.Verdict.{Verdict};
 
 /// All bytes have whole entries, and no others.
 pub fn whole_entries(bytes: &[u8])
-    ensures some { (es : List Stored) × IsWhole bytes.now es }
-    ensures one { (es fs : List Stored) → IsWhole bytes.now es → IsWhole bytes.now fs → es ≡ fs }
+    ensures some { (es : List Stored) × AreWholeEntries bytes.now es }
+    ensures one { (es fs : List Stored) → AreWholeEntries bytes.now es → AreWholeEntries bytes.now fs → es ≡ fs }
 {
     let _ = bytes;
 }
@@ -23,7 +31,38 @@ pub fn one_meaning()
 
 /// Bytes spell one entry at most, no spelling begins another one, and none is empty.
 pub fn one_spelling()
-    ensures one { (e f : Stored) (bytes : List ℕ) → Spells e bytes → Spells f bytes → e ≡ f }
+    ensures one { (e f : Stored) (bytes : List ℕ) → SpellsEntry e bytes → SpellsEntry f bytes → e ≡ f }
     ensures no_front { (e f : Stored) (x y : List ℕ) → IsStored e → IsStored f → spelling e ++ x ≡ spelling f ++ y → (e ≡ f) × (x ≡ y) }
     ensures long { (e : Stored) → 0 < length (spelling e) }
+{}
+
+/// The entries of a live file stand for one thing, and with an entry behind them for that with this entry.
+pub fn one_standing()
+    ensures some { (image : Image) (es : List Stored) → IsLive image es → (s : StandingValue) × StandsFor es s }
+    ensures one { (es : List Stored) (s t : StandingValue) → StandsFor es s → StandsFor es t → s ≡ t }
+    ensures more { (es : List Stored) (s : StandingValue) (e : Entry) → StandsFor es s → StandsFor (es ++ Plain e ∷ []) (with_plain e s) }
+{}
+
+/// Of an open store each image has what it holds synced and a beginning of the others, which are plain, and some image has
+/// what is synced alone. Where all is synced, each image has just that.
+pub fn what_a_stop_leaves()
+    ensures keeps { (s : StoreValue) (ks ls : List Stored) → Holds s ks ls → KeepsAtLeast s ks ls }
+    ensures plain { (s : StoreValue) (ks ls : List Stored) → Holds s ks ls → (more : List Entry) × (ls ≡ plain more) }
+    ensures least { (s : StoreValue) (ks ls : List Stored) → Holds s ks ls → (image : Image) × MayLeaveBoth (disks s) image × IsLive image ks }
+    ensures synced { (s : StoreValue) (ks : List Stored) → Holds s ks [] → (image : Image) → MayLeaveBoth (disks s) image → IsLive image ks }
+{}
+
+/// What is read is an image, and files without a byte are empty.
+pub fn what_is_read()
+    ensures left { (both : Side → Disk) → MayLeaveBoth both (seen both) }
+    ensures empty { (image : Image) → ((s : Side) → image s ≡ []) → IsEmpty image }
+{}
+
+/// Openings in a row, Ok or refused, leave what one opening may leave, and what is true of every image by some test stays so.
+pub fn openings()
+    ensures one { (old new : Side → Disk) (whose : HeaderValue) (text : List ℕ) → NarrowsOrBegins old new whose text → NarrowsOrBeganSome old new whose text }
+    ensures more { (old mid new : Side → Disk) (whose : HeaderValue) (text : List ℕ) → AllMean old
+        → NarrowsOrBeganSome old mid whose text → NarrowsOrBeganSome mid new whose text → NarrowsOrBeganSome old new whose text }
+    ensures keep { (old new : Side → Disk) (whose : HeaderValue) (text : List ℕ) (test : List Stored → Bool) → NarrowsOrBeganSome old new whose text
+        → EveryFound old whose text (λ es. test es ≡ true) → EveryFound new whose text (λ es. test es ≡ true) }
 {}

@@ -11,7 +11,7 @@ ghost use Rattle.lk_log.specs.declared.stored.Stored.{Stored};
 use crate::fault::StoreFault;
 use crate::file::{File, generation_of, is_misplaced, read_file};
 use crate::verdict::Verdict;
-use lk_disk::{Device, LogDisk, Side};
+use lk_disk::{DeviceFault, LogDisk, Side};
 use std::alloc::Global;
 
 fn unless_damaged(is_damaged: bool, verdict: Verdict) -> Verdict
@@ -65,7 +65,12 @@ pub fn find<D: LogDisk>(alloc: Global, device: &mut D) -> Result<Option<(Side, F
 }
 
 // Cuts off what stands behind the entries, by no call where nothing does.
-fn cut_off<D: LogDisk>(device: &mut D, live: Side, end: usize, size: usize) -> Result<(), Device>
+fn cut_off<D: LogDisk>(
+    device: &mut D,
+    live: Side,
+    end: usize,
+    size: usize,
+) -> Result<(), DeviceFault>
     ensures contents { D.is_honest → (es : List Stored) → FoundLive (D.disk device.old) live es end size
         → OnOk result (contents (D.disk device.new live) ≡ spelling_of_all es) }
     ensures narrows { D.is_honest → (es : List Stored) → FoundLive (D.disk device.old) live es end size

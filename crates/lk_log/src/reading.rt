@@ -1,12 +1,13 @@
 // Reading an entry of a file from the front of some bytes.
 ghost use Rattle.std.specs.Prelude.{◌≡◌, ◌≤◌, ◌++◌, IfSome, IfOk, Err};
+ghost use Rattle.lk_types.specs.Limits.{max_members};
 ghost use Rattle.lk_types.specs.Ranges.{IsAlpha};
-ghost use Rattle.lk_wire.specs.FieldReading.{member_at, vote_at, pair_at};
+ghost use Rattle.lk_wire.specs.FieldReading.{read_member, read_vote, read_pair};
 ghost use Rattle.lk_wire.specs.Parser.{Finds, many, whole};
-ghost use Rattle.lk_wire.specs.Values.{are_rising_above};
+ghost use Rattle.lk_wire.specs.Values.{are_votes_above};
 ghost use Rattle.lk_log.specs.Entries.{are_pairs_above, spelling, IsStored};
 ghost use Rattle.lk_log.specs.Files.{NoneBegins};
-ghost use Rattle.lk_log.specs.Parsing.{Gives, alpha_at, members_at, header_at, snapshot_at, few_at, votes_at, pairs_at, is_in_order, standing_at, base_at, fields_at, body_at, size_at, entry_at};
+ghost use Rattle.lk_log.specs.Parsing.{Gives, read_alpha, read_members, read_header, read_snapshot, read_few, read_votes, read_pairs, is_in_order, read_standing, read_base, read_fields, read_body, read_size, read_entry};
 
 use crate::base::Base;
 use crate::header::Header;
@@ -14,6 +15,7 @@ use crate::standing::Standing;
 use crate::stored::Stored;
 use crate::unread::Unread;
 use arrayvec::ArrayVec;
+use lk_types::limits::{MAX_BASE, MAX_VOTES};
 use lk_types::{Command, Entry, Genesis, Member, Members, Position, Vote};
 use lk_wire::fields::{
     read_ballot, read_command, read_executed, read_mark, read_member, read_node, read_position,
@@ -21,9 +23,9 @@ use lk_wire::fields::{
 };
 use std::alloc::Global;
 
-#[tactic(auto, unfolding(crate::specs::Parsing::alpha_at))]
-fn alpha_at(bytes: &[u8]) -> Option<(u8, &[u8])>
-    ensures parsed { Finds (λ x. (x.0, x.1.now)) result (alpha_at bytes.now) }
+#[tactic(auto, unfolding(crate::specs::Parsing::read_alpha))]
+fn read_alpha(bytes: &[u8]) -> Option<(u8, &[u8])>
+    ensures parsed { Finds (λ x. (x.0, x.1.now)) result (read_alpha bytes.now) }
     ensures in_range { IfSome result (λ x. IsAlpha x.0) }
 {
     let (alpha, rest) = read_u8(bytes)?;
@@ -34,8 +36,8 @@ fn alpha_at(bytes: &[u8]) -> Option<(u8, &[u8])>
 }
 
 fn many_members(count: u8, bytes: &[u8]) -> Option<(ArrayVec<Member, 7>, &[u8])>
-    requires { count ≤ 7 }
-    ensures { Finds (λ x. (x.0.items, x.1.now)) result (many member_at count bytes.now) }
+    requires { count ≤ max_members }
+    ensures { Finds (λ x. (x.0.items, x.1.now)) result (many read_member count bytes.now) }
 {
     let mut members = ArrayVec::new();
     let mut rest = bytes;
@@ -49,9 +51,9 @@ fn many_members(count: u8, bytes: &[u8]) -> Option<(ArrayVec<Member, 7>, &[u8])>
     Some((members, rest))
 }
 
-#[tactic(auto, unfolding(crate::specs::Parsing::members_at))]
-fn members_at(bytes: &[u8]) -> Option<(Members, &[u8])>
-    ensures { Finds (λ x. (x.0, x.1.now)) result (members_at bytes.now) }
+#[tactic(auto, unfolding(crate::specs::Parsing::read_members))]
+fn read_members(bytes: &[u8]) -> Option<(Members, &[u8])>
+    ensures { Finds (λ x. (x.0, x.1.now)) result (read_members bytes.now) }
 {
     let (count, rest) = read_u8(bytes)?;
     if count < 1 || count > 7 {
@@ -63,9 +65,9 @@ fn members_at(bytes: &[u8]) -> Option<(Members, &[u8])>
     Some((Members::of(&members)?, rest))
 }
 
-#[tactic(auto, unfolding(crate::specs::Parsing::header_at))]
-fn header_at(bytes: &[u8]) -> Option<(Header, &[u8])>
-    ensures { Finds (λ x. (x.0, x.1.now)) result (header_at bytes.now) }
+#[tactic(auto, unfolding(crate::specs::Parsing::read_header))]
+fn read_header(bytes: &[u8]) -> Option<(Header, &[u8])>
+    ensures { Finds (λ x. (x.0, x.1.now)) result (read_header bytes.now) }
 {
     let (format, rest) = read_u8(bytes)?;
     if format != 1 {
@@ -75,8 +77,8 @@ fn header_at(bytes: &[u8]) -> Option<(Header, &[u8])>
     let Some((node, rest)) = read_node(rest) else {
         return None;
     };
-    let (alpha, rest) = alpha_at(rest)?;
-    let Some((members, rest)) = members_at(rest) else {
+    let (alpha, rest) = read_alpha(rest)?;
+    let Some((members, rest)) = read_members(rest) else {
         return None;
     };
     let genesis = Genesis {
@@ -87,34 +89,34 @@ fn header_at(bytes: &[u8]) -> Option<(Header, &[u8])>
     Some((Header::new(node, genesis), rest))
 }
 
-#[tactic(auto, unfolding(crate::specs::Parsing::snapshot_at))]
-fn snapshot_at(alloc: Global, bytes: &[u8]) -> Result<(Vec<u8>, &[u8]), Unread>
-    ensures { Gives (λ x. (x.0.items, x.1.now)) result (snapshot_at bytes.now) }
+#[tactic(auto, unfolding(crate::specs::Parsing::read_snapshot))]
+fn read_snapshot(alloc: Global, bytes: &[u8]) -> Result<(Vec<u8>, &[u8]), Unread>
+    ensures { Gives (λ x. (x.0.items, x.1.now)) result (read_snapshot bytes.now) }
 {
     let Some((length, rest)) = read_u32(bytes) else {
         return Err(Unread::NoEntry);
     };
     let length = length as usize;
-    if length < 1 || length > 49152 || rest.len() < length {
+    if length < 1 || length > MAX_BASE || rest.len() < length {
         return Err(Unread::NoEntry);
     }
     let (text, rest) = rest.split_at(length);
     Ok((text.to_vec(alloc)?, rest))
 }
 
-#[tactic(auto, unfolding(crate::specs::Parsing::few_at))]
-fn few_at(bytes: &[u8]) -> Option<(u16, &[u8])>
-    ensures { Finds (λ x. (x.0, x.1.now)) result (few_at bytes.now) }
+#[tactic(auto, unfolding(crate::specs::Parsing::read_few))]
+fn read_few(bytes: &[u8]) -> Option<(u16, &[u8])>
+    ensures { Finds (λ x. (x.0, x.1.now)) result (read_few bytes.now) }
 {
     let (count, rest) = read_u16(bytes)?;
-    if count > 32 {
+    if count as usize > MAX_VOTES {
         return None;
     }
     Some((count, rest))
 }
 
 fn many_votes(alloc: Global, count: u16, bytes: &[u8]) -> Result<(Vec<Vote>, &[u8]), Unread>
-    ensures { Gives (λ x. (x.0.items, x.1.now)) result (many vote_at count bytes.now) }
+    ensures { Gives (λ x. (x.0.items, x.1.now)) result (many read_vote count bytes.now) }
 {
     let mut votes = Vec::new(alloc);
     let mut rest = bytes;
@@ -128,19 +130,19 @@ fn many_votes(alloc: Global, count: u16, bytes: &[u8]) -> Result<(Vec<Vote>, &[u
     Ok((votes, rest))
 }
 
-#[tactic(auto, unfolding(crate::specs::Parsing::votes_at))]
-fn votes_at(alloc: Global, bytes: &[u8]) -> Result<(Vec<Vote>, &[u8]), Unread>
-    ensures { Gives (λ x. (x.0.items, x.1.now)) result (votes_at bytes.now) }
+#[tactic(auto, unfolding(crate::specs::Parsing::read_votes))]
+fn read_votes(alloc: Global, bytes: &[u8]) -> Result<(Vec<Vote>, &[u8]), Unread>
+    ensures { Gives (λ x. (x.0.items, x.1.now)) result (read_votes bytes.now) }
 {
-    let Some((count, rest)) = few_at(bytes) else {
+    let Some((count, rest)) = read_few(bytes) else {
         return Err(Unread::NoEntry);
     };
     many_votes(alloc, count, rest)
 }
 
-#[tactic(auto, unfolding(lk_wire::specs::FieldReading::pair_at))]
-fn pair_at(bytes: &[u8]) -> Option<((Position, Command), &[u8])>
-    ensures { Finds (λ x. (x.0, x.1.now)) result (pair_at bytes.now) }
+#[tactic(auto, unfolding(lk_wire::specs::FieldReading::read_pair))]
+fn read_pair(bytes: &[u8]) -> Option<((Position, Command), &[u8])>
+    ensures { Finds (λ x. (x.0, x.1.now)) result (read_pair bytes.now) }
 {
     let Some((position, rest)) = read_position(bytes) else {
         return None;
@@ -156,12 +158,12 @@ fn many_pairs(
     count: u16,
     bytes: &[u8],
 ) -> Result<(Vec<(Position, Command)>, &[u8]), Unread>
-    ensures { Gives (λ x. (x.0.items, x.1.now)) result (many pair_at count bytes.now) }
+    ensures { Gives (λ x. (x.0.items, x.1.now)) result (many read_pair count bytes.now) }
 {
     let mut pairs = Vec::new(alloc);
     let mut rest = bytes;
     for _ in 0..count {
-        let Some((pair, after)) = pair_at(rest) else {
+        let Some((pair, after)) = read_pair(rest) else {
             return Err(Unread::NoEntry);
         };
         pairs.push(pair)?;
@@ -170,11 +172,11 @@ fn many_pairs(
     Ok((pairs, rest))
 }
 
-#[tactic(auto, unfolding(crate::specs::Parsing::pairs_at))]
-fn pairs_at(alloc: Global, bytes: &[u8]) -> Result<(Vec<(Position, Command)>, &[u8]), Unread>
-    ensures { Gives (λ x. (x.0.items, x.1.now)) result (pairs_at bytes.now) }
+#[tactic(auto, unfolding(crate::specs::Parsing::read_pairs))]
+fn read_pairs(alloc: Global, bytes: &[u8]) -> Result<(Vec<(Position, Command)>, &[u8]), Unread>
+    ensures { Gives (λ x. (x.0.items, x.1.now)) result (read_pairs bytes.now) }
 {
-    let Some((count, rest)) = few_at(bytes) else {
+    let Some((count, rest)) = read_few(bytes) else {
         return Err(Unread::NoEntry);
     };
     many_pairs(alloc, count, rest)
@@ -182,7 +184,7 @@ fn pairs_at(alloc: Global, bytes: &[u8]) -> Result<(Vec<(Position, Command)>, &[
 
 // Whether the votes rise strictly by position, the first above `low`.
 fn are_votes_above(low: u64, votes: &[Vote]) -> bool
-    ensures { result ≡ are_rising_above low votes.now }
+    ensures { result ≡ are_votes_above low votes.now }
 {
     let mut low = low;
     for vote in votes {
@@ -218,9 +220,9 @@ fn is_in_order(standing: &Standing) -> bool
     are_votes_above(low, &standing.votes) && are_pairs_above(low, &standing.pairs)
 }
 
-#[tactic(auto, unfolding(crate::specs::Parsing::standing_at))]
-fn standing_at(alloc: Global, bytes: &[u8]) -> Result<(Standing, &[u8]), Unread>
-    ensures { Gives (λ x. (x.0, x.1.now)) result (standing_at bytes.now) }
+#[tactic(auto, unfolding(crate::specs::Parsing::read_standing))]
+fn read_standing(alloc: Global, bytes: &[u8]) -> Result<(Standing, &[u8]), Unread>
+    ensures { Gives (λ x. (x.0, x.1.now)) result (read_standing bytes.now) }
 {
     let Some((promised, rest)) = read_mark(bytes) else {
         return Err(Unread::NoEntry);
@@ -228,9 +230,9 @@ fn standing_at(alloc: Global, bytes: &[u8]) -> Result<(Standing, &[u8]), Unread>
     let Some((position, rest)) = read_executed(rest) else {
         return Err(Unread::NoEntry);
     };
-    let (snapshot, rest) = snapshot_at(alloc, rest)?;
-    let (votes, rest) = votes_at(alloc, rest)?;
-    let (pairs, rest) = pairs_at(alloc, rest)?;
+    let (snapshot, rest) = read_snapshot(alloc, rest)?;
+    let (votes, rest) = read_votes(alloc, rest)?;
+    let (pairs, rest) = read_pairs(alloc, rest)?;
     let standing = Standing {
         promised,
         position,
@@ -244,17 +246,17 @@ fn standing_at(alloc: Global, bytes: &[u8]) -> Result<(Standing, &[u8]), Unread>
     Ok((standing, rest))
 }
 
-#[tactic(auto, unfolding(crate::specs::Parsing::base_at))]
-fn base_at(alloc: Global, bytes: &[u8]) -> Result<(Base, &[u8]), Unread>
-    ensures { Gives (λ x. (x.0, x.1.now)) result (base_at bytes.now) }
+#[tactic(auto, unfolding(crate::specs::Parsing::read_base))]
+fn read_base(alloc: Global, bytes: &[u8]) -> Result<(Base, &[u8]), Unread>
+    ensures { Gives (λ x. (x.0, x.1.now)) result (read_base bytes.now) }
 {
     let Some((generation, rest)) = read_position(bytes) else {
         return Err(Unread::NoEntry);
     };
-    let Some((header, rest)) = header_at(rest) else {
+    let Some((header, rest)) = read_header(rest) else {
         return Err(Unread::NoEntry);
     };
-    let (standing, rest) = standing_at(alloc, rest)?;
+    let (standing, rest) = read_standing(alloc, rest)?;
     let base = Base {
         generation: generation.get(),
         header,
@@ -264,13 +266,13 @@ fn base_at(alloc: Global, bytes: &[u8]) -> Result<(Base, &[u8]), Unread>
 }
 
 // What stands behind the byte that tells an entry's kind.
-#[tactic(auto, unfolding(crate::specs::Parsing::fields_at))]
-fn fields_at(alloc: Global, kind: u8, bytes: &[u8]) -> Result<(Stored, &[u8]), Unread>
-    ensures { Gives (λ x. (x.0, x.1.now)) result (fields_at kind bytes.now) }
+#[tactic(auto, unfolding(crate::specs::Parsing::read_fields))]
+fn read_fields(alloc: Global, kind: u8, bytes: &[u8]) -> Result<(Stored, &[u8]), Unread>
+    ensures { Gives (λ x. (x.0, x.1.now)) result (read_fields kind bytes.now) }
 {
     match kind {
         1 => {
-            let (base, rest) = base_at(alloc, bytes)?;
+            let (base, rest) = read_base(alloc, bytes)?;
             Ok((Stored::Base(base), rest))
         }
         2 => {
@@ -286,7 +288,7 @@ fn fields_at(alloc: Global, kind: u8, bytes: &[u8]) -> Result<(Stored, &[u8]), U
             Ok((Stored::Plain(Entry::Vote(vote)), rest))
         }
         4 => {
-            let Some(((position, command), rest)) = pair_at(bytes) else {
+            let Some(((position, command), rest)) = read_pair(bytes) else {
                 return Err(Unread::NoEntry);
             };
             Ok((Stored::Plain(Entry::Decided(position, command)), rest))
@@ -297,27 +299,27 @@ fn fields_at(alloc: Global, kind: u8, bytes: &[u8]) -> Result<(Stored, &[u8]), U
 
 // The entry of which all of the bytes are the body.
 fn body_of(alloc: Global, bytes: &[u8]) -> Result<Stored, Unread>
-    ensures { Gives (λ e. e) result (whole body_at bytes.now) }
+    ensures { Gives (λ e. e) result (whole read_body bytes.now) }
 {
     let Some((kind, rest)) = read_u8(bytes) else {
         return Err(Unread::NoEntry);
     };
-    let (entry, rest) = fields_at(alloc, kind, rest)?;
+    let (entry, rest) = read_fields(alloc, kind, rest)?;
     if !rest.is_empty() {
         return Err(Unread::NoEntry);
     }
     Ok(entry)
 }
 
-#[tactic(auto, unfolding(crate::specs::Parsing::entry_at, crate::specs::Parsing::size_at))]
-fn entry_at(alloc: Global, bytes: &[u8]) -> Result<(Stored, &[u8]), Unread>
-    ensures { Gives (λ x. (x.0, x.1.now)) result (entry_at bytes.now) }
+#[tactic(auto, unfolding(crate::specs::Parsing::read_entry, crate::specs::Parsing::read_size))]
+fn read_entry(alloc: Global, bytes: &[u8]) -> Result<(Stored, &[u8]), Unread>
+    ensures { Gives (λ x. (x.0, x.1.now)) result (read_entry bytes.now) }
 {
     let Some((length, rest)) = read_u32(bytes) else {
         return Err(Unread::NoEntry);
     };
     let length = length as usize;
-    if length > 49148 || rest.len() < length {
+    if length > MAX_BASE - 4 || rest.len() < length {
         return Err(Unread::NoEntry);
     }
     let (text, rest) = rest.split_at(length);
@@ -330,5 +332,5 @@ pub fn first_entry(alloc: Global, bytes: &[u8]) -> Result<(Stored, &[u8]), Unrea
     ensures found { IfOk result (λ x. IsStored x.0 × (bytes.now ≡ spelling x.0 ++ x.1.now)) }
     ensures none { result ≡ Err Unread.NoEntry → NoneBegins bytes.now }
 {
-    entry_at(alloc, bytes)
+    read_entry(alloc, bytes)
 }

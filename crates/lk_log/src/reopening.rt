@@ -79,6 +79,7 @@ fn begin<D: LogDisk>(
     ensures opens { D.is_honest → IsEmpty (seen (D.disk device.old))
         → IfOk result (λ o. OpensOn (seen (D.disk device.old)) header.now zero.now (D.disk device.new o.live) (D.disk device.new (other o.live)) o.generation o.standing) }
     ensures stays { D.is_honest → IsEmpty (seen (D.disk device.old)) → NarrowsOrBegins (D.disk device.old) (D.disk device.new) header.now zero.now }
+    ensures in_a { IfOk result (λ o. o.live ≡ A) }
     ensures cause { IsCaused (D.failures device.old) (D.failures device.new) result }
 {
     let base = first_base(alloc, header, zero)?;
@@ -119,6 +120,7 @@ fn open<D: LogDisk>(
     ensures stays { D.is_honest → FoundLive (D.disk device.old) live file.entries.items file.end file.size → (zero : List ℕ)
         → NarrowsOrBegins (D.disk device.old) (D.disk device.new) header.now zero }
     ensures wrong { IsErrOf result StoreFault.WrongStore → HasHeader file.entries.items header.now → ⊥ }
+    ensures wrong_stays { D.is_honest → IsErrOf result StoreFault.WrongStore → (s : Side) → D.disk device.new s ≡ D.disk device.old s }
     ensures damaged { IsErrOf result StoreFault.Damaged → ⊥ }
     ensures failed { IsErrOf result StoreFault.Failed → ⊥ }
     ensures cause { IsCounted (D.failures device.old) (D.failures device.new) result }
@@ -154,8 +156,11 @@ fn recover<D: LogDisk>(
     ensures opens { D.is_honest
         → IfOk result (λ o. OpensOn (seen (D.disk device.old)) header.now zero.now (D.disk device.new o.live) (D.disk device.new (other o.live)) o.generation o.standing) }
     ensures stays { D.is_honest → NarrowsOrBegins (D.disk device.old) (D.disk device.new) header.now zero.now }
+    ensures begun { D.is_honest → IsEmpty (seen (D.disk device.old)) → IfOk result (λ o. o.live ≡ A) }
     ensures damaged { D.is_honest → IsErrOf result StoreFault.Damaged → IsDamaged (seen (D.disk device.old)) }
+    ensures damaged_stays { D.is_honest → IsErrOf result StoreFault.Damaged → (s : Side) → D.disk device.new s ≡ D.disk device.old s }
     ensures wrong { D.is_honest → IsErrOf result StoreFault.WrongStore → IsWrong (seen (D.disk device.old)) header.now }
+    ensures wrong_stays { D.is_honest → IsErrOf result StoreFault.WrongStore → (s : Side) → D.disk device.new s ≡ D.disk device.old s }
     ensures failed { IsErrOf result StoreFault.Failed → ⊥ }
     ensures cause { IsCounted (D.failures device.old) (D.failures device.new) result }
 {
@@ -184,8 +189,13 @@ pub fn reopen<D: LogDisk + Drop>(
     // After any exit each image comes to what an image before it came to, or to a store that is begun.
     ensures stays { D.is_honest → IfOk result (λ r. NarrowsOrBegins (D.disk device) (disks r.0) header.now zero.now) }
     ensures stays_err { D.is_honest → IfErr result (λ e. NarrowsOrBegins (D.disk device) (D.disk e.device) header.now zero.now) }
+    // A store is begun in A.
+    ensures begun { D.is_honest → IsEmpty (seen (D.disk device)) → IfOk result (λ r. r.0.live ≡ A) }
+    // A damaged store and another's stay as they are.
     ensures damaged { D.is_honest → IfErr result (λ e. e.fault ≡ StoreFault.Damaged → IsDamaged (seen (D.disk device))) }
+    ensures damaged_stays { D.is_honest → IfErr result (λ e. e.fault ≡ StoreFault.Damaged → (s : Side) → D.disk e.device s ≡ D.disk device s) }
     ensures wrong { D.is_honest → IfErr result (λ e. e.fault ≡ StoreFault.WrongStore → IsWrong (seen (D.disk device)) header.now) }
+    ensures wrong_stays { D.is_honest → IfErr result (λ e. e.fault ≡ StoreFault.WrongStore → (s : Side) → D.disk e.device s ≡ D.disk device s) }
     ensures failed { IfErr result (λ e. e.fault ≡ StoreFault.Failed → ⊥) }
     ensures later { IfOk result (λ r. D.failures device ≤ r.0.failures) }
     ensures later_err { IfErr result (λ e. D.failures device ≤ D.failures e.device) }

@@ -1,8 +1,8 @@
 // The store: entries behind one another in the live file.
-ghost use Rattle.std.specs.Prelude.{◌≡◌, ◌++◌, ◌≤◌, ◌^◌, ◌+◌, ◌-◌, List, [], min, length, true, false, IfOk, OnOk, OnErr, IsErrOf};
+ghost use Rattle.std.specs.Prelude.{◌≡◌, ◌++◌, ◌≤◌, ◌^◌, ◌+◌, ◌-◌, List, [], min, length, true, false, IfOk, IfErr, OnOk, OnErr, IsErrOf};
 ghost use Rattle.lk_disk.specs.Disk.{contents, other};
 ghost use Rattle.lk_disk.specs.declared.device.Side.{Side};
-ghost use Rattle.lk_log.specs.Causes.{IsCaused};
+ghost use Rattle.lk_log.specs.Causes.{IsCaused, IsCounted};
 ghost use Rattle.lk_log.specs.StoreValue.{disks};
 ghost use Rattle.lk_log.specs.Stores.{plain, Holds, KeepsAtLeast};
 ghost use Rattle.lk_log.specs.declared.stored.Stored.{Stored};
@@ -53,6 +53,9 @@ impl<D: LogDisk + Drop> Store<D> {
         // After any exit each image that a stop may leave has all synced entries, and a beginning of the others.
         ensures any { D.is_honest → (ks ls : List Stored) → Holds self.old ks ls
             → KeepsAtLeast self.new ks (ls ++ plain entries.now) }
+        // The other file stays as it is, and where memory was refused the live one too.
+        ensures other_disk { D.is_honest → self.new.other_disk ≡ self.old.other_disk }
+        ensures no_memory { D.is_honest → IsErrOf result StoreFault.NoMemory → self.new.live_disk ≡ self.old.live_disk }
         ensures live { self.new.live ≡ self.old.live }
         ensures generation { self.new.generation ≡ self.old.generation }
         ensures err { OnErr result (self.new.failed ≡ true) }
@@ -72,7 +75,7 @@ impl<D: LogDisk + Drop> Store<D> {
 
     /// The number of bytes of the live file, synced or not.
     ///
-    /// It refuses with `Device` (7); after that each later call answers `Failed` (11).
+    /// It takes no memory, and refuses with `Device` (7) alone; after that each later call answers `Failed` (11).
     pub fn live_length(&mut self) -> Result<usize, StoreFault>
         ensures value { D.is_honest → IfOk result (λ n. n ≡ length (contents self.old.live_disk)) }
         ensures live_disk { D.is_honest → self.new.live_disk ≡ self.old.live_disk }
@@ -83,7 +86,8 @@ impl<D: LogDisk + Drop> Store<D> {
         ensures alive { OnOk result (self.new.failed ≡ false) }
         ensures failed { self.old.failed ≡ true → self.new ≡ self.old }
         ensures refuses { self.old.failed ≡ true → IsErrOf result StoreFault.Failed }
-        ensures cause { self.old.failed ≡ false → IsCaused self.old.failures self.new.failures result }
+        ensures only { self.old.failed ≡ false → IfErr result (λ e. e ≡ StoreFault.Device) }
+        ensures cause { self.old.failed ≡ false → IsCounted self.old.failures self.new.failures result }
     {
         if self.failed {
             return Err(StoreFault::Failed);

@@ -1,6 +1,7 @@
 // Writing an entry of a file: its one spelling.
-ghost use Rattle.std.specs.Prelude.{◌≡◌, ◌≤◌, ◌+◌, ◌++◌, ◌∷◌, length, OnOk, IfOk};
+ghost use Rattle.std.specs.Prelude.{◌≡◌, ◌≤◌, ◌+◌, ◌-◌, ◌++◌, ◌∷◌, length, OnOk, IfOk};
 ghost use Rattle.std.specs.List.{AllByRecursion};
+ghost use Rattle.lk_types.specs.Limits.{max_members, max_votes, max_base};
 ghost use Rattle.lk_log.specs.Entries.{members, header, snapshot, votes, pairs, standing, base, body, spelling, spelling_of_all, IsStanding, IsBase, IsEntry, IsStored};
 ghost use Rattle.lk_log.specs.Stores.{plain};
 ghost use Rattle.lk_wire.specs.Fields.{four, pair};
@@ -18,7 +19,7 @@ use lk_wire::fields::{
 use std::alloc::{AllocError, Global};
 
 fn put_members(out: &mut BytesMut, list: &[Member]) -> Result<(), AllocError>
-    requires { length list.now ≤ 7 }
+    requires { length list.now ≤ max_members }
     ensures { OnOk result (out.new.items ≡ out.old.items ++ members list.now) }
 {
     put_u8(out, list.len() as u8)?;
@@ -40,7 +41,7 @@ fn put_header(out: &mut BytesMut, value: &Header) -> Result<(), AllocError>
 }
 
 fn put_snapshot(out: &mut BytesMut, text: &[u8]) -> Result<(), AllocError>
-    requires { length text.now ≤ 49152 }
+    requires { length text.now ≤ max_base }
     ensures { OnOk result (out.new.items ≡ out.old.items ++ snapshot text.now) }
 {
     put_u32(out, text.len() as u32)?;
@@ -49,7 +50,7 @@ fn put_snapshot(out: &mut BytesMut, text: &[u8]) -> Result<(), AllocError>
 }
 
 fn put_votes(out: &mut BytesMut, list: &[Vote]) -> Result<(), AllocError>
-    requires { length list.now ≤ 32 }
+    requires { length list.now ≤ max_votes }
     ensures { OnOk result (out.new.items ≡ out.old.items ++ votes list.now) }
 {
     put_u16(out, list.len() as u16)?;
@@ -68,7 +69,7 @@ fn put_pair(out: &mut BytesMut, position: Position, command: &Command) -> Result
 }
 
 fn put_pairs(out: &mut BytesMut, list: &[(Position, Command)]) -> Result<(), AllocError>
-    requires { length list.now ≤ 32 }
+    requires { length list.now ≤ max_votes }
     ensures { OnOk result (out.new.items ≡ out.old.items ++ pairs list.now) }
 {
     put_u16(out, list.len() as u16)?;
@@ -126,7 +127,7 @@ fn put_plain_body(out: &mut BytesMut, value: &Entry) -> Result<(), AllocError>
 
 // Bytes behind their length.
 fn put_behind_length(out: &mut BytesMut, text: &[u8]) -> Result<(), AllocError>
-    requires { length text.now ≤ 49148 }
+    requires { length text.now ≤ max_base - 4 }
     ensures { OnOk result (out.new.items ≡ out.old.items ++ (four (length text.now) ++ text.now)) }
 {
     put_u32(out, text.len() as u32)?;

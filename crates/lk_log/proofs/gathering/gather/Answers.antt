@@ -10,5 +10,5 @@ loop-entry-preserved-in-Base c =
 
 pub loop-entry-preserved : goal.loop-entry-preserved
 loop-entry-preserved c =
-    subst (λ (e : Stored). StandsSoFar (c.loop-entry.yielded ++ e ∷ []) c.add_plain.new.standing) (sym c.in-Plain.is)
-    (so_far_plain c.loop-entry.yielded c.in-Plain.entry c.loop-entry.standing c.add_plain.new.standing c.in_ok-add_plain-in-Plain.ensures.ok c.loop-entry.invariant)
+    subst (λ (e : Stored). StandsSoFar (c.loop-entry.yielded ++ e ∷ []) c.add.new.self) (sym c.in-Plain.is)
+    (so_far_plain c.loop-entry.yielded c.in-Plain.entry c.loop-entry.standing c.add.new.self c.in_ok-add-in-Plain.ensures.ok c.loop-entry.invariant)

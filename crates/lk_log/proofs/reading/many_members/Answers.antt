@@ -1,14 +1,14 @@
 use Rattle.std.proofs.Common.{ap, arith, length, length-append}
-use Rattle.lk_wire.specs.FieldReading.{member_at}
+use Rattle.lk_wire.specs.FieldReading.{read_member}
 use Rattle.lk_wire.specs.Parser.{many}
-use Rattle.lk_wire.proofs.Loop.{goes_on, ends}
+use Rattle.lk_wire.proofs.Spellings.{goes_on, ends}
 use Rattle.lk_log.proofs.reading.many_members.Goals as goal
 
 pub returns-in_default : goal.returns-in_default
-returns-in_default c = ends member_at c.loop.members.items c.args.count c.loop.counter c.loop.rest.now (many member_at c.args.count c.args.bytes.now) c.loop-test.true c.in_default.ensures.parsed c.loop.invariant.so_far
+returns-in_default c = ends read_member c.loop.members.items c.args.count c.loop.counter c.loop.rest.now (many read_member c.args.count c.args.bytes.now) c.loop-test.true c.in_default.ensures.parsed c.loop.invariant.so_far
 
 pub loop-preserved : goal.loop-preserved
 loop-preserved c = record {
-  so_far = rw c.push.ensures.items (goes_on member_at c.loop.members.items c.args.count c.loop.counter c.loop.rest.now c.in-Some.member c.in-Some.after.now (many member_at c.args.count c.args.bytes.now) c.loop-test.true c.in-Some.ensures.parsed c.loop.invariant.so_far);
+  so_far = rw c.push.ensures.items (goes_on read_member c.loop.members.items c.args.count c.loop.counter c.loop.rest.now c.in-Some.member c.in-Some.after.now (many read_member c.args.count c.args.bytes.now) c.loop-test.true c.in-Some.ensures.parsed c.loop.invariant.so_far);
   size = omega (arith, ap length c.push.ensures.items, length-append c.loop.members.items, c.loop.invariant.size);
 }

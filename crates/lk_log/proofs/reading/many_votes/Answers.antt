@@ -1,11 +1,11 @@
-use Rattle.lk_wire.specs.FieldReading.{vote_at}
+use Rattle.lk_wire.specs.FieldReading.{read_vote}
 use Rattle.lk_wire.specs.Parser.{many}
-use Rattle.lk_wire.proofs.Loop.{goes_on, ends}
+use Rattle.lk_wire.proofs.Spellings.{goes_on, ends}
 use Rattle.lk_log.proofs.reading.many_votes.Goals as goal
 
 pub returns-in_default : goal.returns-in_default
-returns-in_default c = ends vote_at c.loop.votes.items c.args.count c.loop.counter c.loop.rest.now (many vote_at c.args.count c.args.bytes.now) c.loop-test.true c.in_default.ensures.parsed c.loop.invariant
+returns-in_default c = ends read_vote c.loop.votes.items c.args.count c.loop.counter c.loop.rest.now (many read_vote c.args.count c.args.bytes.now) c.loop-test.true c.in_default.ensures.parsed c.loop.invariant
 
 pub loop-preserved : goal.loop-preserved
 loop-preserved c =
-    rw c.in_ok-push.ensures.items (goes_on vote_at c.loop.votes.items c.args.count c.loop.counter c.loop.rest.now c.in-Some.vote c.in-Some.after.now (many vote_at c.args.count c.args.bytes.now) c.loop-test.true c.in-Some.ensures.parsed c.loop.invariant)
+    rw c.in_ok-push.ensures.items (goes_on read_vote c.loop.votes.items c.args.count c.loop.counter c.loop.rest.now c.in-Some.vote c.in-Some.after.now (many read_vote c.args.count c.args.bytes.now) c.loop-test.true c.in-Some.ensures.parsed c.loop.invariant)

@@ -1,8 +1,10 @@
 use Rattle.std.proofs.Common.{ap}
 use Rattle.lk_disk.specs.Disk.{contents, other}
+use Rattle.lk_log.specs.Images.{seen}
 use Rattle.lk_log.proofs.BeginLaws.{begins_same, begins_after}
 use Rattle.lk_log.proofs.ImageLaws.{found_is_live}
 use Rattle.lk_log.proofs.RecoverLaws.{ok_then, found_after, empty_after, opens_before}
+use Rattle.lk_log.proofs.StoreLaws.{not_both}
 use Rattle.lk_log.proofs.reopening.recover.Goals as goal
 
 pub returns-in_err-live-clause-stays : goal.returns-in_err-live-clause-stays
@@ -18,6 +20,13 @@ returns-in-Some-clause-opens g c honest =
     ok_then c.open.result _ _
     (λ o p. opens_before old mid same c.args.header.now c.args.zero.now (new o.live) (new (other o.live)) o.generation o.standing p)
     (c.open.ensures.opens honest (found_after old mid same c.in-Some.live c.in-Some.file.entries.items c.in-Some.file.end c.in-Some.file.size found) c.args.zero.now)
+
+-- where a file is live nothing is empty
+pub returns-in-Some-clause-begun : goal.returns-in-Some-clause-begun
+returns-in-Some-clause-begun g c honest empty =
+    let old = g.D.LogDisk.disk c.args.device.now in
+    let found = rw c.in-Some.is at (c.in_ok-live.ensures.live honest) in
+    absurd (not_both (seen old) c.in-Some.file.entries.items (found_is_live old c.in-Some.live c.in-Some.file.entries.items c.in-Some.file.end c.in-Some.file.size found) empty)
 
 pub returns-in-Some-clause-stays : goal.returns-in-Some-clause-stays
 returns-in-Some-clause-stays g c honest =
