@@ -9,8 +9,7 @@ use Rattle.std.proofs.lemmas.List.Elements.{Contains-append_left, Contains-appen
 use Rattle.lk_types.specs.declared.answer.Answer.{Answer}
 use Rattle.lk_members.specs.Counting.{Command, RequestValue, Noop, Request, Placed, is_older, counted, placed, is_of_another, is_at_most, IsLast}
 use Rattle.lk_members.specs.Rosters.{Genesis}
-use Rattle.lk_members.proofs.Pushes.{placed-push}
-use Rattle.lk_members.proofs.CountingLaws.{all_of_another-push, IsLast-push, IsLast-new}
+use Rattle.lk_members.proofs.Memberships.{placed-push, all_of_another-push, IsLast-push, IsLast-new}
 use Rattle.lk_state.specs.Meanings.{Meaning}
 use Rattle.lk_state.specs.Sessions.{Session, is_at, is_new}
 use Rattle.lk_state.specs.States.{served, ledger, reply, last_served}

@@ -81,3 +81,14 @@ length-sessions l h =
 pub length-packed : (IsText : List ℕ → Type 0) → ((t : List ℕ) → IsText t → length t ≤ 36000) → (w : WholeValue) → IsWhole IsText w → length (packed w) ≤ 42087
 length-packed IsText short w h =
     omega (arith, length-append (roster_text w.roster ++ sessions_text w.sessions) w.text, length-append (roster_text w.roster) (sessions_text w.sessions), length-roster w.roster h.roster, length-sessions w.sessions h.sessions, short w.text h.text)
+
+-- and some: how many positions are executed has 8
+pub packed_is_some : (w : WholeValue) → 1 ≤ length (packed w)
+packed_is_some w =
+    omega (
+      arith,
+      length-append (roster_text w.roster ++ sessions_text w.sessions) w.text,
+      length-append (roster_text w.roster) (sessions_text w.sessions),
+      length-append (eight w.roster.executed) (sets_text w.roster.sets ++ (four w.roster.greatest ++ eight w.roster.changed)),
+      length-eight w.roster.executed,
+    )

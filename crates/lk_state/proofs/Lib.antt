@@ -1,6 +1,8 @@
-pub mod SessionLaws
-pub mod StateLaws
-pub mod ReplyLaws
-pub mod PackedLaws
-pub mod LengthLaws
-pub mod LastLaws
+mod SessionLaws
+mod StateLaws
+mod ReplyLaws
+mod PackedLaws
+mod LengthLaws
+mod LastLaws
+mod WholeLaws
+pub mod Wholes

@@ -1,19 +1,19 @@
 -- What a request is answered where it counts.
-use Rattle.std.proofs.Common.{◌≡◌, Bool, true, false, ◌&&◌, eqb, nat_lt, List, [], ◌∷◌, ◌++◌, Some, None, refl, ap, sym, ◌∙◌, inl, inr, arith}
+use Rattle.std.proofs.Common.{◌≡◌, ℕ, Bool, true, false, ◌&&◌, eqb, nat_lt, List, [], ◌∷◌, ◌++◌, Option, Some, None, refl, ap, subst, sym, ◌∙◌, inl, inr, arith, append_assoc, append-nil}
 use Rattle.std.specs.Prelude.{find}
 use Rattle.std.specs.List.{list_all}
-use Rattle.std.specs.Option.{option_map}
+use Rattle.std.specs.Option.{option_map, option_or}
 use Rattle.std.proofs.lemmas.Bool.{and_parts, cases_Bool, ltb-true, ne_eqb, eq-eqb}
 use Rattle.std.proofs.lemmas.List.Folds.{find-append, list_all-append}
 use Rattle.lk_types.specs.declared.answer.Answer.{Answer}
 use Rattle.lk_members.specs.Counting.{Command, RequestValue, Noop, Request, is_older, counted, placed}
 use Rattle.lk_members.specs.Rosters.{Genesis, roster_of}
 use Rattle.lk_members.specs.Windows.{newest_roster}
-use Rattle.lk_members.proofs.WindowLaws.{newest_roster-roster_after}
+use Rattle.lk_members.proofs.Memberships.{newest_roster-roster_after}
 use Rattle.lk_state.specs.Meanings.{Meaning}
 use Rattle.lk_state.specs.Sessions.{Session}
 use Rattle.lk_state.specs.States.{WholeValue, op_answer, text_of, ledger, reply, reply_of, whole_after}
-use Rattle.lk_state.specs.Runs.{counted_now, answered}
+use Rattle.lk_state.specs.Runs.{counted_now, run_answer}
 use Rattle.lk_state.proofs.StateLaws.{by_pushes, entered, served_here, ledger-push, counted-counted_now}
 
 abbrev is_asked : RequestValue → Session → Bool
@@ -69,10 +69,10 @@ pub mine_is_asked : (r : RequestValue) → (eqb r.client r.client && eqb r.numbe
 mine_is_asked r = rw (eq-eqb r.client r.client refl, eq-eqb r.number r.number refl) refl
 
 -- what a command is answered is the reply of the list with it
-pub answered-reply_of : (m : Meaning) (genesis : Genesis) (L : List Command) (c : Command) (w : WholeValue) → w ≡ whole_after m genesis L → answered m c w ≡ reply_of m genesis (L ++ c ∷ []) (counted L c)
+pub run_answer-reply_of : (m : Meaning) (genesis : Genesis) (L : List Command) (c : Command) (w : WholeValue) → w ≡ whole_after m genesis L → run_answer m c w ≡ reply_of m genesis (L ++ c ∷ []) (counted L c)
 unfolding whole_after
-answered-reply_of m genesis L Noop w e = refl
-answered-reply_of m genesis L (Request r) w e =
+run_answer-reply_of m genesis L Noop w e = refl
+run_answer-reply_of m genesis L (Request r) w e =
     let now : counted L (Request r) ≡ counted_now w.sessions (Request r) = counted-counted_now m genesis L (Request r) ∙ ap (λ (x : WholeValue). counted_now x.sessions (Request r)) (sym e) in
     let plain : newest_roster w.roster ≡ roster_of genesis L = ap (λ (x : WholeValue). newest_roster x.roster) e ∙ newest_roster-roster_after genesis L genesis.in_range.0 in
     let text : w.text ≡ text_of m L = ap (λ (x : WholeValue). x.text) e in
@@ -82,12 +82,31 @@ answered-reply_of m genesis L (Request r) w e =
           let asked = mine_is_asked r in
           let told = reply_here m genesis L r all in
           let said : Answer = op_answer m (roster_of genesis L) (text_of m L) r.client r.op in
-          let left : answered m (Request r) w ≡ Some said = rw (counts, plain, text) refl in
+          let left : run_answer m (Request r) w ≡ Some said = rw (counts, plain, text) refl in
           let right : reply_of m genesis (L ++ Request r ∷ []) (counted L (Request r)) ≡ Some said = rw all (told ∙ rw asked refl) in
           left ∙ sym right
       | inr some ↦
           let not_counted : counted_now w.sessions (Request r) ≡ None = sym now ∙ rw some refl in
-          let left : answered m (Request r) w ≡ None = rw not_counted refl in
+          let left : run_answer m (Request r) w ≡ None = rw not_counted refl in
           let right : reply_of m genesis (L ++ Request r ∷ []) (counted L (Request r)) ≡ None = rw some refl in
           left ∙ sym right
     ]
+
+-- ---- a longer list
+
+-- what is found in front is found
+found_front : {X Y : Type 0} (f : X → Y) (o p : Option X) (y : Y) → option_map f o ≡ Some y → option_map f (option_or o p) ≡ Some y
+found_front f None p y e = absurd cc
+found_front f (Some x) p y e = e
+
+reply-push : (m : Meaning) (genesis : Genesis) (L : List Command) (c : Command) (client number : ℕ) (a : Answer) → reply m genesis L client number ≡ Some a → reply m genesis (L ++ c ∷ []) client number ≡ Some a
+reply-push m genesis L c client number a e =
+    rw (ledger-push m genesis L c, find-append (λ (s : Session). eqb s.client client && eqb s.number number) (ledger m genesis L))
+    (found_front (λ (s : Session). s.answer) (find (λ (s : Session). eqb s.client client && eqb s.number number) (ledger m genesis L)) _ a e)
+
+-- a reply stays as the list grows
+pub replies_stay : (m : Meaning) (genesis : Genesis) (L rest : List Command) (client number : ℕ) (a : Answer) → reply m genesis L client number ≡ Some a → reply m genesis (L ++ rest) client number ≡ Some a
+replies_stay m genesis L [] client number a e = subst (λ (l : List Command). reply m genesis l client number ≡ Some a) (sym (append-nil L)) e
+replies_stay m genesis L (c ∷ rest) client number a e =
+    subst (λ (l : List Command). reply m genesis l client number ≡ Some a) (append_assoc L (c ∷ []) rest)
+    (replies_stay m genesis (L ++ c ∷ []) rest client number a (reply-push m genesis L c client number a e))

@@ -1,5 +1,5 @@
 -- One command more.
-use Rattle.std.proofs.Common.{◌≡◌, ℕ, ◌<◌, Bool, true, false, ◌&&◌, cond, eqb, nat_lt, List, [], ◌∷◌, ◌++◌, Option, Some, None, fold, refl, ap, subst, sym, ◌∙◌, inl, inr, arith, append_assoc, append-nil}
+use Rattle.std.proofs.Common.{◌≡◌, ℕ, ◌<◌, Bool, true, false, ◌&&◌, cond, eqb, nat_lt, List, [], ◌∷◌, ◌++◌, Option, Some, None, fold, refl, ap, subst, sym, ◌∙◌, inl, inr, arith, append_assoc, append-nil, Contains}
 use Rattle.std.specs.List.{list_all, filter_map}
 use Rattle.std.proofs.lemmas.Bool.{cases_Bool, ltb-true, ltb-false, lt-ltb, eqb-true, eqb-false, ne_eqb}
 use Rattle.std.proofs.lemmas.List.Sums.{fold-append}
@@ -8,12 +8,12 @@ use Rattle.std.proofs.lemmas.List.Elements.{filter_map-append}
 use Rattle.lk_members.specs.Counting.{Command, RequestValue, Noop, Request, Placed, is_older, counted, placed, counting}
 use Rattle.lk_members.specs.Rosters.{Genesis, roster_of}
 use Rattle.lk_members.specs.Windows.{RosterValue, roster_after, newest_roster}
-use Rattle.lk_members.proofs.Pushes.{placed-push, added, counting-push}
-use Rattle.lk_members.proofs.WindowLaws.{newest_roster-roster_after, roster_after-push}
+use Rattle.lk_members.proofs.Memberships.{placed-push, added, counting-push, newest_roster-roster_after, roster_after-push}
 use Rattle.lk_state.specs.Meanings.{Meaning}
 use Rattle.lk_state.specs.Sessions.{Session, session_of, is_new, with_session}
 use Rattle.lk_state.specs.States.{WholeValue, next_text, op_answer, session_in, served, text_of, ledger, last_served, sessions_of, whole_after}
 use Rattle.lk_state.specs.Runs.{counted_now, served_by, ran}
+use Rattle.lk_state.proofs.SessionLaws.{do_rise, do_rise-with_session, each_is_its_clients}
 
 module _ {X : Type 0} (P : List X → Type 0) (step : (l : List X) (x : X) → P l → P (l ++ x ∷ [])) where
   from_front : (front rest : List X) → P front → P (front ++ rest)
@@ -264,6 +264,17 @@ nothing_last m genesis client = refl
 pub last_served-session_of : (m : Meaning) (genesis : Genesis) (L : List Command) (client : ℕ) → last_served m genesis L client ≡ session_of client (sessions_of m genesis L)
 last_served-session_of m genesis = by_pushes (λ L. (client : ℕ) → last_served m genesis L client ≡ session_of client (sessions_of m genesis L)) (λ client. rw (nothing_served m genesis) (nothing_last m genesis client)) (last_more m genesis)
 
+sessions_rise : (m : Meaning) (genesis : Genesis) (L : List Command) → do_rise (sessions_of m genesis L) ≡ true
+sessions_rise m genesis = by_pushes (λ L. do_rise (sessions_of m genesis L) ≡ true) (rw (nothing_served m genesis) refl) (λ L c so_far. rw (sessions_of-push m genesis L c) (behind (sessions_of m genesis L) (served_here m genesis L c) so_far))
+  where
+    behind : (l : List Session) (o : Option Session) → do_rise l ≡ true → do_rise (sessions_behind l o) ≡ true
+    behind l None h = h
+    behind l (Some s) h = do_rise-with_session s l h
+
+-- a session of the state of a list is its client's last request that counts
+pub sessions_are_last : (m : Meaning) (genesis : Genesis) (L : List Command) (s : Session) → Contains (sessions_of m genesis L) s → last_served m genesis L s.client ≡ Some s
+sessions_are_last m genesis L s here = last_served-session_of m genesis L s.client ∙ each_is_its_clients (sessions_of m genesis L) s (sessions_rise m genesis L) here
+
 -- the session of a client in what stands
 pub seen_last : (m : Meaning) (genesis : Genesis) (L : List Command) (w : WholeValue) (client : ℕ) → w ≡ whole_after m genesis L → session_of client w.sessions ≡ last_served m genesis L client
 unfolding whole_after
@@ -271,7 +282,7 @@ seen_last m genesis L w client e = ap (λ (x : WholeValue). session_of client x.
 
 -- ---- before any command
 
-nothing_ran : (m : Meaning) (genesis : Genesis) → whole_after m genesis [] ≡ record { roster = roster_after genesis []; sessions = []; text = m.first }
+pub nothing_ran : (m : Meaning) (genesis : Genesis) → whole_after m genesis [] ≡ record { roster = roster_after genesis []; sessions = []; text = m.first }
 unfolding whole_after ledger text_of counting placed
 nothing_ran m genesis = refl
 

@@ -4,3 +4,4 @@ pub mod States
 pub mod Runs
 pub mod Packed
 pub mod Reading
+pub mod Faults

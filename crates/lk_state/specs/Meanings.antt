@@ -1,5 +1,7 @@
 -- What a machine means, over its packed texts.
 use Rattle.std.specs.Prelude.{ℕ, List}
+use Rattle.lk_types.specs.Ranges.{IsClient}
+use Rattle.lk_types.specs.Answers.{IsAnswer}
 use Rattle.lk_types.specs.declared.answer.Answer.{Answer}
 
 -- the text of a machine that has run nothing, the text behind a body of a client, and what the client is answered
@@ -10,3 +12,9 @@ pub record Meaning : Type 0 where
 
 abbrev pub meaning : List ℕ → (ℕ → List ℕ → List ℕ → List ℕ) → (ℕ → List ℕ → List ℕ → Answer) → Meaning
 meaning first next answer = record { first = first; next = next; answer = answer }
+
+-- it begins as a text, a text stays one, and what is answered is in its range
+pub record KeepsTexts (IsText : List ℕ → Type 0) (m : Meaning) : Type 0 where
+  pub first : IsText m.first
+  pub next : (client : ℕ) (body before : List ℕ) → IsClient client → IsText before → IsText (m.next client body before)
+  pub answer : (client : ℕ) (body before : List ℕ) → IsClient client → IsText before → IsAnswer (m.answer client body before)

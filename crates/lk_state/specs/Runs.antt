@@ -4,7 +4,7 @@ use Rattle.std.specs.Option.{option_map}
 use Rattle.lk_types.specs.declared.answer.Answer.{Answer}
 use Rattle.lk_members.specs.Counting.{Command, RequestValue, Noop, Request}
 use Rattle.lk_members.specs.Rosters.{Op, Table, Join, Leave}
-use Rattle.lk_members.specs.Windows.{newest_roster, passed, changed_by}
+use Rattle.lk_members.specs.Windows.{newest_roster, moved_unchanged, changed_by}
 use Rattle.lk_state.specs.Meanings.{Meaning}
 use Rattle.lk_state.specs.Sessions.{Session, session_of, is_new, with_session}
 use Rattle.lk_state.specs.States.{WholeValue, next_text, op_answer}
@@ -22,7 +22,7 @@ session_for m w r = record { client = r.client; number = r.number; answer = op_a
 
 -- one position on, with a request that counts or with none
 abbrev pub served_by : Meaning → WholeValue → Option RequestValue → WholeValue
-served_by m w None = record { roster = passed w.roster; sessions = w.sessions; text = w.text }
+served_by m w None = record { roster = moved_unchanged w.roster; sessions = w.sessions; text = w.text }
 served_by m w (Some r) =
     record {
       roster = changed_by r.op w.roster;
@@ -35,8 +35,8 @@ abbrev pub ran : Meaning → Command → WholeValue → WholeValue
 ran m command w = served_by m w (counted_now w.sessions command)
 
 -- what the command is answered, where it counts
-abbrev pub answered : Meaning → Command → WholeValue → Option Answer
-answered m command w = option_map (λ r. (session_for m w r).answer) (counted_now w.sessions command)
+abbrev pub run_answer : Meaning → Command → WholeValue → Option Answer
+run_answer m command w = option_map (λ r. (session_for m w r).answer) (counted_now w.sessions command)
 
 abbrev pub is_table : Op → Bool
 is_table (Table body) = true

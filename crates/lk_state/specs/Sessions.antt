@@ -33,13 +33,13 @@ with_session s (t ∷ sessions) =
     else t ∷ with_session s sessions
 
 -- each client is above the one before, the first above low
-abbrev pub are_rising_above : ℕ → List Session → Bool
-are_rising_above low [] = true
-are_rising_above low (s ∷ sessions) = nat_lt low s.client && are_rising_above s.client sessions
+abbrev pub are_sessions_above : ℕ → List Session → Bool
+are_sessions_above low [] = true
+are_sessions_above low (s ∷ sessions) = nat_lt low s.client && are_sessions_above s.client sessions
 
 abbrev pub IsSession : Session → Type 0
 IsSession s = IsClient s.client × (IsCount s.number × IsAnswer s.answer)
 
 -- one for each of some clients, rising by client: so there are at most 256
 abbrev pub AreSessions : List Session → Type 0
-AreSessions sessions = AllByRecursion IsSession sessions × IsTrue (are_rising_above 0 sessions)
+AreSessions sessions = AllByRecursion IsSession sessions × IsTrue (are_sessions_above 0 sessions)

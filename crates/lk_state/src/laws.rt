@@ -1,12 +1,18 @@
 //! Laws of the definitions alone.
-ghost use Rattle.std.specs.Prelude.{◌≡◌, if◌then◌else◌, true, Some, None, List, ℕ, Contains};
-ghost use Rattle.std.specs.List.{list_all};
+ghost use Rattle.std.specs.Prelude.{◌≡◌, ◌≤◌, ◌++◌, if◌then◌else◌, true, Some, None, List, length, ℕ, Contains};
+ghost use Rattle.std.specs.List.{list_all, AllByRecursion};
+ghost use Rattle.lk_types.specs.Limits.{max_count};
+ghost use Rattle.lk_types.specs.Commands.{IsCommand};
+ghost use Rattle.lk_types.specs.Geneses.{IsGenesis};
 ghost use Rattle.lk_types.specs.declared.answer.Answer.{Answer};
 ghost use Rattle.lk_members.specs.Counting.{Command, RequestValue, Request, Placed, placed, counted, is_of_another, IsLast};
 ghost use Rattle.lk_members.specs.Rosters.{Genesis};
-ghost use Rattle.lk_state.specs.Meanings.{Meaning};
+ghost use Rattle.lk_state.specs.Meanings.{Meaning, meaning};
 ghost use Rattle.lk_state.specs.Sessions.{Session, is_new};
-ghost use Rattle.lk_state.specs.States.{served, reply, last_served};
+ghost use Rattle.lk_state.specs.States.{served, reply, last_served, sessions_of, whole_after};
+ghost use Rattle.lk_state.specs.Packed.{IsWhole};
+
+use crate::machine::Machine;
 
 /// A request counts behind a list exactly where its number is above that of its client's last one that counts.
 pub fn counts_above_last()
@@ -36,4 +42,19 @@ pub fn replies_stand()
 /// What an entry that counts is answered at its place is the reply of its client's number.
 pub fn one_reply()
     ensures { (m : Meaning) (genesis : Genesis) (L : List Command) (p : Placed) (s : Session) → Contains (placed L) p → served m genesis p ≡ Some s → reply m genesis L s.client s.number ≡ Some s.answer }
+{}
+
+/// A reply stays as the list grows.
+pub fn replies_stay()
+    ensures { (m : Meaning) (genesis : Genesis) (L rest : List Command) (client number : ℕ) (a : Answer) → reply m genesis L client number ≡ Some a → reply m genesis (L ++ rest) client number ≡ Some a }
+{}
+
+/// A session of the state of a list is its client's last request that counts.
+pub fn sessions_are_last()
+    ensures { (m : Meaning) (genesis : Genesis) (L : List Command) (s : Session) → Contains (sessions_of m genesis L) s → last_served m genesis L s.client ≡ Some s }
+{}
+
+/// What stands once a list in range was run may be held, and so packed and unpacked again.
+pub fn states_fit<M: Machine>()
+    ensures { (genesis : Genesis) (L : List Command) → IsGenesis genesis → AllByRecursion IsCommand L → length L ≤ max_count → IsWhole M.IsText (whole_after (meaning M.first M.next M.answer) genesis L) }
 {}

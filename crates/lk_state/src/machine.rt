@@ -1,6 +1,9 @@
 ghost use Rattle.std.specs.Prelude.{◌≡◌, ◌≤◌, ◌++◌, ℕ, List, length, OnOk, OnErr, IfOk, IsErrOf};
+ghost use Rattle.lk_types.specs.Limits.{max_machine};
 ghost use Rattle.lk_types.specs.declared.answer.Answer.{Answer as AnswerValue};
 ghost use Rattle.lk_types.specs.Ranges.{IsClient};
+ghost use Rattle.lk_types.specs.Answers.{IsAnswer};
+ghost use Rattle.lk_state.specs.Faults.{unpack_number};
 
 use bytes::BytesMut;
 use lk_types::{Answer, ClientNo, NoMemory};
@@ -45,6 +48,15 @@ impl<T: Drop> From<AllocFailed<T>> for UnpackFault {
 
     fn from(_error: AllocFailed<T>) -> UnpackFault {
         UnpackFault::NoMemory
+    }
+}
+
+impl UnpackFault {
+    /// The number of this refusal.
+    pub fn number(self) -> u8
+        ensures { result ≡ unpack_number self }
+    {
+        self as u8
     }
 }
 
@@ -94,6 +106,9 @@ pub trait Machine: Sized + Drop {
     // a text stays one
     ghost next_is_text: { (client : ℕ) (body before : List ℕ) → IsClient client → IsText before → IsText (next client body before) };
 
+    // what a client is answered is in its range
+    ghost answer_is_answer: { (client : ℕ) (body before : List ℕ) → IsClient client → IsText before → IsAnswer (answer client body before) };
+
     // no text is long
-    ghost short: { (bytes : List ℕ) → IsText bytes → length bytes ≤ 36000 };
+    ghost short: { (bytes : List ℕ) → IsText bytes → length bytes ≤ max_machine };
 }

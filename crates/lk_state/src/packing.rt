@@ -1,6 +1,7 @@
 //! The packed text of a state.
 
 ghost use Rattle.std.specs.Prelude.{◌≡◌, ◌≤◌, ◌++◌, length, OnOk, OnErr};
+ghost use Rattle.lk_types.specs.Limits.{max_client};
 ghost use Rattle.lk_types.specs.Rosters.{AreMembers};
 ghost use Rattle.lk_members.specs.Sets.{IsWindow};
 ghost use Rattle.lk_state.specs.Sessions.{AreSessions};
@@ -59,7 +60,7 @@ fn put_session(out: &mut BytesMut, session: &Session) -> Result<(), AllocError>
 }
 
 fn put_sessions(out: &mut BytesMut, sessions: &[Session]) -> Result<(), AllocError>
-    requires { length sessions.now ≤ 256 }
+    requires { length sessions.now ≤ max_client }
     ensures { OnOk result (out.new.items ≡ out.old.items ++ sessions_text sessions.now) }
 {
     put_u16(out, sessions.len() as u16)?;
@@ -70,9 +71,10 @@ fn put_sessions(out: &mut BytesMut, sessions: &[Session]) -> Result<(), AllocErr
 }
 
 impl<M: Machine> Whole<M> {
-    /// Each part is in its range, and the packed text is short. It does nothing.
+    /// Each part is in its range, and the packed text is not empty and short. It does nothing.
     pub fn facts(&self)
         ensures fits { IsWhole M.IsText self.now }
+        ensures some { 1 ≤ length (packed self.now) }
         ensures short { length (packed self.now) ≤ 42087 }
     {
         let _ = &self.roster;

@@ -1,6 +1,7 @@
 ghost use Rattle.std.specs.Prelude.{◌≡◌, ◌≤◌, ◌==◌, ◌↔◌, nat_lt, [], length, slice_get, IsTrue, IsSome, IfSome};
 ghost use Rattle.std.specs.List.{prefix_len, AllByRecursion};
-ghost use Rattle.lk_state.specs.Sessions.{session_of, own, is_at, with_session, are_rising_above, AreSessions, IsSession};
+ghost use Rattle.lk_types.specs.Limits.{max_client};
+ghost use Rattle.lk_state.specs.Sessions.{session_of, own, is_at, with_session, are_sessions_above, AreSessions, IsSession};
 
 use arrayvec::ArrayVec;
 use lk_types::{Answer, ClientNo, RequestNumber};
@@ -18,11 +19,7 @@ impl Session {
     /// Each part is in its range. It does nothing.
     pub fn facts(self)
         ensures { IsSession self }
-    {
-        let _ = self.client.get();
-        let _ = self.number.get();
-        self.answer.facts();
-    }
+    {}
 }
 
 impl Default for Session {
@@ -67,7 +64,7 @@ impl Sessions {
 
     /// The sessions of this list, or `None` where they do not rise by client.
     pub(crate) fn of(list: ArrayVec<Session, 256>) -> Option<Sessions>
-        ensures some { IsSome result ↔ IsTrue (are_rising_above 0 list.items) }
+        ensures some { IsSome result ↔ IsTrue (are_sessions_above 0 list.items) }
         ensures value { IfSome result (λ s. s ≡ list.items) }
     {
         facts_of(list.as_slice());
@@ -81,7 +78,7 @@ impl Sessions {
     pub(crate) fn as_slice(&self) -> &[Session]
         ensures value { result.now ≡ self.now }
         ensures fits { AreSessions self.now }
-        ensures few { length self.now ≤ 256 }
+        ensures few { length self.now ≤ max_client }
     {
         self.list.as_slice()
     }
@@ -119,7 +116,7 @@ fn facts_of(sessions: &[Session])
 
 /// Whether the clients rise strictly.
 fn are_rising(sessions: &[Session]) -> bool
-    ensures { result ≡ are_rising_above 0 sessions.now }
+    ensures { result ≡ are_sessions_above 0 sessions.now }
 {
     let mut low = 0;
     for session in sessions {
@@ -134,7 +131,7 @@ fn are_rising(sessions: &[Session]) -> bool
 
 /// How many sessions of smaller clients stand in front.
 fn place_of(sessions: &[Session], client: ClientNo) -> usize
-    requires { IsTrue (are_rising_above 0 sessions.now) }
+    requires { IsTrue (are_sessions_above 0 sessions.now) }
     ensures place { result ≡ prefix_len (λ s. nat_lt s.client client) sessions.now }
     ensures within { result ≤ length sessions.now }
 {

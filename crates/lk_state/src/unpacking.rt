@@ -1,24 +1,26 @@
 //! Reading a packed state: all of the bytes are the roster, the sessions and the machine's text.
 
 ghost use Rattle.std.specs.Prelude.{◌≡◌, ◌<◌, ◌≤◌, length, IfSome};
+ghost use Rattle.lk_types.specs.Limits.{max_alpha, max_client, max_members};
 ghost use Rattle.lk_wire.specs.Parser.{Finds, many};
-ghost use Rattle.lk_wire.specs.FieldReading.{member_at};
-ghost use Rattle.lk_state.specs.Reading.{set_at, sets_at, roster_at, session_at, sessions_at, front_at};
+ghost use Rattle.lk_wire.specs.FieldReading.{read_member};
+ghost use Rattle.lk_state.specs.Reading.{read_set, read_sets, read_roster, read_session, read_sessions, read_front};
 
 use crate::machine::{Machine, UnpackFault};
 use crate::session::{Session, Sessions};
 use crate::whole::Whole;
 use arrayvec::ArrayVec;
 use lk_members::{Roster, Window};
+use lk_types::limits::{MAX_ALPHA, MAX_CLIENT, MAX_MEMBERS};
 use lk_types::{Member, Members};
 use lk_wire::fields::{
     read_answer, read_client, read_executed, read_member, read_node, read_number, read_u8, read_u16,
 };
 use std::alloc::Global;
 
-fn many_members(count: u8, bytes: &[u8]) -> Option<(ArrayVec<Member, 7>, &[u8])>
-    requires { count ≤ 7 }
-    ensures read { Finds (λ x. (x.0.items, x.1.now)) result (many member_at count bytes.now) }
+fn many_members(count: u8, bytes: &[u8]) -> Option<(ArrayVec<Member, MAX_MEMBERS>, &[u8])>
+    requires { count ≤ max_members }
+    ensures read { Finds (λ x. (x.0.items, x.1.now)) result (many read_member count bytes.now) }
     ensures count { IfSome result (λ x. length x.0.items ≡ count) }
 {
     let mut members = ArrayVec::new();
@@ -33,12 +35,12 @@ fn many_members(count: u8, bytes: &[u8]) -> Option<(ArrayVec<Member, 7>, &[u8])>
     Some((members, rest))
 }
 
-#[tactic(auto, unfolding(crate::specs::Reading::set_at))]
-fn set_at(bytes: &[u8]) -> Option<(Members, &[u8])>
-    ensures { Finds (λ x. (x.0, x.1.now)) result (set_at bytes.now) }
+#[tactic(auto, unfolding(crate::specs::Reading::read_set))]
+fn read_set(bytes: &[u8]) -> Option<(Members, &[u8])>
+    ensures { Finds (λ x. (x.0, x.1.now)) result (read_set bytes.now) }
 {
     let (count, rest) = read_u8(bytes)?;
-    if count < 1 || count > 7 {
+    if count < 1 || usize::from(count) > MAX_MEMBERS {
         return None;
     }
     let Some((members, rest)) = many_members(count, rest) else {
@@ -51,14 +53,14 @@ fn set_at(bytes: &[u8]) -> Option<(Members, &[u8])>
 }
 
 fn many_sets(count: u8, bytes: &[u8]) -> Option<(Window, &[u8])>
-    requires { count ≤ 16 }
-    ensures read { Finds (λ x. (x.0, x.1.now)) result (many set_at count bytes.now) }
+    requires { count ≤ max_alpha }
+    ensures read { Finds (λ x. (x.0, x.1.now)) result (many read_set count bytes.now) }
     ensures count { IfSome result (λ x. length x.0 ≡ count) }
 {
     let mut window = Window::new();
     let mut rest = bytes;
     for _ in 0..count {
-        let Some((set, after)) = set_at(rest) else {
+        let Some((set, after)) = read_set(rest) else {
             return None;
         };
         window.push(set);
@@ -67,26 +69,26 @@ fn many_sets(count: u8, bytes: &[u8]) -> Option<(Window, &[u8])>
     Some((window, rest))
 }
 
-#[tactic(auto, unfolding(crate::specs::Reading::sets_at))]
-fn window_at(bytes: &[u8]) -> Option<(Window, &[u8])>
-    ensures read { Finds (λ x. (x.0, x.1.now)) result (sets_at bytes.now) }
+#[tactic(auto, unfolding(crate::specs::Reading::read_sets))]
+fn read_window(bytes: &[u8]) -> Option<(Window, &[u8])>
+    ensures read { Finds (λ x. (x.0, x.1.now)) result (read_sets bytes.now) }
     ensures some { IfSome result (λ x. 0 < length x.0) }
 {
     let (count, rest) = read_u8(bytes)?;
-    if count < 1 || count > 16 {
+    if count < 1 || count > MAX_ALPHA {
         return None;
     }
     many_sets(count, rest)
 }
 
-#[tactic(auto, unfolding(crate::specs::Reading::roster_at))]
-fn roster_at(bytes: &[u8]) -> Option<(Roster, &[u8])>
-    ensures { Finds (λ x. (x.0, x.1.now)) result (roster_at bytes.now) }
+#[tactic(auto, unfolding(crate::specs::Reading::read_roster))]
+fn read_roster(bytes: &[u8]) -> Option<(Roster, &[u8])>
+    ensures { Finds (λ x. (x.0, x.1.now)) result (read_roster bytes.now) }
 {
     let Some((executed, rest)) = read_executed(bytes) else {
         return None;
     };
-    let Some((window, rest)) = window_at(rest) else {
+    let Some((window, rest)) = read_window(rest) else {
         return None;
     };
     let Some((greatest, rest)) = read_node(rest) else {
@@ -101,9 +103,9 @@ fn roster_at(bytes: &[u8]) -> Option<(Roster, &[u8])>
     Some((roster, rest))
 }
 
-#[tactic(auto, unfolding(crate::specs::Reading::session_at))]
-fn session_at(bytes: &[u8]) -> Option<(Session, &[u8])>
-    ensures { Finds (λ x. (x.0, x.1.now)) result (session_at bytes.now) }
+#[tactic(auto, unfolding(crate::specs::Reading::read_session))]
+fn read_session(bytes: &[u8]) -> Option<(Session, &[u8])>
+    ensures { Finds (λ x. (x.0, x.1.now)) result (read_session bytes.now) }
 {
     let Some((client, rest)) = read_client(bytes) else {
         return None;
@@ -123,13 +125,13 @@ fn session_at(bytes: &[u8]) -> Option<(Session, &[u8])>
 }
 
 fn many_sessions(count: u16, bytes: &[u8]) -> Option<(ArrayVec<Session, 256>, &[u8])>
-    requires { count ≤ 256 }
-    ensures { Finds (λ x. (x.0.items, x.1.now)) result (many session_at count bytes.now) }
+    requires { count ≤ max_client }
+    ensures { Finds (λ x. (x.0.items, x.1.now)) result (many read_session count bytes.now) }
 {
     let mut sessions = ArrayVec::new();
     let mut rest = bytes;
     for _ in 0..count {
-        let Some((session, after)) = session_at(rest) else {
+        let Some((session, after)) = read_session(rest) else {
             return None;
         };
         sessions.push(session);
@@ -138,12 +140,12 @@ fn many_sessions(count: u16, bytes: &[u8]) -> Option<(ArrayVec<Session, 256>, &[
     Some((sessions, rest))
 }
 
-#[tactic(auto, unfolding(crate::specs::Reading::sessions_at))]
-fn sessions_at(bytes: &[u8]) -> Option<(Sessions, &[u8])>
-    ensures { Finds (λ x. (x.0, x.1.now)) result (sessions_at bytes.now) }
+#[tactic(auto, unfolding(crate::specs::Reading::read_sessions))]
+fn read_sessions(bytes: &[u8]) -> Option<(Sessions, &[u8])>
+    ensures { Finds (λ x. (x.0, x.1.now)) result (read_sessions bytes.now) }
 {
     let (count, rest) = read_u16(bytes)?;
-    if count > 256 {
+    if count > MAX_CLIENT {
         return None;
     }
     let Some((list, rest)) = many_sessions(count, rest) else {
@@ -156,14 +158,14 @@ fn sessions_at(bytes: &[u8]) -> Option<(Sessions, &[u8])>
 }
 
 /// All that stands in front of the machine's text.
-#[tactic(auto, unfolding(crate::specs::Reading::front_at))]
-fn front_at(bytes: &[u8]) -> Option<(Roster, Sessions, &[u8])>
-    ensures { Finds (λ x. ((x.0, x.1), x.2.now)) result (front_at bytes.now) }
+#[tactic(auto, unfolding(crate::specs::Reading::read_front))]
+fn read_front(bytes: &[u8]) -> Option<(Roster, Sessions, &[u8])>
+    ensures { Finds (λ x. ((x.0, x.1), x.2.now)) result (read_front bytes.now) }
 {
-    let Some((roster, rest)) = roster_at(bytes) else {
+    let Some((roster, rest)) = read_roster(bytes) else {
         return None;
     };
-    let Some((sessions, rest)) = sessions_at(rest) else {
+    let Some((sessions, rest)) = read_sessions(rest) else {
         return None;
     };
     Some((roster, sessions, rest))
@@ -181,7 +183,7 @@ impl<M: Machine> Whole<M> {
         ensures only { (w : WholeValue) → Packs M.IsText w bytes.now → (result ≡ Ok w) ⊎ (result ≡ Err UnpackFault.NoMemory) }
         ensures not_packed { result ≡ Err UnpackFault.NotPacked → (w : WholeValue) → Packs M.IsText w bytes.now → ⊥ }
     {
-        let Some((roster, sessions, rest)) = front_at(bytes) else {
+        let Some((roster, sessions, rest)) = read_front(bytes) else {
             return Err(UnpackFault::NotPacked);
         };
         roster.facts();

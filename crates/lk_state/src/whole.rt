@@ -1,4 +1,5 @@
 ghost use Rattle.std.specs.Prelude.{◌≡◌};
+ghost use Rattle.lk_types.specs.Limits.{max_count};
 ghost use Rattle.lk_state.specs.Runs.{seen_as};
 
 use crate::machine::Machine;
@@ -60,7 +61,7 @@ impl<M: Machine> Whole<M> {
     ghost use Rattle.lk_state.specs.Meanings.{meaning};
     ghost use Rattle.lk_state.specs.Sessions.{session_of, is_new, with_session};
     ghost use Rattle.lk_state.specs.States.{SumsUp, next_text, op_answer, reply_of, last_served};
-    ghost use Rattle.lk_state.specs.Runs.{counted_now, served_by, ran, answered, is_table, is_body, seen_as};
+    ghost use Rattle.lk_state.specs.Runs.{counted_now, served_by, ran, run_answer, is_table, is_body, seen_as};
 
     /// What stands before any command is executed. It takes no memory.
     pub fn begin(alloc: Global, genesis: &Genesis) -> Whole<M>
@@ -118,10 +119,10 @@ impl<M: Machine> Whole<M> {
     /// Executes the next command of the list. Only a body that the machine runs may need memory; a refused call
     /// changes nothing.
     pub fn run(&mut self, command: &Command) -> Result<Ran, NoMemory>
-        requires { self.old.roster.executed < 281474976710656 }
+        requires { self.old.roster.executed < max_count }
         ensures ok { OnOk result (self.new ≡ ran (meaning M.first M.next M.answer) command.now self.old) }
         ensures position { IfOk result (λ r. r.position ≡ self.old.roster.executed + 1) }
-        ensures answer { IfOk result (λ r. r.answer ≡ answered (meaning M.first M.next M.answer) command.now self.old) }
+        ensures answer { IfOk result (λ r. r.answer ≡ run_answer (meaning M.first M.next M.answer) command.now self.old) }
         ensures err { OnErr result (self.new ≡ self.old) }
         ensures free { is_body (counted_now self.old.sessions command.now) ≡ false → IsOk result }
 
@@ -138,7 +139,7 @@ impl<M: Machine> Whole<M> {
 
     /// The position that is executed next.
     fn next_position(&self) -> Position
-        requires { self.now.roster.executed < 281474976710656 }
+        requires { self.now.roster.executed < max_count }
         ensures { result ≡ self.now.roster.executed + 1 }
     {
         Position::of(self.executed().get() + 1).unwrap()
@@ -146,9 +147,9 @@ impl<M: Machine> Whole<M> {
 
     /// One position on with a command, and what it is answered where it counts.
     fn run_command(&mut self, command: &Command) -> Result<Option<Answer>, NoMemory>
-        requires { self.old.roster.executed < 281474976710656 }
+        requires { self.old.roster.executed < max_count }
         ensures ok { OnOk result (self.new ≡ ran (meaning M.first M.next M.answer) command.now self.old) }
-        ensures answer { IfOk result (λ a. a ≡ answered (meaning M.first M.next M.answer) command.now self.old) }
+        ensures answer { IfOk result (λ a. a ≡ run_answer (meaning M.first M.next M.answer) command.now self.old) }
         ensures err { OnErr result (self.new ≡ self.old) }
         ensures free { is_body (counted_now self.old.sessions command.now) ≡ false → IsOk result }
     {
@@ -163,7 +164,7 @@ impl<M: Machine> Whole<M> {
 
     /// One position on with an op that counts, and what it is answered.
     fn run_op(&mut self, client: ClientNo, op: &Op) -> Result<Answer, NoMemory>
-        requires { self.old.roster.executed < 281474976710656 }
+        requires { self.old.roster.executed < max_count }
         ensures ok { OnOk result (self.new ≡ record { roster = changed_by op.now self.old.roster; sessions = self.old.sessions; text = next_text (meaning M.first M.next M.answer) self.old.text client op.now }) }
         ensures answer { IfOk result (λ a. a ≡ op_answer (meaning M.first M.next M.answer) (newest_roster self.old.roster) self.old.text client op.now) }
         ensures err { OnErr result (self.new ≡ self.old) }
@@ -187,9 +188,9 @@ impl<M: Machine> Whole<M> {
 
     /// One position on with a request, and what it is answered where it counts.
     fn run_request(&mut self, request: &Request) -> Result<Option<Answer>, NoMemory>
-        requires { self.old.roster.executed < 281474976710656 }
+        requires { self.old.roster.executed < max_count }
         ensures ok { OnOk result (self.new ≡ ran (meaning M.first M.next M.answer) (Command.Request request.now) self.old) }
-        ensures answer { IfOk result (λ a. a ≡ answered (meaning M.first M.next M.answer) (Command.Request request.now) self.old) }
+        ensures answer { IfOk result (λ a. a ≡ run_answer (meaning M.first M.next M.answer) (Command.Request request.now) self.old) }
         ensures err { OnErr result (self.new ≡ self.old) }
         ensures free { is_body (counted_now self.old.sessions (Command.Request request.now)) ≡ false → IsOk result }
     {
@@ -209,7 +210,7 @@ impl<M: Machine> Whole<M> {
 
     /// One position on with nothing that counts.
     fn pass(&mut self)
-        requires { self.old.roster.executed < 281474976710656 }
+        requires { self.old.roster.executed < max_count }
         ensures { self.new ≡ served_by (meaning M.first M.next M.answer) self.old None }
     {
         self.roster.pass();

@@ -1,12 +1,12 @@
 -- Reading goes on where it stopped.
 use Rattle.std.proofs.Common.{ap, ◌∙◌, length-append, ◌+◌}
 use Rattle.lk_wire.specs.Parser.{many}
-use Rattle.lk_wire.specs.FieldReading.{member_at}
-use Rattle.lk_wire.proofs.Loop.{goes_on}
+use Rattle.lk_wire.specs.FieldReading.{read_member}
+use Rattle.lk_wire.proofs.Spellings.{goes_on}
 use Rattle.lk_state.proofs.unpacking.many_members.Goals as goal
 
 pub loop-preserved : goal.loop-preserved
 loop-preserved c = record {
-  read = rw c.push.ensures.items (goes_on member_at c.loop.members.items c.args.count c.loop.counter c.loop.rest.now c.in-Some.member c.in-Some.after.now (many member_at c.args.count c.args.bytes.now) c.loop-test.true c.in-Some.ensures.parsed c.loop.invariant.read);
+  read = rw c.push.ensures.items (goes_on read_member c.loop.members.items c.args.count c.loop.counter c.loop.rest.now c.in-Some.member c.in-Some.after.now (many read_member c.args.count c.args.bytes.now) c.loop-test.true c.in-Some.ensures.parsed c.loop.invariant.read);
   count = rw c.push.ensures.items (length-append c.loop.members.items _ ∙ ap (λ n. n + 1) c.loop.invariant.count);
 }

@@ -1,12 +1,12 @@
 -- What is read already, and what is still to be read, are what all is.
 use Rattle.std.proofs.Common.{◌≡◌, ◌-◌, length}
 use Rattle.lk_wire.specs.Parser.{many}
-use Rattle.lk_wire.specs.FieldReading.{member_at}
-use Rattle.lk_wire.proofs.Loop.{with_front}
+use Rattle.lk_wire.specs.FieldReading.{read_member}
+use Rattle.lk_wire.proofs.Spellings.{with_front}
 use Rattle.lk_state.proofs.unpacking.many_members.Given as goal
 
 abbrev pub invariant-loop : goal.invariant-loop
 invariant-loop l = record {
-  read : with_front l.members.items (many member_at (l.count - l.counter) l.rest) ≡ many member_at l.count l.bytes;
+  read : with_front l.members.items (many read_member (l.count - l.counter) l.rest) ≡ many read_member l.count l.bytes;
   count : length l.members.items ≡ l.counter;
 }

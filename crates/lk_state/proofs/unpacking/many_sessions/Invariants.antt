@@ -1,12 +1,12 @@
 -- What is read already, and what is still to be read, are what all is.
 use Rattle.std.proofs.Common.{◌≡◌, ◌-◌, length}
 use Rattle.lk_wire.specs.Parser.{many}
-use Rattle.lk_state.specs.Reading.{session_at}
-use Rattle.lk_wire.proofs.Loop.{with_front}
+use Rattle.lk_state.specs.Reading.{read_session}
+use Rattle.lk_wire.proofs.Spellings.{with_front}
 use Rattle.lk_state.proofs.unpacking.many_sessions.Given as goal
 
 abbrev pub invariant-loop : goal.invariant-loop
 invariant-loop l = record {
-  read : with_front l.sessions.items (many session_at (l.count - l.counter) l.rest) ≡ many session_at l.count l.bytes;
+  read : with_front l.sessions.items (many read_session (l.count - l.counter) l.rest) ≡ many read_session l.count l.bytes;
   count : length l.sessions.items ≡ l.counter;
 }

@@ -3,7 +3,7 @@ use Rattle.std.proofs.Common.{◌∙◌, ap}
 use Rattle.lk_state.specs.Meanings.{Meaning, meaning}
 use Rattle.lk_state.specs.Runs.{ran}
 use Rattle.lk_state.proofs.StateLaws.{ran-whole_after}
-use Rattle.lk_state.proofs.ReplyLaws.{answered-reply_of}
+use Rattle.lk_state.proofs.ReplyLaws.{run_answer-reply_of}
 use Rattle.lk_state.proofs.whole.Whole.run.Goals as goal
 
 pub returns-clause-sums : goal.returns-clause-sums
@@ -14,4 +14,4 @@ returns-clause-sums g c = λ genesis L e.
 pub returns-clause-reply : goal.returns-clause-reply
 returns-clause-reply g c = λ genesis L e.
     let m : Meaning = meaning g.M.Machine.first g.M.Machine.next g.M.Machine.answer in
-    c.in_ok-answer.ensures.answer ∙ answered-reply_of m genesis L c.args.command.now c.args.self.now e
+    c.in_ok-answer.ensures.answer ∙ run_answer-reply_of m genesis L c.args.command.now c.args.self.now e
