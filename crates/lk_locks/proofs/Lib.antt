@@ -1,5 +1,6 @@
-pub mod Maps
-pub mod BodyLaws
-pub mod GrantLaws
-pub mod TableLaws
-pub mod ListLaws
+mod Maps
+mod BodyLaws
+mod GrantLaws
+mod TableLaws
+mod ListLaws
+pub mod Tables

@@ -8,13 +8,14 @@ use Rattle.lk_types.specs.Commands.{IsCommand}
 use Rattle.lk_types.specs.declared.command.Op.{Op}
 use Rattle.lk_types.specs.declared.command.Op.TheVariants.{Table as TableOp, Join, Leave}
 use Rattle.lk_members.specs.Counting.{Command, RequestValue, Noop, Request, is_older, counted, placed, counting}
-use Rattle.lk_members.proofs.Pushes.{added, counting-push}
+use Rattle.lk_members.proofs.Memberships.{added, counting-push}
+use Rattle.lk_state.specs.Meanings.{KeepsTexts}
 use Rattle.lk_state.specs.States.{next_text, text_of}
-use Rattle.lk_state.proofs.StateLaws.{by_pushes, text_behind, text_of-push}
+use Rattle.lk_state.proofs.Wholes.{by_pushes, text_behind, text_of-push}
 use Rattle.lk_locks.specs.Plain.{Table, answer, next}
-use Rattle.lk_locks.specs.Packed.{IsTable, text, table_in}
-use Rattle.lk_locks.specs.PackedLaws.{again, empty_is_table}
-use Rattle.lk_locks.specs.NextLaws.{next_is_table}
+use Rattle.lk_locks.specs.Packed.{IsTable, IsText, text, table_in}
+use Rattle.lk_locks.specs.PackedLaws.{again, empty_is_table, empty_is_text}
+use Rattle.lk_locks.specs.NextLaws.{next_is_table, next_is_text, answer_is_answer}
 use Rattle.lk_locks.specs.Meaning.{table_meaning}
 use Rattle.lk_locks.specs.Lists.{table_after, table_of}
 
@@ -99,3 +100,7 @@ text_of-text L all = (is_plain L all).1
 -- what the machine answers behind a list is what its table answers
 pub answer-text_of : (L : List Command) → AllByRecursion IsCommand L → (client : ℕ) (body : List ℕ) → table_meaning.answer client body (text_of table_meaning L) ≡ answer client body (table_of L)
 answer-text_of L all client body = ap (answer client body) (ap table_in (text_of-text L all) ∙ again (table_of L) (table_of-is_table L all))
+
+-- the table keeps to its texts, and its answers are in their ranges
+pub table_keeps_texts : KeepsTexts IsText table_meaning
+table_keeps_texts = record { first = empty_is_text; next = next_is_text; answer = answer_is_answer }

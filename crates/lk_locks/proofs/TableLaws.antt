@@ -10,12 +10,12 @@ use Rattle.std.proofs.lemmas.Bool.{eqb-true, le-leb}
 use Rattle.std.proofs.lemmas.List.{length-append, nil_from_length}
 use Rattle.std.specs.FinMap.Entries.{below_all}
 use Rattle.lk_locks.specs.Plain.{Table}
-use Rattle.lk_locks.specs.Packed.{Entry, entry, text, entry_at, size_at, entries_at, rise, DoNotRise}
+use Rattle.lk_locks.specs.Packed.{Entry, entry, text, read_entry, read_size, read_entries, rise, DoNotRise}
 use Rattle.lk_locks.specs.declared.slot.Slot.{Slot}
 use Rattle.lk_wire.specs.Fields.{two}
-use Rattle.lk_wire.specs.FieldReading.{two_at}
+use Rattle.lk_wire.specs.FieldReading.{read_two}
 use Rattle.lk_wire.specs.Parser.{many, whole}
-use Rattle.lk_wire.proofs.Loop.{with_front}
+use Rattle.lk_wire.proofs.Spellings.{with_front}
 use Rattle.lk_locks.specs.PackedLaws.{decided, entries_rise, empty_entries}
 
 two_hold : (a b : Bool) → (a && b) ≡ true → (a ≡ true) × (b ≡ true)
@@ -121,14 +121,14 @@ none_before : (read : Option (List Entry × List ℕ)) → with_front [] read �
 none_before (Some x) = refl
 none_before None = refl
 
-pub starts : (count : ℕ) (bytes : List ℕ) → with_front (map.entries {X = Slot} {R = slice_cmp nat_cmp} map.empty) (many entry_at (count - 0) bytes) ≡ many entry_at count bytes
-starts count bytes = let all : count - 0 ≡ count = omega arith in rw (all, empty_entries) (none_before (many entry_at count bytes))
+pub starts : (count : ℕ) (bytes : List ℕ) → with_front (map.entries {X = Slot} {R = slice_cmp nat_cmp} map.empty) (many read_entry (count - 0) bytes) ≡ many read_entry count bytes
+starts count bytes = let all : count - 0 ≡ count = omega arith in rw (all, empty_entries) (none_before (many read_entry count bytes))
 
 pub one_longer : (m n : Table) (e : Entry) (i : ℕ) → map.entries n ≡ map.entries m ++ e ∷ [] → map.len m ≡ i → map.len n ≡ i + 1
 one_longer m n e i new size = omega (arith, map.len-entries n, map.len-entries m, ap length new, length-append (map.entries m) (e ∷ []), size)
 
-pub read_is : (m : Table) (bytes rest left : List ℕ) (count : ℕ) → two_at bytes ≡ Some (count, rest) → count ≤ 512 → many entry_at count rest ≡ Some (map.entries m, left) → eqb (length left) 0 ≡ true → whole entries_at bytes ≡ Some (map.entries m)
-unfolding entries_at size_at
+pub read_is : (m : Table) (bytes rest left : List ℕ) (count : ℕ) → read_two bytes ≡ Some (count, rest) → count ≤ 512 → many read_entry count rest ≡ Some (map.entries m, left) → eqb (length left) 0 ≡ true → whole read_entries bytes ≡ Some (map.entries m)
+unfolding read_entries read_size
 read_is m bytes rest left count front le all empty =
     let none : left ≡ [] = nil_from_length left (eqb-true _ _ empty) in
     let small : leb count 512 ≡ true = le-leb count 512 le in

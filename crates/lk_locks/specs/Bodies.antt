@@ -2,8 +2,8 @@
 use Rattle.std.specs.Prelude.{◌≡◌, ℕ, List, ◌∷◌, ◌++◌, length, Option}
 use Rattle.lk_types.specs.Ranges.{IsCount}
 use Rattle.lk_wire.specs.Fields.{eight}
-use Rattle.lk_wire.specs.FieldReading.{count_at}
-use Rattle.lk_wire.specs.Parser.{byte_at, sized, both, made, tested, tagged, kind, no_kind, whole}
+use Rattle.lk_wire.specs.FieldReading.{read_count}
+use Rattle.lk_wire.specs.Parser.{read_byte, sized, both, made, tested, tagged, kind, no_kind, whole}
 use Rattle.lk_locks.specs.Names.{IsName, is_name}
 use Rattle.lk_locks.specs.declared.body.Body.{Body}
 use Rattle.lk_locks.specs.declared.body.Body.TheVariants.{Acquire, Release, Ask, Check}
@@ -40,24 +40,24 @@ IsBody (Ask name) = IsName name
 IsBody (Check name fence) = IsName name × IsCount fence
 
 -- the grammar: the bytes are those of the body
-abbrev pub Spells : Body → List ℕ → Type 0
-Spells body bytes = IsBody body × (bytes ≡ spelling body)
+abbrev pub SpellsBody : Body → List ℕ → Type 0
+SpellsBody body bytes = IsBody body × (bytes ≡ spelling body)
 
 -- ---- the same, from the bytes to the body
 
-unfoldable pub name_at : List ℕ → Option (List ℕ × List ℕ)
-name_at = tested is_name (sized byte_at)
+unfoldable pub read_name : List ℕ → Option (List ℕ × List ℕ)
+read_name = tested is_name (sized read_byte)
 
-unfoldable pub name_and_fence_at : List ℕ → Option ((List ℕ × ℕ) × List ℕ)
-name_and_fence_at = both name_at count_at
+unfoldable pub read_name_and_fence : List ℕ → Option ((List ℕ × ℕ) × List ℕ)
+read_name_and_fence = both read_name read_count
 
 -- what stands behind the first byte
 unfoldable pub fields_of : ℕ → List ℕ → Option (Body × List ℕ)
 fields_of =
-    kind 1 (made Acquire name_at)
-    (kind 2 (made (λ p. Release p.0 p.1) name_and_fence_at)
-    (kind 3 (made Ask name_at)
-    (kind 4 (made (λ p. Check p.0 p.1) name_and_fence_at)
+    kind 1 (made Acquire read_name)
+    (kind 2 (made (λ p. Release p.0 p.1) read_name_and_fence)
+    (kind 3 (made Ask read_name)
+    (kind 4 (made (λ p. Check p.0 p.1) read_name_and_fence)
     no_kind)))
 
 -- the body that all of the bytes are, if they are one

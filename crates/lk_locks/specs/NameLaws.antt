@@ -1,11 +1,10 @@
 -- A name is read back.
 use Rattle.std.proofs.Common.{◌≡◌, ℕ, ◌<◌, ◌≤◌, Bool, true, false, leb, ◌&&◌, List, [], ◌∷◌, length, refl, arith}
 use Rattle.std.proofs.lemmas.Bool.{leb-true}
-use Rattle.lk_wire.specs.Parser.{byte_at, sized}
-use Rattle.lk_wire.proofs.Codec.{Reads, byte_reads, fitting, tested_reads}
-use Rattle.lk_wire.proofs.NumberLaws.{sized_reads}
+use Rattle.lk_wire.specs.Parser.{read_byte, sized}
+use Rattle.lk_wire.proofs.Spellings.{Reads, byte_reads, fitting, tested_reads, sized_reads}
 use Rattle.lk_locks.specs.Names.{IsName, is_name}
-use Rattle.lk_locks.specs.Bodies.{lock_name, name_at}
+use Rattle.lk_locks.specs.Bodies.{lock_name, read_name}
 
 -- a name is short
 pub name_length : (name : List ℕ) → IsName name → (1 ≤ length name) × (length name ≤ 32)
@@ -16,7 +15,7 @@ name_length name fits = by (leb 1 (length name)) (leb (length name) 32) _ refl r
     by true false c low high e = absurd cc
     by false b c low high e = absurd cc
 
-pub name_reads : Reads name_at lock_name IsName
-unfolding name_at
-name_reads = fitting name_at lock_name (λ (name : List ℕ). (length name < 256) × (is_name name ≡ true)) IsName (λ name f. f.1) (λ name f. (omega (arith, name_length name f), f))
-    (tested_reads is_name (sized byte_at) lock_name (λ (name : List ℕ). length name < 256) (sized_reads byte_at (λ (n : ℕ). n ∷ []) (λ (n : ℕ). n < 256) byte_reads))
+pub name_reads : Reads read_name lock_name IsName
+unfolding read_name
+name_reads = fitting read_name lock_name (λ (name : List ℕ). (length name < 256) × (is_name name ≡ true)) IsName (λ name f. f.1) (λ name f. (omega (arith, name_length name f), f))
+    (tested_reads is_name (sized read_byte) lock_name (λ (name : List ℕ). length name < 256) (sized_reads read_byte (λ (n : ℕ). n ∷ []) (λ (n : ℕ). n < 256) byte_reads))

@@ -1,18 +1,20 @@
--- What a body leaves of a table is a table.
+-- What a body leaves of a table is a table, and what it is answered is in its range.
 use Rattle.std.proofs.Common.{◌≡◌, ℕ, ◌<◌, ◌⊎◌, Bool, true, false, cond, ltb, eqb, ◌&&◌, List, [], ◌∷◌, length, Option, Some, None, refl, sym, ap, subst, ◌∙◌, arith, inl, inr}
 use Rattle.std.specs.List.{AllByRecursion}
 use Rattle.std.specs.Ordering.{nat_cmp, eq_by_cmp}
 use Rattle.std.specs.Cmp.Lexicographic.{slice_cmp}
 use Rattle.std.specs.FinMap as map
 use Rattle.std.proofs.lemmas.Bool.{eqb-true, ltb-true}
+use Rattle.std.specs.Prelude.{is_some}
 use Rattle.lk_types.specs.Ranges.{IsClient, IsCount}
-use Rattle.lk_wire.specs.Parser.{◌>>=◌, byte_at, sized, both, made}
-use Rattle.lk_wire.specs.FieldReading.{count_at}
-use Rattle.lk_wire.proofs.Codec.{bind_ok, chosen, some_is}
+use Rattle.lk_types.specs.Answers.{IsAnswer}
+use Rattle.lk_wire.specs.Parser.{◌>>=◌, read_byte, sized, both, made}
+use Rattle.lk_wire.specs.FieldReading.{read_count}
+use Rattle.lk_wire.proofs.Spellings.{bind_ok, chosen, some_is}
 use Rattle.lk_locks.specs.Names.{IsName, is_name}
-use Rattle.lk_locks.specs.Bodies.{name_at, name_and_fence_at, fields_of, body_of}
-use Rattle.lk_locks.specs.Plain.{Table, row, name_of, changed, next_by, next, granting_again, granted_to, acquired, is_held_by, released}
-use Rattle.lk_locks.specs.Packed.{Entry, IsSlot, IsEntry, IsTable, IsText, text, table_in}
+use Rattle.lk_locks.specs.Bodies.{read_name, read_name_and_fence, fields_of, body_of}
+use Rattle.lk_locks.specs.Plain.{Table, row, name_of, changed, next_by, next, answer_to, answer, granting_again, granted_to, acquired, is_held_by, released, asked_again, asked, checked}
+use Rattle.lk_locks.specs.Packed.{Entry, IsHolder, IsSlot, IsTableEntry, IsTable, IsText, text, table_in}
 use Rattle.lk_locks.specs.declared.body.Body.{Body}
 use Rattle.lk_locks.specs.declared.body.Body.TheVariants.{Acquire, Release, Ask, Check}
 use Rattle.lk_locks.specs.declared.slot.Slot.{Slot}
@@ -20,27 +22,27 @@ use Rattle.lk_locks.specs.PackedLaws.{decided, text_is, insert_is_table}
 
 -- ---- the name of whatever is read as a body is one
 
-name_at_fits : (bytes name rest : List ℕ) → name_at bytes ≡ Some (name, rest) → IsName name
-unfolding name_at
+name_at_fits : (bytes name rest : List ℕ) → read_name bytes ≡ Some (name, rest) → IsName name
+unfolding read_name
 name_at_fits bytes name rest e =
-    let a = bind_ok (sized byte_at bytes) (λ a. cond (is_name a.0) (Some a) None) (name, rest) e in
+    let a = bind_ok (sized read_byte bytes) (λ a. cond (is_name a.0) (Some a) None) (name, rest) e in
     elim (chosen (is_name a.0.0) (Some a.0) None (Some (name, rest)) a.2) [
       | inl g ↦ subst (λ (z : List ℕ × List ℕ). IsName z.0) (some_is a.0 (name, rest) g.1) g.0
       | inr g ↦ let bad = g.1 in absurd cc
     ]
 
-named : (f : List ℕ → Body) → ((name : List ℕ) → name_of (f name) ≡ name) → (bytes rest : List ℕ) (body : Body) → made f name_at bytes ≡ Some (body, rest) → IsName (name_of body)
+named : (f : List ℕ → Body) → ((name : List ℕ) → name_of (f name) ≡ name) → (bytes rest : List ℕ) (body : Body) → made f read_name bytes ≡ Some (body, rest) → IsName (name_of body)
 named f is bytes rest body e =
-    let a = bind_ok (name_at bytes) (λ a. Some (f a.0, a.1)) (body, rest) e in
+    let a = bind_ok (read_name bytes) (λ a. Some (f a.0, a.1)) (body, rest) e in
     let m : Body × List ℕ = (f a.0.0, a.0.1) in
     subst (λ (z : Body × List ℕ). IsName (name_of z.0)) (some_is m (body, rest) a.2) (subst IsName (sym (is a.0.0)) (name_at_fits bytes a.0.0 a.0.1 a.1))
 
-fenced : (f : List ℕ × ℕ → Body) → ((p : List ℕ × ℕ) → name_of (f p) ≡ p.0) → (bytes rest : List ℕ) (body : Body) → made f name_and_fence_at bytes ≡ Some (body, rest) → IsName (name_of body)
-unfolding name_and_fence_at
+fenced : (f : List ℕ × ℕ → Body) → ((p : List ℕ × ℕ) → name_of (f p) ≡ p.0) → (bytes rest : List ℕ) (body : Body) → made f read_name_and_fence bytes ≡ Some (body, rest) → IsName (name_of body)
+unfolding read_name_and_fence
 fenced f is bytes rest body e =
-    let a = bind_ok (both name_at count_at bytes) (λ a. Some (f a.0, a.1)) (body, rest) e in
-    let n = bind_ok (name_at bytes) (λ x. count_at x.1 >>= λ y. Some ((x.0, y.0), y.1)) a.0 a.1 in
-    let c = bind_ok (count_at n.0.1) (λ y. Some ((n.0.0, y.0), y.1)) a.0 n.2 in
+    let a = bind_ok (both read_name read_count bytes) (λ a. Some (f a.0, a.1)) (body, rest) e in
+    let n = bind_ok (read_name bytes) (λ x. read_count x.1 >>= λ y. Some ((x.0, y.0), y.1)) a.0 a.1 in
+    let c = bind_ok (read_count n.0.1) (λ y. Some ((n.0.0, y.0), y.1)) a.0 n.2 in
     let pair : (List ℕ × ℕ) × List ℕ = ((n.0.0, c.0.0), c.0.1) in
     let m : Body × List ℕ = (f a.0.0, a.0.1) in
     let named_is : n.0.0 ≡ a.0.0.0 = ap (λ (z : (List ℕ × ℕ) × List ℕ). z.0.0) {x = pair} {y = a.0} (some_is pair a.0 c.2) in
@@ -119,7 +121,7 @@ row_may client (Check name fence) m is_client fits = tt
 
 -- ---- tables
 
-found_fits : (name : List ℕ) (es : List Entry) → AllByRecursion IsEntry es → IsKept (map.find (slice_cmp nat_cmp) name es)
+found_fits : (name : List ℕ) (es : List Entry) → AllByRecursion IsTableEntry es → IsKept (map.find (slice_cmp nat_cmp) name es)
 found_fits name [] fits = tt
 found_fits name (e ∷ es) fits = by (eq_by_cmp (slice_cmp nat_cmp) name e.0) (found_fits name es fits.1)
   where
@@ -147,3 +149,49 @@ pub next_is_text : (client : ℕ) (body before : List ℕ) → IsClient client �
 next_is_text client body before is_client t =
     let is = text_is before t in
     (next client body (table_in before), next_is_table client body (table_in before) is_client (subst IsTable (sym is.3) is.1), refl)
+
+-- ---- what is answered is in its range
+
+again_answers : (client fence : ℕ) (holder : Option ℕ) → IsCount fence → IsHolder holder → IsAnswer (granted_to client (granting_again fence holder)).answer
+again_answers client fence (Some holder) fits held = (held, fits)
+again_answers client fence None fits held =
+    elim (decided (ltb fence 281474976710656)) [
+      | inl e ↦ let below : fence < 281474976710656 = ltb-true _ _ e in rw e (omega arith, omega arith)
+      | inr e ↦ rw e tt
+    ]
+
+acquired_answers : (client : ℕ) (old : Option Slot) (names : ℕ) → IsKept old → IsAnswer (acquired client old names).answer
+acquired_answers client (Some s) names fits = again_answers client s.fence s.holder fits.0 fits.1
+acquired_answers client None names fits = elim (decided (ltb names 512)) [ inl e ↦ rw e (omega arith, omega arith) | inr e ↦ rw e tt ]
+
+released_answers : (client fence : ℕ) (old : Option Slot) → IsAnswer (released client fence old).answer
+released_answers client fence None = tt
+released_answers client fence (Some s) = elim (decided (is_held_by client s.holder && eqb s.fence fence)) [ inl e ↦ rw e tt | inr e ↦ rw e tt ]
+
+asked_answers : (old : Option Slot) → IsKept old → IsAnswer (asked old)
+asked_answers None fits = omega arith
+asked_answers (Some s) fits = by s.holder fits.1
+  where
+    by : (holder : Option ℕ) → IsHolder holder → IsAnswer (asked_again s.fence holder)
+    by None held = fits.0.1
+    by (Some client) held = (held, fits.0)
+
+checked_answers : (fence : ℕ) (old : Option Slot) → IsAnswer (checked fence old)
+checked_answers fence None = tt
+checked_answers fence (Some s) = elim (decided (is_some s.holder && eqb s.fence fence)) [ inl e ↦ rw e tt | inr e ↦ rw e tt ]
+
+row_answers : (client : ℕ) (body : Body) (m : Table) → IsTable m → IsAnswer (row client body m).answer
+row_answers client (Acquire name) m fits = acquired_answers client (map.get m name) (map.len m) (kept m name fits)
+row_answers client (Release name fence) m fits = released_answers client fence (map.get m name)
+row_answers client (Ask name) m fits = asked_answers (map.get m name) (kept m name fits)
+row_answers client (Check name fence) m fits = checked_answers fence (map.get m name)
+
+answers_fit : (client : ℕ) (body : Option Body) (m : Table) → IsTable m → IsAnswer (answer_to client body m)
+answers_fit client None m fits = tt
+answers_fit client (Some body) m fits = row_answers client body m fits
+
+-- what a client is answered, by the text before its body
+pub answer_is_answer : (client : ℕ) (body before : List ℕ) → IsClient client → IsText before → IsAnswer (answer client body (table_in before))
+answer_is_answer client body before is_client t =
+    let is = text_is before t in
+    answers_fit client (body_of body) (table_in before) (subst IsTable (sym is.3) is.1)

@@ -6,10 +6,10 @@ use Rattle.std.specs.Cmp.Lexicographic.{slice_cmp}
 use Rattle.std.specs.FinMap as map
 use Rattle.lk_types.specs.Ranges.{IsClient, IsCount}
 use Rattle.lk_wire.specs.Fields.{two, eight}
-use Rattle.lk_wire.specs.FieldReading.{two_at, count_at}
+use Rattle.lk_wire.specs.FieldReading.{read_two, read_count}
 use Rattle.lk_wire.specs.Parser.{both, made, tested, counted, whole}
 use Rattle.lk_locks.specs.Names.{IsName}
-use Rattle.lk_locks.specs.Bodies.{lock_name, name_at}
+use Rattle.lk_locks.specs.Bodies.{lock_name, read_name}
 use Rattle.lk_locks.specs.Plain.{Table}
 use Rattle.lk_locks.specs.declared.slot.Slot.{Slot}
 
@@ -30,12 +30,12 @@ abbrev pub entry : Entry → List ℕ
 entry e = lock_name e.0 ++ slot e.1
 
 -- how many names, and then each with its slot
-abbrev pub packed : List Entry → List ℕ
-packed es = two (length es) ++ flat_map entry es
+abbrev pub packed_table : List Entry → List ℕ
+packed_table es = two (length es) ++ flat_map entry es
 
 -- the names stand in rising order
 unfoldable pub text : Table → List ℕ
-text m = packed (map.entries m)
+text m = packed_table (map.entries m)
 
 -- ---- which tables there are
 
@@ -46,12 +46,12 @@ IsHolder (Some client) = IsClient client
 abbrev pub IsSlot : Slot → Type 0
 IsSlot s = IsCount s.fence × IsHolder s.holder
 
-abbrev pub IsEntry : Entry → Type 0
-IsEntry e = IsName e.0 × IsSlot e.1
+abbrev pub IsTableEntry : Entry → Type 0
+IsTableEntry e = IsName e.0 × IsSlot e.1
 
 -- at most 512 names, each part in its range
 unfoldable pub IsTable : Table → Type 0
-IsTable m = (map.len m ≤ 512) × AllByRecursion IsEntry (map.entries m)
+IsTable m = (map.len m ≤ 512) × AllByRecursion IsTableEntry (map.entries m)
 
 -- the bytes are the text of a table
 abbrev pub IsText : List ℕ → Type 0
@@ -62,24 +62,24 @@ IsText bytes = (m : Table) × IsTable m × (bytes ≡ text m)
 abbrev pub holder_of : ℕ → Option ℕ
 holder_of number = if number == 0 then None else Some number
 
-unfoldable pub holder_at : List ℕ → Option (Option ℕ × List ℕ)
-holder_at = made holder_of (tested (λ n. nat_le n 256) two_at)
+unfoldable pub read_holder : List ℕ → Option (Option ℕ × List ℕ)
+read_holder = made holder_of (tested (λ n. nat_le n 256) read_two)
 
-unfoldable pub slot_at : List ℕ → Option (Slot × List ℕ)
-slot_at = made (λ s. record { fence = s.0; holder = s.1 }) (both count_at holder_at)
+unfoldable pub read_slot : List ℕ → Option (Slot × List ℕ)
+read_slot = made (λ s. record { fence = s.0; holder = s.1 }) (both read_count read_holder)
 
-unfoldable pub entry_at : List ℕ → Option (Entry × List ℕ)
-entry_at = both name_at slot_at
+unfoldable pub read_entry : List ℕ → Option (Entry × List ℕ)
+read_entry = both read_name read_slot
 
-unfoldable pub size_at : List ℕ → Option (ℕ × List ℕ)
-size_at = tested (λ n. nat_le n 512) two_at
+unfoldable pub read_size : List ℕ → Option (ℕ × List ℕ)
+read_size = tested (λ n. nat_le n 512) read_two
 
 -- whether the names strictly rise, in the order of their bytes
 abbrev pub rise : List Entry → Bool
 rise es = map.is_sorted (slice_cmp nat_cmp) es
 
-unfoldable pub entries_at : List ℕ → Option (List Entry × List ℕ)
-entries_at = tested rise (counted size_at entry_at)
+unfoldable pub read_entries : List ℕ → Option (List Entry × List ℕ)
+read_entries = tested rise (counted read_size read_entry)
 
 -- nothing was read, or its names do not rise
 abbrev pub DoNotRise : Option (List Entry × List ℕ) → Type 0
@@ -93,4 +93,4 @@ table_of_entries None = map.empty
 
 -- the table whose text the bytes are; any, where they are none
 unfoldable pub table_in : List ℕ → Table
-table_in bytes = table_of_entries (whole entries_at bytes)
+table_in bytes = table_of_entries (whole read_entries bytes)

@@ -13,23 +13,20 @@ use Rattle.std.proofs.lemmas.List.{length-append, nil_from_length}
 use Rattle.std.proofs.lemmas.List.Concat.{flat_map-cons}
 use Rattle.lk_types.specs.Ranges.{IsCount}
 use Rattle.lk_wire.specs.Fields.{two, eight}
-use Rattle.lk_wire.specs.FieldReading.{two_at, count_at}
+use Rattle.lk_wire.specs.FieldReading.{read_two, read_count}
 use Rattle.lk_wire.specs.Parser.{tested, counted, whole}
-use Rattle.lk_wire.proofs.Codec.{IsBytes, Took, Reads, both_reads, made_reads, made_as, tested_reads, whole_takes, whole_again}
-use Rattle.lk_wire.proofs.NumberLaws.{two_reads}
-use Rattle.lk_wire.proofs.FieldLaws.{count_reads, limited_reads}
-use Rattle.lk_wire.proofs.Repeats.{counted_reads}
+use Rattle.lk_wire.proofs.Spellings.{IsBytes, Took, Reads, both_reads, made_reads, made_as, tested_reads, whole_takes, whole_again, two_reads, count_reads, limited_reads, counted_reads}
 use Rattle.lk_locks.specs.Names.{IsName}
-use Rattle.lk_locks.specs.Bodies.{lock_name, name_at}
+use Rattle.lk_locks.specs.Bodies.{lock_name, read_name}
 use Rattle.lk_locks.specs.Plain.{Table}
-use Rattle.lk_locks.specs.Packed.{Entry, holder_number, slot, entry, packed, text, IsHolder, IsSlot, IsEntry, IsTable, IsText, holder_of, holder_at, slot_at, entry_at, size_at, rise, entries_at, table_of_entries, table_in}
+use Rattle.lk_locks.specs.Packed.{Entry, holder_number, slot, entry, packed_table, text, IsHolder, IsSlot, IsTableEntry, IsTable, IsText, holder_of, read_holder, read_slot, read_entry, read_size, rise, read_entries, table_of_entries, table_in}
 use Rattle.lk_locks.specs.declared.slot.Slot.{Slot}
 use Rattle.lk_locks.specs.NameLaws.{name_length, name_reads}
 
 -- ---- a holder
 
-holder_again : (h : Option ℕ) (rest : List ℕ) → IsHolder h → holder_at (two (holder_number h) ++ rest) ≡ Some (h, rest)
-unfolding holder_at
+holder_again : (h : Option ℕ) (rest : List ℕ) → IsHolder h → read_holder (two (holder_number h) ++ rest) ≡ Some (h, rest)
+unfolding read_holder
 holder_again None rest fits = rw (two_reads.again 0 rest (omega arith)) refl
 holder_again (Some client) rest fits =
     let low : eqb client 0 ≡ false = ne_eqb client 0 (λ e. omega (arith, e, fits.0)) in
@@ -51,10 +48,10 @@ number_is n le =
       | inr e ↦ rw e ((above n (eqb-false n 0 e), le), refl)
     ]
 
-holder_reads : Reads holder_at (λ (h : Option ℕ). two (holder_number h)) IsHolder
-unfolding holder_at
+holder_reads : Reads read_holder (λ (h : Option ℕ). two (holder_number h)) IsHolder
+unfolding read_holder
 holder_reads = record {
-  takes = λ bytes h rest ok e. made_as holder_of (tested (λ n. leb n 256) two_at) two (λ (n : ℕ). n ≤ 256) (limited_reads 256 (2 ^ 16) (omega arith) two_at two two_reads)
+  takes = λ bytes h rest ok e. made_as holder_of (tested (λ n. leb n 256) read_two) two (λ (n : ℕ). n ≤ 256) (limited_reads 256 (2 ^ 16) (omega arith) read_two two two_reads)
       (λ (z : Option ℕ) (w : List ℕ). Took (λ (h : Option ℕ). two (holder_number h)) IsHolder bytes z w) bytes h rest ok e
       (λ n t. let is = number_is n t.fits in record { parts = rw is.1 t.parts; rest_fits = t.rest_fits; fits = is.0 });
   again = holder_again;
@@ -62,25 +59,25 @@ holder_reads = record {
 
 -- ---- a slot, an entry, all entries
 
-slot_reads : Reads slot_at slot IsSlot
-unfolding slot_at
+slot_reads : Reads read_slot slot IsSlot
+unfolding read_slot
 slot_reads = made_reads (λ (s : ℕ × Option ℕ). let x : Slot = record { fence = s.0; holder = s.1 } in x) (λ (s : Slot). (s.fence, s.holder)) (λ x. refl) (λ y. refl) _ _ _
-    (both_reads count_at eight IsCount holder_at (λ (h : Option ℕ). two (holder_number h)) IsHolder count_reads holder_reads)
+    (both_reads read_count eight IsCount read_holder (λ (h : Option ℕ). two (holder_number h)) IsHolder count_reads holder_reads)
 
-pub entry_reads : Reads entry_at entry IsEntry
-unfolding entry_at
-entry_reads = both_reads name_at lock_name IsName slot_at slot IsSlot name_reads slot_reads
+pub entry_reads : Reads read_entry entry IsTableEntry
+unfolding read_entry
+entry_reads = both_reads read_name lock_name IsName read_slot slot IsSlot name_reads slot_reads
 
-size_reads : Reads size_at two (λ (n : ℕ). n ≤ 512)
-unfolding size_at
-size_reads = limited_reads 512 (2 ^ 16) (omega arith) two_at two two_reads
+size_reads : Reads read_size two (λ (n : ℕ). n ≤ 512)
+unfolding read_size
+size_reads = limited_reads 512 (2 ^ 16) (omega arith) read_two two two_reads
 
 abbrev AreEntries : List Entry → Type 0
-AreEntries es = ((length es ≤ 512) × AllByRecursion IsEntry es) × (rise es ≡ true)
+AreEntries es = ((length es ≤ 512) × AllByRecursion IsTableEntry es) × (rise es ≡ true)
 
-entries_reads : Reads entries_at packed AreEntries
-unfolding entries_at
-entries_reads = tested_reads rise (counted size_at entry_at) packed (λ (es : List Entry). (length es ≤ 512) × AllByRecursion IsEntry es) (counted_reads size_at two (λ (n : ℕ). n ≤ 512) size_reads entry_at entry IsEntry entry_reads)
+entries_reads : Reads read_entries packed_table AreEntries
+unfolding read_entries
+entries_reads = tested_reads rise (counted read_size read_entry) packed_table (λ (es : List Entry). (length es ≤ 512) × AllByRecursion IsTableEntry es) (counted_reads read_size two (λ (n : ℕ). n ≤ 512) size_reads read_entry entry IsTableEntry entry_reads)
 
 -- ---- tables
 
@@ -99,9 +96,9 @@ pub are_entries : (m : Table) → IsTable m → AreEntries (map.entries m)
 unfolding IsTable
 are_entries m fits = ((subst (λ (n : ℕ). n ≤ 512) (map.len-entries m) fits.0, fits.1), entries_rise m)
 
-pub entries_again : (m : Table) → IsTable m → whole entries_at (text m) ≡ Some (map.entries m)
+pub entries_again : (m : Table) → IsTable m → whole read_entries (text m) ≡ Some (map.entries m)
 unfolding text
-entries_again m fits = whole_again entries_at packed AreEntries entries_reads (map.entries m) (are_entries m fits)
+entries_again m fits = whole_again read_entries packed_table AreEntries entries_reads (map.entries m) (are_entries m fits)
 
 same_again : (m : Table) → map.from_sorted (map.entries m) ≡ m
 same_again m = map.same_entries_map (map.from_sorted (map.entries m)) m (map.entries-from_sorted (slice_cmp nat_cmp) (map.entries m) (map.entries_sorted m))
@@ -112,28 +109,28 @@ again m fits =
     ap table_of_entries (entries_again m fits) ∙ same_again m
 
 -- the table of some bytes that were read
-pub takes : (bytes : List ℕ) (es : List Entry) → IsBytes bytes → whole entries_at bytes ≡ Some es → IsTable (map.from_sorted es) × (bytes ≡ text (map.from_sorted es))
+pub takes : (bytes : List ℕ) (es : List Entry) → IsBytes bytes → whole read_entries bytes ≡ Some es → IsTable (map.from_sorted es) × (bytes ≡ text (map.from_sorted es))
 unfolding IsTable text
 takes bytes es h e =
-    let t = whole_takes entries_at packed AreEntries entries_reads bytes es h e in
+    let t = whole_takes read_entries packed_table AreEntries entries_reads bytes es h e in
     let same : map.entries (map.from_sorted es) ≡ es = map.entries-from_sorted (slice_cmp nat_cmp) es (of_true _ t.0.1) in
     let len : map.len (map.from_sorted es) ≡ length es = map.len-entries (map.from_sorted es) ∙ ap length same in
-    ((subst (λ (n : ℕ). n ≤ 512) (sym len) t.0.0.0, subst (AllByRecursion IsEntry) (sym same) t.0.0.1), t.1 ∙ ap packed (sym same))
+    ((subst (λ (n : ℕ). n ≤ 512) (sym len) t.0.0.0, subst (AllByRecursion IsTableEntry) (sym same) t.0.0.1), t.1 ∙ ap packed_table (sym same))
 
-pub unpacked : (bytes : List ℕ) (m : Table) → IsBytes bytes → whole entries_at bytes ≡ Some (map.entries m) → IsTable m × (text m ≡ bytes)
+pub unpacked : (bytes : List ℕ) (m : Table) → IsBytes bytes → whole read_entries bytes ≡ Some (map.entries m) → IsTable m × (text m ≡ bytes)
 unpacked bytes m h e = let t = takes bytes (map.entries m) h e in (subst IsTable (same_again m) t.0, ap text (sym (same_again m)) ∙ sym t.1)
 
 -- what is read of a text
-pub text_is : (bytes : List ℕ) → IsText bytes → (m : Table) × IsTable m × (whole entries_at bytes ≡ Some (map.entries m)) × (table_in bytes ≡ m)
-text_is bytes t = (t.0, t.1, ap (whole entries_at) t.2 ∙ entries_again t.0 t.1, ap table_in t.2 ∙ again t.0 t.1)
+pub text_is : (bytes : List ℕ) → IsText bytes → (m : Table) × IsTable m × (whole read_entries bytes ≡ Some (map.entries m)) × (table_in bytes ≡ m)
+text_is bytes t = (t.0, t.1, ap (whole read_entries) t.2 ∙ entries_again t.0 t.1, ap table_in t.2 ∙ again t.0 t.1)
 
 -- ---- how long a text is
 
-entry_length : (e : Entry) → IsEntry e → length (entry e) ≤ 43
+entry_length : (e : Entry) → IsTableEntry e → length (entry e) ≤ 43
 unfolding two eight
 entry_length e fits = let short = (name_length e.0 fits.0).1 in omega (arith, length-append (lock_name e.0) (slot e.1), short)
 
-entries_length : (es : List Entry) → AllByRecursion IsEntry es → length (flat_map entry es) ≤ 43 * length es
+entries_length : (es : List Entry) → AllByRecursion IsTableEntry es → length (flat_map entry es) ≤ 43 * length es
 entries_length [] fits = omega arith
 entries_length (e ∷ es) fits =
     let first = entry_length e fits.0 in
@@ -171,20 +168,20 @@ empty_is_table =
 pub empty_is_text : IsText (text map.empty)
 empty_is_text = (map.empty, empty_is_table, refl)
 
-all_put : (name : List ℕ) (s : Slot) (es : List Entry) → IsEntry (name, s) → AllByRecursion IsEntry es → AllByRecursion IsEntry (map.put (slice_cmp nat_cmp) name s es)
+all_put : (name : List ℕ) (s : Slot) (es : List Entry) → IsTableEntry (name, s) → AllByRecursion IsTableEntry es → AllByRecursion IsTableEntry (map.put (slice_cmp nat_cmp) name s es)
 all_put name s [] new fits = (new, tt)
 all_put name s (e ∷ es) new fits = by (slice_cmp nat_cmp name e.0) (all_put name s es new fits.1)
   where
-    by : (o : Ordering) → AllByRecursion IsEntry (map.put (slice_cmp nat_cmp) name s es) → AllByRecursion IsEntry (by_order o ((name, s) ∷ e ∷ es) ((e.0, s) ∷ es) (e ∷ map.put (slice_cmp nat_cmp) name s es))
+    by : (o : Ordering) → AllByRecursion IsTableEntry (map.put (slice_cmp nat_cmp) name s es) → AllByRecursion IsTableEntry (by_order o ((name, s) ∷ e ∷ es) ((e.0, s) ∷ es) (e ∷ map.put (slice_cmp nat_cmp) name s es))
     by Less rest = (new, fits)
     by Equal rest = ((fits.0.0, new.1), fits.1)
     by Greater rest = (fits.0, rest)
 
-pub insert_is_table : (m : Table) (name : List ℕ) (s : Slot) → IsTable m → IsEntry (name, s) → (map.get m name ≡ None → map.len m < 512) → IsTable (map.insert m name s)
+pub insert_is_table : (m : Table) (name : List ℕ) (s : Slot) → IsTable m → IsTableEntry (name, s) → (map.get m name ≡ None → map.len m < 512) → IsTable (map.insert m name s)
 unfolding IsTable
 insert_is_table m name s fits new room = (
   rw (map.len-insert nat_list_cmp_total m name s) (len_after (map.get m name) room),
-  subst (AllByRecursion IsEntry) (sym (map.entries-insert nat_list_cmp_total m name s)) (all_put name s (map.entries m) new fits.1),
+  subst (AllByRecursion IsTableEntry) (sym (map.entries-insert nat_list_cmp_total m name s)) (all_put name s (map.entries m) new fits.1),
 )
   where
     len_after : (o : Option Slot) → (o ≡ None → map.len m < 512) → cond (is_some o) (map.len m) (map.len m + 1) ≤ 512

@@ -3,6 +3,7 @@ use Rattle.std.specs.Prelude.{◌≡◌, ℕ, ◌+◌, ◌<◌, Bool, false, nat
 use Rattle.std.specs.Ordering.{nat_cmp}
 use Rattle.std.specs.Cmp.Lexicographic.{slice_cmp}
 use Rattle.std.specs.FinMap as map
+use Rattle.lk_types.specs.Limits.{max_count, max_names}
 use Rattle.lk_types.specs.declared.answer.Answer.{Answer}
 use Rattle.lk_types.specs.declared.answer.Answer.TheVariants.{Granted, Busy, Released, NotHeld, Free, Held, Valid, Stale, NoRoom, Bad, Spent}
 use Rattle.lk_locks.specs.Bodies.{body_of}
@@ -26,11 +27,11 @@ unchanged a = record { answer = a; change = None }
 -- a name that stands, by its last fence and its holder: the fence at which it is granted, or why it is not
 abbrev pub granting_again : ℕ → Option ℕ → Result ℕ Answer
 granting_again fence (Some holder) = Err (Busy holder fence)
-granting_again fence None = if nat_lt fence 281474976710656 then Ok (fence + 1) else Err Spent
+granting_again fence None = if nat_lt fence max_count then Ok (fence + 1) else Err Spent
 
 -- any name, where so many names stand
 abbrev pub granting : Option Slot → ℕ → Result ℕ Answer
-granting None names = if nat_lt names 512 then Ok 1 else Err NoRoom
+granting None names = if nat_lt names max_names then Ok 1 else Err NoRoom
 granting (Some s) names = granting_again s.fence s.holder
 
 -- what is granted is held by the client from then on
@@ -106,7 +107,7 @@ next client bytes m = next_by client (body_of bytes) m
 
 -- it acquires a name that is unknown, and there is room for it
 abbrev pub IsNewName : Option Body → Table → Type 0
-IsNewName (Some (Acquire name)) m = (map.get m name ≡ None) × (map.len m < 512)
+IsNewName (Some (Acquire name)) m = (map.get m name ≡ None) × (map.len m < max_names)
 IsNewName (Some (Release name fence)) m = ⊥
 IsNewName (Some (Ask name)) m = ⊥
 IsNewName (Some (Check name fence)) m = ⊥

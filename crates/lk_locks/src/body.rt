@@ -1,7 +1,7 @@
 ghost use Rattle.std.specs.Prelude.{◌≡◌, ◌≤◌, ◌∷◌, ◌++◌, List, ℕ, length, Some, IfSome};
 ghost use Rattle.lk_wire.specs.Parser.{Finds};
 ghost use Rattle.lk_locks.specs.declared.body.Body.{Body};
-ghost use Rattle.lk_locks.specs.Bodies.{Spells, lock_name, spelling, name_at, name_and_fence_at, fields_of, body_of};
+ghost use Rattle.lk_locks.specs.Bodies.{SpellsBody, lock_name, spelling, read_name, read_name_and_fence, fields_of, body_of};
 
 use crate::name::Name;
 use arrayvec::ArrayVec;
@@ -22,9 +22,9 @@ pub enum Body {
 }
 
 /// A name behind its length, from the front of the bytes.
-#[tactic(auto, unfolding(crate::specs::Bodies::name_at))]
-pub(crate) fn read_name(bytes: &[u8]) -> Option<(Name, &[u8])>
-    ensures { Finds (λ x. (x.0, x.1.now)) result (name_at bytes.now) }
+#[tactic(auto, unfolding(crate::specs::Bodies::read_name))]
+pub fn read_name(bytes: &[u8]) -> Option<(Name, &[u8])>
+    ensures { Finds (λ x. (x.0, x.1.now)) result (read_name bytes.now) }
 {
     let (length, rest) = read_u8(bytes)?;
     let length = length as usize;
@@ -36,7 +36,7 @@ pub(crate) fn read_name(bytes: &[u8]) -> Option<(Name, &[u8])>
 }
 
 /// What stands behind the first byte of a body.
-#[tactic(auto, unfolding(crate::specs::Bodies::fields_of, crate::specs::Bodies::name_and_fence_at))]
+#[tactic(auto, unfolding(crate::specs::Bodies::fields_of, crate::specs::Bodies::read_name_and_fence))]
 fn read_fields(kind: u8, bytes: &[u8]) -> Option<(Body, &[u8])>
     ensures { Finds (λ x. (x.0, x.1.now)) result (fields_of kind bytes.now) }
 {
@@ -93,8 +93,8 @@ impl Body {
     /// length, and for Release and Check the fence in eight bytes, the greatest first.
     pub fn read(bytes: &[u8]) -> Option<Body>
         ensures value { result ≡ body_of bytes.now }
-        ensures found { IfSome result (λ body. Spells body bytes.now) }
-        ensures only { (body : Body) → Spells body bytes.now → result ≡ Some body }
+        ensures found { IfSome result (λ body. SpellsBody body bytes.now) }
+        ensures only { (body : Body) → SpellsBody body bytes.now → result ≡ Some body }
     {
         read_whole(bytes)
     }

@@ -3,7 +3,7 @@ ghost use Rattle.std.specs.Prelude.{◌≡◌, ◌++◌, OnOk, OnErr};
 ghost use Rattle.lk_wire.specs.Parser.{Finds};
 ghost use Rattle.lk_wire.specs.Fronts.{Keeps};
 ghost use Rattle.lk_locks.specs.Bodies.{lock_name};
-ghost use Rattle.lk_locks.specs.Packed.{slot, entry, holder_at, slot_at, entry_at};
+ghost use Rattle.lk_locks.specs.Packed.{slot, entry, read_holder, read_slot, read_entry};
 
 use crate::body::read_name;
 use crate::name::Name;
@@ -14,9 +14,9 @@ use lk_wire::fields::{put_fence, put_u8, put_u16, read_fence, read_u16};
 use std::alloc::AllocError;
 
 /// A client, or nobody where the number is 0.
-#[tactic(auto, unfolding(crate::specs::Packed::holder_at))]
+#[tactic(auto, unfolding(crate::specs::Packed::read_holder))]
 fn read_holder(bytes: &[u8]) -> Option<(Option<ClientNo>, &[u8])>
-    ensures { Finds (λ x. (x.0, x.1.now)) result (holder_at bytes.now) }
+    ensures { Finds (λ x. (x.0, x.1.now)) result (read_holder bytes.now) }
 {
     let (number, rest) = read_u16(bytes)?;
     if number == 0 {
@@ -25,9 +25,9 @@ fn read_holder(bytes: &[u8]) -> Option<(Option<ClientNo>, &[u8])>
     Some((Some(ClientNo::of(number)?), rest))
 }
 
-#[tactic(auto, unfolding(crate::specs::Packed::slot_at))]
+#[tactic(auto, unfolding(crate::specs::Packed::read_slot))]
 fn read_slot(bytes: &[u8]) -> Option<(Slot, &[u8])>
-    ensures { Finds (λ x. (x.0, x.1.now)) result (slot_at bytes.now) }
+    ensures { Finds (λ x. (x.0, x.1.now)) result (read_slot bytes.now) }
 {
     let Some((fence, rest)) = read_fence(bytes) else {
         return None;
@@ -39,9 +39,9 @@ fn read_slot(bytes: &[u8]) -> Option<(Slot, &[u8])>
 }
 
 /// A name and its slot from the front of the bytes.
-#[tactic(auto, unfolding(crate::specs::Packed::entry_at))]
-pub(crate) fn read_entry(bytes: &[u8]) -> Option<(Name, Slot, &[u8])>
-    ensures { Finds (λ x. ((x.0, x.1), x.2.now)) result (entry_at bytes.now) }
+#[tactic(auto, unfolding(crate::specs::Packed::read_entry))]
+pub fn read_entry(bytes: &[u8]) -> Option<(Name, Slot, &[u8])>
+    ensures { Finds (λ x. ((x.0, x.1), x.2.now)) result (read_entry bytes.now) }
 {
     let Some((name, rest)) = read_name(bytes) else {
         return None;
@@ -52,7 +52,7 @@ pub(crate) fn read_entry(bytes: &[u8]) -> Option<(Name, Slot, &[u8])>
     Some((name, slot, rest))
 }
 
-#[tactic(auto, using(lk_wire::proofs::Appends::keeps_same, lk_wire::proofs::Appends::keeps_behind))]
+#[tactic(auto, using(lk_wire::proofs::Spellings::keeps_same, lk_wire::proofs::Spellings::keeps_behind))]
 fn put_name(out: &mut BytesMut, name: &Name) -> Result<(), AllocError>
     ensures ok { OnOk result (out.new.items ≡ out.old.items ++ lock_name name.now) }
     ensures err { OnErr result (Keeps out.old.items out.new.items) }
@@ -63,7 +63,7 @@ fn put_name(out: &mut BytesMut, name: &Name) -> Result<(), AllocError>
     Ok(())
 }
 
-#[tactic(auto, using(lk_wire::proofs::Appends::keeps_same, lk_wire::proofs::Appends::keeps_behind))]
+#[tactic(auto, using(lk_wire::proofs::Spellings::keeps_same, lk_wire::proofs::Spellings::keeps_behind))]
 fn put_slot(out: &mut BytesMut, value: Slot) -> Result<(), AllocError>
     ensures ok { OnOk result (out.new.items ≡ out.old.items ++ slot value) }
     ensures err { OnErr result (Keeps out.old.items out.new.items) }
@@ -78,8 +78,8 @@ fn put_slot(out: &mut BytesMut, value: Slot) -> Result<(), AllocError>
 }
 
 /// Writes a name and its slot. Where memory is refused, a beginning of the two may stand behind what stood.
-#[tactic(auto, using(lk_wire::proofs::Appends::keeps_same, lk_wire::proofs::Appends::keeps_behind))]
-pub(crate) fn put_entry(out: &mut BytesMut, name: &Name, value: Slot) -> Result<(), AllocError>
+#[tactic(auto, using(lk_wire::proofs::Spellings::keeps_same, lk_wire::proofs::Spellings::keeps_behind))]
+pub fn put_entry(out: &mut BytesMut, name: &Name, value: Slot) -> Result<(), AllocError>
     ensures ok { OnOk result (out.new.items ≡ out.old.items ++ entry (name.now, value)) }
     ensures err { OnErr result (Keeps out.old.items out.new.items) }
 {

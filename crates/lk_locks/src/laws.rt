@@ -1,14 +1,18 @@
 //! Laws of the definitions alone.
-ghost use Rattle.std.specs.Prelude.{◌≡◌, ◌≤◌, List, ℕ, length};
+ghost use Rattle.std.specs.Prelude.{◌≡◌, ◌≤◌, ◌↔◌, ◌⊎◌, ◌∷◌, ◌++◌, List, [], ℕ, Some, length, IsTrue};
 ghost use Rattle.std.specs.List.{AllByRecursion};
+ghost use Rattle.std.specs.FinMap as map;
+ghost use Rattle.lk_types.specs.declared.answer.Answer.TheVariants.{Granted, Valid, Stale};
+ghost use Rattle.lk_types.specs.declared.command.Op.TheVariants.{Table as TableOp};
 ghost use Rattle.lk_types.specs.Commands.{IsCommand};
-ghost use Rattle.lk_members.specs.Counting.{Command};
+ghost use Rattle.lk_members.specs.Counting.{Command, RequestValue, Request, counted};
 ghost use Rattle.lk_state.specs.States.{text_of};
 ghost use Rattle.lk_locks.specs.declared.body.Body.{Body};
-ghost use Rattle.lk_locks.specs.Bodies.{Spells};
-ghost use Rattle.lk_locks.specs.Plain.{Table, answer};
+ghost use Rattle.lk_locks.specs.declared.body.Body.TheVariants.{Acquire, Check};
+ghost use Rattle.lk_locks.specs.Bodies.{SpellsBody, body_of};
+ghost use Rattle.lk_locks.specs.Plain.{Table, name_of, answer};
 ghost use Rattle.lk_locks.specs.Packed.{IsTable, IsText, text, table_in};
-ghost use Rattle.lk_locks.specs.Grants.{Call, grants, grants_in, numbers_from};
+ghost use Rattle.lk_locks.specs.Grants.{Call, is_for, grants, grants_in, numbers_from};
 ghost use Rattle.lk_locks.specs.Meaning.{table_meaning};
 ghost use Rattle.lk_locks.specs.Lists.{table_of};
 
@@ -24,7 +28,7 @@ pub fn fences_of_calls_count_up()
 
 /// Bytes are the spelling of at most one body. (A body has one spelling since `spelling` is a function.)
 pub fn one_body()
-    ensures { (a b : Body) (bytes : List ℕ) → Spells a bytes → Spells b bytes → a ≡ b }
+    ensures { (a b : Body) (bytes : List ℕ) → SpellsBody a bytes → SpellsBody b bytes → a ≡ b }
 {}
 
 /// A table is the one of its text, so no two tables have one text.
@@ -45,4 +49,19 @@ pub fn texts_are_of_tables()
 /// What the machine answers behind a list is what the plain table behind the list answers.
 pub fn answers_are_plain()
     ensures { (L : List Command) → AllByRecursion IsCommand L → (client : ℕ) (body : List ℕ) → table_meaning.answer client body (text_of table_meaning L) ≡ answer client body (table_of L) }
+{}
+
+/// A body is for a name exactly where that is the name in it.
+pub fn bodies_are_for_their_names()
+    ensures { (name : List ℕ) (body : Body) → IsTrue (is_for name (Some body)) ↔ (name_of body ≡ name) }
+{}
+
+/// An entry that counts and is granted a name adds its fence to those of the name.
+pub fn each_grant_is_listed()
+    ensures { (name : List ℕ) (L : List Command) (r : RequestValue) (body : List ℕ) (fence : ℕ) → counted L (Request r) ≡ Some r → r.op ≡ TableOp body → body_of body ≡ Some (Acquire name) → answer r.client body (table_of L) ≡ Granted fence → grants_in name (L ++ Request r ∷ []) ≡ grants_in name L ++ fence ∷ [] }
+{}
+
+/// A Check is valid exactly where somebody holds the name at its fence, and else stale: also where the name is free.
+pub fn checks_tell_who_holds()
+    ensures { (client : ℕ) (bytes name : List ℕ) (fence : ℕ) (m : Table) → body_of bytes ≡ Some (Check name fence) → ((answer client bytes m ≡ Valid) ↔ ((holder : ℕ) × (map.get m name ≡ Some (record { fence = fence; holder = Some holder })))) × ((answer client bytes m ≡ Valid) ⊎ (answer client bytes m ≡ Stale)) }
 {}

@@ -1,22 +1,24 @@
 //! The table as a machine: its packed text, and reading it back.
 ghost use Rattle.std.specs.Prelude.{◌≡◌, ◌≤◌, ◌++◌, ℕ, List, length, Some, None, OnOk, OnErr, IfOk, IsErrOf};
 ghost use Rattle.std.specs.FinMap as map;
+ghost use Rattle.lk_types.specs.Limits.{max_names};
 ghost use Rattle.lk_wire.specs.Parser.{many, whole};
-ghost use Rattle.lk_locks.specs.Packed.{entry_at, entries_at, DoNotRise};
+ghost use Rattle.lk_locks.specs.Packed.{read_entry, read_entries, DoNotRise};
 
 use crate::entry::read_entry;
 use crate::table::LockTable;
 use bytes::BytesMut;
 use lk_state::{Machine, UnpackFault};
+use lk_types::limits::MAX_NAMES;
 use lk_types::{Answer, ClientNo, NoMemory};
 use lk_wire::fields::read_u16;
 use std::alloc::Global;
 
 /// The table of so many names with their slots, from the front of the bytes. The names have to rise.
 fn read_entries(alloc: Global, count: u16, bytes: &[u8]) -> Result<(LockTable, &[u8]), UnpackFault>
-    requires { count ≤ 512 }
-    ensures ok { IfOk result (λ x. many entry_at count bytes.now ≡ Some (map.entries x.0, x.1.now)) }
-    ensures not_packed { IsErrOf result UnpackFault.NotPacked → DoNotRise (many entry_at count bytes.now) }
+    requires { count ≤ max_names }
+    ensures ok { IfOk result (λ x. many read_entry count bytes.now ≡ Some (map.entries x.0, x.1.now)) }
+    ensures not_packed { IsErrOf result UnpackFault.NotPacked → DoNotRise (many read_entry count bytes.now) }
 {
     let mut table = LockTable::new(alloc);
     let mut rest = bytes;
@@ -31,15 +33,15 @@ fn read_entries(alloc: Global, count: u16, bytes: &[u8]) -> Result<(LockTable, &
 }
 
 /// The table that all of the bytes are.
-#[tactic(auto, using(crate::proofs::TableLaws::read_is), unfolding(crate::specs::Packed::entries_at, crate::specs::Packed::size_at))]
+#[tactic(auto, using(crate::proofs::TableLaws::read_is), unfolding(crate::specs::Packed::read_entries, crate::specs::Packed::read_size))]
 fn read_table(alloc: Global, bytes: &[u8]) -> Result<LockTable, UnpackFault>
-    ensures ok { IfOk result (λ t. whole entries_at bytes.now ≡ Some (map.entries t)) }
-    ensures not_packed { IsErrOf result UnpackFault.NotPacked → whole entries_at bytes.now ≡ None }
+    ensures ok { IfOk result (λ t. whole read_entries bytes.now ≡ Some (map.entries t)) }
+    ensures not_packed { IsErrOf result UnpackFault.NotPacked → whole read_entries bytes.now ≡ None }
 {
     let Some((count, rest)) = read_u16(bytes) else {
         return Err(UnpackFault::NotPacked);
     };
-    if count > 512 {
+    if usize::from(count) > MAX_NAMES {
         return Err(UnpackFault::NotPacked);
     }
     let (table, rest) = read_entries(alloc, count, rest)?;
@@ -55,7 +57,7 @@ impl Machine for LockTable {
     ghost use Rattle.lk_locks.specs.Packed.{text as table_text, IsText as IsTableText};
     ghost use Rattle.lk_locks.specs.Meaning.{table_meaning};
     ghost use Rattle.lk_locks.specs.PackedLaws.{empty_is_text, at_most_36000};
-    ghost use Rattle.lk_locks.specs.NextLaws.{next_is_text};
+    ghost use Rattle.lk_locks.specs.NextLaws.{next_is_text, answer_is_answer};
 
     ghost text = { table_text };
 
@@ -101,6 +103,8 @@ impl Machine for LockTable {
     ghost first_is_text = { empty_is_text };
 
     ghost next_is_text = { next_is_text };
+
+    ghost answer_is_answer = { answer_is_answer };
 
     ghost short = { at_most_36000 };
 }

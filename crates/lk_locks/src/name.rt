@@ -1,14 +1,16 @@
 ghost use Rattle.std.specs.Prelude.{◌≡◌, ◌≤◌, ◌↔◌, length, IsSome, IfSome};
 ghost use Rattle.std.specs.List.{list_all};
+ghost use Rattle.lk_types.specs.Limits.{max_name};
 ghost use Rattle.lk_locks.specs.Names.{IsName, is_name_byte};
 
 use arrayvec::ArrayVec;
+use lk_types::limits::MAX_NAME;
 use std::marker::Model;
 
 /// The name of a lock: 1 to 32 bytes of `a` to `z`, `0` to `9`, `-`, `.` and `/`.
 #[derive(Clone, Debug, PartialEq, Eq, PartialOrd, Ord, Drop)]
 pub struct Name {
-    bytes: ArrayVec<u8, 32>,
+    bytes: ArrayVec<u8, MAX_NAME>,
 }
 
 impl Model for Name {
@@ -42,7 +44,7 @@ impl Name {
         ensures some { IsSome result ↔ IsName bytes.now }
         ensures value { IfSome result (λ n. n ≡ bytes.now) }
     {
-        if bytes.is_empty() || bytes.len() > 32 || !all_may_stand(bytes) {
+        if bytes.is_empty() || bytes.len() > MAX_NAME || !all_may_stand(bytes) {
             return None;
         }
         let bytes = ArrayVec::try_from(bytes).ok()?;
@@ -53,7 +55,7 @@ impl Name {
     pub fn as_slice(&self) -> &[u8]
         ensures value { result.now ≡ self.now }
         ensures fits { IsName self.now }
-        ensures short { length self.now ≤ 32 }
+        ensures short { length self.now ≤ max_name }
     {
         self.bytes.as_slice()
     }

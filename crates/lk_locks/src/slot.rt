@@ -2,6 +2,7 @@ ghost use Rattle.std.specs.Prelude.{◌≡◌};
 ghost use Rattle.lk_locks.specs.Packed.{IsSlot};
 ghost use Rattle.lk_locks.specs.Plain.{granting, asked, checked};
 
+use lk_types::limits::MAX_NAMES;
 use lk_types::{Answer, ClientNo, Fence, LastFence};
 
 /// The last fence of a name, and who holds it, if anyone does.
@@ -24,11 +25,11 @@ impl Slot {
 }
 
 /// The fence at which a name is granted, or why it is not.
-pub(crate) fn grant(slot: Option<Slot>, names: usize) -> Result<Fence, Answer>
+pub fn grant(slot: Option<Slot>, names: usize) -> Result<Fence, Answer>
     ensures { result ≡ granting slot names }
 {
     match slot {
-        None if names >= 512 => Err(Answer::NoRoom),
+        None if names >= MAX_NAMES => Err(Answer::NoRoom),
         None => Ok(Fence::default()),
         Some(slot) => match slot.holder {
             Some(holder) => Err(Answer::Busy(holder, slot.fence)),
@@ -38,7 +39,7 @@ pub(crate) fn grant(slot: Option<Slot>, names: usize) -> Result<Fence, Answer>
 }
 
 /// Who holds a name.
-pub(crate) fn ask(slot: Option<Slot>) -> Answer
+pub fn ask(slot: Option<Slot>) -> Answer
     ensures { result ≡ asked slot }
 {
     match slot {
@@ -51,7 +52,7 @@ pub(crate) fn ask(slot: Option<Slot>) -> Answer
 }
 
 /// Whether a name is held at that fence, by anyone.
-pub(crate) fn check(slot: Option<Slot>, fence: Fence) -> Answer
+pub fn check(slot: Option<Slot>, fence: Fence) -> Answer
     ensures { result ≡ checked fence slot }
 {
     match slot {

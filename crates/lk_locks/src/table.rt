@@ -2,6 +2,7 @@ ghost use Rattle.std.specs.Prelude.{◌≡◌, ◌<◌, ◌≤◌, OnOk, OnErr, 
 ghost use Rattle.std.specs.Ordering.{nat_cmp};
 ghost use Rattle.std.specs.Cmp.Lexicographic.{slice_cmp};
 ghost use Rattle.std.specs.FinMap as map;
+ghost use Rattle.lk_types.specs.Limits.{max_names};
 ghost use Rattle.lk_locks.specs.Bodies.{body_of};
 ghost use Rattle.lk_locks.specs.Packed.{IsTable, rise, text};
 ghost use Rattle.lk_locks.specs.declared.slot.Slot.{Slot};
@@ -20,7 +21,7 @@ use std::alloc::{AllocError, Global};
 use std::collections::BTreeMap;
 use std::marker::Model;
 
-/// Up to 512 names, each with its last fence and its holder. A name never leaves.
+/// Up to max_names names, each with its last fence and its holder. A name never leaves.
 #[derive(Drop)]
 pub struct LockTable {
     slots: BTreeMap<Name, Slot>,
@@ -59,12 +60,12 @@ impl LockTable {
     /// How many names stand.
     fn len(&self) -> usize
         ensures len { result ≡ map.len self.now }
-        ensures short { result ≤ 512 }
+        ensures short { result ≤ max_names }
     {
         self.slots.len()
     }
 
-    /// At most 512 names stand, and each part is in its range. It does nothing.
+    /// At most max_names names stand, and each part is in its range. It does nothing.
     pub(crate) fn facts(&self)
         ensures { IsTable self.now }
     {
@@ -79,7 +80,7 @@ impl LockTable {
 
     /// Gives a name that slot. For a name that stands it takes no memory.
     fn set(&mut self, name: Name, slot: Slot) -> Result<(), NoMemory>
-        requires { map.get self.old name ≡ None → map.len self.old < 512 }
+        requires { map.get self.old name ≡ None → map.len self.old < max_names }
         ensures ok { OnOk result (self.new ≡ map.insert self.old name slot) }
         ensures err { OnErr result (self.new ≡ self.old) }
         ensures absent { OnErr result (map.get self.old name ≡ None) }
@@ -102,7 +103,7 @@ impl LockTable {
 
     /// Adds a name above all that stand, where there is room.
     pub(crate) fn push(&mut self, name: Name, slot: Slot) -> Result<(), UnpackFault>
-        requires { map.len self.old < 512 }
+        requires { map.len self.old < max_names }
         ensures ok { OnOk result (map.entries self.new ≡ map.entries self.old ++ (name, slot) ∷ []) }
         ensures not_packed { IsErrOf result UnpackFault.NotPacked → rise (map.entries self.old ++ (name, slot) ∷ []) ≡ false }
     {
@@ -115,7 +116,7 @@ impl LockTable {
 
     /// Writes how many names stand, and then each with its slot. Where memory is refused, a beginning of that may stand
     /// behind what stood.
-    #[tactic(auto, using(lk_wire::proofs::Appends::keeps_same, lk_wire::proofs::Appends::keeps_behind))]
+    #[tactic(auto, using(lk_wire::proofs::Spellings::keeps_same, lk_wire::proofs::Spellings::keeps_behind))]
     pub(crate) fn put(&self, out: &mut BytesMut) -> Result<(), AllocError>
         ensures ok { OnOk result (out.new.items ≡ out.old.items ++ text self.now) }
         ensures err { OnErr result (Keeps out.old.items out.new.items) }
@@ -132,7 +133,7 @@ impl LockTable {
         ensures ok { OnOk result (self.new ≡ changed name (acquired client (map.get self.old name) (map.len self.old)).change self.old) }
         ensures err { OnErr result (self.new ≡ self.old) }
         ensures absent { OnErr result (map.get self.old name ≡ None) }
-        ensures room { OnErr result (map.len self.old < 512) }
+        ensures room { OnErr result (map.len self.old < max_names) }
     {
         match grant(self.slot(&name), self.len()) {
             Err(refusal) => Ok(refusal),

@@ -1,5 +1,5 @@
-use Rattle.lk_locks.proofs.GrantLaws.{law}
+use Rattle.lk_locks.proofs.GrantLaws.{grants_count_up}
 use Rattle.lk_locks.proofs.laws.fences_of_calls_count_up.Goals as goal
 
 pub returns : goal.returns
-returns c = law
+returns c = grants_count_up

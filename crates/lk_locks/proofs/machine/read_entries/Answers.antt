@@ -7,8 +7,8 @@ use Rattle.std.specs.Cmp.Lexicographic.{slice_cmp}
 use Rattle.std.specs.Ordering.{nat_cmp}
 use Rattle.std.specs.FinMap as map
 use Rattle.lk_wire.specs.Parser.{many}
-use Rattle.lk_wire.proofs.Loop.{goes_on}
-use Rattle.lk_locks.specs.Packed.{entry_at}
+use Rattle.lk_wire.proofs.Spellings.{goes_on}
+use Rattle.lk_locks.specs.Packed.{read_entry}
 use Rattle.lk_locks.specs.declared.slot.Slot.{Slot}
 use Rattle.lk_locks.proofs.TableLaws.{starts, one_longer, falls}
 use Rattle.lk_locks.proofs.machine.read_entries.Goals as goal
@@ -18,7 +18,7 @@ loop-init c = rw c.new-table.ensures (record { so_far = starts c.args.count c.ar
 
 pub loop-preserved : goal.loop-preserved
 loop-preserved c = record {
-  so_far = rw c.in_ok-push.ensures.ok (goes_on entry_at (map.entries c.loop.table) c.args.count c.loop.counter c.loop.rest.now (c.in-Some.name, c.in-Some.slot) c.in-Some.after.now (many entry_at c.args.count c.args.bytes.now) c.loop-test.true c.in-Some.ensures c.loop.invariant.so_far);
+  so_far = rw c.in_ok-push.ensures.ok (goes_on read_entry (map.entries c.loop.table) c.args.count c.loop.counter c.loop.rest.now (c.in-Some.name, c.in-Some.slot) c.in-Some.after.now (many read_entry c.args.count c.args.bytes.now) c.loop-test.true c.in-Some.ensures c.loop.invariant.so_far);
   size = one_longer c.loop.table c.push.new.self (c.in-Some.name, c.in-Some.slot) c.loop.counter c.in_ok-push.ensures.ok c.loop.invariant.size;
 }
 
@@ -30,5 +30,5 @@ returns-in_err-push-clause-not_packed c =
     let p = err_from_is_err_and c.from_residual.result c.from_residual.ensures.1 in
     λ e.
     let stopped = c.in_err-push.ensures.not_packed (same_fault p.0 c.in_err-push.field-0.0 NotPacked (sym p.1 ∙ e) p.2) in
-    falls (map.entries c.loop.table ++ (c.in-Some.name, c.in-Some.slot) ∷ []) (many entry_at (c.args.count - (c.loop.counter + 1)) c.in-Some.after.now) (many entry_at c.args.count c.args.bytes.now) stopped
-    (goes_on entry_at (map.entries c.loop.table) c.args.count c.loop.counter c.loop.rest.now (c.in-Some.name, c.in-Some.slot) c.in-Some.after.now (many entry_at c.args.count c.args.bytes.now) c.loop-test.true c.in-Some.ensures c.loop.invariant.so_far)
+    falls (map.entries c.loop.table ++ (c.in-Some.name, c.in-Some.slot) ∷ []) (many read_entry (c.args.count - (c.loop.counter + 1)) c.in-Some.after.now) (many read_entry c.args.count c.args.bytes.now) stopped
+    (goes_on read_entry (map.entries c.loop.table) c.args.count c.loop.counter c.loop.rest.now (c.in-Some.name, c.in-Some.slot) c.in-Some.after.now (many read_entry c.args.count c.args.bytes.now) c.loop-test.true c.in-Some.ensures c.loop.invariant.so_far)

@@ -3,7 +3,7 @@ use Rattle.std.specs.List.{flat_map}
 use Rattle.std.specs.Cmp.Lexicographic.{nat_list_cmp_total}
 use Rattle.std.specs.FinMap as map
 use Rattle.lk_wire.specs.Fields.{two}
-use Rattle.lk_wire.proofs.Appends.{keeps_same, keeps_behind}
+use Rattle.lk_wire.proofs.Spellings.{keeps_same, keeps_behind}
 use Rattle.lk_locks.specs.Packed.{entry}
 use Rattle.lk_locks.proofs.Maps.{entries_are}
 use Rattle.lk_locks.proofs.TableLaws.{begun}
