@@ -1,22 +1,23 @@
 //! The program `locks`.
 #![tactic(auto)]
 
-mod fault;
-mod hex_line;
-mod lines;
-mod script;
-mod server;
 mod words;
 
-use std::io::{BufReader, BufWriter};
+use std::alloc::Global;
+use std::io::{BufReader, BufWriter, Write};
 use std::process::ExitCode;
+use std::rt::Env;
 use std::{env, io};
-use words::run_words;
+use words::{run_words, tell_start};
 
-/// Runs the command line that the program was given.
-fn main(rt: HostRuntime) -> io::Result<ExitCode> {
+/// Runs the command line that the program was given, on its streams. It fails where nothing could be run: memory was
+/// refused, or a word is no text.
+fn run<R: Env + Input + Print + Alloc<A = Global>, E: Write>(
+    rt: &R,
+    err: &mut E,
+) -> io::Result<u8> {
     let alloc = rt.alloc();
-    let words: Vec<String> = env::args(&rt)?.collect(alloc)?;
+    let words: Vec<String> = env::args(rt)?.collect(alloc)?;
     // The usage text begins with the program's name and not with the path of its file.
     let mut texts = Vec::new(alloc);
     texts.push("locks")?;
@@ -24,11 +25,18 @@ fn main(rt: HostRuntime) -> io::Result<ExitCode> {
         texts.push(word.as_str())?;
     }
     let mut reader = BufReader::new(alloc, rt.reader())?;
-    let mut out = BufWriter::new(alloc, io::writer(&rt))?;
+    let mut out = BufWriter::new(alloc, io::writer(rt))?;
+    Ok(run_words(alloc, &texts, &mut reader, &mut out, err))
+}
+
+/// Ends with the status of the command line.
+fn main(rt: HostRuntime) -> ExitCode {
     let mut err = rt.stderr();
-    let status = run_words(alloc, &texts, &mut reader, &mut out, &mut err);
-    io::Write::flush(&mut out)?;
-    Ok(ExitCode::from(status))
+    let status = match run(&rt, &mut err) {
+        Ok(status) => status,
+        Err(error) => tell_start(&error, &mut err),
+    };
+    ExitCode::from(status)
 }
 
 #[cfg(test)]

@@ -1,5 +1,0 @@
-pub mod HexSpelling
-pub mod LineLemmas
-pub mod ServerLemmas
-pub mod PrintLemmas
-pub mod ScriptLemmas

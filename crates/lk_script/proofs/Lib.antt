@@ -1,0 +1,6 @@
+pub mod HexSpelling
+pub mod LineLemmas
+pub mod ServerLemmas
+pub mod PrintLemmas
+pub mod ScriptLemmas
+pub mod OutputLaws

@@ -1,0 +1,44 @@
+-- What a server stands for: the list of the requests that counted so far.
+use Rattle.std.specs.Prelude.{◌≡◌, ℕ, true, List, [], ◌∷◌, Option, Some, None, ⊤}
+use Rattle.std.specs.List.{AllByRecursion}
+use Rattle.lk_types.specs.Commands.{IsRequest}
+use Rattle.lk_members.specs.Counting.{Command, Noop, Request}
+use Rattle.lk_members.specs.Rosters.{Genesis}
+use Rattle.lk_state.specs.States as state
+use Rattle.lk_locks.specs.Meaning.{table_meaning}
+use Rattle.lk_script.specs.TableMode.{Script, begun, table, is_for_table}
+use Rattle.lk_script.specs.declared.server.Server.{Server}
+
+-- the entry is a request that asks something of the lock table
+abbrev pub AsksTable : Command → Type 0
+AsksTable Noop = ⊥
+AsksTable (Request r) = IsRequest r × (is_for_table r.op ≡ true)
+
+-- the cluster begins with node 1 alone
+pub record IsFirst (cluster : ℕ) (genesis : Genesis) : Type 0 where
+  pub number : genesis.cluster ≡ cluster
+  pub alpha : genesis.alpha ≡ 1
+  pub members : genesis.members ≡ record { node = 1; port = 1 } ∷ []
+
+-- the server's state is that of the list, which asks things of the lock table only
+pub record HasServed (L : List Command) (server : Server) : Type 0 where
+  pub genesis : Genesis
+  pub first : IsFirst server.cluster genesis
+  pub asked : AllByRecursion AsksTable L
+  pub whole : state.SumsUp table_meaning genesis L server.whole
+
+-- how many positions a server has executed
+abbrev pub executed_of : Server → ℕ
+executed_of server = server.whole.roster.executed
+
+-- what a script has set up so far, as the program keeps it
+abbrev pub Fits : Script → Option Server → Type 0
+Fits begun None = ⊤
+Fits begun (Some server) = ⊥
+Fits (table cluster L) None = ⊥
+Fits (table cluster L) (Some server) = (server.cluster ≡ cluster) × HasServed L server
+
+-- how many positions were executed for a script so far
+abbrev pub executed_in : Option Server → ℕ
+executed_in None = 0
+executed_in (Some server) = executed_of server

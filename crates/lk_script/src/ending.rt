@@ -1,0 +1,34 @@
+//! How a run of the program ends: what stands last on standard error, and the status.
+
+ghost use Rattle.std.specs.Prelude.{◌≡◌, ◌⊎◌, Ok};
+ghost use Rattle.std.specs.Io.KnownBytes.{Keeps};
+
+use crate::fault::ScriptFault;
+use std::io::Write;
+
+/// Tells a fault in a line of standard error. The status is 1.
+pub fn tell<E: Write>(fault: ScriptFault, err: &mut E) -> u8
+    ensures { result ≡ 1 }
+{
+    let _ = writeln!(err, "{fault}");
+    1
+}
+
+/// Ends a run: flushes the output, and tells the run's fault, and behind it fault 24 where the flush failed. The status is
+/// 0, or 1 where a fault was told.
+pub fn end<W: Write, E: Write>(ran: Result<(), ScriptFault>, out: &mut W, err: &mut E) -> u8
+    ensures status { (result ≡ 0) ⊎ (result ≡ 1) }
+    ensures ran { result ≡ 0 → ran ≡ Ok tt }
+    ensures quiet { result ≡ 0 → err.new ≡ err.old }
+    ensures written { Keeps (W.contents out.old) (W.contents out.new) }
+{
+    match (ran, out.flush()) {
+        (Ok(()), Ok(())) => 0,
+        (Err(fault), Ok(())) => tell(fault, err),
+        (Ok(()) | Err(ScriptFault::Write), Err(_)) => tell(ScriptFault::Write, err),
+        (Err(fault), Err(_)) => {
+            tell(fault, err);
+            tell(ScriptFault::Write, err)
+        }
+    }
+}

@@ -1,0 +1,164 @@
+//! One unreplicated lock table: a cluster of node 1 alone, which executes each request at once.
+
+ghost use Rattle.std.specs.Prelude.{◌≡◌, ◌+◌, ◌<◌, ◌≤◌, ◌++◌, ◌∷◌, [], List, ℕ, Some, None, true, false, OnOk, IfOk, IfSome, IsNone, IsErrOf};
+ghost use Rattle.lk_types.specs.Limits.{max_count};
+ghost use Rattle.lk_members.specs.Counting.{Command as CommandValue};
+ghost use Rattle.lk_script.specs.TableMode.{from_client, is_request_to};
+
+use crate::buffers::Buffers;
+use crate::fault::LineFault;
+use crate::hex_line::read_bytes;
+use lk_locks::LockTable;
+use lk_state::{Seen, Whole};
+use lk_types::{Answer, Command, Genesis, Member, NoMemory, NodeNo, Op, Request};
+use lk_wire::{Answered, Content, Message, NodeMessage, Passed, ReadFault, read};
+use std::alloc::Global;
+
+/// The request that a message is, where it is one to the cluster.
+fn request_to(cluster: u64, message: &Message) -> Option<&Request>
+    ensures some { IfSome result (λ r. message.now ≡ from_client cluster r.now) }
+    ensures none { IsNone result → is_request_to cluster message.now ≡ false }
+{
+    match &message.content {
+        Content::Request(request) if message.cluster == cluster => Some(request),
+        _ => None,
+    }
+}
+
+/// A cluster of node 1 alone, which answers each request to it at once.
+#[derive(Drop)]
+pub struct Server {
+    cluster: u64,
+    whole: Whole<LockTable>,
+}
+
+impl Server {
+    ghost use Rattle.lk_wire.specs.declared.message.NodeMessage.TheVariants as reply;
+    ghost use Rattle.lk_wire.specs.Grammar.{Spells};
+    ghost use Rattle.lk_state.specs.Sessions.{session_of, is_new};
+    ghost use Rattle.lk_script.specs.Replies.{with_request};
+    ghost use Rattle.lk_script.specs.TableMode.{is_for_table, Replies, Prints};
+    ghost use Rattle.lk_script.specs.HexLines.{SpellsBytes};
+    ghost use Rattle.lk_script.specs.Servers.{HasServed, executed_of};
+
+    /// The server of a cluster before any request.
+    pub fn new(alloc: Global, cluster: u64) -> Server
+        ensures cluster { result.cluster ≡ cluster }
+        ensures empty { HasServed [] result }
+        ensures executed { executed_of result ≡ 0 }
+    {
+        let genesis = Genesis::of(cluster, 1, &[Member::default()]).unwrap();
+        let whole = Whole::begin(alloc, &genesis);
+        Server { cluster, whole }
+    }
+
+    /// Executes a request that counts, and answers it.
+    fn run(&mut self, request: &Request) -> Result<Answer, NoMemory>
+        requires room { executed_of self.old < max_count }
+        requires table { is_for_table request.now.op ≡ true }
+        requires new { is_new (session_of request.now.client self.old.whole.sessions) request.now.number ≡ true }
+        ensures ok { IfOk result (λ a. (L : List CommandValue) → HasServed L self.old
+            → Replies (with_request L request.now) request.now (reply.Answer (record { client = request.now.client; number = request.now.number; answer = a }))
+            × HasServed (with_request L request.now) self.new) }
+        ensures cluster { self.new.cluster ≡ self.old.cluster }
+        ensures paces { executed_of self.new ≤ executed_of self.old + 1 }
+    {
+        request.facts();
+        let ran = self.whole.run(&Command::Request(request.copy()))?;
+        Ok(ran.answer.unwrap())
+    }
+
+    /// Replies to a request for the lock table, which is executed where it is new.
+    pub fn reply(&mut self, request: &Request) -> Result<NodeMessage, NoMemory>
+        requires room { executed_of self.old < max_count }
+        requires table { is_for_table request.now.op ≡ true }
+        ensures ok { IfOk result (λ m. (L : List CommandValue) → HasServed L self.old
+            → Replies (with_request L request.now) request.now m × HasServed (with_request L request.now) self.new) }
+        ensures cluster { self.new.cluster ≡ self.old.cluster }
+        ensures paces { executed_of self.new ≤ executed_of self.old + 1 }
+    {
+        let (client, number) = (request.client, request.number);
+        let answer = match self.whole.seen(client, number) {
+            Seen::New => self.run(request)?,
+            Seen::Same(answer) => answer,
+            Seen::Passed(last) => {
+                let passed = Passed::of(client, number, last).unwrap();
+                return Ok(NodeMessage::Passed(passed));
+            }
+        };
+        Ok(NodeMessage::Answer(Answered {
+            client,
+            number,
+            answer,
+        }))
+    }
+
+    /// Makes the text what a client's request to the cluster prints.
+    fn print_request(&mut self, request: &Request, buffers: &mut Buffers) -> Result<(), NoMemory>
+        requires { executed_of self.old < max_count }
+        ensures ok { OnOk result ((bytes : List ℕ) (L : List CommandValue) → Spells (from_client self.old.cluster request.now) bytes → HasServed L self.old
+            → (after : List CommandValue) × Prints self.old.cluster L bytes buffers.new.text.items after × HasServed after self.new) }
+        ensures cluster { self.new.cluster ≡ self.old.cluster }
+        ensures paces { executed_of self.new ≤ executed_of self.old + 1 }
+    {
+        let Op::Table(_) = &request.op else {
+            return buffers.print("not here");
+        };
+        let reply = self.reply(request)?;
+        let message = Message {
+            cluster: self.cluster,
+            content: Content::Node(NodeNo::default(), reply),
+        };
+        buffers.print_message(&message)
+    }
+
+    /// Makes the text what a message prints.
+    fn print_message(&mut self, message: &Message, buffers: &mut Buffers) -> Result<(), NoMemory>
+        requires { executed_of self.old < max_count }
+        ensures ok { OnOk result ((bytes : List ℕ) (L : List CommandValue) → Spells message.now bytes → HasServed L self.old
+            → (after : List CommandValue) × Prints self.old.cluster L bytes buffers.new.text.items after × HasServed after self.new) }
+        ensures cluster { self.new.cluster ≡ self.old.cluster }
+        ensures paces { executed_of self.new ≤ executed_of self.old + 1 }
+    {
+        match request_to(self.cluster, message) {
+            Some(request) => self.print_request(request, buffers),
+            None => buffers.print("not a request"),
+        }
+    }
+
+    /// Makes the text what the bytes of a datagram print.
+    fn print(&mut self, alloc: Global, buffers: &mut Buffers) -> Result<(), NoMemory>
+        requires { executed_of self.old < max_count }
+        ensures ok { OnOk result ((L : List CommandValue) → HasServed L self.old
+            → (after : List CommandValue) × Prints self.old.cluster L buffers.old.bytes.items buffers.new.text.items after × HasServed after self.new) }
+        ensures cluster { self.new.cluster ≡ self.old.cluster }
+        ensures paces { executed_of self.new ≤ executed_of self.old + 1 }
+    {
+        match read(alloc, &buffers.bytes) {
+            Ok(message) => self.print_message(&message, buffers),
+            Err(ReadFault::Bad) => buffers.print("bad"),
+            Err(ReadFault::NoMemory) => Err(NoMemory),
+        }
+    }
+
+    /// Makes the text what a line of table mode prints.
+    pub fn print_line(
+        &mut self,
+        alloc: Global,
+        line: &[u8],
+        buffers: &mut Buffers,
+    ) -> Result<(), LineFault>
+        requires { executed_of self.old < max_count }
+        ensures ok { OnOk result ((L : List CommandValue) → HasServed L self.old
+            → (bytes : List ℕ) × (printed : List ℕ) × (after : List CommandValue) × SpellsBytes line.now bytes × Prints self.old.cluster L bytes printed after
+            × (buffers.new.text.items ≡ printed ++ 10 ∷ []) × HasServed after self.new) }
+        ensures not_understood { IsErrOf result LineFault.NotUnderstood → (bytes : List ℕ) → SpellsBytes line.now bytes → ⊥ }
+        ensures cluster { self.new.cluster ≡ self.old.cluster }
+        ensures paces { executed_of self.new ≤ executed_of self.old + 1 }
+    {
+        read_bytes(line, &mut buffers.bytes)?;
+        self.print(alloc, buffers)?;
+        buffers.text.push(b'\n')?;
+        Ok(())
+    }
+}
