@@ -1,0 +1,6 @@
+mod InOrder
+mod Rising
+mod Keeping
+mod Granting
+mod Answering
+pub mod Acceptors

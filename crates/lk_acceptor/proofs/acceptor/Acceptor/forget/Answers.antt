@@ -1,0 +1,12 @@
+use Rattle.std.proofs.Common.{List, sym, subst}
+use Rattle.lk_types.specs.declared.vote.Vote.{Vote}
+use Rattle.lk_acceptor.specs.States.{IsOrdered}
+use Rattle.lk_acceptor.proofs.Keeping.{rest_kept}
+use Rattle.lk_acceptor.proofs.acceptor.Acceptor.forget.Goals as goal
+
+pub invariant_of-self : goal.invariant_of-self
+invariant_of-self c = (
+  c.self.invariant.0,
+  subst (λ (l : List Vote). IsOrdered (record { promised = c.self.inside.promised; votes = l; snapshot_position = c.args.position })) (sym c.forget_to.ensures)
+      (rest_kept (record { promised = c.self.inside.promised; votes = c.self.inside.votes.items; snapshot_position = c.self.inside.snapshot_position }) c.args.position c.self.invariant.1),
+)

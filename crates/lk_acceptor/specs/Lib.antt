@@ -1,0 +1,4 @@
+pub mod AcceptorValue
+pub mod VoteLists
+pub mod States
+pub mod Answers

@@ -1,0 +1,62 @@
+-- Which states an acceptor has, and what becomes of them.
+use Rattle.std.specs.Prelude.{ℕ, nat_lt, Contains, Option, Some, None, IsTrue, if◌then◌else◌}
+use Rattle.std.specs.List.{AllByRecursion}
+use Rattle.lk_types.specs.BallotValue.{BallotValue}
+use Rattle.lk_types.specs.Ballots.{IsAtMost, IsMark, is_below}
+use Rattle.lk_types.specs.Ranges.{IsAlpha, IsTotal}
+use Rattle.lk_types.specs.Votes.{IsVote}
+use Rattle.lk_types.specs.declared.entry.Entry.{Entry}
+use Rattle.lk_types.specs.declared.entry.Entry.TheVariants as entry
+use Rattle.lk_types.specs.declared.vote.Vote.{Vote}
+use Rattle.lk_wire.specs.Values.{are_votes_above}
+use Rattle.lk_history.specs.Acceptors.{AcceptorState}
+use Rattle.lk_history.specs.Changes.{with_promise}
+use Rattle.lk_acceptor.specs.AcceptorValue.{AcceptorValue}
+use Rattle.lk_acceptor.specs.VoteLists.{votes_with, votes_above}
+
+-- the votes lie above the snapshot, strictly rising by position, and none is in a ballot above the promised one
+pub record IsOrdered (s : AcceptorState) : Type 0 where
+  pub rising : IsTrue (are_votes_above s.snapshot_position s.votes)
+  pub promised : (v : Vote) → Contains s.votes v → IsAtMost v.ballot s.promised
+
+-- and each part is in its range
+pub record IsAcceptor (a : AcceptorValue) : Type 0 where
+  pub alpha : IsAlpha a.alpha
+  pub promised : IsMark a.state.promised
+  pub snapshot_position : IsTotal a.state.snapshot_position
+  pub votes : AllByRecursion IsVote a.state.votes
+  pub kept : IsOrdered a.state
+
+-- ---- what becomes of a state
+
+-- the vote is kept in its place, and its ballot is promised
+abbrev pub with_vote : AcceptorState → Vote → AcceptorState
+with_vote s v = record { promised = v.ballot; votes = votes_with v s.votes; snapshot_position = s.snapshot_position }
+
+-- a snapshot takes the place of the votes up to a position
+abbrev pub without_votes_to : AcceptorState → ℕ → AcceptorState
+without_votes_to s i = record { promised = s.promised; votes = votes_above i s.votes; snapshot_position = i }
+
+abbrev pub with_state : AcceptorValue → AcceptorState → AcceptorValue
+with_state a s = record { alpha = a.alpha; state = s }
+
+-- ---- what a store of these entries stands for
+
+-- the greater of two ballots
+abbrev pub greater : BallotValue → BallotValue → BallotValue
+greater a b = if is_below a b then b else a
+
+-- the state that a store stands for once an entry is written behind those that stand for a state
+abbrev pub with_entry : Entry → AcceptorState → AcceptorState
+with_entry (entry.Promise b) s = with_promise s (greater s.promised b)
+with_entry (entry.Vote v) s = record {
+  promised = greater s.promised v.ballot;
+  votes = if nat_lt s.snapshot_position v.position then votes_with v s.votes else s.votes;
+  snapshot_position = s.snapshot_position;
+}
+with_entry (entry.Decided i c) s = s
+
+-- with one entry more, or none
+abbrev pub with_written : Option Entry → AcceptorState → AcceptorState
+with_written None s = s
+with_written (Some e) s = with_entry e s

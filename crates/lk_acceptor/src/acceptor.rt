@@ -1,0 +1,236 @@
+ghost use Rattle.std.specs.Prelude.{◌≡◌, ◌<◌, ◌≤◌, ◌⊎◌, ◌↔◌, Contains, Some, None, IsTrue, OnOk, OnErr, IfOk};
+ghost use Rattle.std.specs.List.{AllByRecursion};
+ghost use Rattle.lk_types.specs.Ballots.{IsBelow, IsAtMost};
+ghost use Rattle.lk_types.specs.Ranges.{IsAlpha};
+ghost use Rattle.lk_types.specs.Votes.{IsVote};
+ghost use Rattle.lk_types.specs.declared.entry.Entry.TheVariants as entry;
+ghost use Rattle.lk_types.specs.declared.vote.Vote.{Vote as VoteValue};
+ghost use Rattle.lk_history.specs.Changes.{with_promise};
+ghost use Rattle.lk_acceptor.specs.Answers.{GrantsPrepare, GrantsAccept, Refuses, AnswersPrepare, AnswersAccept};
+ghost use Rattle.lk_acceptor.specs.VoteLists.{HasVoteFrom};
+ghost use Rattle.lk_acceptor.specs.States.{IsOrdered, IsAcceptor, with_vote, without_votes_to, with_state};
+
+use crate::response::Response;
+use crate::votes::{agree, forget_to, holds, keep_vote, lie_below, votes_from};
+use lk_types::{Ballot, Entry, Executed, NoMemory, Position, RealBallot, Vote};
+use lk_wire::{Nack, NodeMessage, Promise};
+use std::alloc::Global;
+use std::marker::Model;
+
+/// What a node promised and voted for: one promised ballot for all positions, and above the snapshot the vote of
+/// greatest ballot at each position.
+#[derive(Debug, Drop)]
+pub struct Acceptor {
+    alloc: Global,
+    alpha: u8,
+    promised: Ballot,
+    votes: Vec<Vote>,
+    snapshot_position: Executed,
+}
+
+impl Model for Acceptor {
+    ghost use Rattle.lk_types.specs.Ranges.{IsAlpha};
+    ghost use Rattle.lk_acceptor.specs.AcceptorValue.{AcceptorValue};
+    ghost use Rattle.lk_acceptor.specs.States.{IsOrdered};
+
+    ghost Value = { AcceptorValue };
+
+    ghost view = { λ a. record {
+      alpha = a.alpha;
+      state = record { promised = a.promised; votes = a.votes.items; snapshot_position = a.snapshot_position };
+    } };
+
+    ghost invariant = { λ a. IsAlpha a.alpha × IsOrdered (record { promised = a.promised; votes = a.votes.items; snapshot_position = a.snapshot_position }) };
+}
+
+// Each vote is in its range. It does nothing.
+fn votes_facts(votes: &[Vote])
+    ensures { AllByRecursion IsVote votes.now }
+{
+    for vote in votes {
+        vote.facts();
+    }
+}
+
+impl Acceptor {
+    /// An acceptor that holds what a store stands for. The members are known `alpha` positions ahead, 1 to 16.
+    pub fn new(
+        alloc: Global,
+        alpha: u8,
+        promised: Ballot,
+        votes: Vec<Vote>,
+        snapshot_position: Executed,
+    ) -> Acceptor
+        requires alpha { IsAlpha alpha }
+        requires kept { IsOrdered (record { promised = promised; votes = votes.items; snapshot_position = snapshot_position }) }
+        ensures { result ≡ record { alpha = alpha; state = record { promised = promised; votes = votes.items; snapshot_position = snapshot_position } } }
+    {
+        Acceptor {
+            alloc,
+            alpha,
+            promised,
+            votes,
+            snapshot_position,
+        }
+    }
+
+    /// The promised ballot: none below it gets a promise or a vote any more.
+    pub fn promised(&self) -> Ballot
+        ensures { result ≡ self.now.state.promised }
+    {
+        self.promised
+    }
+
+    /// The kept votes, strictly rising by position, all above the snapshot.
+    pub fn votes(&self) -> &[Vote]
+        ensures { result.now ≡ self.now.state.votes }
+    {
+        &self.votes
+    }
+
+    /// How many positions the snapshot has taken over.
+    pub fn snapshot_position(&self) -> Executed
+        ensures { result ≡ self.now.state.snapshot_position }
+    {
+        self.snapshot_position
+    }
+
+    /// Each part is in its range, and the votes are kept in order. It does nothing.
+    pub fn facts(&self)
+        ensures { IsAcceptor self.now }
+    {
+        let _ = self.promised.round();
+        let _ = self.snapshot_position.get();
+        votes_facts(&self.votes);
+    }
+
+    // Whether a Prepare gets a promise.
+    fn grants_prepare(&self, ballot: RealBallot, first: Position) -> bool
+        ensures { IsTrue result ↔ GrantsPrepare self.now ballot first }
+    {
+        let end = first.get() + 2 * u64::from(self.alpha);
+        if ballot.get().is_below(self.promised) || self.snapshot_position.get() >= first.get() {
+            return false;
+        }
+        lie_below(&self.votes, end)
+    }
+
+    // Whether an Accept gets a vote.
+    fn grants_accept(&self, vote: &Vote, executed: Executed) -> bool
+        ensures { IsTrue result ↔ GrantsAccept self.now executed vote.now }
+    {
+        let last = executed.get() + 2 * u64::from(self.alpha);
+        if vote.ballot.get().is_below(self.promised)
+            || self.snapshot_position.get() >= vote.position.get()
+            || vote.position.get() > last
+        {
+            return false;
+        }
+        agree(&self.votes, vote)
+    }
+
+    // Refuses a ballot.
+    fn refusal(&self, ballot: RealBallot, executed: Executed) -> Response
+        ensures { Refuses self.now executed ballot result self.now }
+    {
+        let nack = Nack {
+            ballot,
+            promised: self.promised,
+            executed,
+        };
+        Response {
+            reply: NodeMessage::Nack(nack),
+            entry: None,
+        }
+    }
+
+    // Promises a ballot that is not below the promised one, and gives its entry where it is above.
+    fn raise(&mut self, ballot: RealBallot) -> Option<Entry>
+        requires { IsAtMost self.old.state.promised ballot }
+        ensures entry { (IsBelow self.old.state.promised ballot × (result ≡ Some (entry.Promise ballot))) ⊎ ((self.old.state.promised ≡ ballot) × (result ≡ None)) }
+        ensures state { self.new ≡ with_state self.old (with_promise self.old.state ballot) }
+    {
+        if !self.promised.is_below(ballot.get()) {
+            return None;
+        }
+        Some(self.own(ballot))
+    }
+
+    // Keeps a vote that is granted, and gives its entry where it was not kept already.
+    fn vote(&mut self, vote: &Vote) -> Result<Option<Entry>, NoMemory>
+        requires ballot { IsAtMost self.old.state.promised vote.now.ballot }
+        requires above { self.old.state.snapshot_position < vote.now.position }
+        ensures entry { IfOk result (λ e. (Contains self.old.state.votes vote.now × (e ≡ None)) ⊎ ((Contains self.old.state.votes vote.now → ⊥) × (e ≡ Some (entry.Vote vote.now)))) }
+        ensures state { OnOk result (self.new ≡ with_state self.old (with_vote self.old.state vote.now)) }
+        ensures err { OnErr result (self.new ≡ self.old) }
+        ensures memory { OnErr result (Contains self.old.state.votes vote.now → ⊥) }
+    {
+        if holds(&self.votes, vote) {
+            return Ok(None);
+        }
+        keep_vote(&mut self.votes, vote.copy())?;
+        self.promised = vote.ballot.get();
+        Ok(Some(Entry::Vote(vote.copy())))
+    }
+
+    /// Answers a Prepare, where `executed` positions are executed: a Promise of at most 32 votes, or a Nack. At an error
+    /// nothing has changed.
+    pub fn prepare(
+        &mut self,
+        ballot: RealBallot,
+        first: Position,
+        executed: Executed,
+    ) -> Result<Response, NoMemory>
+        ensures answer { IfOk result (λ r. AnswersPrepare self.old executed ballot first r self.new) }
+        ensures err { OnErr result (self.new ≡ self.old) }
+        ensures memory { OnErr result (GrantsPrepare self.old ballot first) }
+        ensures some { OnErr result (HasVoteFrom first self.old.state.votes) }
+    {
+        if !self.grants_prepare(ballot, first) {
+            return Ok(self.refusal(ballot, executed));
+        }
+        let votes = votes_from(self.alloc, &self.votes, first)?;
+        let promise = Promise::of(ballot, first, votes).unwrap();
+        let entry = self.raise(ballot);
+        Ok(Response {
+            reply: NodeMessage::Promise(promise),
+            entry,
+        })
+    }
+
+    /// Answers an Accept of a vote, where `executed` positions are executed: an Accepted or a Nack. At an error nothing
+    /// has changed.
+    pub fn accept(&mut self, vote: Vote, executed: Executed) -> Result<Response, NoMemory>
+        ensures answer { IfOk result (λ r. AnswersAccept self.old executed vote r self.new) }
+        ensures err { OnErr result (self.new ≡ self.old) }
+        ensures memory { OnErr result (GrantsAccept self.old executed vote × (Contains self.old.state.votes vote → ⊥)) }
+    {
+        if !self.grants_accept(&vote, executed) {
+            return Ok(self.refusal(vote.ballot, executed));
+        }
+        let entry = self.vote(&vote)?;
+        Ok(Response {
+            reply: NodeMessage::Accepted(vote),
+            entry,
+        })
+    }
+
+    /// Promises a ballot of the node's own, above the promised one, and gives its entry. It takes no memory.
+    pub fn own(&mut self, ballot: RealBallot) -> Entry
+        requires { IsBelow self.old.state.promised ballot }
+        ensures entry { result ≡ entry.Promise ballot }
+        ensures state { self.new ≡ with_state self.old (with_promise self.old.state ballot) }
+    {
+        self.promised = ballot.get();
+        Entry::Promise(ballot)
+    }
+
+    /// Forgets the votes up to a position that a snapshot has taken over. It takes no memory.
+    pub fn forget(&mut self, position: Executed)
+        requires { self.old.state.snapshot_position ≤ position }
+        ensures { self.new ≡ with_state self.old (without_votes_to self.old.state position) }
+    {
+        forget_to(&mut self.votes, position);
+        self.snapshot_position = position;
+    }
+}

@@ -1,0 +1,11 @@
+//! The acceptor's part of Paxos: which ballot is promised, which votes are kept, and what a Prepare and an Accept are
+//! answered (Lamport 2001, section 2.2).
+#![tactic(auto)]
+
+mod acceptor;
+pub mod laws;
+mod response;
+mod votes;
+
+pub use acceptor::Acceptor;
+pub use response::Response;

@@ -1,0 +1,97 @@
+// Votes that are kept in the order of their positions.
+ghost use Rattle.std.specs.Prelude.{◌≡◌, ◌≢◌, ◌≤◌, ◌↔◌, nat_lt, length, vec_len, vec_capacity, Contains, IsTrue, OnOk, OnErr, IfOk};
+ghost use Rattle.std.specs.List.{list_all};
+ghost use Rattle.lk_types.specs.declared.vote.Vote.{Vote as VoteValue};
+ghost use Rattle.lk_acceptor.specs.Answers.{Agrees};
+ghost use Rattle.lk_acceptor.specs.VoteLists.{votes_below, votes_with, votes_from, votes_above, HasVoteFrom};
+
+use lk_types::{Executed, NoMemory, Position, Vote};
+use std::alloc::Global;
+
+// How many votes of smaller positions are in front.
+fn votes_below(position: Position, votes: &[Vote]) -> usize
+    ensures value { result ≡ votes_below position votes.now }
+    ensures within { result ≤ length votes.now }
+{
+    for (i, vote) in votes.iter().enumerate() {
+        if vote.position.get() >= position.get() {
+            return i;
+        }
+    }
+    votes.len()
+}
+
+// Keeps a vote in its place. Of two votes at a position the one of greater ballot is kept.
+#[tactic(auto, using(crate::proofs::InOrder::at_end, crate::proofs::InOrder::at_other, crate::proofs::InOrder::at_below, crate::proofs::InOrder::at_above))]
+pub fn keep_vote(votes: &mut Vec<Vote>, vote: Vote) -> Result<(), NoMemory>
+    ensures kept { OnOk result (votes.new.items ≡ votes_with vote votes.old.items) }
+    ensures err { OnErr result (votes.new.items ≡ votes.old.items) }
+    ensures memory { OnErr result (vec_capacity votes.old ≤ vec_len votes.old) }
+{
+    let i = votes_below(vote.position, votes);
+    if i == votes.len() {
+        votes.push(vote)?;
+        return Ok(());
+    }
+    if votes[i].position.get() != vote.position.get() {
+        votes.insert(i, vote)?;
+        return Ok(());
+    }
+    if votes[i].ballot.get().is_below(vote.ballot.get()) {
+        votes[i] = vote;
+    }
+    Ok(())
+}
+
+// The votes at a position and above it.
+pub fn votes_from(alloc: Global, votes: &[Vote], first: Position) -> Result<Vec<Vote>, NoMemory>
+    ensures ok { IfOk result (λ vs. vs.items ≡ votes_from first votes.now) }
+    ensures memory { OnErr result (HasVoteFrom first votes.now) }
+{
+    let mut from = Vec::new(alloc);
+    for vote in votes {
+        if first.get() <= vote.position.get() {
+            from.push(vote.copy())?;
+        }
+    }
+    Ok(from)
+}
+
+// Whether each vote lies below the end.
+pub fn lie_below(votes: &[Vote], end: u64) -> bool
+    ensures { result ≡ list_all (λ v. nat_lt v.position end) votes.now }
+{
+    votes.iter().all(|vote| vote.position.get() < end)
+}
+
+// Whether the vote is one of them.
+pub fn holds(votes: &[Vote], vote: &Vote) -> bool
+    ensures { IsTrue result ↔ Contains votes.now vote.now }
+{
+    votes.contains(vote)
+}
+
+fn agrees(kept: &Vote, vote: &Vote) -> bool
+    ensures { IsTrue result ↔ Agrees kept.now vote.now }
+{
+    kept.position != vote.position || kept.ballot != vote.ballot || kept.command == vote.command
+}
+
+// Whether none of the votes is of the vote's ballot and position and has another command.
+pub fn agree(votes: &[Vote], vote: &Vote) -> bool
+    ensures { IsTrue result ↔ ((v : VoteValue) → Contains votes.now v → Agrees v vote.now) }
+{
+    for kept in votes {
+        if !agrees(kept, vote) {
+            return false;
+        }
+    }
+    true
+}
+
+// Forgets the votes up to a position.
+pub fn forget_to(votes: &mut Vec<Vote>, position: Executed)
+    ensures { votes.new.items ≡ votes_above position votes.old.items }
+{
+    votes.retain(|vote| vote.position.get() > position.get());
+}
