@@ -1,0 +1,6 @@
+pub mod Waits
+pub mod Terms
+pub mod Values
+pub mod Proposing
+pub mod Counting
+pub mod Standing

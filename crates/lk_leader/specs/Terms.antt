@@ -1,0 +1,62 @@
+-- What a contract sees of a leader.
+pub use Rattle.lk_types.specs.BallotValue.{BallotValue}
+pub use Rattle.lk_members.specs.Counting.{Command, RequestValue}
+pub use Rattle.lk_history.specs.Soundness.{Report}
+use Rattle.std.specs.List.{list_any}
+use Rattle.lk_members.specs.Ports.{is_named}
+use Rattle.lk_members.specs.Windows.{RosterValue}
+use Rattle.std.specs.Prelude.{◌≡◌, ℕ, Bool, true, false, ◌==◌, ◌+◌, ◌&&◌, nat_lt, nat_le, Option, Some, None, List, [], ◌∷◌, ◌++◌, filter, find}
+
+-- a command that was proposed at a position, and the members of the position that were heard to accept it since then
+pub record ProposalValue : Type 0 where
+  pub position : ℕ
+  pub command : Command
+  pub accepted : List ℕ
+
+-- a ballot in progress: the first promise of each node that was heard, in order, and what was proposed, as far as it is kept
+pub record TermValue : Type 0 where
+  pub ballot : BallotValue
+  pub reports : List Report
+  pub proposals : List ProposalValue
+
+-- the term, if any, and the requests that wait
+pub record LeaderValue : Type 0 where
+  pub term : Option TermValue
+  pub waiting : List RequestValue
+
+-- no ballot, and nothing waits
+abbrev pub idle : LeaderValue
+idle = record { term = None; waiting = [] }
+
+-- a ballot in which nothing is promised or proposed
+abbrev pub begun : BallotValue → TermValue
+begun b = record { ballot = b; reports = []; proposals = [] }
+
+abbrev pub with_report : Report → TermValue → TermValue
+with_report r t = record { ballot = t.ballot; reports = t.reports ++ r ∷ []; proposals = t.proposals }
+
+abbrev pub with_proposals : List ProposalValue → TermValue → TermValue
+with_proposals ps t = record { ballot = t.ballot; reports = t.reports; proposals = ps }
+
+-- the proposal at the position
+abbrev pub proposal_at : ℕ → List ProposalValue → Option ProposalValue
+proposal_at i ps = find (λ p. p.position == i) ps
+
+-- those at the so many positions behind the executed ones
+abbrev pub in_window : ℕ → ℕ → List ProposalValue → List ProposalValue
+in_window executed alpha ps = filter (λ p. nat_lt executed p.position && nat_le p.position (executed + alpha)) ps
+
+-- the leader in this term
+abbrev pub with_term : TermValue → LeaderValue → LeaderValue
+with_term t l = record { term = Some t; waiting = l.waiting }
+
+-- one of the promises is the node's
+abbrev pub has_promised : ℕ → List Report → Bool
+has_promised node reports = list_any (λ r. r.node == node) reports
+
+-- a promise of the node is kept in the term: it is of the term's ballot, of a node of the window, and its first
+pub record IsFirstOf (l : LeaderValue) (roster : RosterValue) (node : ℕ) (b : BallotValue) (t : TermValue) : Type 0 where
+  pub current : l.term ≡ Some t
+  pub ballot : t.ballot ≡ b
+  pub named : is_named node roster.sets ≡ true
+  pub first : has_promised node t.reports ≡ false

@@ -1,0 +1,75 @@
+-- The leader's value: which command a term proposes at a position.
+use Rattle.std.specs.Prelude.{◌≡◌, ◌⊎◌, ℕ, ◌==◌, ◌+◌, ◌<◌, ◌≤◌, ◌&&◌, ◌||◌, nat_le, nat_lt, Bool, IsTrue, Option, Some, None, List, [], ◌∷◌, ◌++◌, length, map, filter, Contains}
+use Rattle.std.specs.List.{flat_map, list_any}
+use Rattle.lk_types.specs.Ballots.{IsBelow}
+use Rattle.lk_types.specs.declared.member.Member.{Member}
+use Rattle.lk_members.specs.Counting.{Command, RequestValue, Noop, Request}
+use Rattle.lk_members.specs.Rosters.{is_member}
+use Rattle.lk_members.specs.Windows.{RosterValue}
+use Rattle.lk_leader.specs.Terms.{Report, ProposalValue, TermValue}
+pub use Rattle.lk_leader.specs.declared.told.Told.{Told}
+
+-- a promise counts at a position of this set: a member gave it, from the position or one before it on
+abbrev pub counts_at : List Member → ℕ → Report → Bool
+counts_at set i r = is_member r.node set && nat_le r.first i
+
+-- those of the promises that do
+abbrev pub reports_at : List Member → ℕ → List Report → List Report
+reports_at set i reports = filter (counts_at set i) reports
+
+-- what a promise tells of the position
+abbrev pub told_by : ℕ → Report → List Told
+told_by i r = map (λ x. record { node = r.node; vote = x }) (filter (λ x. x.position == i) r.votes)
+
+-- what these promises tell of it
+abbrev pub told_at : ℕ → List Report → List Told
+told_at i reports = flat_map (told_by i) reports
+
+-- the second counts at least as much: a greater ballot, or the same one told by a node that is not greater
+abbrev pub IsNotAbove : Told → Told → Type 0
+IsNotAbove u t = IsBelow u.vote.ballot t.vote.ballot ⊎ ((u.vote.ballot ≡ t.vote.ballot) × (t.node ≤ u.node))
+
+-- one of them, and none is above it
+pub record IsHighest (ts : List Told) (t : Told) : Type 0 where
+  pub among : Contains ts t
+  pub above : (u : Told) → Contains ts u → IsNotAbove u t
+
+-- the highest of them, or none where there are none
+abbrev pub IsBest : List Told → Option Told → Type 0
+IsBest ts None = ts ≡ []
+IsBest ts (Some t) = IsHighest ts t
+
+-- the command is proposed at a position that is not executed
+abbrev pub IsUnderWay : ℕ → List ProposalValue → Command → Type 0
+IsUnderWay executed ps v = (p : ProposalValue) × Contains ps p × (executed < p.position) × (p.command ≡ v)
+
+-- the first of the waiting requests that is not proposed at such a position
+pub record IsFirstNew (executed : ℕ) (ps : List ProposalValue) (waiting : List RequestValue) (q : RequestValue) : Type 0 where
+  pub before : List RequestValue
+  pub behind : List RequestValue
+  pub parts : waiting ≡ before ++ (q ∷ behind)
+  pub passed : (r : RequestValue) → Contains before r → IsUnderWay executed ps (Request r)
+  pub new : IsUnderWay executed ps (Request q) → ⊥
+
+-- there is none
+abbrev pub NoneIsNew : ℕ → List ProposalValue → List RequestValue → Type 0
+NoneIsNew executed ps waiting = (r : RequestValue) → Contains waiting r → IsUnderWay executed ps (Request r)
+
+-- some promise tells of a vote at the position or behind it
+abbrev pub is_reached : List Report → ℕ → Bool
+is_reached reports i = list_any (λ r. list_any (λ x. nat_le i x.position) r.votes) reports
+
+-- the last change is not in force before the position
+abbrev pub is_changing : RosterValue → ℕ → Bool
+is_changing roster i = nat_lt 0 roster.changed && nat_le i (roster.changed + length roster.sets)
+
+-- the command that a term proposes at a position of this set, in three cases
+pub data IsLeadersValue (t : TermValue) (waiting : List RequestValue) (roster : RosterValue) (set : List Member) (i : ℕ) : Command → Type 0 where
+  -- the highest vote that a member's promise tells of the position
+  highest : (h : Told) → IsHighest (told_at i (reports_at set i t.reports)) h → IsLeadersValue t waiting roster set i h.vote.command
+  -- where none is told, the first waiting request that is not under way
+  first_new : (q : RequestValue) → told_at i (reports_at set i t.reports) ≡ [] → IsFirstNew roster.executed t.proposals waiting q
+      → IsLeadersValue t waiting roster set i (Request q)
+  -- else nothing, in a gap
+  fills : told_at i (reports_at set i t.reports) ≡ [] → NoneIsNew roster.executed t.proposals waiting → IsTrue (is_reached t.reports i || is_changing roster i)
+      → IsLeadersValue t waiting roster set i Noop

@@ -1,0 +1,231 @@
+ghost use Rattle.std.specs.Prelude.{◌≡◌, ◌↔◌, ℕ, Option, Some, None, List, [], IsTrue, true, false, OnOk, OnErr, Ok, IsSome, IfSome, MatchOption};
+ghost use Rattle.std.specs.Option.{option_copied, option_map};
+ghost use Rattle.lk_types.specs.Ballots.{IsBelow};
+ghost use Rattle.lk_types.specs.declared.member.Member.{Member as TheMember};
+ghost use Rattle.lk_leader.specs.Waits.{asked, waiting_of, number_up_to, left_by};
+ghost use Rattle.lk_leader.specs.Terms.{LeaderValue, TermValue, ProposalValue, Command as TheCommand, idle, begun, with_term, with_report, with_proposals, has_promised as is_promiser, IsFirstOf};
+ghost use Rattle.lk_leader.specs.Proposing.{LeaderProposes, proposed};
+ghost use Rattle.lk_leader.specs.Counting.{IsVoteFor, heard_at, BecomesCounted, IsOpen};
+
+use crate::report::Report;
+use crate::term::Term;
+use crate::waiting::Waiting;
+use lk_members::Roster;
+use lk_types::{
+    Ballot, ClientNo, Command, NoMemory, NodeNo, Op, Position, RealBallot, RequestNumber, Vote,
+};
+use std::alloc::Global;
+use std::marker::Model;
+
+/// A command that a majority of the members of its position has accepted.
+#[derive(Debug, PartialEq, Eq, Drop)]
+pub struct Chosen {
+    pub position: Position,
+    pub command: Command,
+}
+
+/// A command that is proposed and not counted yet, and the members that were heard to accept it.
+#[derive(Debug, Drop)]
+pub struct Open<'a> {
+    pub command: &'a Command,
+    pub accepted: &'a [NodeNo],
+}
+
+/// The leader's part of a node: a ballot in progress, which is its term, and the requests that wait to be proposed.
+#[derive(Drop)]
+pub struct Leader {
+    alloc: Global,
+    term: Option<Term>,
+    waiting: Waiting,
+}
+
+impl Model for Leader {
+    ghost use Rattle.lk_leader.specs.Terms.{LeaderValue};
+
+    ghost Value = { LeaderValue };
+
+    ghost view = { λ l. record { term = l.term; waiting = l.waiting } };
+}
+
+impl Leader {
+    /// No term, and nothing waits. It takes no memory.
+    pub fn new(alloc: Global) -> Leader
+        ensures { result ≡ idle }
+    {
+        Leader {
+            alloc,
+            term: None,
+            waiting: Waiting::new(alloc),
+        }
+    }
+
+    /// A request waits: a greater number takes the place of its client's waiting one, any other is dropped.
+    pub fn ask(&mut self, client: ClientNo, number: RequestNumber, op: &Op) -> Result<(), NoMemory>
+        ensures ok { OnOk result (self.new ≡ record { term = self.old.term; waiting = asked (record { client = client; number = number; op = op.now }) self.old.waiting }) }
+        ensures err { OnErr result (self.new ≡ self.old) }
+    {
+        self.waiting.ask(client, number, op)?;
+        Ok(())
+    }
+
+    /// A term begins with this ballot, in place of any other. What waits stays.
+    pub fn begin(&mut self, ballot: RealBallot)
+        ensures { self.new ≡ with_term (begun ballot) self.old }
+    {
+        self.term = Some(Term::begin(self.alloc, ballot));
+    }
+
+    /// A promise was heard. It is kept where it is of the term's ballot, of a node of the window and that node's first.
+    pub fn promise(
+        &mut self,
+        node: NodeNo,
+        ballot: RealBallot,
+        first: Position,
+        votes: &[Vote],
+        roster: &Roster,
+    ) -> Result<(), NoMemory>
+        ensures kept { (t : TermValue) → IsFirstOf self.old roster.now node ballot t
+            → OnOk result (self.new ≡ with_term (with_report (record { node = node; first = first; votes = votes.now }) t) self.old) }
+        ensures other { ((t : TermValue) → IsFirstOf self.old roster.now node ballot t → ⊥) → (self.new ≡ self.old) × (result ≡ Ok tt) }
+        ensures err { OnErr result (self.new ≡ self.old) }
+    {
+        if !self.is_first(node, ballot, roster) {
+            return Ok(());
+        }
+        let report = Report::of(self.alloc, node, first, votes)?;
+        if let Some(term) = &mut self.term {
+            term.keep(report)?;
+        }
+        Ok(())
+    }
+
+    /// Whether a promise of the node is to be kept.
+    fn is_first(&self, node: NodeNo, ballot: RealBallot, roster: &Roster) -> bool
+        ensures { IsTrue result ↔ ((t : TermValue) × IsFirstOf self.now roster.now node ballot t) }
+    {
+        match &self.term {
+            Some(term) => term.ballot() == ballot
+                && roster.is_in_window(node)
+                && !term.has_promised(node),
+            None => false,
+        }
+    }
+
+    /// What the term proposes next: the command and its position. It is to be called until it answers `None`.
+    pub fn propose(&mut self, roster: &Roster) -> Option<(Position, Command)>
+        ensures some { IfSome result (λ p. LeaderProposes self.old roster.now p.0 p.1) }
+        ensures term { IfSome result (λ p. (t : TermValue) → self.old.term ≡ Some t → self.new ≡ with_term (proposed roster.now p.0 p.1 t) self.old) }
+        ensures none { result ≡ None → (self.new ≡ self.old) × ((i : ℕ) (v : TheCommand) → LeaderProposes self.old roster.now i v → ⊥) }
+    {
+        let Some(term) = &mut self.term else {
+            return None;
+        };
+        let Some((position, command)) = term.next(&self.waiting, roster) else {
+            return None;
+        };
+        term.propose(position, command.copy(), roster);
+        Some((position, command))
+    }
+
+    /// A node was heard to accept a command. It counts where the term has proposed that command at that position, in this
+    /// ballot, and the position is in the window. Chosen is what is counted by that and was not before.
+    pub fn accepted(
+        &mut self,
+        node: NodeNo,
+        ballot: RealBallot,
+        position: Position,
+        command: &Command,
+        roster: &Roster,
+    ) -> Option<Chosen>
+        ensures heard { (t : TermValue) (set : List TheMember) (p : ProposalValue) → self.old.term ≡ Some t → IsVoteFor t roster.now ballot position command.now set p
+            → (self.new ≡ with_term (with_proposals (heard_at set node position t.proposals) t) self.old) × (IsSome result ↔ BecomesCounted set node p) }
+        ensures other { ((t : TermValue) (set : List TheMember) (p : ProposalValue) → self.old.term ≡ Some t → IsVoteFor t roster.now ballot position command.now set p → ⊥)
+            → (self.new ≡ self.old) × (result ≡ None) }
+        ensures chosen { IfSome result (λ c. c ≡ record { position = position; command = command.now }) }
+    {
+        let set = roster.members_at(position)?;
+        let term = self.term.as_mut()?;
+        if term.ballot() != ballot {
+            return None;
+        }
+        if !term.hear(node, position, command, set) {
+            return None;
+        }
+        Some(Chosen {
+            position,
+            command: command.copy(),
+        })
+    }
+
+    /// A ballot was seen. Where it is above the term's, the term ends and what waits is forgotten.
+    pub fn yield_to(&mut self, ballot: Ballot)
+        ensures above { (t : TermValue) → self.old.term ≡ Some t → IsBelow t.ballot ballot → self.new ≡ idle }
+        ensures other { ((t : TermValue) → self.old.term ≡ Some t → IsBelow t.ballot ballot → ⊥) → self.new ≡ self.old }
+    {
+        if self.is_below(ballot) {
+            self.leave();
+        }
+    }
+
+    /// Whether there is a term, of a smaller ballot.
+    fn is_below(&self, ballot: Ballot) -> bool
+        ensures { IsTrue result ↔ ((t : TermValue) × (self.now.term ≡ Some t) × IsBelow t.ballot ballot) }
+    {
+        match &self.term {
+            Some(term) => term.ballot().get().is_below(ballot),
+            None => false,
+        }
+    }
+
+    /// The term ends, and what waits is forgotten.
+    pub fn leave(&mut self)
+        ensures { self.new ≡ idle }
+    {
+        self.term = None;
+        self.waiting.clear();
+    }
+
+    /// The client's requests up to this number are done with: its waiting one goes where it is one of them, and its
+    /// number is told.
+    pub fn ran(&mut self, client: ClientNo, number: RequestNumber) -> Option<RequestNumber>
+        ensures told { result ≡ number_up_to number (waiting_of client self.old.waiting) }
+        ensures left { self.new ≡ record { term = self.old.term; waiting = left_by client number self.old.waiting } }
+    {
+        self.waiting.ran(client, number)
+    }
+
+    /// The term's ballot.
+    pub fn ballot(&self) -> Option<RealBallot>
+        ensures { result ≡ option_map (λ t. t.ballot) self.now.term }
+    {
+        let term = self.term.as_ref()?;
+        Some(term.ballot())
+    }
+
+    /// Whether the term keeps a promise of the node.
+    pub fn has_promised(&self, node: NodeNo) -> bool
+        ensures { IsTrue result ↔ ((t : TermValue) × (self.now.term ≡ Some t) × (is_promiser node t.reports ≡ true)) }
+    {
+        match &self.term {
+            Some(term) => term.has_promised(node),
+            None => false,
+        }
+    }
+
+    /// What is proposed at the position and not counted, where the position is in the window.
+    pub fn open_at(&self, position: Position, roster: &Roster) -> Option<Open<'_>>
+        ensures { MatchOption result ((p : ProposalValue) → IsOpen self.now roster.now position p → ⊥)
+            (λ o. (p : ProposalValue) × IsOpen self.now roster.now position p × (p.command ≡ o.command.now) × (p.accepted ≡ o.accepted.now)) }
+    {
+        let set = roster.members_at(position)?;
+        let term = self.term.as_ref()?;
+        let proposal = term.proposal_at(position)?;
+        if proposal.is_counted(set) {
+            return None;
+        }
+        Some(Open {
+            command: &proposal.command,
+            accepted: proposal.accepted.as_slice(),
+        })
+    }
+}

@@ -1,0 +1,13 @@
+//! The leader's part of a node: which command its ballot proposes at which position, when a position is counted, and
+//! which requests wait. No disk, no socket, no bytes, and no call but `ask` and `promise` takes memory.
+#![tactic(auto)]
+
+pub mod laws;
+mod leader;
+mod proposal;
+mod report;
+mod term;
+mod told;
+mod waiting;
+
+pub use leader::{Chosen, Leader, Open};

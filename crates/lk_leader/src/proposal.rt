@@ -1,0 +1,131 @@
+ghost use Rattle.std.specs.Prelude.{◌≡◌, false, ◌≤◌, ◌==◌, ◌+◌, ◌<◌, ◌&&◌, nat_lt, nat_le, length, ◌↔◌, [], IsTrue};
+ghost use Rattle.std.specs.List.{list_any};
+ghost use Rattle.lk_members.specs.Counting.{Request as TheRequest};
+ghost use Rattle.lk_leader.specs.Values.{IsUnderWay};
+ghost use Rattle.lk_leader.specs.Counting.{members_among, IsCounted, heard, BecomesCounted};
+
+use arrayvec::ArrayVec;
+use lk_members::{Roster, is_majority};
+use lk_types::{Command, Executed, Members, NodeNo, Position, Request};
+use std::marker::Model;
+
+/// A command that was proposed at a position, and the members that were heard to accept it since then.
+#[derive(Debug, Drop)]
+pub(crate) struct Proposal {
+    pub(crate) position: Position,
+    pub(crate) command: Command,
+    pub(crate) accepted: ArrayVec<NodeNo, 7>,
+}
+
+impl Model for Proposal {
+    ghost use Rattle.lk_leader.specs.Terms.{ProposalValue};
+
+    ghost Value = { ProposalValue };
+
+    ghost view = { λ p. record { position = p.position; command = p.command; accepted = p.accepted.items } };
+}
+
+impl Default for Proposal {
+    ghost is_default = { λ p. p.position ≡ 1 };
+
+    /// Nothing, at the first position.
+    fn default() -> Self {
+        Proposal::new(Position::default(), Command::Noop)
+    }
+}
+
+impl Proposal {
+    /// The command was proposed there, and nobody has accepted it.
+    pub(crate) fn new(position: Position, command: Command) -> Proposal
+        ensures { result ≡ record { position = position; command = command; accepted = [] } }
+    {
+        Proposal {
+            position,
+            command,
+            accepted: ArrayVec::new(),
+        }
+    }
+
+    /// Whether it stands at a position of the roster's window.
+    pub(crate) fn is_within(&self, roster: &Roster) -> bool
+        ensures { result ≡ (nat_lt roster.now.executed self.now.position && nat_le self.now.position (roster.now.executed + length roster.now.sets)) }
+    {
+        let (executed, position) = (roster.executed().get(), self.position.get());
+        executed < position && position <= executed + roster.alpha() as u64
+    }
+
+    /// Whether it is for this request, at a position that is not executed.
+    pub(crate) fn is_for(&self, request: &Request, executed: Executed) -> bool
+        ensures { IsTrue result ↔ ((executed < self.now.position) × (self.now.command ≡ TheRequest request.now)) }
+    {
+        match &self.command {
+            Command::Request(own) => executed.get() < self.position.get() && *own == *request,
+            Command::Noop => false,
+        }
+    }
+
+    /// Whether a majority of the set has accepted it.
+    pub(crate) fn is_counted(&self, set: &Members) -> bool
+        ensures { IsTrue result ↔ IsCounted set.now self.now }
+    {
+        is_majority(set, members_of(set, self.accepted.as_slice()).as_slice())
+    }
+
+    /// The node was heard to accept it. Whether the position is counted by that, and was not before.
+    fn accept(&mut self, node: NodeNo, set: &Members) -> bool
+        ensures heard { self.new ≡ heard set.now node self.old }
+        ensures counted { IsTrue result ↔ BecomesCounted set.now node self.old }
+    {
+        let was_counted = self.is_counted(set);
+        let mut nodes: ArrayVec<NodeNo, 8> = ArrayVec::try_from(self.accepted.as_slice()).unwrap();
+        nodes.push(node);
+        self.accepted = members_of(set, nodes.as_slice());
+        !was_counted && self.is_counted(set)
+    }
+
+    /// The node was heard to accept this command: it changes nothing where it is another. Whether the position is
+    /// counted by that, and was not before.
+    pub(crate) fn hear(&mut self, node: NodeNo, command: &Command, set: &Members) -> bool
+        ensures same { self.old.command ≡ command.now → (self.new ≡ heard set.now node self.old) × (IsTrue result ↔ BecomesCounted set.now node self.old) }
+        ensures position { self.new.position ≡ self.old.position }
+        ensures other { (self.old.command ≡ command.now → ⊥) → (self.new ≡ self.old) × (result ≡ false) }
+    {
+        if self.command != *command {
+            return false;
+        }
+        self.accept(node, set)
+    }
+}
+
+/// Whether the node is among them.
+fn is_among(nodes: &[NodeNo], node: NodeNo) -> bool
+    ensures { result ≡ list_any (λ n. n == node) nodes.now }
+{
+    nodes.iter().any(|n| *n == node)
+}
+
+/// The members of the set that are among the nodes.
+fn members_of(set: &Members, nodes: &[NodeNo]) -> ArrayVec<NodeNo, 7>
+    ensures { result.items ≡ members_among set.now nodes.now }
+{
+    let members = set.as_slice();
+    let mut among = ArrayVec::new();
+    for member in members {
+        if is_among(nodes, member.node) {
+            among.push(member.node);
+        }
+    }
+    among
+}
+
+/// Whether one of the proposals is for this request, at a position that is not executed.
+pub fn is_under_way(proposals: &[Proposal], request: &Request, executed: Executed) -> bool
+    ensures { IsTrue result ↔ IsUnderWay executed proposals.now (TheRequest request.now) }
+{
+    for proposal in proposals {
+        if proposal.is_for(request, executed) {
+            return true;
+        }
+    }
+    false
+}

@@ -1,0 +1,92 @@
+ghost use Rattle.std.specs.Prelude.{◌≡◌, ◌≤◌, ◌==◌, ◌++◌, ◌∷◌, ◌&&◌, [], nat_le, IfOk, IsTrue, Some, List, Option};
+ghost use Rattle.std.specs.List.{list_any};
+ghost use Rattle.lk_members.specs.Rosters.{is_member};
+ghost use Rattle.lk_leader.specs.Values.{Told as TheTold, IsBest, told_by};
+
+use crate::told::{Told, better};
+use lk_types::{Members, NoMemory, NodeNo, Position, Vote};
+use std::alloc::Global;
+use std::marker::Model;
+
+/// A promise that was heard: who gave it, and the votes that it tells of, from `first` on.
+#[derive(Debug, Drop)]
+pub(crate) struct Report {
+    pub(crate) node: NodeNo,
+    pub(crate) first: Position,
+    pub(crate) votes: Vec<Vote>,
+}
+
+impl Model for Report {
+    ghost use Rattle.lk_history.specs.Soundness.{Report as ReportValue};
+
+    ghost Value = { ReportValue };
+
+    ghost view = { λ r. record { node = r.node; first = r.first; votes = r.votes.items } };
+}
+
+impl Report {
+    /// The promise, its votes copied.
+    pub(crate) fn of(
+        alloc: Global,
+        node: NodeNo,
+        first: Position,
+        votes: &[Vote],
+    ) -> Result<Report, NoMemory>
+        ensures { IfOk result (λ r. r ≡ record { node = node; first = first; votes = votes.now }) }
+    {
+        let votes = copied(alloc, votes)?;
+        Ok(Report { node, first, votes })
+    }
+
+    /// The best so far, or what it tells of the position where that counts for more.
+    pub(crate) fn tell(&self, position: Position, best: Option<Told>) -> Option<Told>
+        ensures { (ts : List TheTold) → IsBest ts best → IsBest (ts ++ told_by position self.now) result }
+    {
+        let mut best = best;
+        for vote in &self.votes {
+            if vote.position == position {
+                best = better(best, self.node, vote);
+            }
+        }
+        best
+    }
+
+    /// Whether it tells of a vote at the position or behind it.
+    pub(crate) fn reaches(&self, position: Position) -> bool
+        ensures { result ≡ list_any (λ x. nat_le position x.position) self.now.votes }
+    {
+        self.votes.iter().any(|vote| position <= vote.position)
+    }
+
+    /// Whether the node gave it, from the position or one before it on.
+    pub(crate) fn is_from(&self, node: NodeNo, position: Position) -> bool
+        ensures { result ≡ (self.now.node == node && nat_le self.now.first position) }
+    {
+        self.node == node && self.first <= position
+    }
+
+    /// Whether it counts for a position with these members: a member gave it, from the position or one before it on.
+    pub(crate) fn counts(&self, position: Position, set: &Members) -> bool
+        ensures { result ≡ (is_member self.now.node set.now && nat_le self.now.first position) }
+    {
+        is_one_of(set, self.node) && self.first <= position
+    }
+}
+
+/// Whether the node is one of the members.
+pub fn is_one_of(set: &Members, node: NodeNo) -> bool
+    ensures { result ≡ is_member node set.now }
+{
+    set.as_slice().iter().any(|member| member.node == node)
+}
+
+/// The same votes.
+fn copied(alloc: Global, votes: &[Vote]) -> Result<Vec<Vote>, NoMemory>
+    ensures { IfOk result (λ v. v.items ≡ votes.now) }
+{
+    let mut copy = Vec::new(alloc);
+    for vote in votes {
+        copy.push(vote.copy())?;
+    }
+    Ok(copy)
+}

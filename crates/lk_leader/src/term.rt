@@ -1,0 +1,234 @@
+ghost use Rattle.std.specs.Prelude.{◌≡◌, ℕ, ◌<◌, ◌≤◌, ◌↔◌, ◌==◌, ◌&&◌, ◌||◌, nat_le, Option, Some, None, List, length, IsTrue, IsSome, OnOk, OnErr, MatchOption, false, position as position_of};
+ghost use Rattle.std.specs.Option.{option_copied};
+ghost use Rattle.std.specs.List.{list_any};
+ghost use Rattle.lk_leader.specs.Terms.{begun, with_report, with_proposals, proposal_at, ProposalValue, has_promised as is_promiser, BallotValue, Command as TheCommand};
+ghost use Rattle.lk_leader.specs.Values.{IsBest, told_at, reports_at, is_reached, is_changing as is_changing_at, IsLeadersValue};
+ghost use Rattle.lk_leader.specs.Proposing.{promisers as those_who_promised, IsNext, Proposes, proposed};
+ghost use Rattle.lk_leader.specs.Counting.{heard_at, BecomesCounted};
+ghost use Rattle.lk_members.specs.Majorities.{IsMajority};
+
+use crate::proposal::Proposal;
+use crate::report::Report;
+use crate::told::Told;
+use crate::waiting::Waiting;
+use arrayvec::ArrayVec;
+use lk_members::{Roster, is_majority};
+use lk_types::{Command, Members, NoMemory, NodeNo, Position, RealBallot};
+use std::alloc::Global;
+use std::marker::Model;
+
+/// A ballot in progress: the first promise of each node that was heard, and what was proposed at the positions of the window.
+#[derive(Debug, Drop)]
+pub(crate) struct Term {
+    ballot: RealBallot,
+    reports: Vec<Report>,
+    proposals: ArrayVec<Proposal, 16>,
+}
+
+impl Model for Term {
+    ghost use Rattle.std.specs.Prelude.{map, nat_eq};
+    ghost use Rattle.std.specs.List.{IsDistinct};
+    ghost use Rattle.lk_leader.specs.Terms.{TermValue};
+
+    ghost Value = { TermValue };
+
+    ghost view = { λ t. record { ballot = t.ballot; reports = t.reports.items; proposals = t.proposals.items } };
+
+    ghost invariant = { λ t. IsDistinct nat_eq (map (λ p. p.position) t.proposals.items) };
+}
+
+impl Term {
+    /// The ballot begins: nothing is promised or proposed in it. It takes no memory.
+    pub(crate) fn begin(alloc: Global, ballot: RealBallot) -> Term
+        ensures { result ≡ begun ballot }
+    {
+        Term {
+            ballot,
+            reports: Vec::new(alloc),
+            proposals: ArrayVec::new(),
+        }
+    }
+
+    /// Its ballot.
+    pub(crate) fn ballot(&self) -> RealBallot
+        ensures { result ≡ self.now.ballot }
+    {
+        self.ballot
+    }
+
+    /// Whether a promise of the node is kept.
+    pub(crate) fn has_promised(&self, node: NodeNo) -> bool
+        ensures { result ≡ is_promiser node self.now.reports }
+    {
+        self.reports.iter().any(|report| report.node == node)
+    }
+
+    /// Keeps one promise more.
+    pub(crate) fn keep(&mut self, report: Report) -> Result<(), NoMemory>
+        ensures ok { OnOk result (self.new ≡ with_report report self.old) }
+        ensures err { OnErr result (self.new ≡ self.old) }
+    {
+        self.reports.push(report)?;
+        Ok(())
+    }
+
+    /// The proposal at the position.
+    pub(crate) fn proposal_at(&self, position: Position) -> Option<&Proposal>
+        ensures { option_copied result ≡ proposal_at position self.now.proposals }
+    {
+        self.proposals
+            .as_slice()
+            .iter()
+            .find(|proposal| proposal.position == position)
+    }
+
+    /// The first position of the window at which nothing is proposed.
+    fn next_position(&self, roster: &Roster) -> Option<Position>
+        ensures { MatchOption result ((i : ℕ) → IsNext roster.now self.now.proposals i → ⊥) (λ i. IsNext roster.now self.now.proposals i) }
+    {
+        let executed = roster.executed().get();
+        for ahead in 0..roster.alpha() as u64 {
+            let position = Position::of(executed + 1 + ahead)?;
+            if self.proposal_at(position).is_none() {
+                return Some(position);
+            }
+        }
+        None
+    }
+
+    /// Whether a majority of the set promised from the position or one before it on.
+    fn is_promised(&self, position: Position, set: &Members) -> bool
+        ensures { IsTrue result ↔ IsMajority (those_who_promised set.now position self.now.reports) set.now }
+    {
+        is_majority(set, promisers(&self.reports, position, set).as_slice())
+    }
+
+    /// The highest vote that a member's promise tells of the position.
+    fn highest(&self, position: Position, set: &Members) -> Option<Told>
+        ensures { IsBest (told_at position (reports_at set.now position self.now.reports)) result }
+    {
+        let mut best = None;
+        for report in &self.reports {
+            if report.counts(position, set) {
+                best = report.tell(position, best);
+            }
+        }
+        best
+    }
+
+    /// Whether some promise tells of a vote at the position or behind it.
+    fn is_reached(&self, position: Position) -> bool
+        ensures { result ≡ is_reached self.now.reports position }
+    {
+        self.reports.iter().any(|report| report.reaches(position))
+    }
+
+    /// Whether the position has to be filled.
+    fn is_gap(&self, position: Position, roster: &Roster) -> bool
+        ensures { result ≡ (is_reached self.now.reports position || is_changing_at roster.now position) }
+    {
+        self.is_reached(position) || is_changing(position, roster)
+    }
+
+    /// What the term proposes at a position of this set.
+    fn value(
+        &self,
+        position: Position,
+        set: &Members,
+        waiting: &Waiting,
+        roster: &Roster,
+    ) -> Option<Command>
+        ensures { MatchOption result ((v : TheCommand) → IsLeadersValue self.now waiting.now roster.now set.now position v → ⊥) (λ v. IsLeadersValue self.now waiting.now roster.now set.now position v) }
+    {
+        if let Some(told) = self.highest(position, set) {
+            return Some(told.vote.command.copy());
+        }
+        if let Some(request) = waiting.first_new(self.proposals.as_slice(), roster.executed()) {
+            return Some(Command::Request(request));
+        }
+        self.is_gap(position, roster).then_some(Command::Noop)
+    }
+
+    /// What it proposes next, and where.
+    pub(crate) fn next(&self, waiting: &Waiting, roster: &Roster) -> Option<(Position, Command)>
+        ensures { MatchOption result ((i : ℕ) (v : TheCommand) → Proposes self.now waiting.now roster.now i v → ⊥) (λ p. Proposes self.now waiting.now roster.now p.0 p.1) }
+    {
+        let position = self.next_position(roster)?;
+        let set = roster.members_at(position)?;
+        if !self.is_promised(position, set) {
+            return None;
+        }
+        let command = self.value(position, set, waiting, roster)?;
+        Some((position, command))
+    }
+
+    /// Keeps what is proposed, and forgets what was proposed outside the window.
+    pub(crate) fn propose(&mut self, position: Position, command: Command, roster: &Roster)
+        requires { IsNext roster.now self.old.proposals position }
+        ensures { self.new ≡ proposed roster.now position command self.old }
+    {
+        roster.facts();
+        self.proposals.retain(|proposal| proposal.is_within(roster));
+        self.proposals.push(Proposal::new(position, command));
+    }
+
+    /// The index of the proposal at the position.
+    fn place_of(&self, position: Position) -> Option<usize>
+        ensures { result ≡ position_of (λ p. p.position == position) self.now.proposals }
+    {
+        self.proposals
+            .as_slice()
+            .iter()
+            .position(|proposal| proposal.position == position)
+    }
+
+    /// The node was heard to accept the command at the position: it changes nothing where another is proposed there, or
+    /// none. Whether the position is counted by that, and was not before.
+    pub(crate) fn hear(
+        &mut self,
+        node: NodeNo,
+        position: Position,
+        command: &Command,
+        set: &Members,
+    ) -> bool
+        ensures proposed { (p : ProposalValue) → proposal_at position self.old.proposals ≡ Some p → p.command ≡ command.now
+            → (self.new ≡ with_proposals (heard_at set.now node position self.old.proposals) self.old) × (IsTrue result ↔ BecomesCounted set.now node p) }
+        ensures other { ((p : ProposalValue) → proposal_at position self.old.proposals ≡ Some p → p.command ≡ command.now → ⊥)
+            → (self.new ≡ self.old) × (result ≡ false) }
+    {
+        let Some(index) = self.place_of(position) else {
+            return false;
+        };
+        let proposal = &mut self.proposals[index];
+        proposal.hear(node, command, set)
+    }
+}
+
+/// The members of the set that promised from the position or one before it on.
+fn promisers(reports: &[Report], position: Position, set: &Members) -> ArrayVec<NodeNo, 7>
+    ensures { result.items ≡ those_who_promised set.now position reports.now }
+{
+    let members = set.as_slice();
+    let mut among = ArrayVec::new();
+    for member in members {
+        if is_promiser_of(reports, member.node, position) {
+            among.push(member.node);
+        }
+    }
+    among
+}
+
+/// Whether the node promised from the position or one before it on.
+fn is_promiser_of(reports: &[Report], node: NodeNo, position: Position) -> bool
+    ensures { result ≡ list_any (λ r. r.node == node && nat_le r.first position) reports.now }
+{
+    reports.iter().any(|report| report.is_from(node, position))
+}
+
+/// Whether the last change is not in force before the position.
+fn is_changing(position: Position, roster: &Roster) -> bool
+    ensures { result ≡ is_changing_at roster.now position }
+{
+    let changed = roster.changed().get();
+    0 < changed && position.get() <= changed + roster.alpha() as u64
+}

@@ -1,0 +1,37 @@
+ghost use Rattle.std.specs.Prelude.{◌≡◌, Option, List, [], ◌∷◌, ◌++◌, IsTrue, false};
+ghost use Rattle.lk_leader.specs.Values.{IsNotAbove, IsBest};
+
+use lk_types::{NodeNo, Vote};
+
+/// A vote, and the node whose promise tells of it.
+#[derive(Debug, Drop)]
+pub(crate) struct Told {
+    pub(crate) node: NodeNo,
+    pub(crate) vote: Vote,
+}
+
+impl Told {
+    /// Whether the other counts for more: its ballot is greater, or the same and told by a smaller node.
+    fn is_below(&self, node: NodeNo, vote: &Vote) -> bool
+        ensures below { IsTrue result → IsNotAbove self.now (record { node = node; vote = vote.now }) }
+        ensures above { result ≡ false → IsNotAbove (record { node = node; vote = vote.now }) self.now }
+    {
+        let (own, other) = (self.vote.ballot.get(), vote.ballot.get());
+        own.is_below(other) || (!other.is_below(own) && node < self.node)
+    }
+}
+
+/// The best so far, or this vote where it counts for more.
+pub fn better(best: Option<Told>, node: NodeNo, vote: &Vote) -> Option<Told>
+    ensures { (ts : List Told) → IsBest ts best → IsBest (ts ++ record { node = node; vote = vote.now } ∷ []) result }
+{
+    if let Some(told) = &best {
+        if !told.is_below(node, vote) {
+            return best;
+        }
+    }
+    Some(Told {
+        node,
+        vote: vote.copy(),
+    })
+}

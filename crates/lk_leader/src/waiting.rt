@@ -1,0 +1,124 @@
+ghost use Rattle.std.specs.Prelude.{◌≡◌, Option, Some, None, List, [], OnOk, OnErr, MatchOption, ◌<◌, length, slice_get};
+ghost use Rattle.lk_leader.specs.Values.{IsFirstNew, NoneIsNew};
+ghost use Rattle.lk_leader.specs.Waits.{asked, waiting_of, number_up_to, left_by};
+
+use crate::proposal::{Proposal, is_under_way};
+use indexmap::IndexMap;
+use lk_types::{ClientNo, Executed, NoMemory, Op, Request, RequestNumber};
+use std::alloc::Global;
+use std::marker::Model;
+
+/// What a client asks for under a number.
+#[derive(Debug, Drop)]
+pub(crate) struct Asked {
+    number: RequestNumber,
+    op: Op,
+}
+
+impl Asked {
+    /// The request, which is this client's.
+    fn request_of(&self, client: ClientNo) -> Request
+        ensures { result ≡ record { client = client; number = self.now.number; op = self.now.op } }
+    {
+        Request {
+            client,
+            number: self.number,
+            op: self.op.copy(),
+        }
+    }
+}
+
+/// The requests that wait to be proposed, in order of arrival, one a client.
+#[derive(Drop)]
+pub(crate) struct Waiting {
+    requests: IndexMap<ClientNo, Asked>,
+}
+
+impl Model for Waiting {
+    ghost use Rattle.std.specs.Prelude.{List, map};
+    ghost use Rattle.lk_leader.specs.Waits.{RequestValue};
+
+    ghost Value = { List RequestValue };
+
+    ghost view = { λ w. map (λ e. record { client = e.0; number = e.1.number; op = e.1.op }) w.requests.entries };
+}
+
+impl Waiting {
+    /// Nothing waits. It takes no memory.
+    pub(crate) fn new(alloc: Global) -> Waiting
+        ensures { result ≡ [] }
+    {
+        Waiting {
+            requests: IndexMap::new(alloc),
+        }
+    }
+
+    /// A request waits: a greater number takes the place of its client's waiting one, any other is dropped.
+    pub(crate) fn ask(
+        &mut self,
+        client: ClientNo,
+        number: RequestNumber,
+        op: &Op,
+    ) -> Result<(), NoMemory>
+        ensures ok { OnOk result (self.new ≡ asked (record { client = client; number = number; op = op.now }) self.old) }
+        ensures err { OnErr result (self.new ≡ self.old) }
+    {
+        if let Some(waits) = self.requests.get(&client) {
+            if waits.number >= number {
+                return Ok(());
+            }
+        }
+        let op = op.copy();
+        self.requests.insert(client, Asked { number, op })?;
+        Ok(())
+    }
+
+    /// Takes out the client's waiting request where its number is at most this one, and tells its number.
+    pub(crate) fn ran(&mut self, client: ClientNo, number: RequestNumber) -> Option<RequestNumber>
+        ensures told { result ≡ number_up_to number (waiting_of client self.old) }
+        ensures left { self.new ≡ left_by client number self.old }
+    {
+        let waits = self.requests.get(&client)?.number;
+        if waits > number {
+            return None;
+        }
+        self.requests.shift_remove(&client);
+        Some(waits)
+    }
+
+    /// The request at this index, in order of arrival.
+    fn request_at(&self, index: usize) -> Request
+        requires { index < length self.now }
+        ensures { slice_get self.now index ≡ Some result }
+    {
+        let (client, asked) = self.requests.get_index(index).unwrap();
+        asked.request_of(*client)
+    }
+
+    /// How many requests wait.
+    fn len(&self) -> usize
+        ensures { result ≡ length self.now }
+    {
+        self.requests.len()
+    }
+
+    /// The first request that is not proposed at a position that is not executed.
+    pub(crate) fn first_new(&self, proposals: &[Proposal], executed: Executed) -> Option<Request>
+        ensures { MatchOption result (NoneIsNew executed proposals.now self.now) (λ q. IsFirstNew executed proposals.now self.now q) }
+    {
+        for index in 0..self.len() {
+            let request = self.request_at(index);
+            if !is_under_way(proposals, &request, executed) {
+                return Some(request);
+            }
+        }
+        None
+    }
+
+    /// Nothing waits any more.
+    pub(crate) fn clear(&mut self)
+        ensures { self.new ≡ [] }
+    {
+        self.requests.clear();
+    }
+}
