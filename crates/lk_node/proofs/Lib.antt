@@ -1,0 +1,11 @@
+mod Lists
+mod Reviving
+mod Adding
+mod Images
+mod Standings
+mod Ordered
+mod Responding
+mod Rules
+mod NoSend
+mod Thinning
+mod Going

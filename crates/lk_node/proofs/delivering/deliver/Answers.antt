@@ -1,0 +1,16 @@
+use Rattle.std.proofs.Common.{arith}
+use Rattle.lk_node.proofs.Thinning.{take_one_more, after_lost, after_sent}
+use Rattle.lk_node.proofs.delivering.deliver.Goals as goal
+use Rattle.lk_node.proofs.delivering.deliver.Goals.{then-not-is_sent, else-not-is_sent}
+
+pub loop-letter-preserved : goal.loop-letter-preserved
+loop-letter-preserved g c telling =
+    let more = take_one_more c.args.letters.now c.loop-letter.letter-index c.letter-item.result (omega (arith, c.loop-letter-test.true)) c.letter-item.is in
+    elim c.if-not-is_sent.branch [
+      | then-not-is_sent w ↦
+          after_lost c.args.letters.now c.loop-letter.letter-index c.letter-item.result (g.P.Post.sent c.args.post.now) (g.P.Post.sent c.loop-letter.post) (g.P.Post.sent c.is_sent.new.post) c.loop-letter.lost c.if-not-is_sent.lost
+          more w.lost-is (c.loop-letter.invariant telling) (c.is_sent.ensures.lost telling (cc w.if-not-is_sent.true))
+      | else-not-is_sent w ↦
+          after_sent c.args.letters.now c.loop-letter.letter-index c.letter-item.result (g.P.Post.sent c.args.post.now) (g.P.Post.sent c.loop-letter.post) (g.P.Post.sent c.is_sent.new.post) c.loop-letter.lost c.if-not-is_sent.lost
+          more w.lost-is (c.loop-letter.invariant telling) (c.is_sent.ensures.sent telling (cc w.if-not-is_sent.false))
+    ]

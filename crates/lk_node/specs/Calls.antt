@@ -1,0 +1,49 @@
+-- What a replica promises of a call, for every history to which its node fits.
+use Rattle.std.specs.Prelude.{◌≡◌, ℕ, List, take, Contains}
+use Rattle.lk_wire.specs.Grammar.{Spells}
+use Rattle.lk_wire.specs.declared.message.NodeMessage.{NodeMessage}
+use Rattle.lk_disk.specs.Disk.{Disk}
+use Rattle.lk_disk.specs.declared.device.Side.{Side}
+use Rattle.lk_state.specs.Meanings.{Meaning}
+use Rattle.lk_history.specs.declared.party.Party.TheVariants as party
+use Rattle.lk_history.specs.Datagrams.{said_by}
+use Rattle.lk_history.specs.Nodes.{View, MaySend}
+use Rattle.lk_node.specs.Histories.{History, Datagram, later, IsLawful, IsHeard}
+use Rattle.lk_node.specs.Served.{IsOfNode, IsBorneOut, IsServed}
+use Rattle.lk_node.specs.Holdings.{Holding, HoldingFits}
+use Rattle.lk_node.specs.Leavings.{DisksFit}
+use Rattle.lk_node.specs.declared.note.Note.{Note}
+use Rattle.lk_node.specs.declared.input.Input.{Input}
+use Rattle.lk_node.specs.declared.input.Input.TheVariants.{Tick, Datagram as Heard}
+
+-- what a node may be given
+abbrev pub InputFits : History → Input → Type 0
+InputFits h Tick = Unit {0}
+InputFits h (Heard bytes) = IsHeard h bytes.now
+
+-- the datagram is the node's, and spells a message that it may send, as it now is, and that a chosen list bears out
+pub record MayGo (m : Meaning) (h : History) (n : ℕ) (w : View) (d : Datagram) : Type 0 where
+  pub message : NodeMessage
+  pub from : d.from ≡ party.Node n
+  pub spelled : Spells (said_by h.genesis n message) d.bytes
+  pub may : MaySend h.genesis h.sent w message
+  pub served : IsServed m h message
+
+-- The node fits: the history is lawful, what it holds fits, and so does whatever a stop may leave. `Shows` tells what the
+-- replica holds.
+pub record NodeFits (m : Meaning) (h : History) (n : ℕ) (Shows : Holding → Type 0) (disks : Side → Disk) : Type 0 where
+  pub lawful : IsLawful h
+  pub holding : Holding
+  pub shown : Shows holding
+  pub fits : HoldingFits m h n holding
+  pub left : DisksFit m h n disks
+
+-- What a call that was not refused leaves: a holding that fits, datagrams that may go out as the node now is, notes that a
+-- chosen list bears out, and disks whose images fit with any beginning of these datagrams sent.
+pub record Goes (m : Meaning) (h : History) (n : ℕ) (Shows : Holding → Type 0) (disks : Side → Disk) (notes : List Note) (batch : List Datagram) : Type 0 where
+  pub holding : Holding
+  pub shown : Shows holding
+  pub fits : HoldingFits m h n holding
+  pub may : (d : Datagram) → Contains batch d → MayGo m h n holding.view d
+  pub noted : (x : Note) → Contains notes x → IsOfNode x × IsBorneOut m h x
+  pub left : (k : ℕ) → DisksFit m (later h (take k batch)) n disks

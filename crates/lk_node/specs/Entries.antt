@@ -1,0 +1,32 @@
+-- Entries of a live file that fit to what happened, and what each further one rests on.
+use Rattle.std.specs.Prelude.{◌≡◌, ℕ, List, length}
+use Rattle.lk_types.specs.declared.entry.Entry.{Entry}
+use Rattle.lk_types.specs.declared.entry.Entry.TheVariants.{Promise, Vote, Decided}
+use Rattle.lk_log.specs.Values.{StandingValue}
+use Rattle.lk_log.specs.Standings.{HasHeader, StandsFor}
+use Rattle.lk_log.specs.declared.stored.Stored.{Stored}
+use Rattle.lk_state.specs.Meanings.{Meaning}
+use Rattle.lk_history.specs.Datagrams.{Accept, WasSent}
+use Rattle.lk_history.specs.Chosen.{ChosenAt}
+use Rattle.lk_history.specs.Acceptors.{CoversSent}
+use Rattle.lk_history.specs.Nodes.{Stems}
+use Rattle.lk_node.specs.Histories.{History, Command}
+use Rattle.lk_node.specs.Served.{text}
+use Rattle.lk_node.specs.Leavings.{header_of, acceptor_of, view_of}
+
+-- what the whole entries of a live file have to be, for the image to fit
+pub record EntriesFit (m : Meaning) (h : History) (n : ℕ) (es : List Stored) : Type 0 where
+  pub standing : StandingValue
+  pub header : HasHeader es (header_of h.genesis n)
+  pub stands : StandsFor es standing
+  pub under : List Command
+  pub position : length under ≡ standing.position
+  pub snapshot : standing.snapshot ≡ text m h.genesis under
+  pub covers : CoversSent h.genesis h.sent n (acceptor_of standing)
+  pub stems : Stems h.genesis h.sent (view_of standing under)
+
+-- a vote rests on its Accept, which was sent, a decided command on being chosen, and a promise on nothing
+abbrev pub Rests : History → Entry → Type 0
+Rests h (Promise b) = Unit {0}
+Rests h (Vote x) = WasSent h.genesis h.sent (Accept x)
+Rests h (Decided i c) = ChosenAt h.genesis h.sent i c

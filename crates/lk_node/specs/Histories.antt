@@ -1,0 +1,36 @@
+-- What has happened, as far as safety goes.
+pub use Rattle.lk_types.specs.declared.genesis.Genesis.{Genesis}
+pub use Rattle.lk_types.specs.declared.command.Request.{Request as RequestValue}
+pub use Rattle.lk_types.specs.declared.command.Command.{Command}
+pub use Rattle.lk_types.specs.declared.command.Command.TheVariants.{Noop, Request}
+pub use Rattle.lk_history.specs.Datagrams.{Datagram}
+use Rattle.std.specs.Prelude.{ℕ, List, ◌++◌, Contains}
+use Rattle.lk_wire.specs.Grammar.{Spells}
+use Rattle.lk_wire.specs.declared.message.Content.TheVariants as content
+use Rattle.lk_history.specs.Datagrams.{NodeMessage, Vote, Accept, said_by, HasSent, WasSent}
+use Rattle.lk_history.specs.Soundness.{Sound}
+
+-- how the cluster began, all datagrams that were ever sent, and all requests that were ever asked
+pub record History : Type 0 where
+  pub genesis : Genesis
+  pub sent : List Datagram
+  pub asked : List RequestValue
+
+-- the history in which these were sent too
+abbrev pub later : History → List Datagram → History
+later h more = record { genesis = h.genesis; sent = h.sent ++ more; asked = h.asked }
+
+-- the command is a no-op, or a request that was asked
+abbrev pub WasAsked : History → Command → Type 0
+WasAsked h Noop = Unit {0}
+WasAsked h (Request r) = Contains h.asked r
+
+-- all that was ever sent is sound, and what was proposed was asked
+pub record IsLawful (h : History) : Type 0 where
+  pub sound : Sound h.genesis h.sent
+  pub asked : (x : Vote) → WasSent h.genesis h.sent (Accept x) → WasAsked h x.command
+
+-- bytes that may be heard: what they say for a node that node has sent, and what they ask was asked
+pub record IsHeard (h : History) (bytes : List ℕ) : Type 0 where
+  pub said : (n : ℕ) (m : NodeMessage) → Spells (said_by h.genesis n m) bytes → HasSent h.genesis h.sent n m
+  pub asked : (r : RequestValue) (cluster : ℕ) → Spells (record { cluster = cluster; content = content.Request r }) bytes → Contains h.asked r

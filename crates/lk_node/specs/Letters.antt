@@ -1,0 +1,38 @@
+-- What a contract sees of what a node sends.
+use Rattle.std.specs.Prelude.{◌≡◌, ℕ, ◌⊎◌, List, [], ◌∷◌, ◌++◌, map, Contains}
+use Rattle.lk_history.specs.declared.party.Party.{Party}
+use Rattle.lk_history.specs.declared.party.Party.TheVariants as party
+use Rattle.lk_history.specs.Datagrams.{Datagram}
+use Rattle.lk_node.specs.declared.to.To.{To}
+use Rattle.lk_node.specs.declared.to.To.TheVariants as to
+
+-- for whom it is bound, and its bytes
+pub record LetterValue : Type 0 where
+  pub to : To
+  pub bytes : List ℕ
+
+-- who that is
+abbrev pub party_of : To → Party
+party_of (to.Node n port) = party.Node n
+party_of (to.Client c) = party.Client c
+
+-- the datagram that a letter of the node is
+abbrev pub datagram_of : ℕ → LetterValue → Datagram
+datagram_of n l = record { from = party.Node n; to = party_of l.to; bytes = l.bytes }
+
+-- those that letters of the node are, in order
+abbrev pub batch_of : ℕ → List LetterValue → List Datagram
+batch_of n letters = map (datagram_of n) letters
+
+-- the first letters are some of the others
+abbrev pub AreOf : List LetterValue → List LetterValue → Type 0
+AreOf some letters = (l : LetterValue) → Contains some l → Contains letters l
+
+-- these letters without some of them, in the same order
+abbrev pub Thins : List LetterValue → List LetterValue → Type 0
+Thins [] kept = kept ≡ []
+Thins (l ∷ letters) kept = Thins letters kept ⊎ ((rest : List LetterValue) × (kept ≡ l ∷ rest) × Thins letters rest)
+
+-- so many of them were sent behind what was sent before
+abbrev pub SendsSome : List LetterValue → List LetterValue → List LetterValue → Type 0
+SendsSome letters old new = (kept : List LetterValue) × Thins letters kept × (new ≡ old ++ kept)

@@ -1,0 +1,13 @@
+pub mod Faults
+pub mod Letters
+pub mod Outboxes
+pub mod Histories
+pub mod Served
+pub mod Holdings
+pub mod Leavings
+pub mod Calls
+pub mod Entries
+pub mod NodeValue
+pub mod Keeping
+pub mod Taking
+pub mod Steps

@@ -1,0 +1,24 @@
+-- What a call of a replica has done that was not refused: that and nothing else.
+use Rattle.std.specs.Prelude.{◌≡◌, true, false, List, [], ◌++◌}
+use Rattle.lk_log.specs.StoreValue.{StoreValue}
+use Rattle.lk_log.specs.Stores.{plain, Holds}
+use Rattle.lk_log.specs.declared.stored.Stored.{Stored}
+use Rattle.lk_node.specs.Letters.{LetterValue}
+use Rattle.lk_node.specs.NodeValue.{ReplicaValue}
+use Rattle.lk_node.specs.Outboxes.{OutboxValue}
+use Rattle.lk_node.specs.Steps.{Steps}
+use Rattle.lk_node.specs.declared.input.Input.{Input}
+use Rattle.lk_node.specs.declared.note.Note.{Note}
+
+-- the outbox's entries stand behind what the store held, and all of it is synced where the outbox says so
+abbrev pub Puts : StoreValue → OutboxValue → StoreValue → Type 0
+Puts old out new = (ks ls : List Stored) → Holds old ks ls
+    → (out.sync ≡ false → Holds new ks (ls ++ plain out.entries)) × (out.sync ≡ true → Holds new (ks ++ (ls ++ plain out.entries)) [])
+
+-- the replica has taken a step, put the outbox's entries, given its notes, and sent its letters
+pub record IsTaken (old : ReplicaValue) (i : Input) (new : ReplicaValue) (notes : List Note) (Sends : List LetterValue → Type 0) : Type 0 where
+  pub out : OutboxValue
+  pub steps : Steps old.node i new.node out
+  pub puts : Puts old.store out new.store
+  pub noted : notes ≡ out.notes
+  pub sent : Sends out.letters

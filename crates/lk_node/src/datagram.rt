@@ -1,0 +1,18 @@
+use lk_history::Party;
+use std::marker::Model;
+
+/// A datagram: who sends it, for whom it is bound, and its bytes.
+#[derive(Debug, Drop)]
+pub struct Datagram {
+    pub from: Party,
+    pub to: Party,
+    pub bytes: Vec<u8>,
+}
+
+impl Model for Datagram {
+    ghost use Rattle.lk_history.specs.Datagrams.{Datagram};
+
+    ghost Value = { Datagram };
+
+    ghost view = { λ d. record { from = d.from; to = d.to; bytes = d.bytes.items } };
+}

@@ -1,0 +1,34 @@
+// Sending what a step tells to send. No device is in its reach.
+ghost use Rattle.std.specs.Prelude.{◌≡◌, true, false, [], ◌∷◌, ◌++◌, OnOk, OnErr};
+ghost use Rattle.lk_node.specs.Letters.{SendsSome};
+
+use crate::letter::Letter;
+use crate::post::{Post, SendFault};
+
+// Sends a letter, and tells whether it was sent.
+fn is_sent<P: Post>(letter: &Letter, post: &mut P) -> bool
+    ensures sent { P.is_telling → result ≡ true → P.sent post.new ≡ P.sent post.old ++ letter.now ∷ [] }
+    ensures lost { P.is_telling → result ≡ false → P.sent post.new ≡ P.sent post.old }
+{
+    match post.send(letter.to, &letter.bytes) {
+        Ok(()) => true,
+        Err(SendFault) => false,
+    }
+}
+
+// Sends the letters in order. Those whose send fails are lost, and the others are sent all the same.
+pub fn deliver<P: Post>(letters: &[Letter], post: &mut P) -> Result<(), SendFault>
+    ensures all { P.is_telling → OnOk result (P.sent post.new ≡ P.sent post.old ++ letters.now) }
+    ensures some { P.is_telling → OnErr result (SendsSome letters.now (P.sent post.old) (P.sent post.new)) }
+{
+    let mut lost = false;
+    for letter in letters {
+        if !is_sent(letter, post) {
+            lost = true;
+        }
+    }
+    if lost {
+        return Err(SendFault);
+    }
+    Ok(())
+}

@@ -1,0 +1,103 @@
+ghost use Rattle.std.specs.Prelude.{◌≡◌, ℕ, [], Contains, IfOk, IfErr, OnOk, OnErr};
+ghost use Rattle.lk_disk.specs.Disk.{Disk};
+ghost use Rattle.lk_disk.specs.Memory.{disk_of};
+ghost use Rattle.lk_disk.specs.declared.device.Side.{Side};
+ghost use Rattle.lk_state.specs.Meanings.{Meaning};
+ghost use Rattle.lk_wire.specs.Grammar.{Spells};
+ghost use Rattle.lk_history.specs.Datagrams.{NodeMessage, Datagram as DatagramValue, said_by};
+ghost use Rattle.lk_node.specs.Histories.{History, Genesis, IsLawful};
+ghost use Rattle.lk_node.specs.Holdings.{Holding};
+ghost use Rattle.lk_node.specs.Leavings.{header_of, DisksFit, AllCover};
+ghost use Rattle.lk_node.specs.Calls.{InputFits, NodeFits, Goes};
+
+use crate::datagram::Datagram;
+use crate::fault::ReplicaFault;
+use crate::input::Input;
+use crate::note::Note;
+use lk_disk::{MemoryDisk, Trap};
+use lk_log::Header;
+use std::alloc::Global;
+
+/// A replica, and what it executed as it came up.
+#[derive(Drop)]
+pub struct Revived<R: Drop> {
+    pub replica: R,
+    pub notes: Vec<Note>,
+}
+
+/// Why there is none, and the device.
+#[derive(Drop)]
+pub struct ReviveFault<D: Drop> {
+    pub fault: ReplicaFault,
+    pub device: D,
+}
+
+/// What a call came to: its notes, and the datagrams that it sent, in order.
+#[derive(Drop)]
+pub struct Taken {
+    pub notes: Vec<Note>,
+    pub sent: Vec<Datagram>,
+}
+
+/// A replica on disks in memory, as a world of replicas runs it: what is promised here is all that the world rests on.
+///
+/// Whatever the replica has sent, and whatever it notes, it does so by what it holds, and each image that a stop may leave
+/// of its disks covers that, at every exit of every call.
+pub trait MemoryReplica: Sized + Drop {
+    /// The meaning of its machine.
+    ghost meaning: { Meaning };
+
+    /// The replica is that of a node in a cluster that began so, and holds this.
+    ghost Shows: { Self → Genesis → ℕ → Holding → Type 0 };
+
+    /// Its two disks.
+    ghost disks: { Self → Side → Disk };
+
+    /// Takes up what a stop left, or begins where nothing stands.
+    ///
+    /// It refuses with `Device` (7), `NoMemory` (8), `Damaged` (9) and `WrongStore` (10), and hands the device back.
+    fn revive(
+        alloc: Global,
+        device: MemoryDisk,
+        header: &Header,
+    ) -> Result<Revived<Self>, ReviveFault<MemoryDisk>>
+        ensures up { (h : History) (n : ℕ) → header.now ≡ header_of h.genesis n → IsLawful h → DisksFit meaning h n (disk_of device)
+            → IfOk result (λ r. Goes meaning h n (Shows r.replica h.genesis n) (disks r.replica) r.notes.items []) }
+        ensures down { (h : History) (n : ℕ) → header.now ≡ header_of h.genesis n → IsLawful h → DisksFit meaning h n (disk_of device)
+            → IfErr result (λ e. DisksFit meaning h n (disk_of e.device)) }
+        // Whatever every image covered, every image covers.
+        ensures covers { (genesis : Genesis) (n : ℕ) (x : NodeMessage) → header.now ≡ header_of genesis n → AllCover meaning genesis n (disk_of device) x
+            → IfOk result (λ r. AllCover meaning genesis n (disks r.replica) x) }
+        ensures covers_err { (genesis : Genesis) (n : ℕ) (x : NodeMessage) → header.now ≡ header_of genesis n → AllCover meaning genesis n (disk_of device) x
+            → IfErr result (λ e. AllCover meaning genesis n (disk_of e.device) x) };
+
+    /// Takes a tick or a datagram.
+    fn take(&mut self, input: Input) -> Result<Taken, ReplicaFault>
+        ensures goes { (h : History) (n : ℕ) → NodeFits meaning h n (Shows self.old h.genesis n) (disks self.old) → InputFits h input.entry
+            → IfOk result (λ t. Goes meaning h n (Shows self.new h.genesis n) (disks self.new) t.notes.items t.sent.items) }
+        ensures ends { (h : History) (n : ℕ) → NodeFits meaning h n (Shows self.old h.genesis n) (disks self.old) → InputFits h input.entry
+            → OnErr result (DisksFit meaning h n (disks self.new)) }
+        // Sync before send: whatever was sent, and whatever every image covered, every image covers, also after a refusal.
+        ensures syncs { (genesis : Genesis) (n : ℕ) (held : Holding) (x : NodeMessage) → Shows self.old genesis n held
+            → IfOk result (λ t. (d : DatagramValue) → Contains t.sent.items d → Spells (said_by genesis n x) d.bytes → AllCover meaning genesis n (disks self.new) x) }
+        ensures covers { (genesis : Genesis) (n : ℕ) (held : Holding) (x : NodeMessage) → Shows self.old genesis n held
+            → AllCover meaning genesis n (disks self.old) x → AllCover meaning genesis n (disks self.new) x };
+
+    /// Writes a snapshot of what is executed.
+    fn compact(&mut self) -> Result<(), ReplicaFault>
+        ensures goes { (h : History) (n : ℕ) → NodeFits meaning h n (Shows self.old h.genesis n) (disks self.old)
+            → OnOk result (Goes meaning h n (Shows self.new h.genesis n) (disks self.new) [] []) }
+        ensures ends { (h : History) (n : ℕ) → NodeFits meaning h n (Shows self.old h.genesis n) (disks self.old)
+            → OnErr result (DisksFit meaning h n (disks self.new)) }
+        ensures covers { (genesis : Genesis) (n : ℕ) (held : Holding) (x : NodeMessage) → Shows self.old genesis n held
+            → AllCover meaning genesis n (disks self.old) x → AllCover meaning genesis n (disks self.new) x };
+
+    /// Sets the trap of the device, in place of one that is pending.
+    fn trap(&mut self, trap: Trap)
+        ensures shows { (genesis : Genesis) (n : ℕ) (x : Holding) → Shows self.old genesis n x → Shows self.new genesis n x }
+        ensures disks { (s : Side) → disks self.new s ≡ disks self.old s };
+
+    /// The device, as the replica leaves it.
+    fn into_disks(self) -> MemoryDisk
+        ensures disks { (s : Side) → disk_of result s ≡ disks self s };
+}
