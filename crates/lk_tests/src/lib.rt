@@ -3,15 +3,25 @@
 #![tactic(auto)]
 
 #[cfg(test)]
+mod acceptor;
+#[cfg(test)]
+mod answers;
+#[cfg(test)]
 mod digits;
 #[cfg(test)]
 mod disk;
+#[cfg(test)]
+mod leader;
 #[cfg(test)]
 mod locks;
 #[cfg(test)]
 mod log;
 #[cfg(test)]
 mod members;
+#[cfg(test)]
+mod node;
+#[cfg(test)]
+mod script;
 #[cfg(test)]
 mod state;
 #[cfg(test)]

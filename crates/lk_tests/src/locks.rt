@@ -15,7 +15,7 @@ fn fence<R: Abort>(rt: &R, value: u64) -> Fence {
 }
 
 /// A text of so many rising names of 32 letters, each held by client 256 at the last fence.
-pub(crate) fn long_text(alloc: Global, count: u16) -> Result<Vec<u8>, AllocError> {
+pub fn long_text(alloc: Global, count: u16) -> Result<Vec<u8>, AllocError> {
     let mut text = Vec::new(alloc);
     text.extend_from_slice(&count.to_be_bytes())?;
     for number in 0..count {
@@ -34,11 +34,12 @@ type Step<'a> = (u16, &'a [u8], &'a str);
 
 // A lock that is acquired, released and acquired again.
 #[rattlefmt::skip]
-const STEPS: [Step; 9] = [
+const STEPS: [Step; 10] = [
     (7, b"\x01\x02db", "granted 1"),
     (8, b"\x01\x02db", "busy 7 1"),
     (8, b"\x02\x02db\0\0\0\0\0\0\0\x01", "not held"),
     (7, b"\x02\x02db\0\0\0\0\0\0\0\x01", "released"),
+    (7, b"\x04\x02db\0\0\0\0\0\0\0\x01", "stale"),
     (7, b"\x03\x02db", "free 1"),
     (8, b"\x01\x02db", "granted 2"),
     (7, b"\x04\x02db\0\0\0\0\0\0\0\x01", "stale"),

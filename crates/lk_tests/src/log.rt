@@ -1,5 +1,5 @@
 use lk_disk::{LogDisk, MemoryDisk, Side, Trap, Trapped};
-use lk_log::{Header, Store, StoreFault, look, reopen};
+use lk_log::{Header, Standing, Store, StoreFault, look, reopen};
 use lk_types::{Command, Entry, Genesis, Member, NodeNo, Port, Position, RealBallot, Round, Vote};
 use std::alloc::Global;
 use std::test::Fail;
@@ -78,7 +78,7 @@ fn opened(
 ) -> Result<(u8, (usize, usize)), Fail> {
     match reopen(alloc, device_of(alloc, a, b)?, header, &ZERO) {
         Ok((store, _)) => Ok((0, store.device().lengths())),
-        Err(refused) => Ok((refused.fault as u8, refused.device.lengths())),
+        Err(refused) => Ok((refused.number(), refused.device.lengths())),
     }
 }
 
@@ -95,50 +95,149 @@ fn base_of(alloc: Global, generation: u8) -> Result<Vec<u8>, Fail> {
     joined(alloc, &BASE[..12], &[generation], &BASE[13..])
 }
 
-#[test]
-fn a_stop_keeps_what_was_synced(rt: HostRuntime) -> Result<(), Fail> {
-    let alloc = rt.alloc();
-    let Ok((mut store, _)) = reopen(alloc, MemoryDisk::new(alloc), &header()?, &ZERO) else {
-        return Err("not begun".into());
-    };
-    assert_eq!(rt; store.device().calls(), 3);
+// A store that is begun on empty files.
+fn begun(alloc: Global) -> Result<Store<MemoryDisk>, Fail> {
+    match reopen(alloc, MemoryDisk::new(alloc), &header()?, &ZERO) {
+        Ok((store, _)) => Ok(store),
+        Err(_) => Err("not begun".into()),
+    }
+}
+
+fn put_promise(store: &mut Store<MemoryDisk>) -> Result<(), Fail> {
     store.put(&[promise()?], true)?;
+    Ok(())
+}
+
+fn put_vote(store: &mut Store<MemoryDisk>) -> Result<(), Fail> {
     store.put(&[vote()?], false)?;
-    store.put(&[], false)?;
-    assert_eq!(rt; store.device().calls(), 6);
-    assert_eq!(rt; store.live_length()?, 144);
-    let mut device = store.into_disks();
-    let expected = joined(alloc, &BASE, &PROMISE, &VOTE)?;
+    Ok(())
+}
+
+// A store behind whose Base a promise is put and synced, and a vote is put.
+fn filled(alloc: Global) -> Result<Store<MemoryDisk>, Fail> {
+    let mut store = begun(alloc)?;
+    put_promise(&mut store)?;
+    put_vote(&mut store)?;
+    Ok(store)
+}
+
+#[test]
+fn a_store_is_begun_in_three_calls(rt: HostRuntime) -> Result<(), Fail> {
+    let store = begun(rt.alloc())?;
     assert_eq!(rt;
-        bytes_of(alloc, &mut device, Side::A)?.as_slice(),
-        expected.as_slice()
+        (store.device().calls(), store.device().lengths()),
+        (3, (101, 0))
     );
-    device.stop(5, 0);
-    assert_eq!(rt; device.lengths(), (123, 0));
-    let Ok((store, standing)) = reopen(alloc, device, &header()?, &ZERO) else {
-        return Err("not opened".into());
-    };
-    assert_eq!(rt; store.device().lengths(), (118, 0));
-    assert_eq!(rt; standing.promised, ballot()?.get());
-    assert_eq!(rt; standing.votes.len(), 0);
     Ok(())
 }
 
 #[test]
-fn the_greater_generation_is_live(rt: HostRuntime) -> Result<(), Fail> {
-    let alloc = rt.alloc();
+fn entries_take_three_calls_and_none_takes_no_call(rt: HostRuntime) -> Result<(), Fail> {
+    let mut store = filled(rt.alloc())?;
+    store.put(&[], false)?;
+    assert_eq!(rt; store.device().calls(), 6);
+    assert_eq!(rt; store.live_length()?, 144);
+    Ok(())
+}
+
+// The bytes of A where a store is filled.
+fn filled_bytes(alloc: Global) -> Result<Vec<u8>, Fail> {
+    let mut device = filled(alloc)?.into_disks();
+    bytes_of(alloc, &mut device, Side::A)
+}
+
+#[test]
+fn entries_have_these_bytes(rt: HostRuntime) -> Result<(), Fail> {
+    let bytes = filled_bytes(rt.alloc())?;
+    let expected = joined(rt.alloc(), &BASE, &PROMISE, &VOTE)?;
+    assert_eq!(rt; bytes.as_slice(), expected.as_slice());
+    Ok(())
+}
+
+// The files of a filled store as a stop leaves them that keeps five unsynced bytes.
+fn stopped(alloc: Global) -> Result<MemoryDisk, Fail> {
+    let mut device = filled(alloc)?.into_disks();
+    device.stop(5, 0);
+    Ok(device)
+}
+
+// Of an opening the lengths, the ballot's round and node, and how many votes there are.
+fn reopened(
+    alloc: Global,
+    device: MemoryDisk,
+) -> Result<((usize, usize), (u64, u32), usize), Fail> {
+    match reopen(alloc, device, &header()?, &ZERO) {
+        Err(_) => Err("not opened".into()),
+        Ok((store, standing)) => Ok((
+            store.device().lengths(),
+            (standing.promised.round(), standing.promised.node()),
+            standing.votes.len(),
+        )),
+    }
+}
+
+#[test]
+fn a_stop_keeps_what_was_synced(rt: HostRuntime) -> Result<(), Fail> {
+    let device = stopped(rt.alloc())?;
+    assert_eq!(rt; device.lengths(), (123, 0));
+    assert_eq!(rt; reopened(rt.alloc(), device)?, ((118, 0), (1, 1), 0));
+    Ok(())
+}
+
+#[test]
+fn a_header_tells_its_parts(rt: HostRuntime) -> Result<(), Fail> {
+    let own = header()?;
+    assert_eq!(rt; (own.node().get(), own.genesis().cluster), (1, 5));
+    Ok(())
+}
+
+// The standing of a store that is begun.
+fn fresh(alloc: Global) -> Result<Standing, Fail> {
+    match reopen(alloc, MemoryDisk::new(alloc), &header()?, &ZERO) {
+        Ok((_, standing)) => Ok(standing),
+        Err(_) => Err("not begun".into()),
+    }
+}
+
+#[test]
+fn a_standing_takes_an_entry(rt: HostRuntime) -> Result<(), Fail> {
+    let mut standing = fresh(rt.alloc())?;
+    standing.add(vote()?)?;
+    assert_eq!(rt; (standing.promised.round(), standing.votes.len()), (1, 1));
+    Ok(())
+}
+
+// Two files, of which B has the greater generation.
+fn newer_b(alloc: Global) -> Result<MemoryDisk, Fail> {
     let a = joined(alloc, &BASE, &PROMISE, &[])?;
     let b = joined(alloc, &base_of(alloc, 2)?, &PROMISE, &VOTE)?;
-    let mut device = device_of(alloc, &a, &b)?;
-    let Some((generation, seen)) = look(alloc, &mut device)? else {
-        return Err("no Base".into());
-    };
-    assert_eq!(rt; (generation, seen.votes.len()), (2, 1));
-    let Ok((mut store, standing)) = reopen(alloc, device, &header()?, &ZERO) else {
-        return Err("not opened".into());
-    };
-    assert_eq!(rt; store.live_length()?, 144);
-    assert_eq!(rt; (standing.votes.len(), standing.pairs.len()), (1, 0));
+    device_of(alloc, &a, &b)
+}
+
+// Of a look the generation, and how many votes there are.
+fn looked(alloc: Global) -> Result<(u64, usize), Fail> {
+    match look(alloc, &mut newer_b(alloc)?)? {
+        None => Err("no Base".into()),
+        Some((generation, seen)) => Ok((generation, seen.votes.len())),
+    }
+}
+
+// Of an opening how long the live file is, and how many votes and pairs there are.
+fn newer_opened(alloc: Global) -> Result<(usize, usize, usize), Fail> {
+    match reopen(alloc, newer_b(alloc)?, &header()?, &ZERO) {
+        Err(_) => Err("not opened".into()),
+        Ok((mut store, standing)) => Ok((
+            store.live_length()?,
+            standing.votes.len(),
+            standing.pairs.len(),
+        )),
+    }
+}
+
+#[test]
+fn the_greater_generation_is_live(rt: HostRuntime) -> Result<(), Fail> {
+    assert_eq!(rt; looked(rt.alloc())?, (2, 1));
+    assert_eq!(rt; newer_opened(rt.alloc())?, (144, 1, 0));
     Ok(())
 }
 
@@ -221,35 +320,65 @@ fn worked(alloc: Global, device: MemoryDisk) -> Result<MemoryDisk, Fail> {
 fn left_by(alloc: Global, device: MemoryDisk) -> Result<u64, Fail> {
     let mut device = worked(alloc, device)?;
     device.stop(0, 0);
-    let Ok((_, standing)) = reopen(alloc, device, &header()?, &ZERO) else {
-        return Err("not opened".into());
-    };
-    Ok(standing.promised.round())
+    let (_, (round, _), _) = reopened(alloc, device)?;
+    Ok(round)
 }
+
+// Where that call fails alone, and where all calls fail behind those before it.
+fn left_by_failure(alloc: Global, call: u64, before: u64) -> Result<(u64, u64), Fail> {
+    let mut once = MemoryDisk::new(alloc);
+    once.trap(Trap::Fail(call));
+    let mut fused = MemoryDisk::new(alloc);
+    fused.fuse(before);
+    Ok((left_by(alloc, once)?, left_by(alloc, fused)?))
+}
+
+// The call that fails, how many come before it, and the promised round.
+const FAILURES: [(u64, u64, u64); 7] = [
+    (1, 0, 0),
+    (2, 1, 0),
+    (3, 2, 0),
+    (4, 3, 0),
+    (5, 4, 0),
+    (6, 5, 1),
+    (7, 6, 1),
+];
 
 #[test]
 fn each_call_fails_in_turn(rt: HostRuntime) -> Result<(), Fail> {
-    let alloc = rt.alloc();
-    for (call, round) in [(1, 0), (2, 0), (3, 0), (4, 0), (5, 0), (6, 1), (7, 1)] {
-        let mut device = MemoryDisk::new(alloc);
-        device.trap(Trap::Fail(call));
-        assert_eq!(rt; left_by(alloc, device)?, round);
-        let mut device = MemoryDisk::new(alloc);
-        device.fuse(call - 1);
-        assert_eq!(rt; left_by(alloc, device)?, round);
+    for (call, before, round) in FAILURES {
+        assert_eq!(rt; left_by_failure(rt.alloc(), call, before)?, (round, round));
     }
     Ok(())
 }
 
+// A store whose next device call fails.
+fn trapped(alloc: Global) -> Result<Store<MemoryDisk>, Fail> {
+    let mut store = begun(alloc)?;
+    store.trap(Trap::Fail(1));
+    Ok(store)
+}
+
 #[test]
 fn after_a_refusal_all_is_refused(rt: HostRuntime) -> Result<(), Fail> {
-    let alloc = rt.alloc();
-    let Ok((mut store, _)) = reopen(alloc, MemoryDisk::new(alloc), &header()?, &ZERO) else {
-        return Err("not begun".into());
-    };
-    store.trap(Trap::Fail(1));
+    let mut store = trapped(rt.alloc())?;
     assert_eq!(rt; store.put(&[promise()?], true), Err(StoreFault::Device));
     assert_eq!(rt; store.put(&[], false), Err(StoreFault::Failed));
     assert_eq!(rt; store.live_length(), Err(StoreFault::Failed));
     Ok(())
+}
+
+const NUMBERS: [(StoreFault, u8); 5] = [
+    (StoreFault::Device, 7),
+    (StoreFault::NoMemory, 8),
+    (StoreFault::Damaged, 9),
+    (StoreFault::WrongStore, 10),
+    (StoreFault::Failed, 11),
+];
+
+#[test]
+fn refusals_have_these_numbers(rt: HostRuntime) {
+    for (fault, number) in NUMBERS {
+        assert_eq!(rt; fault.number(), number);
+    }
 }

@@ -107,6 +107,10 @@ const LIMITS: [Limit; 47] = [
     ("4c4b010c 0000000000000005 00000001 0007 0000000000000002", "0000000000000003", "0000000000000002", ""),
 ];
 
+fn is_taken(alloc: Global, bytes: &[u8]) -> bool {
+    read(alloc, bytes).is_ok()
+}
+
 fn is_bad(alloc: Global, bytes: &[u8]) -> bool {
     matches!(read(alloc, bytes), Err(ReadFault::Bad))
 }
@@ -116,16 +120,21 @@ fn read_again(alloc: Global, bytes: &[u8]) -> Result<(String, BytesMut), Fail> {
     let message = read(alloc, bytes)?;
     let told = format!(in alloc; "{message:?}")?;
     let mut out = BytesMut::new(alloc);
-    write(alloc, &message, &mut out)?;
+    write(&message, &mut out)?;
     Ok((told, out))
+}
+
+// Whether the bytes say the text, and are written again.
+fn is_read_again(alloc: Global, bytes: &[u8], text: &str) -> Result<bool, Fail> {
+    let (told, out) = read_again(alloc, bytes)?;
+    Ok(told.as_str() == text && out.as_slice() == bytes)
 }
 
 // The first row whose bytes do not say its text, or are not written again.
 fn misread<'a>(alloc: Global, rows: &[Row<'a>]) -> Result<Option<&'a str>, Fail> {
     for (hex, text) in rows {
         let bytes = bytes_of(alloc, &[hex])?;
-        let (told, out) = read_again(alloc, &bytes)?;
-        if told.as_str() != *text || out.as_slice() != bytes.as_slice() {
+        if !is_read_again(alloc, &bytes, text)? {
             return Ok(Some(hex));
         }
     }
@@ -193,13 +202,18 @@ fn a_beginning_a_longer_one_and_another_version_are_bad(rt: HostRuntime) -> Resu
     Ok(())
 }
 
+// Whether the last value is taken, and the one past it refused.
+fn is_limit<'a>(alloc: Global, limit: Limit<'a>) -> Result<bool, Fail> {
+    let (front, good, bad, behind) = limit;
+    let taken = bytes_of(alloc, &[front, good, behind])?;
+    let refused = bytes_of(alloc, &[front, bad, behind])?;
+    Ok(is_taken(alloc, &taken) && is_bad(alloc, &refused))
+}
+
 // The first limit whose last value is not taken, or the one past it not refused.
 fn passed_over<'a>(alloc: Global, limits: &[Limit<'a>]) -> Result<Option<Limit<'a>>, Fail> {
     for limit in limits {
-        let (front, good, bad, behind) = *limit;
-        let taken = bytes_of(alloc, &[front, good, behind])?;
-        let refused = bytes_of(alloc, &[front, bad, behind])?;
-        if read(alloc, &taken).is_err() || !is_bad(alloc, &refused) {
+        if !is_limit(alloc, *limit)? {
             return Ok(Some(*limit));
         }
     }
@@ -212,41 +226,60 @@ fn limits(rt: HostRuntime) -> Result<(), Fail> {
     Ok(())
 }
 
-// Some bytes, and then one more so many times.
-fn repeated(alloc: Global, front: &str, piece: u8, times: u16) -> Result<Vec<u8>, Fail> {
-    let mut bytes = bytes_of(alloc, &[front])?;
-    for _ in 0..times {
-        bytes.push(piece)?;
-    }
+// What stands in front of a length, the greatest length and the first that is too great, in hex and as a number.
+type Length<'a> = (&'a str, (&'a str, u16), (&'a str, u16));
+
+#[rattlefmt::skip]
+const LENGTHS: [Length; 2] = [
+    ("4c4b0109 0000000000000005 00000000 0007 0000000000000001 00", ("40", 64), ("41", 65)),
+    ("4c4b0108 0000000000000005 00000001 0000000000000002 0000c000 00000000", ("0400", 1024), ("0401", 1025)),
+];
+
+// Some bytes, their length, and so many letters.
+fn lettered<'a>(alloc: Global, front: &str, length: (&'a str, u16)) -> Result<Vec<u8>, Fail> {
+    let mut bytes = bytes_of(alloc, &[front, length.0])?;
+    bytes.resize(bytes.len() + length.1 as usize, b'a')?;
     Ok(bytes)
+}
+
+// Whether the greatest length is taken, and the next one refused.
+fn is_greatest<'a>(alloc: Global, row: Length<'a>) -> Result<bool, Fail> {
+    let taken = lettered(alloc, row.0, row.1)?;
+    let refused = lettered(alloc, row.0, row.2)?;
+    Ok(is_taken(alloc, &taken) && is_bad(alloc, &refused))
+}
+
+// What stands in front of the first length whose greatest is another one.
+fn other_length<'a>(alloc: Global, rows: &[Length<'a>]) -> Result<Option<&'a str>, Fail> {
+    for row in rows {
+        if !is_greatest(alloc, *row)? {
+            return Ok(Some(row.0));
+        }
+    }
+    Ok(None)
 }
 
 #[test]
 fn longest(rt: HostRuntime) -> Result<(), Fail> {
-    let alloc = rt.alloc();
-    let body = "4c4b0109 0000000000000005 00000000 0007 0000000000000001 00";
-    let text = repeated(alloc, &format!(in alloc; "{body} 40")?, b'a', 64)?;
-    assert!(rt; read(alloc, &text).is_ok());
-    let text = repeated(alloc, &format!(in alloc; "{body} 41")?, b'a', 65)?;
-    assert!(rt; is_bad(alloc, &text));
-    let part = "4c4b0108 0000000000000005 00000001 0000000000000002 0000c000 00000000";
-    let text = repeated(alloc, &format!(in alloc; "{part} 0400")?, b'a', 1024)?;
-    assert!(rt; read(alloc, &text).is_ok());
-    let text = repeated(alloc, &format!(in alloc; "{part} 0401")?, b'a', 1025)?;
-    assert!(rt; is_bad(alloc, &text));
+    assert_eq!(rt; other_length(rt.alloc(), &LENGTHS)?, None);
     Ok(())
 }
 
-// A Promise with that many votes, each for a request of 64 bytes.
+// A vote at a position of a second byte 1, for a request of 64 bytes.
+fn vote(alloc: Global, index: u8) -> Result<Vec<u8>, Fail> {
+    let front = format!(in alloc;
+        "00000000000001{index:02x} 0000000000000001 00000001 01 0007 0000000000000001 00"
+    )?;
+    lettered(alloc, &front, ("40", 64))
+}
+
+// A Promise with that many votes.
 fn promise(alloc: Global, count: u8) -> Result<Vec<u8>, Fail> {
     let front = "4c4b0102 0000000000000005 00000001 0000000000000003 00000001 0000000000000001";
     let mut bytes = bytes_of(alloc, &[front])?;
     bytes.push(count)?;
     for index in 0..count {
-        let vote = format!(in alloc;
-            "00000000000001{index:02x} 0000000000000001 00000001 01 0007 0000000000000001 00 40"
-        )?;
-        bytes.extend_from_slice(&repeated(alloc, &vote, b'a', 64)?)?;
+        bytes.extend_from_slice(&vote(alloc, index)?)?;
     }
     Ok(bytes)
 }
@@ -254,20 +287,27 @@ fn promise(alloc: Global, count: u8) -> Result<Vec<u8>, Fail> {
 #[test]
 fn most_votes(rt: HostRuntime) -> Result<(), Fail> {
     let longest = promise(rt.alloc(), 32)?;
-    assert_eq!(rt; longest.len(), 3141);
-    assert!(rt; read(rt.alloc(), &longest).is_ok());
     let longer = promise(rt.alloc(), 33)?;
-    assert!(rt; is_bad(rt.alloc(), &longer));
+    let seen = (
+        longest.len(),
+        is_taken(rt.alloc(), &longest),
+        is_bad(rt.alloc(), &longer),
+    );
+    assert_eq!(rt; seen, (3141, true, true));
     Ok(())
+}
+
+// Whether a datagram with the answer says the text, and is written again.
+fn is_answer(alloc: Global, hex: &str, text: &str) -> Result<bool, Fail> {
+    let bytes = bytes_of(alloc, &[ANSWER_FRONT, hex])?;
+    let says = format!(in alloc; "{ANSWER_SAYS}{text} }})) }}")?;
+    is_read_again(alloc, &bytes, &says)
 }
 
 // The first answer that is not told or written so.
 fn mistold<'a>(alloc: Global, rows: &[Row<'a>]) -> Result<Option<&'a str>, Fail> {
     for (hex, text) in rows {
-        let bytes = bytes_of(alloc, &[ANSWER_FRONT, hex])?;
-        let (told, out) = read_again(alloc, &bytes)?;
-        let expected = format!(in alloc; "{ANSWER_SAYS}{text} }})) }}")?;
-        if told.as_str() != expected.as_str() || out.as_slice() != bytes.as_slice() {
+        if !is_answer(alloc, hex, text)? {
             return Ok(Some(hex));
         }
     }
