@@ -1,0 +1,106 @@
+#!/usr/bin/env python3
+"""Shows that the prover refuses each wrong body of a crate, function by function.
+
+    tools/each_refused.py CRATE [EDIT ..]
+
+Each file of crates/CRATE/must-fail (or those named, without .edit) is applied to a copy of the crate, which is then
+checked. A line `refused: module::function` of the file names a function that the check has to refuse; the script says
+which of them it did not. `rt ci` asks only that the crate is refused, and passes over these lines. Run it at the top of
+the repository once the crate is proved (`rt check`), so that kept work serves. Status 1 where something was not refused.
+"""
+import glob
+import os
+import re
+import shutil
+import subprocess
+import sys
+import tempfile
+
+
+def below(name, lines):
+    """The crates of the repository that the crate stands on, directly or not."""
+    names = next((line.split(":")[1].split() for line in lines if line.split(":")[0] == name), [])
+    found = {it for it in names if os.path.isdir(f"crates/{it}")}
+    return found.union(*(below(it, lines) for it in found))
+
+
+def copied(name, folder):
+    """A repository in the folder with a copy of the crate of that name and of those that it stands on."""
+    with open("crates.txt", encoding="utf-8") as file:
+        lines = file.read().splitlines()
+    crates = below(name, lines) | {name}
+    with open(f"{folder}/crates.txt", "w", encoding="utf-8") as file:
+        file.writelines(f"{line}\n" for line in lines if line.split(":")[0] in crates)
+    shutil.copy("HANDLES", folder)
+    for crate in crates:
+        shutil.copytree(f"crates/{crate}", f"{folder}/crates/{crate}", symlinks=True)
+    return f"{folder}/crates/{name}"
+
+
+def parts(edit):
+    """The changes of an edit file, each a source file, the old text and the new one, and the functions that it names."""
+    changes, named, file, old = [], [], None, None
+    with open(edit, encoding="utf-8") as lines:
+        for line in lines.read().splitlines():
+            if line.startswith("refused: "):
+                named.append(line[9:].strip())
+            elif line.startswith("file: "):
+                file = line[6:].strip()
+            elif line.startswith("old: "):
+                old = line[5:]
+            elif line.startswith("new:"):
+                changes.append((file, old, line[4:].removeprefix(" ")))
+    return changes, named
+
+
+def apply(crate, changes):
+    """Makes the changes in the copy, and tells what stood there."""
+    kept = {}
+    for file, old, new in changes:
+        path = f"{crate}/{file}"
+        with open(path, encoding="utf-8") as source:
+            text = source.read()
+        kept.setdefault(path, text)
+        if text.count(old) != 1:
+            sys.exit(f"{file}: this stands there {text.count(old)} times: {old}")
+        with open(path, "w", encoding="utf-8") as source:
+            source.write(text.replace(old, new))
+    return kept
+
+
+def refused(name, crate):
+    """The functions of whose own goals the check leaves one open, or of whose own answers it refuses one. It goes past
+    open goals, since else a caller is not tried where a function that it calls was refused."""
+    check = subprocess.run(["rt", "check", "--jobs", "1", "--allow-holes"], cwd=crate, stdin=subprocess.DEVNULL,
+                           stdout=subprocess.PIPE, stderr=subprocess.STDOUT, text=True)
+    own = set(re.findall(r"(?m)^fn (\S+): (?:not proved(?!;)|no proof: expected)", check.stdout))
+    for function, why in re.findall(r"(?m)^fn (\S+): not proved; it stands on (.*)$", check.stdout):
+        path = function.removeprefix(f"{name}::").replace("::", ".")
+        if f"`Rattle.{name}.proofs.{path}.Answers." in why:
+            own.add(function)
+    return own
+
+
+def main():
+    name, picked = sys.argv[1], sys.argv[2:]
+    bad = False
+    with tempfile.TemporaryDirectory() as folder:
+        crate = copied(name, folder)
+        for edit in sorted(glob.glob(f"crates/{name}/must-fail/*.edit")):
+            title = os.path.basename(edit)[:-5]
+            if picked and title not in picked:
+                continue
+            changes, named = parts(edit)
+            kept = apply(crate, changes)
+            own = refused(name, crate)
+            for path, text in kept.items():
+                with open(path, "w", encoding="utf-8") as source:
+                    source.write(text)
+            missed = [it for it in named if f"{name}::{it}" not in own]
+            bad = bad or bool(missed) or not own
+            told = f"{len(own)} refused" + (f", but not {', '.join(missed)}" if missed else "")
+            print(f"{title}: {told}", flush=True)
+    sys.exit(bad)
+
+
+main()
