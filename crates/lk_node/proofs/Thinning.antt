@@ -1,6 +1,7 @@
 -- Letters of which some are lost.
-use Rattle.std.proofs.Common.{◌≡◌, ℕ, zero, suc, ◌+◌, ◌<◌, inl, inr, Bool, true, false, List, [], ◌∷◌, ◌++◌, length, take, get_or, Contains, refl, sym, ap, ◌∙◌, subst, append_assoc, append-nil, arith}
+use Rattle.std.proofs.Common.{◌≡◌, ℕ, zero, suc, ◌+◌, ◌-◌, ◌^◌, ◌<◌, ◌≤◌, min, inl, inr, Bool, true, false, List, [], ◌∷◌, ◌++◌, length, take, get_or, Contains, refl, sym, ap, ◌∙◌, subst, append_assoc, append-nil, arith}
 use Rattle.std.proofs.lemmas.Bool.{false≢true}
+use Rattle.std.proofs.lemmas.Bool.Decides.{nat_tests}
 use Rattle.lk_history.specs.Datagrams.{Datagram}
 use Rattle.lk_node.specs.Letters.{LetterValue, datagram_of, batch_of, AreOf, Thins, SendsSome}
 use Rattle.lk_node.proofs.Lists.{cons_cases, contains_more, map_contains, map_has}
@@ -69,3 +70,19 @@ after_sent letters i x old new newer was now more is so_far e = (
   λ none. e ∙ ap (λ (k : List LetterValue). k ++ x ∷ []) (so_far.0 (sym is ∙ none)) ∙ append_assoc old (take i letters) (x ∷ []) ∙ ap (λ (k : List LetterValue). old ++ k) (sym more),
   subst (λ (front : List LetterValue). SendsSome front old newer) (sym more) (sends_kept (take i letters) old new newer x so_far.1 e),
 )
+
+-- ---- what is counted of it
+
+-- the count of failures does not fall, and has risen where something was lost
+pub record Counts (before now : ℕ) (lost : Bool) : Type 0 where
+  pub later : before ≤ now
+  pub rises : lost ≡ true → min (before + 1) (2 ^ 64 - 1) ≤ now
+
+less : (before mid now : ℕ) → before ≤ mid → min (mid + 1) (2 ^ 64 - 1) ≤ now → min (before + 1) (2 ^ 64 - 1) ≤ now
+less before mid now le rises = grind (arith, nat_tests)
+
+pub count_lost : (before mid now : ℕ) (lost after : Bool) → Counts before mid lost → mid ≤ now → min (mid + 1) (2 ^ 64 - 1) ≤ now → Counts before now after
+count_lost before mid now lost after c later rises = record { later = omega (arith, c.later, later); rises = λ e. less before mid now c.later rises }
+
+pub count_sent : (before mid now : ℕ) (lost after : Bool) → after ≡ lost → Counts before mid lost → mid ≤ now → Counts before now after
+count_sent before mid now lost after is c later = record { later = omega (arith, c.later, later); rises = λ e. omega (arith, c.rises (sym is ∙ e), later) }

@@ -1,5 +1,5 @@
 // The replica: a node and its store.
-ghost use Rattle.std.specs.Prelude.{◌≡◌, ℕ, ◌++◌, List, [], true, false, Contains, IfOk, IfErr, OnOk, OnErr, IsErrOf};
+ghost use Rattle.std.specs.Prelude.{◌≡◌, ℕ, ◌+◌, ◌-◌, ◌^◌, ◌≤◌, min, ◌++◌, List, [], true, false, Contains, IfOk, IfErr, OnOk, OnErr, IsErrOf};
 ghost use Rattle.lk_disk.specs.declared.device.Side.{Side};
 ghost use Rattle.lk_log.specs.StoreValue.{disks};
 ghost use Rattle.lk_state.specs.Meanings.{meaning};
@@ -73,7 +73,14 @@ impl<M: Machine, D: LogDisk + Drop> Replica<M, D> {
         ensures exact_send { D.is_honest → P.is_telling → IfErr result (IfSend (λ notes. IsTaken self.old input.entry self.new notes (λ letters. SendsSome letters (P.sent post.old) (P.sent post.new)))) }
         ensures sends_on { IfErr result (IfSend (λ notes. self.new.failed ≡ false)) }
         ensures broken { IfErr result (λ e. (fault_number e ≡ 15 → ⊥) → self.new.failed ≡ true) }
+        // `Device` comes only where the device's count of failures rose, and `Send` only where the post's did, or it stood at 2^64 - 1.
+        ensures cause { IfErr result (λ e. fault_number e ≡ 7 → min (self.old.store.failures + 1) (2 ^ 64 - 1) ≤ self.new.store.failures) }
+        ensures cause_send { IfErr result (IfSend (λ notes. min (P.failures post.old + 1) (2 ^ 64 - 1) ≤ P.failures post.new)) }
         ensures failed { self.old.failed ≡ true → IsErrOf result ReplicaFault.Failed }
+        // Nothing but an earlier refusal, its own or its store's, makes it answer `Failed`.
+        ensures failed_before { self.old.failed ≡ false → self.old.store.failed ≡ false → IsErrOf result ReplicaFault.Failed → ⊥ }
+        ensures store_alive { OnOk result (self.new.store.failed ≡ false) }
+        ensures store_sends_on { IfErr result (IfSend (λ notes. self.new.store.failed ≡ false)) }
         ensures stays_failed { self.old.failed ≡ true → self.new ≡ self.old }
         ensures alive { OnOk result (self.new.failed ≡ false) }
     {
@@ -149,6 +156,9 @@ fn write<M: Machine, D: LogDisk + Drop>(
     ensures steps { IfOk result (λ o. Steps node.old input.entry node.new o) }
     ensures puts { D.is_honest → IfOk result (λ o. Puts store.old o store.new) }
     ensures only { IfErr result (IfSend (λ notes. ⊥)) }
+    ensures alive { OnOk result (store.new.failed ≡ false) }
+    ensures failed_before { store.old.failed ≡ false → IsErrOf result ReplicaFault.Failed → ⊥ }
+    ensures cause { IfErr result (λ e. fault_number e ≡ 7 → min (store.old.failures + 1) (2 ^ 64 - 1) ≤ store.new.failures) }
 {
     let outbox = node.step(input)?;
     store.put(&outbox.entries, outbox.sync)?;
