@@ -1,12 +1,21 @@
-//! A device of two disks: what each call does to them, what a failed call and a stop may leave, and such a device in
-//! memory, which can be made to fail.
+//! A device of two disks: what each call does to them, what a failed call and a stop may leave; such a device in memory,
+//! which can be made to fail, and one of two files.
 #![tactic(auto)]
 
+mod append_file;
 mod device;
+mod file_disk;
+mod file_in_memory;
 mod memory;
 mod memory_file;
+mod system_file;
 mod trap;
+mod used_file;
 
+pub use append_file::{AppendFile, FileFault};
 pub use device::{DeviceFault, LogDisk, Side};
+pub use file_disk::FileDisk;
+pub use file_in_memory::FileInMemory;
 pub use memory::MemoryDisk;
+pub use system_file::{CannotOpen, SystemFile};
 pub use trap::{Trap, Trapped};

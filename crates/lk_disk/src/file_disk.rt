@@ -1,0 +1,134 @@
+// A device of two files.
+ghost use Rattle.std.specs.Prelude.{◌≡◌, ◌≤◌, ◌<◌, ◌+◌, length, slice_range, IsFalse, OnOk, OnErr, IfOk};
+ghost use Rattle.lk_disk.specs.Disk.{contents, appended, flushed, cut_to, other, AppendsSome, CutShort};
+ghost use Rattle.lk_disk.specs.Memory.{one_more};
+ghost use Rattle.lk_disk.specs.Files.{FilePair, IsWhole, disk_at};
+ghost use Rattle.lk_disk.specs.declared.device.Side.{Side};
+
+use crate::append_file::{AppendFile, FileFault};
+use crate::device::{DeviceFault, LogDisk, Side};
+use crate::used_file::UsedFile;
+use std::marker::Model;
+
+/// Two files as a device. It is honest where the files are.
+///
+/// Behind an append, a sync or a cut that failed a file is not used again: each further call at its side fails too.
+#[derive(Debug, Drop)]
+pub struct FileDisk<F: AppendFile + Drop> {
+    a: UsedFile<F>,
+    b: UsedFile<F>,
+    failures: u64,
+}
+
+impl<F: AppendFile + Drop> Model for FileDisk<F> {
+    ghost use Rattle.lk_disk.specs.Files.{FilePair};
+
+    ghost Value = { FilePair };
+
+    ghost view = { λ d. record { a = d.a; b = d.b; failures = d.failures } };
+}
+
+impl<F: AppendFile + Drop> FileDisk<F> {
+    /// The device of two files that no call has failed on.
+    pub fn of(a: F, b: F) -> FileDisk<F>
+        requires a { F.is_honest → IsWhole (F.file a) }
+        requires b { F.is_honest → IsWhole (F.file b) }
+        ensures a { result.a.file ≡ F.file a }
+        ensures b { result.b.file ≡ F.file b }
+        ensures alive_a { IsFalse result.a.failed }
+        ensures alive_b { IsFalse result.b.failed }
+        ensures failures { result.failures ≡ 0 }
+    {
+        FileDisk {
+            a: UsedFile::of(a),
+            b: UsedFile::of(b),
+            failures: 0,
+        }
+    }
+
+    /// The files, as the device leaves them.
+    pub fn into_files(self) -> (F, F)
+        ensures a { F.file result.0 ≡ self.a.file }
+        ensures b { F.file result.1 ≡ self.b.file }
+    {
+        let FileDisk { a, b, failures: _ } = self;
+        (a.into_file(), b.into_file())
+    }
+
+    // Counts a failure.
+    fn fail(&mut self) -> DeviceFault
+        ensures { self.new ≡ record self.old { failures = one_more self.old.failures } }
+    {
+        self.failures = self.failures.saturating_add(1);
+        DeviceFault
+    }
+}
+
+#[tactic(auto, using(crate::proofs::Counts::has_cause))]
+impl<F: AppendFile + Drop> LogDisk for FileDisk<F> {
+    ghost disk = { disk_at };
+
+    ghost is_honest = { F.is_honest };
+
+    ghost failures = { λ p. p.failures };
+
+    fn length(&mut self, side: Side) -> Result<usize, DeviceFault> {
+        let length = match side {
+            Side::A => self.a.length(),
+            Side::B => self.b.length(),
+        };
+        match length {
+            Ok(length) => Ok(length),
+            Err(FileFault) => Err(self.fail()),
+        }
+    }
+
+    fn read_into(
+        &mut self,
+        side: Side,
+        offset: usize,
+        buffer: &mut [u8],
+    ) -> Result<(), DeviceFault> {
+        let read = match side {
+            Side::A => self.a.read_into(offset, buffer),
+            Side::B => self.b.read_into(offset, buffer),
+        };
+        match read {
+            Ok(()) => Ok(()),
+            Err(FileFault) => Err(self.fail()),
+        }
+    }
+
+    fn append(&mut self, side: Side, piece: &[u8]) -> Result<(), DeviceFault> {
+        let appended = match side {
+            Side::A => self.a.append(piece),
+            Side::B => self.b.append(piece),
+        };
+        match appended {
+            Ok(()) => Ok(()),
+            Err(FileFault) => Err(self.fail()),
+        }
+    }
+
+    fn sync(&mut self, side: Side) -> Result<(), DeviceFault> {
+        let synced = match side {
+            Side::A => self.a.sync(),
+            Side::B => self.b.sync(),
+        };
+        match synced {
+            Ok(()) => Ok(()),
+            Err(FileFault) => Err(self.fail()),
+        }
+    }
+
+    fn cut(&mut self, side: Side, len: usize) -> Result<(), DeviceFault> {
+        let cut = match side {
+            Side::A => self.a.cut(len),
+            Side::B => self.b.cut(len),
+        };
+        match cut {
+            Ok(()) => Ok(()),
+            Err(FileFault) => Err(self.fail()),
+        }
+    }
+}
