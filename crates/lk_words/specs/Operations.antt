@@ -1,0 +1,57 @@
+-- What a client asks, in words.
+use Rattle.std.specs.Prelude.{◌≡◌, ◌≤◌, ℕ, List, [], ◌∷◌, ◌++◌, length, Ok}
+use Rattle.std.specs.Fmt.{decimal}
+use Rattle.hex.specs.Hex.{decode_of}
+use Rattle.lk_types.specs.Ranges.{IsNode, IsPort, IsTotal}
+use Rattle.lk_types.specs.Payloads.{IsPayload}
+use Rattle.lk_types.specs.declared.command.Op.{Op}
+use Rattle.lk_types.specs.declared.command.Op.TheVariants.{Table, Join, Leave}
+use Rattle.lk_wire.specs.Fields.{eight}
+use Rattle.lk_words.specs.Words.{HasNoSpace}
+use Rattle.lk_words.specs.Verbs.{word_of}
+use Rattle.lk_words.specs.declared.verb.Verb.{Verb}
+use Rattle.lk_words.specs.declared.verb.Verb.TheVariants as verb
+
+-- a word that has room in a body as the name, though it may name no lock
+abbrev pub IsNameWord : List ℕ → Type 0
+IsNameWord word = (1 ≤ length word) × (length word ≤ 54) × HasNoSpace word
+
+-- a body: its first byte, the name behind its length, and the rest
+abbrev pub body : ℕ → List ℕ → List ℕ → List ℕ
+body kind name rest = kind ∷ length name ∷ (name ++ rest)
+
+-- a name asks for the body with this first byte
+abbrev pub AsksOfName : ℕ → List ℕ → Op → Type 0
+AsksOfName kind words o = IsNameWord words × (o ≡ Table (body kind words []))
+
+-- so do a name and a fence, which may be 0, though that is never granted
+abbrev pub AsksOfFence : ℕ → List ℕ → Op → Type 0
+AsksOfFence kind words o = (name : List ℕ) × (fence : ℕ) × (words ≡ name ++ 32 ∷ decimal fence)
+    × IsNameWord name × IsTotal fence × (o ≡ Table (body kind name (eight fence)))
+
+-- a node and its port ask to join
+abbrev pub AsksToJoin : List ℕ → Op → Type 0
+AsksToJoin words o = (node : ℕ) × (port : ℕ) × (words ≡ decimal node ++ 32 ∷ decimal port)
+    × IsNode node × IsPort port × (o ≡ Join node port)
+
+-- a node asks to leave
+abbrev pub AsksToLeave : List ℕ → Op → Type 0
+AsksToLeave words o = (node : ℕ) × (words ≡ decimal node) × IsNode node × (o ≡ Leave node)
+
+-- hex digits in either case, two a byte, ask for the body that they spell
+abbrev pub AsksInHex : List ℕ → Op → Type 0
+AsksInHex digits o = (bytes : List ℕ) × (decode_of digits ≡ Ok bytes) × IsPayload bytes × (o ≡ Table bytes)
+
+-- what the words behind a verb ask for
+abbrev pub Asks : Verb → List ℕ → Op → Type 0
+Asks verb.Acquire = AsksOfName 1
+Asks verb.Release = AsksOfFence 2
+Asks verb.Ask = AsksOfName 3
+Asks verb.Check = AsksOfFence 4
+Asks verb.Join = AsksToJoin
+Asks verb.Leave = AsksToLeave
+Asks verb.Raw = AsksInHex
+
+-- the text is that of an operation: a verb, a space, and words of that verb
+abbrev pub SpellsOp : List ℕ → Op → Type 0
+SpellsOp text o = (v : Verb) × (words : List ℕ) × (text ≡ word_of v ++ 32 ∷ words) × Asks v words o

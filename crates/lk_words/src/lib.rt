@@ -1,0 +1,7 @@
+//! The words in which a person or a script asks something of the service.
+#![tactic(auto)]
+
+pub mod number;
+pub mod operation;
+mod verb;
+pub mod word;
