@@ -73,6 +73,16 @@ pub record OpensOn (before : Image) (h : HeaderValue) (zero : List ℕ) (live_di
 abbrev pub Opens : Image → HeaderValue → List ℕ → StoreValue → StandingValue → Type 0
 Opens before h zero s = OpensOn before h zero s.live_disk s.other_disk s.generation
 
+-- whole entries with one Base, in front: those that stand for something
+pub record MayStand (es : List Stored) : Type 0 where
+  pub fit : AllByRecursion IsStored es
+  pub placed : is_misplaced es ≡ false
+  pub based : 0 < generation es
+
+-- some entries stand for it
+abbrev pub StandsForSome : StandingValue → Type 0
+StandsForSome s = (es : List Stored) × StandsFor es s
+
 -- the live file is another node's or another cluster's
 abbrev pub IsWrong : Image → HeaderValue → Type 0
 IsWrong before h = (es : List Stored) × IsLive before es × (HasHeader es h → ⊥)

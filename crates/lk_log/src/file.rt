@@ -1,8 +1,9 @@
 // Reading a file of a device.
 ghost use Rattle.std.specs.Prelude.{◌≡◌, ◌++◌, length, false, IfOk, IfErr};
+ghost use Rattle.std.specs.List.{AllByRecursion};
 ghost use Rattle.lk_disk.specs.Disk.{contents};
 ghost use Rattle.lk_log.specs.Causes.{IsCaused};
-ghost use Rattle.lk_log.specs.Entries.{spelling_of_all};
+ghost use Rattle.lk_log.specs.Entries.{spelling_of_all, IsStored};
 ghost use Rattle.lk_log.specs.Files.{is_torn, IsFile};
 ghost use Rattle.lk_log.specs.Images.{generation, is_misplaced, has_base};
 ghost use Rattle.lk_log.specs.declared.fault.StoreFault.TheVariants.{NoMemory as memory_fault};
@@ -84,6 +85,7 @@ fn read_bytes<D: LogDisk>(alloc: Global, device: &mut D, side: Side) -> Result<V
 pub fn read_file<D: LogDisk>(alloc: Global, device: &mut D, side: Side) -> Result<File, StoreFault>
     ensures unchanged { D.is_honest → (s : _) → D.disk device.new s ≡ D.disk device.old s }
     ensures file { D.is_honest → IfOk result (λ f. IsFile (contents (D.disk device.old side)) f.entries.items f.is_damaged) }
+    ensures fit { IfOk result (λ f. AllByRecursion IsStored f.entries.items) }
     ensures end { IfOk result (λ f. f.end ≡ length (spelling_of_all f.entries.items)) }
     ensures size { D.is_honest → IfOk result (λ f. f.size ≡ length (contents (D.disk device.old side))) }
     ensures cause { IsCaused (D.failures device.old) (D.failures device.new) result }

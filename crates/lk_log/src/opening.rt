@@ -5,7 +5,7 @@ ghost use Rattle.lk_log.specs.Causes.{IsCaused, IsCounted};
 ghost use Rattle.lk_log.specs.Entries.{spelling_of_all};
 ghost use Rattle.lk_log.specs.Files.{IsFile};
 ghost use Rattle.lk_log.specs.Images.{unless_damaged, verdict, IsEmpty, IsDamaged, Narrows, seen, is_misplaced, generation};
-ghost use Rattle.lk_log.specs.Stores.{FileNarrows, HoldsOn, IsOlder, FoundLive};
+ghost use Rattle.lk_log.specs.Stores.{FileNarrows, HoldsOn, IsOlder, FoundLive, MayStand};
 ghost use Rattle.lk_log.specs.declared.stored.Stored.{Stored};
 
 use crate::fault::StoreFault;
@@ -50,6 +50,7 @@ pub fn find<D: LogDisk>(alloc: Global, device: &mut D) -> Result<Option<(Side, F
     ensures damaged { D.is_honest → IsErrOf result StoreFault.Damaged → IsDamaged (seen (D.disk device.old)) }
     ensures empty { D.is_honest → result ≡ Ok None → IsEmpty (seen (D.disk device.old)) }
     ensures live { D.is_honest → IfOk result (λ found. IfSome found (λ f. FoundLive (D.disk device.old) f.0 f.1.entries.items f.1.end f.1.size)) }
+    ensures stands { IfOk result (λ found. IfSome found (λ f. MayStand f.1.entries.items)) }
     ensures wrong { IsErrOf result StoreFault.WrongStore → ⊥ }
     ensures failed { IsErrOf result StoreFault.Failed → ⊥ }
     ensures cause { IsCounted (D.failures device.old) (D.failures device.new) result }

@@ -8,7 +8,7 @@ ghost use Rattle.lk_log.specs.Headers.{IsHeader};
 ghost use Rattle.lk_log.specs.Images.{IsEmpty, IsDamaged, seen, generation};
 ghost use Rattle.lk_log.specs.Standings.{HasHeader};
 ghost use Rattle.lk_log.specs.StoreValue.{disks};
-ghost use Rattle.lk_log.specs.Stores.{first_base, FoundLive, IsWrittenOver, OpensOn, Opens, IsWrong, Shows, NarrowsOrBegins};
+ghost use Rattle.lk_log.specs.Stores.{first_base, FoundLive, IsWrittenOver, OpensOn, Opens, IsWrong, Shows, NarrowsOrBegins, MayStand, StandsForSome};
 ghost use Rattle.lk_log.specs.declared.stored.Stored.{Stored};
 
 use crate::base::Base;
@@ -80,6 +80,7 @@ fn begin<D: LogDisk>(
         → IfOk result (λ o. OpensOn (seen (D.disk device.old)) header.now zero.now (D.disk device.new o.live) (D.disk device.new (other o.live)) o.generation o.standing) }
     ensures stays { D.is_honest → IsEmpty (seen (D.disk device.old)) → NarrowsOrBegins (D.disk device.old) (D.disk device.new) header.now zero.now }
     ensures in_a { IfOk result (λ o. o.live ≡ A) }
+    ensures stands { IfOk result (λ o. StandsForSome o.standing) }
     ensures cause { IsCaused (D.failures device.old) (D.failures device.new) result }
 {
     let base = first_base(alloc, header, zero)?;
@@ -119,6 +120,7 @@ fn open<D: LogDisk>(
         → IfOk result (λ o. OpensOn (seen (D.disk device.old)) header.now zero (D.disk device.new o.live) (D.disk device.new (other o.live)) o.generation o.standing) }
     ensures stays { D.is_honest → FoundLive (D.disk device.old) live file.entries.items file.end file.size → (zero : List ℕ)
         → NarrowsOrBegins (D.disk device.old) (D.disk device.new) header.now zero }
+    ensures stands { MayStand file.entries.items → IfOk result (λ o. StandsForSome o.standing) }
     ensures wrong { IsErrOf result StoreFault.WrongStore → HasHeader file.entries.items header.now → ⊥ }
     ensures wrong_stays { D.is_honest → IsErrOf result StoreFault.WrongStore → (s : Side) → D.disk device.new s ≡ D.disk device.old s }
     ensures damaged { IsErrOf result StoreFault.Damaged → ⊥ }
@@ -157,6 +159,7 @@ fn recover<D: LogDisk>(
         → IfOk result (λ o. OpensOn (seen (D.disk device.old)) header.now zero.now (D.disk device.new o.live) (D.disk device.new (other o.live)) o.generation o.standing) }
     ensures stays { D.is_honest → NarrowsOrBegins (D.disk device.old) (D.disk device.new) header.now zero.now }
     ensures begun { D.is_honest → IsEmpty (seen (D.disk device.old)) → IfOk result (λ o. o.live ≡ A) }
+    ensures stands { IfOk result (λ o. StandsForSome o.standing) }
     ensures damaged { D.is_honest → IsErrOf result StoreFault.Damaged → IsDamaged (seen (D.disk device.old)) }
     ensures damaged_stays { D.is_honest → IsErrOf result StoreFault.Damaged → (s : Side) → D.disk device.new s ≡ D.disk device.old s }
     ensures wrong { D.is_honest → IsErrOf result StoreFault.WrongStore → IsWrong (seen (D.disk device.old)) header.now }
@@ -186,6 +189,8 @@ pub fn reopen<D: LogDisk + Drop>(
     // The standing is that of the whole entries of the live file, or of a store that is begun, and all of it is synced.
     ensures ok { D.is_honest → IfOk result (λ r. Opens (seen (D.disk device)) header.now zero.now r.0 r.1) }
     ensures open { IfOk result (λ r. r.0.failed ≡ false) }
+    // Whatever the device gave to read, some entries stand for it.
+    ensures stands { IfOk result (λ r. StandsForSome r.1) }
     // After any exit each image comes to what an image before it came to, or to a store that is begun.
     ensures stays { D.is_honest → IfOk result (λ r. NarrowsOrBegins (D.disk device) (disks r.0) header.now zero.now) }
     ensures stays_err { D.is_honest → IfErr result (λ e. NarrowsOrBegins (D.disk device) (D.disk e.device) header.now zero.now) }

@@ -1,5 +1,5 @@
 -- Which nodes a window names, and their ports.
-use Rattle.std.specs.Prelude.{ℕ, Bool, ◌==◌, if◌then◌else◌, Option, Some, None, List, [], ◌∷◌}
+use Rattle.std.specs.Prelude.{◌≡◌, ℕ, ◌<◌, Bool, true, false, ◌==◌, min, if◌then◌else◌, Option, Some, None, List, [], ◌∷◌}
 use Rattle.std.specs.List.{list_any}
 use Rattle.lk_members.specs.Rosters.{Member, is_member}
 
@@ -16,3 +16,25 @@ port_in node (m ∷ ms) = if m.node == node then Some m.port else port_in node m
 abbrev pub port_of : ℕ → List (List Member) → Option ℕ
 port_of node [] = None
 port_of node (set ∷ sets) = if is_member node set then port_in node set else port_of node sets
+
+-- the least number above this one that is such
+pub record IsLeastAbove (is : ℕ → Bool) (low n : ℕ) : Type 0 where
+  pub above : low < n
+  pub such : is n ≡ true
+  pub least : (k : ℕ) → low < k → k < n → is k ≡ false
+
+-- the least one, or none where none above this number is such
+abbrev pub IsNextAbove : (ℕ → Bool) → ℕ → Option ℕ → Type 0
+IsNextAbove is low None = (k : ℕ) → low < k → is k ≡ false
+IsNextAbove is low (Some n) = IsLeastAbove is low n
+
+-- the lesser of two numbers, or the one that there is
+abbrev pub lesser_of : Option ℕ → Option ℕ → Option ℕ
+lesser_of None b = b
+lesser_of (Some x) None = Some x
+lesser_of (Some x) (Some y) = Some (min x y)
+
+-- those that are such and above this number, each the least above the one before
+abbrev pub AreAllAbove : (ℕ → Bool) → ℕ → List ℕ → Type 0
+AreAllAbove is low [] = IsNextAbove is low None
+AreAllAbove is low (n ∷ ns) = IsNextAbove is low (Some n) × AreAllAbove is n ns

@@ -38,7 +38,7 @@ impl Roster {
     ghost use Rattle.lk_members.specs.Rosters.{Genesis, Op as OpValue, Join, Leave, IsChange, members, roster_of, roster_answer, join_answer, leave_answer, is_granted_change};
     ghost use Rattle.lk_members.specs.Sets.{newest, are_at_most};
     ghost use Rattle.lk_members.specs.Windows.{RosterSumsUp, IsRoster, newest_roster, moved, moved_unchanged, changed_by};
-    ghost use Rattle.lk_members.specs.Ports.{is_named, port_of};
+    ghost use Rattle.lk_members.specs.Ports.{is_named, port_of, IsNextAbove};
 
     /// The roster of these parts, or `None` where there is no set or the greatest number is below a node of them.
     pub fn of(
@@ -141,6 +141,14 @@ impl Roster {
         ensures { result ≡ is_named node self.now.sets }
     {
         self.window.is_named(node)
+    }
+
+    /// The least node above this number that one of the sets of the next positions names; `None` where there is none. So
+    /// the nodes of the window are walked in rising order.
+    pub fn named_above(&self, low: u32) -> Option<NodeNo>
+        ensures { IsNextAbove (λ k. is_named k self.now.sets) low result }
+    {
+        self.window.named_above(low)
     }
 
     /// The port of the node, by the nearest set of the window that names it; `None` where none does.

@@ -1,9 +1,9 @@
-ghost use Rattle.std.specs.Prelude.{◌≡◌, ◌<◌, ◌↔◌, false, [], ◌∷◌, ◌++◌, length, IsTrue, IsSome, IfSome};
+ghost use Rattle.std.specs.Prelude.{◌≡◌, ◌<◌, ◌↔◌, ◌==◌, false, [], ◌∷◌, ◌++◌, length, IsTrue, IsSome, IfSome};
 ghost use Rattle.lk_types.specs.Limits.{max_members};
 ghost use Rattle.lk_types.specs.Rosters.{are_members_above};
 ghost use Rattle.lk_members.specs.Sets.{IsSet};
 ghost use Rattle.lk_members.specs.Rosters.{is_member as is_one, others, is_nobody};
-ghost use Rattle.lk_members.specs.Ports.{port_in as port_of};
+ghost use Rattle.lk_members.specs.Ports.{port_in as port_of, lesser_of, IsNextAbove};
 
 use arrayvec::ArrayVec;
 use lk_types::limits::MAX_MEMBERS;
@@ -36,6 +36,43 @@ pub fn port_in(set: &Members, node: NodeNo) -> Option<Port>
         }
     }
     None
+}
+
+/// The lesser of two nodes, or the one that there is.
+pub fn lesser(a: Option<NodeNo>, b: Option<NodeNo>) -> Option<NodeNo>
+    ensures { result ≡ lesser_of a b }
+{
+    let Some(x) = a else {
+        return b;
+    };
+    let Some(y) = b else {
+        return a;
+    };
+    if x.get() <= y.get() {
+        return a;
+    }
+    b
+}
+
+/// The node, where it is above this number.
+fn if_above(low: u32, node: NodeNo) -> Option<NodeNo>
+    ensures { IsNextAbove (λ k. node == k) low result }
+{
+    if node.get() <= low {
+        return None;
+    }
+    Some(node)
+}
+
+/// The least node of the set above this number.
+pub fn next_above(set: &Members, low: u32) -> Option<NodeNo>
+    ensures { IsNextAbove (λ k. is_one k set.now) low result }
+{
+    let mut next = None;
+    for member in set.as_slice() {
+        next = lesser(next, if_above(low, member.node));
+    }
+    next
 }
 
 /// The set with one member more.

@@ -2,9 +2,9 @@ ghost use Rattle.std.specs.Prelude.{◌≡◌, ◌+◌, ◌<◌, ◌≤◌, ◌�
 ghost use Rattle.std.specs.List.{list_all};
 ghost use Rattle.lk_members.specs.Rosters.{is_member as is_one};
 ghost use Rattle.lk_members.specs.Sets.{IsWindow, newest, are_at_most};
-ghost use Rattle.lk_members.specs.Ports.{is_named, port_of};
+ghost use Rattle.lk_members.specs.Ports.{is_named, port_of, IsNextAbove};
 
-use crate::set::{facts_of, is_member, port_in};
+use crate::set::{facts_of, is_member, lesser, next_above, port_in};
 use arrayvec::ArrayVec;
 use lk_types::{Member, Members, NodeNo, Port};
 use std::marker::Model;
@@ -139,6 +139,17 @@ impl Window {
             }
         }
         None
+    }
+
+    /// The least node above this number that some set names.
+    pub fn named_above(&self, low: u32) -> Option<NodeNo>
+        ensures { IsNextAbove (λ k. is_named k self.now) low result }
+    {
+        let mut next = None;
+        for place in self.as_slice() {
+            next = lesser(next, next_above(&place.set, low));
+        }
+        next
     }
 
     /// The same sets.

@@ -1,11 +1,13 @@
-use Rattle.std.proofs.Common.{◌≡◌, ◌∙◌, refl, sym, ap, subst, List, [], ℕ}
+use Rattle.std.proofs.Common.{◌≡◌, ◌∙◌, refl, sym, ap, subst, List, [], ◌∷◌, ℕ}
 use Rattle.lk_disk.specs.declared.device.Side.TheVariants.{A, B}
 use Rattle.lk_log.specs.Entries.{spelling, IsStored}
 use Rattle.lk_log.specs.Images.{seen}
+use Rattle.lk_log.specs.Standings.{StandsFor}
 use Rattle.lk_log.specs.Stores.{first_base, IsWrittenOver, OpensOn}
 use Rattle.lk_log.specs.Values.{BaseValue}
 use Rattle.lk_log.specs.declared.stored.Stored.TheVariants.{Base}
 use Rattle.lk_log.proofs.BeginLaws.{begins_same, begins, begun_opens, first_fits}
+use Rattle.lk_log.proofs.StoreLaws.{first_stands}
 use Rattle.lk_log.proofs.reopening.begin.Goals as goal
 
 pub spelled_base-requires : goal.spelled_base-requires
@@ -44,3 +46,8 @@ returns-clause-opens g c honest empty =
     let written : new A ≡ record { synced = spelling (Base (first_base c.args.header.now c.args.zero.now)); unsynced = [] } = c.in_ok-write_over.ensures.ok honest ∙ (λ i. record { synced = piece i; unsynced = [] }) in
     subst (λ (b : BaseValue). OpensOn (seen old) c.args.header.now c.args.zero.now (new A) (new B) b.generation b.standing) (sym (c.base.view_is ∙ is))
     (begun_opens old new c.args.header.now c.args.zero.now empty (first_fits c.args.header.now c.args.zero.now c.first_base.ensures.header c.requires.some c.requires.room) (c.write_over.ensures.beside honest) written)
+
+pub returns-clause-stands : goal.returns-clause-stands
+returns-clause-stands g c =
+    let base = first_base c.args.header.now c.args.zero.now in
+    (Base base ∷ [], subst (λ (b : BaseValue). StandsFor (Base base ∷ []) b.standing) (sym (c.base.view_is ∙ c.in_ok-base.ensures.value)) (first_stands c.args.header.now c.args.zero.now))
