@@ -1,0 +1,4 @@
+mod PairLaws
+mod LearnerLaws
+mod FollowLaws
+pub mod Learnerships

@@ -1,0 +1,54 @@
+//! What follows of a learner's steps: laws over the definitions alone. Each is what a function without a body ensures.
+ghost use Rattle.std.specs.Prelude.{◌≡◌, ◌+◌, ◌-◌, ◌*◌, ◌<◌, ◌≤◌, ℕ, suc, List, [], ◌∷◌, ◌++◌, length, Contains, Some, slice_get};
+ghost use Rattle.lk_history.specs.Datagrams.{Genesis, Datagram, Decided};
+ghost use Rattle.lk_history.specs.Chosen.{command_at, Chosen, ChosenAt};
+ghost use Rattle.lk_history.specs.Soundness.{Sound};
+ghost use Rattle.lk_history.specs.Nodes.{View, Stems, MaySend};
+ghost use Rattle.lk_history.specs.Changes.{with_done, Changes};
+ghost use Rattle.lk_state.specs.Meanings.{Meaning};
+ghost use Rattle.lk_state.specs.States.{SumsUp};
+ghost use Rattle.lk_learner.specs.Pairs.{AreKept, without};
+ghost use Rattle.lk_learner.specs.Learners.{Command, Pair, WholeValue, LearnerValue, executed, begun, keeping, IsNext, advanced, IsServed, news_from};
+ghost use Rattle.lk_learner.specs.Following.{Follows};
+
+/// Kept pairs are of the next positions, up to twice alpha, one each: so they are few. Where the next one goes there is one less.
+pub fn kept_pairs_are_near_and_few()
+    ensures near { (e alpha : ℕ) (pairs : List Pair) → AreKept e alpha pairs → (p : Pair) → Contains pairs p → (e < p.0) × (p.0 ≤ e + 2 * alpha) }
+    ensures once { (e alpha : ℕ) (pairs : List Pair) → AreKept e alpha pairs → (i : ℕ) (v w : Command) → Contains pairs (i, v) → Contains pairs (i, w) → v ≡ w }
+    ensures few { (e alpha : ℕ) (pairs : List Pair) → AreKept e alpha pairs → length pairs ≤ 2 * alpha }
+    ensures fewer { (e alpha : ℕ) (pairs : List Pair) (v : Command) → AreKept e alpha pairs → Contains pairs (e + 1, v) → suc (length (without (e + 1) pairs)) ≡ length pairs }
+{}
+
+/// A learner goes on following the list: as it is made, with a pair more, and with a command more that it has run.
+pub fn a_learner_follows_its_list()
+    ensures begins { (m : Meaning) (genesis : Genesis) (done : List Command) (w : WholeValue) → SumsUp m genesis done w → Follows m genesis done [] (begun w) }
+    ensures keeps { (m : Meaning) (genesis : Genesis) (done : List Command) (pairs : List Pair) (l : LearnerValue) (p : Pair)
+        → Follows m genesis done pairs l → Follows m genesis done (pairs ++ p ∷ []) (keeping p l) }
+    ensures runs { (m : Meaning) (genesis : Genesis) (done : List Command) (pairs : List Pair) (l : LearnerValue) (v : Command)
+        → Follows m genesis done pairs l → Follows m genesis (done ++ v ∷ []) (advanced m v l).pairs (advanced m v l) }
+{}
+
+/// What a learner runs next is chosen at the position behind its list, so the list with it is chosen: never is a pair run
+/// over a gap.
+pub fn what_is_run_is_chosen()
+    ensures chosen { (m : Meaning) (genesis : Genesis) (sent : List Datagram) (w : View) (l : LearnerValue) (v : Command) → Sound genesis sent → Stems genesis sent w
+        → Follows m genesis w.done w.pairs l → IsNext l v → Chosen genesis sent (w.done ++ v ∷ []) }
+    ensures there { (m : Meaning) (genesis : Genesis) (done : List Command) (pairs : List Pair) (l : LearnerValue) (v : Command)
+        → Follows m genesis done pairs l → command_at (done ++ v ∷ []) (executed l + 1) ≡ Some v }
+{}
+
+/// A pair that is kept and a command that is run are changes that a node may make.
+pub fn a_learner_changes_as_it_may()
+    ensures learns { (genesis : Genesis) (sent : List Datagram) (n : ℕ) (w : View) (i : ℕ) (v : Command) → ChosenAt genesis sent i v
+        → Changes genesis sent n w (with_done w w.done (w.pairs ++ (i, v) ∷ [])) }
+    ensures executes { (m : Meaning) (genesis : Genesis) (sent : List Datagram) (n : ℕ) (w : View) (l : LearnerValue) (v : Command) → Follows m genesis w.done w.pairs l → IsNext l v
+        → Changes genesis sent n w (with_done w (w.done ++ v ∷ []) (advanced m v l).pairs) }
+{}
+
+/// What a learner serves a node may send, and it is the list's.
+pub fn what_is_served_is_chosen()
+    ensures may { (m : Meaning) (genesis : Genesis) (sent : List Datagram) (w : View) (l : LearnerValue) (first : ℕ) → Stems genesis sent w → Follows m genesis w.done w.pairs l
+        → IsServed l first → MaySend genesis sent w (Decided (news_from first l)) }
+    ensures there { (m : Meaning) (genesis : Genesis) (done : List Command) (pairs : List Pair) (l : LearnerValue) (i : ℕ) (v : Command) → Follows m genesis done pairs l
+        → l.snapshot_position < i → slice_get l.served (i - (l.snapshot_position + 1)) ≡ Some v → command_at done i ≡ Some v }
+{}

@@ -1,0 +1,213 @@
+ghost use Rattle.std.specs.Prelude.{◌≡◌, IfOk};
+ghost use Rattle.lk_types.specs.Limits.{max_count};
+
+use crate::pair::{Pair, is_kept, place_of};
+use arrayvec::ArrayVec;
+use lk_state::{Machine, Ran, Whole};
+use lk_types::limits::{MAX_COMMANDS, MAX_VOTES};
+use lk_types::{Command, Executed, NoMemory, Position};
+use lk_wire::{Decided, Want};
+use std::alloc::Global;
+use std::marker::Model;
+
+/// What a node has learned of the list: the state behind the commands that it has executed, these commands as far as
+/// its snapshot has not taken their place, and decided commands of later positions.
+#[derive(Drop)]
+pub struct Learner<M: Machine> {
+    alloc: Global,
+    whole: Whole<M>,
+    snapshot_position: Executed,
+    served: Vec<Command>,
+    pairs: ArrayVec<Pair, MAX_VOTES>,
+}
+
+impl<M: Machine> Model for Learner<M> {
+    ghost use Rattle.std.specs.Prelude.{None};
+    ghost use Rattle.lk_learner.specs.Learners.{LearnerValue, IsLearner};
+
+    ghost Value = { LearnerValue };
+
+    ghost view = { λ l. record { whole = l.whole; snapshot_position = l.snapshot_position; served = l.served.items; pairs = l.pairs.items; gathered = None } };
+
+    ghost invariant = { λ l. IsLearner (record { whole = l.whole; snapshot_position = l.snapshot_position; served = l.served.items; pairs = l.pairs.items; gathered = None }) };
+}
+
+impl<M: Machine> Learner<M> {
+    ghost use Rattle.std.specs.Prelude.{◌≡◌, ◌↔◌, ◌+◌, ◌-◌, ◌*◌, ◌<◌, ◌≤◌, ◌++◌, Some, None, false, List, [], ◌∷◌, IsTrue, OnOk, OnErr, IfOk, MatchOption, Ok, slice_get, take, drop};
+    ghost use Rattle.std.specs.Option.{option_copied};
+    ghost use Rattle.lk_members.specs.Counting.{Command, counted};
+    ghost use Rattle.lk_members.specs.Rosters.{Genesis};
+    ghost use Rattle.lk_state.specs.Meanings.{meaning};
+    ghost use Rattle.lk_state.specs.States.{SumsUp, reply_of};
+    ghost use Rattle.lk_state.specs.Runs.{run_answer};
+    ghost use Rattle.lk_learner.specs.Learners.{IsLearner, executed, alpha, begun, IsWanted, keeping, IsNext, advanced, IsServed, news_from, wanted};
+
+    /// A learner that stands on this state, as a snapshot leaves it. It takes no memory.
+    pub fn new(alloc: Global, whole: Whole<M>) -> Learner<M>
+        ensures { result ≡ begun whole }
+    {
+        let snapshot_position = whole.executed();
+        let _ = whole.roster().alpha();
+        Learner {
+            alloc,
+            whole,
+            snapshot_position,
+            served: Vec::new(alloc),
+            pairs: ArrayVec::new(),
+        }
+    }
+
+    /// The state behind the executed commands.
+    pub fn whole(&self) -> &Whole<M>
+        ensures { result.now ≡ self.now.whole }
+    {
+        &self.whole
+    }
+
+    /// The decided commands that are kept until they are executed, strictly rising by position.
+    pub fn pairs(&self) -> &[Pair]
+        ensures { result.now ≡ self.now.pairs }
+    {
+        self.pairs.as_slice()
+    }
+
+    /// The kept pairs are of the next positions, one each, and the commands since the snapshot are all there. It does nothing.
+    pub fn facts(&self)
+        ensures { IsLearner self.now }
+    {
+        let _ = self.pairs.as_slice();
+    }
+
+    /// Whether the position is one of the next, up to twice alpha.
+    fn is_near(&self, position: Position) -> bool
+        ensures { IsTrue result ↔ ((executed self.now < position) × (position ≤ executed self.now + 2 * alpha self.now)) }
+    {
+        let executed = self.whole.executed().get();
+        let farthest = executed + 2 * u64::from(self.whole.roster().alpha());
+        executed < position.get() && position.get() <= farthest
+    }
+
+    /// Whether a pair of the position is to be kept.
+    fn is_wanted(&self, position: Position) -> bool
+        ensures { IsTrue result ↔ IsWanted self.now position }
+    {
+        self.is_near(position) && !is_kept(self.pairs.as_slice(), position)
+    }
+
+    /// A command is decided at the position. It is kept where the position is one of the next, up to twice alpha, and no
+    /// command of it is kept. Whether it was kept. It takes no memory.
+    pub fn decided(&mut self, position: Position, command: &Command) -> bool
+        ensures wanted { IsTrue result ↔ IsWanted self.old position }
+        ensures kept { IsTrue result → self.new ≡ keeping (position, command.now) self.old }
+        ensures unchanged { result ≡ false → self.new ≡ self.old }
+    {
+        if !self.is_wanted(position) {
+            return false;
+        }
+        let executed = self.whole.executed().get();
+        let place = place_of(self.pairs.as_slice(), position, executed);
+        self.pairs
+            .insert(place, Pair::new(position, command.copy()));
+        true
+    }
+
+    /// Whether the command of the next position is kept.
+    fn is_next_kept(&self) -> bool
+        ensures next { IsTrue result ↔ ((v : Command) × IsNext self.now v) }
+        ensures room { IsTrue result → executed self.now < max_count }
+    {
+        let next = self.whole.executed().get() + 1;
+        match self.pairs.as_slice().first() {
+            Some(pair) => pair.position.get() == next,
+            None => false,
+        }
+    }
+
+    /// Executes the command of the next position, where it is kept, and keeps it no longer. Memory is wanted for the list
+    /// of what is served and for a body that the machine runs; a refused call changes nothing.
+    pub fn execute_next(&mut self) -> Result<Option<Ran>, NoMemory>
+        ensures next { (v : Command) → IsNext self.old v → OnOk result (self.new ≡ advanced (meaning M.first M.next M.answer) v self.old) }
+        ensures ran { (v : Command) → IsNext self.old v
+            → IfOk result (λ r. r ≡ Some (record { position = executed self.old + 1; answer = run_answer (meaning M.first M.next M.answer) v self.old.whole })) }
+        ensures none { ((v : Command) → IsNext self.old v → ⊥) → (self.new ≡ self.old) × (result ≡ Ok None) }
+        ensures err { OnErr result (self.new ≡ self.old) }
+        ensures memory { OnErr result ((v : Command) × IsNext self.old v) }
+        ensures reply { (genesis : Genesis) (L : List Command) (v : Command) → SumsUp (meaning M.first M.next M.answer) genesis L self.old.whole → IsNext self.old v
+            → IfOk result (λ r. r ≡ Some (record { position = executed self.old + 1; answer = reply_of (meaning M.first M.next M.answer) genesis (L ++ v ∷ []) (counted L v) })) }
+    {
+        if !self.is_next_kept() {
+            return Ok(None);
+        }
+        self.served.reserve(1)?;
+        let ran = self.whole.run(self.pairs[0].command())?;
+        let pair = self.pairs.remove(0);
+        self.served.push(pair.command).unwrap();
+        Ok(Some(ran))
+    }
+
+    /// What to ask for: the commands from the next position on, or the rest of a snapshot that is gathered. `None` where
+    /// 2^48 positions are executed, behind which there is none. It takes no memory.
+    pub fn want(&self) -> Option<Want>
+        ensures { MatchOption result (executed self.now ≡ max_count) (λ w. w ≡ wanted self.now) }
+    {
+        let first = Position::of(self.whole.executed().get() + 1)?;
+        Want::of(first, 0)
+    }
+
+    /// The place among the commands since the snapshot at which that of the position stands, or would stand.
+    fn place(&self, position: Position) -> Option<usize>
+        ensures { MatchOption result (position ≤ self.now.snapshot_position) (λ k. (self.now.snapshot_position < position) × (k ≡ position - (self.now.snapshot_position + 1))) }
+    {
+        let behind = position
+            .get()
+            .checked_sub(self.snapshot_position.get() + 1)?;
+        Some(behind as usize)
+    }
+
+    /// The command that was executed at the position. `None` where it is not executed, or the snapshot has taken its place.
+    pub fn executed_at(&self, position: Position) -> Option<&Command>
+        ensures some { MatchOption result (IsServed self.now position → ⊥) (λ v. IsServed self.now position × (slice_get self.now.served (position - (self.now.snapshot_position + 1)) ≡ Some v.now)) }
+    {
+        self.served.get(self.place(position)?)
+    }
+
+    /// The executed commands from the position on, up to 16, where the snapshot has not taken its place.
+    fn commands_from(&self, first: Position) -> Option<&[Command]>
+        ensures { MatchOption result (IsServed self.now first → ⊥) (λ vs. IsServed self.now first × (vs.now ≡ (news_from first self.now).commands)) }
+    {
+        let start = self.place(first)?;
+        let count = self.served.len();
+        if start >= count {
+            return None;
+        }
+        let end = count.min(start + MAX_COMMANDS);
+        self.served.get(start..end)
+    }
+
+    /// What is sent to a node that asks for the commands from `first` on: up to 16 of them, through the last that is
+    /// executed. `None` where `first` is not executed, or the snapshot has taken its place: no snapshot is served yet, so
+    /// the offset, in bytes of one, is not looked at.
+    pub fn serve(&self, first: Position, _offset: u32) -> Result<Option<Decided>, NoMemory>
+        ensures some { IsServed self.now first → IfOk result (λ d. d ≡ Some (news_from first self.now)) }
+        ensures none { (IsServed self.now first → ⊥) → result ≡ Ok None }
+        ensures memory { OnErr result (IsServed self.now first) }
+    {
+        let _ = self.whole.executed().get();
+        let Some(commands) = self.commands_from(first) else {
+            return Ok(None);
+        };
+        let commands = copied(self.alloc, commands)?;
+        Ok(Decided::of(first, commands))
+    }
+}
+
+/// The same commands.
+fn copied(alloc: Global, commands: &[Command]) -> Result<Vec<Command>, NoMemory>
+    ensures { IfOk result (λ vs. vs.items ≡ commands.now) }
+{
+    let mut copies = Vec::new(alloc);
+    for command in commands {
+        copies.push(command.copy())?;
+    }
+    Ok(copies)
+}

@@ -1,0 +1,70 @@
+ghost use Rattle.std.specs.Prelude.{◌≡◌, ◌≤◌, ◌↔◌, nat_lt, length, Contains, IsTrue};
+ghost use Rattle.std.specs.List.{prefix_len};
+ghost use Rattle.lk_learner.specs.Pairs.{Command as TheCommand, are_pairs_above};
+
+use lk_types::{Command, Position};
+use std::marker::Model;
+
+/// A decided command and its position, kept until it is executed.
+#[derive(Debug, Drop)]
+pub struct Pair {
+    pub(crate) position: Position,
+    pub(crate) command: Command,
+}
+
+impl Model for Pair {
+    ghost use Rattle.std.specs.Prelude.{ℕ};
+    ghost use Rattle.lk_types.specs.declared.command.Command.{Command};
+
+    ghost Value = { ℕ × Command };
+
+    ghost view = { λ p. (p.position, p.command) };
+}
+
+impl Default for Pair {
+    ghost is_default = { λ p. p.0 ≡ 1 };
+
+    /// A no-op at the first position.
+    fn default() -> Self {
+        Pair::new(Position::default(), Command::Noop)
+    }
+}
+
+impl Pair {
+    /// The command at the position.
+    pub(crate) fn new(position: Position, command: Command) -> Pair
+        ensures { result ≡ (position, command) }
+    {
+        Pair { position, command }
+    }
+
+    /// The position.
+    pub fn position(&self) -> Position
+        ensures { result ≡ self.now.0 }
+    {
+        self.position
+    }
+
+    /// The command.
+    pub fn command(&self) -> &Command
+        ensures { result.now ≡ self.now.1 }
+    {
+        &self.command
+    }
+}
+
+/// Whether one of the pairs is of the position.
+pub fn is_kept(pairs: &[Pair], position: Position) -> bool
+    ensures { IsTrue result ↔ ((v : TheCommand) × Contains pairs.now (position, v)) }
+{
+    pairs.iter().any(|pair| pair.position == position)
+}
+
+/// How many pairs of smaller positions stand in front.
+pub fn place_of(pairs: &[Pair], position: Position, low: u64) -> usize
+    requires { IsTrue (are_pairs_above low pairs.now) }
+    ensures place { result ≡ prefix_len (λ p. nat_lt p.0 position) pairs.now }
+    ensures within { result ≤ length pairs.now }
+{
+    pairs.partition_point(|pair| pair.position < position)
+}
