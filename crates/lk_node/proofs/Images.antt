@@ -1,5 +1,5 @@
 -- What fits to the history in every image, and what every image covers: both are facts about the entries of each image.
-use Rattle.std.proofs.Common.{ℕ, List, [], ◌∷◌, ◌++◌, refl}
+use Rattle.std.proofs.Common.{ℕ, zero, suc, List, [], ◌∷◌, ◌++◌, take, refl, sym, subst, append_assoc, append-nil}
 use Rattle.std.specs.List.{AllByRecursion}
 use Rattle.lk_types.specs.declared.entry.Entry.{Entry}
 use Rattle.lk_disk.specs.Disk.{Disk}
@@ -11,7 +11,7 @@ use Rattle.lk_log.specs.Stores.{plain, Holds, KeepsAtLeast, NarrowsOrBegins}
 use Rattle.lk_log.specs.Values.{StandingValue}
 use Rattle.lk_log.specs.declared.stored.Stored.{Stored}
 use Rattle.lk_log.specs.declared.stored.Stored.TheVariants.{Plain}
-use Rattle.lk_log.proofs.StoreLaws.{plain_stands, header_more, of_every, to_every, put_keeps_every, opening_every}
+use Rattle.lk_log.proofs.StoreLaws.{plain_stands, header_more, holds_keeps, of_every, keeps_every, put_keeps_every, opening_every}
 use Rattle.lk_state.specs.Meanings.{Meaning}
 use Rattle.lk_history.specs.Datagrams.{NodeMessage}
 use Rattle.lk_history.specs.Acceptors.{Covers}
@@ -76,23 +76,22 @@ pub opening_covers : (m : Meaning) (genesis : Genesis) (n : ℕ) (old new : Side
 opening_covers m genesis n old new x o f =
     entries_cover m genesis n new x (opening_every (EntriesCover genesis n x) old new (header_of genesis n) (text m genesis []) o (cover_entries m genesis n old x f))
 
--- ---- where all is synced, what the entries have each image has, and the other way round
+-- ---- what the synced entries have, also with some of the others, each image has, and the other way round
 
-pub held_fit : (m : Meaning) (h : History) (n : ℕ) (store : StoreValue) (ks : List Stored) → Holds store ks [] → DisksFit m h n (disks store) → EntriesFit m h n ks
-held_fit m h n store ks holds f = of_every (EntriesFit m h n) store ks [] (header_of h.genesis n) (text m h.genesis []) holds (fit_entries m h n (disks store) f)
+-- what some entries have they have with more, where each of these keeps it
+grown : (P : List Stored → Type 0) (Q : Entry → Type 0) (ks : List Stored) (more : List Entry) → ((es : List Stored) (e : Entry) → Q e → P es → P (es ++ Plain e ∷ []))
+    → AllByRecursion Q more → P ks → (k : ℕ) → P (ks ++ plain (take k more))
+grown P Q ks more grows all p zero = subst P (sym (append-nil ks)) p
+grown P Q ks [] grows all p (suc k) = subst P (sym (append-nil ks)) p
+grown P Q ks (e ∷ more) grows all p (suc k) =
+    subst P (append_assoc ks (Plain e ∷ []) (plain (take k more))) (grown P Q (ks ++ Plain e ∷ []) more grows all.1 (grows ks e all.0 p) k)
 
-pub fit_disks : (m : Meaning) (h : History) (n : ℕ) (store : StoreValue) (ks : List Stored) → Holds store ks [] → EntriesFit m h n ks → DisksFit m h n (disks store)
-fit_disks m h n store ks holds f = entries_fit m h n (disks store) (to_every (EntriesFit m h n) store ks (header_of h.genesis n) (text m h.genesis []) holds f)
+pub held_fit : (m : Meaning) (h : History) (n : ℕ) (store : StoreValue) (ks ls : List Stored) → Holds store ks ls → DisksFit m h n (disks store) → EntriesFit m h n ks
+held_fit m h n store ks ls holds f = of_every (EntriesFit m h n) store ks ls (header_of h.genesis n) (text m h.genesis []) holds (fit_entries m h n (disks store) f)
 
-pub cover_disks : (m : Meaning) (genesis : Genesis) (n : ℕ) (store : StoreValue) (ks : List Stored) (x : NodeMessage) → Holds store ks [] → EntriesCover genesis n x ks → AllCover m genesis n (disks store) x
-cover_disks m genesis n store ks x holds c = entries_cover m genesis n (disks store) x (to_every (EntriesCover genesis n x) store ks (header_of genesis n) (text m genesis []) holds c)
-
--- ---- after any exit of a put
-
-pub put_fits : (m : Meaning) (h : History) (n : ℕ) (old new : StoreValue) (ks : List Stored) (given : List Entry) → Holds old ks [] → KeepsAtLeast new ks ([] ++ plain given)
-    → AllByRecursion (Rests h) given → DisksFit m h n (disks old) → DisksFit m h n (disks new)
-put_fits m h n old new ks given holds keeps rests f =
-    entries_fit m h n (disks new) (put_keeps_every (EntriesFit m h n) (Rests h) old new ks [] [] given (header_of h.genesis n) (text m h.genesis []) holds refl keeps (adds m h n) rests (fit_entries m h n (disks old) f))
+pub fit_disks : (m : Meaning) (h : History) (n : ℕ) (store : StoreValue) (ks : List Stored) (loose : List Entry) → Holds store ks (plain loose) → AllByRecursion (Rests h) loose → EntriesFit m h n ks → DisksFit m h n (disks store)
+fit_disks m h n store ks loose holds rests f =
+    entries_fit m h n (disks store) (keeps_every (EntriesFit m h n) store ks loose (header_of h.genesis n) (text m h.genesis []) (holds_keeps store ks (plain loose) holds) (grown (EntriesFit m h n) (Rests h) ks loose (adds m h n) rests f))
 
 -- any entries at all
 none_asked : (es : List Entry) → AllByRecursion (λ e. Unit {0}) es
@@ -102,7 +101,18 @@ none_asked (e ∷ es) = (tt, none_asked es)
 cover_more : (genesis : Genesis) (n : ℕ) (x : NodeMessage) (es : List Stored) (e : Entry) → Unit {0} → EntriesCover genesis n x es → EntriesCover genesis n x (es ++ Plain e ∷ [])
 cover_more genesis n x es e none c = (header_more es (Plain e ∷ []) (header_of genesis n) c.0, (with_plain e c.1.0, plain_stands es c.1.0 e c.1.1, covers_more c.1.0 e x c.1.2))
 
-pub put_covers : (m : Meaning) (genesis : Genesis) (n : ℕ) (old new : StoreValue) (ks : List Stored) (given : List Entry) (x : NodeMessage) → Holds old ks [] → KeepsAtLeast new ks ([] ++ plain given)
+pub cover_disks : (m : Meaning) (genesis : Genesis) (n : ℕ) (store : StoreValue) (ks : List Stored) (loose : List Entry) (x : NodeMessage) → Holds store ks (plain loose) → EntriesCover genesis n x ks → AllCover m genesis n (disks store) x
+cover_disks m genesis n store ks loose x holds c =
+    entries_cover m genesis n (disks store) x (keeps_every (EntriesCover genesis n x) store ks loose (header_of genesis n) (text m genesis []) (holds_keeps store ks (plain loose) holds) (grown (EntriesCover genesis n x) (λ e. Unit {0}) ks loose (cover_more genesis n x) (none_asked loose) c))
+
+-- ---- after any exit of a put
+
+pub put_fits : (m : Meaning) (h : History) (n : ℕ) (old new : StoreValue) (ks : List Stored) (loose given : List Entry) → Holds old ks (plain loose) → KeepsAtLeast new ks (plain loose ++ plain given)
+    → AllByRecursion (Rests h) (loose ++ given) → DisksFit m h n (disks old) → DisksFit m h n (disks new)
+put_fits m h n old new ks loose given holds keeps rests f =
+    entries_fit m h n (disks new) (put_keeps_every (EntriesFit m h n) (Rests h) old new ks (plain loose) loose given (header_of h.genesis n) (text m h.genesis []) holds refl keeps (adds m h n) rests (fit_entries m h n (disks old) f))
+
+pub put_covers : (m : Meaning) (genesis : Genesis) (n : ℕ) (old new : StoreValue) (ks : List Stored) (loose given : List Entry) (x : NodeMessage) → Holds old ks (plain loose) → KeepsAtLeast new ks (plain loose ++ plain given)
     → AllCover m genesis n (disks old) x → AllCover m genesis n (disks new) x
-put_covers m genesis n old new ks given x holds keeps c =
-    entries_cover m genesis n (disks new) x (put_keeps_every (EntriesCover genesis n x) (λ e. Unit {0}) old new ks [] [] given (header_of genesis n) (text m genesis []) holds refl keeps (cover_more genesis n x) (none_asked given) (cover_entries m genesis n (disks old) x c))
+put_covers m genesis n old new ks loose given x holds keeps c =
+    entries_cover m genesis n (disks new) x (put_keeps_every (EntriesCover genesis n x) (λ e. Unit {0}) old new ks (plain loose) loose given (header_of genesis n) (text m genesis []) holds refl keeps (cover_more genesis n x) (none_asked (loose ++ given)) (cover_entries m genesis n (disks old) x c))

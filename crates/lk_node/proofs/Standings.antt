@@ -1,15 +1,18 @@
 -- What a store stands for, as what an acceptor holds.
-use Rattle.std.proofs.Common.{◌≡◌, cond, ltb, eqb, List, [], ◌∷◌, Option, Some, None, refl, ap}
+use Rattle.std.proofs.Common.{◌≡◌, cond, ltb, eqb, List, [], ◌∷◌, ◌++◌, refl, ap, ◌∙◌}
+use Rattle.std.specs.List.{AllByRecursion}
 use Rattle.lk_types.specs.Ballots.{is_below}
 use Rattle.lk_types.specs.declared.entry.Entry.{Entry}
 use Rattle.lk_types.specs.declared.entry.Entry.TheVariants.{Promise, Vote, Decided}
 use Rattle.lk_types.specs.declared.vote.Vote.{Vote as VoteValue}
 use Rattle.lk_log.specs.Standings.{with_vote, with_plain, with_all}
 use Rattle.lk_log.specs.Values.{StandingValue}
-use Rattle.lk_acceptor.specs.States.{with_entry, with_written}
+use Rattle.lk_history.specs.Acceptors.{AcceptorState}
+use Rattle.lk_acceptor.specs.States.{with_entry}
 use Rattle.lk_acceptor.specs.VoteLists.{votes_with}
 use Rattle.lk_node.specs.Leavings.{acceptor_of}
-use Rattle.lk_node.specs.Steps.{entries_of}
+use Rattle.lk_node.specs.Keeping.{IsDecided}
+use Rattle.lk_node.specs.Serving.{with_entries}
 
 same_votes : (v : VoteValue) (vs : List VoteValue) → with_vote v vs ≡ votes_with v vs
 same_votes v [] = refl
@@ -21,7 +24,18 @@ entry_is s (Promise b) = refl
 entry_is s (Vote v) = ap (λ (l : List VoteValue). record { promised = (with_plain (Vote v) s).promised; votes = cond (ltb s.position v.position) l s.votes; snapshot_position = s.position }) (same_votes v s.votes)
 entry_is s (Decided i c) = refl
 
--- so with one, or none
-pub written_is : (s : StandingValue) (o : Option Entry) → acceptor_of (with_all (entries_of o) s) ≡ with_written o (acceptor_of s)
-written_is s None = refl
-written_is s (Some e) = entry_is s e
+-- so with more
+pub entries_are : (s : StandingValue) (es : List Entry) → acceptor_of (with_all es s) ≡ with_entries es (acceptor_of s)
+entries_are s [] = refl
+entries_are s (e ∷ es) = entries_are (with_plain e s) es ∙ ap (with_entries es) (entry_is s e)
+
+-- decided commands leave an acceptor as it is
+pub decided_leave : (es : List Entry) (a : AcceptorState) → AllByRecursion IsDecided es → with_entries es a ≡ a
+decided_leave [] a all = refl
+decided_leave (Promise b ∷ es) a all = absurd all.0
+decided_leave (Vote v ∷ es) a all = absurd all.0
+decided_leave (Decided i c ∷ es) a all = decided_leave es a all.1
+
+pub entries_behind : (es more : List Entry) (a : AcceptorState) → with_entries (es ++ more) a ≡ with_entries more (with_entries es a)
+entries_behind [] more a = refl
+entries_behind (e ∷ es) more a = entries_behind es more (with_entry e a)

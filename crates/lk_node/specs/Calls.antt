@@ -1,5 +1,5 @@
 -- What a replica promises of a call, for every history to which its node fits.
-use Rattle.std.specs.Prelude.{◌≡◌, ℕ, List, take, Contains}
+use Rattle.std.specs.Prelude.{◌≡◌, ℕ, List, take, Contains, Option, Some, None}
 use Rattle.lk_wire.specs.Grammar.{Spells}
 use Rattle.lk_wire.specs.declared.message.NodeMessage.{NodeMessage}
 use Rattle.lk_disk.specs.Disk.{Disk}
@@ -15,6 +15,11 @@ use Rattle.lk_node.specs.Leavings.{DisksFit}
 use Rattle.lk_node.specs.declared.note.Note.{Note}
 use Rattle.lk_node.specs.declared.input.Input.{Input}
 use Rattle.lk_node.specs.declared.input.Input.TheVariants.{Tick, Datagram as Heard}
+
+-- the bytes that a node is given, none at a tick
+abbrev pub heard_by : Input → Option (List ℕ)
+heard_by Tick = None
+heard_by (Heard bytes) = Some bytes.now
 
 -- what a node may be given
 abbrev pub InputFits : History → Input → Type 0

@@ -2,6 +2,8 @@
 use Rattle.std.specs.Prelude.{ℕ, List}
 use Rattle.lk_log.specs.declared.fault.StoreFault.{StoreFault}
 use Rattle.lk_log.specs.declared.fault.StoreFault.TheVariants as store
+use Rattle.lk_state.specs.declared.machine.UnpackFault.{UnpackFault}
+use Rattle.lk_state.specs.declared.machine.UnpackFault.TheVariants as unpack
 use Rattle.lk_node.specs.declared.note.Note.{Note}
 use Rattle.lk_node.specs.declared.fault.ReplicaFault.{ReplicaFault}
 use Rattle.lk_node.specs.declared.fault.ReplicaFault.TheVariants as fault
@@ -22,6 +24,11 @@ fault_of store.NoMemory = fault.NoMemory
 fault_of store.Damaged = fault.Damaged
 fault_of store.WrongStore = fault.WrongStore
 fault_of store.Failed = fault.Failed
+
+-- a snapshot that is not packed is damage
+abbrev pub unpack_fault : UnpackFault → ReplicaFault
+unpack_fault unpack.NotPacked = fault.Damaged
+unpack_fault unpack.NoMemory = fault.NoMemory
 
 -- where a datagram was not sent, the notes of the call have this
 abbrev pub IfSend : (List Note → Type 0) → ReplicaFault → Type 0

@@ -1,38 +1,65 @@
 -- What ties what a replica holds in memory to its store.
-use Rattle.std.specs.Prelude.{◌≡◌, ℕ, List, [], None}
+use Rattle.std.specs.Prelude.{◌≡◌, ◌⊎◌, ℕ, List, length, Some, None, Contains}
+use Rattle.std.specs.List.{AllByRecursion}
+use Rattle.lk_types.specs.declared.entry.Entry.{Entry}
+use Rattle.lk_types.specs.declared.entry.Entry.TheVariants.{Promise, Vote, Decided}
 use Rattle.lk_log.specs.Standings.{HasHeader, StandsFor}
 use Rattle.lk_log.specs.StoreValue.{StoreValue}
-use Rattle.lk_log.specs.Stores.{Holds}
+use Rattle.lk_log.specs.Stores.{plain, Holds}
 use Rattle.lk_log.specs.Values.{HeaderValue, StandingValue}
 use Rattle.lk_log.specs.declared.stored.Stored.{Stored}
 use Rattle.lk_state.specs.Meanings.{Meaning}
-use Rattle.lk_state.specs.States.{SumsUp}
 use Rattle.lk_history.specs.Acceptors.{AcceptorState}
+use Rattle.lk_history.specs.Chosen.{command_at}
+use Rattle.lk_history.specs.Nodes.{Term, View}
+use Rattle.lk_leader.specs.Terms.{TermValue, LeaderValue}
+use Rattle.lk_learner.specs.Following.{Follows}
+use Rattle.lk_learner.specs.Learners.{LearnerValue}
+use Rattle.lk_leader.specs.Standing.{StandsFor as LeadsTerm}
 use Rattle.lk_node.specs.Histories.{Genesis}
 use Rattle.lk_node.specs.Holdings.{Holding}
 use Rattle.lk_node.specs.Leavings.{header_of, acceptor_of}
 use Rattle.lk_node.specs.NodeValue.{NodeValue}
 
--- the store is that of this header, all its entries are synced, and they stand for what the acceptor holds
+-- the entry tells of a decided command
+abbrev pub IsDecided : Entry → Type 0
+IsDecided (Promise b) = ⊥
+IsDecided (Vote x) = ⊥
+IsDecided (Decided i c) = Unit {0}
+
+-- the entry tells of a decided command that the view knows: it is among its pairs, or was executed
+abbrev pub IsKnown : View → Entry → Type 0
+IsKnown w (Promise b) = ⊥
+IsKnown w (Vote x) = ⊥
+IsKnown w (Decided i c) = Contains w.pairs (i, c) ⊎ (command_at w.done i ≡ Some c)
+
+-- the store is that of this header, all its entries but decided commands are synced, and they stand for what the acceptor holds
 pub record Keeps (whose : HeaderValue) (store : StoreValue) (acceptor : AcceptorState) : Type 0 where
   pub entries : List Stored
-  pub holds : Holds store entries []
+  pub loose : List Entry
+  pub holds : Holds store entries (plain loose)
+  pub decided : AllByRecursion IsDecided loose
   pub header : HasHeader entries whose
   pub standing : StandingValue
   pub stands : StandsFor entries standing
   pub remembers : acceptor_of standing ≡ acceptor
 
--- what a node holds that serves Prepare and Accept: what its acceptor does, and the commands that its state sums up. It has
--- no term, nothing waits, and nothing is gathered
+-- the leader's term, if any, stands for the view's
+abbrev pub LeadsOn : LearnerValue → LeaderValue → View → Type 0
+LeadsOn l leader w = (k : TermValue) → leader.term ≡ Some k → (t : Term) × (w.term ≡ Some t) × LeadsTerm l.whole.roster.executed (length l.whole.roster.sets) t k
+
+-- what a node holds: what its acceptor does, the commands that its state sums up, those that are decided and wait for an
+-- earlier one, a term for which its leader stands, and the requests that wait
 pub record IsHeld (m : Meaning) (node : NodeValue) (genesis : Genesis) (x : Holding) : Type 0 where
   pub acceptor : x.view.acceptor ≡ node.acceptor.state
-  pub executed : SumsUp m genesis x.view.done node.whole
-  pub term : x.view.term ≡ None
-  pub waiting : x.waiting ≡ []
+  pub follows : Follows m genesis x.view.done x.view.pairs node.learner
+  pub leads : LeadsOn node.learner node.leader x.view
+  pub waiting : x.waiting ≡ node.leader.waiting
   pub gathered : x.gathered ≡ None
 
 -- the replica, by its parts, is that of the node in the cluster that began so, and holds this
 pub record Stands (m : Meaning) (node : NodeValue) (store : StoreValue) (genesis : Genesis) (n : ℕ) (x : Holding) : Type 0 where
   pub whose : node.header ≡ header_of genesis n
   pub keeps : Keeps (header_of genesis n) store node.acceptor.state
+  pub known : AllByRecursion (IsKnown x.view) keeps.loose
   pub held : IsHeld m node genesis x

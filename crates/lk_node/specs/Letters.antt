@@ -36,3 +36,8 @@ Thins (l ∷ letters) kept = Thins letters kept ⊎ ((rest : List LetterValue) �
 -- so many of them were sent behind what was sent before
 abbrev pub SendsSome : List LetterValue → List LetterValue → List LetterValue → Type 0
 SendsSome letters old new = (kept : List LetterValue) × Thins letters kept × (new ≡ old ++ kept)
+
+-- the letters that were kept, and how often one was not
+pub record CollectedValue : Type 0 where
+  pub letters : List LetterValue
+  pub failures : ℕ

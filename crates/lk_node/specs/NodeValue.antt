@@ -1,19 +1,22 @@
 -- What a contract sees of a node and of a replica.
-use Rattle.std.specs.Prelude.{Bool}
+use Rattle.std.specs.Prelude.{ℕ, Bool, Option}
 use Rattle.lk_log.specs.Values.{HeaderValue}
 use Rattle.lk_log.specs.StoreValue.{StoreValue}
-use Rattle.lk_state.specs.States.{WholeValue}
 use Rattle.lk_acceptor.specs.AcceptorValue.{AcceptorValue}
+use Rattle.lk_leader.specs.Terms.{LeaderValue}
+use Rattle.lk_learner.specs.Learners.{LearnerValue}
 
--- who it is and how its cluster began, what its acceptor holds, the state that it has executed, and whether it has halted
+-- who it is and how its cluster began, what its acceptor, its learner and its leader hold, how many ticks have passed without
+-- a leader, the greatest round that it has seen of others, the node that it takes for the leader, and whether it has halted
 pub record NodeValue : Type 0 where
   pub header : HeaderValue
   pub acceptor : AcceptorValue
-  pub whole : WholeValue
+  pub learner : LearnerValue
+  pub leader : LeaderValue
+  pub ticks : ℕ
+  pub rounds : ℕ
+  pub known : Option ℕ
   pub halted : Bool
-
-abbrev pub with_acceptor : NodeValue → AcceptorValue → NodeValue
-with_acceptor node a = record node { acceptor = a }
 
 -- a node, its store, and whether the replica refuses all calls
 pub record ReplicaValue : Type 0 where

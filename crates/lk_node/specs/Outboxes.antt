@@ -1,6 +1,7 @@
 -- What a contract sees of what a step comes to.
-use Rattle.std.specs.Prelude.{Bool, false, List, []}
+use Rattle.std.specs.Prelude.{Bool, true, false, ◌||◌, Option, Some, None, List, [], ◌∷◌, ◌++◌}
 use Rattle.lk_types.specs.declared.entry.Entry.{Entry}
+use Rattle.lk_types.specs.declared.entry.Entry.TheVariants.{Promise, Vote, Decided}
 use Rattle.lk_node.specs.Letters.{LetterValue}
 use Rattle.lk_node.specs.declared.note.Note.{Note}
 
@@ -13,3 +14,26 @@ pub record OutboxValue : Type 0 where
 
 abbrev pub nothing : OutboxValue
 nothing = record { entries = []; sync = false; notes = []; letters = [] }
+
+-- with one more letter
+abbrev pub with_letter : LetterValue → OutboxValue → OutboxValue
+with_letter l o = record { entries = o.entries; sync = o.sync; notes = o.notes; letters = o.letters ++ l ∷ [] }
+
+-- the entry is synced before anything is sent: a promise and a vote are
+abbrev pub is_synced : Entry → Bool
+is_synced (Promise b) = true
+is_synced (Vote x) = true
+is_synced (Decided i c) = false
+
+-- with one more entry
+abbrev pub with_entry : Entry → OutboxValue → OutboxValue
+with_entry e o = record { entries = o.entries ++ e ∷ []; sync = o.sync || is_synced e; notes = o.notes; letters = o.letters }
+
+-- with the entry, if there is one
+abbrev pub with_optional : Option Entry → OutboxValue → OutboxValue
+with_optional None o = o
+with_optional (Some e) o = with_entry e o
+
+-- with one more note
+abbrev pub with_note : Note → OutboxValue → OutboxValue
+with_note x o = record { entries = o.entries; sync = o.sync; notes = o.notes ++ x ∷ []; letters = o.letters }

@@ -1,9 +1,12 @@
 -- What a call of a replica has done that was not refused: that and nothing else.
-use Rattle.std.specs.Prelude.{◌≡◌, true, false, List, [], ◌++◌}
+use Rattle.std.specs.Prelude.{◌≡◌, ℕ, true, false, Option, List, [], ◌++◌}
 use Rattle.lk_log.specs.StoreValue.{StoreValue}
 use Rattle.lk_log.specs.Stores.{plain, Holds}
+use Rattle.lk_state.specs.Meanings.{Meaning}
 use Rattle.lk_log.specs.declared.stored.Stored.{Stored}
-use Rattle.lk_node.specs.Letters.{LetterValue}
+use Rattle.lk_node.specs.Calls.{heard_by}
+use Rattle.lk_node.specs.Histories.{Datagram}
+use Rattle.lk_node.specs.Letters.{LetterValue, batch_of}
 use Rattle.lk_node.specs.NodeValue.{ReplicaValue}
 use Rattle.lk_node.specs.Outboxes.{OutboxValue}
 use Rattle.lk_node.specs.Steps.{Steps}
@@ -16,9 +19,17 @@ Puts old out new = (ks ls : List Stored) → Holds old ks ls
     → (out.sync ≡ false → Holds new ks (ls ++ plain out.entries)) × (out.sync ≡ true → Holds new (ks ++ (ls ++ plain out.entries)) [])
 
 -- the replica has taken a step, put the outbox's entries, given its notes, and sent its letters
-pub record IsTaken (old : ReplicaValue) (i : Input) (new : ReplicaValue) (notes : List Note) (Sends : List LetterValue → Type 0) : Type 0 where
+pub record IsTaken (m : Meaning) (old : ReplicaValue) (i : Input) (new : ReplicaValue) (notes : List Note) (Sends : List LetterValue → Type 0) : Type 0 where
   pub out : OutboxValue
-  pub steps : Steps old.node i new.node out
+  pub steps : Steps m old.node i new.node out
   pub puts : Puts old.store out new.store
   pub noted : notes ≡ out.notes
   pub sent : Sends out.letters
+
+-- the replica was given this, and sent these datagrams of its node
+pub record IsTakenAs (m : Meaning) (old : ReplicaValue) (bytes : Option (List ℕ)) (new : ReplicaValue) (notes : List Note) (sent : List Datagram) : Type 0 where
+  pub input : Input
+  pub given : heard_by input ≡ bytes
+  pub letters : List LetterValue
+  pub batch : sent ≡ batch_of old.node.header.node letters
+  pub taken : IsTaken m old input new notes (λ ls. ls ≡ letters)

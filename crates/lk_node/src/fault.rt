@@ -1,10 +1,12 @@
 ghost use Rattle.std.specs.Prelude.{◌≡◌};
-ghost use Rattle.lk_node.specs.Faults.{fault_number, fault_of};
+ghost use Rattle.lk_node.specs.Faults.{fault_number, fault_of, unpack_fault};
 ghost use Rattle.lk_node.specs.declared.fault.ReplicaFault.TheVariants as fault;
 
 use crate::node::Halted;
 use crate::note::Note;
 use lk_log::StoreFault;
+use lk_state::UnpackFault;
+use lk_types::NoMemory;
 use thiserror::Error;
 
 /// Why a replica refused a call. After `Device`, `NoMemory`, `Failed` and `Halted` each later call answers `Failed`, until
@@ -52,6 +54,25 @@ impl From<Halted> for ReplicaFault {
 
     fn from(_: Halted) -> ReplicaFault {
         ReplicaFault::Halted
+    }
+}
+
+impl From<NoMemory> for ReplicaFault {
+    ghost from_gives = { λ _ e. e ≡ fault.NoMemory };
+
+    fn from(_: NoMemory) -> ReplicaFault {
+        ReplicaFault::NoMemory
+    }
+}
+
+impl From<UnpackFault> for ReplicaFault {
+    ghost from_gives = { λ f e. e ≡ unpack_fault f };
+
+    fn from(fault: UnpackFault) -> ReplicaFault {
+        match fault {
+            UnpackFault::NotPacked => ReplicaFault::Damaged,
+            UnpackFault::NoMemory => ReplicaFault::NoMemory,
+        }
     }
 }
 

@@ -2,18 +2,37 @@
 //! sends.
 #![tactic(auto)]
 
+mod answering;
+mod asking;
+mod beginning;
+mod catching_up;
+mod clock;
+mod collected;
+mod counting;
 mod datagram;
 mod delivering;
+mod executing;
 mod fault;
+mod in_memory;
 mod input;
+mod leading;
+mod learning;
 mod letter;
 mod memory_replica;
 mod node;
 mod note;
 mod outbox;
 mod post;
+mod relearning;
+mod reminding;
 mod replica;
+mod replying;
+mod reviving;
+mod step;
+mod telling;
+mod ticking;
 mod to;
+mod yielding;
 
 pub use datagram::Datagram;
 pub use fault::ReplicaFault;

@@ -1,14 +1,17 @@
-ghost use Rattle.std.specs.Prelude.{◌≡◌, ℕ, [], Contains, IfOk, IfErr, OnOk, OnErr};
+ghost use Rattle.std.specs.Prelude.{◌≡◌, ℕ, List, [], Contains, Option, IfOk, IfErr, OnErr};
 ghost use Rattle.lk_disk.specs.Disk.{Disk};
 ghost use Rattle.lk_disk.specs.Memory.{disk_of};
 ghost use Rattle.lk_disk.specs.declared.device.Side.{Side};
+ghost use Rattle.lk_log.specs.Values.{HeaderValue};
 ghost use Rattle.lk_state.specs.Meanings.{Meaning};
+ghost use Rattle.lk_state.specs.States.{WholeValue, SumsUp};
 ghost use Rattle.lk_wire.specs.Grammar.{Spells};
 ghost use Rattle.lk_history.specs.Datagrams.{NodeMessage, Datagram as DatagramValue, said_by};
 ghost use Rattle.lk_node.specs.Histories.{History, Genesis, IsLawful};
 ghost use Rattle.lk_node.specs.Holdings.{Holding};
 ghost use Rattle.lk_node.specs.Leavings.{header_of, DisksFit, AllCover};
-ghost use Rattle.lk_node.specs.Calls.{InputFits, NodeFits, Goes};
+ghost use Rattle.lk_node.specs.Calls.{heard_by, InputFits, NodeFits, Goes};
+ghost use Rattle.lk_node.specs.declared.note.Note.{Note as NoteValue};
 
 use crate::datagram::Datagram;
 use crate::fault::ReplicaFault;
@@ -53,6 +56,16 @@ pub trait MemoryReplica: Sized + Drop {
     /// Its two disks.
     ghost disks: { Self → Side → Disk };
 
+    /// The state that it has executed.
+    ghost whole: { Self → WholeValue };
+
+    /// The first replica, given a tick (`None`) or these bytes, becomes the second by one call of `take`, which gives these
+    /// notes and sends these datagrams in order, and does nothing else.
+    ghost Takes: { Self → Option (List ℕ) → Self → List NoteValue → List DatagramValue → Type 0 };
+
+    /// A revival on these disks, for a node of this header, makes the replica and gives these notes.
+    ghost Revives: { (Side → Disk) → HeaderValue → Self → List NoteValue → Type 0 };
+
     /// Takes up what a stop left, or begins where nothing stands.
     ///
     /// It refuses with `Device` (7), `NoMemory` (8), `Damaged` (9) and `WrongStore` (10), and hands the device back.
@@ -69,7 +82,8 @@ pub trait MemoryReplica: Sized + Drop {
         ensures covers { (genesis : Genesis) (n : ℕ) (x : NodeMessage) → header.now ≡ header_of genesis n → AllCover meaning genesis n (disk_of device) x
             → IfOk result (λ r. AllCover meaning genesis n (disks r.replica) x) }
         ensures covers_err { (genesis : Genesis) (n : ℕ) (x : NodeMessage) → header.now ≡ header_of genesis n → AllCover meaning genesis n (disk_of device) x
-            → IfErr result (λ e. AllCover meaning genesis n (disk_of e.device) x) };
+            → IfErr result (λ e. AllCover meaning genesis n (disk_of e.device) x) }
+        ensures exact { IfOk result (λ r. Revives (disk_of device) header.now r.replica r.notes.items) };
 
     /// Takes a tick or a datagram.
     fn take(&mut self, input: Input) -> Result<Taken, ReplicaFault>
@@ -81,16 +95,8 @@ pub trait MemoryReplica: Sized + Drop {
         ensures syncs { (genesis : Genesis) (n : ℕ) (held : Holding) (x : NodeMessage) → Shows self.old genesis n held
             → IfOk result (λ t. (d : DatagramValue) → Contains t.sent.items d → Spells (said_by genesis n x) d.bytes → AllCover meaning genesis n (disks self.new) x) }
         ensures covers { (genesis : Genesis) (n : ℕ) (held : Holding) (x : NodeMessage) → Shows self.old genesis n held
-            → AllCover meaning genesis n (disks self.old) x → AllCover meaning genesis n (disks self.new) x };
-
-    /// Writes a snapshot of what is executed.
-    fn compact(&mut self) -> Result<(), ReplicaFault>
-        ensures goes { (h : History) (n : ℕ) → NodeFits meaning h n (Shows self.old h.genesis n) (disks self.old)
-            → OnOk result (Goes meaning h n (Shows self.new h.genesis n) (disks self.new) [] []) }
-        ensures ends { (h : History) (n : ℕ) → NodeFits meaning h n (Shows self.old h.genesis n) (disks self.old)
-            → OnErr result (DisksFit meaning h n (disks self.new)) }
-        ensures covers { (genesis : Genesis) (n : ℕ) (held : Holding) (x : NodeMessage) → Shows self.old genesis n held
-            → AllCover meaning genesis n (disks self.old) x → AllCover meaning genesis n (disks self.new) x };
+            → AllCover meaning genesis n (disks self.old) x → AllCover meaning genesis n (disks self.new) x }
+        ensures exact { IfOk result (λ t. Takes self.old (heard_by input.entry) self.new t.notes.items t.sent.items) };
 
     /// Sets the trap of the device, in place of one that is pending.
     fn trap(&mut self, trap: Trap)
@@ -100,4 +106,7 @@ pub trait MemoryReplica: Sized + Drop {
     /// The device, as the replica leaves it.
     fn into_disks(self) -> MemoryDisk
         ensures disks { (s : Side) → disk_of result s ≡ disks self s };
+
+    // What it has executed sums up the commands that it holds as executed.
+    ghost sums_up: { (r : Self) (genesis : Genesis) (n : ℕ) (x : Holding) → Shows r genesis n x → SumsUp meaning genesis x.view.done (whole r) };
 }

@@ -1,22 +1,24 @@
-// The node: what it does with a tick or a datagram. No disk, socket or clock is in its reach.
-ghost use Rattle.std.specs.Prelude.{◌≡◌, ◌∷◌, [], true, false, IfOk, IfErr, OnOk, OnErr, IsErr};
+// The node: what it is, and what it does with any input. No disk, socket or clock is in its reach.
+ghost use Rattle.std.specs.Prelude.{◌≡◌, ◌∷◌, [], None, true, false, IfOk, OnOk, OnErr, IsErr};
 ghost use Rattle.lk_wire.specs.Grammar.{spelling, IsMessage};
 ghost use Rattle.lk_members.specs.Ports.{port_of};
-ghost use Rattle.lk_acceptor.specs.Answers.{AnswersPrepare, AnswersAccept};
-ghost use Rattle.lk_node.specs.Outboxes.{nothing};
-ghost use Rattle.lk_node.specs.Steps.{saying, to_node, port_or_none, entries_of, is_there, reply_to, StandsStill, Responds, Hears, HearsNode, TakesBytes, Steps};
+ghost use Rattle.lk_leader.specs.Terms.{idle};
+ghost use Rattle.lk_node.specs.Outboxes.{nothing, with_letter};
+ghost use Rattle.lk_node.specs.Saying.{saying, to_node, port_or_none};
 
-use crate::input::Input;
+use crate::clock::{SeenRound, TickCount};
 use crate::letter::Letter;
 use crate::outbox::Outbox;
 use crate::to::To;
 use bytes::BytesMut;
-use lk_acceptor::{Acceptor, Response};
+use lk_acceptor::Acceptor;
+use lk_leader::Leader;
+use lk_learner::Learner;
 use lk_log::Header;
 use lk_members::Roster;
-use lk_state::{Machine, Whole};
-use lk_types::{Entry, NoMemory, NodeNo, Position, RealBallot, Vote};
-use lk_wire::{Content, Message, NodeMessage, ReadFault, read, write};
+use lk_state::Machine;
+use lk_types::{NoMemory, NodeNo};
+use lk_wire::{Content, Message, NodeMessage, write};
 use std::alloc::Global;
 use std::marker::Model;
 use thiserror::Error;
@@ -26,32 +28,39 @@ use thiserror::Error;
 #[error("the node has halted")]
 pub struct Halted;
 
-/// A node in memory: who it is, its acceptor, and the state that it has executed.
+/// A node in memory: who it is, its acceptor, its learner and its leader, and the little that it remembers of time.
 #[derive(Drop)]
 pub struct Node<M: Machine> {
-    alloc: Global,
-    header: Header,
-    acceptor: Acceptor,
-    whole: Whole<M>,
-    halted: bool,
+    pub(crate) alloc: Global,
+    pub(crate) header: Header,
+    pub(crate) acceptor: Acceptor,
+    pub(crate) learner: Learner<M>,
+    pub(crate) leader: Leader,
+    pub(crate) ticks: TickCount,
+    pub(crate) rounds: SeenRound,
+    pub(crate) known: Option<NodeNo>,
+    pub(crate) halted: bool,
 }
 
 impl<M: Machine> Model for Node<M> {
     ghost use Rattle.lk_node.specs.NodeValue.{NodeValue};
+    ghost use Rattle.lk_node.specs.Promised.{HasPromised};
 
     ghost Value = { NodeValue };
 
-    ghost view = { λ n. record { header = n.header; acceptor = n.acceptor; whole = n.whole; halted = n.halted } };
+    ghost invariant = { λ n. HasPromised n.acceptor n.leader };
+
+    ghost view = { λ n. record { header = n.header; acceptor = n.acceptor; learner = n.learner; leader = n.leader; ticks = n.ticks; rounds = n.rounds; known = n.known; halted = n.halted } };
 }
 
 // The bytes by which a node of this header says so.
-fn spelled(alloc: Global, header: &Header, reply: NodeMessage) -> Result<Vec<u8>, NoMemory>
-    ensures bytes { IfOk result (λ bytes. bytes.items ≡ spelling (saying header.now reply)) }
-    ensures fits { IfOk result (λ bytes. IsMessage (saying header.now reply)) }
+pub fn spelled(alloc: Global, header: &Header, message: NodeMessage) -> Result<Vec<u8>, NoMemory>
+    ensures bytes { IfOk result (λ bytes. bytes.items ≡ spelling (saying header.now message)) }
+    ensures fits { IfOk result (λ bytes. IsMessage (saying header.now message)) }
 {
     let message = Message {
         cluster: header.genesis().cluster,
-        content: Content::Node(header.node(), reply),
+        content: Content::Node(header.node(), message),
     };
     let mut out = BytesMut::new(alloc);
     write(&message, &mut out)?;
@@ -59,7 +68,7 @@ fn spelled(alloc: Global, header: &Header, reply: NodeMessage) -> Result<Vec<u8>
 }
 
 // The port of a node by the window, or 0 where no set names it.
-fn port_in(roster: &Roster, node: NodeNo) -> u16
+pub fn port_in(roster: &Roster, node: NodeNo) -> u16
     ensures { result ≡ port_or_none (port_of node roster.now.sets) }
 {
     match roster.port_of(node) {
@@ -68,133 +77,53 @@ fn port_in(roster: &Roster, node: NodeNo) -> u16
     }
 }
 
-// The entry alone, if there is one.
-fn entries_in(alloc: Global, entry: Option<Entry>) -> Result<Vec<Entry>, NoMemory>
-    ensures { IfOk result (λ es. es.items ≡ entries_of entry) }
-{
-    let mut entries = Vec::new(alloc);
-    if let Some(entry) = entry {
-        entries.push(entry)?;
-    }
-    Ok(entries)
-}
-
 impl<M: Machine> Node<M> {
-    /// A node that holds this and has executed that.
-    pub fn new(alloc: Global, header: Header, acceptor: Acceptor, whole: Whole<M>) -> Node<M>
-        ensures { result ≡ record { header = header; acceptor = acceptor; whole = whole; halted = false } }
+    /// A node that holds this and has learned that. It has no term, and remembers nothing else.
+    pub fn new(alloc: Global, header: Header, acceptor: Acceptor, learner: Learner<M>) -> Node<M>
+        ensures { result ≡ record { header = header; acceptor = acceptor; learner = learner; leader = idle; ticks = 0; rounds = 0; known = None; halted = false } }
     {
         Node {
             alloc,
             header,
             acceptor,
-            whole,
+            learner,
+            leader: Leader::new(alloc),
+            ticks: TickCount::new(),
+            rounds: SeenRound::new(),
+            known: None,
             halted: false,
         }
     }
 
-    // The response's entry, and its reply to the node that asked.
-    fn reply(&self, from: NodeNo, response: Response) -> Result<Outbox, NoMemory>
-        ensures outbox { IfOk result (λ o. o ≡ reply_to self.now from response) }
-        ensures fits { IfOk result (λ o. IsMessage (saying self.now.header response.reply)) }
+    // The roster that stands once all executed commands are run.
+    pub(crate) fn roster(&self) -> &Roster
+        ensures { result.now ≡ self.now.learner.whole.roster }
     {
-        let Response { reply, entry } = response;
-        let sync = entry.is_some();
-        let to = To::Node(from, port_in(self.whole.roster(), from));
-        let bytes = spelled(self.alloc, &self.header, reply)?;
-        let mut letters = Vec::new(self.alloc);
-        letters.push(Letter { to, bytes })?;
-        Ok(Outbox {
-            entries: entries_in(self.alloc, entry)?,
-            sync,
-            notes: Vec::new(self.alloc),
-            letters,
-        })
+        self.learner.whole().roster()
     }
 
-    // Answers a Prepare.
-    fn prepare(
-        &mut self,
-        from: NodeNo,
-        ballot: RealBallot,
-        first: Position,
-    ) -> Result<Outbox, NoMemory>
-        ensures { IfOk result (λ o. Responds self.old from (AnswersPrepare self.old.acceptor self.old.whole.roster.executed ballot first) self.new o) }
+    // Says something to a node or a client.
+    pub(crate) fn say(&self, to: To, message: NodeMessage, out: &mut Outbox) -> Result<(), NoMemory>
+        ensures said { OnOk result (out.new ≡ with_letter (record { to = to; bytes = spelling (saying self.now.header message) }) out.old) }
+        ensures fits { OnOk result (IsMessage (saying self.now.header message)) }
     {
-        let response = self.acceptor.prepare(ballot, first, self.whole.executed())?;
-        self.reply(from, response)
+        let bytes = spelled(self.alloc, &self.header, message)?;
+        out.letters.push(Letter { to, bytes })?;
+        Ok(())
     }
 
-    // Answers an Accept.
-    fn accept(&mut self, from: NodeNo, vote: Vote) -> Result<Outbox, NoMemory>
-        ensures { IfOk result (λ o. Responds self.old from (AnswersAccept self.old.acceptor self.old.whole.roster.executed vote) self.new o) }
+    // Says something to a node, by the port that the window gives it.
+    pub(crate) fn tell(
+        &self,
+        node: NodeNo,
+        message: NodeMessage,
+        out: &mut Outbox,
+    ) -> Result<(), NoMemory>
+        ensures said { OnOk result (out.new ≡ with_letter (record { to = to_node self.now node; bytes = spelling (saying self.now.header message) }) out.old) }
+        ensures fits { OnOk result (IsMessage (saying self.now.header message)) }
     {
-        let response = self.acceptor.accept(vote, self.whole.executed())?;
-        self.reply(from, response)
-    }
-
-    // Does with a node's message what is to be done.
-    fn hear_node(&mut self, from: NodeNo, message: &NodeMessage) -> Result<Outbox, NoMemory>
-        ensures { IfOk result (λ o. HearsNode self.old from message.now self.new o) }
-    {
-        match message {
-            NodeMessage::Prepare(ballot, first) => self.prepare(from, *ballot, *first),
-            NodeMessage::Accept(vote) => self.accept(from, vote.copy()),
-            _ => Ok(Outbox::new(self.alloc)),
-        }
-    }
-
-    // Does with a message of the cluster what is to be done.
-    fn hear(&mut self, content: &Content) -> Result<Outbox, NoMemory>
-        ensures { IfOk result (λ o. Hears self.old content.now self.new o) }
-    {
-        match content {
-            Content::Request(_) => Ok(Outbox::new(self.alloc)),
-            Content::Node(from, message) => self.hear_node(*from, message),
-        }
-    }
-
-    // Does with any bytes what is to be done.
-    fn take_bytes(&mut self, bytes: &[u8]) -> Result<Outbox, NoMemory>
-        ensures { IfOk result (λ o. TakesBytes self.old bytes.now self.new o) }
-    {
-        let message = match read(self.alloc, bytes) {
-            Ok(message) => message,
-            Err(ReadFault::Bad) => return Ok(Outbox::new(self.alloc)),
-            Err(ReadFault::NoMemory) => return Err(NoMemory),
-        };
-        if message.cluster != self.header.genesis().cluster {
-            return Ok(Outbox::new(self.alloc));
-        }
-        self.hear(&message.content)
-    }
-
-    fn serve(&mut self, input: Input) -> Result<Outbox, NoMemory>
-        ensures { IfOk result (λ o. Steps self.old input.entry self.new o) }
-    {
-        match input {
-            Input::Tick => Ok(Outbox::new(self.alloc)),
-            Input::Datagram(bytes) => self.take_bytes(bytes),
-        }
-    }
-
-    /// Takes a tick or a datagram, and tells what is to be written, noted and sent, in that order.
-    ///
-    /// It refuses with `Halted` where memory is refused; after that each later call answers `Halted`.
-    pub fn step(&mut self, input: Input) -> Result<Outbox, Halted>
-        ensures steps { IfOk result (λ o. Steps self.old input.entry self.new o) }
-        ensures halts { OnErr result (self.new.halted ≡ true) }
-        ensures stays_halted { self.old.halted ≡ true → IsErr result × (self.new ≡ self.old) }
-    {
-        if self.halted {
-            return Err(Halted);
-        }
-        match self.serve(input) {
-            Ok(outbox) => Ok(outbox),
-            Err(NoMemory) => {
-                self.halted = true;
-                Err(Halted)
-            }
-        }
+        let to = To::Node(node, port_in(self.roster(), node));
+        self.say(to, message, out)?;
+        Ok(())
     }
 }

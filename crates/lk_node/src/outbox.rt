@@ -1,9 +1,10 @@
-ghost use Rattle.std.specs.Prelude.{◌≡◌};
-ghost use Rattle.lk_node.specs.Outboxes.{nothing};
+ghost use Rattle.std.specs.Prelude.{◌≡◌, OnOk};
+ghost use Rattle.lk_node.specs.Outboxes.{nothing, is_synced, with_entry, with_note};
+ghost use Rattle.lk_node.specs.Telling.{with_letters};
 
 use crate::letter::Letter;
 use crate::note::Note;
-use lk_types::Entry;
+use lk_types::{Entry, NoMemory};
 use std::alloc::Global;
 use std::marker::Model;
 
@@ -37,4 +38,41 @@ impl Outbox {
             letters: Vec::new(alloc),
         }
     }
+
+    // One more entry. A promise or a vote is synced, and with it all that is written.
+    pub(crate) fn write(&mut self, entry: Entry) -> Result<(), NoMemory>
+        ensures { OnOk result (self.new ≡ with_entry entry self.old) }
+    {
+        if is_synced(&entry) {
+            self.sync = true;
+        }
+        self.entries.push(entry)?;
+        Ok(())
+    }
+
+    // One more note.
+    pub(crate) fn note(&mut self, note: Note) -> Result<(), NoMemory>
+        ensures { OnOk result (self.new ≡ with_note note self.old) }
+    {
+        self.notes.push(note)?;
+        Ok(())
+    }
+}
+
+impl Outbox {
+    // These letters more.
+    pub(crate) fn post(&mut self, letters: Vec<Letter>) -> Result<(), NoMemory>
+        ensures { OnOk result (self.new ≡ with_letters letters.items self.old) }
+    {
+        let mut letters = letters;
+        self.letters.append(&mut letters)?;
+        Ok(())
+    }
+}
+
+// Whether an entry is synced before anything is sent.
+fn is_synced(entry: &Entry) -> bool
+    ensures { result ≡ is_synced entry.now }
+{
+    !matches!(entry, Entry::Decided(..))
 }

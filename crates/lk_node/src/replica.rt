@@ -30,9 +30,9 @@ use std::marker::Model;
 /// A node whose entries are on a device.
 #[derive(Drop)]
 pub struct Replica<M: Machine, D: LogDisk + Drop> {
-    node: Node<M>,
-    store: Store<D>,
-    failed: bool,
+    pub(crate) node: Node<M>,
+    pub(crate) store: Store<D>,
+    pub(crate) failed: bool,
 }
 
 impl<M: Machine, D: LogDisk + Drop> Model for Replica<M, D> {
@@ -69,8 +69,8 @@ impl<M: Machine, D: LogDisk + Drop> Replica<M, D> {
             → AllCover (meaning M.first M.next M.answer) genesis n (disks self.old.store) x → AllCover (meaning M.first M.next M.answer) genesis n (disks self.new.store) x }
         // At Ok it has put the outbox of its step, given its notes and sent its letters in order, and nothing else. Under
         // `Send` the letters whose send failed are lost.
-        ensures exact { D.is_honest → P.is_telling → IfOk result (λ notes. IsTaken self.old input.entry self.new notes.items (λ letters. P.sent post.new ≡ P.sent post.old ++ letters)) }
-        ensures exact_send { D.is_honest → P.is_telling → IfErr result (IfSend (λ notes. IsTaken self.old input.entry self.new notes (λ letters. SendsSome letters (P.sent post.old) (P.sent post.new)))) }
+        ensures exact { D.is_honest → P.is_telling → IfOk result (λ notes. IsTaken (meaning M.first M.next M.answer) self.old input.entry self.new notes.items (λ letters. P.sent post.new ≡ P.sent post.old ++ letters)) }
+        ensures exact_send { D.is_honest → P.is_telling → IfErr result (IfSend (λ notes. IsTaken (meaning M.first M.next M.answer) self.old input.entry self.new notes (λ letters. SendsSome letters (P.sent post.old) (P.sent post.new)))) }
         ensures sends_on { IfErr result (IfSend (λ notes. self.new.failed ≡ false)) }
         ensures broken { IfErr result (λ e. (fault_number e ≡ 15 → ⊥) → self.new.failed ≡ true) }
         // `Device` comes only where the device's count of failures rose, and `Send` only where the post's did, or it stood at 2^64 - 1.
@@ -130,7 +130,7 @@ impl<M: Machine, D: Trapped + Drop> Replica<M, D> {
     /// Sets the trap of the device, in place of one that is pending. It changes no disk.
     pub fn trap(&mut self, trap: Trap)
         ensures node { self.new.node ≡ self.old.node }
-        ensures disks { D.is_honest → (s : Side) → disks self.new.store s ≡ disks self.old.store s }
+        ensures store { D.is_honest → self.new.store ≡ self.old.store }
         ensures failures { self.new.store.failures ≡ self.old.store.failures }
         ensures failed { self.new.failed ≡ self.old.failed }
     {
@@ -153,7 +153,7 @@ fn write<M: Machine, D: LogDisk + Drop>(
         → IfOk result (λ o. (d : DatagramValue) → Contains (batch_of n o.letters) d → Spells (said_by genesis n x) d.bytes → AllCover (meaning M.first M.next M.answer) genesis n (disks store.new) x) }
     ensures covers { D.is_honest → (genesis : Genesis) (n : ℕ) (held : Holding) (x : NodeMessage) → Stands (meaning M.first M.next M.answer) node.old store.old genesis n held
         → AllCover (meaning M.first M.next M.answer) genesis n (disks store.old) x → AllCover (meaning M.first M.next M.answer) genesis n (disks store.new) x }
-    ensures steps { IfOk result (λ o. Steps node.old input.entry node.new o) }
+    ensures steps { IfOk result (λ o. Steps (meaning M.first M.next M.answer) node.old input.entry node.new o) }
     ensures puts { D.is_honest → IfOk result (λ o. Puts store.old o store.new) }
     ensures only { IfErr result (IfSend (λ notes. ⊥)) }
     ensures alive { OnOk result (store.new.failed ≡ false) }

@@ -1,12 +1,14 @@
-use Rattle.std.proofs.Common.{ℕ, ap, subst}
-use Rattle.lk_acceptor.specs.Answers.{AnswersAccept}
-use Rattle.lk_node.specs.NodeValue.{NodeValue, with_acceptor}
-use Rattle.lk_node.proofs.Responding.{responded}
+use Rattle.std.proofs.Common.{ap, sym, subst}
+use Rattle.lk_acceptor.specs.States.{IsOrdered}
+use Rattle.lk_acceptor.specs.AcceptorValue.{AcceptorValue}
+use Rattle.lk_node.specs.NodeValue.{NodeValue}
+use Rattle.lk_node.proofs.AcceptorRules.{accept_goes_on}
+use Rattle.lk_node.proofs.LevelRules.{seen_goes_on}
 use Rattle.lk_node.proofs.node.Node.accept.Goals as goal
 
-pub returns : goal.returns
-returns g c =
-    responded c.args.self.now _ c.args.from (AnswersAccept c.args.self.now.acceptor c.args.self.now.whole.roster.executed c.args.vote) c.in_ok-response.response c.accept.new.self c.reply.result
-    (subst (λ (k : NodeValue). AnswersAccept k.acceptor k.whole.roster.executed c.args.vote c.in_ok-response.response c.accept.new.self) c.self.view_is
-    (subst (λ (e : ℕ). AnswersAccept c.self.inside.acceptor e c.args.vote c.in_ok-response.response c.accept.new.self) c.executed.ensures c.in_ok-response.ensures.answer))
-    (ap (λ (k : NodeValue). with_acceptor k c.accept.new.self) c.self.view_is) c.reply.ensures.outbox c.reply.ensures.fits
+pub returns-clause-goes_on : goal.returns-clause-goes_on
+returns-clause-goes_on g c =
+    let acceptor = ap (λ (k : NodeValue). k.acceptor) c.see_round.ensures in
+    let ordered = subst (λ (k : NodeValue). IsOrdered k.acceptor.state) c.self.view_is c.facts.ensures.kept in
+    seen_goes_on _ _ c.get.result c.args.self.now c.see_round.new.self c.answer_accept.new.self c.in_ok-out.out c.see_round.ensures
+    (accept_goes_on _ c.see_round.new.self c.answer_accept.new.self c.args.from _ c.args.vote c.in_ok-out.out (subst (λ (a : AcceptorValue). IsOrdered a.state) (sym acceptor) ordered) c.in_ok-out.ensures)

@@ -97,7 +97,7 @@ returns-in-Ok-clause-exact g c honest telling =
     let letters : c.deref.result.now ≡ c.in_ok-outbox.outbox.letters = c.deref.ensures.value ∙ ap (λ (o : OutboxValue). o.letters) c.outbox.view_is in
     record {
       out = c.in_ok-outbox.outbox;
-      steps = subst (λ (r : ReplicaValue). Steps r.node c.args.input c.write.new.node c.in_ok-outbox.outbox) c.self.view_is c.in_ok-outbox.ensures.steps;
+      steps = subst (λ (r : ReplicaValue). Steps (meaning g.M.Machine.first g.M.Machine.next g.M.Machine.answer) r.node c.args.input c.write.new.node c.in_ok-outbox.outbox) c.self.view_is c.in_ok-outbox.ensures.steps;
       puts = subst (λ (r : ReplicaValue). Puts r.store c.in_ok-outbox.outbox c.write.new.store) c.self.view_is (c.in_ok-outbox.ensures.puts honest);
       noted = ap (λ (o : OutboxValue). o.notes) c.outbox.view_is;
       sent = c.in-Ok.ensures.all telling ∙ ap (λ (ls : List LetterValue). g.P.Post.sent c.args.post.now ++ ls) letters;
@@ -108,7 +108,7 @@ returns-clause-exact_send g c honest telling =
     let letters : c.deref.result.now ≡ c.in_ok-outbox.outbox.letters = c.deref.ensures.value ∙ ap (λ (o : OutboxValue). o.letters) c.outbox.view_is in
     record {
       out = c.in_ok-outbox.outbox;
-      steps = subst (λ (r : ReplicaValue). Steps r.node c.args.input c.write.new.node c.in_ok-outbox.outbox) c.self.view_is c.in_ok-outbox.ensures.steps;
+      steps = subst (λ (r : ReplicaValue). Steps (meaning g.M.Machine.first g.M.Machine.next g.M.Machine.answer) r.node c.args.input c.write.new.node c.in_ok-outbox.outbox) c.self.view_is c.in_ok-outbox.ensures.steps;
       puts = subst (λ (r : ReplicaValue). Puts r.store c.in_ok-outbox.outbox c.write.new.store) c.self.view_is (c.in_ok-outbox.ensures.puts honest);
       noted = ap (λ (o : OutboxValue). o.notes) c.outbox.view_is;
       sent = subst (λ (ls : List LetterValue). SendsSome ls (g.P.Post.sent c.args.post.now) (g.P.Post.sent c.deliver.new.post)) letters (c.in-Err.ensures.some telling);

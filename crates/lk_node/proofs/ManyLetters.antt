@@ -1,0 +1,61 @@
+-- Letters to several nodes, and a walk along nodes.
+use Rattle.std.proofs.Common.{◌≡◌, ℕ, Bool, List, [], ◌∷◌, ◌++◌, Some, None, map, refl, sym, ◌∙◌, ap, subst}
+use Rattle.lk_types.specs.declared.entry.Entry.{Entry}
+use Rattle.lk_wire.specs.Grammar.{IsMessage}
+use Rattle.lk_wire.specs.declared.message.NodeMessage.{NodeMessage}
+use Rattle.lk_history.specs.Acceptors.{Covers}
+use Rattle.lk_history.specs.Nodes.{MaySend}
+use Rattle.lk_members.specs.Ports.{IsNextAbove, AreAllAbove}
+use Rattle.lk_state.specs.Meanings.{Meaning}
+use Rattle.lk_node.specs.Histories.{History}
+use Rattle.lk_node.specs.Letters.{LetterValue}
+use Rattle.lk_node.specs.NodeValue.{NodeValue}
+use Rattle.lk_node.specs.Outboxes.{OutboxValue, with_letter}
+use Rattle.lk_node.specs.Saying.{saying, to_node}
+use Rattle.lk_node.specs.Served.{IsServed}
+use Rattle.lk_node.specs.Serving.{Serves, GoesOn}
+use Rattle.lk_node.specs.Telling.{letter_to, telling}
+use Rattle.lk_node.proofs.Serving.{rests_here, then_goes_on, says}
+
+letters_behind : (xs ys zs : List LetterValue) → (xs ++ ys) ++ zs ≡ xs ++ (ys ++ zs)
+letters_behind [] ys zs = refl
+letters_behind (x ∷ xs) ys zs = ap (λ (ls : List LetterValue). x ∷ ls) (letters_behind xs ys zs)
+
+no_letters : (xs : List LetterValue) → xs ++ [] ≡ xs
+no_letters [] = refl
+no_letters (x ∷ xs) = ap (λ (ls : List LetterValue). x ∷ ls) (no_letters xs)
+
+abbrev lettered : OutboxValue → List LetterValue → OutboxValue
+lettered out ls = record { entries = out.entries; sync = out.sync; notes = out.notes; letters = ls }
+
+-- letters to several nodes of a message that the node may send, and that its acceptor covers
+pub says_all : (m : Meaning) (Heard : History → Type 0) (node : NodeValue) (out : OutboxValue) (nodes : List ℕ) (message : NodeMessage) → IsMessage (saying node.header message) → Covers node.acceptor.state message
+    → ((o : OutboxValue) (h : History) (n : ℕ) (loose : List Entry) (s : Serves m h n loose node o) → Heard h → MaySend h.genesis h.sent s.holding.view message × IsServed m h message)
+    → GoesOn m Heard node node out (telling node nodes message out)
+says_all m Heard node out [] message fits covers may = subst (λ (ls : List LetterValue). GoesOn m Heard node node out (lettered out ls)) (sym (no_letters out.letters)) (rests_here m Heard node out)
+says_all m Heard node out (k ∷ nodes) message fits covers may =
+    subst (λ (ls : List LetterValue). GoesOn m Heard node node out (lettered out ls)) (letters_behind out.letters (letter_to node message k ∷ []) (map (letter_to node message) nodes))
+    (then_goes_on m Heard node node node out (with_letter (letter_to node message k) out) (telling node nodes message (with_letter (letter_to node message k) out))
+    (says m Heard node out (to_node node k) message fits covers (may out))
+    (says_all m Heard node (with_letter (letter_to node message k) out) nodes message fits covers may))
+
+-- ---- a walk along nodes
+
+numbers_behind : (xs ys zs : List ℕ) → (xs ++ ys) ++ zs ≡ xs ++ (ys ++ zs)
+numbers_behind [] ys zs = refl
+numbers_behind (x ∷ xs) ys zs = ap (λ (ls : List ℕ). x ∷ ls) (numbers_behind xs ys zs)
+
+-- what is walked from here on completes what was walked so far
+abbrev pub Completes : (ℕ → Bool) → ℕ → List ℕ → Type 0
+Completes is low front = (rest : List ℕ) → AreAllAbove is low rest → AreAllAbove is 0 (front ++ rest)
+
+pub walked_more : (is : ℕ → Bool) (low n : ℕ) (front more : List ℕ) → IsNextAbove is low (Some n) → Completes is low front → more ≡ front ++ n ∷ [] → Completes is n more
+walked_more is low n front more next so_far e = λ rest all.
+    subst (AreAllAbove is 0) (sym (numbers_behind front (n ∷ []) rest) ∙ ap (λ (ns : List ℕ). ns ++ rest) (sym e)) (so_far (n ∷ rest) (next, all))
+
+nothing_behind : (xs : List ℕ) → xs ++ [] ≡ xs
+nothing_behind [] = refl
+nothing_behind (x ∷ xs) = ap (λ (ls : List ℕ). x ∷ ls) (nothing_behind xs)
+
+pub walked_all : (is : ℕ → Bool) (low : ℕ) (front : List ℕ) → IsNextAbove is low None → Completes is low front → AreAllAbove is 0 front
+walked_all is low front none so_far = subst (AreAllAbove is 0) (nothing_behind front) (so_far [] none)

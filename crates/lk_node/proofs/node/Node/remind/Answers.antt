@@ -1,0 +1,20 @@
+use Rattle.std.proofs.Common.{◌≡◌, sym, subst}
+use Rattle.lk_state.specs.Meanings.{Meaning, meaning}
+use Rattle.lk_node.specs.Histories.{History}
+use Rattle.lk_node.specs.NodeValue.{NodeValue}
+use Rattle.lk_node.specs.Outboxes.{OutboxValue, nothing}
+use Rattle.lk_node.specs.Serving.{GoesOn}
+use Rattle.lk_node.proofs.Serving.{then_goes_on}
+use Rattle.lk_node.proofs.node.Node.remind.Goals as goal
+
+pub returns-clause-goes_on : goal.returns-clause-goes_on
+returns-clause-goes_on g c =
+    let m : Meaning = meaning g.M.Machine.first g.M.Machine.next g.M.Machine.answer in
+    let Any : History → Type 0 = λ h. Unit {0} in
+    then_goes_on m Any c.args.self.now c.propose.new.self c.propose.new.self nothing c.propose.new.out c.tell_lead.new.out
+    (then_goes_on m Any c.args.self.now c.args.self.now c.propose.new.self nothing c.offer_all.new.out c.propose.new.out
+    (then_goes_on m Any c.args.self.now c.args.self.now c.args.self.now nothing c.ask_again.new.out c.offer_all.new.out
+    (subst (λ (o : OutboxValue). GoesOn m Any c.args.self.now c.args.self.now o c.ask_again.new.out) c.new-out.ensures c.in_ok-ask_again.ensures.goes_on)
+    c.in_ok-offer_all.ensures.goes_on)
+    c.in_ok-propose.ensures.goes_on)
+    c.in_ok-tell_lead.ensures.goes_on

@@ -1,0 +1,11 @@
+-- The nodes so far, and so many numbers at most are left.
+use Rattle.std.proofs.Common.{ℕ, ◌-◌, ◌≤◌}
+use Rattle.lk_members.specs.Ports.{is_named}
+use Rattle.lk_node.proofs.ManyLetters.{Completes}
+use Rattle.lk_node.proofs.node.Node.window_nodes.Given as goal
+
+abbrev pub invariant-walk : goal.invariant-walk
+invariant-walk g l = (l.low ≤ 2147483648) × Completes (λ k. is_named k l.self.learner.whole.roster.sets) l.low l.nodes.items
+
+abbrev pub decreases-walk : goal.decreases-walk
+decreases-walk g l = 2147483648 - l.low

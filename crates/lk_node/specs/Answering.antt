@@ -1,0 +1,37 @@
+-- What a node answers as an acceptor.
+use Rattle.std.specs.Prelude.{◌≡◌, ℕ, Bool, true, false, List, [], ◌∷◌, Option, Some, None, if◌then◌else◌}
+use Rattle.lk_types.specs.declared.entry.Entry.{Entry}
+use Rattle.lk_wire.specs.Grammar.{spelling, IsMessage}
+use Rattle.lk_wire.specs.declared.message.NodeMessage.{NodeMessage}
+use Rattle.lk_wire.specs.declared.message.NodeMessage.TheVariants as kinds
+use Rattle.lk_acceptor.specs.AcceptorValue.{AcceptorValue}
+use Rattle.lk_acceptor.specs.declared.response.Response.{Response}
+use Rattle.lk_node.specs.NodeValue.{NodeValue}
+use Rattle.lk_node.specs.Outboxes.{OutboxValue, nothing, with_letter, with_optional}
+use Rattle.lk_node.specs.Saying.{saying, to_node}
+use Rattle.lk_node.specs.Yielding.{yielded}
+
+abbrev pub with_acceptor : NodeValue → AcceptorValue → NodeValue
+with_acceptor node a = record node { acceptor = a }
+
+-- a reply of an acceptor that is no refusal
+abbrev pub is_granted : NodeMessage → Bool
+is_granted (kinds.Nack k) = false
+is_granted _ = true
+
+-- a leader was heard where the reply grants, and the term ends where the promised ballot is above it
+abbrev pub replied : NodeMessage → NodeValue → NodeValue
+replied reply node = yielded node.acceptor.state.promised (if is_granted reply then record node { ticks = 0 } else node)
+
+-- the response's entry is written, and its reply goes to the node that asked
+abbrev pub reply_to : NodeValue → ℕ → Response → OutboxValue
+reply_to node from r = with_letter (record { to = to_node node from; bytes = spelling (saying node.header r.reply) }) (with_optional r.entry nothing)
+
+-- the node's acceptor answers so, by a reply that fits into a datagram
+pub record Responds (old : NodeValue) (from : ℕ) (Answer : Response → AcceptorValue → Type 0) (new : NodeValue) (out : OutboxValue) : Type 0 where
+  pub response : Response
+  pub acceptor : AcceptorValue
+  pub answers : Answer response acceptor
+  pub becomes : new ≡ replied response.reply (with_acceptor old acceptor)
+  pub fits : IsMessage (saying old.header response.reply)
+  pub comes_to : out ≡ reply_to old from response

@@ -1,0 +1,43 @@
+-- When a node begins a ballot, and what becomes of it.
+use Rattle.std.specs.Prelude.{◌≡◌, ◌⊎◌, ℕ, ◌+◌, nat_lt, if◌then◌else◌, List}
+use Rattle.lk_types.specs.BallotValue.{BallotValue}
+use Rattle.lk_types.specs.Limits.{max_count}
+use Rattle.lk_types.specs.declared.entry.Entry.TheVariants.{Promise}
+use Rattle.lk_wire.specs.Grammar.{IsMessage}
+use Rattle.lk_wire.specs.declared.message.NodeMessage.TheVariants as kinds
+use Rattle.lk_history.specs.Changes.{with_promise}
+use Rattle.lk_acceptor.specs.States.{with_state}
+use Rattle.lk_leader.specs.Terms.{begun, with_term}
+use Rattle.lk_learner.specs.Learners.{executed}
+use Rattle.lk_node.specs.NodeValue.{NodeValue}
+use Rattle.lk_node.specs.Outboxes.{OutboxValue, nothing, with_entry}
+use Rattle.lk_node.specs.Saying.{saying}
+use Rattle.lk_node.specs.Telling.{AreWindowNodes, telling}
+
+-- ---- the ballot
+
+-- the greatest round of the promised ballot and of those that were seen
+abbrev pub greatest_round : NodeValue → ℕ
+greatest_round node = if nat_lt node.acceptor.state.promised.round node.rounds then node.rounds else node.acceptor.state.promised.round
+
+-- the next ballot of the node: its round is above all these
+abbrev pub next_ballot : NodeValue → BallotValue
+next_ballot node = record { round = greatest_round node + 1; node = node.header.node }
+
+-- the node once it has begun the ballot: its acceptor has promised it, and its leader has a term of it
+abbrev pub beginning : BallotValue → NodeValue → NodeValue
+beginning b node = record node { acceptor = with_state node.acceptor (with_promise node.acceptor.state b); leader = with_term (begun b) node.leader }
+
+-- behind the promise these nodes are asked for theirs, from the next position on, where there is one
+abbrev pub AsksPromises : BallotValue → List ℕ → NodeValue → OutboxValue → Type 0
+AsksPromises b nodes old out =
+    (IsMessage (saying old.header (kinds.Prepare b (executed old.learner + 1))) × (out ≡ telling (beginning b old) nodes (kinds.Prepare b (executed old.learner + 1)) (with_entry (Promise b) nothing)))
+    ⊎ ((executed old.learner ≡ max_count) × (out ≡ with_entry (Promise b) nothing))
+
+-- The node begins the ballot: its promise is written, and the nodes of the window are asked for theirs from the next position
+-- on, where there is one.
+pub record Begins (b : BallotValue) (old new : NodeValue) (out : OutboxValue) : Type 0 where
+  pub becomes : new ≡ beginning b old
+  pub nodes : List ℕ
+  pub all : AreWindowNodes old nodes
+  pub asks : AsksPromises b nodes old out

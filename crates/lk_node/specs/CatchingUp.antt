@@ -1,0 +1,63 @@
+-- What a node does for one that has executed less, and asks of one that has executed more.
+use Rattle.std.specs.Prelude.{◌≡◌, ◌⊎◌, ℕ, ◌+◌, ◌<◌, ◌≤◌, true, false, Some}
+use Rattle.lk_types.specs.BallotValue.{BallotValue}
+use Rattle.lk_types.specs.Ballots.{is_below}
+use Rattle.lk_types.specs.Limits.{max_count}
+use Rattle.lk_wire.specs.Values.{WantValue}
+use Rattle.lk_wire.specs.declared.message.Nack.{Nack}
+use Rattle.lk_wire.specs.declared.message.NodeMessage.TheVariants as kinds
+use Rattle.lk_learner.specs.Learners.{executed, IsServed, news_from, wanted}
+use Rattle.lk_node.specs.NodeValue.{NodeValue}
+use Rattle.lk_node.specs.Outboxes.{OutboxValue, nothing}
+use Rattle.lk_node.specs.Replying.{SaysAlone}
+use Rattle.lk_node.specs.Saying.{to_node}
+use Rattle.lk_node.specs.Yielding.{seeing}
+
+-- the other node is sent what is served from the position on, where anything is
+abbrev pub Feeds : NodeValue → ℕ → ℕ → OutboxValue → Type 0
+Feeds node other first out =
+    (IsServed node.learner first × SaysAlone node (to_node node other) (kinds.Decided (news_from first node.learner)) out)
+    ⊎ ((IsServed node.learner first → ⊥) × (out ≡ nothing))
+
+-- a node wants commands from a position on
+abbrev pub HearsWant : NodeValue → ℕ → WantValue → NodeValue → OutboxValue → Type 0
+HearsWant old from want new out = (new ≡ old) × Feeds old from want.first out
+
+-- the other node is asked for what stands behind the executed positions, where these are not all 2^48
+abbrev pub AsksOn : NodeValue → ℕ → OutboxValue → Type 0
+AsksOn node other out =
+    ((executed node.learner < max_count) × SaysAlone node (to_node node other) (kinds.Want (wanted node.learner)) out)
+    ⊎ ((executed node.learner ≡ max_count) × (out ≡ nothing))
+
+-- ---- a refusal
+
+-- the other node has executed so many positions: it is asked where these are more, and fed from there where they are fewer
+abbrev pub Levels : NodeValue → ℕ → ℕ → OutboxValue → Type 0
+Levels node other theirs out =
+    ((executed node.learner < theirs) × AsksOn node other out)
+    ⊎ ((theirs < executed node.learner) × Feeds node other (theirs + 1) out)
+    ⊎ ((theirs ≡ executed node.learner) × (out ≡ nothing))
+
+-- both ballots are seen
+abbrev pub HearsNack : NodeValue → ℕ → Nack → NodeValue → OutboxValue → Type 0
+HearsNack old from nack new out = (new ≡ seeing nack.promised (seeing nack.ballot old)) × Levels old from nack.executed out
+
+-- ---- a leader's notice
+
+-- the ballot's node is the known leader, and ticks count from the start
+abbrev pub following : BallotValue → NodeValue → NodeValue
+following b node = record node { ticks = 0; known = Some b.node }
+
+-- the other node is asked where it has executed more
+abbrev pub AsksWhereMore : NodeValue → ℕ → ℕ → OutboxValue → Type 0
+AsksWhereMore node other theirs out = ((executed node.learner < theirs) × AsksOn node other out) ⊎ ((theirs ≤ executed node.learner) × (out ≡ nothing))
+
+-- what a smaller ballot is told: the promised one, and how many positions are executed
+abbrev pub refusal : BallotValue → NodeValue → Nack
+refusal b node = record { ballot = b; promised = node.acceptor.state.promised; executed = executed node.learner }
+
+-- A notice of a ballot below the promised one is refused. Any other is followed. Its ballot is seen in either case.
+abbrev pub HearsLead : NodeValue → ℕ → BallotValue → ℕ → NodeValue → OutboxValue → Type 0
+HearsLead old from b theirs new out =
+    ((is_below b old.acceptor.state.promised ≡ true) × (new ≡ seeing b old) × SaysAlone old (to_node old from) (kinds.Nack (refusal b old)) out)
+    ⊎ ((is_below b old.acceptor.state.promised ≡ false) × (new ≡ following b (seeing b old)) × AsksWhereMore old from theirs out)

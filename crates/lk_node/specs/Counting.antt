@@ -1,0 +1,77 @@
+-- What a node does with a vote that it hears.
+use Rattle.std.specs.Prelude.{◌≡◌, ◌⊎◌, ℕ, Option, Some, None, List, [], ◌∷◌, map}
+use Rattle.lk_types.specs.declared.member.Member.{Member}
+use Rattle.lk_types.specs.declared.vote.Vote.{Vote}
+use Rattle.lk_wire.specs.Grammar.{IsMessage}
+use Rattle.lk_wire.specs.declared.message.NodeMessage.{NodeMessage}
+use Rattle.lk_wire.specs.declared.message.NodeMessage.TheVariants as kinds
+use Rattle.lk_state.specs.Meanings.{Meaning}
+use Rattle.lk_leader.specs.Counting.{IsVoteFor, heard_at, BecomesCounted}
+use Rattle.lk_leader.specs.Terms.{TermValue, ProposalValue, with_term, with_proposals}
+use Rattle.lk_learner.specs.Learners.{Pair}
+use Rattle.lk_node.specs.Executing.{RunsAll}
+use Rattle.lk_node.specs.Learning.{Learns}
+use Rattle.lk_node.specs.Letters.{LetterValue}
+use Rattle.lk_node.specs.NodeValue.{NodeValue}
+use Rattle.lk_node.specs.Outboxes.{OutboxValue, nothing, with_note}
+use Rattle.lk_node.specs.Saying.{saying}
+use Rattle.lk_node.specs.Telling.{AreOthers, letter_to, with_letters}
+use Rattle.lk_node.specs.declared.note.Note.TheVariants as note
+
+-- ---- the vote
+
+-- the vote is for what the leader's term has proposed, in its ballot, at a position of the window
+pub record IsForProposal (node : NodeValue) (x : Vote) : Type 0 where
+  pub term : TermValue
+  pub current : node.leader.term ≡ Some term
+  pub set : List Member
+  pub proposal : ProposalValue
+  pub vote : IsVoteFor term node.learner.whole.roster x.ballot x.position x.command set proposal
+
+-- the node once it has heard that this one cast it
+abbrev pub with_vote : (from : ℕ) (x : Vote) (node : NodeValue) → IsForProposal node x → NodeValue
+with_vote from x node k = record node { leader = with_term (with_proposals (heard_at k.set from x.position k.term.proposals) k.term) node.leader }
+
+-- by that a majority of the position's members has accepted the proposal, and had not before
+abbrev pub IsCountedBy : (from : ℕ) (x : Vote) (node : NodeValue) → IsForProposal node x → Type 0
+IsCountedBy from x node k = BecomesCounted k.set from k.proposal
+
+-- the vote is heard, by which no majority comes about: it is kept, or nothing changes where it is for no proposal
+abbrev pub IsOnlyHeard : ℕ → Vote → NodeValue → NodeValue → Type 0
+IsOnlyHeard from x old new = ((k : IsForProposal old x) × (IsCountedBy from x old k → ⊥) × (new ≡ with_vote from x old k)) ⊎ ((IsForProposal old x → ⊥) × (new ≡ old))
+
+-- the vote is heard, and the members of its position are given where by that a majority of them has accepted
+abbrev pub HearsVote : ℕ → Vote → NodeValue → NodeValue → Option (List Member) → Type 0
+HearsVote from x old new None = IsOnlyHeard from x old new
+HearsVote from x old new (Some set) = (k : IsForProposal old x) × IsCountedBy from x old k × (k.set ≡ set) × (new ≡ with_vote from x old k)
+
+-- ---- what is counted
+
+-- that the pair is decided
+abbrev pub news_of : Pair → NodeMessage
+news_of p = kinds.Decided (record { first = p.0; commands = p.1 ∷ [] })
+
+-- letters to the window's other nodes that tell them of the pair
+pub record AreNews (node : NodeValue) (p : Pair) (letters : List LetterValue) : Type 0 where
+  pub nodes : List ℕ
+  pub others : AreOthers node nodes
+  pub fits : IsMessage (saying node.header (news_of p))
+  pub comes_to : letters ≡ map (letter_to node (news_of p)) nodes
+
+-- The pair is counted, by a majority of this set: that is noted, the pair is learned, all that can be is executed, and the
+-- other nodes of the window, as it was in front of that, are told.
+pub record Counts (m : Meaning) (set : List Member) (p : Pair) (old : NodeValue) (before : OutboxValue) (new : NodeValue) (behind : OutboxValue) : Type 0 where
+  pub learned : NodeValue
+  pub written : OutboxValue
+  pub learns : Learns p old (with_note (note.Counted old.header.node p.0 set p.1) before) learned written
+  pub ran : OutboxValue
+  pub runs : RunsAll m learned written new ran
+  pub letters : List LetterValue
+  pub news : AreNews old p letters
+  pub comes_to : behind ≡ with_letters letters ran
+
+-- a node was heard to accept: where by that a majority has, the pair is counted, and else nothing comes of it
+abbrev pub HearsAccepted : Meaning → ℕ → Vote → NodeValue → NodeValue → OutboxValue → Type 0
+HearsAccepted m from x old new out =
+    ((k : IsForProposal old x) × IsCountedBy from x old k × Counts m k.set (x.position, x.command) (with_vote from x old k) nothing new out)
+    ⊎ (IsOnlyHeard from x old new × (out ≡ nothing))

@@ -1,0 +1,21 @@
+-- What a node does with decided pairs that it is told.
+use Rattle.std.specs.Prelude.{◌≡◌, ℕ, ◌+◌, Some, List, slice_get}
+use Rattle.lk_state.specs.Meanings.{Meaning}
+use Rattle.lk_learner.specs.Learners.{Command, Pair}
+use Rattle.lk_node.specs.Executing.{RunsAll}
+use Rattle.lk_node.specs.Learning.{Learns}
+use Rattle.lk_node.specs.NodeValue.{NodeValue}
+use Rattle.lk_node.specs.Outboxes.{OutboxValue}
+
+-- a pair is learned, and then all that can be is executed
+pub record TakesPair (m : Meaning) (p : Pair) (old : NodeValue) (before : OutboxValue) (new : NodeValue) (behind : OutboxValue) : Type 0 where
+  pub learned : NodeValue
+  pub written : OutboxValue
+  pub learns : Learns p old before learned written
+  pub runs : RunsAll m learned written new behind
+
+-- so many of the commands are taken in order, the first as that of this position
+pub data TakesPairs (m : Meaning) (first : ℕ) (commands : List Command) (old : NodeValue) (before : OutboxValue) : ℕ → NodeValue → OutboxValue → Type 0 where
+  none_yet : TakesPairs m first commands old before 0 old before
+  one_more : {k : ℕ} {mid new : NodeValue} {between behind : OutboxValue} (v : Command) → TakesPairs m first commands old before k mid between → slice_get commands k ≡ Some v
+      → TakesPair m (first + k, v) mid between new behind → TakesPairs m first commands old before (k + 1) new behind

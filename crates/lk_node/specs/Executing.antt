@@ -1,0 +1,109 @@
+-- What a node executes, and which clients it answers by that.
+use Rattle.std.specs.Prelude.{◌≡◌, ℕ, Bool, true, false, not, nat_lt, ◌&&◌, ◌+◌, if◌then◌else◌, Option, Some, None}
+use Rattle.lk_types.specs.declared.answer.Answer.{Answer}
+use Rattle.lk_wire.specs.Grammar.{spelling, IsMessage}
+use Rattle.lk_wire.specs.declared.message.NodeMessage.{NodeMessage}
+use Rattle.lk_wire.specs.declared.message.NodeMessage.TheVariants as kinds
+use Rattle.lk_members.specs.Counting.{Command, Noop, Request}
+use Rattle.lk_members.specs.Ports.{is_named}
+use Rattle.lk_log.specs.Values.{HeaderValue}
+use Rattle.lk_state.specs.Meanings.{Meaning}
+use Rattle.lk_state.specs.Runs.{run_answer}
+use Rattle.lk_state.specs.declared.session.Session.{Session}
+use Rattle.lk_state.specs.declared.whole.Ran.{Ran}
+use Rattle.lk_leader.specs.Terms.{TermValue}
+use Rattle.lk_leader.specs.Waits.{waiting_of, number_up_to, left_by}
+use Rattle.lk_learner.specs.Learners.{executed, IsNext, advanced}
+use Rattle.lk_node.specs.Learning.{with_learner}
+use Rattle.lk_node.specs.NodeValue.{NodeValue}
+use Rattle.lk_node.specs.Outboxes.{OutboxValue, with_letter, with_note}
+use Rattle.lk_node.specs.Saying.{saying}
+use Rattle.lk_node.specs.Yielding.{without_term}
+use Rattle.lk_node.specs.declared.note.Note.TheVariants as note
+use Rattle.lk_node.specs.declared.to.To.TheVariants as to
+
+-- ---- the clients
+
+-- what the waiting request of this number is told, once the session's was executed: where it is that one its answer, where
+-- it is smaller the number that passed it
+abbrev pub told : Session → ℕ → NodeMessage
+told s number =
+    if nat_lt number s.number then kinds.Passed (record { client = s.client; number = number; last = s.number })
+    else kinds.Answer (record { client = s.client; number = number; answer = s.answer })
+
+-- the number of the client's waiting request, where it is at most the session's
+abbrev pub waiting_number : Session → NodeValue → Option ℕ
+waiting_number s node = number_up_to s.number (waiting_of s.client node.leader.waiting)
+
+-- with a letter to the client, where its request of this number waits
+abbrev pub with_told : HeaderValue → Session → Option ℕ → OutboxValue → OutboxValue
+with_told whose s None out = out
+with_told whose s (Some number) out = with_letter (record { to = to.Client s.client; bytes = spelling (saying whose (told s number)) }) out
+
+-- the client's requests up to the session's wait no longer
+abbrev pub settled : Session → NodeValue → NodeValue
+settled s node = record node { leader = record { term = node.leader.term; waiting = left_by s.client s.number node.leader.waiting } }
+
+-- a session has become the client's last: its waiting request, where the session has reached it, is answered or passed, and
+-- waits no longer
+pub record Settles (s : Session) (old : NodeValue) (before : OutboxValue) (new : NodeValue) (behind : OutboxValue) : Type 0 where
+  pub becomes : new ≡ settled s old
+  pub comes_to : behind ≡ with_told old.header s (waiting_number s old) before
+  pub fits : (number : ℕ) → waiting_number s old ≡ Some number → IsMessage (saying old.header (told s number))
+
+-- the session, if one came, is settled, and else nothing changes
+abbrev pub SettlesAny : Option Session → NodeValue → OutboxValue → NodeValue → OutboxValue → Type 0
+SettlesAny None old before new behind = (new ≡ old) × (behind ≡ before)
+SettlesAny (Some s) old before new behind = Settles s old before new behind
+
+-- ---- one execution
+
+-- the session that a command leaves which was answered so, where it counted
+abbrev pub session_by : Command → Option Answer → Option Session
+session_by Noop answer = None
+session_by (Request r) None = None
+session_by (Request r) (Some answer) = Some (record { client = r.client; number = r.number; answer = answer })
+
+-- the command of the next position, if it is kept, has run, and was answered so
+abbrev pub RunsNext : Meaning → NodeValue → NodeValue → Option (Command × Ran) → Type 0
+RunsNext m old new None = ((v : Command) → IsNext old.learner v → ⊥) × (new ≡ old)
+RunsNext m old new (Some (v, ran)) =
+    IsNext old.learner v × (new ≡ with_learner old (advanced m v old.learner)) × (ran ≡ record { position = executed old.learner + 1; answer = run_answer m v old.learner.whole })
+
+abbrev pub has_term : Option TermValue → Bool
+has_term None = false
+has_term (Some t) = true
+
+-- there is a term, and no set of the window names the node
+abbrev pub is_outside : NodeValue → Bool
+is_outside node = has_term node.leader.term && not (is_named node.header.node node.learner.whole.roster.sets)
+
+-- the node, its term ended where no set of the window names it
+abbrev pub while_named : NodeValue → NodeValue
+while_named node = if is_outside node then without_term node else node
+
+-- The command of the next position is executed and noted, a request of its client that waits is told of it, and where the
+-- node is in no set of the window any more its term ends.
+pub record Executes (m : Meaning) (old : NodeValue) (before : OutboxValue) (new : NodeValue) (behind : OutboxValue) : Type 0 where
+  pub command : Command
+  pub next : IsNext old.learner command
+  pub mid : NodeValue
+  pub settles : SettlesAny (session_by command (run_answer m command old.learner.whole)) (with_learner old (advanced m command old.learner))
+      (with_note (note.Ran old.header.node (executed old.learner + 1) command) before) mid behind
+  pub becomes : new ≡ while_named mid
+
+-- the command of the next position is executed, or there is none and nothing changes
+abbrev pub ExecutesOne : Meaning → Bool → NodeValue → OutboxValue → NodeValue → OutboxValue → Type 0
+ExecutesOne m true old before new behind = Executes m old before new behind
+ExecutesOne m false old before new behind = ((v : Command) → IsNext old.learner v → ⊥) × (new ≡ old) × (behind ≡ before)
+
+-- ---- any number of them
+
+-- one execution behind another
+pub data Runs (m : Meaning) (old : NodeValue) (before : OutboxValue) : NodeValue → OutboxValue → Type 0 where
+  stays : Runs m old before old before
+  goes_on : {mid new : NodeValue} {between behind : OutboxValue} → Runs m old before mid between → Executes m mid between new behind → Runs m old before new behind
+
+-- as many as there can be: then the command of the next position is not kept
+abbrev pub RunsAll : Meaning → NodeValue → OutboxValue → NodeValue → OutboxValue → Type 0
+RunsAll m old before new behind = Runs m old before new behind × ((v : Command) → IsNext new.learner v → ⊥)

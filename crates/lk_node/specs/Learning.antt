@@ -1,0 +1,15 @@
+-- What a node learns of the list.
+use Rattle.std.specs.Prelude.{◌≡◌, ◌⊎◌}
+use Rattle.lk_types.specs.declared.entry.Entry.TheVariants.{Decided}
+use Rattle.lk_learner.specs.Learners.{Pair, LearnerValue, IsWanted, keeping}
+use Rattle.lk_node.specs.NodeValue.{NodeValue}
+use Rattle.lk_node.specs.Outboxes.{OutboxValue, with_entry}
+
+abbrev pub with_learner : NodeValue → LearnerValue → NodeValue
+with_learner node l = record node { learner = l }
+
+-- a decided pair that is wanted is kept, and an entry tells of it; any other changes nothing
+abbrev pub Learns : Pair → NodeValue → OutboxValue → NodeValue → OutboxValue → Type 0
+Learns p old before new behind =
+    (IsWanted old.learner p.0 × (new ≡ with_learner old (keeping p old.learner)) × (behind ≡ with_entry (Decided p.0 p.1) before))
+    ⊎ ((IsWanted old.learner p.0 → ⊥) × (new ≡ old) × (behind ≡ before))

@@ -1,0 +1,82 @@
+-- What a node with a term tells again as time passes.
+use Rattle.std.specs.Prelude.{◌≡◌, ◌⊎◌, ℕ, ◌+◌, Bool, true, false, not, Option, Some, None, List, filter, Contains}
+use Rattle.lk_types.specs.BallotValue.{BallotValue}
+use Rattle.lk_types.specs.Limits.{max_count}
+use Rattle.lk_types.specs.declared.vote.Vote.{Vote}
+use Rattle.lk_wire.specs.Grammar.{IsMessage}
+use Rattle.lk_wire.specs.declared.message.NodeMessage.{NodeMessage}
+use Rattle.lk_wire.specs.declared.message.NodeMessage.TheVariants as kinds
+use Rattle.lk_leader.specs.Counting.{IsOpen}
+use Rattle.lk_leader.specs.Terms.{ProposalValue, TermValue, LeaderValue, has_promised}
+use Rattle.lk_learner.specs.Learners.{executed}
+use Rattle.lk_node.specs.NodeValue.{NodeValue}
+use Rattle.lk_node.specs.Leading.{ProposesOpen}
+use Rattle.lk_node.specs.Outboxes.{OutboxValue, nothing}
+use Rattle.lk_node.specs.Waiting.{ticked, BeginsWhereDue}
+use Rattle.lk_node.specs.Saying.{saying}
+use Rattle.lk_node.specs.Telling.{AreWindowNodes, AreOthers, telling}
+
+-- the leader has a term of this ballot
+abbrev pub IsTermOf : BallotValue → LeaderValue → Type 0
+IsTermOf b leader = (k : TermValue) × (leader.term ≡ Some k) × (k.ballot ≡ b)
+
+-- these are told so, in a message that fits into a datagram
+abbrev pub TellsThese : NodeValue → List ℕ → NodeMessage → OutboxValue → OutboxValue → Type 0
+TellsThese node nodes message before out = IsMessage (saying node.header message) × (out ≡ telling node nodes message before)
+
+-- ---- the promises
+
+-- the term, if any, keeps a promise of the node
+abbrev pub keeps_promise : Option TermValue → ℕ → Bool
+keeps_promise None k = false
+keeps_promise (Some t) k = has_promised k t.reports
+
+-- the nodes of the window of which the term keeps no promise, in rising order
+abbrev pub AreSilent : NodeValue → List ℕ → Type 0
+AreSilent node ns = (all : List ℕ) × AreWindowNodes node all × (ns ≡ filter (λ k. not (keeps_promise node.leader.term k)) all)
+
+-- they are asked again from the next position on, where there is one
+abbrev pub AsksAgain : NodeValue → BallotValue → OutboxValue → OutboxValue → Type 0
+AsksAgain node b before out =
+    ((nodes : List ℕ) × AreSilent node nodes × TellsThese node nodes (kinds.Prepare b (executed node.learner + 1)) before out)
+    ⊎ ((executed node.learner ≡ max_count) × (out ≡ before))
+
+-- ---- the proposals
+
+abbrev pub vote_for : BallotValue → ℕ → ProposalValue → Vote
+vote_for b i p = record { position = i; ballot = b; command = p.command }
+
+-- what is open at the position is told again
+abbrev pub OffersAgain : NodeValue → BallotValue → ℕ → OutboxValue → OutboxValue → Type 0
+OffersAgain node b i before out =
+    ((p : ProposalValue) × IsOpen node.leader node.learner.whole.roster i p × (nodes : List ℕ) × TellsThese node nodes (kinds.Accept (vote_for b i p)) before out)
+    ⊎ (((p : ProposalValue) → IsOpen node.leader node.learner.whole.roster i p → ⊥) × (out ≡ before))
+
+-- so at some positions, one after another
+pub data OffersSome (node : NodeValue) (b : BallotValue) (before : OutboxValue) : OutboxValue → Type 0 where
+  none_yet : OffersSome node b before before
+  one_more : {mid out : OutboxValue} (i : ℕ) → OffersSome node b before mid → OffersAgain node b i mid out → OffersSome node b before out
+
+-- ---- the notice
+
+-- the other nodes of the window are told who leads, and how far it has executed
+abbrev pub TellsLead : NodeValue → BallotValue → OutboxValue → OutboxValue → Type 0
+TellsLead node b before out = (nodes : List ℕ) × AreOthers node nodes × TellsThese node nodes (kinds.Lead b (executed node.learner)) before out
+
+-- ---- a tick in a term
+
+-- Who has not promised is asked again, what is open is told again, what can be proposed is, and the others are told who leads.
+pub record Reminds (b : BallotValue) (old new : NodeValue) (out : OutboxValue) : Type 0 where
+  pub asked : OutboxValue
+  pub asks : AsksAgain old b nothing asked
+  pub offered : OutboxValue
+  pub offers : OffersSome old b asked offered
+  pub proposed : OutboxValue
+  pub proposes : ProposesOpen old new offered proposed
+  pub leads : TellsLead new b proposed out
+
+-- what a tick comes to: with a term the node reminds the others of it, without one it waits for a leader
+abbrev pub Ticks : NodeValue → NodeValue → OutboxValue → Type 0
+Ticks old new out =
+    ((b : BallotValue) × IsTermOf b old.leader × Reminds b old new out)
+    ⊎ ((old.leader.term ≡ None) × BeginsWhereDue (ticked old) new out)

@@ -1,0 +1,61 @@
+-- What a part of a step does, as far as safety goes.
+use Rattle.std.specs.Prelude.{◌≡◌, ℕ, false, List, [], ◌∷◌, Contains}
+use Rattle.std.specs.List.{AllByRecursion}
+use Rattle.lk_types.specs.declared.entry.Entry.{Entry}
+use Rattle.lk_wire.specs.Grammar.{spelling, IsMessage}
+use Rattle.lk_wire.specs.declared.message.NodeMessage.{NodeMessage}
+use Rattle.lk_log.specs.Values.{HeaderValue}
+use Rattle.lk_state.specs.Meanings.{Meaning}
+use Rattle.lk_history.specs.Acceptors.{AcceptorState, Covers}
+use Rattle.lk_acceptor.specs.States.{with_entry}
+use Rattle.lk_node.specs.Calls.{MayGo}
+use Rattle.lk_node.specs.Entries.{Rests}
+use Rattle.lk_node.specs.Histories.{History, Datagram, IsLawful}
+use Rattle.lk_node.specs.Holdings.{Holding, HoldingFits}
+use Rattle.lk_node.specs.Keeping.{IsDecided, IsKnown, IsHeld}
+use Rattle.lk_node.specs.Leavings.{header_of}
+use Rattle.lk_node.specs.Letters.{LetterValue, batch_of}
+use Rattle.lk_node.specs.NodeValue.{NodeValue}
+use Rattle.lk_node.specs.Outboxes.{OutboxValue}
+use Rattle.lk_node.specs.Saying.{saying}
+use Rattle.lk_node.specs.Served.{IsBorneOut, IsOfNode}
+use Rattle.lk_node.specs.declared.note.Note.{Note}
+
+-- the letter spells a message of a node of this header, which what its acceptor holds covers
+pub record Tells (whose : HeaderValue) (acceptor : AcceptorState) (l : LetterValue) : Type 0 where
+  pub message : NodeMessage
+  pub fits : IsMessage (saying whose message)
+  pub bytes : l.bytes ≡ spelling (saying whose message)
+  pub covers : Covers acceptor message
+
+-- what the acceptor holds once these entries are written
+abbrev pub with_entries : List Entry → AcceptorState → AcceptorState
+with_entries [] s = s
+with_entries (e ∷ es) s = with_entries es (with_entry e s)
+
+-- Whatever has happened: since the node was this first one, the entries tell what its acceptor now holds, none but decided
+-- commands are unsynced, and the acceptor covers what the letters tell.
+pub record Binds (first now : NodeValue) (out : OutboxValue) : Type 0 where
+  pub header : now.header ≡ first.header
+  pub written : now.acceptor.state ≡ with_entries out.entries first.acceptor.state
+  pub unsynced : out.sync ≡ false → AllByRecursion IsDecided out.entries
+  pub tells : (l : LetterValue) → Contains out.letters l → Tells now.header now.acceptor.state l
+
+-- In this history: the node holds what fits to it, and by that it may send the letters; what it writes rests on what was
+-- sent, and a chosen list bears out each note. It knows what it writes unsynced, and what was unsynced before.
+pub record Serves (m : Meaning) (h : History) (n : ℕ) (loose : List Entry) (now : NodeValue) (out : OutboxValue) : Type 0 where
+  pub lawful : IsLawful h
+  pub whose : now.header ≡ header_of h.genesis n
+  pub holding : Holding
+  pub held : IsHeld m now h.genesis holding
+  pub fits : HoldingFits m h n holding
+  pub rests : AllByRecursion (Rests h) out.entries
+  pub known : AllByRecursion (IsKnown holding.view) loose
+  pub news : out.sync ≡ false → AllByRecursion (IsKnown holding.view) out.entries
+  pub may : (d : Datagram) → Contains (batch_of n out.letters) d → MayGo m h n holding.view d
+  pub noted : (x : Note) → Contains out.notes x → IsOfNode x × IsBorneOut m h x
+
+-- A part of a step goes on with what the parts before it did, in each history in which it heard this.
+pub record GoesOn (m : Meaning) (Heard : History → Type 0) (old new : NodeValue) (before behind : OutboxValue) : Type 0 where
+  pub binds : (first : NodeValue) → Binds first old before → Binds first new behind
+  pub serves : (h : History) (n : ℕ) (loose : List Entry) → Serves m h n loose old before → Heard h → Serves m h n loose new behind

@@ -1,0 +1,27 @@
+-- When a node ends its term.
+use Rattle.std.specs.Prelude.{Bool, false, Option, Some, None, if◌then◌else◌, max}
+use Rattle.lk_types.specs.BallotValue.{BallotValue}
+use Rattle.lk_types.specs.Ballots.{is_below}
+use Rattle.lk_leader.specs.Terms.{TermValue, idle}
+use Rattle.lk_node.specs.NodeValue.{NodeValue}
+
+-- no term, nothing waits, and ticks count from the start
+abbrev pub without_term : NodeValue → NodeValue
+without_term node = record node { leader = idle; ticks = 0 }
+
+-- there is a term, of a smaller ballot
+abbrev pub is_term_below : BallotValue → Option TermValue → Bool
+is_term_below b None = false
+is_term_below b (Some t) = is_below t.ballot b
+
+-- the node once it has seen the ballot: where its term is of a smaller one, the term has ended
+abbrev pub yielded : BallotValue → NodeValue → NodeValue
+yielded b node = if is_term_below b node.leader.term then without_term node else node
+
+-- its ballot's round counts among those that were seen
+abbrev pub with_round : BallotValue → NodeValue → NodeValue
+with_round b node = record node { rounds = max node.rounds b.round }
+
+-- the node once it has seen the ballot in a refusal or a leader's notice
+abbrev pub seeing : BallotValue → NodeValue → NodeValue
+seeing b node = yielded b (with_round b node)

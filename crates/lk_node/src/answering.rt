@@ -1,0 +1,96 @@
+// What a node answers as an acceptor.
+ghost use Rattle.std.specs.Prelude.{◌≡◌, IfOk, OnOk};
+ghost use Rattle.lk_wire.specs.Grammar.{IsMessage};
+ghost use Rattle.lk_wire.specs.declared.message.NodeMessage.TheVariants as kinds;
+ghost use Rattle.lk_acceptor.specs.Answers.{AnswersPrepare, AnswersAccept};
+ghost use Rattle.lk_history.specs.Datagrams.{HasSent};
+ghost use Rattle.lk_state.specs.Meanings.{meaning};
+ghost use Rattle.lk_node.specs.Answering.{is_granted, replied, reply_to, Responds};
+ghost use Rattle.lk_node.specs.Outboxes.{nothing};
+ghost use Rattle.lk_node.specs.Saying.{saying};
+ghost use Rattle.lk_node.specs.Serving.{GoesOn};
+ghost use Rattle.lk_node.specs.Yielding.{yielded, with_round};
+
+use crate::node::Node;
+use crate::outbox::Outbox;
+use lk_acceptor::Response;
+use lk_state::Machine;
+use lk_types::{NoMemory, NodeNo, Position, RealBallot, Vote};
+use lk_wire::NodeMessage;
+
+// Whether a reply of an acceptor grants what was asked.
+fn is_granted(reply: &NodeMessage) -> bool
+    ensures { result ≡ is_granted reply.now }
+{
+    !matches!(reply, NodeMessage::Nack(_))
+}
+
+impl<M: Machine> Node<M> {
+    // The response's entry, and its reply to the node that asked.
+    fn respond(&mut self, from: NodeNo, response: Response) -> Result<Outbox, NoMemory>
+        ensures outbox { IfOk result (λ o. o ≡ reply_to self.old from response) }
+        ensures fits { OnOk result (IsMessage (saying self.old.header response.reply)) }
+        ensures becomes { OnOk result (self.new ≡ replied response.reply self.old) }
+    {
+        let Response { reply, entry } = response;
+        let granted = is_granted(&reply);
+        let mut out = Outbox::new(self.alloc);
+        if let Some(entry) = entry {
+            out.write(entry)?;
+        }
+        self.tell(from, reply, &mut out)?;
+        if granted {
+            self.ticks.reset();
+        }
+        let promised = self.acceptor.promised();
+        self.yield_to(promised);
+        Ok(out)
+    }
+
+    fn answer_prepare(
+        &mut self,
+        from: NodeNo,
+        ballot: RealBallot,
+        first: Position,
+    ) -> Result<Outbox, NoMemory>
+        ensures { IfOk result (λ o. Responds self.old from (AnswersPrepare self.old.acceptor self.old.learner.whole.roster.executed ballot first) self.new o) }
+    {
+        let response = self
+            .acceptor
+            .prepare(ballot, first, self.learner.whole().executed())?;
+        self.respond(from, response)
+    }
+
+    fn answer_accept(&mut self, from: NodeNo, vote: Vote) -> Result<Outbox, NoMemory>
+        ensures { IfOk result (λ o. Responds self.old from (AnswersAccept self.old.acceptor self.old.learner.whole.roster.executed vote) self.new o) }
+    {
+        let response = self.acceptor.accept(vote, self.learner.whole().executed())?;
+        self.respond(from, response)
+    }
+
+    #[tactic(auto, using(crate::proofs::AcceptorRules::prepare_goes_on))]
+    // A Prepare is answered.
+    pub(crate) fn prepare(
+        &mut self,
+        from: NodeNo,
+        ballot: RealBallot,
+        first: Position,
+    ) -> Result<Outbox, NoMemory>
+        ensures exact { IfOk result (λ o. Responds self.old from (AnswersPrepare self.old.acceptor self.old.learner.whole.roster.executed ballot first) self.new o) }
+        ensures goes_on { IfOk result (λ o. GoesOn (meaning M.first M.next M.answer) (λ h. Unit {0}) self.old self.new nothing o) }
+    {
+        let out = self.answer_prepare(from, ballot, first)?;
+        Ok(out)
+    }
+
+    // An Accept is answered, and its ballot's round is seen.
+    pub(crate) fn accept(&mut self, from: NodeNo, vote: Vote) -> Result<Outbox, NoMemory>
+        ensures exact { IfOk result (λ o. Responds (with_round vote.ballot self.old) from (AnswersAccept self.old.acceptor self.old.learner.whole.roster.executed vote) self.new o) }
+        ensures goes_on { IfOk result (λ o. GoesOn (meaning M.first M.next M.answer) (λ h. HasSent h.genesis h.sent from (kinds.Accept vote)) self.old self.new nothing o) }
+    {
+        self.acceptor.facts();
+        self.see_round(vote.ballot.get());
+        let out = self.answer_accept(from, vote)?;
+        Ok(out)
+    }
+}

@@ -1,0 +1,80 @@
+// What a node does with a client's request.
+ghost use Rattle.std.specs.Prelude.{◌≡◌, Contains, IfOk};
+ghost use Rattle.lk_state.specs.Meanings.{meaning};
+ghost use Rattle.lk_node.specs.Asking.{leader_in, PointsTo, TakesNew, HearsRequest};
+ghost use Rattle.lk_node.specs.Outboxes.{nothing};
+ghost use Rattle.lk_node.specs.Serving.{GoesOn};
+
+use crate::node::Node;
+use crate::outbox::Outbox;
+use crate::to::To;
+use lk_state::{Machine, Seen};
+use lk_types::{ClientNo, Member, NoMemory, Request};
+use lk_wire::{Answered, Elsewhere, NodeMessage, Passed};
+
+impl<M: Machine> Node<M> {
+    // The known leader with the port that the window gives it, where the window names it.
+    fn known_leader(&self) -> Option<Member>
+        ensures { result ≡ leader_in self.now.known self.now.learner.whole.roster.sets }
+    {
+        let node = self.known?;
+        let port = self.roster().port_of(node)?;
+        Some(Member { node, port })
+    }
+
+    // The client is sent to the known leader, where the window names it.
+    fn point(&self, request: &Request) -> Result<Outbox, NoMemory>
+        ensures { IfOk result (λ o. PointsTo (leader_in self.now.known self.now.learner.whole.roster.sets) self.now request.now self.now o) }
+    {
+        let Some(member) = self.known_leader() else {
+            return Ok(Outbox::new(self.alloc));
+        };
+        let (client, number) = (request.client, request.number);
+        let news = Elsewhere {
+            client,
+            number,
+            member,
+        };
+        let out = self.say_alone(To::Client(client), NodeMessage::Elsewhere(news))?;
+        Ok(out)
+    }
+
+    // A new request waits at a node with a term.
+    fn take_new(&mut self, request: &Request) -> Result<Outbox, NoMemory>
+        ensures { IfOk result (λ o. TakesNew self.old.leader.term self.old request.now self.new o) }
+    {
+        if self.leader.ballot().is_none() {
+            return self.point(request);
+        }
+        self.leader
+            .ask(request.client, request.number, &request.op)?;
+        Ok(Outbox::new(self.alloc))
+    }
+
+    // What the request comes to, by where it stands to its client's last one.
+    fn take_request(&mut self, request: &Request) -> Result<Outbox, NoMemory>
+        ensures { IfOk result (λ o. HearsRequest self.old request.now self.new o) }
+    {
+        let (client, number) = (request.client, request.number);
+        let reply = match self.learner.whole().seen(client, number) {
+            Seen::New => return self.take_new(request),
+            Seen::Same(answer) => NodeMessage::Answer(Answered {
+                client,
+                number,
+                answer,
+            }),
+            Seen::Passed(last) => { NodeMessage::Passed(Passed::of(client, number, last).unwrap()) }
+        };
+        let out = self.say_alone(To::Client(client), reply)?;
+        Ok(out)
+    }
+
+    // A client asks.
+    pub(crate) fn hear_request(&mut self, request: &Request) -> Result<Outbox, NoMemory>
+        ensures exact { IfOk result (λ o. HearsRequest self.old request.now self.new o) }
+        ensures goes_on { IfOk result (λ o. GoesOn (meaning M.first M.next M.answer) (λ h. Contains h.asked request.now) self.old self.new nothing o) }
+    {
+        let out = self.take_request(request)?;
+        Ok(out)
+    }
+}

@@ -1,0 +1,58 @@
+// How a node begins a ballot.
+ghost use Rattle.std.specs.Prelude.{◌≡◌, ◌+◌, ◌<◌, ◌≤◌, MatchOption, IfOk, OnOk};
+ghost use Rattle.lk_types.specs.Ballots.{IsBelow};
+ghost use Rattle.lk_types.specs.Limits.{max_count};
+ghost use Rattle.lk_state.specs.Meanings.{meaning};
+ghost use Rattle.lk_node.specs.Beginning.{greatest_round, next_ballot, Begins};
+ghost use Rattle.lk_node.specs.Outboxes.{nothing};
+ghost use Rattle.lk_node.specs.Serving.{GoesOn};
+
+use crate::node::Node;
+use crate::outbox::Outbox;
+use lk_state::Machine;
+use lk_types::limits::MAX_COUNT;
+use lk_types::{NoMemory, Position, RealBallot, Round};
+use lk_wire::NodeMessage;
+
+impl<M: Machine> Node<M> {
+    // The next ballot of the node, or none where its round would be above 2^48.
+    pub(crate) fn next_ballot(&self) -> Option<RealBallot>
+        ensures { MatchOption result (max_count ≤ greatest_round self.now) (λ b. (b ≡ next_ballot self.now) × IsBelow self.now.acceptor.state.promised b) }
+    {
+        let promised = self.acceptor.promised().round();
+        let seen = self.rounds.get();
+        let greatest = if promised < seen { seen } else { promised };
+        if greatest >= MAX_COUNT {
+            return None;
+        }
+        let round = Round::of(greatest + 1)?;
+        Some(RealBallot::new(round, self.header.node()))
+    }
+
+    // The ballot is promised, and a term of it begins: the nodes of the window are asked for their promises.
+    fn start(&mut self, ballot: RealBallot) -> Result<Outbox, NoMemory>
+        requires { IsBelow self.old.acceptor.state.promised ballot }
+        ensures { IfOk result (λ o. Begins ballot self.old self.new o) }
+    {
+        let nodes = self.window_nodes()?;
+        let mut out = Outbox::new(self.alloc);
+        out.write(self.acceptor.own(ballot))?;
+        self.leader.begin(ballot);
+        if let Some(first) = Position::of(self.learner.whole().executed().get() + 1) {
+            self.tell_all(&nodes, NodeMessage::Prepare(ballot, first), &mut out)?;
+        }
+        Ok(out)
+    }
+
+    #[tactic(auto, using(crate::proofs::BallotRules::starts_goes_on))]
+    // The same.
+    pub(crate) fn begin(&mut self, ballot: RealBallot) -> Result<Outbox, NoMemory>
+        requires below { IsBelow self.old.acceptor.state.promised ballot }
+        requires own { ballot.node ≡ self.old.header.node }
+        ensures exact { IfOk result (λ o. Begins ballot self.old self.new o) }
+        ensures goes_on { IfOk result (λ o. GoesOn (meaning M.first M.next M.answer) (λ h. Unit {0}) self.old self.new nothing o) }
+    {
+        let out = self.start(ballot)?;
+        Ok(out)
+    }
+}

@@ -1,0 +1,147 @@
+// What a node does for one that has executed less, and asks of one that has executed more.
+ghost use Rattle.std.specs.Prelude.{◌≡◌, IfOk};
+ghost use Rattle.lk_wire.specs.declared.message.NodeMessage.TheVariants as kinds;
+ghost use Rattle.lk_state.specs.Meanings.{meaning};
+ghost use Rattle.lk_node.specs.CatchingUp.{Feeds, HearsWant, AsksOn, Levels, HearsNack, following, AsksWhereMore, refusal, HearsLead};
+ghost use Rattle.lk_node.specs.Outboxes.{nothing};
+ghost use Rattle.lk_node.specs.Replying.{SaysAlone};
+ghost use Rattle.lk_node.specs.Saying.{to_node};
+ghost use Rattle.lk_node.specs.Serving.{GoesOn};
+
+use crate::node::Node;
+use crate::outbox::Outbox;
+use lk_state::Machine;
+use lk_types::{Executed, NoMemory, NodeNo, Position, RealBallot};
+use lk_wire::{Nack, NodeMessage, Want};
+
+impl<M: Machine> Node<M> {
+    // The other node is sent what is served from the position on, where anything is.
+    fn feed(&self, other: NodeNo, first: Position, offset: u32) -> Result<Outbox, NoMemory>
+        ensures { IfOk result (λ o. Feeds self.now other first o) }
+    {
+        let Some(decided) = self.learner.serve(first, offset)? else {
+            return Ok(Outbox::new(self.alloc));
+        };
+        let out = self.tell_alone(other, NodeMessage::Decided(decided))?;
+        Ok(out)
+    }
+
+    // The other node is asked for what stands behind the executed positions.
+    fn ask_on(&self, other: NodeNo) -> Result<Outbox, NoMemory>
+        ensures { IfOk result (λ o. AsksOn self.now other o) }
+    {
+        let Some(want) = self.learner.want() else {
+            return Ok(Outbox::new(self.alloc));
+        };
+        let out = self.tell_alone(other, NodeMessage::Want(want))?;
+        Ok(out)
+    }
+
+    // The other node has executed so many positions: it is asked where these are more, and fed where they are fewer.
+    fn level(&self, other: NodeNo, theirs: Executed) -> Result<Outbox, NoMemory>
+        ensures { IfOk result (λ o. Levels self.now other theirs o) }
+    {
+        let executed = self.learner.whole().executed().get();
+        if theirs.get() > executed {
+            return self.ask_on(other);
+        }
+        match Position::of(theirs.get() + 1) {
+            Some(first) if theirs.get() < executed => self.feed(other, first, 0),
+            _ => Ok(Outbox::new(self.alloc)),
+        }
+    }
+
+    // A node wants commands.
+    pub(crate) fn hear_want(&mut self, from: NodeNo, want: &Want) -> Result<Outbox, NoMemory>
+        ensures exact { IfOk result (λ o. HearsWant self.old from want.now self.new o) }
+        ensures goes_on { IfOk result (λ o. GoesOn (meaning M.first M.next M.answer) (λ h. Unit {0}) self.old self.new nothing o) }
+    {
+        let out = self.feed(from, want.first(), want.offset())?;
+        Ok(out)
+    }
+
+    // Both ballots of a refusal are seen.
+    fn answer_nack(&mut self, from: NodeNo, nack: &Nack) -> Result<Outbox, NoMemory>
+        ensures { IfOk result (λ o. HearsNack self.old from nack.now self.new o) }
+    {
+        let out = self.level(from, nack.executed)?;
+        self.see(nack.ballot.get());
+        self.see(nack.promised);
+        Ok(out)
+    }
+
+    // A node refuses a ballot.
+    pub(crate) fn hear_nack(&mut self, from: NodeNo, nack: &Nack) -> Result<Outbox, NoMemory>
+        ensures exact { IfOk result (λ o. HearsNack self.old from nack.now self.new o) }
+        ensures goes_on { IfOk result (λ o. GoesOn (meaning M.first M.next M.answer) (λ h. Unit {0}) self.old self.new nothing o) }
+    {
+        let out = self.answer_nack(from, nack)?;
+        Ok(out)
+    }
+
+    // The other node is asked where it has executed more.
+    fn ask_where_more(&self, other: NodeNo, theirs: Executed) -> Result<Outbox, NoMemory>
+        ensures { IfOk result (λ o. AsksWhereMore self.now other theirs o) }
+    {
+        if theirs.get() <= self.learner.whole().executed().get() {
+            return Ok(Outbox::new(self.alloc));
+        }
+        let out = self.ask_on(other)?;
+        Ok(out)
+    }
+
+    // A ballot below the promised one is refused.
+    fn refuse(&self, other: NodeNo, ballot: RealBallot) -> Result<Outbox, NoMemory>
+        ensures { IfOk result (λ o. SaysAlone self.now (to_node self.now other) (kinds.Nack (refusal ballot self.now)) o) }
+    {
+        let nack = Nack {
+            ballot,
+            promised: self.acceptor.promised(),
+            executed: self.learner.whole().executed(),
+        };
+        let out = self.tell_alone(other, NodeMessage::Nack(nack))?;
+        Ok(out)
+    }
+
+    // The ballot's node is the known leader, and ticks count from the start.
+    fn follow(&mut self, ballot: RealBallot)
+        ensures { self.new ≡ following ballot self.old }
+    {
+        self.known = NodeNo::of(ballot.get().node());
+        self.ticks.reset();
+    }
+
+    // A leader's notice is refused, or followed.
+    fn answer_lead(
+        &mut self,
+        from: NodeNo,
+        ballot: RealBallot,
+        executed: Executed,
+    ) -> Result<Outbox, NoMemory>
+        ensures { IfOk result (λ o. HearsLead self.old from ballot executed self.new o) }
+    {
+        if ballot.get().is_below(self.acceptor.promised()) {
+            let out = self.refuse(from, ballot)?;
+            self.see(ballot.get());
+            return Ok(out);
+        }
+        let out = self.ask_where_more(from, executed)?;
+        self.see(ballot.get());
+        self.follow(ballot);
+        Ok(out)
+    }
+
+    // A node leads in this ballot, and has executed so many positions.
+    pub(crate) fn hear_lead(
+        &mut self,
+        from: NodeNo,
+        ballot: RealBallot,
+        executed: Executed,
+    ) -> Result<Outbox, NoMemory>
+        ensures exact { IfOk result (λ o. HearsLead self.old from ballot executed self.new o) }
+        ensures goes_on { IfOk result (λ o. GoesOn (meaning M.first M.next M.answer) (λ h. Unit {0}) self.old self.new nothing o) }
+    {
+        let out = self.answer_lead(from, ballot, executed)?;
+        Ok(out)
+    }
+}

@@ -1,0 +1,97 @@
+// What a node counts.
+ghost use Rattle.std.specs.Prelude.{◌≡◌, IfOk, OnOk};
+ghost use Rattle.lk_wire.specs.declared.message.NodeMessage.TheVariants as kinds;
+ghost use Rattle.lk_history.specs.Chosen.{ChosenAt};
+ghost use Rattle.lk_history.specs.Datagrams.{HasSent};
+ghost use Rattle.lk_leader.specs.Proposing.{AreMembersAt};
+ghost use Rattle.lk_state.specs.Meanings.{meaning};
+ghost use Rattle.lk_node.specs.Counting.{HearsVote, news_of, AreNews, Counts, HearsAccepted};
+ghost use Rattle.lk_node.specs.Outboxes.{nothing};
+ghost use Rattle.lk_node.specs.Serving.{GoesOn};
+
+use crate::letter::Letter;
+use crate::node::Node;
+use crate::note::Note;
+use crate::outbox::Outbox;
+use lk_state::Machine;
+use lk_types::{Command, Members, NoMemory, NodeNo, Position, Vote};
+use lk_wire::{Decided, NodeMessage};
+use std::alloc::Global;
+
+// That one command is decided at the position.
+fn news_of(alloc: Global, position: Position, command: &Command) -> Result<NodeMessage, NoMemory>
+    ensures { IfOk result (λ m. m ≡ news_of (position, command.now)) }
+{
+    let mut commands = Vec::new(alloc);
+    commands.push(command.copy())?;
+    let _ = position.get();
+    Ok(NodeMessage::Decided(Decided::of(position, commands).unwrap()))
+}
+
+impl<M: Machine> Node<M> {
+    // A node was heard to vote. The members of the position, where by that a majority of them has.
+    fn hear_vote(&mut self, from: NodeNo, vote: &Vote) -> Option<Members>
+        ensures { HearsVote from vote.now self.old self.new result }
+    {
+        let roster = self.learner.whole().roster();
+        let Some(members) = roster.members_at(vote.position) else {
+            return None;
+        };
+        let chosen = self
+            .leader
+            .accepted(from, vote.ballot, vote.position, &vote.command, roster);
+        if chosen.is_none() {
+            return None;
+        }
+        Some(members.copy())
+    }
+
+    // The letters that tell the other nodes of the window of the pair.
+    fn news_to_others(&self, position: Position, command: &Command) -> Result<Vec<Letter>, NoMemory>
+        ensures { IfOk result (λ ls. AreNews self.now (position, command.now) ls.items) }
+    {
+        let others = self.others()?;
+        let news = news_of(self.alloc, position, command)?;
+        let mut out = Outbox::new(self.alloc);
+        self.tell_all(&others, news, &mut out)?;
+        let Outbox {
+            entries: _,
+            sync: _,
+            notes: _,
+            letters,
+        } = out;
+        Ok(letters)
+    }
+
+    // A majority of these members has accepted the command at the position.
+    fn count(
+        &mut self,
+        members: Members,
+        position: Position,
+        command: &Command,
+        out: &mut Outbox,
+    ) -> Result<(), NoMemory>
+        ensures exact { OnOk result (Counts (meaning M.first M.next M.answer) members (position, command.now) self.old out.old self.new out.new) }
+        ensures goes_on { AreMembersAt self.old.learner.whole.roster position members → OnOk result (GoesOn (meaning M.first M.next M.answer) (λ h. ChosenAt h.genesis h.sent position command.now) self.old self.new out.old out.new) }
+    {
+        out.note(Note::Counted(self.header.node(), position, members, command.copy()))?;
+        let news = self.news_to_others(position, command)?;
+        self.learn(position, command, out)?;
+        self.execute(out)?;
+        out.post(news)?;
+        Ok(())
+    }
+
+    // A node was heard to accept.
+    pub(crate) fn hear_accepted(&mut self, from: NodeNo, vote: &Vote) -> Result<Outbox, NoMemory>
+        ensures exact { IfOk result (λ o. HearsAccepted (meaning M.first M.next M.answer) from vote.now self.old self.new o) }
+        ensures goes_on { IfOk result (λ o. GoesOn (meaning M.first M.next M.answer) (λ h. HasSent h.genesis h.sent from (kinds.Accepted vote.now)) self.old self.new nothing o) }
+    {
+        let mut out = Outbox::new(self.alloc);
+        let Some(members) = self.hear_vote(from, vote) else {
+            return Ok(out);
+        };
+        self.count(members, vote.position, &vote.command, &mut out)?;
+        Ok(out)
+    }
+}

@@ -1,0 +1,136 @@
+// What a node executes, and which clients it answers by that.
+ghost use Rattle.std.specs.Prelude.{◌≡◌, IfOk, OnOk};
+ghost use Rattle.lk_state.specs.Meanings.{meaning};
+ghost use Rattle.lk_node.specs.Executing.{told, Settles, SettlesAny, session_by, RunsNext, has_term, is_outside, while_named, ExecutesOne, RunsAll};
+ghost use Rattle.lk_node.specs.Serving.{GoesOn};
+
+use crate::node::Node;
+use crate::note::Note;
+use crate::outbox::Outbox;
+use crate::to::To;
+use lk_state::{Machine, Ran, Session};
+use lk_types::{Answer, Command, NoMemory, RequestNumber};
+use lk_wire::{Answered, NodeMessage, Passed};
+
+// What the client's waiting request of this number is told, once the session's was executed.
+fn told(session: Session, number: RequestNumber) -> NodeMessage
+    ensures { result ≡ told session number }
+{
+    match Passed::of(session.client, number, session.number) {
+        Some(passed) => NodeMessage::Passed(passed),
+        None => NodeMessage::Answer(Answered {
+            client: session.client,
+            number,
+            answer: session.answer,
+        }),
+    }
+}
+
+impl<M: Machine> Node<M> {
+    // The session has become its client's last: the waiting request up to it is told, and waits no longer.
+    pub(crate) fn settle(&mut self, session: Session, out: &mut Outbox) -> Result<(), NoMemory>
+        ensures { OnOk result (Settles session self.old out.old self.new out.new) }
+    {
+        let Some(number) = self.leader.ran(session.client, session.number) else {
+            return Ok(());
+        };
+        self.say(To::Client(session.client), told(session, number), out)?;
+        Ok(())
+    }
+
+    // The command has run and was answered so: where it counted, its session is settled.
+    fn settle_ran(
+        &mut self,
+        command: &Command,
+        answer: Option<Answer>,
+        out: &mut Outbox,
+    ) -> Result<(), NoMemory>
+        ensures { OnOk result (SettlesAny (session_by command.now answer) self.old out.old self.new out.new) }
+    {
+        let Command::Request(request) = command else {
+            return Ok(());
+        };
+        let Some(answer) = answer else {
+            return Ok(());
+        };
+        let session = Session {
+            client: request.client,
+            number: request.number,
+            answer,
+        };
+        self.settle(session, out)?;
+        Ok(())
+    }
+
+    // Whether there is a term.
+    fn has_term(&self) -> bool
+        ensures { result ≡ has_term self.now.leader.term }
+    {
+        self.leader.ballot().is_some()
+    }
+
+    // Whether there is a term, and no set of the window names the node.
+    fn is_outside(&self) -> bool
+        ensures { result ≡ is_outside self.now }
+    {
+        self.has_term() && !self.roster().is_in_window(self.header.node())
+    }
+
+    // The term ends where no set of the window names the node.
+    pub(crate) fn leave_outside(&mut self)
+        ensures { self.new ≡ while_named self.old }
+    {
+        if self.is_outside() {
+            self.leave_term();
+        }
+    }
+
+    // Runs the command of the next position, if it is kept, and gives it.
+    fn run_next(&mut self) -> Result<Option<(Command, Ran)>, NoMemory>
+        ensures { IfOk result (λ r. RunsNext (meaning M.first M.next M.answer) self.old self.new r) }
+    {
+        self.learner.facts();
+        let Some(ran) = self.learner.execute_next()? else {
+            return Ok(None);
+        };
+        let Some(command) = self.learner.executed_at(ran.position) else {
+            return Ok(None);
+        };
+        Ok(Some((command.copy(), ran)))
+    }
+
+    // Executes the command of the next position, if it is kept. Whether it was.
+    fn run_one(&mut self, out: &mut Outbox) -> Result<bool, NoMemory>
+        ensures { IfOk result (λ went. ExecutesOne (meaning M.first M.next M.answer) went self.old out.old self.new out.new) }
+    {
+        let Some((command, ran)) = self.run_next()? else {
+            return Ok(false);
+        };
+        out.note(Note::Ran(self.header.node(), ran.position, command.copy()))?;
+        self.settle_ran(&command, ran.answer, out)?;
+        self.leave_outside();
+        Ok(true)
+    }
+
+    // The same.
+    fn execute_one(&mut self, out: &mut Outbox) -> Result<bool, NoMemory>
+        ensures exact { IfOk result (λ went. ExecutesOne (meaning M.first M.next M.answer) went self.old out.old self.new out.new) }
+        ensures goes_on { OnOk result (GoesOn (meaning M.first M.next M.answer) (λ h. Unit {0}) self.old self.new out.old out.new) }
+    {
+        self.learner.facts();
+        let went = self.run_one(out)?;
+        Ok(went)
+    }
+
+    // Executes positions in order, as long as the command of the next one is kept.
+    pub(crate) fn execute(&mut self, out: &mut Outbox) -> Result<(), NoMemory>
+        ensures exact { OnOk result (RunsAll (meaning M.first M.next M.answer) self.old out.old self.new out.new) }
+        ensures goes_on { OnOk result (GoesOn (meaning M.first M.next M.answer) (λ h. Unit {0}) self.old self.new out.old out.new) }
+    {
+        'positions: loop {
+            if !self.execute_one(out)? {
+                return Ok(());
+            }
+        }
+    }
+}

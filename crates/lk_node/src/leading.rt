@@ -1,0 +1,123 @@
+// What a node does as a leader with what it hears, and what it proposes.
+ghost use Rattle.std.specs.Prelude.{◌≡◌, ◌⊎◌, List, IfOk, OnOk, MatchOption};
+ghost use Rattle.lk_types.specs.declared.member.Member.{Member as MemberValue};
+ghost use Rattle.lk_wire.specs.Grammar.{IsMessage};
+ghost use Rattle.lk_wire.specs.declared.message.NodeMessage.TheVariants as kinds;
+ghost use Rattle.lk_history.specs.Datagrams.{HasSent};
+ghost use Rattle.lk_leader.specs.Proposing.{AreMembersAt};
+ghost use Rattle.lk_state.specs.Meanings.{meaning};
+ghost use Rattle.lk_node.specs.Leading.{KeepsPromise, DropsPromise, HearsPromise, ProposesVote, having_proposed, NothingOpen, nodes_of, ProposesNext, ProposesOpen};
+ghost use Rattle.lk_node.specs.Outboxes.{nothing};
+ghost use Rattle.lk_node.specs.Promised.{HasPromised};
+ghost use Rattle.lk_node.specs.Saying.{saying};
+ghost use Rattle.lk_node.specs.Serving.{GoesOn};
+ghost use Rattle.lk_node.specs.Telling.{telling};
+
+use crate::node::Node;
+use crate::outbox::Outbox;
+use lk_state::Machine;
+use lk_types::{Members, NoMemory, NodeNo, Vote};
+use lk_wire::{NodeMessage, Promise};
+use std::alloc::Global;
+
+impl<M: Machine> Node<M> {
+    // The leader hears a promise.
+    fn keep_promise(&mut self, from: NodeNo, promise: &Promise) -> Result<(), NoMemory>
+        ensures { OnOk result (KeepsPromise self.old from promise.now self.new ⊎ DropsPromise self.old from promise.now self.new) }
+    {
+        let (ballot, first) = (promise.ballot(), promise.first());
+        let roster = self.learner.whole().roster();
+        self.leader
+            .promise(from, ballot, first, promise.votes(), roster)?;
+        Ok(())
+    }
+
+    #[tactic(auto, using(crate::proofs::TermRules::promise_goes_on))]
+    // A promise is heard.
+    pub(crate) fn hear_promise(
+        &mut self,
+        from: NodeNo,
+        promise: &Promise,
+    ) -> Result<Outbox, NoMemory>
+        ensures exact { IfOk result (λ o. HearsPromise self.old from promise.now self.new o) }
+        ensures goes_on { IfOk result (λ o. GoesOn (meaning M.first M.next M.answer) (λ h. HasSent h.genesis h.sent from (kinds.Promise promise.now)) self.old self.new nothing o) }
+    {
+        self.keep_promise(from, promise)?;
+        Ok(Outbox::new(self.alloc))
+    }
+}
+
+// The nodes of a set, in rising order.
+pub fn nodes_of(alloc: Global, set: &Members) -> Result<Vec<NodeNo>, NoMemory>
+    ensures { IfOk result (λ ns. ns.items ≡ nodes_of set.now) }
+{
+    let members = set.as_slice();
+    let mut nodes = Vec::new(alloc);
+    'members: for member in members {
+        nodes.push(member.node)?;
+    }
+    Ok(nodes)
+}
+
+impl<M: Machine> Node<M> {
+    // The term's ballot is promised. It does nothing.
+    pub(crate) fn facts(&self)
+        ensures { HasPromised self.now.acceptor self.now.leader }
+    {
+        let _ = &self.alloc;
+    }
+
+    // What the term proposes next, as a vote of its ballot.
+    fn next_vote(&mut self) -> Option<Vote>
+        ensures { MatchOption result (NothingOpen self.old × (self.new ≡ self.old)) (λ x. (p : ProposesVote self.old x) × (self.new ≡ having_proposed self.old x p)) }
+    {
+        let Some(ballot) = self.leader.ballot() else {
+            return None;
+        };
+        let roster = self.learner.whole().roster();
+        let Some((position, command)) = self.leader.propose(roster) else {
+            return None;
+        };
+        Some(Vote {
+            position,
+            ballot,
+            command,
+        })
+    }
+
+    // Tells the members of the vote's position, in rising order, that it is proposed.
+    fn tell_members(&self, vote: Vote, out: &mut Outbox) -> Result<(), NoMemory>
+        ensures said { (set : List MemberValue) → AreMembersAt self.now.learner.whole.roster vote.position set → OnOk result (out.new ≡ telling self.now (nodes_of set) (kinds.Accept vote) out.old) }
+        ensures fits { (set : List MemberValue) → AreMembersAt self.now.learner.whole.roster vote.position set → OnOk result (IsMessage (saying self.now.header (kinds.Accept vote))) }
+    {
+        let Some(set) = self.roster().members_at(vote.position) else {
+            return Ok(());
+        };
+        let nodes = nodes_of(self.alloc, set)?;
+        self.tell_all(&nodes, NodeMessage::Accept(vote), out)?;
+        Ok(())
+    }
+
+    // Proposes what comes next, and tells the members of its position. Whether there was anything.
+    fn propose_next(&mut self, out: &mut Outbox) -> Result<bool, NoMemory>
+        ensures exact { IfOk result (λ more. ProposesNext more self.old self.new out.old out.new) }
+        ensures goes_on { OnOk result (GoesOn (meaning M.first M.next M.answer) (λ h. Unit {0}) self.old self.new out.old out.new) }
+    {
+        self.facts();
+        let Some(vote) = self.next_vote() else {
+            return Ok(false);
+        };
+        self.tell_members(vote, out)?;
+        Ok(true)
+    }
+
+    // Proposes all that is open, at rising positions, and tells each to the members of its position.
+    pub(crate) fn propose(&mut self, out: &mut Outbox) -> Result<(), NoMemory>
+        ensures exact { OnOk result (ProposesOpen self.old self.new out.old out.new) }
+        ensures done { OnOk result (NothingOpen self.new) }
+        ensures goes_on { OnOk result (GoesOn (meaning M.first M.next M.answer) (λ h. Unit {0}) self.old self.new out.old out.new) }
+    {
+        'votes: while self.propose_next(out)? {}
+        Ok(())
+    }
+}

@@ -1,0 +1,87 @@
+// What a node learns of the list.
+ghost use Rattle.std.specs.Prelude.{◌≡◌, ℕ, ◌+◌, ◌≤◌, length, IfOk, OnOk};
+ghost use Rattle.lk_types.specs.Limits.{max_count};
+ghost use Rattle.lk_wire.specs.declared.message.NodeMessage.TheVariants as kinds;
+ghost use Rattle.lk_history.specs.Chosen.{ChosenAt};
+ghost use Rattle.lk_history.specs.Datagrams.{HasSent};
+ghost use Rattle.lk_state.specs.Meanings.{meaning};
+ghost use Rattle.lk_node.specs.DecidedPairs.{TakesPair, TakesPairs};
+ghost use Rattle.lk_node.specs.Learning.{Learns};
+ghost use Rattle.lk_node.specs.Outboxes.{nothing};
+ghost use Rattle.lk_node.specs.Serving.{GoesOn};
+
+use crate::node::Node;
+use crate::outbox::Outbox;
+use lk_state::Machine;
+use lk_types::{Command, Entry, NoMemory, Position};
+use lk_wire::Decided;
+
+// The position that lies so far behind the first.
+fn position_behind(first: Position, offset: usize) -> Position
+    requires { first + offset ≤ max_count }
+    ensures { result ≡ first + offset }
+{
+    Position::of(first.get() + offset as u64).unwrap()
+}
+
+impl<M: Machine> Node<M> {
+    // A command is decided at the position. Where it is wanted it is kept, and written.
+    fn keep(
+        &mut self,
+        position: Position,
+        command: &Command,
+        out: &mut Outbox,
+    ) -> Result<(), NoMemory>
+        ensures { OnOk result (Learns (position, command.now) self.old out.old self.new out.new) }
+    {
+        if self.learner.decided(position, command) {
+            out.write(Entry::Decided(position, command.copy()))?;
+        }
+        Ok(())
+    }
+
+    #[tactic(auto, using(crate::proofs::LearnerRules::learns_goes_on))]
+    // The same, of a command that is chosen there.
+    pub(crate) fn learn(
+        &mut self,
+        position: Position,
+        command: &Command,
+        out: &mut Outbox,
+    ) -> Result<(), NoMemory>
+        ensures exact { OnOk result (Learns (position, command.now) self.old out.old self.new out.new) }
+        ensures goes_on { OnOk result (GoesOn (meaning M.first M.next M.answer) (λ h. ChosenAt h.genesis h.sent position command.now) self.old self.new out.old out.new) }
+    {
+        self.keep(position, command, out)?;
+        Ok(())
+    }
+
+    // A command that is chosen at the position is learned, and then all that can be is executed.
+    pub(crate) fn take_pair(
+        &mut self,
+        position: Position,
+        command: &Command,
+        out: &mut Outbox,
+    ) -> Result<(), NoMemory>
+        ensures exact { OnOk result (TakesPair (meaning M.first M.next M.answer) (position, command.now) self.old out.old self.new out.new) }
+        ensures goes_on { OnOk result (GoesOn (meaning M.first M.next M.answer) (λ h. ChosenAt h.genesis h.sent position command.now) self.old self.new out.old out.new) }
+    {
+        self.learn(position, command, out)?;
+        self.execute(out)?;
+        Ok(())
+    }
+
+    // Decided commands are told: they are taken in order.
+    pub(crate) fn hear_decided(&mut self, decided: &Decided) -> Result<Outbox, NoMemory>
+        ensures exact { IfOk result (λ o. TakesPairs (meaning M.first M.next M.answer) decided.now.first decided.now.commands self.old nothing (length decided.now.commands) self.new o) }
+        ensures goes_on { (from : ℕ) → IfOk result (λ o. GoesOn (meaning M.first M.next M.answer) (λ h. HasSent h.genesis h.sent from (kinds.Decided decided.now)) self.old self.new nothing o) }
+    {
+        decided.facts();
+        let mut out = Outbox::new(self.alloc);
+        let commands = decided.commands();
+        'pairs: for index in 0..commands.len() {
+            let position = position_behind(decided.first(), index);
+            self.take_pair(position, &commands[index], &mut out)?;
+        }
+        Ok(out)
+    }
+}

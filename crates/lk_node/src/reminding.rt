@@ -1,0 +1,170 @@
+// What a node with a term tells again as time passes.
+ghost use Rattle.std.specs.Prelude.{◌≡◌, ◌+◌, not, ◌==◌, IfOk, OnOk};
+ghost use Rattle.std.specs.List.{list_any};
+ghost use Rattle.lk_state.specs.Meanings.{meaning};
+ghost use Rattle.lk_node.specs.Leading.{NothingOpen};
+ghost use Rattle.lk_node.specs.Outboxes.{nothing};
+ghost use Rattle.lk_node.specs.Reminding.{IsTermOf, keeps_promise, AreSilent, AsksAgain, OffersAgain, OffersSome, TellsLead, Reminds};
+ghost use Rattle.lk_node.specs.Serving.{GoesOn};
+
+use crate::node::Node;
+use crate::outbox::Outbox;
+use lk_state::Machine;
+use lk_types::{Members, NoMemory, NodeNo, Position, RealBallot, Vote};
+use lk_wire::NodeMessage;
+
+// Whether the node is among these.
+fn is_heard(accepted: &[NodeNo], node: NodeNo) -> bool
+    ensures { result ≡ list_any (λ n. n == node) accepted.now }
+{
+    accepted.iter().any(|heard| *heard == node)
+}
+
+impl<M: Machine> Node<M> {
+    // Whether the term keeps no promise of the node.
+    fn is_silent(&self, node: NodeNo) -> bool
+        ensures { result ≡ not (keeps_promise self.now.leader.term node) }
+    {
+        !self.leader.has_promised(node)
+    }
+
+    // The nodes of the window of which the term keeps no promise.
+    fn silent_nodes(&self) -> Result<Vec<NodeNo>, NoMemory>
+        ensures { IfOk result (λ ns. AreSilent self.now ns.items) }
+    {
+        let all = self.window_nodes()?;
+        let mut silent = Vec::new(self.alloc);
+        let nodes = all.as_slice();
+        'nodes: for node in nodes {
+            if self.is_silent(*node) {
+                silent.push(*node)?;
+            }
+        }
+        Ok(silent)
+    }
+
+    // They are asked again for their promise.
+    fn ask_silent(&self, ballot: RealBallot, out: &mut Outbox) -> Result<(), NoMemory>
+        ensures { OnOk result (AsksAgain self.now ballot out.old out.new) }
+    {
+        let Some(first) = Position::of(self.learner.whole().executed().get() + 1) else {
+            return Ok(());
+        };
+        let nodes = self.silent_nodes()?;
+        self.tell_all(&nodes, NodeMessage::Prepare(ballot, first), out)?;
+        Ok(())
+    }
+
+    // The same, by the term's ballot.
+    fn ask_again(&self, ballot: RealBallot, out: &mut Outbox) -> Result<(), NoMemory>
+        requires { IsTermOf ballot self.now.leader }
+        ensures exact { OnOk result (AsksAgain self.now ballot out.old out.new) }
+        ensures goes_on { OnOk result (GoesOn (meaning M.first M.next M.answer) (λ h. Unit {0}) self.now self.now out.old out.new) }
+    {
+        self.facts();
+        self.ask_silent(ballot, out)?;
+        Ok(())
+    }
+
+    // The members of the set that were not heard to accept.
+    fn unheard(&self, set: &Members, accepted: &[NodeNo]) -> Result<Vec<NodeNo>, NoMemory> {
+        let mut unheard = Vec::new(self.alloc);
+        for member in set.as_slice() {
+            if !is_heard(accepted, member.node) {
+                unheard.push(member.node)?;
+            }
+        }
+        Ok(unheard)
+    }
+
+    // What is open at the position is told again to the members of it that were not heard to accept it.
+    fn offer(
+        &self,
+        ballot: RealBallot,
+        position: Position,
+        out: &mut Outbox,
+    ) -> Result<(), NoMemory>
+        ensures { OnOk result (OffersAgain self.now ballot position out.old out.new) }
+    {
+        let Some(open) = self.leader.open_at(position, self.roster()) else {
+            return Ok(());
+        };
+        let Some(set) = self.roster().members_at(position) else {
+            return Ok(());
+        };
+        let nodes = self.unheard(set, open.accepted)?;
+        let command = open.command.copy();
+        let vote = Vote {
+            position,
+            ballot,
+            command,
+        };
+        self.tell_all(&nodes, NodeMessage::Accept(vote), out)?;
+        Ok(())
+    }
+
+    // The same, by the term's ballot.
+    fn offer_again(
+        &self,
+        ballot: RealBallot,
+        position: Position,
+        out: &mut Outbox,
+    ) -> Result<(), NoMemory>
+        requires { IsTermOf ballot self.now.leader }
+        ensures exact { OnOk result (OffersAgain self.now ballot position out.old out.new) }
+        ensures goes_on { OnOk result (GoesOn (meaning M.first M.next M.answer) (λ h. Unit {0}) self.now self.now out.old out.new) }
+    {
+        self.facts();
+        self.offer(ballot, position, out)?;
+        Ok(())
+    }
+
+    // What is open at any position of the window is told again.
+    fn offer_all(&self, ballot: RealBallot, out: &mut Outbox) -> Result<(), NoMemory>
+        requires { IsTermOf ballot self.now.leader }
+        ensures exact { OnOk result (OffersSome self.now ballot out.old out.new) }
+        ensures goes_on { OnOk result (GoesOn (meaning M.first M.next M.answer) (λ h. Unit {0}) self.now self.now out.old out.new) }
+    {
+        let next = self.learner.whole().executed().get() + 1;
+        'ahead: for ahead in 0..self.roster().alpha() {
+            if let Some(position) = Position::of(next + u64::from(ahead)) {
+                self.offer_again(ballot, position, out)?;
+            }
+        }
+        Ok(())
+    }
+
+    // The other nodes of the window are told who leads.
+    fn tell_leader(&self, ballot: RealBallot, out: &mut Outbox) -> Result<(), NoMemory>
+        ensures { OnOk result (TellsLead self.now ballot out.old out.new) }
+    {
+        let nodes = self.others()?;
+        let executed = self.learner.whole().executed();
+        self.tell_all(&nodes, NodeMessage::Lead(ballot, executed), out)?;
+        Ok(())
+    }
+
+    // The same.
+    pub(crate) fn tell_lead(&self, ballot: RealBallot, out: &mut Outbox) -> Result<(), NoMemory>
+        ensures exact { OnOk result (TellsLead self.now ballot out.old out.new) }
+        ensures goes_on { OnOk result (GoesOn (meaning M.first M.next M.answer) (λ h. Unit {0}) self.now self.now out.old out.new) }
+    {
+        self.tell_leader(ballot, out)?;
+        Ok(())
+    }
+
+    // A tick in a term of this ballot.
+    pub(crate) fn remind(&mut self, ballot: RealBallot) -> Result<Outbox, NoMemory>
+        requires { IsTermOf ballot self.old.leader }
+        ensures exact { IfOk result (λ o. Reminds ballot self.old self.new o) }
+        ensures done { OnOk result (NothingOpen self.new) }
+        ensures goes_on { IfOk result (λ o. GoesOn (meaning M.first M.next M.answer) (λ h. Unit {0}) self.old self.new nothing o) }
+    {
+        let mut out = Outbox::new(self.alloc);
+        self.ask_again(ballot, &mut out)?;
+        self.offer_all(ballot, &mut out)?;
+        self.propose(&mut out)?;
+        self.tell_lead(ballot, &mut out)?;
+        Ok(out)
+    }
+}

@@ -1,0 +1,111 @@
+// What a node does with any input.
+ghost use Rattle.std.specs.Prelude.{◌≡◌, true, IfOk, OnOk, OnErr, IsErr};
+ghost use Rattle.lk_history.specs.Datagrams.{HasSent};
+ghost use Rattle.lk_state.specs.Meanings.{meaning};
+ghost use Rattle.lk_node.specs.Calls.{InputFits};
+ghost use Rattle.lk_node.specs.Histories.{IsHeard};
+ghost use Rattle.lk_node.specs.Leading.{NothingOpen};
+ghost use Rattle.lk_node.specs.Outboxes.{nothing};
+ghost use Rattle.lk_node.specs.Serving.{GoesOn};
+ghost use Rattle.lk_node.specs.Steps.{Hears, HearsNode, TakesBytes, TakesDatagram, Steps, WasHeard};
+
+use crate::input::Input;
+use crate::node::{Halted, Node};
+use crate::outbox::Outbox;
+use lk_state::Machine;
+use lk_types::{NoMemory, NodeNo};
+use lk_wire::{Content, NodeMessage, ReadFault, read};
+
+impl<M: Machine> Node<M> {
+    #[tactic(auto, using(crate::proofs::Serving::rests_here))]
+    // Does with a node's message what is to be done.
+    fn hear_node(&mut self, from: NodeNo, message: &NodeMessage) -> Result<Outbox, NoMemory>
+        ensures exact { IfOk result (λ o. HearsNode (meaning M.first M.next M.answer) self.old from message.now self.new o) }
+        ensures goes_on { IfOk result (λ o. GoesOn (meaning M.first M.next M.answer) (λ h. HasSent h.genesis h.sent from message.now) self.old self.new nothing o) }
+    {
+        match message {
+            NodeMessage::Prepare(ballot, first) => self.prepare(from, *ballot, *first),
+            NodeMessage::Accept(vote) => self.accept(from, vote.copy()),
+            NodeMessage::Promise(promise) => self.hear_promise(from, promise),
+            NodeMessage::Accepted(vote) => self.hear_accepted(from, vote),
+            NodeMessage::Decided(decided) => self.hear_decided(decided),
+            NodeMessage::Nack(nack) => self.hear_nack(from, nack),
+            NodeMessage::Want(want) => self.hear_want(from, want),
+            NodeMessage::Lead(ballot, executed) => self.hear_lead(from, *ballot, *executed),
+            _ => Ok(Outbox::new(self.alloc)),
+        }
+    }
+
+    #[tactic(auto, using(crate::proofs::Serving::rests_here))]
+    // Does with a message of the cluster what is to be done.
+    fn hear(&mut self, content: &Content) -> Result<Outbox, NoMemory>
+        ensures exact { IfOk result (λ o. Hears (meaning M.first M.next M.answer) self.old content.now self.new o) }
+        ensures goes_on { IfOk result (λ o. GoesOn (meaning M.first M.next M.answer) (λ h. WasHeard h content.now) self.old self.new nothing o) }
+    {
+        match content {
+            Content::Request(request) => self.hear_request(request),
+            Content::Node(from, message) => self.hear_node(*from, message),
+        }
+    }
+
+    #[tactic(auto, using(crate::proofs::Serving::rests_here, crate::proofs::Serving::bytes_go_on))]
+    // Does with any bytes what is to be done.
+    fn take_bytes(&mut self, bytes: &[u8]) -> Result<Outbox, NoMemory>
+        ensures exact { IfOk result (λ o. TakesBytes (meaning M.first M.next M.answer) self.old bytes.now self.new o) }
+        ensures goes_on { IfOk result (λ o. GoesOn (meaning M.first M.next M.answer) (λ h. IsHeard h bytes.now) self.old self.new nothing o) }
+    {
+        let message = match read(self.alloc, bytes) {
+            Ok(message) => message,
+            Err(ReadFault::Bad) => return Ok(Outbox::new(self.alloc)),
+            Err(ReadFault::NoMemory) => return Err(NoMemory),
+        };
+        if message.cluster != self.header.genesis().cluster {
+            return Ok(Outbox::new(self.alloc));
+        }
+        let out = self.hear(&message.content)?;
+        Ok(out)
+    }
+
+    // Does with any bytes what is to be done, and then proposes what can be.
+    fn take_datagram(&mut self, bytes: &[u8]) -> Result<Outbox, NoMemory>
+        ensures exact { IfOk result (λ o. TakesDatagram (meaning M.first M.next M.answer) self.old bytes.now self.new o) }
+        ensures done { OnOk result (NothingOpen self.new) }
+        ensures goes_on { IfOk result (λ o. GoesOn (meaning M.first M.next M.answer) (λ h. IsHeard h bytes.now) self.old self.new nothing o) }
+    {
+        let mut out = self.take_bytes(bytes)?;
+        self.propose(&mut out)?;
+        Ok(out)
+    }
+
+    #[tactic(auto, using(crate::proofs::Serving::rests_here))]
+    fn serve(&mut self, input: Input) -> Result<Outbox, NoMemory>
+        ensures exact { IfOk result (λ o. Steps (meaning M.first M.next M.answer) self.old input.entry self.new o) }
+        ensures goes_on { IfOk result (λ o. GoesOn (meaning M.first M.next M.answer) (λ h. InputFits h input.entry) self.old self.new nothing o) }
+    {
+        match input {
+            Input::Tick => self.tick(),
+            Input::Datagram(bytes) => self.take_datagram(bytes),
+        }
+    }
+
+    /// Takes a tick or a datagram, and tells what is to be written, noted and sent, in that order.
+    ///
+    /// It refuses with `Halted` where memory is refused; after that each later call answers `Halted`.
+    pub fn step(&mut self, input: Input) -> Result<Outbox, Halted>
+        ensures steps { IfOk result (λ o. Steps (meaning M.first M.next M.answer) self.old input.entry self.new o) }
+        ensures goes_on { IfOk result (λ o. GoesOn (meaning M.first M.next M.answer) (λ h. InputFits h input.entry) self.old self.new nothing o) }
+        ensures halts { OnErr result (self.new.halted ≡ true) }
+        ensures stays_halted { self.old.halted ≡ true → IsErr result × (self.new ≡ self.old) }
+    {
+        if self.halted {
+            return Err(Halted);
+        }
+        match self.serve(input) {
+            Ok(outbox) => Ok(outbox),
+            Err(NoMemory) => {
+                self.halted = true;
+                Err(Halted)
+            }
+        }
+    }
+}

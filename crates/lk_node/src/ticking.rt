@@ -1,0 +1,72 @@
+// What a node does as time passes.
+ghost use Rattle.std.specs.Prelude.{◌≡◌, IfOk};
+ghost use Rattle.lk_state.specs.Meanings.{meaning};
+ghost use Rattle.lk_node.specs.Outboxes.{nothing};
+ghost use Rattle.lk_node.specs.Reminding.{Ticks};
+ghost use Rattle.lk_node.specs.Serving.{GoesOn};
+ghost use Rattle.lk_node.specs.Waiting.{place_of, is_enough, ticked, BeginsWhereDue};
+
+use crate::node::Node;
+use crate::outbox::Outbox;
+use lk_state::Machine;
+use lk_types::NoMemory;
+
+impl<M: Machine> Node<M> {
+    // The node's place from 0 among the members of the next position, or none where it is no member.
+    fn place(&self) -> Option<usize>
+        ensures { result ≡ place_of self.now }
+    {
+        let own = self.header.node();
+        let members = self.roster().window().get(0)?.as_slice();
+        members.iter().position(|member| member.node == own)
+    }
+
+    // Whether the node has waited long enough for a leader.
+    fn is_due(&self) -> bool
+        ensures { result ≡ is_enough self.now.ticks (place_of self.now) }
+    {
+        let ticks = usize::from(self.ticks.get());
+        match self.place() {
+            Some(place) => ticks >= 4 && place <= (ticks - 4) / 4,
+            None => false,
+        }
+    }
+
+    #[tactic(auto, using(crate::proofs::Serving::rests_here))]
+    // Begins a ballot where it has waited long enough.
+    fn begin_where_due(&mut self) -> Result<Outbox, NoMemory>
+        ensures exact { IfOk result (λ o. BeginsWhereDue self.old self.new o) }
+        ensures goes_on { IfOk result (λ o. GoesOn (meaning M.first M.next M.answer) (λ h. Unit {0}) self.old self.new nothing o) }
+    {
+        if !self.is_due() {
+            return Ok(Outbox::new(self.alloc));
+        }
+        let Some(ballot) = self.next_ballot() else {
+            return Ok(Outbox::new(self.alloc));
+        };
+        let out = self.begin(ballot)?;
+        Ok(out)
+    }
+
+    #[tactic(auto, using(crate::proofs::BallotRules::ticked_goes_on))]
+    // A tick without a term is counted.
+    fn wait(&mut self) -> Result<Outbox, NoMemory>
+        ensures exact { IfOk result (λ o. BeginsWhereDue (ticked self.old) self.new o) }
+        ensures goes_on { IfOk result (λ o. GoesOn (meaning M.first M.next M.answer) (λ h. Unit {0}) self.old self.new nothing o) }
+    {
+        self.ticks.rise();
+        let out = self.begin_where_due()?;
+        Ok(out)
+    }
+
+    // Some time has passed.
+    pub(crate) fn tick(&mut self) -> Result<Outbox, NoMemory>
+        ensures exact { IfOk result (λ o. Ticks self.old self.new o) }
+        ensures goes_on { IfOk result (λ o. GoesOn (meaning M.first M.next M.answer) (λ h. Unit {0}) self.old self.new nothing o) }
+    {
+        match self.leader.ballot() {
+            Some(ballot) => self.remind(ballot),
+            None => self.wait(),
+        }
+    }
+}

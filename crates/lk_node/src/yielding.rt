@@ -1,0 +1,44 @@
+// When a node ends its term.
+ghost use Rattle.std.specs.Prelude.{◌≡◌};
+ghost use Rattle.lk_node.specs.Yielding.{without_term, yielded, with_round, seeing};
+
+use crate::node::Node;
+use lk_state::Machine;
+use lk_types::Ballot;
+
+impl<M: Machine> Node<M> {
+    // The term ends, what waits is forgotten, and ticks count from the start.
+    pub(crate) fn leave_term(&mut self)
+        ensures { self.new ≡ without_term self.old }
+    {
+        self.leader.leave();
+        self.ticks.reset();
+    }
+
+    // A ballot was seen. Where it is above the term's, the term ends.
+    pub(crate) fn yield_to(&mut self, ballot: Ballot)
+        ensures { self.new ≡ yielded ballot self.old }
+    {
+        let Some(own) = self.leader.ballot() else {
+            return;
+        };
+        if own.get().is_below(ballot) {
+            self.leave_term();
+        }
+    }
+
+    // A ballot was seen in a proposal.
+    pub(crate) fn see_round(&mut self, ballot: Ballot)
+        ensures { self.new ≡ with_round ballot self.old }
+    {
+        self.rounds.see(ballot.round());
+    }
+
+    // A ballot was seen in a refusal or a leader's notice.
+    pub(crate) fn see(&mut self, ballot: Ballot)
+        ensures { self.new ≡ seeing ballot self.old }
+    {
+        self.see_round(ballot);
+        self.yield_to(ballot);
+    }
+}
