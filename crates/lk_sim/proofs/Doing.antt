@@ -1,0 +1,188 @@
+-- What an event has done, by what its calls came to.
+use Rattle.std.proofs.Common.{◌≡◌, ℕ, ◌⊎◌, List, [], ◌++◌, set, Option, ap, sym, ◌∙◌, subst, subst₂, inl, inr, append_assoc, append-nil}
+use Rattle.std.proofs.lemmas.List.{get_or_default}
+use Rattle.lk_disk.specs.Disk.{Disk}
+use Rattle.lk_disk.specs.Memory.{Memory}
+use Rattle.lk_disk.specs.declared.device.Side.{Side}
+use Rattle.lk_log.specs.Values.{HeaderValue}
+use Rattle.lk_state.specs.Meanings.{Meaning}
+use Rattle.lk_history.specs.Nodes.{View}
+use Rattle.lk_node.specs.Histories.{History, Genesis, Datagram, RequestValue}
+use Rattle.lk_node.specs.Holdings.{Holding}
+use Rattle.lk_node.specs.Leavings.{header_of}
+use Rattle.lk_node.specs.declared.note.Note.{Note}
+use Rattle.lk_sim.specs.Traces.{asked_in, happened, Tells, asked_note}
+use Rattle.lk_sim.specs.Scenes.{Scene}
+use Rattle.lk_sim.specs.Seats.{At, SeatFits, SeatGoes}
+use Rattle.lk_sim.specs.Events.{AreOwn, Adds, Falls, IsGiven, ComesUp, IsHalted}
+use Rattle.lk_sim.specs.Outcomes.{HasFallen, HasHalted, HasTaken, HasRevived, HasAdded, HasGivenUp}
+use Rattle.lk_sim.specs.Worlds.{Holds}
+use Rattle.lk_sim.specs.declared.end.End.{End}
+use Rattle.lk_sim.specs.declared.seat.Seat.{Seat}
+use Rattle.lk_sim.specs.declared.seat.Life.TheVariants.{Up, Down}
+use Rattle.lk_sim.proofs.Ending.{goes_fits}
+use Rattle.lk_sim.proofs.Lists.{at_set_here}
+use Rattle.lk_sim.proofs.Given.{set_twice, asked_maybe, went_down, went_off, went_on}
+
+-- one thing stands at a place
+pub at_same : {X : Type 0} (xs : List X) (i : ℕ) (x y : X) → At xs i x → At xs i y → x ≡ y
+at_same xs i x y a b = sym a.1 ∙ get_or_default xs i x y a.0 ∙ b.1
+
+nothing_told : (batch : List Datagram) (told : List Note) → batch ≡ [] → Tells batch told → told ≡ []
+nothing_told batch told none tells = subst (λ l. Tells l told) none tells
+
+module _ {R : Type 0} (old new : Scene R) where
+  -- a node that a fault ended has added nothing of its own
+  pub falls : (t : Seat R) (asked mine told : List Note) (batch : List Datagram) (how : Option End) → Adds old new ((asked ++ mine) ++ told) batch → Tells batch told → new.ended ≡ how
+      → HasFallen t mine batch how → Falls old new t asked
+  falls t asked mine told batch how a tells ended f = record {
+    device = f.device;
+    down = f.down;
+    trap = f.trap;
+    number = f.number;
+    ended = ended ∙ f.ended;
+    adds = record {
+      genesis = a.genesis;
+      sent = a.sent ∙ ap (λ l. old.sent ++ l) f.no_batch;
+      trace = a.trace ∙ ap (λ l. old.trace ++ l) (ap (λ l. (asked ++ mine) ++ l) (nothing_told batch told f.no_batch tells) ∙ append-nil (asked ++ mine) ∙ ap (λ l. asked ++ l) f.no_notes ∙ append-nil asked);
+    };
+  }
+
+  -- a node that was given something
+  pub given : (Takes : R → Option (List ℕ) → R → List Note → List Datagram → Type 0) (i n : ℕ) (s t : Seat R) (r : R) (o : Option (List ℕ)) (asked mine : List Note) (batch : List Datagram) (how : Option End)
+      → At old.seats i s → s.number ≡ n → s.life ≡ Up r → t.number ≡ s.number → ((q : R) → t.life ≡ Up q → AreOwn mine)
+      → HasAdded (record old { seats = set old.seats i t }) new asked mine batch how → HasTaken Takes r o t mine batch how ⊎ HasFallen t mine batch how → IsGiven Takes old new n o asked
+  given Takes i n s t r o asked mine batch how at is up number own k cases = record {
+    seat = s;
+    number = is;
+    replica = r;
+    up = up;
+    next = t;
+    turns = record { place = i; at = at; number = number; seats = k.seats };
+    comes_to = elim cases [
+      | inl q ↦ inl (record { replica = q.replica; up = q.up; notes = mine; told = k.told; batch = batch; takes = q.takes; own = own q.replica q.up; tells = k.tells; adds = adds; ended = k.ended ∙ q.ended })
+      | inr f ↦ inr (falls t asked mine k.told batch how adds k.tells k.ended f)
+    ];
+  }
+    where
+      adds : Adds old new ((asked ++ mine) ++ k.told) batch
+      adds = record { genesis = k.adds.genesis; sent = k.adds.sent; trace = k.adds.trace }
+
+  pub comes : (Revives : (Side → Disk) → HeaderValue → R → List Note → Type 0) (t : Seat R) (d : Side → Disk) (n : ℕ) (mine told : List Note) (batch : List Datagram) (how : Option End)
+      → t.number ≡ n → ((q : R) → t.life ≡ Up q → AreOwn mine) → Adds old new (([] ++ mine) ++ told) batch → Tells batch told → new.ended ≡ how
+      → HasRevived Revives d (header_of old.genesis n) t mine batch how ⊎ HasFallen t mine batch how → ComesUp Revives old new t d
+  comes Revives t d n mine told batch how number own a tells ended cases = elim cases [
+    | inl k ↦ inl (record {
+      replica = k.replica;
+      up = k.up;
+      notes = mine;
+      revives = subst (λ z. Revives d (header_of old.genesis z) k.replica mine) (sym number) k.revives;
+      own = own k.replica k.up;
+      adds = record {
+        genesis = a.genesis;
+        sent = a.sent ∙ ap (λ l. old.sent ++ l) k.no_batch;
+        trace = a.trace ∙ ap (λ l. old.trace ++ l) (ap (λ l. mine ++ l) (nothing_told batch told k.no_batch tells) ∙ append-nil mine);
+      };
+      ended = ended ∙ k.ended;
+    })
+    | inr f ↦ inr (falls t [] mine told batch how a tells ended f)
+  ]
+
+  -- a node that was given up
+  pub given_up : (Shows : R → Genesis → ℕ → Holding → Type 0) (disks : R → Side → Disk) (m : Meaning) (i n : ℕ) (s t : Seat R) → At old.seats i s → s.number ≡ n → t.number ≡ s.number
+      → HasGivenUp Shows disks m (record old { seats = set old.seats i t }) i new → IsHalted old new n
+  given_up Shows disks m i n s t at is number k = record {
+    seat = s;
+    number = is;
+    next = k.next;
+    turns = record {
+      place = i;
+      at = at;
+      number = k.number ∙ ap (λ (z : Seat R). z.number) (at_same (set old.seats i t) i k.seat t k.at (at_set_here old.seats i t at.0)) ∙ number;
+      seats = k.seats ∙ set_twice old.seats i t k.next;
+    };
+    device = k.halted.device;
+    down = k.halted.down;
+    synced = k.halted.synced;
+    trap = k.halted.trap;
+    adds = record { genesis = k.adds.genesis; sent = k.adds.sent; trace = k.adds.trace };
+    ended = k.ended;
+  }
+
+-- a node is up, or was ended with nothing added
+pub record Ends {R : Type 0} (t : Seat R) (mine : List Note) (batch : List Datagram) : Type 0 where
+  pub device : Memory
+  pub down : t.life ≡ Down device
+  pub no_notes : mine ≡ []
+  pub no_batch : batch ≡ []
+
+pub taken_cases : {R : Type 0} (Takes : R → Option (List ℕ) → R → List Note → List Datagram → Type 0) (r : R) (o : Option (List ℕ)) (t : Seat R) (mine : List Note) (batch : List Datagram) (how : Option End)
+    → HasTaken Takes r o t mine batch how ⊎ HasFallen t mine batch how → ((q : R) × (t.life ≡ Up q)) ⊎ Ends t mine batch
+taken_cases Takes r o t mine batch how cases = elim cases [
+  | inl k ↦ inl (k.replica, k.up)
+  | inr f ↦ inr (record { device = f.device; down = f.down; no_notes = f.no_notes; no_batch = f.no_batch })
+]
+
+pub revived_cases : {R : Type 0} (Revives : (Side → Disk) → HeaderValue → R → List Note → Type 0) (d : Side → Disk) (whose : HeaderValue) (t : Seat R) (mine : List Note) (batch : List Datagram) (how : Option End)
+    → HasRevived Revives d whose t mine batch how ⊎ HasFallen t mine batch how → ((q : R) × (t.life ≡ Up q)) ⊎ Ends t mine batch
+revived_cases Revives d whose t mine batch how cases = elim cases [
+  | inl k ↦ inl (k.replica, k.up)
+  | inr f ↦ inr (record { device = f.device; down = f.down; no_notes = f.no_notes; no_batch = f.no_batch })
+]
+
+module _ {R : Type 0} (Shows : R → Genesis → ℕ → Holding → Type 0) (disks : R → Side → Disk) (m : Meaning) (genesis : Genesis) (seats : List (Seat R)) (sent : List Datagram) (trace : List Note)
+    (w : Holds Shows disks m genesis seats sent trace) (i : ℕ) (s t : Seat R) (at : At seats i s) (number : t.number ≡ s.number) (o : Option RequestValue) where
+  abbrev asked : List Note
+  asked = trace ++ asked_note o
+
+  abbrev h : History
+  h = happened genesis sent asked
+
+  pub since : Holds Shows disks m genesis seats sent asked
+  since = asked_maybe Shows disks m genesis seats sent trace w o
+
+  -- a node that was halted keeps all that holds
+  pub halted_holds : (off : Seat R) → off.number ≡ s.number → HasHalted off → (v : View) → SeatFits Shows disks m h v off → Holds Shows disks m genesis (set seats i off) sent trace
+  halted_holds off same k v f = went_off Shows disks m genesis seats sent trace w i s off at same (asked_in asked) v k.device k.down f
+
+  module _ (mine : List Note) (batch : List Datagram)
+      (goes : (q : R) → t.life ≡ Up q → SeatGoes Shows disks m h t mine batch)
+      (down : (d : Memory) → t.life ≡ Down d → SeatFits Shows disks m h (since.views s.number) t)
+      (cases : ((q : R) × (t.life ≡ Up q)) ⊎ Ends t mine batch) where
+    abbrev mid : Option End → Scene R
+    mid ended = record { genesis = genesis; seats = set seats i t; sent = sent; trace = trace; ended = ended }
+
+    added : (told : List Note) → Tells batch told → Holds Shows disks m genesis (set seats i t) (sent ++ batch) (trace ++ ((asked_note o ++ mine) ++ told))
+    added told tells = elim cases [
+      | inl u ↦ subst (λ l. Holds Shows disks m genesis (set seats i t) (sent ++ batch) l)
+          (append_assoc trace (asked_note o) (mine ++ told) ∙ ap (λ l. trace ++ l) (sym (append_assoc (asked_note o) mine told)))
+          (went_on Shows disks m genesis seats sent asked since i s t at number mine told batch (goes u.0 u.1) tells)
+      | inr e ↦ subst₂ (λ a b. Holds Shows disks m genesis (set seats i t) a b)
+          (sym (ap (λ l. sent ++ l) e.no_batch ∙ append-nil sent))
+          (sym (ap (λ l. trace ++ l) (ap (λ l. (asked_note o ++ mine) ++ l) (nothing_told batch told e.no_batch tells) ∙ append-nil (asked_note o ++ mine) ∙ ap (λ l. asked_note o ++ l) e.no_notes ∙ append-nil (asked_note o))))
+          (went_down Shows disks m genesis seats sent asked since i s t at number (down e.device e.down))
+    ]
+
+    -- what the node has added keeps all that holds
+    pub added_holds : (before how : Option End) (new : Scene R) → HasAdded (mid before) new (asked_note o) mine batch how → Holds Shows disks m new.genesis new.seats new.sent new.trace
+    added_holds before how new k =
+        subst (λ g. Holds Shows disks m g new.seats new.sent new.trace) (sym k.adds.genesis)
+        (subst (λ z. Holds Shows disks m genesis z new.sent new.trace) (sym k.seats)
+        (subst₂ (λ a b. Holds Shows disks m genesis (set seats i t) a b) (sym k.adds.sent) (sym k.adds.trace) (added k.told k.tells)))
+
+    -- it fits to some view
+    fits_some : (v : View) × SeatFits Shows disks m h v t
+    fits_some = elim cases [
+      | inl u ↦ (let f = goes u.0 u.1 in (f.goes.holding.view, goes_fits Shows disks m genesis sent (asked_in asked) t mine batch f))
+      | inr e ↦ (since.views s.number, down e.device e.down)
+    ]
+
+    -- that it was given up does too
+    pub given_up_holds : (before : Option End) (new : Scene R) → HasGivenUp Shows disks m (mid before) i new → Holds Shows disks m new.genesis new.seats new.sent new.trace
+    given_up_holds before new k =
+        let same : k.seat ≡ t = at_same (set seats i t) i k.seat t k.at (at_set_here seats i t at.0) in
+        let f = fits_some in
+        subst (λ g. Holds Shows disks m g new.seats new.sent new.trace) (sym k.adds.genesis)
+        (subst (λ z. Holds Shows disks m genesis z new.sent new.trace) (sym (k.seats ∙ set_twice seats i t k.next))
+        (subst₂ (λ a b. Holds Shows disks m genesis (set seats i k.next) a b) (sym (k.adds.sent ∙ append-nil sent)) (sym (k.adds.trace ∙ append-nil trace))
+        (halted_holds k.next (k.number ∙ ap (λ (z : Seat R). z.number) same ∙ number) k.halted f.0 (k.fits h f.0 (subst (λ z. SeatFits Shows disks m h f.0 z) (sym same) f.1)))))

@@ -1,0 +1,100 @@
+-- A node goes down, and keeps disks that fit.
+use Rattle.std.proofs.Common.{◌≡◌, ℕ, zero, suc, List, [], ◌++◌, take, set, get_or, refl, ap, sym, ◌∙◌, subst, inl, inr, append-nil}
+use Rattle.std.proofs.lemmas.Bool.{cases_eq}
+use Rattle.std.proofs.lemmas.List.{get_or_default}
+use Rattle.lk_disk.specs.Disk.{Disk, kept_by}
+use Rattle.lk_disk.specs.Memory.{Memory}
+use Rattle.lk_disk.specs.declared.device.Side.{Side}
+use Rattle.lk_state.specs.Meanings.{Meaning}
+use Rattle.lk_history.specs.Nodes.{View}
+use Rattle.lk_node.specs.Histories.{History, Genesis, Datagram, RequestValue}
+use Rattle.lk_node.specs.Holdings.{Holding}
+use Rattle.lk_node.specs.Leavings.{DisksFit}
+use Rattle.lk_node.specs.declared.note.Note.{Note}
+use Rattle.lk_sim.specs.Traces.{happened}
+use Rattle.lk_sim.specs.Seats.{UpFits, SeatFits, SeatGoes, At}
+use Rattle.lk_sim.specs.Worlds.{Holds}
+use Rattle.lk_sim.specs.declared.seat.Seat.{Seat}
+use Rattle.lk_sim.specs.declared.seat.Life.TheVariants.{Down}
+use Rattle.lk_sim.proofs.Lists.{at_set, at_set_here, at_set_other}
+
+-- what is left once a stop is over is an image that it might leave
+pub stopped_fit : (m : Meaning) (h : History) (n : ℕ) (old new : Side → Disk) → ((s : Side) → (k : ℕ) × (new s ≡ kept_by k (old s))) → DisksFit m h n old → DisksFit m h n new
+stopped_fit m h n old new kept f image may = f image (λ s. side s (kept s).0 (kept s).1 (may s))
+  where
+    side : (s : Side) (k : ℕ) → new s ≡ kept_by k (old s) → (j : ℕ) × (image s ≡ (new s).synced ++ take j (new s).unsynced) → (j : ℕ) × (image s ≡ (old s).synced ++ take j (old s).unsynced)
+    side s k e l = (k, l.1 ∙ ap (λ (d : Disk). d.synced ++ take l.0 d.unsynced) e ∙ ap (λ z. ((old s).synced ++ take k (old s).unsynced) ++ z) (none l.0) ∙ append-nil _)
+      where
+        none : (j : ℕ) → ◌≡◌ {A = List ℕ} (take j []) []
+        none zero = refl
+        none (suc j) = refl
+
+-- a node that is down fits whatever view stands for its number
+pub any_view : {R : Type 0} (Shows : R → Genesis → ℕ → Holding → Type 0) (disks : R → Side → Disk) (m : Meaning) (h : History) (v x : View) (s : Seat R) (d : Memory) → s.life ≡ Down d
+    → SeatFits Shows disks m h v s → SeatFits Shows disks m h x s
+any_view Shows disks m h v x s d down f = record { up = λ q is. absurd (cc (down, is)); down = f.down }
+
+-- a node is replaced by one of the same number that fits to the same view
+module _ {R : Type 0} (Shows : R → Genesis → ℕ → Holding → Type 0) (disks : R → Side → Disk) (m : Meaning) (genesis : Genesis) (seats : List (Seat R)) (sent : List Datagram) (trace : List Note)
+    (w : Holds Shows disks m genesis seats sent trace)
+    (i : ℕ) (s new : Seat R) (at : At seats i s) (number : new.number ≡ s.number) (fits : SeatFits Shows disks m (happened genesis sent trace) (w.views s.number) new) where
+  abbrev h : History
+  h = happened genesis sent trace
+
+  seated : (k : ℕ) (t : Seat R) → At (set seats i new) k t → SeatFits Shows disks m h (w.views t.number) t
+  seated k t c = elim (at_set seats i new k t c) [
+    | inl e ↦ subst (λ z. SeatFits Shows disks m h (w.views z.number) z) e.1 (subst (λ k. SeatFits Shows disks m h (w.views k) new) (sym number) fits)
+    | inr o ↦ w.seated k t o.1
+  ]
+
+  pub apart : (j k : ℕ) (t u : Seat R) → At (set seats i new) j t → At (set seats i new) k u → t.number ≡ u.number → j ≡ k
+  apart j k t u c d e = elim (at_set seats i new j t c) [
+    | inl a ↦ elim (at_set seats i new k u d) [
+      | inl b ↦ a.0 ∙ sym b.0
+      | inr b ↦ a.0 ∙ w.apart i k s u at b.1 (sym number ∙ ap (λ (z : Seat R). z.number) a.1 ∙ e)
+    ]
+    | inr a ↦ elim (at_set seats i new k u d) [
+      | inl b ↦ w.apart j i t s a.1 at (e ∙ sym (sym number ∙ ap (λ (z : Seat R). z.number) b.1)) ∙ sym b.0
+      | inr b ↦ w.apart j k t u a.1 b.1 e
+    ]
+  ]
+
+  still_there : (j : ℕ) (t : Seat R) → At seats j t → (k : ℕ) × (u : Seat R) × At (set seats i new) k u × (u.number ≡ t.number)
+  still_there j t c = elim (cases_eq j i) [
+    | inl e ↦ (i, new, at_set_here seats i new at.0, number ∙ ap (λ (z : Seat R). z.number) (same e))
+    | inr ne ↦ (j, t, at_set_other seats i new j t ne c, refl)
+  ]
+    where
+      same : j ≡ i → s ≡ t
+      same e = sym at.1 ∙ get_or_default seats i s t at.0 ∙ ap (λ k. get_or seats k t) (sym e) ∙ c.1
+
+  pub ends : Holds Shows disks m genesis (set seats i new) sent trace
+  ends = record {
+    views = w.views;
+    world = w.world;
+    seated = seated;
+    apart = apart;
+    known = λ k x c. let a = w.known k x c in let b = still_there a.0 a.1 a.2 in (b.0, b.1, b.2, b.3 ∙ a.3);
+    requests = w.requests;
+    proposed = w.proposed;
+    list = w.list;
+    chosen = w.chosen;
+    notes = w.notes;
+    messages = w.messages;
+    told = w.told;
+  }
+
+-- a node that has come up, or went on, fits
+pub goes_fits : {R : Type 0} (Shows : R → Genesis → ℕ → Holding → Type 0) (disks : R → Side → Disk) (m : Meaning) (genesis : Genesis) (sent : List Datagram) (asked : List RequestValue) (s : Seat R) (notes : List Note) (batch : List Datagram)
+    → (g : SeatGoes Shows disks m (record { genesis = genesis; sent = sent; asked = asked }) s notes batch) → SeatFits Shows disks m (record { genesis = genesis; sent = sent; asked = asked }) g.goes.holding.view s
+goes_fits Shows disks m genesis sent asked s notes batch g = record {
+  up = λ q is. let same : g.replica ≡ q = cc (g.up, is) in
+      subst (λ r. UpFits Shows disks m (record { genesis = genesis; sent = sent; asked = asked }) g.goes.holding.view s.number r) same (record {
+        holding = g.goes.holding;
+        view = refl;
+        shown = g.goes.shown;
+        fits = g.goes.fits;
+        left = subst (λ l. DisksFit m (record { genesis = genesis; sent = l; asked = asked }) s.number (disks g.replica)) (append-nil sent) (g.goes.left 0);
+      });
+  down = λ d is. absurd (cc (g.up, is));
+}

@@ -1,0 +1,61 @@
+-- What fits goes on fitting as more is sent and asked.
+use Rattle.std.proofs.Common.{◌≡◌, ℕ, List, ◌++◌, take, Contains, subst}
+use Rattle.lk_disk.specs.Disk.{Disk}
+use Rattle.lk_disk.specs.declared.device.Side.{Side}
+use Rattle.lk_state.specs.Meanings.{Meaning}
+use Rattle.lk_history.specs.Acceptors.{AcceptorState, CoversSent}
+use Rattle.lk_history.specs.Nodes.{View, Stems, ViewFits}
+use Rattle.lk_history.proofs.Histories.{still_chosen_at}
+use Rattle.lk_history.proofs.Histories.{still_slice}
+use Rattle.lk_node.specs.Histories.{History, Genesis, Datagram, Command, Noop, Request, RequestValue, WasAsked}
+use Rattle.lk_node.specs.Served.{text, BearsOut}
+use Rattle.lk_node.specs.Holdings.{Holding, HoldingFits}
+use Rattle.lk_node.specs.Leavings.{DisksFit}
+use Rattle.lk_node.specs.declared.note.Note.{Note}
+use Rattle.lk_node.specs.declared.note.Note.TheVariants as note
+
+-- images fit to another history that they cover, and from which they stem
+pub disks_move : (m : Meaning) (genesis : Genesis) (sent now : List Datagram) (asked since : List RequestValue) (n : ℕ) (disks : Side → Disk)
+    → ((s : AcceptorState) → CoversSent genesis sent n s → CoversSent genesis now n s) → ((w : View) → Stems genesis sent w → Stems genesis now w)
+    → DisksFit m (record { genesis = genesis; sent = sent; asked = asked }) n disks → DisksFit m (record { genesis = genesis; sent = now; asked = since }) n disks
+disks_move m genesis sent now asked since n disks covers stems f image may =
+    let i = f image may in
+    record {
+      standing = i.standing;
+      stands = i.stands;
+      under = i.under;
+      position = i.position;
+      snapshot = i.snapshot;
+      covers = covers _ i.covers;
+      stems = stems _ i.stems;
+    }
+
+-- so with other disks that are the same
+pub same_disks : (m : Meaning) (h : History) (n : ℕ) (old new : Side → Disk) → ((s : Side) → new s ≡ old s) → DisksFit m h n old → DisksFit m h n new
+same_disks m h n old new same f image may = f image (λ s. subst (λ d. (k : ℕ) × (image s ≡ d.synced ++ take k d.unsynced)) (same s) (may s))
+
+module _ (genesis : Genesis) (sent more : List Datagram) (asked since : List RequestValue) (among : (r : RequestValue) → Contains asked r → Contains since r) where
+  abbrev before : History
+  before = record { genesis = genesis; sent = sent; asked = asked }
+
+  abbrev after : History
+  after = record { genesis = genesis; sent = sent ++ more; asked = since }
+
+  pub still_asked : (v : Command) → WasAsked before v → WasAsked after v
+  still_asked Noop a = tt
+  still_asked (Request r) a = among r a
+
+  pub still_holding : (m : Meaning) (n : ℕ) (x : Holding) → ViewFits genesis (sent ++ more) n x.view → HoldingFits m before n x → HoldingFits m after n x
+  still_holding m n x view f = record {
+    view = view;
+    waiting = λ r c. among r (f.waiting r c);
+    proposals = λ t at i v c. still_asked v (f.proposals t at i v c);
+    gathered = λ g at. still_slice genesis sent more (text m genesis) g.position g.total 0 g.bytes (f.gathered g at);
+  }
+
+  pub still_bears : (m : Meaning) (L : List Command) (x : Note) → BearsOut m before L x → BearsOut m after L x
+  still_bears m L (note.Asked r) b = among r b
+  still_bears m L (note.Counted node i set v) b = (b.0, b.1, still_chosen_at genesis sent more i v b.2)
+  still_bears m L (note.Ran node i v) b = b
+  still_bears m L (note.Answered node client number answer) b = b
+  still_bears m L (note.Told node client number last) b = b

@@ -1,0 +1,13 @@
+mod Lists
+mod Told
+mod Growth
+mod Bearing
+mod Explaining
+mod Sending
+mod Asking
+mod Ending
+mod Starting
+mod Given
+mod Hearing
+mod Doing
+mod Running

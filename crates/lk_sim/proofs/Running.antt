@@ -1,0 +1,78 @@
+-- Events in a row.
+use Rattle.std.proofs.Common.{◌≡◌, ℕ, suc, List, [], ◌∷◌, ◌++◌, take, slice_get, Some, None, refl, sym, ap, ◌∙◌, subst, inl, inr, append_assoc, append-nil}
+use Rattle.lk_disk.specs.Disk.{Disk}
+use Rattle.lk_disk.specs.Memory.{disk_of}
+use Rattle.lk_disk.specs.declared.device.Side.{Side}
+use Rattle.lk_log.specs.Values.{HeaderValue}
+use Rattle.std.specs.Prelude.{Option, Result, Ok, Err, OnOk, IfErr}
+use Rattle.lk_node.specs.Histories.{Datagram}
+use Rattle.lk_node.specs.declared.note.Note.{Note}
+use Rattle.lk_sim.specs.Events.{IsGiven, ComesUp, Brings, Does, IsRefused, Grows}
+use Rattle.lk_sim.specs.Runs.{Passes, StopsAt, Runs}
+use Rattle.lk_sim.specs.Scenes.{Scene}
+use Rattle.lk_sim.specs.Traces.{asked_note}
+use Rattle.lk_sim.specs.declared.end.RunEnd.{RunEnd}
+use Rattle.lk_sim.specs.declared.event.Event.{Event}
+use Rattle.lk_sim.specs.declared.event.Event.TheVariants as event
+use Rattle.lk_sim.specs.declared.refused.Refused.{Refused}
+use Rattle.lk_sim.specs.declared.seat.Seat.{Seat}
+use Rattle.lk_sim.proofs.Lists.{take_next}
+
+module _ {R : Type 0} (Takes : R → Option (List ℕ) → R → List Note → List Datagram → Type 0) (Revives : (Side → Disk) → HeaderValue → R → List Note → Type 0) (disks : R → Side → Disk) where
+  passes_on : (es : List Event) (e : Event) (old mid new : Scene R) → Passes Takes Revives disks es old mid → Does Takes Revives disks mid e new → Passes Takes Revives disks (es ++ e ∷ []) old new
+  passes_on [] e old mid new p d = (new, subst (λ z. Does Takes Revives disks z e new) p d, refl)
+  passes_on (x ∷ es) e old mid new p d = (p.0, p.1, passes_on es e p.0 mid new p.2 d)
+
+  -- one event more
+  pub passes_next : (es : List Event) (i : ℕ) (e : Event) (old mid new : Scene R) → slice_get es i ≡ Some e → Passes Takes Revives disks (take i es) old mid → Does Takes Revives disks mid e new → Passes Takes Revives disks (take (suc i) es) old new
+  passes_next es i e old mid new at p d = subst (λ l. Passes Takes Revives disks l old new) (sym (take_next es i e at)) (passes_on (take i es) e old mid new p d)
+
+-- ---- the datagrams only grow
+
+-- whatever a call came to
+pub of_result : {A E : Type 0} (G P : Type 0) (Q : E → Type 0) (r : Result A E) → (P → G) → ((e : E) → Q e → G) → OnOk r P → IfErr r Q → G
+of_result G P Q (Ok x) p q a b = p a
+of_result G P Q (Err e) p q a b = q e b
+
+module _ {R : Type 0} (Takes : R → Option (List ℕ) → R → List Note → List Datagram → Type 0) (Revives : (Side → Disk) → HeaderValue → R → List Note → Type 0) (disks : R → Side → Disk) where
+  nothing_more : (old new : Scene R) → new ≡ old → Grows old new
+  nothing_more old new same = ([], ap (λ (z : Scene R). z.sent) same ∙ sym (append-nil old.sent))
+
+  come_grows : (old new : Scene R) (t : Seat R) (d : Side → Disk) → ComesUp Revives old new t d → Grows old new
+  come_grows old new t d c = elim c [ inl r ↦ ([], r.adds.sent) | inr f ↦ ([], f.adds.sent) ]
+
+  given_grows : (old new : Scene R) (n : ℕ) (o : Option (List ℕ)) (asked : List Note) → IsGiven Takes old new n o asked → Grows old new
+  given_grows old new n o asked k = elim k.comes_to [ inl r ↦ (r.batch, r.adds.sent) | inr f ↦ ([], f.adds.sent) ]
+
+  brings_grows : (old new : Scene R) (e : Event) → Brings Takes Revives disks old e new → Grows old new
+  brings_grows old new (event.Start n) k = come_grows old new k.seat (disk_of k.device) k.comes
+  brings_grows old new (event.Restart n) k = come_grows old new k.next (disk_of k.device) k.comes
+  brings_grows old new (event.Tick n) k = given_grows old new n None [] k
+  brings_grows old new (event.Client n r) k = (k.datagram ∷ [], k.adds.sent)
+  brings_grows old new (event.Deliver i) k = given_grows old new k.node (Some k.datagram.bytes) [] k.given
+  brings_grows old new (event.Inject n bytes) k = given_grows old new n (Some bytes.items) (asked_note k.request) k.given
+  brings_grows old new (event.Stop n x y) k = ([], k.adds.sent)
+  brings_grows old new (event.FailAt n count) k = ([], k.adds.sent)
+
+  pub done_grows : (old new : Scene R) (e : Event) → Does Takes Revives disks old e new → Grows old new
+  done_grows old new e k = brings_grows old new e k.1
+
+  pub refused_grows : (old new : Scene R) (e : Event) (r : Refused) → IsRefused old e r new → Grows old new
+  refused_grows old new e r k = elim k [
+    | inl same ↦ nothing_more old new same.1
+    | inr wants ↦ elim wants.2 [ inl same ↦ nothing_more old new same | inr h ↦ ([], h.2.adds.sent) ]
+  ]
+
+  both_grow : (old mid new : Scene R) → Grows old mid → Grows mid new → Grows old new
+  both_grow old mid new a b = (a.0 ++ b.0, b.1 ∙ ap (λ l. l ++ b.0) a.1 ∙ append_assoc old.sent a.0 b.0)
+
+  passes_grow : (es : List Event) (old new : Scene R) → Passes Takes Revives disks es old new → Grows old new
+  passes_grow [] old new p = nothing_more old new p
+  passes_grow (e ∷ es) old new p = both_grow old p.0 new (done_grows old p.0 e p.1) (passes_grow es p.0 new p.2)
+
+  stops_grow : (es : List Event) (done : ℕ) (o : Option Refused) (last new : Scene R) → StopsAt es done o last new → Grows last new
+  stops_grow es done None last new k = nothing_more last new k.1
+  stops_grow es done (Some r) last new k = refused_grows last new k.0 r k.2
+
+  pub run_grows : (old new : Scene R) (es : List Event) (how : RunEnd) → Runs Takes Revives disks old es how new → Grows old new
+  run_grows old new es how k = both_grow old k.last new (passes_grow (take how.done es) old k.last k.passes) (stops_grow es how.done how.refused k.last new k.stops)

@@ -1,0 +1,39 @@
+use Rattle.std.proofs.Common.{rules, ◌≡◌, refl, sym, append-nil}
+use Rattle.lk_sim.specs.Seats.{At, IsUpAt}
+use Rattle.lk_sim.proofs.Doing.{at_same}
+use Rattle.lk_sim.proofs.Given.{went_down}
+use Rattle.lk_sim.proofs.lives.halt.Goals as goal
+
+pub returns-clause-holds : goal.returns-clause-holds
+returns-clause-holds g c =
+    let p = c.args.parts.now in
+    let w = c.requires in
+    let s = c.index_mut.result.now in
+    let at : At p.seats.items c.in_ok-i.i s = (search rules, sym c.index_mut.ensures.value) in
+    went_down _ _ _ p.genesis p.seats.items p.sent.items p.trace.items w c.in_ok-i.i s c.stop.new.seat at c.stop.ensures.number
+    (c.stop.ensures.fits _ (w.views s.number) (w.seated c.in_ok-i.i s at))
+
+pub returns-clause-ok : goal.returns-clause-ok
+returns-clause-ok g c =
+    let p = c.args.parts.now in
+    let s = c.index_mut.result.now in
+    let u : IsUpAt p.seats.items c.in_ok-i.i c.args.number = search rules in
+    let at : At p.seats.items c.in_ok-i.i s = (u.2.0, sym c.index_mut.ensures.value) in
+    let same : u.0 ≡ s = at_same _ _ _ _ u.2 at in
+    let d = c.stop.ensures.up u.1 (rw (sym same) u.4) in (
+      (u.1, (c.in_ok-i.i, u.0, u.2, u.3, u.4)),
+      record {
+        seat = u.0;
+        number = u.3;
+        replica = u.1;
+        up = u.4;
+        next = c.stop.new.seat;
+        turns = record { place = c.in_ok-i.i; at = u.2; number = rw same c.stop.ensures.number; seats = refl };
+        device = d.0;
+        down = d.1;
+        stopped = d.2;
+        trap = d.3;
+        adds = record { genesis = refl; sent = sym (append-nil _); trace = sym (append-nil _) };
+        ended = refl;
+      },
+    )

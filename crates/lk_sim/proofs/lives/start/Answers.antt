@@ -1,0 +1,8 @@
+use Rattle.std.proofs.Common.{rules, refl, inl}
+use Rattle.lk_sim.specs.Seats.{IsSeatOf}
+use Rattle.lk_sim.proofs.lives.start.Goals as goal
+
+pub returns-in-Some-clause-err : goal.returns-in-Some-clause-err
+returns-in-Some-clause-err g c =
+    let u : IsSeatOf c.args.parts.now.seats.items c.in-Some.field-0 c.args.number = search rules in
+    inl ((u.0.life, (c.in-Some.field-0, u.0, u.1, u.2, refl)), refl)

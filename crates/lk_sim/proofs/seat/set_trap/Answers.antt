@@ -1,0 +1,17 @@
+use Rattle.std.proofs.Common.{rules, ◌≡◌, refl, ap}
+use Rattle.lk_disk.specs.Memory.{Memory}
+use Rattle.lk_disk.specs.declared.device.Side.TheVariants.{A, B}
+use Rattle.lk_sim.proofs.Given.{trapped_up, trapped_down}
+use Rattle.lk_sim.proofs.seat.set_trap.Goals as goal
+use Rattle.lk_sim.specs.declared.seat.Life.TheVariants.{Up, Down}
+
+pub returns-in-Up-clause-fits : goal.returns-in-Up-clause-fits
+returns-in-Up-clause-fits g c h w f =
+    let is : c.args.seat.now.life ≡ Up c.in-Up.replica = search rules in
+    trapped_up _ _ _ h w c.args.seat.now _ c.in-Up.replica c.trap.new.self is refl refl c.trap.ensures.shows c.trap.ensures.disks f
+
+pub returns-in-Down-clause-fits : goal.returns-in-Down-clause-fits
+returns-in-Down-clause-fits g c h w f =
+    let is : c.args.seat.now.life ≡ Down c.in-Down.device = search rules in
+    trapped_down _ _ _ h w c.args.seat.now _ c.in-Down.device c.trap-in-Down.new.self is refl refl
+    (elim [ A ↦ ap (λ (z : Memory). z.a) c.trap-in-Down.ensures | B ↦ ap (λ (z : Memory). z.b) c.trap-in-Down.ensures ]) f

@@ -1,0 +1,24 @@
+use Rattle.std.proofs.Common.{rules, ◌≡◌, refl, sym, subst}
+use Rattle.lk_disk.specs.Memory.{disk_of}
+use Rattle.lk_node.specs.Leavings.{DisksFit}
+use Rattle.lk_sim.proofs.Growth.{same_disks}
+use Rattle.lk_sim.proofs.Given.{node_fits}
+use Rattle.lk_sim.proofs.seat.step.Goals as goal
+use Rattle.lk_sim.specs.declared.seat.Life.TheVariants.{Up}
+
+pub returns-in-Ok-clause-goes : goal.returns-in-Ok-clause-goes
+returns-in-Ok-clause-goes g c h w lawful f input q same =
+    let is : c.args.seat.now.life ≡ Up c.in-Up.replica = search rules in
+    record {
+      replica = c.take.new.self;
+      up = refl;
+      goes = c.in-Ok.ensures.goes h c.args.seat.now.number (node_fits _ _ _ h w _ _ lawful (f.up c.in-Up.replica is)) input;
+    }
+
+pub returns-in-Err-clause-falls : goal.returns-in-Err-clause-falls
+returns-in-Err-clause-falls g c h w lawful f input d down =
+    let is : c.args.seat.now.life ≡ Up c.in-Up.replica = search rules in
+    c.fall.ensures.fits h w
+    (subst (λ k. DisksFit g.R.MemoryReplica.meaning h k (disk_of c.take_device-device.result)) (sym c.take_device-device.ensures.number)
+    (same_disks _ h c.args.seat.now.number _ _ (c.take_device-device.ensures.up c.take.new.self refl)
+    (c.in-Err.ensures.ends h c.args.seat.now.number (node_fits _ _ _ h w _ _ lawful (f.up c.in-Up.replica is)) input)))

@@ -1,0 +1,15 @@
+use Rattle.std.proofs.Common.{refl, ap, sym, subst}
+use Rattle.lk_disk.specs.declared.device.Side.TheVariants.{A, B}
+use Rattle.lk_disk.specs.Memory.{Memory, disk_of}
+use Rattle.lk_node.specs.Leavings.{DisksFit}
+use Rattle.lk_sim.proofs.Ending.{stopped_fit}
+use Rattle.lk_sim.proofs.Given.{down_fits}
+use Rattle.lk_sim.proofs.seat.stop.Goals as goal
+
+pub returns-clause-fits : goal.returns-clause-fits
+returns-clause-fits g c h w f =
+    down_fits _ _ _ h w _ c.stop.new.self refl
+    (subst (λ k. DisksFit g.R.MemoryReplica.meaning h k (disk_of c.stop.new.self)) (sym c.take_device-device.ensures.number)
+    (stopped_fit _ h c.args.seat.now.number (disk_of c.take_device-device.result) (disk_of c.stop.new.self)
+    (elim [ A ↦ (c.args.x, ap (λ (d : Memory). d.a) c.stop.ensures.after) | B ↦ (c.args.y, ap (λ (d : Memory). d.b) c.stop.ensures.after) ])
+    (c.take_device-device.ensures.fits h w f)))

@@ -1,0 +1,223 @@
+-- What an event does to a world.
+use Rattle.std.specs.Prelude.{◌≡◌, ℕ, ◌⊎◌, List, [], ◌∷◌, ◌++◌, Option, Some, None, set, Contains}
+use Rattle.lk_disk.specs.Disk.{Disk}
+use Rattle.lk_disk.specs.Memory.{Memory, disk_of}
+use Rattle.lk_disk.specs.declared.device.Side.{Side}
+use Rattle.lk_disk.specs.declared.trap.Trap.TheVariants.{Off}
+use Rattle.lk_log.specs.Values.{HeaderValue}
+use Rattle.lk_wire.specs.Grammar.{Spells}
+use Rattle.lk_wire.specs.declared.message.Content.TheVariants as content
+use Rattle.lk_history.specs.declared.party.Party.TheVariants as party
+use Rattle.lk_node.specs.Histories.{Datagram, RequestValue}
+use Rattle.lk_node.specs.Leavings.{header_of}
+use Rattle.lk_node.specs.Served.{IsOfNode}
+use Rattle.lk_node.specs.declared.note.Note.{Note}
+use Rattle.lk_node.specs.declared.note.Note.TheVariants as note
+use Rattle.lk_sim.specs.Heard.{Asks}
+use Rattle.lk_sim.specs.Refusals.{datagram_at, May, MayNot}
+use Rattle.lk_sim.specs.Scenes.{Scene}
+use Rattle.lk_sim.specs.Seats.{At, IsUp, IsStopped, IsTrapped}
+use Rattle.lk_sim.specs.Traces.{Tells, asked_note}
+use Rattle.lk_sim.specs.declared.end.End.TheVariants.{Fault}
+use Rattle.lk_sim.specs.declared.event.Event.{Event}
+use Rattle.lk_sim.specs.declared.event.Event.TheVariants as event
+use Rattle.lk_sim.specs.declared.refused.Refused.{Refused}
+use Rattle.lk_sim.specs.declared.refused.Refused.TheVariants.{WorldMemory}
+use Rattle.lk_sim.specs.declared.seat.Seat.{Seat}
+use Rattle.lk_sim.specs.declared.seat.Life.TheVariants.{Up, Down}
+
+-- of all nodes this one alone is another now
+pub record Turns {R : Type 0} (old new : List (Seat R)) (s t : Seat R) : Type 0 where
+  pub place : ℕ
+  pub at : At old place s
+  pub number : t.number ≡ s.number
+  pub seats : new ≡ set old place t
+
+-- a node itself notes what it counted and executed, and nothing else
+abbrev pub AreOwn : List Note → Type 0
+AreOwn notes = (x : Note) → Contains notes x → IsOfNode x
+
+-- these notes and datagrams were added
+pub record Adds {R : Type 0} (old new : Scene R) (notes : List Note) (batch : List Datagram) : Type 0 where
+  pub genesis : new.genesis ≡ old.genesis
+  pub sent : new.sent ≡ old.sent ++ batch
+  pub trace : new.trace ≡ old.trace ++ notes
+
+-- a fault ended the node, which is down: it noted and sent nothing
+pub record Falls {R : Type 0} (old new : Scene R) (t : Seat R) (asked : List Note) : Type 0 where
+  pub device : Memory
+  pub down : t.life ≡ Down device
+  pub trap : device.trap ≡ Off
+  pub number : ℕ
+  pub ended : new.ended ≡ Some (Fault t.number number)
+  pub adds : Adds old new asked []
+
+-- ---- a node is given something
+
+-- it goes on: what its replica noted and sent was added, behind a request that was just asked, and its answers and passes
+-- were noted as they were sent
+pub record GoesOn {R : Type 0} (Takes : R → Option (List ℕ) → R → List Note → List Datagram → Type 0) (old new : Scene R) (r : R) (t : Seat R) (o : Option (List ℕ)) (asked : List Note) : Type 0 where
+  pub replica : R
+  pub up : t.life ≡ Up replica
+  pub notes : List Note
+  pub told : List Note
+  pub batch : List Datagram
+  pub takes : Takes r o replica notes batch
+  pub own : AreOwn notes
+  pub tells : Tells batch told
+  pub adds : Adds old new ((asked ++ notes) ++ told) batch
+  pub ended : new.ended ≡ None
+
+-- the node of this number was given a tick or these bytes
+pub record IsGiven {R : Type 0} (Takes : R → Option (List ℕ) → R → List Note → List Datagram → Type 0) (old new : Scene R) (n : ℕ) (o : Option (List ℕ)) (asked : List Note) : Type 0 where
+  pub seat : Seat R
+  pub number : seat.number ≡ n
+  pub replica : R
+  pub up : seat.life ≡ Up replica
+  pub next : Seat R
+  pub turns : Turns old.seats new.seats seat next
+  pub comes_to : GoesOn Takes old new replica next o asked ⊎ Falls old new next asked
+
+-- the node to which the datagram was bound was given its bytes
+pub record IsDelivered {R : Type 0} (Takes : R → Option (List ℕ) → R → List Note → List Datagram → Type 0) (old new : Scene R) (k : ℕ) : Type 0 where
+  pub datagram : Datagram
+  pub stands : datagram_at old.sent k ≡ Some datagram
+  pub node : ℕ
+  pub bound : datagram.to ≡ party.Node node
+  pub given : IsGiven Takes old new node (Some datagram.bytes) []
+
+-- the node was given these bytes, and a request in them was noted as asked
+pub record IsInjected {R : Type 0} (Takes : R → Option (List ℕ) → R → List Note → List Datagram → Type 0) (old new : Scene R) (n : ℕ) (bytes : List ℕ) : Type 0 where
+  pub request : Option RequestValue
+  pub asks : Asks bytes request
+  pub given : IsGiven Takes old new n (Some bytes) (asked_note request)
+
+-- the client's datagram was added, bound for the node, and noted as asked
+pub record IsAsked {R : Type 0} (old new : Scene R) (n : ℕ) (r : RequestValue) : Type 0 where
+  pub datagram : Datagram
+  pub from : datagram.from ≡ party.Client r.client
+  pub to : datagram.to ≡ party.Node n
+  pub spelled : Spells (record { cluster = old.genesis.cluster; content = content.Request r }) datagram.bytes
+  pub seats : new.seats ≡ old.seats
+  pub adds : Adds old new (note.Asked r ∷ []) (datagram ∷ [])
+  pub ended : new.ended ≡ None
+
+-- ---- a node comes up
+
+-- it came up on these disks, and what it executed was noted
+pub record IsRevived {R : Type 0} (Revives : (Side → Disk) → HeaderValue → R → List Note → Type 0) (old new : Scene R) (t : Seat R) (disks : Side → Disk) : Type 0 where
+  pub replica : R
+  pub up : t.life ≡ Up replica
+  pub notes : List Note
+  pub revives : Revives disks (header_of old.genesis t.number) replica notes
+  pub own : AreOwn notes
+  pub adds : Adds old new notes []
+  pub ended : new.ended ≡ None
+
+abbrev pub ComesUp : {R : Type 0} → ((Side → Disk) → HeaderValue → R → List Note → Type 0) → Scene R → Scene R → Seat R → (Side → Disk) → Type 0
+ComesUp Revives old new t disks = IsRevived Revives old new t disks ⊎ Falls old new t []
+
+-- a node was added, and came up on empty disks
+pub record IsBegun {R : Type 0} (Revives : (Side → Disk) → HeaderValue → R → List Note → Type 0) (old new : Scene R) (n : ℕ) : Type 0 where
+  pub seat : Seat R
+  pub number : seat.number ≡ n
+  pub seats : new.seats ≡ old.seats ++ seat ∷ []
+  pub device : Memory
+  pub empty : (s : Side) → disk_of device s ≡ record { synced = []; unsynced = [] }
+  pub comes : ComesUp Revives old new seat (disk_of device)
+
+-- a node that was down came up on its disks
+pub record IsBack {R : Type 0} (Revives : (Side → Disk) → HeaderValue → R → List Note → Type 0) (old new : Scene R) (n : ℕ) : Type 0 where
+  pub seat : Seat R
+  pub number : seat.number ≡ n
+  pub device : Memory
+  pub down : seat.life ≡ Down device
+  pub next : Seat R
+  pub turns : Turns old.seats new.seats seat next
+  pub comes : ComesUp Revives old new next (disk_of device)
+
+-- ---- a node goes down, or its device will fail
+
+pub record GoesDown {R : Type 0} (disks : R → Side → Disk) (old new : Scene R) (n x y : ℕ) : Type 0 where
+  pub seat : Seat R
+  pub number : seat.number ≡ n
+  pub replica : R
+  pub up : seat.life ≡ Up replica
+  pub next : Seat R
+  pub turns : Turns old.seats new.seats seat next
+  pub device : Memory
+  pub down : next.life ≡ Down device
+  pub stopped : IsStopped x y (disks replica) device
+  pub trap : device.trap ≡ Off
+  pub adds : Adds old new [] []
+  pub ended : new.ended ≡ None
+
+pub record WillFail {R : Type 0} (disks : R → Side → Disk) (old new : Scene R) (n count : ℕ) : Type 0 where
+  pub seat : Seat R
+  pub number : seat.number ≡ n
+  pub next : Seat R
+  pub turns : Turns old.seats new.seats seat next
+  pub trapped : IsTrapped disks seat next count
+  pub adds : Adds old new [] []
+  pub ended : new.ended ≡ None
+
+-- ---- an event
+
+-- what comes of it
+abbrev pub Brings : {R : Type 0} → (R → Option (List ℕ) → R → List Note → List Datagram → Type 0) → ((Side → Disk) → HeaderValue → R → List Note → Type 0) → (R → Side → Disk) → Scene R → Event → Scene R → Type 0
+Brings Takes Revives disks old (event.Start n) new = IsBegun Revives old new n
+Brings Takes Revives disks old (event.Restart n) new = IsBack Revives old new n
+Brings Takes Revives disks old (event.Tick n) new = IsGiven Takes old new n None []
+Brings Takes Revives disks old (event.Client n r) new = IsAsked old new n r
+Brings Takes Revives disks old (event.Deliver k) new = IsDelivered Takes old new k
+Brings Takes Revives disks old (event.Inject n bytes) new = IsInjected Takes old new n bytes.items
+Brings Takes Revives disks old (event.Stop n x y) new = GoesDown disks old new n x y
+Brings Takes Revives disks old (event.FailAt n count) new = WillFail disks old new n count
+
+-- what an event does that is done
+abbrev pub Does : {R : Type 0} → (R → Option (List ℕ) → R → List Note → List Datagram → Type 0) → ((Side → Disk) → HeaderValue → R → List Note → Type 0) → (R → Side → Disk) → Scene R → Event → Scene R → Type 0
+Does Takes Revives disks old e new = May old e × Brings Takes Revives disks old e new
+
+-- the node has stopped, and none of its bytes is unsynced
+pub record IsHalted {R : Type 0} (old new : Scene R) (n : ℕ) : Type 0 where
+  pub seat : Seat R
+  pub number : seat.number ≡ n
+  pub next : Seat R
+  pub turns : Turns old.seats new.seats seat next
+  pub device : Memory
+  pub down : next.life ≡ Down device
+  pub synced : (device.a.unsynced ≡ []) × (device.b.unsynced ≡ [])
+  pub trap : device.trap ≡ Off
+  pub adds : Adds old new [] []
+  pub ended : new.ended ≡ old.ended
+
+-- the node that the event steps, or revives
+abbrev pub Moves : List Datagram → Event → ℕ → Type 0
+Moves sent (event.Restart m) n = m ≡ n
+Moves sent (event.Tick m) n = m ≡ n
+Moves sent (event.Deliver k) n = (d : Datagram) × (datagram_at sent k ≡ Some d) × (d.to ≡ party.Node n)
+Moves sent (event.Inject m bytes) n = m ≡ n
+Moves sent e n = ⊥
+
+-- what want of memory leaves: nothing has changed, or that node has stopped. Nothing was noted or sent
+abbrev pub Wants : {R : Type 0} → Scene R → Event → Scene R → Type 0
+Wants old e new = (new ≡ old) ⊎ ((n : ℕ) × Moves old.sent e n × IsHalted old new n)
+
+-- memory may be wanting where nothing else refuses the event; and to read what is injected
+abbrev pub MayWant : {R : Type 0} → Scene R → Event → Type 0
+MayWant w (event.Inject n bytes) = IsUp w.seats n
+MayWant w e = May w e
+
+-- what an event leaves that is refused
+abbrev pub IsRefused : {R : Type 0} → Scene R → Event → Refused → Scene R → Type 0
+IsRefused old e r new = (MayNot old e r × (new ≡ old)) ⊎ ((r ≡ WorldMemory) × MayWant old e × Wants old e new)
+
+-- so of an event that steps the node of this number, by why not, and where memory may be wanting
+abbrev pub IsRefusedAt : {R : Type 0} → (Refused → Type 0) → Type 0 → Scene R → ℕ → Refused → Scene R → Type 0
+IsRefusedAt Why CanWant old n r new = (Why r × (new ≡ old)) ⊎ ((r ≡ WorldMemory) × CanWant × ((new ≡ old) ⊎ IsHalted old new n))
+
+-- ---- what every event keeps
+
+-- the datagrams that stood there stand there still, and first
+abbrev pub Grows : {R : Type 0} → Scene R → Scene R → Type 0
+Grows old new = (more : List Datagram) × (new.sent ≡ old.sent ++ more)

@@ -1,0 +1,11 @@
+pub mod Seats
+pub mod Scenes
+pub mod Traces
+pub mod Heard
+pub mod Explained
+pub mod States
+pub mod Refusals
+pub mod Events
+pub mod Outcomes
+pub mod Worlds
+pub mod Runs

@@ -1,0 +1,116 @@
+-- Why an event is refused, the smallest number first.
+use Rattle.std.specs.Prelude.{◌≡◌, ℕ, zero, suc, ◌<◌, ◌≤◌, List, length, Option, Some, None, slice_get}
+use Rattle.lk_history.specs.declared.party.Party.{Party}
+use Rattle.lk_history.specs.declared.party.Party.TheVariants as party
+use Rattle.lk_node.specs.Histories.{Datagram}
+use Rattle.lk_sim.specs.Heard.{IsForged}
+use Rattle.lk_sim.specs.Scenes.{Scene}
+use Rattle.lk_sim.specs.Seats.{IsStarted, IsUp, IsDown, HasNo}
+use Rattle.lk_sim.specs.declared.event.Event.{Event}
+use Rattle.lk_sim.specs.declared.event.Event.TheVariants as event
+use Rattle.lk_sim.specs.declared.refused.Refused.{Refused}
+use Rattle.lk_sim.specs.declared.refused.Refused.TheVariants.{NoSuchNode, NotUp, AlreadyUp, NoSuchDatagram, Forged, WorldFull, WorldMemory}
+use Rattle.lk_sim.specs.declared.seat.Seat.{Seat}
+
+abbrev pub refusal_number : Refused → ℕ
+refusal_number NoSuchNode = 16
+refusal_number NotUp = 17
+refusal_number AlreadyUp = 18
+refusal_number NoSuchDatagram = 19
+refusal_number Forged = 20
+refusal_number WorldFull = 21
+refusal_number WorldMemory = 22
+
+-- more than 99,000 datagrams stand
+abbrev pub IsFull : List Datagram → Type 0
+IsFull sent = 99000 < length sent
+
+abbrev pub HasRoom : List Datagram → Type 0
+HasRoom sent = length sent ≤ 99000
+
+-- the datagram of this place. Places count from 1
+abbrev pub datagram_at : List Datagram → ℕ → Option Datagram
+datagram_at sent zero = None
+datagram_at sent (suc k) = slice_get sent k
+
+-- ---- why not
+
+-- a node has to have been started
+abbrev pub NotStarted : {R : Type 0} → List (Seat R) → ℕ → Refused → Type 0
+NotStarted seats n NoSuchNode = HasNo seats n
+NotStarted seats n _ = ⊥
+
+-- it has to be up
+abbrev pub NoneUp : {R : Type 0} → List (Seat R) → ℕ → Refused → Type 0
+NoneUp seats n NoSuchNode = HasNo seats n
+NoneUp seats n NotUp = IsDown seats n
+NoneUp seats n _ = ⊥
+
+-- and there has to be room for what it sends
+abbrev pub NoTurn : {R : Type 0} → List (Seat R) → List Datagram → ℕ → Refused → Type 0
+NoTurn seats sent n NoSuchNode = HasNo seats n
+NoTurn seats sent n NotUp = IsDown seats n
+NoTurn seats sent n WorldFull = IsUp seats n × IsFull sent
+NoTurn seats sent n _ = ⊥
+
+abbrev pub NoStart : {R : Type 0} → List (Seat R) → ℕ → Refused → Type 0
+NoStart seats n AlreadyUp = IsStarted seats n
+NoStart seats n WorldFull = HasNo seats n × (16 ≤ length seats)
+NoStart seats n _ = ⊥
+
+abbrev pub NoRestart : {R : Type 0} → List (Seat R) → ℕ → Refused → Type 0
+NoRestart seats n NoSuchNode = HasNo seats n
+NoRestart seats n AlreadyUp = IsUp seats n
+NoRestart seats n _ = ⊥
+
+abbrev pub NoClient : {R : Type 0} → List (Seat R) → List Datagram → ℕ → Refused → Type 0
+NoClient seats sent n NoSuchNode = HasNo seats n
+NoClient seats sent n WorldFull = IsStarted seats n × IsFull sent
+NoClient seats sent n _ = ⊥
+
+-- no datagram of a client is delivered to it
+abbrev pub NoneBound : {R : Type 0} → List (Seat R) → List Datagram → Party → Refused → Type 0
+NoneBound seats sent (party.Node n) e = NoTurn seats sent n e
+NoneBound seats sent (party.Client c) e = e ≡ NoSuchDatagram
+
+abbrev pub NoDelivery : {R : Type 0} → List (Seat R) → List Datagram → Option Datagram → Refused → Type 0
+NoDelivery seats sent None e = e ≡ NoSuchDatagram
+NoDelivery seats sent (Some d) e = NoneBound seats sent d.to e
+
+abbrev pub NoInjection : {R : Type 0} → List (Seat R) → List Datagram → ℕ → List ℕ → Refused → Type 0
+NoInjection seats sent n bytes NoSuchNode = HasNo seats n
+NoInjection seats sent n bytes NotUp = IsDown seats n
+NoInjection seats sent n bytes Forged = IsUp seats n × IsForged bytes
+NoInjection seats sent n bytes WorldFull = IsUp seats n × (IsForged bytes → ⊥) × IsFull sent
+NoInjection seats sent n bytes _ = ⊥
+
+-- the event is refused so, and not for want of memory
+abbrev pub MayNot : {R : Type 0} → Scene R → Event → Refused → Type 0
+MayNot w (event.Start n) e = NoStart w.seats n e
+MayNot w (event.Restart n) e = NoRestart w.seats n e
+MayNot w (event.Tick n) e = NoTurn w.seats w.sent n e
+MayNot w (event.Client n r) e = NoClient w.seats w.sent n e
+MayNot w (event.Deliver k) e = NoDelivery w.seats w.sent (datagram_at w.sent k) e
+MayNot w (event.Inject n bytes) e = NoInjection w.seats w.sent n bytes.items e
+MayNot w (event.Stop n x y) e = NoneUp w.seats n e
+MayNot w (event.FailAt n count) e = NotStarted w.seats n e
+
+-- ---- what is not refused so
+
+-- the node is up, and there is room
+abbrev pub MayTurn : {R : Type 0} → Scene R → ℕ → Type 0
+MayTurn w n = IsUp w.seats n × HasRoom w.sent
+
+-- the datagram is bound for such a node
+abbrev pub MayDeliver : {R : Type 0} → Scene R → ℕ → Type 0
+MayDeliver w k = (d : Datagram) × (n : ℕ) × (datagram_at w.sent k ≡ Some d) × (d.to ≡ party.Node n) × MayTurn w n
+
+abbrev pub May : {R : Type 0} → Scene R → Event → Type 0
+May w (event.Start n) = HasNo w.seats n × (length w.seats < 16)
+May w (event.Restart n) = IsDown w.seats n
+May w (event.Tick n) = MayTurn w n
+May w (event.Client n r) = IsStarted w.seats n × HasRoom w.sent
+May w (event.Deliver k) = MayDeliver w k
+May w (event.Inject n bytes) = MayTurn w n × (IsForged bytes.items → ⊥)
+May w (event.Stop n x y) = IsUp w.seats n
+May w (event.FailAt n count) = IsStarted w.seats n

@@ -1,0 +1,83 @@
+-- The nodes of a world.
+use Rattle.std.specs.Prelude.{◌≡◌, ℕ, ◌<◌, ◌⊎◌, false, List, length, get_or}
+use Rattle.lk_disk.specs.Disk.{Disk, kept_by}
+use Rattle.lk_disk.specs.Memory.{Memory, disk_of}
+use Rattle.lk_disk.specs.declared.device.Side.{Side}
+use Rattle.lk_disk.specs.declared.device.Side.TheVariants.{A, B}
+use Rattle.lk_disk.specs.declared.trap.Trap.TheVariants.{Fail}
+use Rattle.lk_state.specs.Meanings.{Meaning}
+use Rattle.lk_history.specs.Nodes.{View}
+use Rattle.lk_node.specs.Histories.{History, Genesis, Datagram}
+use Rattle.lk_node.specs.Calls.{Goes}
+use Rattle.lk_node.specs.declared.note.Note.{Note}
+use Rattle.lk_node.specs.Holdings.{Holding, HoldingFits}
+use Rattle.lk_node.specs.Leavings.{DisksFit}
+use Rattle.lk_sim.specs.declared.seat.Seat.{Seat}
+use Rattle.lk_sim.specs.declared.seat.Life.{Life}
+use Rattle.lk_sim.specs.declared.seat.Life.TheVariants.{Up, Down}
+
+-- it stands at this place
+abbrev pub At : {X : Type 0} → List X → ℕ → X → Type 0
+At xs k x = (k < length xs) × (get_or xs k x ≡ x)
+
+-- the node of this number was started, and is so
+abbrev pub Sits : {R : Type 0} → List (Seat R) → ℕ → Life R → Type 0
+Sits {R = R} seats number life = (k : ℕ) × (s : Seat R) × At seats k s × (s.number ≡ number) × (s.life ≡ life)
+
+abbrev pub IsStarted : {R : Type 0} → List (Seat R) → ℕ → Type 0
+IsStarted {R = R} seats number = (life : Life R) × Sits seats number life
+
+abbrev pub IsUp : {R : Type 0} → List (Seat R) → ℕ → Type 0
+IsUp {R = R} seats number = (r : R) × Sits seats number (Up r)
+
+abbrev pub IsDown : {R : Type 0} → List (Seat R) → ℕ → Type 0
+IsDown {R = R} seats number = (d : Memory) × Sits seats number (Down d)
+
+-- no node of this number was ever started
+abbrev pub HasNo : {R : Type 0} → List (Seat R) → ℕ → Type 0
+HasNo {R = R} seats number = (k : ℕ) (s : Seat R) → At seats k s → s.number ≡ number → ⊥
+
+-- the device has what a stop leaves of these disks that keeps up to so many unsynced bytes of each
+abbrev pub IsStopped : ℕ → ℕ → (Side → Disk) → Memory → Type 0
+IsStopped x y disks d = (d.a ≡ kept_by x (disks A)) × (d.b ≡ kept_by y (disks B))
+
+-- a device that is down has the trap; a replica that is up keeps its disks
+abbrev pub IsTrapped : {R : Type 0} → (R → Side → Disk) → Seat R → Seat R → ℕ → Type 0
+IsTrapped {R = R} disks s t count =
+    ((r q : R) × (s.life ≡ Up r) × (t.life ≡ Up q) × ((k : Side) → disks q k ≡ disks r k))
+    ⊎ ((d : Memory) × (s.life ≡ Down d) × (t.life ≡ Down (record d { trap = Fail count; sprung = false; starved = false })))
+
+-- ---- how a node fits to what has happened
+
+-- a replica that is up holds this view and what fits, and so does whatever a stop may leave of it
+pub record UpFits {R : Type 0} (Shows : R → Genesis → ℕ → Holding → Type 0) (disks : R → Side → Disk) (m : Meaning) (h : History) (w : View) (n : ℕ) (r : R) : Type 0 where
+  pub holding : Holding
+  pub view : holding.view ≡ w
+  pub shown : Shows r h.genesis n holding
+  pub fits : HoldingFits m h n holding
+  pub left : DisksFit m h n (disks r)
+
+-- a node is up so, or its disks fit
+pub record SeatFits {R : Type 0} (Shows : R → Genesis → ℕ → Holding → Type 0) (disks : R → Side → Disk) (m : Meaning) (h : History) (w : View) (s : Seat R) : Type 0 where
+  pub up : (r : R) → s.life ≡ Up r → UpFits Shows disks m h w s.number r
+  pub down : (d : Memory) → s.life ≡ Down d → DisksFit m h s.number (disk_of d)
+
+-- a node has come up, or went on
+pub record SeatGoes {R : Type 0} (Shows : R → Genesis → ℕ → Holding → Type 0) (disks : R → Side → Disk) (m : Meaning) (h : History) (s : Seat R) (notes : List Note) (batch : List Datagram) : Type 0 where
+  pub replica : R
+  pub up : s.life ≡ Up replica
+  pub goes : Goes m h s.number (Shows replica h.genesis s.number) (disks replica) notes batch
+
+-- ---- where a node is
+
+-- the node of this number stands at this place
+abbrev pub IsSeatOf : {R : Type 0} → List (Seat R) → ℕ → ℕ → Type 0
+IsSeatOf {R = R} seats i number = (s : Seat R) × At seats i s × (s.number ≡ number)
+
+-- and is up
+abbrev pub IsUpAt : {R : Type 0} → List (Seat R) → ℕ → ℕ → Type 0
+IsUpAt {R = R} seats i number = (s : Seat R) × (r : R) × At seats i s × (s.number ≡ number) × (s.life ≡ Up r)
+
+-- and is down
+abbrev pub IsDownAt : {R : Type 0} → List (Seat R) → ℕ → ℕ → Type 0
+IsDownAt {R = R} seats i number = (s : Seat R) × (d : Memory) × At seats i s × (s.number ≡ number) × (s.life ≡ Down d)

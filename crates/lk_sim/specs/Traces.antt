@@ -1,0 +1,66 @@
+-- What a trace tells of the requests that were asked, and of what was answered.
+use Rattle.std.specs.Prelude.{◌≡◌, ℕ, List, [], ◌∷◌, ◌++◌, Option, Some, None}
+use Rattle.lk_wire.specs.Grammar.{Spells}
+use Rattle.lk_wire.specs.declared.message.Content.{Content}
+use Rattle.lk_wire.specs.declared.message.Content.TheVariants as content
+use Rattle.lk_wire.specs.declared.message.Message.{Message}
+use Rattle.lk_wire.specs.declared.message.NodeMessage.{NodeMessage}
+use Rattle.lk_wire.specs.declared.message.NodeMessage.TheVariants as kinds
+use Rattle.lk_node.specs.Histories.{History, Genesis, Datagram, RequestValue}
+use Rattle.lk_node.specs.declared.note.Note.{Note}
+use Rattle.lk_node.specs.declared.note.Note.TheVariants as note
+
+-- the request that the note tells of
+abbrev pub asked_by : Note → List RequestValue
+asked_by (note.Asked r) = r ∷ []
+asked_by (note.Counted node i set v) = []
+asked_by (note.Ran node i v) = []
+asked_by (note.Answered node client number answer) = []
+asked_by (note.Told node client number last) = []
+
+-- the requests that were asked, in order
+abbrev pub asked_in : List Note → List RequestValue
+asked_in [] = []
+asked_in (x ∷ xs) = asked_by x ++ asked_in xs
+
+-- what has happened, as far as safety goes
+abbrev pub happened : Genesis → List Datagram → List Note → History
+happened genesis sent trace = record { genesis = genesis; sent = sent; asked = asked_in trace }
+
+-- ---- what was answered and told, by the datagrams and by the trace
+
+-- the note of an answer or a pass
+abbrev pub told_by_node : ℕ → NodeMessage → List Note
+told_by_node n (kinds.Answer a) = note.Answered n a.client a.number a.answer ∷ []
+told_by_node n (kinds.Passed p) = note.Told n p.client p.number p.last ∷ []
+told_by_node n _ = []
+
+abbrev pub told_by : Content → List Note
+told_by (content.Request r) = []
+told_by (content.Node n x) = told_by_node n x
+
+-- these notes are, in order, exactly those of the answers and passes among the datagrams
+abbrev pub Tells : List Datagram → List Note → Type 0
+Tells [] notes = notes ≡ []
+Tells (d ∷ ds) notes = (m : Message) × (rest : List Note) × Spells m d.bytes × (notes ≡ told_by m.content ++ rest) × Tells ds rest
+
+abbrev pub told_of : Note → List Note
+told_of (note.Asked r) = []
+told_of (note.Counted node i set v) = []
+told_of (note.Ran node i v) = []
+told_of (note.Answered node client number answer) = note.Answered node client number answer ∷ []
+told_of (note.Told node client number last) = note.Told node client number last ∷ []
+
+-- the answers and passes among the notes
+abbrev pub told_in : List Note → List Note
+told_in [] = []
+told_in (x ∷ xs) = told_of x ++ told_in xs
+
+abbrev pub listed : Option Note → List Note
+listed None = []
+listed (Some x) = x ∷ []
+
+-- a request that was just asked is noted
+abbrev pub asked_note : Option RequestValue → List Note
+asked_note None = []
+asked_note (Some r) = note.Asked r ∷ []

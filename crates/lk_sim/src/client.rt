@@ -1,0 +1,91 @@
+// A client asks: its datagram joins the list, bound for a node that was started.
+ghost use Rattle.std.specs.Prelude.{◌≡◌, ◌++◌, [], ◌∷◌, IfOk, IfErr, OnOk, OnErr};
+ghost use Rattle.lk_wire.specs.Grammar.{Spells};
+ghost use Rattle.lk_wire.specs.declared.message.Content.TheVariants as content;
+ghost use Rattle.lk_sim.specs.Events.{Does, IsAsked, IsRefused};
+ghost use Rattle.lk_sim.specs.Worlds.{PartsHold, scene_of};
+ghost use Rattle.lk_sim.specs.declared.event.Event.TheVariants as event;
+
+use crate::finding::{find, has_room};
+use crate::parts::Parts;
+use crate::refused::Refused;
+use bytes::BytesMut;
+use lk_history::Party;
+use lk_node::{Datagram, MemoryReplica, Note};
+use lk_types::{NoMemory, NodeNo, Request};
+use lk_wire::{Content, Message, write};
+use std::alloc::Global;
+
+// The bytes of a request.
+fn spelled(alloc: Global, cluster: u64, request: &Request) -> Result<Vec<u8>, NoMemory>
+    ensures { IfOk result (λ b. Spells (record { cluster = cluster; content = content.Request request.now }) b.items) }
+{
+    request.facts();
+    let message = Message {
+        cluster,
+        content: Content::Request(request.copy()),
+    };
+    let mut out = BytesMut::new(alloc);
+    write(&message, &mut out)?;
+    Ok(out.as_slice().to_vec(alloc)?)
+}
+
+// Both join their lists, or neither does.
+fn join(
+    sent: &mut Vec<Datagram>,
+    trace: &mut Vec<Note>,
+    datagram: Datagram,
+    note: Note,
+) -> Result<(), NoMemory>
+    ensures sent { OnOk result (sent.new.items ≡ sent.old.items ++ datagram ∷ []) }
+    ensures trace { OnOk result (trace.new.items ≡ trace.old.items ++ note ∷ []) }
+    ensures sent_err { OnErr result (sent.new.items ≡ sent.old.items) }
+    ensures trace_err { OnErr result (trace.new.items ≡ trace.old.items) }
+{
+    trace.reserve(1)?;
+    sent.push(datagram)?;
+    trace.push(note).unwrap();
+    Ok(())
+}
+
+// The request joins the lists.
+fn ask<R: MemoryReplica>(
+    parts: &mut Parts<R>,
+    number: NodeNo,
+    request: &Request,
+) -> Result<(), NoMemory>
+    ensures ok { OnOk result (IsAsked (scene_of parts.old) (scene_of parts.new) number request.now) }
+    ensures err { OnErr result (scene_of parts.new ≡ scene_of parts.old) }
+{
+    let bytes = spelled(parts.alloc, parts.genesis.cluster, request)?;
+    let datagram = Datagram {
+        from: Party::Client(request.client),
+        to: Party::Node(number),
+        bytes,
+    };
+    let note = Note::Asked(request.copy());
+    join(&mut parts.sent, &mut parts.trace, datagram, note)?;
+    parts.ended = None;
+    Ok(())
+}
+
+/// A client asks.
+pub fn client<R: MemoryReplica>(
+    parts: &mut Parts<R>,
+    number: NodeNo,
+    request: &Request,
+) -> Result<(), Refused>
+    requires { PartsHold R.Shows R.disks R.meaning parts.old }
+    ensures holds { PartsHold R.Shows R.disks R.meaning parts.new }
+    ensures ok { OnOk result (Does R.Takes R.Revives R.disks (scene_of parts.old) (event.Client number request.now) (scene_of parts.new)) }
+    ensures err { IfErr result (λ e. IsRefused (scene_of parts.old) (event.Client number request.now) e (scene_of parts.new)) }
+{
+    let Some(_) = find(&parts.seats, number) else {
+        return Err(Refused::NoSuchNode);
+    };
+    if !has_room(&parts.sent) {
+        return Err(Refused::WorldFull);
+    }
+    ask(parts, number, request)?;
+    Ok(())
+}

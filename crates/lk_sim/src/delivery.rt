@@ -1,0 +1,139 @@
+// Nodes are given ticks and datagrams, and clients ask.
+ghost use Rattle.std.specs.Prelude.{◌≡◌, ◌⊎◌, None, Some, IfOk, IfErr, IfSome, OnOk};
+ghost use Rattle.lk_history.specs.Datagrams.{Datagram as DatagramValue};
+ghost use Rattle.lk_history.specs.declared.party.Party.TheVariants as party;
+ghost use Rattle.lk_wire.specs.declared.message.Content.TheVariants as content;
+ghost use Rattle.lk_node.specs.Histories.{RequestValue};
+ghost use Rattle.lk_sim.specs.Events.{Does, IsInjected, IsRefused, IsRefusedAt};
+ghost use Rattle.lk_sim.specs.Heard.{Asks, IsForged};
+ghost use Rattle.lk_sim.specs.Refusals.{datagram_at, HasRoom, NoTurn, NoDelivery, NoInjection, MayTurn};
+ghost use Rattle.lk_sim.specs.Seats.{IsUp, IsUpAt};
+ghost use Rattle.lk_sim.specs.Worlds.{PartsHold, scene_of};
+ghost use Rattle.lk_sim.specs.declared.event.Event.TheVariants as event;
+
+use crate::finding::{find_up, has_room};
+use crate::giving::give;
+use crate::parts::Parts;
+use crate::refused::Refused;
+use lk_history::Party;
+use lk_node::{Datagram, Input, MemoryReplica};
+use lk_types::{NoMemory, NodeNo, Request};
+use lk_wire::{Content, ReadFault, read};
+use std::alloc::Global;
+
+// The place of the node of this number, which is up, where there is room for what it sends.
+fn turn_of<R: MemoryReplica>(parts: &Parts<R>, number: NodeNo) -> Result<usize, Refused>
+    ensures ok { IfOk result (λ i. IsUpAt parts.now.seats.items i number × HasRoom parts.now.sent.items) }
+    ensures err { IfErr result (λ e. NoTurn parts.now.seats.items parts.now.sent.items number e) }
+{
+    let i = find_up(&parts.seats, number)?;
+    if !has_room(&parts.sent) {
+        return Err(Refused::WorldFull);
+    }
+    Ok(i)
+}
+
+/// Some time passes at a node.
+pub fn tick<R: MemoryReplica>(parts: &mut Parts<R>, number: NodeNo) -> Result<(), Refused>
+    requires { PartsHold R.Shows R.disks R.meaning parts.old }
+    ensures holds { PartsHold R.Shows R.disks R.meaning parts.new }
+    ensures ok { OnOk result (Does R.Takes R.Revives R.disks (scene_of parts.old) (event.Tick number) (scene_of parts.new)) }
+    ensures err { IfErr result (λ e. IsRefused (scene_of parts.old) (event.Tick number) e (scene_of parts.new)) }
+{
+    let i = turn_of(parts, number)?;
+    give(parts, i, Input::Tick, None)?;
+    Ok(())
+}
+
+// The datagram of this place. Places count from 1.
+fn datagram(sent: &[Datagram], k: usize) -> Option<&Datagram>
+    ensures some { IfSome result (λ d. datagram_at sent.now k ≡ Some d.now) }
+    ensures none { result ≡ None → datagram_at sent.now k ≡ None }
+{
+    if k == 0 { None } else { sent.get(k - 1) }
+}
+
+// The node to which the datagram of this place is bound.
+fn bound<R: MemoryReplica>(parts: &Parts<R>, k: usize) -> Result<NodeNo, Refused>
+    ensures ok { IfOk result (λ n. (d : DatagramValue) × (datagram_at parts.now.sent.items k ≡ Some d) × (d.to ≡ party.Node n)) }
+    ensures err { IfErr result (λ e. NoDelivery parts.now.seats.items parts.now.sent.items (datagram_at parts.now.sent.items k) e) }
+{
+    let Some(found) = datagram(&parts.sent, k) else {
+        return Err(Refused::NoSuchDatagram);
+    };
+    match found.to {
+        Party::Node(number) => Ok(number),
+        Party::Client(_) => Err(Refused::NoSuchDatagram),
+    }
+}
+
+// A copy of the bytes of the datagram of this place.
+fn bytes_of<R: MemoryReplica>(parts: &Parts<R>, k: usize) -> Result<Vec<u8>, NoMemory>
+    requires { (d : DatagramValue) × (datagram_at parts.now.sent.items k ≡ Some d) }
+    ensures { IfOk result (λ b. (d : DatagramValue) × (datagram_at parts.now.sent.items k ≡ Some d) × (b.items ≡ d.bytes)) }
+{
+    let Some(found) = datagram(&parts.sent, k) else {
+        unreachable!()
+    };
+    Ok(found.bytes.to_vec(parts.alloc)?)
+}
+
+/// The node to which the datagram of this place was bound takes it.
+pub fn deliver<R: MemoryReplica>(parts: &mut Parts<R>, k: usize) -> Result<(), Refused>
+    requires { PartsHold R.Shows R.disks R.meaning parts.old }
+    ensures holds { PartsHold R.Shows R.disks R.meaning parts.new }
+    ensures ok { OnOk result (Does R.Takes R.Revives R.disks (scene_of parts.old) (event.Deliver k) (scene_of parts.new)) }
+    ensures err { IfErr result (λ e. IsRefused (scene_of parts.old) (event.Deliver k) e (scene_of parts.new)) }
+{
+    let number = bound(parts, k)?;
+    let i = turn_of(parts, number)?;
+    let bytes = bytes_of(parts, k)?;
+    give(parts, i, Input::Datagram(&bytes), None)?;
+    Ok(())
+}
+
+// The request that is asked. A message of a node is forged.
+fn request_of(said: &Content) -> Result<Request, Refused>
+    ensures ok { IfOk result (λ r. said.now ≡ content.Request r) }
+    ensures err { IfErr result (λ e. (e ≡ Refused.Forged) × ((r : RequestValue) → said.now ≡ content.Request r → ⊥)) }
+{
+    match said {
+        Content::Request(request) => Ok(request.copy()),
+        Content::Node(..) => Err(Refused::Forged),
+    }
+}
+
+// The request that the bytes are, if they are one. A datagram of a node is forged.
+fn request_in(alloc: Global, bytes: &[u8]) -> Result<Option<Request>, Refused>
+    ensures ok { IfOk result (λ o. Asks bytes.now o) }
+    ensures err { IfErr result (λ e. ((e ≡ Refused.Forged) × IsForged bytes.now) ⊎ (e ≡ Refused.WorldMemory)) }
+{
+    match read(alloc, bytes) {
+        Ok(message) => {
+            let request = request_of(&message.content)?;
+            Ok(Some(request))
+        }
+        Err(ReadFault::Bad) => Ok(None),
+        Err(ReadFault::NoMemory) => Err(Refused::WorldMemory),
+    }
+}
+
+/// A node is handed bytes that no node has sent.
+pub fn inject<R: MemoryReplica>(
+    parts: &mut Parts<R>,
+    number: NodeNo,
+    bytes: &[u8],
+) -> Result<(), Refused>
+    requires { PartsHold R.Shows R.disks R.meaning parts.old }
+    ensures holds { PartsHold R.Shows R.disks R.meaning parts.new }
+    ensures ok { OnOk result (MayTurn (scene_of parts.old) number × (IsForged bytes.now → ⊥) × IsInjected R.Takes (scene_of parts.old) (scene_of parts.new) number bytes.now) }
+    ensures err { IfErr result (λ e. IsRefusedAt (NoInjection parts.old.seats.items parts.old.sent.items number bytes.now) (IsUp parts.old.seats.items number) (scene_of parts.old) number e (scene_of parts.new)) }
+{
+    let i = find_up(&parts.seats, number)?;
+    let asked = request_in(parts.alloc, bytes)?;
+    if !has_room(&parts.sent) {
+        return Err(Refused::WorldFull);
+    }
+    give(parts, i, Input::Datagram(bytes), asked)?;
+    Ok(())
+}

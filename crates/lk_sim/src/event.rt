@@ -1,0 +1,22 @@
+use lk_types::{NodeNo, Request};
+
+/// What happens in a world.
+#[derive(Debug, Drop)]
+pub enum Event {
+    /// A node with two empty disks is revived.
+    Start(NodeNo),
+    /// A node that is down is revived on its disks.
+    Restart(NodeNo),
+    /// Some time passes at a node.
+    Tick(NodeNo),
+    /// A client asks: its datagram joins the list, bound for the node.
+    Client(NodeNo, Request),
+    /// The node to which the datagram of this place was bound takes it. Places count from 1.
+    Deliver(usize),
+    /// A node is handed bytes that no node has sent.
+    Inject(NodeNo, Vec<u8>),
+    /// A node stops; its disks keep up to so many of their unsynced bytes, those of A first.
+    Stop(NodeNo, usize, usize),
+    /// The count-th append, sync or cut of a node from now fails once.
+    FailAt(NodeNo, u64),
+}

@@ -1,0 +1,130 @@
+// A node is given something, or comes up, and what it sends and notes is kept.
+ghost use Rattle.std.specs.Prelude.{◌≡◌, ℕ, ◌<◌, ◌++◌, List, length, set, IfOk, OnOk, OnErr};
+ghost use Rattle.lk_disk.specs.Memory.{Memory, disk_of};
+ghost use Rattle.lk_history.specs.Nodes.{View};
+ghost use Rattle.lk_node.specs.Calls.{heard_by, InputFits};
+ghost use Rattle.lk_node.specs.Histories.{History};
+ghost use Rattle.lk_node.specs.declared.note.Note.{Note as NoteValue};
+ghost use Rattle.lk_sim.specs.Events.{IsGiven, IsHalted, ComesUp, IsBack};
+ghost use Rattle.lk_sim.specs.Outcomes.{HasAdded, HasGivenUp};
+ghost use Rattle.lk_sim.specs.Seats.{IsUpAt, IsDownAt};
+ghost use Rattle.lk_sim.specs.Traces.{happened, asked_note, Tells};
+ghost use Rattle.lk_sim.specs.Worlds.{PartsHold, scene_of};
+
+use crate::parts::Parts;
+use crate::seat::{Outcome, revive, step, stop};
+use crate::telling::tell;
+use lk_node::{Datagram, Input, MemoryReplica, Note};
+use lk_types::{NoMemory, Request};
+use std::alloc::Global;
+
+// All notes of a step: a request that was just asked, what the node noted, and its answers and passes as they are sent.
+fn notes_of(
+    alloc: Global,
+    asked: Option<Request>,
+    mut notes: Vec<Note>,
+    batch: &[Datagram],
+) -> Result<Vec<Note>, NoMemory>
+    ensures ok { IfOk result (λ all. (told : List NoteValue) × (all.items ≡ (asked_note asked ++ notes.items) ++ told) × Tells batch.now told) }
+{
+    if let Some(request) = asked {
+        notes.insert(0, Note::Asked(request))?;
+    }
+    tell(alloc, &mut notes, batch)?;
+    Ok(notes)
+}
+
+// Both join their lists, or neither does.
+fn join(
+    sent: &mut Vec<Datagram>,
+    trace: &mut Vec<Note>,
+    mut batch: Vec<Datagram>,
+    mut notes: Vec<Note>,
+) -> Result<(), NoMemory>
+    ensures sent { OnOk result (sent.new.items ≡ sent.old.items ++ batch.items) }
+    ensures trace { OnOk result (trace.new.items ≡ trace.old.items ++ notes.items) }
+    ensures sent_err { OnErr result (sent.new.items ≡ sent.old.items) }
+    ensures trace_err { OnErr result (trace.new.items ≡ trace.old.items) }
+{
+    trace.reserve(notes.len())?;
+    sent.append(&mut batch)?;
+    trace.append(&mut notes).unwrap();
+    Ok(())
+}
+
+/// Keeps what a call came to, behind a request that was just asked, or nothing of it.
+pub fn add<R: MemoryReplica>(
+    parts: &mut Parts<R>,
+    asked: Option<Request>,
+    outcome: Outcome,
+) -> Result<(), NoMemory>
+    ensures ok { OnOk result (HasAdded (scene_of parts.old) (scene_of parts.new) (asked_note asked) outcome.notes.items outcome.sent.items outcome.ended) }
+    ensures err { OnErr result (scene_of parts.new ≡ scene_of parts.old) }
+    ensures seats { parts.new.seats ≡ parts.old.seats }
+{
+    let Outcome {
+        notes,
+        sent: batch,
+        ended,
+    } = outcome;
+    let all = notes_of(parts.alloc, asked, notes, &batch)?;
+    join(&mut parts.sent, &mut parts.trace, batch, all)?;
+    parts.ended = ended;
+    Ok(())
+}
+
+// Keeps what a call of the node at this place came to; where memory is refused, the node is stopped.
+fn settle<R: MemoryReplica>(
+    parts: &mut Parts<R>,
+    i: usize,
+    asked: Option<Request>,
+    outcome: Outcome,
+) -> Result<(), NoMemory>
+    requires place { i < length parts.old.seats.items }
+    ensures ok { OnOk result (HasAdded (scene_of parts.old) (scene_of parts.new) (asked_note asked) outcome.notes.items outcome.sent.items outcome.ended) }
+    ensures err { OnErr result (HasGivenUp R.Shows R.disks R.meaning (scene_of parts.old) i (scene_of parts.new)) }
+{
+    match add(parts, asked, outcome) {
+        Ok(()) => Ok(()),
+        Err(refused) => {
+            stop(parts.alloc, &mut parts.seats[i], 0, 0);
+            Err(refused)
+        }
+    }
+}
+
+/// The node at this place, which is up, takes the input. A request in it is noted as asked.
+pub fn give<R: MemoryReplica>(
+    parts: &mut Parts<R>,
+    i: usize,
+    input: Input,
+    asked: Option<Request>,
+) -> Result<(), NoMemory>
+    requires up { (n : ℕ) × IsUpAt parts.old.seats.items i n }
+    requires heard { InputFits (happened parts.old.genesis parts.old.sent.items (parts.old.trace.items ++ asked_note asked)) input }
+    requires holds { PartsHold R.Shows R.disks R.meaning parts.old }
+    ensures holds { PartsHold R.Shows R.disks R.meaning parts.new }
+    ensures given { (n : ℕ) → IsUpAt parts.old.seats.items i n
+        → OnOk result (IsGiven R.Takes (scene_of parts.old) (scene_of parts.new) n (heard_by input.entry) (asked_note asked)) }
+    ensures halted { (n : ℕ) → IsUpAt parts.old.seats.items i n
+        → OnErr result (IsHalted (scene_of parts.old) (scene_of parts.new) n) }
+{
+    let outcome = step(parts.alloc, &mut parts.seats[i], input)?;
+    settle(parts, i, asked, outcome)?;
+    Ok(())
+}
+
+/// The node at this place, which is down, takes up what its disks have.
+pub fn come_up<R: MemoryReplica>(parts: &mut Parts<R>, i: usize) -> Result<(), NoMemory>
+    requires down { (n : ℕ) × IsDownAt parts.old.seats.items i n }
+    requires holds { PartsHold R.Shows R.disks R.meaning parts.old }
+    ensures holds { PartsHold R.Shows R.disks R.meaning parts.new }
+    ensures back { (n : ℕ) → IsDownAt parts.old.seats.items i n
+        → OnOk result (IsBack R.Revives (scene_of parts.old) (scene_of parts.new) n) }
+    ensures halted { (n : ℕ) → IsDownAt parts.old.seats.items i n
+        → OnErr result (IsHalted (scene_of parts.old) (scene_of parts.new) n) }
+{
+    let outcome = revive(parts.alloc, &mut parts.seats[i], &parts.genesis)?;
+    settle(parts, i, None, outcome)?;
+    Ok(())
+}

@@ -1,0 +1,53 @@
+// Events happen.
+ghost use Rattle.std.specs.Prelude.{OnOk, IfErr};
+ghost use Rattle.lk_sim.specs.Events.{Does, IsRefused};
+ghost use Rattle.lk_sim.specs.Runs.{Runs};
+ghost use Rattle.lk_sim.specs.Worlds.{PartsHold, scene_of};
+
+use crate::client::client;
+use crate::delivery::{deliver, inject, tick};
+use crate::end::RunEnd;
+use crate::event::Event;
+use crate::lives::{fail_at, halt, restart, start};
+use crate::parts::Parts;
+use crate::refused::Refused;
+use lk_node::MemoryReplica;
+
+/// One event happens.
+pub fn happen<R: MemoryReplica>(parts: &mut Parts<R>, event: &Event) -> Result<(), Refused>
+    requires { PartsHold R.Shows R.disks R.meaning parts.old }
+    ensures holds { PartsHold R.Shows R.disks R.meaning parts.new }
+    ensures ok { OnOk result (Does R.Takes R.Revives R.disks (scene_of parts.old) event.now (scene_of parts.new)) }
+    ensures err { IfErr result (λ e. IsRefused (scene_of parts.old) event.now e (scene_of parts.new)) }
+{
+    match event {
+        Event::Start(number) => start(parts, *number),
+        Event::Restart(number) => restart(parts, *number),
+        Event::Tick(number) => tick(parts, *number),
+        Event::Client(number, request) => client(parts, *number, request),
+        Event::Deliver(k) => deliver(parts, *k),
+        Event::Inject(number, bytes) => inject(parts, *number, bytes),
+        Event::Stop(number, x, y) => halt(parts, *number, *x, *y),
+        Event::FailAt(number, count) => fail_at(parts, *number, *count),
+    }
+}
+
+/// Events happen in order, up to the first that is refused.
+pub fn happen_all<R: MemoryReplica>(parts: &mut Parts<R>, events: &[Event]) -> RunEnd
+    requires { PartsHold R.Shows R.disks R.meaning parts.old }
+    ensures holds { PartsHold R.Shows R.disks R.meaning parts.new }
+    ensures runs { Runs R.Takes R.Revives R.disks (scene_of parts.old) events.now result (scene_of parts.new) }
+{
+    'events: for i in 0..events.len() {
+        if let Err(refused) = happen(parts, &events[i]) {
+            return RunEnd {
+                done: i,
+                refused: Some(refused),
+            };
+        }
+    }
+    RunEnd {
+        done: events.len(),
+        refused: None,
+    }
+}

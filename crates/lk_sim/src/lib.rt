@@ -1,0 +1,21 @@
+//! A world of replicas on disks in memory, whatever is delivered, lost, repeated or stopped.
+#![tactic(auto)]
+
+mod client;
+mod delivery;
+mod end;
+mod event;
+mod finding;
+mod giving;
+mod happening;
+mod lives;
+mod parts;
+mod refused;
+mod seat;
+mod telling;
+mod world;
+
+pub use end::{End, RunEnd};
+pub use event::Event;
+pub use refused::Refused;
+pub use world::World;

@@ -1,0 +1,99 @@
+// Nodes come up and go down.
+ghost use Rattle.std.specs.Prelude.{◌≡◌, IfErr, OnOk, OnErr};
+ghost use Rattle.lk_sim.specs.Events.{Does, IsBegun, IsRefused};
+ghost use Rattle.lk_sim.specs.Seats.{HasNo};
+ghost use Rattle.lk_sim.specs.Worlds.{PartsHold, scene_of};
+ghost use Rattle.lk_sim.specs.declared.event.Event.TheVariants as event;
+
+use crate::finding::{find, find_down, find_up};
+use crate::giving::{add, come_up};
+use crate::parts::Parts;
+use crate::refused::Refused;
+use crate::seat::{Life, Seat, revive, set_trap, stop};
+use lk_disk::MemoryDisk;
+use lk_node::MemoryReplica;
+use lk_types::{NoMemory, NodeNo};
+
+// At most so many nodes are ever started.
+const MAX_NODES: usize = 16;
+
+// A node that was never started comes up on empty disks, and joins the others.
+fn begin<R: MemoryReplica>(parts: &mut Parts<R>, number: NodeNo) -> Result<(), NoMemory>
+    requires unused { HasNo parts.old.seats.items number }
+    requires holds { PartsHold R.Shows R.disks R.meaning parts.old }
+    ensures holds { PartsHold R.Shows R.disks R.meaning parts.new }
+    ensures ok { OnOk result (IsBegun R.Revives (scene_of parts.old) (scene_of parts.new) number) }
+    ensures err { OnErr result (scene_of parts.new ≡ scene_of parts.old) }
+{
+    let life = Life::Down(MemoryDisk::new(parts.alloc));
+    let mut seat = Seat { number, life };
+    parts.seats.reserve(1)?;
+    let outcome = revive(parts.alloc, &mut seat, &parts.genesis)?;
+    add(parts, None, outcome)?;
+    parts.seats.push(seat).unwrap();
+    Ok(())
+}
+
+/// A node with two empty disks is revived.
+pub fn start<R: MemoryReplica>(parts: &mut Parts<R>, number: NodeNo) -> Result<(), Refused>
+    requires { PartsHold R.Shows R.disks R.meaning parts.old }
+    ensures holds { PartsHold R.Shows R.disks R.meaning parts.new }
+    ensures ok { OnOk result (Does R.Takes R.Revives R.disks (scene_of parts.old) (event.Start number) (scene_of parts.new)) }
+    ensures err { IfErr result (λ e. IsRefused (scene_of parts.old) (event.Start number) e (scene_of parts.new)) }
+{
+    if let Some(_) = find(&parts.seats, number) {
+        return Err(Refused::AlreadyUp);
+    }
+    if parts.seats.len() >= MAX_NODES {
+        return Err(Refused::WorldFull);
+    }
+    begin(parts, number)?;
+    Ok(())
+}
+
+/// A node that is down is revived on its disks.
+pub fn restart<R: MemoryReplica>(parts: &mut Parts<R>, number: NodeNo) -> Result<(), Refused>
+    requires { PartsHold R.Shows R.disks R.meaning parts.old }
+    ensures holds { PartsHold R.Shows R.disks R.meaning parts.new }
+    ensures ok { OnOk result (Does R.Takes R.Revives R.disks (scene_of parts.old) (event.Restart number) (scene_of parts.new)) }
+    ensures err { IfErr result (λ e. IsRefused (scene_of parts.old) (event.Restart number) e (scene_of parts.new)) }
+{
+    let i = find_down(&parts.seats, number)?;
+    come_up(parts, i)?;
+    Ok(())
+}
+
+/// A node stops, and its disks keep up to `x` and `y` of their unsynced bytes.
+pub fn halt<R: MemoryReplica>(
+    parts: &mut Parts<R>,
+    number: NodeNo,
+    x: usize,
+    y: usize,
+) -> Result<(), Refused>
+    requires { PartsHold R.Shows R.disks R.meaning parts.old }
+    ensures holds { PartsHold R.Shows R.disks R.meaning parts.new }
+    ensures ok { OnOk result (Does R.Takes R.Revives R.disks (scene_of parts.old) (event.Stop number x y) (scene_of parts.new)) }
+    ensures err { IfErr result (λ e. IsRefused (scene_of parts.old) (event.Stop number x y) e (scene_of parts.new)) }
+{
+    let i = find_up(&parts.seats, number)?;
+    stop(parts.alloc, &mut parts.seats[i], x, y);
+    parts.ended = None;
+    Ok(())
+}
+
+/// A changing call of the node's device to come fails once.
+pub fn fail_at<R: MemoryReplica>(
+    parts: &mut Parts<R>,
+    number: NodeNo,
+    count: u64,
+) -> Result<(), Refused>
+    requires { PartsHold R.Shows R.disks R.meaning parts.old }
+    ensures holds { PartsHold R.Shows R.disks R.meaning parts.new }
+    ensures ok { OnOk result (Does R.Takes R.Revives R.disks (scene_of parts.old) (event.FailAt number count) (scene_of parts.new)) }
+    ensures err { IfErr result (λ e. IsRefused (scene_of parts.old) (event.FailAt number count) e (scene_of parts.new)) }
+{
+    let i = find(&parts.seats, number).ok_or(Refused::NoSuchNode)?;
+    set_trap(&mut parts.seats[i], count);
+    parts.ended = None;
+    Ok(())
+}

@@ -1,0 +1,17 @@
+use crate::end::End;
+use crate::seat::Seat;
+use lk_node::{Datagram, Note};
+use lk_types::Genesis;
+use std::alloc::Global;
+
+/// What a world is made of: the nodes that were ever started, all that was ever sent, the trace, and how the last event
+/// that was done ended a node.
+#[derive(Drop)]
+pub struct Parts<R: Drop> {
+    pub alloc: Global,
+    pub genesis: Genesis,
+    pub seats: Vec<Seat<R>>,
+    pub sent: Vec<Datagram>,
+    pub trace: Vec<Note>,
+    pub ended: Option<End>,
+}

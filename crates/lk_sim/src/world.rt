@@ -1,0 +1,119 @@
+// A world of replicas.
+use crate::end::{End, RunEnd};
+use crate::event::Event;
+use crate::happening::{happen, happen_all};
+use crate::parts::Parts;
+use crate::refused::Refused;
+use lk_node::{Datagram, MemoryReplica, Note};
+use lk_types::Genesis;
+use std::alloc::Global;
+use std::marker::Model;
+
+/// Replicas on disks in memory, all datagrams that were ever sent, and the trace of what has happened.
+#[derive(Drop)]
+pub struct World<R: MemoryReplica> {
+    parts: Parts<R>,
+}
+
+impl<R: MemoryReplica> Model for World<R> {
+    ghost use Rattle.lk_sim.specs.Scenes.{Scene};
+    ghost use Rattle.lk_sim.specs.Worlds.{PartsHold, scene_of};
+
+    ghost Value = { Scene R };
+
+    ghost view = { λ w. scene_of w.parts };
+
+    ghost invariant = { λ w. PartsHold R.Shows R.disks R.meaning w.parts };
+}
+
+impl<R: MemoryReplica> World<R> {
+    ghost use Rattle.std.specs.Prelude.{◌≡◌, ℕ, ◌⊎◌, List, [], None, OnOk, IfErr};
+    ghost use Rattle.lk_history.specs.Chosen.{Chosen, IsBeginning};
+    ghost use Rattle.lk_node.specs.Histories.{Command};
+    ghost use Rattle.lk_sim.specs.Events.{Does, IsRefused, Grows};
+    ghost use Rattle.lk_sim.specs.Explained.{Explains};
+    ghost use Rattle.lk_sim.specs.Runs.{Runs};
+    ghost use Rattle.lk_sim.specs.Seats.{At};
+    ghost use Rattle.lk_sim.specs.States.{SumsUpChosen};
+    ghost use Rattle.lk_sim.specs.Traces.{told_in, Tells};
+    ghost use Rattle.lk_sim.specs.declared.seat.Seat.{Seat as SeatValue};
+
+    /// A world in which nothing has happened.
+    pub fn new(alloc: Global, genesis: Genesis) -> Self
+        ensures { result ≡ record { genesis = genesis; seats = []; sent = []; trace = []; ended = None } }
+    {
+        World {
+            parts: Parts {
+                alloc,
+                genesis,
+                seats: Vec::new(alloc),
+                sent: Vec::new(alloc),
+                trace: Vec::new(alloc),
+                ended: None,
+            },
+        }
+    }
+
+    /// One event happens. Whatever happens, one list of no-ops and asked requests is chosen that explains all that was
+    /// noted and sent.
+    ///
+    /// A refused event changes nothing; under `WorldMemory` the node that was stepping or coming up has stopped.
+    pub fn apply(&mut self, event: Event) -> Result<(), Refused>
+        ensures does { OnOk result (Does R.Takes R.Revives R.disks self.old event self.new) }
+        ensures refused { IfErr result (λ e. IsRefused self.old event e self.new) }
+        ensures grows { Grows self.old self.new }
+        ensures explained { (L : List Command) × Chosen self.new.genesis self.new.sent L × Explains R.meaning self.new.genesis self.new.sent self.new.trace L }
+        ensures agree { (L K : List Command) → Chosen self.new.genesis self.new.sent L → Chosen self.new.genesis self.new.sent K → IsBeginning L K ⊎ IsBeginning K L }
+        ensures told { Tells self.new.sent (told_in self.new.trace) }
+        ensures states { (k : ℕ) (s : SeatValue R) → At self.new.seats k s → SumsUpChosen R.whole R.disks R.meaning self.new.genesis self.new.sent s }
+    {
+        let result = happen(&mut self.parts, &event);
+        self.facts();
+        result
+    }
+
+    /// Events happen in order, up to the first that is refused. Whatever happens, what `apply` promises holds.
+    pub fn run(&mut self, events: &[Event]) -> RunEnd
+        ensures runs { Runs R.Takes R.Revives R.disks self.old events.now result self.new }
+        ensures grows { Grows self.old self.new }
+        ensures explained { (L : List Command) × Chosen self.new.genesis self.new.sent L × Explains R.meaning self.new.genesis self.new.sent self.new.trace L }
+        ensures agree { (L K : List Command) → Chosen self.new.genesis self.new.sent L → Chosen self.new.genesis self.new.sent K → IsBeginning L K ⊎ IsBeginning K L }
+        ensures told { Tells self.new.sent (told_in self.new.trace) }
+        ensures states { (k : ℕ) (s : SeatValue R) → At self.new.seats k s → SumsUpChosen R.whole R.disks R.meaning self.new.genesis self.new.sent s }
+    {
+        let how = happen_all(&mut self.parts, events);
+        self.facts();
+        how
+    }
+
+    /// What has happened so far, in order.
+    pub fn trace(&self) -> &[Note]
+        ensures { result.now ≡ self.now.trace }
+    {
+        &self.parts.trace
+    }
+
+    /// All datagrams that were ever sent, in order.
+    pub fn datagrams(&self) -> &[Datagram]
+        ensures { result.now ≡ self.now.sent }
+    {
+        &self.parts.sent
+    }
+
+    /// How the last event that was done ended a node, if it did.
+    pub fn last_end(&self) -> Option<End>
+        ensures { result ≡ self.now.ended }
+    {
+        self.parts.ended
+    }
+
+    /// Some list explains the world, chosen lists agree, and each node has executed one. It does nothing.
+    pub fn facts(&self)
+        ensures explained { (L : List Command) × Chosen self.now.genesis self.now.sent L × Explains R.meaning self.now.genesis self.now.sent self.now.trace L }
+        ensures agree { (L K : List Command) → Chosen self.now.genesis self.now.sent L → Chosen self.now.genesis self.now.sent K → IsBeginning L K ⊎ IsBeginning K L }
+        ensures told { Tells self.now.sent (told_in self.now.trace) }
+        ensures states { (k : ℕ) (s : SeatValue R) → At self.now.seats k s → SumsUpChosen R.whole R.disks R.meaning self.now.genesis self.now.sent s }
+    {
+        let _ = &self.parts;
+    }
+}
