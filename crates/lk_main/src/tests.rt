@@ -41,6 +41,16 @@ fn a_script_has_the_status_of_its_end(rt: HostRuntime) {
 }
 
 #[test]
+fn a_refused_script_has_status_one(rt: HostRuntime) {
+    let script = "genesis 5 2 1:7001\ntick 1\n";
+    let (status, out, err) = ran(rt.alloc(), &["locks", "sim"], script);
+    assert_eq!(rt;
+        (status, out.as_slice(), err.len()),
+        (1, b"refused 16 NoSuchNode\n".as_slice(), 0)
+    );
+}
+
+#[test]
 fn help_that_cannot_be_written_is_fault_24(rt: HostRuntime) {
     let mut err = Vec::new(rt.alloc());
     let mut full = [0u8; 8];

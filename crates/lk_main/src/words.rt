@@ -4,12 +4,18 @@ ghost use Rattle.std.specs.Prelude.{◌≤◌};
 
 use clap::error::ErrorKind;
 use clap::{ArgMatches, Command, Error};
+use lk_disk::MemoryDisk;
+use lk_locks::LockTable;
+use lk_node::Replica;
 use lk_script::ending::{end, tell};
 use lk_script::fault::ScriptFault;
 use lk_script::script::run_to_end;
 use std::alloc::{AllocError, Global};
 use std::io;
 use std::io::{BufRead, Write};
+
+/// The nodes of world mode.
+type Nodes = Replica<LockTable, MemoryDisk>;
 
 /// The program and its subcommands.
 fn program<'a>(alloc: Global) -> Result<Command<'a>, AllocError> {
@@ -31,7 +37,7 @@ fn run_matches<R: BufRead, W: Write, E: Write>(
     ensures { result ≤ 2 }
 {
     match matches.subcommand() {
-        Some(("sim", _)) => run_to_end(alloc, reader, out, err),
+        Some(("sim", _)) => run_to_end::<Nodes, R, W, E>(alloc, reader, out, err),
         _ => 2,
     }
 }

@@ -1,6 +1,6 @@
 -- By the rules of table mode an input has one output.
-use Rattle.std.proofs.Common.{◌≡◌, ℕ, ◌+◌, ◌≤◌, true, false, List, [], ◌∷◌, ◌++◌, drop, Option, Some, refl, sym, ap, subst, ◌∙◌, arith}
-use Rattle.std.specs.Prelude.{nat_le}
+use Rattle.std.proofs.Common.{◌≡◌, ℕ, ◌+◌, ◌≤◌, true, false, List, [], ◌∷◌, ◌++◌, drop, Some, refl, sym, ap, subst, ◌∙◌, arith}
+use Rattle.std.specs.Prelude.{nat_le, ⊤}
 use Rattle.std.proofs.lemmas.Bool.{eq-eqb, leb-true}
 use Rattle.std.proofs.lemmas.Fmt.{decimal_injective}
 use Rattle.std.proofs.lemmas.List.Elements.{All-contains}
@@ -17,11 +17,14 @@ use Rattle.lk_members.specs.Counting.{Command, RequestValue, Request, Placed, co
 use Rattle.lk_members.proofs.Memberships.{numbers_count_once}
 use Rattle.lk_locks.specs.Lists.{table_of, table_answer}
 use Rattle.lk_script.specs.Replies.{IsReply, with_request}
-use Rattle.lk_script.specs.TableMode.{Replies, Prints, Script, table, IsTableLine, Takes, Runs, from_client, from_node, is_request_to, is_for_table}
+use Rattle.lk_script.specs.Scripts.{Script, begun, table, world, Takes, Refuses, Stop, Runs, OpensWorld}
+use Rattle.lk_script.specs.Scripts.OpensWorld.{here, later}
+use Rattle.lk_script.specs.TableMode.{Replies, Prints, IsTableLine, from_client, from_node, is_request_to, is_for_table}
 use Rattle.lk_script.specs.TableMode.Replies.{answers, passes}
 use Rattle.lk_script.specs.TableMode.Prints.{unreadable, others, not_here, replied}
-use Rattle.lk_script.specs.TableMode.Takes.{begins, prints}
-use Rattle.lk_script.specs.TableMode.Runs.{ends, skips, takes, stops}
+use Rattle.lk_script.specs.Scripts.Takes.{begins, opens, prints, happens}
+use Rattle.lk_script.specs.Scripts.Runs.{ends, skips, takes, stops, refuses}
+use Rattle.lk_sim.specs.declared.refused.Refused.{Refused}
 use Rattle.lk_script.proofs.HexSpelling.{same_bytes}
 
 some_same : {X : Type 0} {x y : X} → Some x ≡ Some y → x ≡ y
@@ -99,26 +102,55 @@ prints_once cluster L bytes _ _ _ _ (replied r m spells asks_table replies) (rep
 cluster_once : (line : List ℕ) (c d : ℕ) → IsTableLine line c → IsTableLine line d → c ≡ d
 cluster_once line c d x y = decimal_injective c d x.0 y.0 (ap (λ (t : List ℕ). drop 6 t) (sym x.1 ∙ y.1))
 
-takes_once : (s : Script) (line a b : List ℕ) (after after' : Script) → Takes s line a after → Takes s line b after' → (a ≡ b) × (after ≡ after')
-takes_once _ line _ _ _ _ (begins l c first) (begins l' d first') = (refl, ap (λ (k : ℕ). table k []) (cluster_once line c d first first'))
-takes_once _ line _ _ _ _ (prints cluster L l bytes text after spells printed) (prints cluster' L' l' bytes' text' after' spells' printed') =
+-- no world is set up, nor will be by the next line
+abbrev pub IsPlain : Script → List (List ℕ) → Type 0
+IsPlain begun lines = OpensWorld lines → ⊥
+IsPlain (table cluster L) lines = ⊤
+IsPlain (world done) lines = ⊥
+
+plain_skipped : (s : Script) (lines : List (List ℕ)) → IsPlain s ([] ∷ lines) → IsPlain s lines
+plain_skipped begun lines plain = λ opened. plain (later lines opened)
+plain_skipped (table cluster L) lines plain = tt
+plain_skipped (world done) lines plain = absurd plain
+
+plain_taken : (s after : Script) (line out : List ℕ) (lines : List (List ℕ)) → IsPlain s (line ∷ lines) → Takes s line out after → IsPlain after lines
+plain_taken _ _ line _ lines plain (begins l c first) = tt
+plain_taken _ _ line _ lines plain (opens l c alpha members first) = absurd (plain (here l c alpha members lines first))
+plain_taken _ _ line _ lines plain (prints cluster L l bytes text after spells printed) = tt
+plain_taken _ _ line _ lines plain (happens done l out o spells) = absurd plain
+
+not_refused : (s : Script) (line out : List ℕ) (r : Refused) (lines : List (List ℕ)) → IsPlain s lines → Refuses s line out r → ⊥
+not_refused begun line out r lines plain refused = refused
+not_refused (table cluster L) line out r lines plain refused = refused
+not_refused (world done) line out r lines plain refused = plain
+
+takes_once : (s : Script) (line a b : List ℕ) (after after' : Script) (lines : List (List ℕ)) → IsPlain s (line ∷ lines) → Takes s line a after → Takes s line b after' → (a ≡ b) × (after ≡ after')
+takes_once _ line _ _ _ _ lines plain (begins l c first) (begins l' d first') = (refl, ap (λ (k : ℕ). table k []) (cluster_once line c d first first'))
+takes_once _ line _ _ _ _ lines plain (begins l c first) (opens l' d alpha members first') = absurd (plain (here l' d alpha members lines first'))
+takes_once _ line _ _ _ _ lines plain (opens l c alpha members first) other = absurd (plain (here l c alpha members lines first))
+takes_once _ line _ _ _ _ lines plain (happens done l out o spells) other = absurd plain
+takes_once _ line _ _ _ _ lines plain (prints cluster L l bytes text after spells printed) (prints cluster' L' l' bytes' text' after' spells' printed') =
     let same : bytes' ≡ bytes = same_bytes line bytes' bytes spells' spells in
     let once = prints_once cluster L bytes text text' after after' printed (subst (λ (t : List ℕ). Prints cluster L t text' after') same printed') in
     (ap (λ (t : List ℕ). t ++ 10 ∷ []) once.0, ap (table cluster) once.1)
 
 -- ---- the lines of a script print one text
 
-pub runs_once : (s : Script) (n : ℕ) (lines : List (List ℕ)) (a b : List ℕ) (stop end : Option ℕ) → Runs s n lines a stop → Runs s n lines b end → (a ≡ b) × (stop ≡ end)
-runs_once _ _ _ _ _ _ _ (ends s n) (ends s' n') = (refl, refl)
-runs_once _ _ _ _ _ _ _ (skips s n lines text stop r) (skips s' n' lines' text' stop' r') = runs_once s (n + 1) lines text text' stop stop' r r'
-runs_once _ _ _ _ _ _ _ (skips s n lines text stop r) (takes s' after n' line out lines' text' stop' filled t r') = absurd (filled refl)
-runs_once _ _ _ _ _ _ _ (skips s n lines text stop r) (stops s' n' line lines' filled none) = absurd (filled refl)
-runs_once _ _ _ _ _ _ _ (takes s after n line out lines text stop filled t r) (skips s' n' lines' text' stop' r') = absurd (filled refl)
-runs_once _ _ _ _ _ _ _ (takes s after n line out lines text stop filled t r) (takes s' after' n' line' out' lines' text' stop' filled' t' r') =
-    let line_once = takes_once s line out out' after after' t t' in
-    let rest = runs_once after (n + 1) lines text text' stop stop' r (subst (λ (x : Script). Runs x (n + 1) lines text' stop') (sym line_once.1) r') in
+pub runs_once : (s : Script) (n : ℕ) (lines : List (List ℕ)) (a b : List ℕ) (stop end : Stop) → IsPlain s lines → Runs s n lines a stop → Runs s n lines b end → (a ≡ b) × (stop ≡ end)
+runs_once _ _ _ _ _ _ _ plain (ends s n) (ends s' n') = (refl, refl)
+runs_once _ _ _ _ _ _ _ plain (skips s n lines text stop r) (skips s' n' lines' text' stop' r') = runs_once s (n + 1) lines text text' stop stop' (plain_skipped s lines plain) r r'
+runs_once _ _ _ _ _ _ _ plain (skips s n lines text stop r) (takes s' after n' line out lines' text' stop' filled t r') = absurd (filled refl)
+runs_once _ _ _ _ _ _ _ plain (skips s n lines text stop r) (stops s' n' line lines' filled none) = absurd (filled refl)
+runs_once _ _ _ _ _ _ _ plain (skips s n lines text stop r) (refuses s' n' line out why lines' filled refused) = absurd (filled refl)
+runs_once _ _ _ _ _ _ _ plain (takes s after n line out lines text stop filled t r) (skips s' n' lines' text' stop' r') = absurd (filled refl)
+runs_once _ _ _ _ _ _ _ plain (takes s after n line out lines text stop filled t r) (takes s' after' n' line' out' lines' text' stop' filled' t' r') =
+    let line_once = takes_once s line out out' after after' lines plain t t' in
+    let rest = runs_once after (n + 1) lines text text' stop stop' (plain_taken s after line out lines plain t) r (subst (λ (x : Script). Runs x (n + 1) lines text' stop') (sym line_once.1) r') in
     (ap (λ (x : List ℕ). x ++ text) line_once.0 ∙ ap (λ (x : List ℕ). out' ++ x) rest.0, rest.1)
-runs_once _ _ _ _ _ _ _ (takes s after n line out lines text stop filled t r) (stops s' n' line' lines' filled' none) = absurd (none out after t)
-runs_once _ _ _ _ _ _ _ (stops s n line lines filled none) (skips s' n' lines' text' stop' r') = absurd (filled refl)
-runs_once _ _ _ _ _ _ _ (stops s n line lines filled none) (takes s' after n' line' out lines' text' stop' filled' t r') = absurd (none out after t)
-runs_once _ _ _ _ _ _ _ (stops s n line lines filled none) (stops s' n' line' lines' filled' none') = (refl, refl)
+runs_once _ _ _ _ _ _ _ plain (takes s after n line out lines text stop filled t r) (stops s' n' line' lines' filled' none) = absurd (none out after t)
+runs_once _ _ _ _ _ _ _ plain (takes s after n line out lines text stop filled t r) (refuses s' n' line' out' why lines' filled' refused) = absurd (not_refused s line out' why (line ∷ lines) plain refused)
+runs_once _ _ _ _ _ _ _ plain (stops s n line lines filled none) (skips s' n' lines' text' stop' r') = absurd (filled refl)
+runs_once _ _ _ _ _ _ _ plain (stops s n line lines filled none) (takes s' after' n' line' out' lines' text' stop' filled' t' r') = absurd (none out' after' t')
+runs_once _ _ _ _ _ _ _ plain (stops s n line lines filled none) (stops s' n' line' lines' filled' none') = (refl, refl)
+runs_once _ _ _ _ _ _ _ plain (stops s n line lines filled none) (refuses s' n' line' out' why lines' filled' refused) = absurd (not_refused s line out' why (line ∷ lines) plain refused)
+runs_once _ _ _ _ _ _ _ plain (refuses s n line out why lines filled refused) other = absurd (not_refused s line out why (line ∷ lines) plain refused)

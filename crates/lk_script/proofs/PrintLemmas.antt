@@ -1,6 +1,6 @@
 -- What a datagram prints.
 use Rattle.std.proofs.Common.{◌≡◌, ℕ, List, Result, Ok, Err, false, refl}
-use Rattle.std.specs.Prelude.{OnOk}
+use Rattle.std.specs.Prelude.{OnOk, IfErr}
 use Rattle.lk_types.specs.declared.command.Op.{Op}
 use Rattle.lk_types.specs.declared.command.Op.TheVariants.{Table, Join, Leave}
 use Rattle.lk_script.specs.TableMode.{is_for_table}
@@ -15,3 +15,12 @@ is_change (Leave node) other = refl
 pub on_ok : {T E : Type 0} (r : Result T E) (P Q : Type 0) → OnOk r P → (P → Q) → OnOk r Q
 on_ok (Ok t) P Q done h = h done
 on_ok (Err e) P Q done h = tt
+
+-- what a call that was done tells, and one that was refused
+pub done_tells : {T E : Type 0} (r : Result T E) (P : Type 0) (t : T) → OnOk r P → r ≡ Ok t → P
+done_tells (Ok t) P u done e = done
+done_tells (Err f) P u done e = absurd cc
+
+pub refused_tells : {T E : Type 0} (r : Result T E) (P Q : E → Type 0) → IfErr r P → ((e : E) → P e → Q e) → IfErr r Q
+refused_tells (Ok t) P Q told h = tt
+refused_tells (Err e) P Q told h = h e told

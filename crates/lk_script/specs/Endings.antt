@@ -1,24 +1,33 @@
 -- How the run of a script ends: what it has printed, and what the reader has left.
-use Rattle.std.specs.Prelude.{◌≡◌, ℕ, List, ◌++◌, Option, Some, None, ⊤}
+use Rattle.std.specs.Prelude.{◌≡◌, ℕ, List, ◌++◌, Option, ⊤}
 use Rattle.lk_script.specs.Lines.{lines_of, TakesWithinLine}
-use Rattle.lk_script.specs.TableMode.{Runs, begun}
+use Rattle.lk_script.specs.Scripts.{Script, begun, Runs, at_end, at_line, at_refusal, last_line}
+use Rattle.lk_sim.specs.declared.refused.Refused.{Refused}
 use Rattle.lk_script.specs.declared.fault.ScriptFault.{ScriptFault}
-use Rattle.lk_script.specs.declared.fault.ScriptFault.TheVariants.{Read, Write, ScriptMemory, BadLine}
+use Rattle.lk_script.specs.declared.fault.ScriptFault.TheVariants.{Read, Write, ScriptMemory, BadLine, Ended}
 
--- the script's lines print the text, to the last of them
-abbrev pub PrintsAll : List ℕ → List ℕ → Type 0
-PrintsAll script text = Runs begun 1 (lines_of script) text None
+-- the script's lines print the text, to the last of them, and what stands behind it
+pub record PrintsAll (script text : List ℕ) : Type 0 where
+  pub state : Script
+  pub printed : List ℕ
+  pub runs : Runs begun 1 (lines_of script) printed (at_end state)
+  pub text_is : text ≡ printed ++ last_line state
 
 -- the lines in front of the line of that number print the text, and that line is the first that is not understood
 abbrev pub EndsAtLine : ℕ → List ℕ → List ℕ → Type 0
-EndsAtLine number script text = Runs begun 1 (lines_of script) text (Some number)
+EndsAtLine number script text = Runs begun 1 (lines_of script) text (at_line number)
+
+-- the lines in front of one of which an event was refused print the text, with what that line printed and the refusal
+abbrev pub EndsRefused : Refused → List ℕ → List ℕ → Type 0
+EndsRefused r script text = Runs begun 1 (lines_of script) text (at_refusal r)
 
 -- the run broke off at a line: the lines in front of it print the text, and of what stands behind these no more than this line was taken
 pub record BreaksOff (script text : List ℕ) (left : Option (List ℕ)) : Type 0 where
   pub front : List (List ℕ)
   pub behind : List ℕ
   pub lines : lines_of script ≡ front ++ lines_of behind
-  pub printed : Runs begun 1 front text None
+  pub state : Script
+  pub printed : Runs begun 1 front text (at_end state)
   pub taken : TakesWithinLine behind left
 
 -- a script that ends by the fault has printed the text, and the reader has this left; of a failed write nothing is said
@@ -27,3 +36,4 @@ EndsBy Read script text left = BreaksOff script text left
 EndsBy Write script text left = ⊤
 EndsBy ScriptMemory script text left = BreaksOff script text left
 EndsBy (BadLine number) script text left = EndsAtLine number script text
+EndsBy (Ended r) script text left = EndsRefused r script text

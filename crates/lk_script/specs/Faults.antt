@@ -1,7 +1,7 @@
 -- Faults of a script.
 use Rattle.std.specs.Prelude.{ℕ}
 use Rattle.lk_script.specs.declared.fault.ScriptFault.{ScriptFault}
-use Rattle.lk_script.specs.declared.fault.ScriptFault.TheVariants.{Read, Write, ScriptMemory, BadLine}
+use Rattle.lk_script.specs.declared.fault.ScriptFault.TheVariants.{Read, Write, ScriptMemory, BadLine, Ended}
 use Rattle.lk_script.specs.declared.fault.LineFault.{LineFault}
 use Rattle.lk_script.specs.declared.fault.LineFault.TheVariants.{NoMemory, NotUnderstood}
 
@@ -11,6 +11,7 @@ number_of Read = 23
 number_of Write = 24
 number_of ScriptMemory = 25
 number_of (BadLine line) = 26
+number_of (Ended refused) = 27
 
 -- the fault of the line of that number
 abbrev pub fault_of_line : ℕ → LineFault → ScriptFault

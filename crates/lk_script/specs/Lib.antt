@@ -2,6 +2,10 @@ pub mod Lines
 pub mod HexLines
 pub mod Replies
 pub mod TableMode
+pub mod WorldLines
+pub mod GenesisLines
+pub mod Worlds
+pub mod Scripts
 pub mod Servers
 pub mod Faults
 pub mod Endings

@@ -1,12 +1,15 @@
 -- What a server stands for: the list of the requests that counted so far.
-use Rattle.std.specs.Prelude.{◌≡◌, ℕ, true, List, [], ◌∷◌, Option, Some, None, ⊤}
+use Rattle.std.specs.Prelude.{◌≡◌, ℕ, true, List, [], ◌∷◌, ⊤}
 use Rattle.std.specs.List.{AllByRecursion}
 use Rattle.lk_types.specs.Commands.{IsRequest}
 use Rattle.lk_members.specs.Counting.{Command, Noop, Request}
 use Rattle.lk_members.specs.Rosters.{Genesis}
 use Rattle.lk_state.specs.States as state
 use Rattle.lk_locks.specs.Meaning.{table_meaning}
-use Rattle.lk_script.specs.TableMode.{Script, begun, table, is_for_table}
+use Rattle.lk_script.specs.TableMode.{is_for_table}
+use Rattle.lk_script.specs.Scripts.{Script, begun, table, world}
+use Rattle.lk_script.specs.declared.mode.Mode.{Mode}
+use Rattle.lk_script.specs.declared.mode.Mode.TheVariants as mode
 use Rattle.lk_script.specs.declared.server.Server.{Server}
 
 -- the entry is a request that asks something of the lock table
@@ -32,13 +35,19 @@ abbrev pub executed_of : Server → ℕ
 executed_of server = server.whole.roster.executed
 
 -- what a script has set up so far, as the program keeps it
-abbrev pub Fits : Script → Option Server → Type 0
-Fits begun None = ⊤
-Fits begun (Some server) = ⊥
-Fits (table cluster L) None = ⊥
-Fits (table cluster L) (Some server) = (server.cluster ≡ cluster) × HasServed L server
+abbrev pub Fits : {R : Type 0} → Script → Mode R → Type 0
+Fits begun mode.Begun = ⊤
+Fits begun (mode.Table server) = ⊥
+Fits begun (mode.World run) = ⊥
+Fits (table cluster L) mode.Begun = ⊥
+Fits (table cluster L) (mode.Table server) = (server.cluster ≡ cluster) × HasServed L server
+Fits (table cluster L) (mode.World run) = ⊥
+Fits (world done) mode.Begun = ⊥
+Fits (world done) (mode.Table server) = ⊥
+Fits (world done) (mode.World run) = run.done ≡ done
 
--- how many positions were executed for a script so far
-abbrev pub executed_in : Option Server → ℕ
-executed_in None = 0
-executed_in (Some server) = executed_of server
+-- how many positions, or events, were done for a script so far
+abbrev pub done_in : {R : Type 0} → Mode R → ℕ
+done_in mode.Begun = 0
+done_in (mode.Table server) = executed_of server
+done_in (mode.World run) = run.done

@@ -1,5 +1,5 @@
 -- Table mode: what each line prints.
-use Rattle.std.specs.Prelude.{◌≡◌, ◌≢◌, ℕ, ◌+◌, ◌<◌, ◌^◌, Bool, true, false, ◌&&◌, ◌==◌, List, [], ◌∷◌, ◌++◌, Option, Some, None, codes}
+use Rattle.std.specs.Prelude.{◌≡◌, ℕ, ◌<◌, ◌^◌, Bool, true, false, ◌&&◌, ◌==◌, List, ◌++◌, codes}
 use Rattle.std.specs.Fmt.{decimal}
 use Rattle.hex.specs.Hex.{encode_lower}
 use Rattle.lk_types.specs.declared.answer.Answer.{Answer as AnswerValue}
@@ -55,31 +55,6 @@ pub data Prints (cluster : ℕ) (L : List Command) (bytes : List ℕ) : List ℕ
   replied : (r : RequestValue) (m : NodeMessage) → Spells (from_client cluster r) bytes → is_for_table r.op ≡ true → Replies (with_request L r) r m
       → Prints cluster L bytes (encode_lower (spelling (from_node cluster m))) (with_request L r)
 
--- what a script has set up: nothing yet, or a lock table with the list of the requests that counted so far
-pub data Script : Type 0 where
-  begun : Script
-  table : (cluster : ℕ) (L : List Command) → Script
-
 -- the line that begins table mode
 abbrev pub IsTableLine : List ℕ → ℕ → Type 0
 IsTableLine line cluster = (cluster < 2 ^ 64) × (line ≡ codes "table " ++ decimal cluster)
-
--- a line that is understood, what it prints and what is set up behind it
-pub data Takes : Script → List ℕ → List ℕ → Script → Type 0 where
-  -- the first line sets a table up
-  begins : (line : List ℕ) (cluster : ℕ) → IsTableLine line cluster → Takes begun line [] (table cluster [])
-  -- a later line is a datagram in hex
-  prints : (cluster : ℕ) (L : List Command) (line bytes text : List ℕ) (after : List Command) → SpellsBytes line bytes → Prints cluster L bytes text after
-      → Takes (table cluster L) line (text ++ 10 ∷ []) (table cluster after)
-
--- what the lines print, the first of them of that number, and the number of the line, if any, that is not understood
-pub data Runs : Script → ℕ → List (List ℕ) → List ℕ → Option ℕ → Type 0 where
-  -- no line is left
-  ends : (s : Script) (n : ℕ) → Runs s n [] [] None
-  -- an empty line
-  skips : (s : Script) (n : ℕ) (lines : List (List ℕ)) (text : List ℕ) (stop : Option ℕ) → Runs s (n + 1) lines text stop → Runs s n ([] ∷ lines) text stop
-  -- a line that is understood
-  takes : (s after : Script) (n : ℕ) (line out : List ℕ) (lines : List (List ℕ)) (text : List ℕ) (stop : Option ℕ) → line ≢ [] → Takes s line out after → Runs after (n + 1) lines text stop
-      → Runs s n (line ∷ lines) (out ++ text) stop
-  -- a line that is not: nothing behind it is read
-  stops : (s : Script) (n : ℕ) (line : List ℕ) (lines : List (List ℕ)) → line ≢ [] → ((out : List ℕ) (after : Script) → Takes s line out after → ⊥) → Runs s n (line ∷ lines) [] (Some n)

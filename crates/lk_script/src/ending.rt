@@ -14,8 +14,8 @@ pub fn tell<E: Write>(fault: ScriptFault, err: &mut E) -> u8
     1
 }
 
-/// Ends a run: flushes the output, and tells the run's fault, and behind it fault 24 where the flush failed. The status is
-/// 0, or 1 where a fault was told.
+/// Ends a run: flushes the output, and tells the run's fault, and behind it fault 24 where the flush failed. A refusal of the
+/// world is not told, since it stands in the output. The status is 0, or 1 where a fault was told or an event was refused.
 pub fn end<W: Write, E: Write>(ran: Result<(), ScriptFault>, out: &mut W, err: &mut E) -> u8
     ensures status { (result ≡ 0) ⊎ (result ≡ 1) }
     ensures ran { result ≡ 0 → ran ≡ Ok tt }
@@ -24,8 +24,12 @@ pub fn end<W: Write, E: Write>(ran: Result<(), ScriptFault>, out: &mut W, err: &
 {
     match (ran, out.flush()) {
         (Ok(()), Ok(())) => 0,
+        (Err(ScriptFault::Ended(_)), Ok(())) => 1,
         (Err(fault), Ok(())) => tell(fault, err),
-        (Ok(()) | Err(ScriptFault::Write), Err(_)) => tell(ScriptFault::Write, err),
+        (Ok(()) | Err(ScriptFault::Write | ScriptFault::Ended(_)), Err(_)) => tell(
+            ScriptFault::Write,
+            err,
+        ),
         (Err(fault), Err(_)) => {
             tell(fault, err);
             tell(ScriptFault::Write, err)

@@ -2,6 +2,7 @@
 
 ghost use Rattle.std.specs.Prelude.{◌≡◌};
 
+use lk_sim::Refused;
 use lk_types::NoMemory;
 use std::alloc::{AllocError, AllocFailed};
 use thiserror::Error;
@@ -21,6 +22,9 @@ pub enum ScriptFault {
     /// Fault 26: the line of this number, from 1, is none of a script.
     #[error("line {0}: not understood")]
     BadLine(u32),
+    /// Fault 27: the world refused an event.
+    #[error("fault 27")]
+    Ended(Refused),
 }
 
 /// Why a line was not taken.
@@ -46,6 +50,7 @@ impl ScriptFault {
             ScriptFault::Write => 24,
             ScriptFault::ScriptMemory => 25,
             ScriptFault::BadLine(_) => 26,
+            ScriptFault::Ended(_) => 27,
         }
     }
 }

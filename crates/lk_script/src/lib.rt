@@ -3,9 +3,17 @@
 
 mod buffers;
 pub mod ending;
+mod event_verb;
 pub mod fault;
+mod genesis_line;
 pub mod hex_line;
 pub mod laws;
 pub mod lines;
+mod mode;
+pub mod order;
+mod printing;
 pub mod script;
 pub mod server;
+pub mod world_line;
+mod world_run;
+mod world_words;

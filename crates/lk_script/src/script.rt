@@ -1,17 +1,26 @@
 //! Scripts, line by line.
 
-ghost use Rattle.std.specs.Prelude.{◌≡◌, ◌≢◌, ◌+◌, ◌<◌, ◌≤◌, ◌⊎◌, List, [], ℕ, Some, Ok, Err, IfOk, IfErr, IfSome, OnOk, IsErrOf, string_bytes};
+ghost use Rattle.std.specs.Prelude.{◌≡◌, ◌≢◌, ◌+◌, ◌<◌, ◌≤◌, ◌⊎◌, List, [], ℕ, Some, None, Ok, Err, IfOk, IfErr, IfSome, OnOk, IsErrOf, string_bytes};
 ghost use Rattle.std.specs.Io.KnownBytes.{Appends};
 ghost use Rattle.lk_types.specs.Limits.{max_count};
-ghost use Rattle.lk_script.specs.TableMode.{Script, table, Takes, IsTableLine};
+ghost use Rattle.lk_sim.specs.declared.refused.Refused.{Refused as RefusedValue};
+ghost use Rattle.lk_script.specs.TableMode.{IsTableLine};
+ghost use Rattle.lk_script.specs.Worlds.{done_line};
+ghost use Rattle.lk_script.specs.Scripts.{Script, begun, table, world, Takes, Refuses, last_line};
 ghost use Rattle.lk_script.specs.Endings.{PrintsAll, EndsBy};
-ghost use Rattle.lk_script.specs.Servers.{Fits, executed_in};
+ghost use Rattle.lk_script.specs.Servers.{Fits, done_in};
 
 use crate::buffers::Buffers;
 use crate::ending::end;
 use crate::fault::{LineFault, ScriptFault};
+use crate::genesis_line::read_genesis;
 use crate::lines::next_line;
+use crate::mode::Mode;
 use crate::server::Server;
+use crate::world_run::WorldRun;
+use lk_node::MemoryReplica;
+use lk_sim::Refused;
+use lk_types::Genesis;
 use std::alloc::{AllocError, Global};
 use std::io::{BufRead, Write};
 
@@ -43,37 +52,64 @@ fn cluster_of(alloc: Global, line: &[u8]) -> Result<u64, LineFault>
     Ok(cluster)
 }
 
-/// Sets up the table that the first line asks for. It is a function of its own since the server is large: in `take_line`
-/// each line would pay for the place of a new one.
-#[inline(never)]
-fn begin(alloc: Global, server: &mut Option<Server>, line: &[u8]) -> Result<(), LineFault>
-    ensures ok { OnOk result ((cluster : ℕ) × IsTableLine line.now cluster × Fits (table cluster []) server.new) }
-    ensures not_understood { IsErrOf result LineFault.NotUnderstood → (cluster : ℕ) → IsTableLine line.now cluster → ⊥ }
-    ensures executed { executed_in server.new ≤ executed_in server.old }
+/// A table for the cluster.
+fn table_mode<M: MemoryReplica>(alloc: Global, cluster: u64) -> Mode<M>
+    ensures fits { Fits (table cluster []) result }
+    ensures done { done_in result ≡ 0 }
 {
-    *server = Some(Server::new(alloc, cluster_of(alloc, line)?));
-    Ok(())
+    Mode::Table(Server::new(alloc, cluster))
 }
 
-/// Takes a line that is not empty, and makes the text what it prints.
-fn take_line(
+/// A world in which nothing has happened.
+fn world_mode<M: MemoryReplica>(alloc: Global, genesis: Genesis) -> Mode<M>
+    ensures fits { Fits (world 0) result }
+    ensures done { done_in result ≡ 0 }
+{
+    Mode::World(WorldRun::new(alloc, genesis))
+}
+
+/// What the first line sets up. It is a function of its own since a server is large: in `take_line` each line would pay for
+/// the place of a new one.
+#[inline(never)]
+fn begin<M: MemoryReplica>(alloc: Global, line: &[u8]) -> Result<Mode<M>, LineFault>
+    ensures ok { IfOk result (λ m. (after : Script) × Takes begun line.now [] after × Fits after m) }
+    ensures done { IfOk result (λ m. done_in m ≡ 0) }
+    ensures not_understood { IsErrOf result LineFault.NotUnderstood → (out : List ℕ) (after : Script) → Takes begun line.now out after → ⊥ }
+{
+    match cluster_of(alloc, line) {
+        Ok(cluster) => Ok(table_mode(alloc, cluster)),
+        Err(LineFault::NotUnderstood) => {
+            let genesis = read_genesis(alloc, line)?;
+            Ok(world_mode(alloc, genesis))
+        }
+        Err(LineFault::NoMemory) => Err(LineFault::NoMemory),
+    }
+}
+
+/// Takes a line that is not empty, and makes the text what it prints. An event of it may be refused.
+fn take_line<M: MemoryReplica>(
     alloc: Global,
-    server: &mut Option<Server>,
+    mode: &mut Mode<M>,
     line: &[u8],
     buffers: &mut Buffers,
-) -> Result<(), LineFault>
-    requires { executed_in server.old < max_count }
-    ensures ok { OnOk result ((s : Script) → Fits s server.old → (after : Script) × Takes s line.now buffers.new.text.items after × Fits after server.new) }
-    ensures not_understood { IsErrOf result LineFault.NotUnderstood → (s : Script) → Fits s server.old → (out : List ℕ) (after : Script) → Takes s line.now out after → ⊥ }
-    ensures paces { executed_in server.new ≤ executed_in server.old + 1 }
+) -> Result<Option<Refused>, LineFault>
+    requires { done_in mode.old < max_count }
+    ensures ok { result ≡ Ok None → (s : Script) → Fits s mode.old → (after : Script) × Takes s line.now buffers.new.text.items after × Fits after mode.new }
+    ensures refused { (r : RefusedValue) → result ≡ Ok (Some r) → (s : Script) → Fits s mode.old → Refuses s line.now buffers.new.text.items r }
+    ensures not_understood { IsErrOf result LineFault.NotUnderstood → (s : Script) → Fits s mode.old → (out : List ℕ) (after : Script) → Takes s line.now out after → ⊥ }
+    ensures paces { done_in mode.new ≤ done_in mode.old + 65535 }
 {
-    match server {
-        Some(server) => server.print_line(alloc, line, buffers),
-        None => {
-            begin(alloc, server, line)?;
+    match mode {
+        Mode::Begun => {
+            *mode = begin(alloc, line)?;
             buffers.text.clear();
-            Ok(())
+            Ok(None)
         }
+        Mode::Table(server) => {
+            server.print_line(alloc, line, buffers)?;
+            Ok(None)
+        }
+        Mode::World(run) => run.print_line(alloc, line, &mut buffers.text),
     }
 }
 
@@ -88,8 +124,51 @@ fn write_text<W: Write>(writer: &mut W, text: &[u8]) -> Result<(), ScriptFault>
     }
 }
 
+/// The line that stands last in world mode where nothing was refused.
+fn done_text(alloc: Global, done: u64) -> Result<String, AllocError>
+    ensures { IfOk result (λ text. string_bytes text ≡ done_line done) }
+{
+    format!(in alloc; "done {done}\n")
+}
+
+/// Writes what stands last where the input is at its end.
+fn write_last<M: MemoryReplica, W: Write>(
+    alloc: Global,
+    mode: &Mode<M>,
+    writer: &mut W,
+) -> Result<(), ScriptFault>
+    ensures ok { OnOk result ((s : Script) → Fits s mode.now → Appends (W.contents writer.old) (W.contents writer.new) (last_line s)) }
+    ensures err { IfErr result (λ fault. (fault ≡ ScriptFault.Write) ⊎ ((fault ≡ ScriptFault.ScriptMemory) × (W.contents writer.new ≡ W.contents writer.old))) }
+{
+    let Mode::World(run) = mode else {
+        return Ok(());
+    };
+    match done_text(alloc, run.done()) {
+        Ok(text) => write_text(writer, text.as_bytes()),
+        Err(_) => Err(ScriptFault::ScriptMemory),
+    }
+}
+
+/// Writes what a line printed. A refusal of the world ends the run.
+fn write_line<W: Write>(
+    ended: Option<Refused>,
+    text: &[u8],
+    writer: &mut W,
+) -> Result<(), ScriptFault>
+    ensures ok { OnOk result ((ended ≡ None) × Appends (W.contents writer.old) (W.contents writer.new) text.now) }
+    ensures err { IfErr result (λ fault. (fault ≡ ScriptFault.Write) ⊎ ((r : RefusedValue) × (fault ≡ ScriptFault.Ended r) × (ended ≡ Some r) × Appends (W.contents writer.old) (W.contents writer.new) text.now)) }
+{
+    write_text(writer, text)?;
+    match ended {
+        None => Ok(()),
+        Some(refused) => Err(ScriptFault::Ended(refused)),
+    }
+}
+
 /// Runs the script that the reader gives, line by line, and writes what each line prints.
-pub fn run_script<R: BufRead, W: Write>(
+///
+/// In world mode the replicas are of the type `M`.
+pub fn run_script<M: MemoryReplica, R: BufRead, W: Write>(
     alloc: Global,
     reader: &mut R,
     writer: &mut W,
@@ -99,14 +178,14 @@ pub fn run_script<R: BufRead, W: Write>(
 {
     let mut line = Vec::new(alloc);
     let mut buffers = Buffers::new(alloc);
-    let mut server = None;
+    let mut mode = Mode::<M>::Begun;
     for number in 1..u32::MAX {
         if !next_line(reader, &mut line)? {
-            return Ok(());
+            return write_last(alloc, &mode, writer);
         }
         if !line.is_empty() {
-            match take_line(alloc, &mut server, &line, &mut buffers) {
-                Ok(()) => write_text(writer, &buffers.text)?,
+            match take_line(alloc, &mut mode, &line, &mut buffers) {
+                Ok(ended) => write_line(ended, &buffers.text, writer)?,
                 Err(fault) => return Err(fault.of_line(number)),
             }
         }
@@ -115,8 +194,9 @@ pub fn run_script<R: BufRead, W: Write>(
 }
 
 /// Runs the script that the reader gives to its end: what each line prints is written and flushed, and a fault is told on
-/// standard error. The status is 0, or 1 where a fault was told.
-pub fn run_to_end<R: BufRead, W: Write, E: Write>(
+/// standard error. A refusal of the world stands in the output and not there. The status is 0, or 1 where a fault was told or
+/// an event refused.
+pub fn run_to_end<M: MemoryReplica, R: BufRead, W: Write, E: Write>(
     alloc: Global,
     reader: &mut R,
     out: &mut W,
@@ -126,6 +206,6 @@ pub fn run_to_end<R: BufRead, W: Write, E: Write>(
     ensures quiet { result ≡ 0 → err.new ≡ err.old }
     ensures status { (result ≡ 0) ⊎ (result ≡ 1) }
 {
-    let ran = run_script(alloc, reader, out);
+    let ran = run_script::<M, R, W>(alloc, reader, out);
     end(ran, out, err)
 }

@@ -1,7 +1,7 @@
 use Rattle.lk_script.specs.Lines.{lines_of}
-use Rattle.lk_script.specs.TableMode.{begun}
+use Rattle.lk_script.specs.Scripts.{begun}
 use Rattle.lk_script.proofs.OutputLaws.{runs_once}
 use Rattle.lk_script.proofs.laws.one_output.Goals as goal
 
 pub returns : goal.returns
-returns c = λ input a b stop end. runs_once begun 1 (lines_of input) a b stop end
+returns c = λ input a b stop end no_world. runs_once begun 1 (lines_of input) a b stop end no_world

@@ -1,13 +1,24 @@
-use Rattle.std.proofs.Common.{subst}
+use Rattle.std.proofs.Common.{rules, subst}
 use Rattle.lk_script.specs.Servers.{Fits}
-use Rattle.lk_script.proofs.PrintLemmas.{on_ok}
-use Rattle.lk_script.proofs.ScriptLemmas.{some_line, none_line}
+use Rattle.lk_script.proofs.ScriptLemmas.{some_line, none_line, world_line, world_refusal, world_unknown}
 use Rattle.lk_script.proofs.script.take_line.Goals as goal
 
-pub returns-in-Some-clause-ok : goal.returns-in-Some-clause-ok
-returns-in-Some-clause-ok c = on_ok c.print_line.result _ _ c.print_line.ensures.ok
-    (λ printed s fits. some_line s c.in-Some.server c.print_line.new.self c.args.line.now _ (subst (Fits s) c.in-Some.is fits) c.print_line.ensures.cluster printed)
+pub returns-in_ok-mode-in-Begun-clause-ok : goal.returns-in_ok-mode-in-Begun-clause-ok
+returns-in_ok-mode-in-Begun-clause-ok g c = λ _ s fits.
+    none_line s _ c.args.line.now _ (subst (Fits s) c.in-Begun.is fits) c.in_ok-mode-in-Begun.ensures.ok c.clear.ensures.items
 
-pub returns-in_ok-begin-in-None-clause-ok : goal.returns-in_ok-begin-in-None-clause-ok
-returns-in_ok-begin-in-None-clause-ok c = λ s fits.
-    none_line s c.begin.new.server c.args.line.now _ (subst (Fits s) c.in-None.is fits) c.in_ok-begin-in-None.ensures.ok c.clear.ensures.items
+pub returns-in_ok-print_line-in-Table-clause-ok : goal.returns-in_ok-print_line-in-Table-clause-ok
+returns-in_ok-print_line-in-Table-clause-ok g c = λ _ s fits.
+    some_line s c.in-Table.server c.print_line.new.self c.args.line.now _ (subst (Fits s) c.in-Table.is fits) c.print_line.ensures.cluster c.in_ok-print_line-in-Table.ensures.ok
+
+pub returns-in-World-clause-ok : goal.returns-in-World-clause-ok
+returns-in-World-clause-ok g c = λ done s fits.
+    world_line s _ c.print_line-in-World.new.self c.args.line.now _ (subst (Fits s) c.in-World.is fits) (c.print_line-in-World.ensures.done done)
+
+pub returns-in-World-clause-refused : goal.returns-in-World-clause-refused
+returns-in-World-clause-refused g c = λ r refused s fits.
+    world_refusal s _ c.args.line.now _ r (subst (Fits s) c.in-World.is fits) (c.print_line-in-World.ensures.refused r refused)
+
+pub returns-in-World-clause-not_understood : goal.returns-in-World-clause-not_understood
+returns-in-World-clause-not_understood g c = λ bad s fits.
+    world_unknown s _ c.args.line.now (subst (Fits s) c.in-World.is fits) (c.print_line-in-World.ensures.not_understood bad)

@@ -1,0 +1,99 @@
+-- The lines of world mode behind its first, and what each asks for.
+use Rattle.std.specs.Prelude.{◌≡◌, ◌≢◌, ◌≤◌, ◌⊎◌, ℕ, List, [], ◌∷◌, ◌++◌, Ok, codes}
+use Rattle.std.specs.Fmt.{decimal}
+use Rattle.hex.specs.Hex.{decode_of}
+use Rattle.lk_types.specs.Limits.{max_count, max_node, max_client}
+use Rattle.lk_members.specs.Counting.{RequestValue}
+use Rattle.lk_words.specs.Operations.{SpellsOp}
+use Rattle.lk_sim.specs.declared.event.Event.{Event}
+use Rattle.lk_sim.specs.declared.event.Event.TheVariants as event
+use Rattle.lk_script.specs.declared.event_verb.EventVerb.{EventVerb}
+use Rattle.lk_script.specs.declared.event_verb.EventVerb.TheVariants as verb
+use Rattle.lk_script.specs.declared.order.Order.{Order}
+use Rattle.lk_script.specs.declared.order.Order.TheVariants.{Ticks, Once}
+
+-- the word tells a number from `least` to `most`
+abbrev pub IsWord : ℕ → ℕ → ℕ → List ℕ → Type 0
+IsWord least most n word = (least ≤ n) × (n ≤ most) × (word ≡ decimal n)
+
+-- the words begin with such a number, and behind a space these words stand
+abbrev pub Leads : ℕ → ℕ → ℕ → List ℕ → List ℕ → Type 0
+Leads least most n rest words = (least ≤ n) × (n ≤ most) × (words ≡ decimal n ++ 32 ∷ rest)
+
+-- a node, alone or with words behind it
+abbrev pub IsNodeWord : ℕ → List ℕ → Type 0
+IsNodeWord = IsWord 1 max_node
+
+abbrev pub NodeLeads : ℕ → List ℕ → List ℕ → Type 0
+NodeLeads = Leads 1 max_node
+
+-- ---- what the words behind each verb ask for
+
+-- `N`
+abbrev pub AsksToStart : List ℕ → Order → Type 0
+AsksToStart words o = (n : ℕ) × IsNodeWord n words × (o ≡ Once (event.Start n))
+
+abbrev pub AsksToRestart : List ℕ → Order → Type 0
+AsksToRestart words o = (n : ℕ) × IsNodeWord n words × (o ≡ Once (event.Restart n))
+
+-- `N`, or `N TIMES`
+abbrev pub AsksForTicks : List ℕ → Order → Type 0
+AsksForTicks words o = ((n : ℕ) × IsNodeWord n words × (o ≡ Ticks n 1))
+    ⊎ ((n : ℕ) × (times : ℕ) × (word : List ℕ) × NodeLeads n word words × IsWord 1 10000 times word × (o ≡ Ticks n times))
+
+-- `K`
+abbrev pub AsksToDeliver : List ℕ → Order → Type 0
+AsksToDeliver words o = (k : ℕ) × IsWord 1 max_count k words × (o ≡ Once (event.Deliver k))
+
+-- `C NUMBER OP`
+abbrev pub SpellsRequest : List ℕ → RequestValue → Type 0
+SpellsRequest words r = (rest : List ℕ) × (text : List ℕ) × Leads 1 max_client r.client rest words × Leads 1 max_count r.number text rest × SpellsOp text r.op
+
+-- `N C NUMBER OP`
+abbrev pub AsksOfClient : List ℕ → Order → Type 0
+AsksOfClient words o = (n : ℕ) × (r : RequestValue) × (rest : List ℕ) × NodeLeads n rest words × SpellsRequest rest r × (o ≡ Once (event.Client n r))
+
+-- the node is handed these bytes
+abbrev pub Injects : ℕ → List ℕ → Event → Type 0
+Injects n bytes (event.Inject m handed) = (m ≡ n) × (handed.items ≡ bytes)
+Injects n bytes e = ⊥
+
+-- `N HEX`
+abbrev pub AsksToInject : List ℕ → Order → Type 0
+AsksToInject words o = (n : ℕ) × (digits : List ℕ) × (bytes : List ℕ) × (e : Event) × NodeLeads n digits words × (decode_of digits ≡ Ok bytes) × (bytes ≢ [])
+    × Injects n bytes e × (o ≡ Once e)
+
+-- `N X Y`
+abbrev pub AsksToStop : List ℕ → Order → Type 0
+AsksToStop words o = (n : ℕ) × (x : ℕ) × (y : ℕ) × (more : List ℕ) × (word : List ℕ)
+    × NodeLeads n more words × Leads 0 max_count x word more × IsWord 0 max_count y word × (o ≡ Once (event.Stop n x y))
+
+-- `N COUNT`
+abbrev pub AsksToFail : List ℕ → Order → Type 0
+AsksToFail words o = (n : ℕ) × (count : ℕ) × (word : List ℕ) × NodeLeads n word words × IsWord 1 max_count count word × (o ≡ Once (event.FailAt n count))
+
+-- ---- a line
+
+abbrev pub word_of : EventVerb → List ℕ
+word_of verb.Start = codes "start"
+word_of verb.Restart = codes "restart"
+word_of verb.Tick = codes "tick"
+word_of verb.Deliver = codes "deliver"
+word_of verb.Client = codes "client"
+word_of verb.Inject = codes "inject"
+word_of verb.Stop = codes "stop"
+word_of verb.Fail = codes "fail"
+
+abbrev pub Asks : EventVerb → List ℕ → Order → Type 0
+Asks verb.Start = AsksToStart
+Asks verb.Restart = AsksToRestart
+Asks verb.Tick = AsksForTicks
+Asks verb.Deliver = AsksToDeliver
+Asks verb.Client = AsksOfClient
+Asks verb.Inject = AsksToInject
+Asks verb.Stop = AsksToStop
+Asks verb.Fail = AsksToFail
+
+-- a verb, a space, and words of that verb
+abbrev pub SpellsOrder : List ℕ → Order → Type 0
+SpellsOrder line o = (v : EventVerb) × (words : List ℕ) × (line ≡ word_of v ++ 32 ∷ words) × Asks v words o

@@ -1,0 +1,14 @@
+use crate::server::Server;
+use crate::world_run::WorldRun;
+use lk_node::MemoryReplica;
+
+/// What a script has set up so far.
+#[derive(Drop)]
+pub enum Mode<R: MemoryReplica> {
+    /// Nothing yet.
+    Begun,
+    /// One lock table.
+    Table(Server),
+    /// A world of replicas.
+    World(WorldRun<R>),
+}

@@ -1,0 +1,186 @@
+// What an event of a world prints.
+ghost use Rattle.std.specs.Prelude.{◌≡◌, ◌++◌, OnOk};
+ghost use Rattle.lk_script.specs.Worlds.{refusal_name, refused_line};
+
+use lk_history::Party;
+use lk_node::{Datagram, Note};
+use lk_sim::{End, Refused};
+use lk_types::{Command, NoMemory, NodeNo, Position};
+use std::alloc::Global;
+use std::io::Write;
+
+/// Adds the line of what a node executed.
+fn print_ran(
+    text: &mut Vec<u8>,
+    node: NodeNo,
+    position: Position,
+    command: &Command,
+) -> Result<(), NoMemory> {
+    let (node, position) = (node.get(), position.get());
+    let printed = match command {
+        Command::Noop => writeln!(text, "ran {node} {position} noop"),
+        Command::Request(request) => {
+            let (client, number) = (request.client.get(), request.number.get());
+            writeln!(text, "ran {node} {position} {client} {number}")
+        }
+    };
+    printed.map_err(|_| NoMemory)
+}
+
+/// Adds the line of a note.
+fn print_note(text: &mut Vec<u8>, note: &Note) -> Result<(), NoMemory> {
+    let printed = match note {
+        Note::Asked(request) => {
+            let (client, number) = (request.client.get(), request.number.get());
+            writeln!(text, "asked {client} {number}")
+        }
+        Note::Counted(node, position, _, _) => {
+            let (node, position) = (node.get(), position.get());
+            writeln!(text, "counted {node} {position}")
+        }
+        Note::Ran(node, position, command) => {
+            return print_ran(text, *node, *position, command);
+        }
+        Note::Answered(node, client, number, answer) => {
+            let (node, client, number) = (node.get(), client.get(), number.get());
+            writeln!(text, "answered {node} {client} {number} {answer}")
+        }
+        Note::Told(node, client, number, last) => {
+            let (node, client) = (node.get(), client.get());
+            let (number, last) = (number.get(), last.get());
+            writeln!(text, "told {node} {client} {number} {last}")
+        }
+    };
+    printed.map_err(|_| NoMemory)
+}
+
+/// The letter of a node or a client, and its number.
+fn party(party: Party) -> (char, u32) {
+    match party {
+        Party::Node(node) => ('n', node.get()),
+        Party::Client(client) => ('c', u32::from(client.get())),
+    }
+}
+
+/// The name of a datagram's kind, which its fourth byte tells.
+fn kind(bytes: &[u8]) -> &'static str {
+    match bytes.get(3) {
+        Some(1) => "prepare",
+        Some(2) => "promise",
+        Some(3) => "accept",
+        Some(4) => "accepted",
+        Some(5) => "nack",
+        Some(6) => "decided",
+        Some(7) => "want",
+        Some(8) => "part",
+        Some(9) => "request",
+        Some(10) => "answer",
+        Some(11) => "elsewhere",
+        Some(12) => "passed",
+        _ => "lead",
+    }
+}
+
+/// Adds the line of the datagram of this number.
+fn print_datagram(text: &mut Vec<u8>, k: usize, datagram: &Datagram) -> Result<(), NoMemory> {
+    let (from, sender) = party(datagram.from);
+    let (to, receiver) = party(datagram.to);
+    let kind = kind(&datagram.bytes);
+    writeln!(text, "sent {k} {from}{sender} {to}{receiver} {kind}").map_err(|_| NoMemory)
+}
+
+/// Whether the note comes with a datagram to a client.
+fn is_told(note: &Note) -> bool {
+    matches!(note, Note::Answered(..) | Note::Told(..))
+}
+
+/// Whether a note comes with the datagram: it is an Answer or a Passed.
+fn is_reply(datagram: &Datagram) -> bool {
+    matches!(datagram.bytes.get(3), Some(10 | 12))
+}
+
+/// Adds the lines of the notes from that place on, up to those that come with datagrams, and tells where these stand.
+fn print_notes(text: &mut Vec<u8>, trace: &[Note], from: usize) -> Result<usize, NoMemory> {
+    for i in from..trace.len() {
+        if is_told(&trace[i]) {
+            return Ok(i);
+        }
+        print_note(text, &trace[i])?;
+    }
+    Ok(trace.len())
+}
+
+/// Adds the lines of the datagrams from that place on, and just before each the line of the note that comes with it.
+fn print_sent(
+    text: &mut Vec<u8>,
+    sent: &[Datagram],
+    from: usize,
+    told: &[Note],
+) -> Result<(), NoMemory> {
+    let mut told = told;
+    for k in from..sent.len() {
+        if is_reply(&sent[k]) {
+            if let Some((note, behind)) = told.split_first() {
+                print_note(text, note)?;
+                told = behind;
+            }
+        }
+        print_datagram(text, k + 1, &sent[k])?;
+    }
+    Ok(())
+}
+
+/// Adds the line of how an event ended a node.
+fn print_end(text: &mut Vec<u8>, end: &End) -> Result<(), NoMemory> {
+    let End::Fault(node, number) = end;
+    let (node, number) = (node.get(), *number);
+    let name = match number {
+        7 => "device",
+        9 => "damaged",
+        _ => "failed",
+    };
+    writeln!(text, "fault {node} {number} {name}").map_err(|_| NoMemory)
+}
+
+/// Adds what an event printed, which added the notes and the datagrams from these places on: its notes, the datagrams, each
+/// answer and pass behind its own note, and the fault that ended a node.
+pub fn print_event(
+    text: &mut Vec<u8>,
+    trace: &[Note],
+    sent: &[Datagram],
+    (notes, datagrams): (usize, usize),
+    end: Option<End>,
+) -> Result<(), NoMemory> {
+    let told = print_notes(text, trace, notes)?;
+    print_sent(text, sent, datagrams, trace.get(told..).unwrap_or(&[]))?;
+    match &end {
+        Some(end) => print_end(text, end),
+        None => Ok(()),
+    }
+}
+
+/// The name of a refusal.
+fn name_of(refused: Refused) -> &'static str
+    ensures { result.now ≡ refusal_name refused }
+{
+    match refused {
+        Refused::NoSuchNode => "NoSuchNode",
+        Refused::NotUp => "NotUp",
+        Refused::AlreadyUp => "AlreadyUp",
+        Refused::NoSuchDatagram => "NoSuchDatagram",
+        Refused::Forged => "Forged",
+        Refused::WorldFull => "WorldFull",
+        Refused::WorldMemory => "WorldMemory",
+    }
+}
+
+/// Adds the last line of a run that a refusal ended.
+pub fn print_refusal(alloc: Global, refused: Refused, text: &mut Vec<u8>) -> Result<(), NoMemory>
+    ensures ok { OnOk result (text.new.items ≡ text.old.items ++ refused_line refused) }
+{
+    let number = refused.number();
+    let name = name_of(refused);
+    let line = format!(in alloc; "refused {number} {name}\n")?;
+    text.extend_from_slice(line.as_bytes())?;
+    Ok(())
+}

@@ -1,0 +1,113 @@
+// A world that a script runs.
+ghost use Rattle.std.specs.Prelude.{◌≡◌, ◌+◌, ◌*◌, ◌<◌, ◌≤◌, ◌++◌, ℕ, List, Ok, Some, None, IsErrOf};
+ghost use Rattle.lk_sim.specs.declared.refused.Refused.{Refused as RefusedValue};
+ghost use Rattle.lk_types.specs.Limits.{max_count};
+ghost use Rattle.lk_script.specs.declared.order.Order.{Order as OrderValue};
+ghost use Rattle.lk_script.specs.WorldLines.{SpellsOrder};
+ghost use Rattle.lk_script.specs.Worlds.{events_of, refused_line};
+
+use crate::fault::LineFault;
+use crate::order::Order;
+use crate::printing::{print_event, print_refusal};
+use crate::world_line::read_order;
+use lk_node::MemoryReplica;
+use lk_sim::{Event, Refused, World};
+use lk_types::{Genesis, NoMemory, NodeNo};
+use std::alloc::Global;
+
+/// A world, and how many events were done in it.
+#[derive(Drop)]
+pub struct WorldRun<R: MemoryReplica> {
+    world: World<R>,
+    done: u64,
+}
+
+impl<R: MemoryReplica> WorldRun<R> {
+    /// A world in which nothing has happened.
+    pub fn new(alloc: Global, genesis: Genesis) -> Self
+        ensures { result.done ≡ 0 }
+    {
+        WorldRun {
+            world: World::new(alloc, genesis),
+            done: 0,
+        }
+    }
+
+    /// How many events were done.
+    pub fn done(&self) -> u64
+        ensures { result ≡ self.now.done }
+    {
+        self.done
+    }
+
+    /// One event happens, and what it prints is added to the text. It may be refused.
+    fn happen(&mut self, event: Event, text: &mut Vec<u8>) -> Result<Option<Refused>, NoMemory>
+        requires { self.old.done < 2 * max_count }
+        ensures ok { result ≡ Ok None → self.new.done ≡ self.old.done + 1 }
+        ensures paces { self.new.done ≤ self.old.done + 1 }
+    {
+        let places = (self.world.trace().len(), self.world.datagrams().len());
+        if let Err(refused) = self.world.apply(event) {
+            return Ok(Some(refused));
+        }
+        self.done += 1;
+        let (trace, sent) = (self.world.trace(), self.world.datagrams());
+        print_event(text, trace, sent, places, self.world.last_end())?;
+        Ok(None)
+    }
+
+    /// A node ticks so many times, or until that is refused.
+    fn tick(
+        &mut self,
+        node: NodeNo,
+        times: u16,
+        text: &mut Vec<u8>,
+    ) -> Result<Option<Refused>, NoMemory>
+        requires { self.old.done < max_count }
+        ensures ok { result ≡ Ok None → self.new.done ≡ self.old.done + times }
+        ensures paces { self.new.done ≤ self.old.done + times }
+    {
+        let mut left = times;
+        'ticks: while left > 0 {
+            let ended = self.happen(Event::Tick(node), text)?;
+            if ended.is_some() {
+                return Ok(ended);
+            }
+            left -= 1;
+        }
+        Ok(None)
+    }
+
+    /// Does what a line asks for, or as much of it as is not refused, and adds what that prints to the text.
+    fn follow(&mut self, order: Order, text: &mut Vec<u8>) -> Result<Option<Refused>, NoMemory>
+        requires { self.old.done < max_count }
+        ensures ok { result ≡ Ok None → self.new.done ≡ self.old.done + events_of order }
+        ensures paces { self.new.done ≤ self.old.done + 65535 }
+    {
+        match order {
+            Order::Ticks(node, times) => self.tick(node, times, text),
+            Order::Once(event) => self.happen(event, text),
+        }
+    }
+    /// Does what a line asks for, and makes the text what that prints. An event of it may be refused.
+    pub fn print_line(
+        &mut self,
+        alloc: Global,
+        line: &[u8],
+        text: &mut Vec<u8>,
+    ) -> Result<Option<Refused>, LineFault>
+        requires { self.old.done < max_count }
+        ensures done { result ≡ Ok None → (o : OrderValue) × SpellsOrder line.now o × (self.new.done ≡ self.old.done + events_of o) }
+        ensures refused { (r : RefusedValue) → result ≡ Ok (Some r) → (o : OrderValue) × (printed : List ℕ) × SpellsOrder line.now o × (text.new.items ≡ printed ++ refused_line r) }
+        ensures not_understood { IsErrOf result LineFault.NotUnderstood → (o : OrderValue) → SpellsOrder line.now o → ⊥ }
+        ensures paces { self.new.done ≤ self.old.done + 65535 }
+    {
+        let order = read_order(alloc, line)?;
+        text.clear();
+        let ended = self.follow(order, text)?;
+        if let Some(refused) = ended {
+            print_refusal(alloc, refused, text)?;
+        }
+        Ok(ended)
+    }
+}

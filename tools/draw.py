@@ -1,0 +1,238 @@
+#!/usr/bin/env python3
+"""draw.py SCRIPT [PROGRAM]: runs PROGRAM (./locks) in world mode on SCRIPT and writes a picture of what happened, as SVG, to standard output.
+draw.py --check [PROGRAM]: makes each picture docs/pictures/NAME.svg again from examples/NAME.txt, and tells which differ.
+
+A lane stands for each client and node, time goes downwards, and each line that is printed has a line of the picture to itself, so
+that no text lies upon another. What belongs to an event is found by running each beginning of the script."""
+import html, pathlib, subprocess, sys
+
+TOP = pathlib.Path(__file__).resolve().parent.parent
+WIDTH, PITCH, HEAD, LEFT, RIGHT = 1000, 20, 58, 205, 125
+STYLE = """
+.paper{fill:#fff} .band{fill:#f3f5f8} text{font:13px sans-serif;fill:#1c2733}
+.script{font:12px monospace;fill:#44505c} .name{font-weight:bold}
+.lane{stroke:#7d8b99;stroke-width:3} .down{stroke:#c2cad2;stroke-width:1.5;stroke-dasharray:2 5} .line{fill:none;stroke:#2b6cb0;stroke-width:1.4}
+.again{stroke-dasharray:6 4} .lost{stroke:#c0392b;stroke-width:1.4} .cross{stroke:#c0392b;stroke-width:2.2;fill:none} .point{fill:#2b6cb0}
+.promise{fill:#b7791f} .vote{fill:#6b46c1} .counted{fill:#2f855a} .ran{fill:#2f855a} .answered{fill:none;stroke:#2f855a;stroke-width:2.5}
+.edge{stroke:#44505c;stroke-width:3}
+@media (prefers-color-scheme: dark) {
+.paper{fill:#14191f} .band{fill:#1b222a} text{fill:#e6ebf0} .script{fill:#aab6c2}
+.lane{stroke:#74828f} .down{stroke:#46525e} .line{stroke:#63b3ed} .point{fill:#63b3ed} .lost,.cross{stroke:#fc8181}
+.promise{fill:#f6ad55} .vote{fill:#b794f4} .counted,.ran{fill:#68d391} .answered{stroke:#68d391} .edge{stroke:#cbd5de}
+}
+"""
+
+
+def printed(program, lines):
+    run = subprocess.run([*program, "sim"], input="\n".join(lines) + "\n", capture_output=True, text=True)
+    return run.stdout.splitlines(), run.returncode
+
+
+def events(program, script):
+    """Each line of the script that is not empty, with the lines that it printed; the last may be a refused one."""
+    told, before, lines = [], 0, script.splitlines()
+    for end, line in enumerate(lines, 1):
+        if not line:
+            continue
+        output, status = printed(program, lines[:end])
+        if status and not (output and output[-1].startswith("refused ")):
+            return told + [(line, ["not understood"])]
+        told.append((line, output[before:-1] if not status else output[before:]))
+        if status:
+            break
+        before = len(output) - 1
+    return told
+
+
+def is_refused(output):
+    return bool(output) and output[-1].startswith(("refused ", "not "))
+
+
+def lanes(told):
+    """Clients, then nodes, each in rising order, by their names in the lines `sent`, and the nodes that are started."""
+    names = {word for _, output in told for line in output for word in line.split()[2:4] if line.startswith("sent ")}
+    names |= {"n" + line.split()[1] for line, _ in told if line.startswith("start ")}
+    return sorted(names, key=lambda name: (name[0], int(name[1:])))
+
+
+def width(words):
+    """About how many pixels the words take, rather too many than too few."""
+    return round(sum(4.6 if letter in " .:ijltfr" else 12.8 if letter in "mw" else 8.2 for letter in words))
+
+
+class Picture:
+    def __init__(self, told):
+        self.told, self.names = told, lanes(told)
+        step = min(260, (WIDTH - LEFT - RIGHT) / max(1, len(self.names) - 1))
+        self.x = {name: round(LEFT + place * step) for place, name in enumerate(self.names)}
+        self.under, self.lines, self.grounds, self.lanes, self.texts, self.marks = [], [], [], [], [], []
+        self.sent, self.came, self.up, self.y, self.ground = {}, set(), {}, HEAD, "paper"
+        self.delivered = {line.split()[1] for line, output in told if line.startswith("deliver ") and not is_refused(output)}
+
+    def text(self, x, y, words, kind="label", anchor="start"):
+        """Words on a ground of their own, so that no line goes through them."""
+        wide = width(words) + (width(words) // 8 if kind == "name" else 0) + 4
+        left = {"start": x - 2, "end": x - wide + 2, "middle": x - wide // 2}[anchor]
+        self.grounds.append(f'<rect class="{self.ground}" x="{left}" y="{y - 9}" width="{wide}" height="18"/>')
+        self.texts.append(f'<text class="{kind}" x="{x}" y="{y + 4}" text-anchor="{anchor}">{html.escape(words)}</text>')
+
+    def path(self, drawn, kind):
+        (self.lanes if kind == "lane" else self.lines).append(f'<path class="{kind}" d="{drawn}"/>')
+
+    def mark(self, kind, x, y):
+        shapes = {
+            "promise": f'<path class="promise" d="M{x} {y - 7}l7 7l-7 7l-7 -7z"/>',
+            "vote": f'<path class="vote" d="M{x - 6} {y - 6}h12v12h-12z"/>',
+            "counted": f'<circle class="counted" cx="{x}" cy="{y}" r="6"/>',
+            "ran": f'<path class="ran" d="M{x - 6} {y - 6}l12 6l-12 6z"/>',
+            "answered": f'<circle class="answered" cx="{x}" cy="{y}" r="5"/>',
+            "edge": f'<path class="edge" d="M{x - 9} {y}h18"/>',
+            "cross": f'<path class="cross" d="M{x - 5} {y - 5}l10 10m0 -10l-10 10"/>',
+        }
+        self.marks.append(shapes[kind])
+
+    def event(self, line, output):
+        """Draws the event at the line where it stands, and each line that it printed a line lower."""
+        top, words = self.y, line.split(" ")
+        shown = [said.split() for said in output if not said.startswith("asked ")]
+        refused = is_refused(output)
+        self.ground = "paper" if self.ground == "band" else "band"
+        self.y = top + PITCH * (len(shown) + 1)
+        self.under.append(f'<rect class="{self.ground}" y="{top - 10}" width="{WIDTH}" height="{self.y - top}"/>')
+        self.text(8, top, line if len(line) < 27 else line[:24] + "..", "script")
+        if not refused:
+            self.before(top, words)
+        for place, said in enumerate(shown, 1):
+            self.said(top + PITCH * place, said)
+        if words[0] == "stop" and not refused:
+            self.ends("n" + words[1], self.y - PITCH)
+
+    def before(self, y, words):
+        if words[0] in ("start", "restart"):
+            self.up["n" + words[1]] = y
+            self.mark("edge", self.x["n" + words[1]], y)
+        if words[0] == "deliver":
+            self.arrive(words[1], y)
+        if words[0] == "inject" and "n" + words[1] in self.x:
+            x = self.x["n" + words[1]]
+            self.arrow(x - 60, y, x, y, "line")
+
+    def ends(self, name, y):
+        self.path(f"M{self.x[name]} {self.up.pop(name)}V{y}", "lane")
+        self.mark("edge", self.x[name], y)
+
+    def arrow(self, x, y, to, down, kind):
+        side = 1 if to > x else -1
+        self.path(f"M{x} {y}L{to - side * 5} {down}", kind)
+        self.marks.append(f'<path class="point" d="M{to - side * 2} {down}l{-side * 9} -4v8z"/>')
+
+    def arrive(self, number, y):
+        frm, to, at = self.sent[number]
+        kind = "line again" if number in self.came else "line"
+        self.came.add(number)
+        if frm == to:
+            x, wide = self.x[to], 22 + min(40, (y - at) // 10)
+            self.path(f"M{x} {at}C{x - wide} {at + 4} {x - wide} {y - 2} {x - 6} {y}", kind)
+            self.marks.append(f'<path class="point" d="M{x - 2} {y}l-9 -4v8z"/>')
+        else:
+            self.arrow(self.x[frm], at, self.x[to], y, kind)
+
+    def said(self, y, words):
+        kind = words[0]
+        if kind == "sent":
+            return self.send(y, *words[1:])
+        if kind in ("refused", "not"):
+            return self.text(8, y, " ".join(words), "name")
+        x = self.x["n" + words[1]]
+        if kind in ("fault", "stopped"):
+            self.ends("n" + words[1], y)
+            self.mark("cross", x, y)
+            return self.text(x + 12, y, " ".join([kind, *words[2:]]), "name")
+        self.mark("answered" if kind == "told" else kind, x, y)
+        whose = lambda words: "no-op" if words == ["noop"] else f"c{words[0]} #{words[1]}"
+        said = {"counted": lambda: f"counted {words[2]}", "ran": lambda: f"ran {words[2]}: {whose(words[3:])}",
+                "answered": lambda: " ".join(words[4:]), "told": lambda: f"last is {words[4]}"}
+        self.text(x + 12, y, said[kind](), "name" if kind == "answered" else "label")
+
+    def send(self, y, number, frm, to, kind):
+        """A datagram's number and kind, and its receiver where it never comes; its arrows are drawn where it arrives."""
+        self.sent[number] = (frm, to, y)
+        x, side = self.x[frm], -1 if self.x[to] < self.x[frm] else 1
+        if kind in ("promise", "accepted"):
+            self.mark("promise" if kind == "promise" else "vote", x, y)
+        lost = to[0] == "n" and number not in self.delivered
+        if lost:
+            self.path(f"M{x} {y}h{side * 15}", "lost")
+            self.mark("cross", x + side * 15, y)
+        words = f"{number} {kind} to {to[1:]}" if lost else f"{number} {kind}"
+        self.text(x + side * (26 if lost else 12), y, words, "label", "start" if side > 0 else "end")
+        if to[0] == "c":
+            self.arrow(x, y, self.x[to], y, "line")
+
+    def legend(self):
+        """Two rows under the picture: each mark, and each kind of line, with what it means."""
+        self.ground, y = "paper", self.y + 24
+        self.under.append(f'<path class="down" d="M0 {y - 20}H{WIDTH}"/>')
+        for x, kind, words in ((20, "promise", "promise, synced first"), (205, "vote", "vote, synced first"), (365, "counted", "a majority has voted"),
+                               (545, "ran", "executed at its position"), (745, "answered", "answer to a client"), (900, "cross", "fault")):
+            self.mark(kind, x, y)
+            self.text(x + 14, y, words)
+        y += 26
+        for x, kind, words in ((12, "line", "datagram: number, kind"), (240, "line again", "it comes again"), (420, "lost", "it never comes"),
+                               (566, "lane", "node, start to stop"), (734, "down", "client, or node that is down")):
+            if kind.startswith("line"):
+                self.arrow(x, y, x + 38, y, kind)
+            else:
+                self.path(f"M{x} {y}h{15 if kind == 'lost' else 36}", kind)
+            if kind == "lost":
+                self.mark("cross", x + 15, y)
+            self.text(x + (28 if kind == "lost" else 48), y, words)
+        self.y = y + 20
+
+    def finish(self):
+        for line, output in self.told[1:]:
+            self.event(line, output)
+        self.ground, end = "paper", self.y - 4
+        for name in self.names:
+            x = self.x[name]
+            self.under.append(f'<path class="down" d="M{x} {HEAD - 16}V{end}"/>')
+            if name[0] == "n" and name in self.up:
+                self.path(f"M{x} {self.up[name]}V{end}", "lane")
+            self.text(x, HEAD - 28, ("client " if name[0] == "c" else "node ") + name[1:], "name", "middle")
+        self.text(8, HEAD - 28, "event")
+        self.legend()
+
+    def svg(self):
+        self.finish()
+        parts = [f'<rect class="paper" width="{WIDTH}" height="{self.y}"/>', *self.under, *self.lines, *self.grounds, *self.lanes,
+                 *self.texts, *self.marks]
+        head = f'<svg xmlns="http://www.w3.org/2000/svg" viewBox="0 0 {WIDTH} {self.y}" width="{WIDTH}" height="{self.y}">'
+        return "\n".join([head, f"<style>{STYLE}</style>", *parts, "</svg>", ""])
+
+
+def draw(program, script):
+    told = events(program, script.read_text())
+    if not told or not told[0][0].startswith("genesis "):
+        sys.exit(f"{script}: a script of world mode begins with the line genesis CLUSTER ALPHA NODE:PORT ..")
+    return Picture(told).svg()
+
+
+def check(program):
+    differ = 0
+    for picture in sorted((TOP / "docs" / "pictures").glob("*.svg")):
+        same = picture.read_text() == draw(program, TOP / "examples" / f"{picture.stem}.txt")
+        differ += not same
+        print(f"{picture.name}: {'as drawn' if same else 'DIFFERS'}", flush=True)
+    return int(differ > 0)
+
+
+def main(words):
+    if not 1 <= len(words) <= 2:
+        sys.exit(__doc__)
+    program = [words[1] if len(words) == 2 else str(TOP / "locks")]
+    if words[0] == "--check":
+        sys.exit(check(program))
+    sys.stdout.write(draw(program, pathlib.Path(words[0])))
+
+
+main(sys.argv[1:])
