@@ -1,0 +1,13 @@
+-- Why a command of the service ended early.
+use Rattle.lk_log.specs.declared.fault.StoreFault.{StoreFault}
+use Rattle.lk_log.specs.declared.fault.StoreFault.TheVariants as store
+use Rattle.lk_service.specs.declared.fault.ServiceFault.{ServiceFault}
+use Rattle.lk_service.specs.declared.fault.ServiceFault.TheVariants.{Device, NoMemory, Damaged, WrongStore, Failed}
+
+-- the fault that a store's fault is
+abbrev pub fault_of : StoreFault → ServiceFault
+fault_of store.Device = Device
+fault_of store.NoMemory = NoMemory
+fault_of store.Damaged = Damaged
+fault_of store.WrongStore = WrongStore
+fault_of store.Failed = Failed

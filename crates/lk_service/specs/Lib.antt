@@ -1,0 +1,4 @@
+pub mod Faults
+pub mod Addresses
+pub mod Posts
+pub mod Replies

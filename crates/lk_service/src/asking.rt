@@ -1,0 +1,106 @@
+//! A client that asks once.
+
+ghost use Rattle.std.specs.Prelude.{◌≤◌};
+
+use crate::fault::ServiceFault;
+use crate::reply::{Reply, read_reply};
+use crate::socket::{Datagrams, local};
+use bytes::BytesMut;
+use lk_types::limits::MAX_DATAGRAM;
+use lk_types::{Port, Request};
+use lk_wire::{Content, Message, write};
+use std::alloc::Global;
+use std::io;
+use std::io::Write;
+
+/// The receives of 100 ms until nothing is waited for any more.
+const RECEIVES: u32 = 50;
+/// The Elsewhere that are followed.
+const FOLLOWED: u32 = 20;
+
+/// A request, and where it is asked first.
+#[derive(Debug, Drop)]
+pub struct Question {
+    pub cluster: u64,
+    pub port: Port,
+    pub request: Request,
+}
+
+/// The bytes of the request.
+fn datagram(alloc: Global, question: &Question) -> Result<BytesMut, ServiceFault> {
+    let message = Message {
+        cluster: question.cluster,
+        content: Content::Request(question.request.copy()),
+    };
+    let mut bytes = BytesMut::new(alloc);
+    if write(&message, &mut bytes).is_err() {
+        return Err(ServiceFault::NoMemory);
+    }
+    Ok(bytes)
+}
+
+/// The reply in the next datagram, if one comes and it is one.
+fn next_reply<S: Datagrams>(alloc: Global, socket: &mut S, question: &Question) -> Option<Reply> {
+    let mut buffer = [0; MAX_DATAGRAM + 1];
+    let (length, _) = socket.receive(&mut buffer)?;
+    let bytes = buffer.get(..length)?;
+    read_reply(alloc, question.cluster, &question.request, bytes)
+}
+
+/// Sends the request to a port of 127.0.0.1, follows the first 20 Elsewhere, and gives what it is replied, or `None` where
+/// nothing is in 50 receives. What could not be sent is lost.
+pub fn exchange<S: Datagrams>(
+    alloc: Global,
+    socket: &mut S,
+    question: &Question,
+) -> Result<Option<Reply>, ServiceFault> {
+    let bytes = datagram(alloc, question)?;
+    let _ = socket.send_to(local(question.port.get()), &bytes);
+    let mut followed = 0;
+    for _ in 0..RECEIVES {
+        match next_reply(alloc, socket, question) {
+            Some(Reply::Elsewhere(member)) if followed < FOLLOWED => {
+                followed += 1;
+                let _ = socket.send_to(local(member.port.get()), &bytes);
+            }
+            Some(Reply::Elsewhere(_)) | None => {}
+            Some(reply) => return Ok(Some(reply)),
+        }
+    }
+    Ok(None)
+}
+
+/// Writes what was replied: an answer's text, `passed LAST`, or `no answer`. Whether it was an answer or a Passed.
+fn write_reply<W: Write>(reply: Option<&Reply>, out: &mut W) -> io::Result<bool> {
+    match reply {
+        Some(Reply::Answer(answer)) => writeln!(out, "{answer}")?,
+        Some(Reply::Passed(last)) => writeln!(out, "passed {}", last.get())?,
+        Some(Reply::Elsewhere(_)) | None => {
+            writeln!(out, "no answer")?;
+            return Ok(false);
+        }
+    }
+    Ok(true)
+}
+
+/// Asks, and prints what is replied. The status is 0; 1 where nothing was, which is printed as `no answer`, and where a
+/// fault is told on standard error.
+pub fn ask<S: Datagrams, W: Write, E: Write>(
+    alloc: Global,
+    socket: &mut S,
+    question: &Question,
+    out: &mut W,
+    err: &mut E,
+) -> u8
+    ensures { result ≤ 1 }
+{
+    let reply = match exchange(alloc, socket, question) {
+        Ok(reply) => reply,
+        Err(fault) => return fault.tell(err),
+    };
+    match (write_reply(reply.as_ref(), out), out.flush()) {
+        (Ok(true), Ok(())) => 0,
+        (Ok(false), Ok(())) => 1,
+        _ => ServiceFault::Write.tell(err),
+    }
+}

@@ -1,0 +1,83 @@
+//! What stands in the store of a folder, for whoever runs a node.
+
+ghost use Rattle.std.specs.Prelude.{◌≤◌};
+
+use crate::fault::ServiceFault;
+use lk_disk::{FileDisk, LogDisk};
+use lk_log::{Standing, look};
+use std::alloc::Global;
+use std::fs::Files;
+use std::io;
+use std::io::Write;
+
+/// Writes a line each for the generation of the live file, the promised ballot (`0 0` where there is none), the position
+/// of the snapshot, and how many votes and decided commands stand above it.
+fn write_standing<W: Write>(generation: u64, standing: &Standing, out: &mut W) -> io::Result<()> {
+    let promised = standing.promised;
+    writeln!(out, "generation {generation}")?;
+    writeln!(out, "promised {} {}", promised.round(), promised.node())?;
+    writeln!(out, "snapshot {}", standing.position.get())?;
+    writeln!(out, "votes {}", standing.votes.len())?;
+    writeln!(out, "decided {}", standing.pairs.len())
+}
+
+/// Writes what a look found, or `no store`. Whether there is a store.
+fn write_found<W: Write>(found: Option<(u64, Standing)>, out: &mut W) -> io::Result<bool> {
+    match found {
+        Some((generation, standing)) => {
+            write_standing(generation, &standing, out)?;
+            Ok(true)
+        }
+        None => {
+            writeln!(out, "no store")?;
+            Ok(false)
+        }
+    }
+}
+
+/// Writes what stands in the store of a device. It changes nothing there. Whether there is a store.
+///
+/// It refuses with the faults 7, 8 and 9 of the store, and with 24 where the output could not be written.
+pub fn dump_device<D: LogDisk, W: Write>(
+    alloc: Global,
+    device: &mut D,
+    out: &mut W,
+) -> Result<bool, ServiceFault> {
+    let found = look(alloc, device)?;
+    let Ok(is_store) = write_found(found, out) else {
+        return Err(ServiceFault::Write);
+    };
+    if out.flush().is_err() {
+        return Err(ServiceFault::Write);
+    }
+    Ok(is_store)
+}
+
+/// The same of the files of a folder, none of which is made.
+fn dump_folder<R: Files, W: Write>(
+    rt: &R,
+    alloc: Global,
+    folder: &str,
+    out: &mut W,
+) -> Result<bool, ServiceFault> {
+    let mut device = FileDisk::look_at(rt, alloc, folder)?;
+    dump_device(alloc, &mut device, out)
+}
+
+/// Prints what stands in the store of a folder, in five lines. The status is 0; 1 where no store stands there, which is
+/// printed as `no store`, and where a fault is told on standard error.
+pub fn dump<R: Files, W: Write, E: Write>(
+    rt: &R,
+    alloc: Global,
+    folder: &str,
+    out: &mut W,
+    err: &mut E,
+) -> u8
+    ensures { result ≤ 1 }
+{
+    match dump_folder(rt, alloc, folder, out) {
+        Ok(true) => 0,
+        Ok(false) => 1,
+        Err(fault) => fault.tell(err),
+    }
+}

@@ -1,0 +1,85 @@
+//! Datagrams between addresses of this machine.
+
+ghost use Rattle.std.specs.Prelude.{◌≡◌, ◌≤◌, ◌++◌, ◌∷◌, [], List, ℕ, length, IfSome, OnOk, OnErr};
+ghost use Rattle.std.specs.Net.Socket.{socket_port};
+ghost use Rattle.std.specs.declared.net.socket_addr.SocketAddr.{SocketAddr as Address};
+
+use crate::fault::ServiceFault;
+use lk_node::SendFault;
+use std::net::{Ipv4Addr, Net, SocketAddr, UdpSocket};
+use std::time::Duration;
+
+/// How long a receive waits at most, in milliseconds.
+const WAIT: u64 = 100;
+
+/// The address of a port of 127.0.0.1.
+pub fn local(port: u16) -> SocketAddr
+    ensures { socket_port result ≡ port }
+{
+    SocketAddr::from((Ipv4Addr::LOCALHOST, port))
+}
+
+/// What carries datagrams: a socket, or what stands for one in a test.
+pub trait Datagrams {
+    /// What was sent, in order: to which address, and the bytes.
+    ghost sent: { Self → List (Address × List ℕ) };
+
+    /// It tells what was sent. It is a fact of its kind, so no call can end it.
+    ghost is_telling: { Type 0 };
+
+    /// Sends a datagram. A failed call sends nothing.
+    fn send_to(&mut self, to: SocketAddr, bytes: &[u8]) -> Result<(), SendFault>
+        ensures ok { is_telling → OnOk result (sent self.new ≡ sent self.old ++ (to, bytes.now) ∷ []) }
+        ensures err { is_telling → OnErr result (sent self.new ≡ sent self.old) };
+
+    /// Puts the next datagram into the buffer, and tells its length and from where it came. What does not fit is lost.
+    /// `None` where none came within 100 ms, or the receive failed.
+    fn receive(&mut self, buffer: &mut [u8]) -> Option<(usize, SocketAddr)>
+        ensures within { IfSome result (λ r. r.0 ≤ length buffer.new) }
+        ensures unchanged { is_telling → sent self.new ≡ sent self.old };
+}
+
+/// A UDP socket of 127.0.0.1. What it sends and takes no contract can say.
+#[derive(Drop)]
+pub struct LocalSocket {
+    socket: UdpSocket,
+}
+
+impl LocalSocket {
+    /// The socket of a port, or of any free one where the port is 0. It refuses with `CannotOpen`.
+    pub fn bind<R: Net>(rt: &R, port: u16) -> Result<LocalSocket, ServiceFault> {
+        let Ok(socket) = UdpSocket::bind(rt, local(port)) else {
+            return Err(ServiceFault::CannotOpen);
+        };
+        if socket
+            .set_read_timeout(Some(Duration::from_millis(WAIT)))
+            .is_err()
+        {
+            return Err(ServiceFault::CannotOpen);
+        }
+        Ok(LocalSocket { socket })
+    }
+
+    /// The port of the socket.
+    pub fn port(&self) -> Option<u16> {
+        let address = self.socket.local_addr().ok()?;
+        Some(address.port())
+    }
+}
+
+impl Datagrams for LocalSocket {
+    ghost sent = { λ _. [] };
+
+    ghost is_telling = { ⊥ };
+
+    fn send_to(&mut self, to: SocketAddr, bytes: &[u8]) -> Result<(), SendFault> {
+        match self.socket.send_to(bytes, to) {
+            Ok(_) => Ok(()),
+            Err(_) => Err(SendFault),
+        }
+    }
+
+    fn receive(&mut self, buffer: &mut [u8]) -> Option<(usize, SocketAddr)> {
+        self.socket.recv_from(buffer).ok()
+    }
+}
