@@ -11,7 +11,13 @@ mod digits;
 #[cfg(test)]
 mod disk;
 #[cfg(test)]
+mod files;
+#[cfg(test)]
+mod idle;
+#[cfg(test)]
 mod leader;
+#[cfg(test)]
+mod learner;
 #[cfg(test)]
 mod locks;
 #[cfg(test)]
@@ -21,8 +27,24 @@ mod members;
 #[cfg(test)]
 mod node;
 #[cfg(test)]
+mod node_messages;
+#[cfg(test)]
+mod reviving;
+#[cfg(test)]
 mod script;
+#[cfg(test)]
+mod service;
 #[cfg(test)]
 mod state;
 #[cfg(test)]
+mod tour;
+#[cfg(test)]
 mod wire;
+#[cfg(test)]
+mod words;
+#[cfg(test)]
+mod world;
+#[cfg(test)]
+mod world_lines;
+#[cfg(test)]
+mod world_mode;

@@ -5,7 +5,7 @@ use std::alloc::Global;
 use std::test::Fail;
 
 // The packed state at position 0 of a cluster of node 1 at port 7001, with alpha 2.
-const ZERO: [u8; 39] = [
+pub const ZERO: [u8; 39] = [
     0, 0, 0, 0, 0, 0, 0, 0, 2, 1, 0, 0, 0, 1, 0x1b, 0x59, 1, 0, 0, 0, 1, 0x1b, 0x59, 0, 0, 0, 1, 0,
     0, 0, 0, 0, 0, 0, 0, 0, 0, 0, 0,
 ];
@@ -31,7 +31,7 @@ fn header_of(node: u32, cluster: u64, alpha: u8, port: u16) -> Result<Header, Fa
     Ok(Header::new(NodeNo::of(node).ok_or("node")?, genesis))
 }
 
-fn header() -> Result<Header, Fail> {
+pub fn header() -> Result<Header, Fail> {
     header_of(1, 5, 2, 7001)
 }
 
@@ -40,11 +40,11 @@ fn ballot() -> Result<RealBallot, Fail> {
     Ok(RealBallot::new(round, NodeNo::of(1).ok_or("node")?))
 }
 
-fn promise() -> Result<Entry, Fail> {
+pub fn promise() -> Result<Entry, Fail> {
     Ok(Entry::Promise(ballot()?))
 }
 
-fn vote() -> Result<Entry, Fail> {
+pub fn vote() -> Result<Entry, Fail> {
     Ok(Entry::Vote(Vote {
         position: Position::of(1).ok_or("position")?,
         ballot: ballot()?,

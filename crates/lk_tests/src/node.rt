@@ -1,5 +1,6 @@
 use crate::digits::bytes_of;
 use lk_acceptor::Acceptor;
+use lk_learner::Learner;
 use lk_locks::LockTable;
 use lk_log::Header;
 use lk_node::{Input, Node, Outbox, To};
@@ -47,7 +48,7 @@ fn node(alloc: Global) -> Result<Node<LockTable>, Fail> {
     let promised = Ballot::of(1, 1).ok_or("ballot")?;
     let executed = Executed::of(256).ok_or("executed")?;
     let acceptor = Acceptor::new(alloc, 1, promised, Vec::new(alloc), executed);
-    Ok(Node::new(alloc, header()?, acceptor, whole))
+    Ok(Node::new(alloc, header()?, acceptor, Learner::new(alloc, whole)))
 }
 
 fn hear(alloc: Global, node: &mut Node<LockTable>, text: &str) -> Result<Outbox, Fail> {

@@ -1,8 +1,13 @@
+use crate::idle::Idle;
+use lk_locks::LockTable;
 use lk_script::fault::ScriptFault;
 use lk_script::script::{run_script, run_to_end};
 use std::alloc::Global;
 use std::io::{BufReader, Error, ErrorKind, Read, Result as IoResult, Write};
 use std::test::Fail;
+
+/// Nodes that do nothing.
+type Nodes = Idle<LockTable>;
 
 /// A script, and what it prints.
 type Understood<'a> = (&'a str, &'a str);
@@ -115,7 +120,7 @@ const UNDERSTOOD: [Understood; 12] = [
 /// Scripts with a line that is not understood.
 const NOT_UNDERSTOOD: [BadScript; 17] = [
     ("table 5\n4c4", 2, ""),
-    ("genesis 5 2 1:7001\n", 1, ""),
+    ("genesis 5 2\n", 1, ""),
     ("\n\ntable 5\n\nzz\n", 5, ""),
     ("table", 1, ""),
     ("table ", 1, ""),
@@ -136,7 +141,7 @@ const NOT_UNDERSTOOD: [BadScript; 17] = [
 /// How a script ends, and what it printed.
 fn ran(alloc: Global, script: &str) -> (Result<(), ScriptFault>, Vec<u8>) {
     let mut out = Vec::new(alloc);
-    let end = run_script(alloc, &mut script.as_bytes(), &mut out);
+    let end = run_script::<Nodes, _, _>(alloc, &mut script.as_bytes(), &mut out);
     (end, out)
 }
 
@@ -272,7 +277,7 @@ fn is_read(alloc: Global, (call, kind, told): ReadRow) -> IoResult<bool> {
     let mut reader = BufReader::with_capacity(alloc, 8, FailingReader { text, call, kind })?;
     let mut out = Vec::new(alloc);
     let mut err = Vec::new(alloc);
-    let status = run_to_end(alloc, &mut reader, &mut out, &mut err);
+    let status = run_to_end::<Nodes, _, _, _>(alloc, &mut reader, &mut out, &mut err);
     Ok((status, out.as_slice(), err.as_slice()) == (told.0, told.1.as_bytes(), told.2.as_bytes()))
 }
 
@@ -281,7 +286,7 @@ fn is_written(alloc: Global, (script, call, told): WriteRow) -> bool {
     let text = Vec::new(alloc);
     let mut out = FailingWriter { text, call };
     let mut err = Vec::new(alloc);
-    let status = run_to_end(alloc, &mut script.as_bytes(), &mut out, &mut err);
+    let status = run_to_end::<Nodes, _, _, _>(alloc, &mut script.as_bytes(), &mut out, &mut err);
     (status, out.text.as_slice(), err.as_slice()) == (told.0, told.1.as_bytes(), told.2.as_bytes())
 }
 

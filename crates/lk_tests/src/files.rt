@@ -1,0 +1,215 @@
+use lk_disk::{
+    AppendFile, CannotOpen, DeviceFault, FileDisk, FileFault, FileInMemory, LogDisk, Side,
+};
+use std::alloc::Global;
+use std::fs;
+use std::fs::Files;
+use std::test::Fail;
+
+fn in_memory(alloc: Global) -> FileDisk<FileInMemory> {
+    FileDisk::of(FileInMemory::new(alloc), FileInMemory::new(alloc))
+}
+
+// Three synced bytes of A and four more, of which four are read back; one byte of B.
+fn written<D: LogDisk>(disk: &mut D) -> Result<[u8; 4], DeviceFault> {
+    disk.append(Side::A, b"abc")?;
+    disk.sync(Side::A)?;
+    disk.append(Side::A, b"defg")?;
+    disk.append(Side::B, b"x")?;
+    let mut bytes = [0; 4];
+    disk.read_into(Side::A, 1, &mut bytes)?;
+    Ok(bytes)
+}
+
+fn lengths<D: LogDisk>(disk: &mut D) -> Result<(usize, usize), DeviceFault> {
+    Ok((disk.length(Side::A)?, disk.length(Side::B)?))
+}
+
+// A cut past the end, which is refused, a cut, and a read past the end, which is refused too.
+fn cut<D: LogDisk>(disk: &mut D) -> Result<(bool, bool), DeviceFault> {
+    let is_past_end = disk.cut(Side::A, 8).is_err();
+    disk.cut(Side::A, 4)?;
+    let is_read_past_end = disk.read_into(Side::A, 3, &mut [0; 2]).is_err();
+    Ok((is_past_end, is_read_past_end))
+}
+
+#[test]
+fn files_in_memory_are_a_device(rt: HostRuntime) -> Result<(), Fail> {
+    let mut disk = in_memory(rt.alloc());
+    assert_eq!(rt; written(&mut disk)?.as_slice(), b"bcde".as_slice());
+    assert_eq!(rt; lengths(&mut disk)?, (7, 1));
+    assert_eq!(rt; cut(&mut disk)?, (true, true));
+    assert_eq!(rt; lengths(&mut disk)?, (4, 1));
+    Ok(())
+}
+
+// The lengths behind a stop that keeps two unsynced bytes of A and none of B, and behind a cut and a stop.
+fn stopped_twice(alloc: Global) -> Result<((usize, usize), usize), DeviceFault> {
+    let mut disk = in_memory(alloc);
+    written(&mut disk)?;
+    let mut disk = stopped(disk, 2, 0);
+    let after_stop = lengths(&mut disk)?;
+    disk.cut(Side::A, 4)?;
+    let mut disk = stopped(disk, 9, 9);
+    Ok((after_stop, disk.length(Side::A)?))
+}
+
+// The device of the files that a stop leaves.
+fn stopped(disk: FileDisk<FileInMemory>, x: usize, y: usize) -> FileDisk<FileInMemory> {
+    let (mut a, mut b) = disk.into_files();
+    a.stop(x);
+    b.stop(y);
+    FileDisk::of(a, b)
+}
+
+#[test]
+fn a_stop_keeps_what_is_synced_of_a_file(rt: HostRuntime) -> Result<(), Fail> {
+    assert_eq!(rt; stopped_twice(rt.alloc())?, ((5, 0), 4));
+    Ok(())
+}
+
+// A file of the system in which one of its calls fails once.
+#[derive(Drop)]
+struct Failing {
+    bytes: FileInMemory,
+    passes: u8,
+}
+
+impl Failing {
+    fn pass(&mut self) -> Result<(), FileFault> {
+        if self.passes == 0 {
+            self.passes = u8::MAX;
+            return Err(FileFault);
+        }
+        self.passes -= 1;
+        Ok(())
+    }
+}
+
+impl AppendFile for Failing {
+    ghost use Rattle.lk_disk.specs.Files.{unknown};
+
+    ghost file = { λ _. unknown };
+
+    ghost is_honest = { ⊥ };
+
+    fn length(&mut self) -> Result<usize, FileFault> {
+        self.bytes.length()
+    }
+
+    fn read_into(&mut self, offset: usize, buffer: &mut [u8]) -> Result<(), FileFault> {
+        self.bytes.read_into(offset, buffer)
+    }
+
+    fn append(&mut self, piece: &[u8]) -> Result<(), FileFault> {
+        self.pass()?;
+        self.bytes.append(piece)
+    }
+
+    fn sync(&mut self) -> Result<(), FileFault> {
+        self.pass()?;
+        self.bytes.sync()
+    }
+
+    fn shorten(&mut self, len: usize) -> Result<(), FileFault> {
+        self.pass()?;
+        self.bytes.shorten(len)
+    }
+}
+
+fn failing_at(alloc: Global, passes: u8) -> FileDisk<Failing> {
+    let bytes = FileInMemory::new(alloc);
+    let other = Failing {
+        bytes: FileInMemory::new(alloc),
+        passes: u8::MAX,
+    };
+    FileDisk::of(Failing { bytes, passes }, other)
+}
+
+// Which of an append, a sync, an append and a cut at A are made, and whether A and B still answer.
+fn made(disk: &mut FileDisk<Failing>) -> [bool; 6] {
+    [
+        disk.append(Side::A, b"abc").is_ok(),
+        disk.sync(Side::A).is_ok(),
+        disk.append(Side::A, b"de").is_ok(),
+        disk.cut(Side::A, 4).is_ok(),
+        disk.length(Side::A).is_ok(),
+        disk.append(Side::B, b"x").is_ok(),
+    ]
+}
+
+#[test]
+fn a_file_is_not_used_behind_a_failed_call(rt: HostRuntime) {
+    for (passes, row) in [
+        (0, [false, false, false, false, false, true]),
+        (1, [true, false, false, false, false, true]),
+        (2, [true, true, false, false, false, true]),
+        (3, [true, true, true, false, false, true]),
+        (4, [true, true, true, false, false, true]),
+        (5, [true, true, true, true, true, true]),
+    ] {
+        assert_eq!(rt; made(&mut failing_at(rt.alloc(), passes)), row);
+    }
+}
+
+// A new empty folder of that name.
+fn fresh<R: Files + Alloc>(rt: &R, folder: &str) -> Result<(), Fail> {
+    let _ = fs::remove_dir_all(rt, folder);
+    Ok(fs::create_dir(rt, folder)?)
+}
+
+// What is read, the lengths, whether a cut and a read past the end are refused, and the lengths behind a cut.
+fn used<R: Files>(rt: &R, alloc: Global, folder: &str) -> Result<bool, Fail> {
+    let mut disk = FileDisk::open(rt, alloc, folder)?;
+    let is_read = written(&mut disk)? == *b"bcde";
+    let before = lengths(&mut disk)?;
+    let refused = cut(&mut disk)?;
+    let behind = lengths(&mut disk)?;
+    Ok(is_read && (before, refused, behind) == ((7, 1), (true, true), (4, 1)))
+}
+
+#[test]
+fn files_of_a_folder_are_a_device(rt: HostRuntime) -> Result<(), Fail> {
+    let folder = "lk_tests_device";
+    fresh(&rt, folder)?;
+    let is_used = used(&rt, rt.alloc(), folder)?;
+    fs::remove_dir_all(&rt, folder)?;
+    assert!(rt; is_used);
+    Ok(())
+}
+
+// Whether a folder and files that are missing are told, and which files are made. The folder is fresh.
+fn opened<R: Files>(rt: &R, alloc: Global, folder: &str) -> Result<bool, Fail> {
+    let is_none = FileDisk::look_at(rt, alloc, folder).is_err();
+    let is_made = fs::exists(rt, "lk_tests_opening/a")?;
+    FileDisk::open(rt, alloc, folder)?;
+    let mut disk = FileDisk::look_at(rt, alloc, folder)?;
+    let is_empty = lengths(&mut disk)? == (0, 0);
+    let is_written = disk.append(Side::A, b"x").is_ok();
+    Ok(is_none && !is_made && is_empty && !is_written)
+}
+
+#[test]
+fn looking_makes_no_file(rt: HostRuntime) -> Result<(), Fail> {
+    let folder = "lk_tests_opening";
+    fresh(&rt, folder)?;
+    let is_so = opened(&rt, rt.alloc(), folder)?;
+    fs::remove_dir_all(&rt, folder)?;
+    assert!(rt; is_so);
+    Ok(())
+}
+
+#[test]
+fn a_missing_folder_is_not_made(rt: HostRuntime) -> Result<(), Fail> {
+    let missing = "lk_tests_missing";
+    assert_eq!(rt;
+        FileDisk::open(&rt, rt.alloc(), missing).err(),
+        Some(CannotOpen)
+    );
+    assert_eq!(rt;
+        FileDisk::look_at(&rt, rt.alloc(), missing).err(),
+        Some(CannotOpen)
+    );
+    assert!(rt; !fs::exists(&rt, missing)?);
+    Ok(())
+}
