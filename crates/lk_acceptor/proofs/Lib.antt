@@ -1,5 +1,6 @@
 mod InOrder
 mod Rising
+mod Searching
 mod Keeping
 mod Granting
 mod Answering

@@ -1,7 +1,16 @@
 -- Votes that are kept in the order of their positions.
-use Rattle.std.specs.Prelude.{ℕ, ◌≤◌, suc, nat_lt, nat_le, ◌==◌, List, [], ◌∷◌, Contains, filter, if◌then◌else◌}
+use Rattle.std.specs.Prelude.{◌≡◌, ℕ, ◌≤◌, suc, nat_lt, nat_le, ◌==◌, List, [], ◌∷◌, Contains, IsTrue, filter, if◌then◌else◌}
 use Rattle.lk_types.specs.Ballots.{is_below}
 use Rattle.lk_types.specs.declared.vote.Vote.{Vote}
+use Rattle.lk_wire.specs.Values.{are_votes_above}
+
+-- their positions rise strictly
+abbrev pub AreRising : List Vote → Type 0
+AreRising votes = (low : ℕ) × IsTrue (are_votes_above low votes)
+
+-- it is one of the votes, and at the position
+abbrev pub IsVoteAt : ℕ → List Vote → Vote → Type 0
+IsVoteAt i votes v = Contains votes v × (v.position ≡ i)
 
 -- so many votes of smaller positions are in front
 abbrev pub votes_below : ℕ → List Vote → ℕ

@@ -29,7 +29,9 @@ pub struct Acceptor {
 }
 
 impl Model for Acceptor {
+    ghost use Rattle.std.specs.List.{AllByRecursion};
     ghost use Rattle.lk_types.specs.Ranges.{IsAlpha};
+    ghost use Rattle.lk_types.specs.Votes.{IsVote};
     ghost use Rattle.lk_acceptor.specs.AcceptorValue.{AcceptorValue};
     ghost use Rattle.lk_acceptor.specs.States.{IsOrdered};
 
@@ -40,7 +42,7 @@ impl Model for Acceptor {
       state = record { promised = a.promised; votes = a.votes.items; snapshot_position = a.snapshot_position };
     } };
 
-    ghost invariant = { λ a. IsAlpha a.alpha × IsOrdered (record { promised = a.promised; votes = a.votes.items; snapshot_position = a.snapshot_position }) };
+    ghost invariant = { λ a. IsAlpha a.alpha × AllByRecursion IsVote a.votes.items × IsOrdered (record { promised = a.promised; votes = a.votes.items; snapshot_position = a.snapshot_position }) };
 }
 
 // Each vote is in its range. It does nothing.
@@ -65,6 +67,7 @@ impl Acceptor {
         requires kept { IsOrdered (record { promised = promised; votes = votes.items; snapshot_position = snapshot_position }) }
         ensures { result ≡ record { alpha = alpha; state = record { promised = promised; votes = votes.items; snapshot_position = snapshot_position } } }
     {
+        votes_facts(&votes);
         Acceptor {
             alloc,
             alpha,
@@ -101,7 +104,6 @@ impl Acceptor {
     {
         let _ = self.promised.round();
         let _ = self.snapshot_position.get();
-        votes_facts(&self.votes);
     }
 
     // Whether a Prepare gets a promise.
@@ -168,6 +170,7 @@ impl Acceptor {
         if holds(&self.votes, vote) {
             return Ok(None);
         }
+        vote.facts();
         keep_vote(&mut self.votes, vote.copy())?;
         self.promised = vote.ballot.get();
         Ok(Some(Entry::Vote(vote.copy())))

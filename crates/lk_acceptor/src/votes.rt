@@ -1,29 +1,35 @@
 // Votes that are kept in the order of their positions.
-ghost use Rattle.std.specs.Prelude.{◌≡◌, ◌≢◌, ◌≤◌, ◌↔◌, nat_lt, length, vec_len, vec_capacity, Contains, IsTrue, OnOk, OnErr, IfOk};
+ghost use Rattle.std.specs.Prelude.{◌≡◌, ◌≤◌, ◌↔◌, nat_lt, length, vec_len, vec_capacity, Contains, IsTrue, OnOk, OnErr, IfOk, MatchOption};
 ghost use Rattle.std.specs.List.{list_all};
 ghost use Rattle.lk_types.specs.declared.vote.Vote.{Vote as VoteValue};
 ghost use Rattle.lk_acceptor.specs.Answers.{Agrees};
-ghost use Rattle.lk_acceptor.specs.VoteLists.{votes_below, votes_with, votes_from, votes_above, HasVoteFrom};
+ghost use Rattle.lk_acceptor.specs.VoteLists.{AreRising, IsVoteAt, votes_below, votes_with, votes_from, votes_above, HasVoteFrom};
 
 use lk_types::{Executed, NoMemory, Position, Vote};
 use std::alloc::Global;
 
 // How many votes of smaller positions are in front.
 fn votes_below(position: Position, votes: &[Vote]) -> usize
+    requires { AreRising votes.now }
     ensures value { result ≡ votes_below position votes.now }
     ensures within { result ≤ length votes.now }
 {
-    for (i, vote) in votes.iter().enumerate() {
-        if vote.position.get() >= position.get() {
-            return i;
-        }
-    }
-    votes.len()
+    votes.partition_point(|vote| vote.position < position)
+}
+
+// The vote at a position.
+fn vote_at(votes: &[Vote], position: Position) -> Option<&Vote>
+    requires { AreRising votes.now }
+    ensures { MatchOption result ((v : VoteValue) → IsVoteAt position votes.now v → ⊥) (λ v. IsVoteAt position votes.now v.now × ((w : VoteValue) → IsVoteAt position votes.now w → w ≡ v.now)) }
+{
+    let vote = votes.get(votes_below(position, votes))?;
+    (vote.position == position).then_some(vote)
 }
 
 // Keeps a vote in its place. Of two votes at a position the one of greater ballot is kept.
 #[tactic(auto, using(crate::proofs::InOrder::at_end, crate::proofs::InOrder::at_other, crate::proofs::InOrder::at_below, crate::proofs::InOrder::at_above))]
 pub fn keep_vote(votes: &mut Vec<Vote>, vote: Vote) -> Result<(), NoMemory>
+    requires { AreRising votes.old.items }
     ensures kept { OnOk result (votes.new.items ≡ votes_with vote votes.old.items) }
     ensures err { OnErr result (votes.new.items ≡ votes.old.items) }
     ensures memory { OnErr result (vec_capacity votes.old ≤ vec_len votes.old) }
@@ -45,30 +51,44 @@ pub fn keep_vote(votes: &mut Vec<Vote>, vote: Vote) -> Result<(), NoMemory>
 
 // The votes at a position and above it.
 pub fn votes_from(alloc: Global, votes: &[Vote], first: Position) -> Result<Vec<Vote>, NoMemory>
+    requires { AreRising votes.now }
     ensures ok { IfOk result (λ vs. vs.items ≡ votes_from first votes.now) }
     ensures memory { OnErr result (HasVoteFrom first votes.now) }
 {
+    let rest = &votes[votes_below(first, votes)..];
     let mut from = Vec::new(alloc);
-    for vote in votes {
-        if first.get() <= vote.position.get() {
-            from.push(vote.copy())?;
-        }
+    for vote in rest {
+        from.push(vote.copy())?;
     }
     Ok(from)
 }
 
 // Whether each vote lies below the end.
 pub fn lie_below(votes: &[Vote], end: u64) -> bool
+    requires { AreRising votes.now }
     ensures { result ≡ list_all (λ v. nat_lt v.position end) votes.now }
 {
-    votes.iter().all(|vote| vote.position.get() < end)
+    match votes.last() {
+        Some(vote) => vote.position.get() < end,
+        None => true,
+    }
+}
+
+fn is_same(kept: &Vote, vote: &Vote) -> bool
+    ensures { IsTrue result ↔ (kept.now ≡ vote.now) }
+{
+    *kept == *vote
 }
 
 // Whether the vote is one of them.
 pub fn holds(votes: &[Vote], vote: &Vote) -> bool
+    requires { AreRising votes.now }
     ensures { IsTrue result ↔ Contains votes.now vote.now }
 {
-    votes.contains(vote)
+    match vote_at(votes, vote.position) {
+        Some(kept) => is_same(kept, vote),
+        None => false,
+    }
 }
 
 fn agrees(kept: &Vote, vote: &Vote) -> bool
@@ -79,14 +99,13 @@ fn agrees(kept: &Vote, vote: &Vote) -> bool
 
 // Whether none of the votes is of the vote's ballot and position and has another command.
 pub fn agree(votes: &[Vote], vote: &Vote) -> bool
+    requires { AreRising votes.now }
     ensures { IsTrue result ↔ ((v : VoteValue) → Contains votes.now v → Agrees v vote.now) }
 {
-    for kept in votes {
-        if !agrees(kept, vote) {
-            return false;
-        }
+    match vote_at(votes, vote.position) {
+        Some(kept) => agrees(kept, vote),
+        None => true,
     }
-    true
 }
 
 // Forgets the votes up to a position.

@@ -1,9 +1,9 @@
-use Rattle.std.proofs.Common.{◌∙◌, sym, arith}
-use Rattle.std.proofs.lemmas.Bool.{false≢true}
+use Rattle.std.proofs.Common.{refl}
+use Rattle.lk_acceptor.proofs.Searching.{agree_by}
 use Rattle.lk_acceptor.proofs.votes.agree.Goals as goal
 
-pub returns-then-not-agrees : goal.returns-then-not-agrees
-returns-then-not-agrees c = (
-  λ e. absurd (false≢true e),
-  λ all. absurd (false≢true (sym c.if-not-agrees.true ∙ c.agrees.ensures.1 (all c.kept-item.result (c.loop-kept.kept-index, omega (arith, c.loop-kept-test.true), sym c.kept-item.is)))),
-)
+pub returns-in-Some : goal.returns-in-Some
+returns-in-Some c = agree_by c.args.votes.now c.args.vote.now c.in-Some.kept.now c.in-Some.ensures.0 c.in-Some.ensures.1 c.agrees.result c.agrees.ensures
+
+pub returns-in-None : goal.returns-in-None
+returns-in-None c = (λ e v h same. absurd (c.in-None.ensures v (h, same)), λ all. refl)
