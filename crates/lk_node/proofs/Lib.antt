@@ -1,9 +1,4 @@
 mod Lists
-mod Revivals
-mod Adding
-mod Images
-mod Standings
-mod Ordered
 mod Serving
 mod ManyLetters
 mod Changing
@@ -12,15 +7,11 @@ mod Proposals
 mod AcceptorRules
 mod LevelRules
 mod AskingRules
-mod NoSend
-mod Thinning
-mod Going
 mod LearnerRules
 mod ExecutionRules
-pub mod Replicas
 mod Deciding
 mod CountingRules
 mod BallotRules
 mod Reminders
-mod Rerunning
-mod Restoring
+mod Settling
+pub mod Nodes

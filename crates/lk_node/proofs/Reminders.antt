@@ -1,12 +1,14 @@
 -- What a node with a term tells again it may tell.
-use Rattle.std.proofs.Common.{◌≡◌, ℕ, ◌+◌, ◌-◌, ◌<◌, ◌≤◌, length, inl, inr, Bool, true, false, cond, eqb, eqb-true, List, [], ◌∷◌, Option, Some, None, Contains, refl, sym, ◌∙◌, ap, subst, arith}
+use Rattle.std.proofs.Common.{◌≡◌, ℕ, ◌+◌, ◌-◌, ◌<◌, ◌≤◌, length, inl, inr, Bool, true, false, cond, eqb, eqb-true, List, [], ◌∷◌, Some, Contains, refl, sym, ◌∙◌, ap, subst, subst₂, arith}
+use Rattle.std.specs.Prelude.{slice_get}
 use Rattle.lk_types.specs.BallotValue.{BallotValue}
 use Rattle.lk_types.specs.Ballots.{IsAtMost}
-use Rattle.lk_types.specs.declared.entry.Entry.{Entry}
+use Rattle.lk_types.specs.declared.member.Member.{Member}
 use Rattle.lk_wire.specs.declared.message.NodeMessage.TheVariants as kinds
 use Rattle.lk_state.specs.Meanings.{Meaning}
 use Rattle.lk_history.specs.Acceptors.{AcceptorState}
 use Rattle.std.proofs.lemmas.Option.{slice_get_within}
+use Rattle.lk_members.specs.Counting.{Command}
 use Rattle.lk_members.specs.Windows.{RosterValue}
 use Rattle.lk_leader.specs.Counting.{IsOpen}
 use Rattle.lk_leader.specs.Terms.{ProposalValue, TermValue, LeaderValue, proposal_at}
@@ -15,7 +17,7 @@ use Rattle.lk_node.specs.Histories.{History}
 use Rattle.lk_node.specs.NodeValue.{NodeValue}
 use Rattle.lk_node.specs.Outboxes.{OutboxValue}
 use Rattle.lk_node.specs.Promised.{HasPromised}
-use Rattle.lk_node.specs.Reminding.{IsTermOf, AsksAgain, vote_for, OffersAgain, TellsLead}
+use Rattle.lk_node.specs.Reminding.{IsTermOf, TellsThese, AsksAgain, unheard, vote_for, OffersAgain, TellsLead}
 use Rattle.lk_node.specs.Serving.{GoesOn}
 use Rattle.lk_node.proofs.Lists.{contains_more}
 use Rattle.lk_node.proofs.ManyLetters.{says_all}
@@ -63,11 +65,25 @@ offer_goes_on m Heard node b i before out promised is (inl offers) =
     let o = offers.1 in
     let at = found_at i offers.0 o.term.proposals o.proposal in
     let same : o.term.ballot ≡ b = ap (λ (k : TermValue). k.ballot) (some_value o.term is.0 (sym o.current ∙ is.1)) ∙ is.2 in
-    subst (GoesOn m Heard node node before) (sym offers.3.1)
-    (says_all m Heard node before offers.2 (kinds.Accept (vote_for b i offers.0)) offers.3.0 (term_promised node b promised is)
+    subst (GoesOn m Heard node node before) (sym offers.2.1)
+    (says_all m Heard node before (unheard o.set offers.0.accepted) (kinds.Accept (vote_for b i offers.0)) offers.2.0 (term_promised node b promised is)
     (λ out h n loose s heard. accept_may m h n loose node out s o.term offers.0 (vote_for b i offers.0) o.current at.0
     (λ j. record { position = sym at.1 j; ballot = sym same j; command = offers.0.command })))
 offer_goes_on m Heard node b i before out promised is (inr none) = subst (GoesOn m Heard node node before) (sym none.1) (rests_here m Heard node before)
+
+-- what is told to those members of the position that were not heard is told again
+pub offered : (node : NodeValue) (b : BallotValue) (i : ℕ) (p : ProposalValue) (set : List Member) (accepted nodes : List ℕ) (v : Command) (before out : OutboxValue)
+    → IsOpen node.leader node.learner.whole.roster i p → slice_get node.learner.whole.roster.sets (i - (node.learner.whole.roster.executed + 1)) ≡ Some set
+    → p.command ≡ v → p.accepted ≡ accepted → nodes ≡ unheard set accepted
+    → TellsThese node nodes (kinds.Accept (record { position = i; ballot = b; command = v })) before out → OffersAgain node b i before out
+offered node b i p set accepted nodes v before out open_there at command heard is tells =
+    let found : Some set ≡ Some open_there.set = sym at ∙ open_there.members.1 in
+    let one : set ≡ open_there.set = cc found in
+    inl (
+      p,
+      open_there,
+      subst₂ (λ (ns : List ℕ) (w : Command). TellsThese node ns (kinds.Accept (record { position = i; ballot = b; command = w })) before out) (is ∙ (λ j. unheard (one j) (sym heard j))) (sym command) tells,
+    )
 
 -- what is open stands in the window
 pub members_there : (l : LeaderValue) (roster : RosterValue) (i : ℕ) (p : ProposalValue) → IsOpen l roster i p → (roster.executed < i) × (i ≤ roster.executed + length roster.sets)

@@ -64,9 +64,13 @@ session_by Noop answer = None
 session_by (Request r) None = None
 session_by (Request r) (Some answer) = Some (record { client = r.client; number = r.number; answer = answer })
 
+-- nothing is left to execute: the command of the next position is not kept
+abbrev pub NothingToRun : NodeValue → Type 0
+NothingToRun node = (v : Command) → IsNext node.learner v → ⊥
+
 -- the command of the next position, if it is kept, has run, and was answered so
 abbrev pub RunsNext : Meaning → NodeValue → NodeValue → Option (Command × Ran) → Type 0
-RunsNext m old new None = ((v : Command) → IsNext old.learner v → ⊥) × (new ≡ old)
+RunsNext m old new None = NothingToRun old × (new ≡ old)
 RunsNext m old new (Some (v, ran)) =
     IsNext old.learner v × (new ≡ with_learner old (advanced m v old.learner)) × (ran ≡ record { position = executed old.learner + 1; answer = run_answer m v old.learner.whole })
 
@@ -95,7 +99,7 @@ pub record Executes (m : Meaning) (old : NodeValue) (before : OutboxValue) (new 
 -- the command of the next position is executed, or there is none and nothing changes
 abbrev pub ExecutesOne : Meaning → Bool → NodeValue → OutboxValue → NodeValue → OutboxValue → Type 0
 ExecutesOne m true old before new behind = Executes m old before new behind
-ExecutesOne m false old before new behind = ((v : Command) → IsNext old.learner v → ⊥) × (new ≡ old) × (behind ≡ before)
+ExecutesOne m false old before new behind = NothingToRun old × (new ≡ old) × (behind ≡ before)
 
 -- ---- any number of them
 
@@ -104,6 +108,6 @@ pub data Runs (m : Meaning) (old : NodeValue) (before : OutboxValue) : NodeValue
   stays : Runs m old before old before
   goes_on : {mid new : NodeValue} {between behind : OutboxValue} → Runs m old before mid between → Executes m mid between new behind → Runs m old before new behind
 
--- as many as there can be: then the command of the next position is not kept
+-- as many as there can be
 abbrev pub RunsAll : Meaning → NodeValue → OutboxValue → NodeValue → OutboxValue → Type 0
-RunsAll m old before new behind = Runs m old before new behind × ((v : Command) → IsNext new.learner v → ⊥)
+RunsAll m old before new behind = Runs m old before new behind × NothingToRun new

@@ -1,5 +1,5 @@
 -- What a contract sees of what a node sends.
-use Rattle.std.specs.Prelude.{◌≡◌, ℕ, ◌⊎◌, List, [], ◌∷◌, ◌++◌, map, Contains}
+use Rattle.std.specs.Prelude.{ℕ, List, map}
 use Rattle.lk_history.specs.declared.party.Party.{Party}
 use Rattle.lk_history.specs.declared.party.Party.TheVariants as party
 use Rattle.lk_history.specs.Datagrams.{Datagram}
@@ -23,21 +23,3 @@ datagram_of n l = record { from = party.Node n; to = party_of l.to; bytes = l.by
 -- those that letters of the node are, in order
 abbrev pub batch_of : ℕ → List LetterValue → List Datagram
 batch_of n letters = map (datagram_of n) letters
-
--- the first letters are some of the others
-abbrev pub AreOf : List LetterValue → List LetterValue → Type 0
-AreOf some letters = (l : LetterValue) → Contains some l → Contains letters l
-
--- these letters without some of them, in the same order
-abbrev pub Thins : List LetterValue → List LetterValue → Type 0
-Thins [] kept = kept ≡ []
-Thins (l ∷ letters) kept = Thins letters kept ⊎ ((rest : List LetterValue) × (kept ≡ l ∷ rest) × Thins letters rest)
-
--- so many of them were sent behind what was sent before
-abbrev pub SendsSome : List LetterValue → List LetterValue → List LetterValue → Type 0
-SendsSome letters old new = (kept : List LetterValue) × Thins letters kept × (new ≡ old ++ kept)
-
--- the letters that were kept, and how often one was not
-pub record CollectedValue : Type 0 where
-  pub letters : List LetterValue
-  pub failures : ℕ

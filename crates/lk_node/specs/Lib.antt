@@ -1,4 +1,3 @@
-pub mod Faults
 pub mod Letters
 pub mod Outboxes
 pub mod Histories
@@ -16,7 +15,6 @@ pub mod Replying
 pub mod CatchingUp
 pub mod Asking
 pub mod Answering
-pub mod Taking
 pub mod Steps
 pub mod Learning
 pub mod Executing
@@ -28,4 +26,3 @@ pub mod Counting
 pub mod Beginning
 pub mod Waiting
 pub mod Reminding
-pub mod Revivals

@@ -1,7 +1,6 @@
--- What a contract sees of a node and of a replica.
+-- What a contract sees of a node.
 use Rattle.std.specs.Prelude.{ℕ, Bool, Option}
 use Rattle.lk_log.specs.Values.{HeaderValue}
-use Rattle.lk_log.specs.StoreValue.{StoreValue}
 use Rattle.lk_acceptor.specs.AcceptorValue.{AcceptorValue}
 use Rattle.lk_leader.specs.Terms.{LeaderValue}
 use Rattle.lk_learner.specs.Learners.{LearnerValue}
@@ -17,9 +16,3 @@ pub record NodeValue : Type 0 where
   pub rounds : ℕ
   pub known : Option ℕ
   pub halted : Bool
-
--- a node, its store, and whether the replica refuses all calls
-pub record ReplicaValue : Type 0 where
-  pub node : NodeValue
-  pub store : StoreValue
-  pub failed : Bool

@@ -1,16 +1,18 @@
 -- What a node with a term tells again as time passes.
-use Rattle.std.specs.Prelude.{◌≡◌, ◌⊎◌, ℕ, ◌+◌, Bool, true, false, not, Option, Some, None, List, filter, Contains}
+use Rattle.std.specs.Prelude.{◌≡◌, ◌⊎◌, ℕ, ◌+◌, ◌≤◌, Bool, false, not, ◌==◌, Option, Some, None, List, filter}
+use Rattle.std.specs.List.{list_any}
 use Rattle.lk_types.specs.BallotValue.{BallotValue}
 use Rattle.lk_types.specs.Limits.{max_count}
+use Rattle.lk_types.specs.declared.member.Member.{Member}
 use Rattle.lk_types.specs.declared.vote.Vote.{Vote}
 use Rattle.lk_wire.specs.Grammar.{IsMessage}
 use Rattle.lk_wire.specs.declared.message.NodeMessage.{NodeMessage}
 use Rattle.lk_wire.specs.declared.message.NodeMessage.TheVariants as kinds
 use Rattle.lk_leader.specs.Counting.{IsOpen}
 use Rattle.lk_leader.specs.Terms.{ProposalValue, TermValue, LeaderValue, has_promised}
-use Rattle.lk_learner.specs.Learners.{executed}
+use Rattle.lk_learner.specs.Learners.{executed, alpha}
 use Rattle.lk_node.specs.NodeValue.{NodeValue}
-use Rattle.lk_node.specs.Leading.{ProposesOpen}
+use Rattle.lk_node.specs.Leading.{nodes_of, ProposesOpen}
 use Rattle.lk_node.specs.Outboxes.{OutboxValue, nothing}
 use Rattle.lk_node.specs.Waiting.{ticked, BeginsWhereDue}
 use Rattle.lk_node.specs.Saying.{saying}
@@ -46,16 +48,30 @@ AsksAgain node b before out =
 abbrev pub vote_for : BallotValue → ℕ → ProposalValue → Vote
 vote_for b i p = record { position = i; ballot = b; command = p.command }
 
--- what is open at the position is told again
+-- the members of the set that are not among those that were heard to accept, in rising order
+abbrev pub unheard : List Member → List ℕ → List ℕ
+unheard set accepted = filter (λ k. not (list_any (λ n. n == k) accepted)) (nodes_of set)
+
+-- what is open at the position is told again to the members of the position that were not heard to accept it
 abbrev pub OffersAgain : NodeValue → BallotValue → ℕ → OutboxValue → OutboxValue → Type 0
 OffersAgain node b i before out =
-    ((p : ProposalValue) × IsOpen node.leader node.learner.whole.roster i p × (nodes : List ℕ) × TellsThese node nodes (kinds.Accept (vote_for b i p)) before out)
+    ((p : ProposalValue) × (o : IsOpen node.leader node.learner.whole.roster i p) × TellsThese node (unheard o.set p.accepted) (kinds.Accept (vote_for b i p)) before out)
     ⊎ (((p : ProposalValue) → IsOpen node.leader node.learner.whole.roster i p → ⊥) × (out ≡ before))
 
--- so at some positions, one after another
-pub data OffersSome (node : NodeValue) (b : BallotValue) (before : OutboxValue) : OutboxValue → Type 0 where
-  none_yet : OffersSome node b before before
-  one_more : {mid out : OutboxValue} (i : ℕ) → OffersSome node b before mid → OffersAgain node b i mid out → OffersSome node b before out
+-- so at the position that lies so far behind the next one, where there is one
+abbrev pub OffersAhead : NodeValue → BallotValue → ℕ → OutboxValue → OutboxValue → Type 0
+OffersAhead node b ahead before out =
+    OffersAgain node b (executed node.learner + 1 + ahead) before out
+    ⊎ ((max_count ≤ executed node.learner + ahead) × (out ≡ before))
+
+-- so at the first so many positions of the window, in order
+pub data OffersFirst (node : NodeValue) (b : BallotValue) (before : OutboxValue) : ℕ → OutboxValue → Type 0 where
+  none_yet : OffersFirst node b before 0 before
+  one_more : {k : ℕ} {mid out : OutboxValue} → OffersFirst node b before k mid → OffersAhead node b k mid out → OffersFirst node b before (k + 1) out
+
+-- so at all positions of the window
+abbrev pub OffersAll : NodeValue → BallotValue → OutboxValue → OutboxValue → Type 0
+OffersAll node b before out = OffersFirst node b before (alpha node.learner) out
 
 -- ---- the notice
 
@@ -70,7 +86,7 @@ pub record Reminds (b : BallotValue) (old new : NodeValue) (out : OutboxValue) :
   pub asked : OutboxValue
   pub asks : AsksAgain old b nothing asked
   pub offered : OutboxValue
-  pub offers : OffersSome old b asked offered
+  pub offers : OffersAll old b asked offered
   pub proposed : OutboxValue
   pub proposes : ProposesOpen old new offered proposed
   pub leads : TellsLead new b proposed out

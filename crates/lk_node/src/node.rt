@@ -95,6 +95,13 @@ impl<M: Machine> Node<M> {
         }
     }
 
+    /// Who it is, and how its cluster began.
+    pub fn header(&self) -> &Header
+        ensures { result.now ≡ self.now.header }
+    {
+        &self.header
+    }
+
     // The roster that stands once all executed commands are run.
     pub(crate) fn roster(&self) -> &Roster
         ensures { result.now ≡ self.now.learner.whole.roster }

@@ -4,9 +4,10 @@ ghost use Rattle.std.specs.List.{list_any};
 ghost use Rattle.lk_state.specs.Meanings.{meaning};
 ghost use Rattle.lk_node.specs.Leading.{NothingOpen};
 ghost use Rattle.lk_node.specs.Outboxes.{nothing};
-ghost use Rattle.lk_node.specs.Reminding.{IsTermOf, keeps_promise, AreSilent, AsksAgain, OffersAgain, OffersSome, TellsLead, Reminds};
+ghost use Rattle.lk_node.specs.Reminding.{IsTermOf, keeps_promise, AreSilent, AsksAgain, unheard, OffersAgain, OffersAll, TellsLead, Reminds};
 ghost use Rattle.lk_node.specs.Serving.{GoesOn};
 
+use crate::leading::nodes_of;
 use crate::node::Node;
 use crate::outbox::Outbox;
 use lk_state::Machine;
@@ -66,15 +67,13 @@ impl<M: Machine> Node<M> {
         Ok(())
     }
 
-    // The members of the set that were not heard to accept.
-    fn unheard(&self, set: &Members, accepted: &[NodeNo]) -> Result<Vec<NodeNo>, NoMemory> {
-        let mut unheard = Vec::new(self.alloc);
-        for member in set.as_slice() {
-            if !is_heard(accepted, member.node) {
-                unheard.push(member.node)?;
-            }
-        }
-        Ok(unheard)
+    // The members of the set that were not heard to accept, in rising order.
+    fn unheard(&self, set: &Members, accepted: &[NodeNo]) -> Result<Vec<NodeNo>, NoMemory>
+        ensures { IfOk result (λ ns. ns.items ≡ unheard set.now accepted.now) }
+    {
+        let mut nodes = nodes_of(self.alloc, set)?;
+        nodes.retain(|node| !is_heard(accepted, *node));
+        Ok(nodes)
     }
 
     // What is open at the position is told again to the members of it that were not heard to accept it.
@@ -119,10 +118,10 @@ impl<M: Machine> Node<M> {
         Ok(())
     }
 
-    // What is open at any position of the window is told again.
+    // What is open at the positions of the window is told again, in order.
     fn offer_all(&self, ballot: RealBallot, out: &mut Outbox) -> Result<(), NoMemory>
         requires { IsTermOf ballot self.now.leader }
-        ensures exact { OnOk result (OffersSome self.now ballot out.old out.new) }
+        ensures exact { OnOk result (OffersAll self.now ballot out.old out.new) }
         ensures goes_on { OnOk result (GoesOn (meaning M.first M.next M.answer) (λ h. Unit {0}) self.now self.now out.old out.new) }
     {
         let next = self.learner.whole().executed().get() + 1;

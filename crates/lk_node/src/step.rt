@@ -3,6 +3,7 @@ ghost use Rattle.std.specs.Prelude.{◌≡◌, true, IfOk, OnOk, OnErr, IsErr};
 ghost use Rattle.lk_history.specs.Datagrams.{HasSent};
 ghost use Rattle.lk_state.specs.Meanings.{meaning};
 ghost use Rattle.lk_node.specs.Calls.{InputFits};
+ghost use Rattle.lk_node.specs.Executing.{NothingToRun};
 ghost use Rattle.lk_node.specs.Histories.{IsHeard};
 ghost use Rattle.lk_node.specs.Leading.{NothingOpen};
 ghost use Rattle.lk_node.specs.Outboxes.{nothing};
@@ -88,12 +89,14 @@ impl<M: Machine> Node<M> {
         }
     }
 
-    /// Takes a tick or a datagram, and tells what is to be written, noted and sent, in that order.
+    /// Takes a tick or a datagram, and tells what is to be written, noted and sent, in that order. What it learns it also
+    /// executes, as far as that goes: the command of the next position is not kept behind it, where it was not before.
     ///
     /// It refuses with `Halted` where memory is refused; after that each later call answers `Halted`.
     pub fn step(&mut self, input: Input) -> Result<Outbox, Halted>
         ensures steps { IfOk result (λ o. Steps (meaning M.first M.next M.answer) self.old input.entry self.new o) }
         ensures goes_on { IfOk result (λ o. GoesOn (meaning M.first M.next M.answer) (λ h. InputFits h input.entry) self.old self.new nothing o) }
+        ensures runs { NothingToRun self.old → OnOk result (NothingToRun self.new) }
         ensures halts { OnErr result (self.new.halted ≡ true) }
         ensures stays_halted { self.old.halted ≡ true → IsErr result × (self.new ≡ self.old) }
     {

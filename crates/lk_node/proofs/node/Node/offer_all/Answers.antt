@@ -1,7 +1,11 @@
-use Rattle.std.proofs.Common.{◌≡◌, sym, subst}
+use Rattle.std.proofs.Common.{◌≡◌, ◌∙◌, ℕ, ◌+◌, ◌≤◌, inl, inr, refl, sym, ap, subst, arith}
+use Rattle.lk_types.specs.Limits.{max_count}
 use Rattle.lk_state.specs.Meanings.{Meaning, meaning}
+use Rattle.lk_state.specs.States.{WholeValue}
+use Rattle.lk_learner.specs.Learners.{executed}
+use Rattle.lk_node.specs.NodeValue.{NodeValue}
 use Rattle.lk_node.specs.Outboxes.{OutboxValue}
-use Rattle.lk_node.specs.Reminding.{OffersSome, none_yet, one_more}
+use Rattle.lk_node.specs.Reminding.{OffersAgain, OffersFirst, none_yet, one_more}
 use Rattle.lk_node.specs.Serving.{GoesOn}
 use Rattle.lk_node.proofs.Serving.{rests_here, then_goes_on}
 use Rattle.lk_node.proofs.node.Node.offer_all.Goals as goal
@@ -13,12 +17,17 @@ ahead-init g c = (none_yet, rests_here _ _ c.args.self.now c.args.out.now)
 pub ahead-preserved : goal.ahead-preserved
 ahead-preserved g c =
     let m : Meaning = meaning g.M.Machine.first g.M.Machine.next g.M.Machine.answer in
+    let So : OutboxValue → Type 0 = λ o. OffersFirst c.args.self.now c.args.ballot c.args.out.now (c.ahead.ahead + 1) o × GoesOn m (λ h. Unit {0}) c.args.self.now c.args.self.now c.args.out.now o in
+    let next : c.get-next.result ≡ executed c.args.self.now.learner =
+    c.get-next.ensures.value ∙ c.executed.ensures ∙ ap (λ (w : WholeValue). w.roster.executed) c.whole.ensures ∙ ap (λ (k : NodeValue). executed k.learner) c.self.view_is in
     elim c.match-of.branch [
       | in-Some+in_ok-offer_again w ↦
-          subst (λ (o : OutboxValue). OffersSome c.args.self.now c.args.ballot c.args.out.now o × GoesOn m (λ h. Unit {0}) c.args.self.now c.args.self.now c.args.out.now o) (sym w.out-is) (
-            one_more _ c.ahead.invariant.0 w.in_ok-offer_again.ensures.exact,
+          let at : w.in-Some.position ≡ executed c.args.self.now.learner + 1 + c.ahead.ahead = (let is = w.in-Some.ensures.value in omega (arith, next, is, c.from.ensures)) in
+          subst So (sym w.out-is) (
+            one_more c.ahead.invariant.0 (inl (subst (λ (i : ℕ). OffersAgain c.args.self.now c.args.ballot i c.ahead.out w.offer_again.new.out) at w.in_ok-offer_again.ensures.exact)),
             then_goes_on m _ c.args.self.now c.args.self.now c.args.self.now c.args.out.now c.ahead.out w.offer_again.new.out c.ahead.invariant.1 w.in_ok-offer_again.ensures.goes_on,
           )
       | in_default w ↦
-          subst (λ (o : OutboxValue). OffersSome c.args.self.now c.args.ballot c.args.out.now o × GoesOn m (λ h. Unit {0}) c.args.self.now c.args.self.now c.args.out.now o) (sym w.out-is) c.ahead.invariant
+          let far : c.get-next.result + 1 + c.from.result ≤ max_count → ⊥ = λ near. (let some = w.in_default.ensures.some.1 (omega arith, near) in cc some) in
+          subst So (sym w.out-is) (one_more c.ahead.invariant.0 (inr (omega (arith, next, far, c.from.ensures), refl)), c.ahead.invariant.1)
     ]

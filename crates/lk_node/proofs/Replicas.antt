@@ -1,2 +1,0 @@
--- The lemmas that other crates cite: of this folder nothing else is for them.
-pub use Rattle.lk_node.proofs.Revivals.{held_by, held_fits, nothing_later, stands_still}

@@ -1,0 +1,212 @@
+-- What a call leaves that steps, puts what the step writes, and then sends.
+use Rattle.std.proofs.Common.{◌≡◌, ℕ, Bool, true, false, inl, inr, List, [], ◌∷◌, ◌++◌, take, Contains, refl, sym, ◌∙◌, ap, subst, arith}
+use Rattle.std.specs.List.{AllByRecursion}
+use Rattle.lk_types.specs.declared.entry.Entry.{Entry}
+use Rattle.lk_types.specs.declared.entry.Entry.TheVariants.{Promise, Vote, Decided}
+use Rattle.lk_wire.specs.Grammar.{Spells}
+use Rattle.lk_wire.specs.declared.message.NodeMessage.{NodeMessage}
+use Rattle.lk_wire.specs.declared.message.NodeMessage.TheVariants as kinds
+use Rattle.lk_log.specs.Standings.{with_all}
+use Rattle.lk_log.specs.StoreValue.{StoreValue, disks}
+use Rattle.lk_log.specs.Stores.{plain, Holds, KeepsAtLeast}
+use Rattle.lk_log.specs.Values.{HeaderValue}
+use Rattle.lk_log.specs.declared.stored.Stored.{Stored}
+use Rattle.lk_log.proofs.StoreLaws.{all_stand, header_more, one_standing, plain_append}
+use Rattle.lk_state.specs.Meanings.{Meaning}
+use Rattle.lk_history.specs.Acceptors.{AcceptorState, Covers, CoversSent}
+use Rattle.lk_history.specs.Datagrams.{said_by}
+use Rattle.lk_history.specs.Nodes.{View, ViewFits}
+use Rattle.lk_history.proofs.Histories.{said_alike, still_stems, still_was, still_chosen_at, covers_both, entry_chosen}
+use Rattle.lk_acceptor.specs.States.{IsOrdered}
+use Rattle.lk_node.specs.Calls.{InputFits, MayGo, NodeFits, Goes}
+use Rattle.lk_node.specs.Entries.{EntriesFit, Rests}
+use Rattle.lk_node.specs.Histories.{History, Genesis, Datagram, later}
+use Rattle.lk_node.specs.Holdings.{Holding}
+use Rattle.lk_node.specs.Keeping.{IsDecided, IsKnown, Keeps, Stands}
+use Rattle.lk_node.specs.Leavings.{header_of, acceptor_of, view_of, DisksFit, AllCover}
+use Rattle.lk_node.specs.Letters.{LetterValue, datagram_of, batch_of}
+use Rattle.lk_replica.specs.Posts.{AreOf}
+use Rattle.lk_node.specs.NodeValue.{NodeValue}
+use Rattle.lk_node.specs.Outboxes.{OutboxValue, nothing}
+use Rattle.lk_node.specs.Serving.{with_entries, Tells, Binds, Serves, GoesOn}
+use Rattle.lk_node.specs.declared.input.Input.{Input}
+use Rattle.lk_node.specs.declared.note.Note.{Note}
+use Rattle.lk_replica.proofs.Images.{held_fit, fit_disks, cover_disks, put_fits, put_covers}
+use Rattle.lk_node.proofs.Nodes.{take_contains, map_contains}
+use Rattle.lk_replica.proofs.Ordered.{standing_ordered}
+use Rattle.lk_node.proofs.Nodes.{letter_spelled}
+use Rattle.lk_replica.proofs.Standings.{entries_are, decided_leave, entries_behind}
+use Rattle.lk_replica.proofs.Thinning.{batch_among}
+
+-- ---- lists
+
+all_append : (P : Entry → Type 0) (xs ys : List Entry) → AllByRecursion P xs → AllByRecursion P ys → AllByRecursion P (xs ++ ys)
+all_append P [] ys a b = b
+all_append P (x ∷ xs) ys a b = (a.0, all_append P xs ys a.1 b)
+
+all_map : (P Q : Entry → Type 0) (xs : List Entry) → ((e : Entry) → P e → Q e) → AllByRecursion P xs → AllByRecursion Q xs
+all_map P Q [] f a = tt
+all_map P Q (x ∷ xs) f a = (f x a.0, all_map P Q xs f a.1)
+
+-- ---- what is put
+
+-- a store that keeps what it kept, and the entries: those that are not synced are the old ones and, where nothing was
+-- synced, these
+pub record KeepsToo (whose : HeaderValue) (new : StoreValue) (b : AcceptorState) (loose es : List Entry) (sync : Bool) : Type 0 where
+  pub keeps : Keeps whose new b
+  pub known : (w : View) → AllByRecursion (IsKnown w) loose → (sync ≡ false → AllByRecursion (IsKnown w) es) → AllByRecursion (IsKnown w) keeps.loose
+
+pub put_keeps : (whose : HeaderValue) (old new : StoreValue) (a b : AcceptorState) (es : List Entry) (sync : Bool) (k : Keeps whose old a) → b ≡ with_entries es a → (sync ≡ false → AllByRecursion IsDecided es)
+    → (sync ≡ false → Holds new k.entries (plain k.loose ++ plain es)) → (sync ≡ true → Holds new (k.entries ++ (plain k.loose ++ plain es)) []) → KeepsToo whose new b k.loose es sync
+put_keeps whose old new a b es false k written decided added synced = record {
+  keeps = record {
+    entries = k.entries;
+    loose = k.loose ++ es;
+    holds = subst (Holds new k.entries) (sym (plain_append k.loose es)) (added refl);
+    decided = all_append IsDecided k.loose es k.decided (decided refl);
+    header = k.header;
+    standing = k.standing;
+    stands = k.stands;
+    remembers = k.remembers ∙ sym (decided_leave es a (decided refl)) ∙ sym written;
+  };
+  known = λ w old' new'. all_append (IsKnown w) k.loose es old' (new' refl);
+}
+put_keeps whose old new a b es true k written decided added synced = record {
+  keeps = record {
+    entries = k.entries ++ plain (k.loose ++ es);
+    loose = [];
+    holds = subst (λ (more : List Stored). Holds new (k.entries ++ more) []) (sym (plain_append k.loose es)) (synced refl);
+    decided = tt;
+    header = header_more k.entries (plain (k.loose ++ es)) whose k.header;
+    standing = with_all (k.loose ++ es) k.standing;
+    stands = all_stand k.entries k.standing (k.loose ++ es) k.stands;
+    remembers = entries_are k.standing (k.loose ++ es) ∙ ap (with_entries (k.loose ++ es)) k.remembers ∙ entries_behind k.loose es a ∙ ap (with_entries es) (decided_leave k.loose a k.decided) ∙ sym written;
+  };
+  known = λ w old' new'. tt;
+}
+
+-- ---- what is known was chosen
+
+known_rests : (h : History) (n : ℕ) (w : View) → ViewFits h.genesis h.sent n w → (e : Entry) → IsKnown w e → Rests h e
+known_rests h n w f (Promise b) k = absurd k
+known_rests h n w f (Vote x) k = absurd k
+known_rests h n w f (Decided i c) (inl pair) = f.stems.pairs i c pair
+known_rests h n w f (Decided i c) (inr at) = entry_chosen h.genesis h.sent w.done f.stems.done i c at
+
+still_rests : (h : History) (more : List Datagram) (e : Entry) → Rests h e → Rests (later h more) e
+still_rests h more (Promise b) r = tt
+still_rests h more (Vote x) r = still_was h.genesis h.sent more (kinds.Accept x) r
+still_rests h more (Decided i c) r = still_chosen_at h.genesis h.sent more i c r
+
+-- ---- what is sent
+
+-- a datagram of the batch is a letter's
+letter_of : (n : ℕ) (letters : List LetterValue) (d : Datagram) → Contains (batch_of n letters) d → (l : LetterValue) × Contains letters l × (datagram_of n l ≡ d)
+letter_of n letters d c = map_contains (datagram_of n) letters d c
+
+module _ (genesis : Genesis) (n : ℕ) (new : NodeValue) (letters : List LetterValue) (is : new.header ≡ header_of genesis n)
+    (tells : (l : LetterValue) → Contains letters l → Tells new.header new.acceptor.state l) where
+  -- whatever a letter says, the acceptor covers
+  pub said_covered : (x : NodeMessage) (d : Datagram) → Contains (batch_of n letters) d → (k : ℕ) → Spells (said_by genesis k x) d.bytes → Covers new.acceptor.state x
+  said_covered x d c k said =
+      let l = letter_of n letters d c in
+      let t = tells l.0 l.1 in
+      subst (Covers new.acceptor.state)
+      (said_alike genesis n k t.message x d.bytes (subst (λ (e : Datagram). Spells (said_by genesis n t.message) e.bytes) l.2 (letter_spelled genesis n new.header t.message l.0.bytes is t.fits t.bytes)) said).1
+      t.covers
+
+  pub batch_covered : (k : ℕ) → CoversSent genesis (take k (batch_of n letters)) n new.acceptor.state
+  batch_covered k x sent = said_covered x sent.datagram (take_contains k (batch_of n letters) sent.datagram sent.listed) n sent.spelled
+
+-- ---- the call
+
+pub bound : (m : Meaning) (Heard : History → Type 0) (node new : NodeValue) (out : OutboxValue) → GoesOn m Heard node new nothing out → Binds node new out
+bound m Heard node new out g = g.binds node (record { header = refl; written = refl; unsynced = λ e. tt; tells = λ l c. absurd (omega (arith, c.1)) })
+
+module _ (m : Meaning) (h : History) (n : ℕ) (node new : NodeValue) (old store : StoreValue) (i : Input) (out : OutboxValue)
+    (f : NodeFits m h n (Stands m node old h.genesis n) (disks old)) (heard : InputFits h i) (g : GoesOn m (λ k. InputFits k i) node new nothing out) where
+  abbrev loose : List Entry
+  loose = f.shown.keeps.loose
+
+  pub serves : Serves m h n loose new out
+  serves = g.serves h n loose
+      (record {
+        lawful = f.lawful;
+        whose = f.shown.whose;
+        holding = f.holding;
+        held = f.shown.held;
+        fits = f.fits;
+        rests = tt;
+        known = f.shown.known;
+        news = λ e. tt;
+        may = λ d c. absurd (omega (arith, c.1));
+        noted = λ x c. absurd (omega (arith, c.1));
+      }) heard
+
+  -- after any exit of the put every image fits
+  pub put_leaves : KeepsAtLeast store f.shown.keeps.entries (plain loose ++ plain out.entries) → DisksFit m h n (disks store)
+  put_leaves keeps =
+      put_fits m h n old store f.shown.keeps.entries loose out.entries f.shown.keeps.holds keeps
+      (all_append (Rests h) loose out.entries (all_map (IsKnown f.holding.view) (Rests h) loose (known_rests h n f.holding.view f.fits.view) f.shown.known) serves.rests) f.left
+
+  -- these letters of it are sent
+  module _ (k : KeepsToo (header_of h.genesis n) store new.acceptor.state loose out.entries out.sync) (left : DisksFit m h n (disks store)) (sent : List LetterValue) (among : AreOf sent out.letters) where
+    tells : (l : LetterValue) → Contains sent l → Tells new.header new.acceptor.state l
+    tells l c = (bound m (λ k. InputFits k i) node new out g).tells l (among l c)
+
+    known : AllByRecursion (IsKnown serves.holding.view) k.keeps.loose
+    known = k.known serves.holding.view serves.known serves.news
+
+    entries : EntriesFit m h n k.keeps.entries
+    entries = held_fit m h n store k.keeps.entries (plain k.keeps.loose) k.keeps.holds left
+
+    remembers : acceptor_of entries.standing ≡ new.acceptor.state
+    remembers = ap acceptor_of (one_standing k.keeps.entries entries.standing k.keeps.standing entries.stands k.keeps.stands) ∙ k.keeps.remembers
+
+    sent_fit : (j : ℕ) → EntriesFit m (later h (take j (batch_of n sent))) n k.keeps.entries
+    sent_fit j = record {
+      standing = entries.standing;
+      header = entries.header;
+      stands = entries.stands;
+      under = entries.under;
+      position = entries.position;
+      snapshot = entries.snapshot;
+      covers = covers_both h.genesis h.sent (take j (batch_of n sent)) n (acceptor_of entries.standing) entries.covers
+          (subst (CoversSent h.genesis (take j (batch_of n sent)) n) (sym remembers) (batch_covered h.genesis n new sent serves.whose tells j));
+      stems = still_stems h.genesis h.sent (take j (batch_of n sent)) (view_of entries.standing entries.under) entries.stems;
+    }
+
+    loose_rest : (j : ℕ) → AllByRecursion (Rests (later h (take j (batch_of n sent)))) k.keeps.loose
+    loose_rest j = all_map (IsKnown serves.holding.view) (Rests (later h (take j (batch_of n sent)))) k.keeps.loose
+        (λ e is. still_rests h (take j (batch_of n sent)) e (known_rests h n serves.holding.view serves.fits.view e is)) known
+
+    pub put_goes : Goes m h n (Stands m new store h.genesis n) (disks store) out.notes (batch_of n sent)
+    put_goes = record {
+      holding = serves.holding;
+      shown = record { whose = serves.whose; keeps = k.keeps; known = known; held = serves.held };
+      fits = serves.fits;
+      may = λ d c. serves.may d (batch_among n sent out.letters among d c);
+      noted = serves.noted;
+      left = λ j. fit_disks m (later h (take j (batch_of n sent))) n store k.keeps.entries k.keeps.loose k.keeps.holds (loose_rest j) (sent_fit j);
+    }
+
+-- ---- sync before send, whatever has happened
+
+module _ (m : Meaning) (genesis : Genesis) (n : ℕ) (held : Holding) (node new : NodeValue) (old store : StoreValue) (Heard : History → Type 0) (out : OutboxValue)
+    (shown : Stands m node old genesis n held) (g : GoesOn m Heard node new nothing out) where
+  -- what was put the store keeps
+  pub step_keeps : (out.sync ≡ false → Holds store shown.keeps.entries (plain shown.keeps.loose ++ plain out.entries)) → (out.sync ≡ true → Holds store (shown.keeps.entries ++ (plain shown.keeps.loose ++ plain out.entries)) [])
+      → KeepsToo (header_of genesis n) store new.acceptor.state shown.keeps.loose out.entries out.sync
+  step_keeps added synced =
+      let b = bound m Heard node new out g in
+      put_keeps (header_of genesis n) old store node.acceptor.state new.acceptor.state out.entries out.sync shown.keeps b.written b.unsynced added synced
+
+  pub step_syncs : (k : Keeps (header_of genesis n) store new.acceptor.state) (x : NodeMessage) (d : Datagram) → Contains (batch_of n out.letters) d → Spells (said_by genesis n x) d.bytes
+      → AllCover m genesis n (disks store) x
+  step_syncs k x d c said =
+      let b = bound m Heard node new out g in
+      cover_disks m genesis n store k.entries k.loose x k.holds
+      (k.header, (k.standing, k.stands, subst (λ (a : AcceptorState). Covers a x) (sym k.remembers) (said_covered genesis n new out.letters (b.header ∙ shown.whose) b.tells x d c n said)))
+
+  pub step_covers : KeepsAtLeast store shown.keeps.entries (plain shown.keeps.loose ++ plain out.entries) → (x : NodeMessage) → AllCover m genesis n (disks old) x → AllCover m genesis n (disks store) x
+  step_covers keeps x c = put_covers m genesis n old store shown.keeps.entries shown.keeps.loose out.entries x shown.keeps.holds keeps c

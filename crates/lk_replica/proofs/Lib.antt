@@ -1,0 +1,11 @@
+mod Revivals
+mod Adding
+mod Images
+mod Standings
+mod Ordered
+mod NoSend
+mod Thinning
+mod Going
+pub mod Replicas
+mod Rerunning
+mod Restoring

@@ -1,0 +1,99 @@
+use Rattle.std.proofs.Common.{◌≡◌, List, ℕ, [], inr, Err, ◌∙◌, ap, subst, sym}
+use Rattle.lk_types.specs.Geneses.{IsGenesis}
+use Rattle.lk_log.specs.Images.{seen}
+use Rattle.lk_log.specs.StoreValue.{disks}
+use Rattle.lk_log.specs.Stores.{Opens}
+use Rattle.lk_log.specs.Values.{HeaderValue}
+use Rattle.lk_state.specs.Meanings.{Meaning, meaning, KeepsTexts}
+use Rattle.lk_replica.specs.Faults.{fault_number}
+use Rattle.lk_replica.specs.declared.fault.ReplicaFault.{ReplicaFault}
+use Rattle.lk_replica.specs.declared.fault.ReplicaFault.TheVariants as fault
+use Rattle.lk_node.specs.Histories.{Genesis}
+use Rattle.lk_node.specs.Leavings.{DisksFit, AllCover}
+use Rattle.lk_replica.specs.Revivals.{Restores}
+use Rattle.lk_node.specs.Served.{text}
+use Rattle.lk_replica.proofs.Revivals.{revived_goes, began, own_header, opened, opening_fits_as, opening_covers_as, given_fit, given_cover, wrong_only, damaged_only}
+use Rattle.lk_replica.proofs.replica.Replica.revive.Goals as goal
+
+pub returns-in-Ok-restored-clause-up : goal.returns-in-Ok-restored-clause-up
+returns-in-Ok-restored-clause-up g c honest h n is lawful before =
+    let m : Meaning = meaning g.M.Machine.first g.M.Machine.next g.M.Machine.answer in
+    let keeps : KeepsTexts g.M.Machine.IsText m = record { first = g.met.M.Machine.first_is_text; next = g.met.M.Machine.next_is_text; answer = g.met.M.Machine.answer_is_answer } in
+    let same = began c.genesis-2.result.now h.genesis c.args.header.now n c.genesis-2.ensures.cluster c.genesis-2.ensures.alpha c.genesis-2.ensures.members is in
+    let fits = subst IsGenesis (began c.genesis.result.now h.genesis c.args.header.now n c.genesis.ensures.cluster c.genesis.ensures.alpha c.genesis.ensures.members is) c.facts.ensures in
+    let begins : c.as_slice.result.now ≡ text m h.genesis [] = c.as_slice.ensures ∙ c.in-Ok.ensures.text ∙ ap (λ (k : Genesis). text m k []) same in
+    let old = g.D.LogDisk.disk c.args.device in
+    let after : DisksFit m h n (disks c.in-Ok-reopen.store) = opening_fits_as m h n c.args.header.now c.as_slice.result.now is begins old (disks c.in-Ok-reopen.store) (c.in-Ok-reopen.ensures.stays honest) before in
+    revived_goes m g.M.Machine.IsText keeps h n old c.in-Ok-reopen.store c.in-Ok-reopen.standing c.in-Ok-restored.node c.in-Ok-restored.notes.items lawful fits
+    (opened m h.genesis n c.args.header.now c.as_slice.result.now is begins old c.in-Ok-reopen.store c.in-Ok-reopen.standing (c.in-Ok-reopen.ensures.ok honest))
+    (subst (λ (w : HeaderValue). Restores m g.M.Machine.IsText w c.in-Ok-reopen.standing c.in-Ok-restored.node c.in-Ok-restored.notes.items) is c.in-Ok-restored.ensures.restores) before after
+
+pub returns-in-Ok-restored-clause-covers : goal.returns-in-Ok-restored-clause-covers
+returns-in-Ok-restored-clause-covers g c honest genesis n x is every =
+    let m : Meaning = meaning g.M.Machine.first g.M.Machine.next g.M.Machine.answer in
+    let same = began c.genesis-2.result.now genesis c.args.header.now n c.genesis-2.ensures.cluster c.genesis-2.ensures.alpha c.genesis-2.ensures.members is in
+    let begins : c.as_slice.result.now ≡ text m genesis [] = c.as_slice.ensures ∙ c.in-Ok.ensures.text ∙ ap (λ (k : Genesis). text m k []) same in
+    opening_covers_as m genesis n c.args.header.now c.as_slice.result.now is begins (g.D.LogDisk.disk c.args.device) (disks c.in-Ok-reopen.store) x (c.in-Ok-reopen.ensures.stays honest) every
+
+pub returns-in-Ok-restored-clause-exact : goal.returns-in-Ok-restored-clause-exact
+returns-in-Ok-restored-clause-exact g c honest =
+    let m : Meaning = meaning g.M.Machine.first g.M.Machine.next g.M.Machine.answer in
+    let own = own_header c.genesis-2.result.now c.args.header.now c.genesis-2.ensures.cluster c.genesis-2.ensures.alpha c.genesis-2.ensures.members in
+    let begins : c.as_slice.result.now ≡ text m c.genesis-2.result.now [] = c.as_slice.ensures ∙ c.in-Ok.ensures.text in
+    record {
+      genesis = c.genesis-2.result.now;
+      began = own;
+      standing = c.in-Ok-reopen.standing;
+      opens = subst (λ (t : List ℕ). Opens (seen (g.D.LogDisk.disk c.args.device)) c.args.header.now t c.in-Ok-reopen.store c.in-Ok-reopen.standing) begins (c.in-Ok-reopen.ensures.ok honest);
+      restores = c.in-Ok-restored.ensures.restores;
+    }
+
+pub returns-in-Ok-reopen-clause-down : goal.returns-in-Ok-reopen-clause-down
+returns-in-Ok-reopen-clause-down g c honest h n is lawful before =
+    let m : Meaning = meaning g.M.Machine.first g.M.Machine.next g.M.Machine.answer in
+    let same = began c.genesis-2.result.now h.genesis c.args.header.now n c.genesis-2.ensures.cluster c.genesis-2.ensures.alpha c.genesis-2.ensures.members is in
+    let begins : c.as_slice.result.now ≡ text m h.genesis [] = c.as_slice.ensures ∙ c.in-Ok.ensures.text ∙ ap (λ (k : Genesis). text m k []) same in
+    let after : DisksFit m h n (disks c.in-Ok-reopen.store) =
+    opening_fits_as m h n c.args.header.now c.as_slice.result.now is begins (g.D.LogDisk.disk c.args.device) (disks c.in-Ok-reopen.store) (c.in-Ok-reopen.ensures.stays honest) before in
+    given_fit m h n c.in-Ok-reopen.store (g.D.LogDisk.disk c.into_disks.result) c.into_disks.ensures.live_disk c.into_disks.ensures.other_disk after
+
+pub returns-in-Ok-reopen-clause-covers_err : goal.returns-in-Ok-reopen-clause-covers_err
+returns-in-Ok-reopen-clause-covers_err g c honest genesis n x is every =
+    let m : Meaning = meaning g.M.Machine.first g.M.Machine.next g.M.Machine.answer in
+    let same = began c.genesis-2.result.now genesis c.args.header.now n c.genesis-2.ensures.cluster c.genesis-2.ensures.alpha c.genesis-2.ensures.members is in
+    let begins : c.as_slice.result.now ≡ text m genesis [] = c.as_slice.ensures ∙ c.in-Ok.ensures.text ∙ ap (λ (k : Genesis). text m k []) same in
+    let after : AllCover m genesis n (disks c.in-Ok-reopen.store) x =
+    opening_covers_as m genesis n c.args.header.now c.as_slice.result.now is begins (g.D.LogDisk.disk c.args.device) (disks c.in-Ok-reopen.store) x (c.in-Ok-reopen.ensures.stays honest) every in
+    given_cover m genesis n x c.in-Ok-reopen.store (g.D.LogDisk.disk c.into_disks.result) c.into_disks.ensures.live_disk c.into_disks.ensures.other_disk after
+
+pub returns-in-Ok-reopen-clause-damaged : goal.returns-in-Ok-reopen-clause-damaged
+returns-in-Ok-reopen-clause-damaged g c honest nine =
+    let m : Meaning = meaning g.M.Machine.first g.M.Machine.next g.M.Machine.answer in
+    let begins : c.as_slice.result.now ≡ text m c.genesis-2.result.now [] = c.as_slice.ensures ∙ c.in-Ok.ensures.text in
+    let o : Opens (seen (g.D.LogDisk.disk c.args.device)) c.args.header.now (text m c.genesis-2.result.now []) c.in-Ok-reopen.store c.in-Ok-reopen.standing =
+    subst (λ (t : List ℕ). Opens (seen (g.D.LogDisk.disk c.args.device)) c.args.header.now t c.in-Ok-reopen.store c.in-Ok-reopen.standing) begins (c.in-Ok-reopen.ensures.ok honest) in
+    let damaged : c.in-Err-restored.fault ≡ fault.Damaged = damaged_only c.in-Err-restored.fault c.in-Err-restored.ensures.only nine in
+    inr (record {
+      genesis = c.genesis-2.result.now;
+      began = own_header c.genesis-2.result.now c.args.header.now c.genesis-2.ensures.cluster c.genesis-2.ensures.alpha c.genesis-2.ensures.members;
+      standing = c.in-Ok-reopen.standing;
+      stands = record { entries = o.entries; found = o.found; header = o.header; stands = o.stands };
+      none = c.in-Err-restored.ensures.damaged (ap (λ (f : ReplicaFault). Err f) damaged);
+    })
+
+pub returns-clause-down : goal.returns-clause-down
+returns-clause-down g c honest h n is lawful before =
+    let m : Meaning = meaning g.M.Machine.first g.M.Machine.next g.M.Machine.answer in
+    let same = began c.genesis-2.result.now h.genesis c.args.header.now n c.genesis-2.ensures.cluster c.genesis-2.ensures.alpha c.genesis-2.ensures.members is in
+    let begins : c.as_slice.result.now ≡ text m h.genesis [] = c.as_slice.ensures ∙ c.in-Ok.ensures.text ∙ ap (λ (k : Genesis). text m k []) same in
+    opening_fits_as m h n c.args.header.now c.as_slice.result.now is begins (g.D.LogDisk.disk c.args.device) (g.D.LogDisk.disk c.in-Err.e.device) (c.in-Err.ensures.stays_err honest) before
+
+pub returns-clause-covers_err : goal.returns-clause-covers_err
+returns-clause-covers_err g c honest genesis n x is every =
+    let m : Meaning = meaning g.M.Machine.first g.M.Machine.next g.M.Machine.answer in
+    let same = began c.genesis-2.result.now genesis c.args.header.now n c.genesis-2.ensures.cluster c.genesis-2.ensures.alpha c.genesis-2.ensures.members is in
+    let begins : c.as_slice.result.now ≡ text m genesis [] = c.as_slice.ensures ∙ c.in-Ok.ensures.text ∙ ap (λ (k : Genesis). text m k []) same in
+    opening_covers_as m genesis n c.args.header.now c.as_slice.result.now is begins (g.D.LogDisk.disk c.args.device) (g.D.LogDisk.disk c.in-Err.e.device) x (c.in-Err.ensures.stays_err honest) every
+
+pub returns-clause-wrong : goal.returns-clause-wrong
+returns-clause-wrong g c honest ten = c.in-Err.ensures.wrong honest (wrong_only c.in-Err.e.fault (sym (ap fault_number c.from.ensures) ∙ ten))

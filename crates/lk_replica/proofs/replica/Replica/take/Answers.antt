@@ -1,0 +1,128 @@
+use Rattle.std.proofs.Common.{◌≡◌, List, ◌++◌, Contains, sym, ◌∙◌, ap, subst}
+use Rattle.lk_log.specs.StoreValue.{disks}
+use Rattle.lk_state.specs.Meanings.{meaning}
+use Rattle.lk_node.specs.Calls.{NodeFits, Goes}
+use Rattle.lk_node.specs.Keeping.{Stands}
+use Rattle.lk_node.specs.Leavings.{AllCover}
+use Rattle.lk_node.specs.Letters.{LetterValue, batch_of}
+use Rattle.lk_replica.specs.Posts.{SendsSome}
+use Rattle.lk_replica.specs.ReplicaValue.{ReplicaValue}
+use Rattle.lk_node.specs.Outboxes.{OutboxValue}
+use Rattle.lk_node.specs.Steps.{Steps}
+use Rattle.lk_replica.specs.Taking.{Puts}
+use Rattle.lk_node.specs.declared.note.Note.{Note}
+use Rattle.lk_replica.proofs.Thinning.{thins_are_of, batch_among}
+use Rattle.lk_replica.proofs.replica.Replica.take.Goals as goal
+
+pub returns-in-Ok-clause-goes : goal.returns-in-Ok-clause-goes
+returns-in-Ok-clause-goes g c honest telling h n f heard =
+    let m = meaning g.M.Machine.first g.M.Machine.next g.M.Machine.answer in
+    let fits : NodeFits m h n (Stands m c.self.inside.node c.self.inside.store h.genesis n) (disks c.self.inside.store) =
+    subst (λ (r : ReplicaValue). NodeFits m h n (Stands m r.node r.store h.genesis n) (disks r.store)) (sym c.self.view_is) f in
+    let letters : c.in_ok-outbox.outbox.letters ≡ c.deref.result.now = sym (c.deref.ensures.value ∙ ap (λ (o : OutboxValue). o.letters) c.outbox.view_is) in (
+      c.deref.result.now,
+      c.in-Ok.ensures.all telling,
+      subst (λ (notes : List Note). Goes m h n (Stands m c.write.new.node c.write.new.store h.genesis n) (disks c.write.new.store) notes (batch_of n c.deref.result.now)) (sym (ap (λ (o : OutboxValue). o.notes) c.outbox.view_is))
+          (subst (λ (sent : List LetterValue). Goes m h n (Stands m c.write.new.node c.write.new.store h.genesis n) (disks c.write.new.store) c.in_ok-outbox.outbox.notes (batch_of n sent)) letters
+          (c.in_ok-outbox.ensures.goes honest h n fits heard c.in_ok-outbox.outbox.letters (λ l listed. listed))),
+    )
+
+pub returns-clause-sends : goal.returns-clause-sends
+returns-clause-sends g c honest telling h n f heard =
+    let m = meaning g.M.Machine.first g.M.Machine.next g.M.Machine.answer in
+    let fits : NodeFits m h n (Stands m c.self.inside.node c.self.inside.store h.genesis n) (disks c.self.inside.store) =
+    subst (λ (r : ReplicaValue). NodeFits m h n (Stands m r.node r.store h.genesis n) (disks r.store)) (sym c.self.view_is) f in
+    let letters : c.deref.result.now ≡ c.in_ok-outbox.outbox.letters = c.deref.ensures.value ∙ ap (λ (o : OutboxValue). o.letters) c.outbox.view_is in
+    let kept = c.in-Err.ensures.some telling in (
+      kept.0,
+      kept.2,
+      subst (λ (notes : List Note). Goes m h n (Stands m c.write.new.node c.write.new.store h.genesis n) (disks c.write.new.store) notes (batch_of n kept.0)) (sym (ap (λ (o : OutboxValue). o.notes) c.outbox.view_is))
+          (c.in_ok-outbox.ensures.goes honest h n fits heard kept.0 (subst (λ (all : List LetterValue). (l : LetterValue) → Contains kept.0 l → Contains all l) letters (thins_are_of c.deref.result.now kept.0 kept.1))),
+    )
+
+pub returns-clause-ends : goal.returns-clause-ends
+returns-clause-ends g c honest h n f heard =
+    let m = meaning g.M.Machine.first g.M.Machine.next g.M.Machine.answer in
+    c.write.ensures.ends honest h n (subst (λ (r : ReplicaValue). NodeFits m h n (Stands m r.node r.store h.genesis n) (disks r.store)) (sym c.self.view_is) f) heard
+
+pub returns-in_err-outbox-clause-ends : goal.returns-in_err-outbox-clause-ends
+returns-in_err-outbox-clause-ends g c honest h n f heard =
+    let m = meaning g.M.Machine.first g.M.Machine.next g.M.Machine.answer in
+    c.write.ensures.ends honest h n (subst (λ (r : ReplicaValue). NodeFits m h n (Stands m r.node r.store h.genesis n) (disks r.store)) (sym c.self.view_is) f) heard
+
+pub returns-in-Ok-clause-ends : goal.returns-in-Ok-clause-ends
+returns-in-Ok-clause-ends g c honest h n f heard =
+    let m = meaning g.M.Machine.first g.M.Machine.next g.M.Machine.answer in
+    c.write.ensures.ends honest h n (subst (λ (r : ReplicaValue). NodeFits m h n (Stands m r.node r.store h.genesis n) (disks r.store)) (sym c.self.view_is) f) heard
+
+pub returns-in_err-outbox-clause-covers : goal.returns-in_err-outbox-clause-covers
+returns-in_err-outbox-clause-covers g c honest genesis n held x shown every =
+    let m = meaning g.M.Machine.first g.M.Machine.next g.M.Machine.answer in
+    c.write.ensures.covers honest genesis n held x (subst (λ (r : ReplicaValue). Stands m r.node r.store genesis n held) (sym c.self.view_is) shown)
+    (subst (λ (r : ReplicaValue). AllCover m genesis n (disks r.store) x) (sym c.self.view_is) every)
+
+pub returns-in-Ok-clause-covers : goal.returns-in-Ok-clause-covers
+returns-in-Ok-clause-covers g c honest genesis n held x shown every =
+    let m = meaning g.M.Machine.first g.M.Machine.next g.M.Machine.answer in
+    c.write.ensures.covers honest genesis n held x (subst (λ (r : ReplicaValue). Stands m r.node r.store genesis n held) (sym c.self.view_is) shown)
+    (subst (λ (r : ReplicaValue). AllCover m genesis n (disks r.store) x) (sym c.self.view_is) every)
+
+pub returns-clause-covers : goal.returns-clause-covers
+returns-clause-covers g c honest genesis n held x shown every =
+    let m = meaning g.M.Machine.first g.M.Machine.next g.M.Machine.answer in
+    c.write.ensures.covers honest genesis n held x (subst (λ (r : ReplicaValue). Stands m r.node r.store genesis n held) (sym c.self.view_is) shown)
+    (subst (λ (r : ReplicaValue). AllCover m genesis n (disks r.store) x) (sym c.self.view_is) every)
+
+pub returns-in-Ok-clause-syncs : goal.returns-in-Ok-clause-syncs
+returns-in-Ok-clause-syncs g c honest telling genesis n held x shown =
+    let m = meaning g.M.Machine.first g.M.Machine.next g.M.Machine.answer in
+    let letters : c.deref.result.now ≡ c.in_ok-outbox.outbox.letters = c.deref.ensures.value ∙ ap (λ (o : OutboxValue). o.letters) c.outbox.view_is in (
+      c.deref.result.now,
+      c.in-Ok.ensures.all telling,
+      λ d listed said. c.in_ok-outbox.ensures.syncs honest genesis n held x (subst (λ (r : ReplicaValue). Stands m r.node r.store genesis n held) (sym c.self.view_is) shown) d (subst (λ (ls : List LetterValue). Contains (batch_of n ls) d) letters listed) said,
+    )
+
+pub returns-clause-syncs : goal.returns-clause-syncs
+returns-clause-syncs g c honest telling genesis n held x shown =
+    let m = meaning g.M.Machine.first g.M.Machine.next g.M.Machine.answer in
+    let letters : c.deref.result.now ≡ c.in_ok-outbox.outbox.letters = c.deref.ensures.value ∙ ap (λ (o : OutboxValue). o.letters) c.outbox.view_is in
+    let kept = c.in-Err.ensures.some telling in (
+      kept.0,
+      kept.2,
+      λ d listed said. c.in_ok-outbox.ensures.syncs honest genesis n held x (subst (λ (r : ReplicaValue). Stands m r.node r.store genesis n held) (sym c.self.view_is) shown) d
+          (subst (λ (ls : List LetterValue). Contains (batch_of n ls) d) letters (batch_among n kept.0 c.deref.result.now (thins_are_of c.deref.result.now kept.0 kept.1) d listed)) said,
+    )
+
+pub returns-in-Ok-clause-exact : goal.returns-in-Ok-clause-exact
+returns-in-Ok-clause-exact g c honest telling =
+    let letters : c.deref.result.now ≡ c.in_ok-outbox.outbox.letters = c.deref.ensures.value ∙ ap (λ (o : OutboxValue). o.letters) c.outbox.view_is in
+    record {
+      out = c.in_ok-outbox.outbox;
+      steps = subst (λ (r : ReplicaValue). Steps (meaning g.M.Machine.first g.M.Machine.next g.M.Machine.answer) r.node c.args.input c.write.new.node c.in_ok-outbox.outbox) c.self.view_is c.in_ok-outbox.ensures.steps;
+      puts = subst (λ (r : ReplicaValue). Puts r.store c.in_ok-outbox.outbox c.write.new.store) c.self.view_is (c.in_ok-outbox.ensures.puts honest);
+      noted = ap (λ (o : OutboxValue). o.notes) c.outbox.view_is;
+      sent = c.in-Ok.ensures.all telling ∙ ap (λ (ls : List LetterValue). g.P.Post.sent c.args.post.now ++ ls) letters;
+    }
+
+pub returns-clause-exact_send : goal.returns-clause-exact_send
+returns-clause-exact_send g c honest telling =
+    let letters : c.deref.result.now ≡ c.in_ok-outbox.outbox.letters = c.deref.ensures.value ∙ ap (λ (o : OutboxValue). o.letters) c.outbox.view_is in
+    record {
+      out = c.in_ok-outbox.outbox;
+      steps = subst (λ (r : ReplicaValue). Steps (meaning g.M.Machine.first g.M.Machine.next g.M.Machine.answer) r.node c.args.input c.write.new.node c.in_ok-outbox.outbox) c.self.view_is c.in_ok-outbox.ensures.steps;
+      puts = subst (λ (r : ReplicaValue). Puts r.store c.in_ok-outbox.outbox c.write.new.store) c.self.view_is (c.in_ok-outbox.ensures.puts honest);
+      noted = ap (λ (o : OutboxValue). o.notes) c.outbox.view_is;
+      sent = subst (λ (ls : List LetterValue). SendsSome ls (g.P.Post.sent c.args.post.now) (g.P.Post.sent c.deliver.new.post)) letters (c.in-Err.ensures.some telling);
+    }
+
+pub invariant_of-self-in-Ok : goal.invariant_of-self-in-Ok
+invariant_of-self-in-Ok g c lives = c.in_ok-outbox.ensures.runs (c.self.invariant c.if-self.false)
+
+pub returns-in-Ok-clause-runs : goal.returns-in-Ok-clause-runs
+returns-in-Ok-clause-runs g c = c.in_ok-outbox.ensures.runs (c.self.invariant c.if-self.false)
+
+pub invariant_of-self-2 : goal.invariant_of-self-2
+invariant_of-self-2 g c lives = c.in_ok-outbox.ensures.runs (c.self.invariant c.if-self.false)
+
+pub returns-clause-runs_on : goal.returns-clause-runs_on
+returns-clause-runs_on g c = c.in_ok-outbox.ensures.runs (c.self.invariant c.if-self.false)

@@ -1,0 +1,6 @@
+pub mod Faults
+pub mod Taking
+pub mod Revivals
+pub mod ReplicaValue
+pub mod Posts
+pub mod Behaviours

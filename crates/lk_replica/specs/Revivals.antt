@@ -1,0 +1,112 @@
+-- What a revival makes of what a store stands for.
+use Rattle.std.specs.Prelude.{◌≡◌, ℕ, ◌⊎◌, ◌+◌, ◌-◌, ◌*◌, ◌^◌, ◌≤◌, ◌==◌, min, if◌then◌else◌, false, None, Result, Ok, Err, List, [], ◌∷◌, length, drop, Contains}
+use Rattle.lk_types.specs.declared.vote.Vote.{Vote}
+use Rattle.lk_disk.specs.Disk.{Disk}
+use Rattle.lk_disk.specs.Memory.{Memory, disk_of}
+use Rattle.lk_disk.specs.declared.device.Side.{Side}
+use Rattle.lk_log.specs.Images.{IsDamaged, seen}
+use Rattle.lk_log.specs.Stores.{IsWrong, Opens}
+use Rattle.lk_log.specs.Values.{HeaderValue, StandingValue}
+use Rattle.lk_state.specs.Meanings.{Meaning}
+use Rattle.lk_state.specs.Packed.{Packs}
+use Rattle.lk_state.specs.Runs.{ran}
+use Rattle.lk_state.specs.States.{WholeValue}
+use Rattle.lk_leader.specs.Terms.{idle}
+use Rattle.lk_learner.specs.Learners.{Pair, LearnerValue}
+use Rattle.lk_node.specs.Histories.{Genesis, Command}
+use Rattle.lk_node.specs.Leavings.{header_of, acceptor_of, StandsAs}
+use Rattle.lk_node.specs.NodeValue.{NodeValue}
+use Rattle.lk_replica.specs.ReplicaValue.{ReplicaValue}
+use Rattle.lk_node.specs.Served.{text}
+use Rattle.lk_node.specs.declared.note.Note.{Note}
+use Rattle.lk_node.specs.declared.note.Note.TheVariants.{Ran}
+
+-- the commands of the pairs from the next position on, up to the first gap
+abbrev pub run_from : ℕ → List Pair → List Command
+run_from e [] = []
+run_from e (p ∷ ps) = if p.0 == e + 1 then p.1 ∷ run_from (e + 1) ps else []
+
+-- what stands once these commands were run
+abbrev pub all_ran : Meaning → List Command → WholeValue → WholeValue
+all_ran m [] w = w
+all_ran m (v ∷ vs) w = all_ran m vs (ran m v w)
+
+-- the notes that they were run, where so many positions were executed before
+abbrev pub notes_of : ℕ → ℕ → List Command → List Note
+notes_of n e [] = []
+notes_of n e (v ∷ vs) = Ran n (e + 1) v ∷ notes_of n (e + 1) vs
+
+-- the learner that stands on this state, has learned of these pairs, and has run what it could
+abbrev pub relearned : Meaning → WholeValue → List Pair → LearnerValue
+relearned m w pairs = record {
+  whole = all_ran m (run_from w.roster.executed pairs) w;
+  snapshot_position = w.roster.executed;
+  served = run_from w.roster.executed pairs;
+  pairs = drop (length (run_from w.roster.executed pairs)) pairs;
+  gathered = None;
+}
+
+-- how many positions are executed once it has
+abbrev pub reached : ℕ → List Pair → ℕ
+reached e pairs = e + length (run_from e pairs)
+
+-- the snapshot is the packed text of a state at its position, of this alpha
+pub record Unpacks (IsText : List ℕ → Type 0) (alpha position : ℕ) (snapshot : List ℕ) (w : WholeValue) : Type 0 where
+  pub packs : Packs IsText w snapshot
+  pub executed : w.roster.executed ≡ position
+  pub sets : length w.roster.sets ≡ alpha
+
+-- the standing may be revived: its snapshot unpacks, and no vote or pair lies more than twice alpha above what is then executed
+pub record MayRevive (IsText : List ℕ → Type 0) (whose : HeaderValue) (s : StandingValue) (w : WholeValue) : Type 0 where
+  pub unpacks : Unpacks IsText whose.alpha s.position s.snapshot w
+  pub votes : (v : Vote) → Contains s.votes v → v.position ≤ reached s.position s.pairs + 2 * whose.alpha
+  pub pairs : (p : Pair) → Contains s.pairs p → p.0 ≤ reached s.position s.pairs + 2 * whose.alpha
+
+-- the node that comes of it
+abbrev pub revived : Meaning → HeaderValue → StandingValue → WholeValue → NodeValue
+revived m whose s w = record {
+  header = whose;
+  acceptor = record { alpha = whose.alpha; state = acceptor_of s };
+  learner = relearned m w s.pairs;
+  leader = idle;
+  ticks = 0;
+  rounds = 0;
+  known = None;
+  halted = false;
+}
+
+-- the standing is revived as this node, with these notes
+pub record Restores (m : Meaning) (IsText : List ℕ → Type 0) (whose : HeaderValue) (s : StandingValue) (node : NodeValue) (notes : List Note) : Type 0 where
+  pub whole : WholeValue
+  pub may : MayRevive IsText whose s whole
+  pub only : (w : WholeValue) → Packs IsText w s.snapshot → whole ≡ w
+  pub node_is : node ≡ revived m whose s whole
+  pub notes_are : notes ≡ notes_of whose.node s.position (run_from s.position s.pairs)
+
+-- what these disks stand for, or a store that is begun there, is revived as this replica, with these notes
+pub record Revives (m : Meaning) (IsText : List ℕ → Type 0) (disks : Side → Disk) (whose : HeaderValue) (r : ReplicaValue) (notes : List Note) : Type 0 where
+  pub genesis : Genesis
+  pub began : whose ≡ header_of genesis whose.node
+  pub standing : StandingValue
+  pub opens : Opens (seen disks) whose (text m genesis []) r.store standing
+  pub restores : Restores m IsText whose standing r.node notes
+
+-- what these disks stand for may not be revived
+pub record NoneRevives (m : Meaning) (IsText : List ℕ → Type 0) (disks : Side → Disk) (whose : HeaderValue) : Type 0 where
+  pub genesis : Genesis
+  pub began : whose ≡ header_of genesis whose.node
+  pub standing : StandingValue
+  pub stands : StandsAs whose (text m genesis []) (seen disks) standing
+  pub none : (w : WholeValue) → MayRevive IsText whose standing w → ⊥
+
+-- a revival was refused with the fault of this number, for its cause, and left that device
+pub record IsNotRevived (m : Meaning) (IsText : List ℕ → Type 0) (device : Memory) (whose : HeaderValue) (number : ℕ) (left : Memory) : Type 0 where
+  pub device_failed : number ≡ 7 → min (device.failures + 1) (2 ^ 64 - 1) ≤ left.failures
+  pub damaged : number ≡ 9 → IsDamaged (seen (disk_of device)) ⊎ NoneRevives m IsText (disk_of device) whose
+  pub wrong : number ≡ 10 → IsWrong (seen (disk_of device)) whose
+  pub only : (7 ≤ number) × (number ≤ 10)
+
+-- what a revival came to
+abbrev pub RevivesTo : Meaning → (List ℕ → Type 0) → Memory → HeaderValue → Result (ReplicaValue × List Note) (ℕ × Memory) → Type 0
+RevivesTo m IsText device whose (Ok came) = Revives m IsText (disk_of device) whose came.0 came.1
+RevivesTo m IsText device whose (Err left) = IsNotRevived m IsText device whose left.0 left.1

@@ -1,0 +1,47 @@
+-- What a call of a replica has done that was not refused: that and nothing else.
+use Rattle.std.specs.Prelude.{◌≡◌, ℕ, ◌+◌, ◌-◌, ◌^◌, ◌≤◌, min, true, false, Option, Result, Ok, Err, List, [], ◌++◌}
+use Rattle.lk_log.specs.StoreValue.{StoreValue}
+use Rattle.lk_log.specs.Stores.{plain, Holds}
+use Rattle.lk_state.specs.Meanings.{Meaning}
+use Rattle.lk_log.specs.declared.stored.Stored.{Stored}
+use Rattle.lk_node.specs.Calls.{heard_by}
+use Rattle.lk_node.specs.Histories.{Datagram}
+use Rattle.lk_node.specs.Letters.{LetterValue, batch_of}
+use Rattle.lk_replica.specs.ReplicaValue.{ReplicaValue}
+use Rattle.lk_node.specs.Outboxes.{OutboxValue}
+use Rattle.lk_node.specs.Steps.{Steps}
+use Rattle.lk_node.specs.declared.input.Input.{Input}
+use Rattle.lk_node.specs.declared.note.Note.{Note}
+
+-- the outbox's entries stand behind what the store held, and all of it is synced where the outbox says so
+abbrev pub Puts : StoreValue → OutboxValue → StoreValue → Type 0
+Puts old out new = (ks ls : List Stored) → Holds old ks ls
+    → (out.sync ≡ false → Holds new ks (ls ++ plain out.entries)) × (out.sync ≡ true → Holds new (ks ++ (ls ++ plain out.entries)) [])
+
+-- the replica has taken a step, put the outbox's entries, given its notes, and sent its letters
+pub record IsTaken (m : Meaning) (old : ReplicaValue) (i : Input) (new : ReplicaValue) (notes : List Note) (Sends : List LetterValue → Type 0) : Type 0 where
+  pub out : OutboxValue
+  pub steps : Steps m old.node i new.node out
+  pub puts : Puts old.store out new.store
+  pub noted : notes ≡ out.notes
+  pub sent : Sends out.letters
+
+-- a call was refused with the fault of this number, for its cause: 7 only where the device has failed once more, 11 only behind an
+-- earlier refusal, behind which there is no other
+pub record IsRefused (old new : ReplicaValue) (number : ℕ) : Type 0 where
+  pub device : number ≡ 7 → min (old.store.failures + 1) (2 ^ 64 - 1) ≤ new.store.failures
+  pub earlier : number ≡ 11 → old.failed ≡ false → old.store.failed ≡ false → ⊥
+  pub once : old.failed ≡ true → (number ≡ 11) × (new ≡ old)
+
+-- the replica was given this, and sent these datagrams of its node
+pub record IsTakenAs (m : Meaning) (old : ReplicaValue) (bytes : Option (List ℕ)) (new : ReplicaValue) (notes : List Note) (sent : List Datagram) : Type 0 where
+  pub input : Input
+  pub given : heard_by input ≡ bytes
+  pub letters : List LetterValue
+  pub batch : sent ≡ batch_of old.node.header.node letters
+  pub taken : IsTaken m old input new notes (λ ls. ls ≡ letters)
+
+-- what a call came to
+abbrev pub ComesTo : Meaning → ReplicaValue → Option (List ℕ) → ReplicaValue → Result (List Note × List Datagram) ℕ → Type 0
+ComesTo m old bytes new (Ok told) = IsTakenAs m old bytes new told.0 told.1
+ComesTo m old bytes new (Err number) = IsRefused old new number

@@ -1,0 +1,107 @@
+// A post that keeps what is sent.
+ghost use Rattle.std.specs.Prelude.{◌≡◌, ◌∷◌, ◌++◌, [], IfOk, OnOk, OnErr};
+ghost use Rattle.lk_node.specs.Letters.{LetterValue, party_of, datagram_of, batch_of};
+
+use crate::datagram::Datagram;
+use crate::post::{Post, SendFault};
+use lk_history::Party;
+use lk_node::{Letter, To};
+use lk_types::{NoMemory, NodeNo};
+use std::alloc::Global;
+use std::marker::Model;
+
+/// The letters that were sent, in order, and how often memory was refused for one.
+#[derive(Drop)]
+pub struct Collected {
+    alloc: Global,
+    letters: Vec<Letter>,
+    failures: u64,
+}
+
+impl Model for Collected {
+    ghost use Rattle.lk_replica.specs.Posts.{CollectedValue};
+
+    ghost Value = { CollectedValue };
+
+    ghost view = { λ c. record { letters = c.letters.items; failures = c.failures } };
+}
+
+impl Post for Collected {
+    ghost sent = { λ c. c.letters };
+
+    ghost is_telling = { Unit {0} };
+
+    ghost failures = { λ c. c.failures };
+
+    fn send(&mut self, to: To, bytes: &[u8]) -> Result<(), SendFault> {
+        match self.keep(to, bytes) {
+            Ok(()) => Ok(()),
+            Err(NoMemory) => {
+                self.failures = self.failures.saturating_add(1);
+                Err(SendFault)
+            }
+        }
+    }
+}
+
+// For whom a letter is bound, without its port.
+fn party_of(to: To) -> Party
+    ensures { result ≡ party_of to }
+{
+    match to {
+        To::Node(node, _) => Party::Node(node),
+        To::Client(client) => Party::Client(client),
+    }
+}
+
+// The datagram that a letter of the node is.
+fn datagram_of(node: NodeNo, letter: Letter) -> Datagram
+    ensures { result ≡ datagram_of node letter }
+{
+    let Letter { to, bytes } = letter;
+    Datagram {
+        from: Party::Node(node),
+        to: party_of(to),
+        bytes,
+    }
+}
+
+impl Collected {
+    /// Nothing was sent.
+    pub fn new(alloc: Global) -> Collected
+        ensures { result ≡ record { letters = []; failures = 0 } }
+    {
+        Collected {
+            alloc,
+            letters: Vec::new(alloc),
+            failures: 0,
+        }
+    }
+
+    // One more letter.
+    fn keep(&mut self, to: To, bytes: &[u8]) -> Result<(), NoMemory>
+        ensures ok { OnOk result (self.new ≡ record { letters = self.old.letters ++ record { to = to; bytes = bytes.now } ∷ []; failures = self.old.failures }) }
+        ensures err { OnErr result (self.new ≡ self.old) }
+    {
+        let bytes = bytes.to_vec(self.alloc)?;
+        self.letters.push(Letter { to, bytes })?;
+        Ok(())
+    }
+
+    #[tactic(auto, using(lk_node::proofs::Nodes::mapped_append))]
+    /// The letters as datagrams of the node.
+    pub fn into_datagrams(self, node: NodeNo) -> Result<Vec<Datagram>, NoMemory>
+        ensures { IfOk result (λ ds. ds.items ≡ batch_of node self.letters) }
+    {
+        let Collected {
+            alloc,
+            letters,
+            failures: _,
+        } = self;
+        let mut datagrams = Vec::new(alloc);
+        for letter in letters {
+            datagrams.push(datagram_of(node, letter))?;
+        }
+        Ok(datagrams)
+    }
+}

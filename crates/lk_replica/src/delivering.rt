@@ -1,0 +1,38 @@
+// Sending what a step tells to send. No device is in its reach.
+ghost use Rattle.std.specs.Prelude.{◌≡◌, ◌+◌, ◌-◌, ◌^◌, ◌≤◌, min, true, false, [], ◌∷◌, ◌++◌, OnOk, OnErr};
+ghost use Rattle.lk_disk.specs.Disk.{HasCause};
+ghost use Rattle.lk_replica.specs.Posts.{SendsSome};
+
+use crate::post::{Post, SendFault};
+use lk_node::Letter;
+
+// Sends a letter, and tells whether it was sent.
+fn is_sent<P: Post>(letter: &Letter, post: &mut P) -> bool
+    ensures sent { P.is_telling → result ≡ true → P.sent post.new ≡ P.sent post.old ++ letter.now ∷ [] }
+    ensures lost { P.is_telling → result ≡ false → P.sent post.new ≡ P.sent post.old }
+    ensures later { P.failures post.old ≤ P.failures post.new }
+    ensures rises { result ≡ false → min (P.failures post.old + 1) (2 ^ 64 - 1) ≤ P.failures post.new }
+{
+    match post.send(letter.to, &letter.bytes) {
+        Ok(()) => true,
+        Err(SendFault) => false,
+    }
+}
+
+// Sends the letters in order. Those whose send fails are lost, and the others are sent all the same.
+pub fn deliver<P: Post>(letters: &[Letter], post: &mut P) -> Result<(), SendFault>
+    ensures all { P.is_telling → OnOk result (P.sent post.new ≡ P.sent post.old ++ letters.now) }
+    ensures some { P.is_telling → OnErr result (SendsSome letters.now (P.sent post.old) (P.sent post.new)) }
+    ensures cause { HasCause (P.failures post.old) (P.failures post.new) result }
+{
+    let mut lost = false;
+    for letter in letters {
+        if !is_sent(letter, post) {
+            lost = true;
+        }
+    }
+    if lost {
+        return Err(SendFault);
+    }
+    Ok(())
+}

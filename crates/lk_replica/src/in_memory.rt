@@ -1,0 +1,74 @@
+// The replica on disks in memory.
+ghost use Rattle.std.specs.Prelude.{◌≡◌, []};
+ghost use Rattle.lk_log.specs.StoreValue.{disks};
+ghost use Rattle.lk_state.specs.Meanings.{meaning};
+ghost use Rattle.lk_node.specs.Keeping.{Stands};
+ghost use Rattle.lk_replica.specs.Revivals.{RevivesTo};
+ghost use Rattle.lk_replica.specs.Taking.{ComesTo};
+
+use crate::collected::Collected;
+use crate::fault::ReplicaFault;
+use crate::memory_replica::{MemoryReplica, ReviveFault, Revived, Taken};
+use crate::replica::Replica;
+use lk_disk::{LogDisk, MemoryDisk, Trap};
+use lk_log::Header;
+use lk_node::Input;
+use lk_state::Machine;
+use lk_types::NodeNo;
+use std::alloc::Global;
+
+impl<M: Machine, D: LogDisk + Drop> Replica<M, D> {
+    // Its node's number.
+    fn number(&self) -> NodeNo
+        ensures { result ≡ self.now.node.header.node }
+    {
+        self.node.header().node()
+    }
+
+    // A post to which nothing was given.
+    fn empty_post(&self) -> Collected
+        ensures { result ≡ record { letters = []; failures = 0 } }
+    {
+        Collected::new(self.alloc)
+    }
+}
+
+impl<M: Machine> MemoryReplica for Replica<M, MemoryDisk> {
+    ghost meaning = { meaning M.first M.next M.answer };
+
+    ghost Shows = { λ r genesis n x. Stands (meaning M.first M.next M.answer) r.node r.store genesis n x };
+
+    ghost disks = { λ r. disks r.store };
+
+    ghost whole = { λ r. r.node.learner.whole };
+
+    ghost Takes = { λ old bytes new came. ComesTo (meaning M.first M.next M.answer) old bytes new came };
+
+    ghost Revives = { λ device whose came. RevivesTo (meaning M.first M.next M.answer) M.IsText device whose came };
+
+    fn revive(
+        alloc: Global,
+        device: MemoryDisk,
+        header: &Header,
+    ) -> Result<Revived<Self>, ReviveFault<MemoryDisk>> {
+        Replica::<M, MemoryDisk>::revive(alloc, device, header)
+    }
+
+    fn take(&mut self, input: Input) -> Result<Taken, ReplicaFault> {
+        let node = self.number();
+        let mut post = self.empty_post();
+        let notes = Replica::take(self, input, &mut post)?;
+        let sent = post.into_datagrams(node)?;
+        Ok(Taken { notes, sent })
+    }
+
+    fn trap(&mut self, trap: Trap) {
+        Replica::trap(self, trap);
+    }
+
+    fn into_disks(self) -> MemoryDisk {
+        Replica::into_disks(self)
+    }
+
+    ghost sums_up = { λ r genesis n x shown. shown.held.follows.sums };
+}

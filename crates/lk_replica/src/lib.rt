@@ -1,0 +1,19 @@
+//! A replica: a node that keeps on disk whatever it sends, before it sends it, and takes up what a stop left.
+#![tactic(auto)]
+
+mod collected;
+mod datagram;
+mod delivering;
+mod fault;
+mod in_memory;
+mod memory_replica;
+mod post;
+mod relearning;
+mod replica;
+mod reviving;
+
+pub use datagram::Datagram;
+pub use fault::ReplicaFault;
+pub use memory_replica::{MemoryReplica, ReviveFault, Revived, Taken};
+pub use post::{Post, SendFault};
+pub use replica::Replica;

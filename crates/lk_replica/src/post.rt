@@ -1,0 +1,32 @@
+ghost use Rattle.std.specs.Prelude.{◌≡◌, ◌∷◌, ◌++◌, ℕ, List, [], OnOk, OnErr};
+ghost use Rattle.lk_disk.specs.Disk.{HasCause};
+ghost use Rattle.lk_node.specs.Letters.{LetterValue};
+
+use lk_node::To;
+use thiserror::Error;
+
+/// A datagram was not sent: refusal 15 of the replica.
+#[derive(Clone, Copy, Debug, PartialEq, Eq, Error)]
+#[error("the datagram was not sent")]
+pub struct SendFault;
+
+/// What carries datagrams off.
+///
+/// What is said of the letters that were sent holds where the post tells them. An `Err` is counted in any case: the count
+/// of failures rose in that call, or stood at 2^64 - 1.
+pub trait Post {
+    /// What was sent, in order.
+    ghost sent: { Self → List LetterValue };
+
+    /// It tells what was sent. It is a fact of the kind of post, so no call can end it.
+    ghost is_telling: { Type 0 };
+
+    /// How often a call has failed.
+    ghost failures: { Self → ℕ };
+
+    /// Sends bytes to a node or a client. A failed call sends nothing.
+    fn send(&mut self, to: To, bytes: &[u8]) -> Result<(), SendFault>
+        ensures ok { is_telling → OnOk result (sent self.new ≡ sent self.old ++ record { to = to; bytes = bytes.now } ∷ []) }
+        ensures err { is_telling → OnErr result (sent self.new ≡ sent self.old) }
+        ensures cause { HasCause (failures self.old) (failures self.new) result };
+}

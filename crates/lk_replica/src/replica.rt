@@ -1,0 +1,177 @@
+// The replica: a node and its store.
+ghost use Rattle.std.specs.Prelude.{◌≡◌, ℕ, ◌+◌, ◌-◌, ◌^◌, ◌≤◌, min, ◌++◌, List, [], true, false, Contains, IfOk, IfErr, OnOk, OnErr, IsErrOf};
+ghost use Rattle.lk_disk.specs.declared.device.Side.{Side};
+ghost use Rattle.lk_log.specs.StoreValue.{disks};
+ghost use Rattle.lk_state.specs.Meanings.{meaning};
+ghost use Rattle.lk_wire.specs.Grammar.{Spells};
+ghost use Rattle.lk_history.specs.Datagrams.{NodeMessage, Datagram as DatagramValue, said_by};
+ghost use Rattle.lk_node.specs.Calls.{InputFits, NodeFits, Goes};
+ghost use Rattle.lk_node.specs.Executing.{NothingToRun};
+ghost use Rattle.lk_node.specs.Histories.{History, Genesis};
+ghost use Rattle.lk_node.specs.Holdings.{Holding};
+ghost use Rattle.lk_node.specs.Keeping.{Stands};
+ghost use Rattle.lk_node.specs.Leavings.{DisksFit, AllCover};
+ghost use Rattle.lk_node.specs.Letters.{LetterValue, batch_of};
+ghost use Rattle.lk_replica.specs.Posts.{AreOf, SendsSome};
+ghost use Rattle.lk_node.specs.Steps.{Steps};
+ghost use Rattle.lk_replica.specs.Taking.{Puts, IsTaken};
+ghost use Rattle.lk_replica.specs.Faults.{fault_number, IfSend};
+
+use crate::delivering::deliver;
+use crate::fault::ReplicaFault;
+use crate::post::{Post, SendFault};
+use lk_disk::{LogDisk, Trap, Trapped};
+use lk_log::Store;
+use lk_node::{Input, Node, Note, Outbox};
+use lk_state::Machine;
+use std::alloc::Global;
+use std::marker::Model;
+
+/// A node whose entries are on a device.
+#[derive(Drop)]
+pub struct Replica<M: Machine, D: LogDisk + Drop> {
+    pub(crate) alloc: Global,
+    pub(crate) node: Node<M>,
+    pub(crate) store: Store<D>,
+    pub(crate) failed: bool,
+}
+
+impl<M: Machine, D: LogDisk + Drop> Model for Replica<M, D> {
+    ghost use Rattle.std.specs.Prelude.{◌≡◌, false};
+    ghost use Rattle.lk_node.specs.Executing.{NothingToRun};
+    ghost use Rattle.lk_replica.specs.ReplicaValue.{ReplicaValue};
+
+    ghost Value = { ReplicaValue };
+
+    // What it could execute it has executed.
+    ghost invariant = { λ r. r.failed ≡ false → NothingToRun r.node };
+
+    ghost view = { λ r. record { node = r.node; store = r.store; failed = r.failed } };
+}
+
+impl<M: Machine, D: LogDisk + Drop> Replica<M, D> {
+    #[tactic(auto, using(crate::proofs::NoSend::never_sends))]
+    /// Takes a tick or a datagram: what the step tells to write is written, and synced where a promise or a vote is among
+    /// it, before anything is sent.
+    ///
+    /// It refuses with `Device` (7), `NoMemory` (8) and `Halted` (14); after that each later call answers `Failed` (11).
+    /// With `Send` (15) some datagrams are lost, and the replica goes on.
+    pub fn take<P: Post>(&mut self, input: Input, post: &mut P) -> Result<Vec<Note>, ReplicaFault>
+        ensures goes { D.is_honest → P.is_telling → (h : History) (n : ℕ) → NodeFits (meaning M.first M.next M.answer) h n (Stands (meaning M.first M.next M.answer) self.old.node self.old.store h.genesis n) (disks self.old.store) → InputFits h input.entry
+            → IfOk result (λ notes. (sent : List LetterValue) × (P.sent post.new ≡ P.sent post.old ++ sent)
+            × Goes (meaning M.first M.next M.answer) h n (Stands (meaning M.first M.next M.answer) self.new.node self.new.store h.genesis n) (disks self.new.store) notes.items (batch_of n sent)) }
+        // Under `Send` it has sent some of them, and goes on.
+        ensures sends { D.is_honest → P.is_telling → (h : History) (n : ℕ) → NodeFits (meaning M.first M.next M.answer) h n (Stands (meaning M.first M.next M.answer) self.old.node self.old.store h.genesis n) (disks self.old.store) → InputFits h input.entry
+            → IfErr result (IfSend (λ notes. (sent : List LetterValue) × (P.sent post.new ≡ P.sent post.old ++ sent)
+            × Goes (meaning M.first M.next M.answer) h n (Stands (meaning M.first M.next M.answer) self.new.node self.new.store h.genesis n) (disks self.new.store) notes (batch_of n sent))) }
+        // After any exit each image that a stop may leave fits the history as it was.
+        ensures ends { D.is_honest → (h : History) (n : ℕ) → NodeFits (meaning M.first M.next M.answer) h n (Stands (meaning M.first M.next M.answer) self.old.node self.old.store h.genesis n) (disks self.old.store) → InputFits h input.entry
+            → DisksFit (meaning M.first M.next M.answer) h n (disks self.new.store) }
+        // Sync before send, whatever has happened: what was sent, and what every image covered, every image covers.
+        ensures syncs { D.is_honest → P.is_telling → (genesis : Genesis) (n : ℕ) (held : Holding) (x : NodeMessage) → Stands (meaning M.first M.next M.answer) self.old.node self.old.store genesis n held
+            → (sent : List LetterValue) × (P.sent post.new ≡ P.sent post.old ++ sent)
+            × ((d : DatagramValue) → Contains (batch_of n sent) d → Spells (said_by genesis n x) d.bytes → AllCover (meaning M.first M.next M.answer) genesis n (disks self.new.store) x) }
+        ensures covers { D.is_honest → (genesis : Genesis) (n : ℕ) (held : Holding) (x : NodeMessage) → Stands (meaning M.first M.next M.answer) self.old.node self.old.store genesis n held
+            → AllCover (meaning M.first M.next M.answer) genesis n (disks self.old.store) x → AllCover (meaning M.first M.next M.answer) genesis n (disks self.new.store) x }
+        // At Ok it has put the outbox of its step, given its notes and sent its letters in order, and nothing else. Under
+        // `Send` the letters whose send failed are lost.
+        ensures exact { D.is_honest → P.is_telling → IfOk result (λ notes. IsTaken (meaning M.first M.next M.answer) self.old input.entry self.new notes.items (λ letters. P.sent post.new ≡ P.sent post.old ++ letters)) }
+        ensures exact_send { D.is_honest → P.is_telling → IfErr result (IfSend (λ notes. IsTaken (meaning M.first M.next M.answer) self.old input.entry self.new notes (λ letters. SendsSome letters (P.sent post.old) (P.sent post.new)))) }
+        // What it can execute it has executed.
+        ensures runs { OnOk result (NothingToRun self.new.node) }
+        ensures runs_on { IfErr result (IfSend (λ notes. NothingToRun self.new.node)) }
+        ensures sends_on { IfErr result (IfSend (λ notes. self.new.failed ≡ false)) }
+        ensures broken { IfErr result (λ e. (fault_number e ≡ 15 → ⊥) → self.new.failed ≡ true) }
+        // `Device` comes only where the device's count of failures rose, and `Send` only where the post's did, or it stood at 2^64 - 1.
+        ensures cause { IfErr result (λ e. fault_number e ≡ 7 → min (self.old.store.failures + 1) (2 ^ 64 - 1) ≤ self.new.store.failures) }
+        ensures cause_send { IfErr result (IfSend (λ notes. min (P.failures post.old + 1) (2 ^ 64 - 1) ≤ P.failures post.new)) }
+        ensures failed { self.old.failed ≡ true → IsErrOf result ReplicaFault.Failed }
+        // Nothing but an earlier refusal, its own or its store's, makes it answer `Failed`.
+        ensures failed_before { self.old.failed ≡ false → self.old.store.failed ≡ false → IsErrOf result ReplicaFault.Failed → ⊥ }
+        ensures store_alive { OnOk result (self.new.store.failed ≡ false) }
+        ensures store_sends_on { IfErr result (IfSend (λ notes. self.new.store.failed ≡ false)) }
+        ensures stays_failed { self.old.failed ≡ true → self.new ≡ self.old }
+        ensures alive { OnOk result (self.new.failed ≡ false) }
+    {
+        if self.failed {
+            return Err(ReplicaFault::Failed);
+        }
+        self.failed = true;
+        let outbox = write(&mut self.node, &mut self.store, input)?;
+        self.failed = false;
+        let Outbox {
+            entries: _,
+            sync: _,
+            notes,
+            letters,
+        } = outbox;
+        match deliver(&letters, post) {
+            Ok(()) => Ok(notes),
+            Err(SendFault) => Err(ReplicaFault::Send(notes)),
+        }
+    }
+}
+
+impl<M: Machine, D: LogDisk + Drop> Replica<M, D> {
+    /// The device.
+    pub fn device(&self) -> &D
+        ensures disks { (s : Side) → D.disk result.now s ≡ disks self.now.store s }
+        ensures failures { D.failures result.now ≡ self.now.store.failures }
+    {
+        self.store.device()
+    }
+
+    /// The device, as the replica leaves it.
+    pub fn into_disks(self) -> D
+        ensures disks { (s : Side) → D.disk result s ≡ disks self.store s }
+        ensures failures { D.failures result ≡ self.store.failures }
+    {
+        let Replica {
+            alloc: _,
+            node: _,
+            store,
+            failed: _,
+        } = self;
+        store.into_disks()
+    }
+}
+
+impl<M: Machine, D: Trapped + Drop> Replica<M, D> {
+    /// Sets the trap of the device, in place of one that is pending. It changes no disk.
+    pub fn trap(&mut self, trap: Trap)
+        ensures node { self.new.node ≡ self.old.node }
+        ensures store { D.is_honest → self.new.store ≡ self.old.store }
+        ensures failures { self.new.store.failures ≡ self.old.store.failures }
+        ensures failed { self.new.failed ≡ self.old.failed }
+    {
+        self.store.trap(trap);
+    }
+}
+
+#[tactic(auto, using(crate::proofs::NoSend::store_never_sends))]
+// Steps, and writes what the step tells to write, synced where it says so. Nothing is sent.
+fn write<M: Machine, D: LogDisk + Drop>(
+    node: &mut Node<M>,
+    store: &mut Store<D>,
+    input: Input,
+) -> Result<Outbox, ReplicaFault>
+    ensures goes { D.is_honest → (h : History) (n : ℕ) → NodeFits (meaning M.first M.next M.answer) h n (Stands (meaning M.first M.next M.answer) node.old store.old h.genesis n) (disks store.old) → InputFits h input.entry
+        → IfOk result (λ o. (sent : List LetterValue) → AreOf sent o.letters → Goes (meaning M.first M.next M.answer) h n (Stands (meaning M.first M.next M.answer) node.new store.new h.genesis n) (disks store.new) o.notes (batch_of n sent)) }
+    ensures ends { D.is_honest → (h : History) (n : ℕ) → NodeFits (meaning M.first M.next M.answer) h n (Stands (meaning M.first M.next M.answer) node.old store.old h.genesis n) (disks store.old) → InputFits h input.entry
+        → DisksFit (meaning M.first M.next M.answer) h n (disks store.new) }
+    ensures syncs { D.is_honest → (genesis : Genesis) (n : ℕ) (held : Holding) (x : NodeMessage) → Stands (meaning M.first M.next M.answer) node.old store.old genesis n held
+        → IfOk result (λ o. (d : DatagramValue) → Contains (batch_of n o.letters) d → Spells (said_by genesis n x) d.bytes → AllCover (meaning M.first M.next M.answer) genesis n (disks store.new) x) }
+    ensures covers { D.is_honest → (genesis : Genesis) (n : ℕ) (held : Holding) (x : NodeMessage) → Stands (meaning M.first M.next M.answer) node.old store.old genesis n held
+        → AllCover (meaning M.first M.next M.answer) genesis n (disks store.old) x → AllCover (meaning M.first M.next M.answer) genesis n (disks store.new) x }
+    ensures steps { IfOk result (λ o. Steps (meaning M.first M.next M.answer) node.old input.entry node.new o) }
+    ensures puts { D.is_honest → IfOk result (λ o. Puts store.old o store.new) }
+    ensures runs { NothingToRun node.old → OnOk result (NothingToRun node.new) }
+    ensures only { IfErr result (IfSend (λ notes. ⊥)) }
+    ensures alive { OnOk result (store.new.failed ≡ false) }
+    ensures failed_before { store.old.failed ≡ false → IsErrOf result ReplicaFault.Failed → ⊥ }
+    ensures cause { IfErr result (λ e. fault_number e ≡ 7 → min (store.old.failures + 1) (2 ^ 64 - 1) ≤ store.new.failures) }
+{
+    let outbox = node.step(input)?;
+    store.put(&outbox.entries, outbox.sync)?;
+    Ok(outbox)
+}

@@ -1,0 +1,163 @@
+// Reviving what a stop left.
+ghost use Rattle.std.specs.Prelude.{◌≡◌, ◌⊎◌, ℕ, ◌+◌, ◌-◌, ◌*◌, ◌^◌, ◌≤◌, min, [], false, length, nat_le, Contains, IfOk, IfErr, IsErrOf};
+ghost use Rattle.std.specs.List.{list_all};
+ghost use Rattle.lk_disk.specs.declared.device.Side.{Side};
+ghost use Rattle.lk_log.specs.Images.{IsDamaged, seen};
+ghost use Rattle.lk_log.specs.Stores.{IsWrong, StandsForSome};
+ghost use Rattle.lk_log.specs.StoreValue.{disks};
+ghost use Rattle.lk_state.specs.Meanings.{meaning};
+ghost use Rattle.lk_state.specs.Packed.{Packs};
+ghost use Rattle.lk_state.specs.States.{WholeValue};
+ghost use Rattle.lk_history.specs.Datagrams.{NodeMessage};
+ghost use Rattle.lk_node.specs.Calls.{Goes};
+ghost use Rattle.lk_replica.specs.Faults.{fault_number};
+ghost use Rattle.lk_node.specs.Executing.{NothingToRun};
+ghost use Rattle.lk_node.specs.Histories.{History, Genesis as TheGenesis, IsLawful};
+ghost use Rattle.lk_node.specs.Keeping.{Stands};
+ghost use Rattle.lk_node.specs.Leavings.{header_of, DisksFit, AllCover};
+ghost use Rattle.lk_replica.specs.Revivals.{Unpacks, MayRevive, Restores, Revives, NoneRevives};
+ghost use Rattle.lk_node.specs.Served.{text};
+
+use crate::fault::ReplicaFault;
+use crate::memory_replica::{ReviveFault, Revived};
+use crate::relearning::relearn;
+use crate::replica::Replica;
+use bytes::BytesMut;
+use lk_acceptor::Acceptor;
+use lk_disk::LogDisk;
+use lk_log::{Header, Standing, reopen};
+use lk_node::{Node, Note};
+use lk_state::{Machine, Whole};
+use lk_types::{Executed, Genesis, NoMemory, Vote};
+use std::alloc::Global;
+
+// The packed text of what stands before any command is executed.
+fn zero_text<M: Machine>(alloc: Global, genesis: &Genesis) -> Result<BytesMut, NoMemory>
+    ensures text { IfOk result (λ t. t.items ≡ text (meaning M.first M.next M.answer) genesis.now []) }
+    ensures some { IfOk result (λ t. 1 ≤ length t.items) }
+    ensures room { IfOk result (λ t. length t.items ≤ 42087) }
+{
+    let whole: Whole<M> = Whole::begin(alloc, genesis);
+    whole.facts();
+    let mut out = BytesMut::new(alloc);
+    whole.pack(&mut out)?;
+    Ok(out)
+}
+
+// The state of a snapshot, at its position and of this alpha.
+fn unpacked<M: Machine>(
+    alloc: Global,
+    alpha: u8,
+    position: Executed,
+    snapshot: &[u8],
+) -> Result<Whole<M>, ReplicaFault>
+    ensures unpacks { IfOk result (λ w. Unpacks M.IsText alpha position snapshot.now w) }
+    ensures one { (w : WholeValue) → Packs M.IsText w snapshot.now → IfOk result (λ v. v ≡ w) }
+    ensures damaged { IsErrOf result ReplicaFault.Damaged → (w : WholeValue) → Unpacks M.IsText alpha position snapshot.now w → ⊥ }
+    ensures only { IfErr result (λ e. (e ≡ ReplicaFault.Damaged) ⊎ (e ≡ ReplicaFault.NoMemory)) }
+{
+    let whole: Whole<M> = Whole::unpack(alloc, snapshot)?;
+    if whole.executed() != position || whole.roster().alpha() != alpha {
+        return Err(ReplicaFault::Damaged);
+    }
+    Ok(whole)
+}
+
+// Whether no vote lies more than twice alpha above what is executed.
+fn are_near(votes: &[Vote], executed: Executed, alpha: u8) -> bool
+    ensures { result ≡ list_all (λ v. nat_le v.position (executed + 2 * alpha)) votes.now }
+{
+    let farthest = executed.get() + 2 * u64::from(alpha);
+    votes.iter().all(|vote| vote.position.get() <= farthest)
+}
+
+// What a node holds that this standing stands for, and the notes of what it ran.
+fn restored<M: Machine>(
+    alloc: Global,
+    header: &Header,
+    standing: Standing,
+) -> Result<(Node<M>, Vec<Note>), ReplicaFault>
+    requires stands { StandsForSome standing }
+    ensures runs { IfOk result (λ r. NothingToRun r.0) }
+    ensures restores { IfOk result (λ r. Restores (meaning M.first M.next M.answer) M.IsText header.now standing r.0 r.1.items) }
+    ensures damaged { IsErrOf result ReplicaFault.Damaged → (w : WholeValue) → MayRevive M.IsText header.now standing w → ⊥ }
+    ensures only { IfErr result (λ e. (e ≡ ReplicaFault.Damaged) ⊎ (e ≡ ReplicaFault.NoMemory)) }
+{
+    let Standing {
+        promised,
+        position,
+        snapshot,
+        votes,
+        pairs,
+    } = standing;
+    let alpha = header.genesis().alpha;
+    let whole: Whole<M> = unpacked(alloc, alpha, position, &snapshot)?;
+    let (learner, notes) = relearn(alloc, header.node(), whole, &pairs)?;
+    if !are_near(&votes, learner.whole().executed(), alpha) {
+        return Err(ReplicaFault::Damaged);
+    }
+    let acceptor = Acceptor::new(alloc, alpha, promised, votes, position);
+    Ok((Node::new(alloc, header.copy(), acceptor, learner), notes))
+}
+
+impl<M: Machine, D: LogDisk + Drop> Replica<M, D> {
+    /// Takes up what a stop left on these disks, or begins where nothing stands. It gives the notes of what it executed.
+    ///
+    /// It refuses with `Device` (7), `NoMemory` (8), `Damaged` (9) and `WrongStore` (10), and hands the device back.
+    /// `Damaged` is also told where the snapshot is no packed state at its position with the genesis' alpha, and where a
+    /// vote or a decided pair lies more than twice alpha above what is then executed.
+    pub fn revive(
+        alloc: Global,
+        device: D,
+        header: &Header,
+    ) -> Result<Revived<Replica<M, D>>, ReviveFault<D>>
+        ensures up { D.is_honest → (h : History) (n : ℕ) → header.now ≡ header_of h.genesis n → IsLawful h → DisksFit (meaning M.first M.next M.answer) h n (D.disk device)
+            → IfOk result (λ r. Goes (meaning M.first M.next M.answer) h n (Stands (meaning M.first M.next M.answer) r.replica.node r.replica.store h.genesis n) (disks r.replica.store) r.notes.items []) }
+        ensures down { D.is_honest → (h : History) (n : ℕ) → header.now ≡ header_of h.genesis n → IsLawful h → DisksFit (meaning M.first M.next M.answer) h n (D.disk device)
+            → IfErr result (λ e. DisksFit (meaning M.first M.next M.answer) h n (D.disk e.device)) }
+        // Whatever every image covered, every image covers.
+        ensures covers { D.is_honest → (genesis : TheGenesis) (n : ℕ) (x : NodeMessage) → header.now ≡ header_of genesis n → AllCover (meaning M.first M.next M.answer) genesis n (D.disk device) x
+            → IfOk result (λ r. AllCover (meaning M.first M.next M.answer) genesis n (disks r.replica.store) x) }
+        ensures covers_err { D.is_honest → (genesis : TheGenesis) (n : ℕ) (x : NodeMessage) → header.now ≡ header_of genesis n → AllCover (meaning M.first M.next M.answer) genesis n (D.disk device) x
+            → IfErr result (λ e. AllCover (meaning M.first M.next M.answer) genesis n (D.disk e.device) x) }
+        // What the disks stand for is what is revived, and nothing else is executed.
+        ensures exact { D.is_honest → IfOk result (λ r. Revives (meaning M.first M.next M.answer) M.IsText (D.disk device) header.now r.replica r.notes.items) }
+        ensures damaged { D.is_honest → IfErr result (λ e. fault_number e.fault ≡ 9 → IsDamaged (seen (D.disk device)) ⊎ NoneRevives (meaning M.first M.next M.answer) M.IsText (D.disk device) header.now) }
+        ensures wrong { D.is_honest → IfErr result (λ e. fault_number e.fault ≡ 10 → IsWrong (seen (D.disk device)) header.now) }
+        ensures only { IfErr result (λ e. (7 ≤ fault_number e.fault) × (fault_number e.fault ≤ 10)) }
+        ensures cause { IfErr result (λ e. fault_number e.fault ≡ 7 → min (D.failures device + 1) (2 ^ 64 - 1) ≤ D.failures e.device) }
+        ensures alive { IfOk result (λ r. r.replica.failed ≡ false) }
+        ensures store_alive { IfOk result (λ r. r.replica.store.failed ≡ false) }
+        // What it can execute it has executed.
+        ensures runs { IfOk result (λ r. NothingToRun r.replica.node) }
+    {
+        header.genesis().facts();
+        let Ok(zero) = zero_text::<M>(alloc, header.genesis()) else {
+            return Err(ReviveFault {
+                fault: ReplicaFault::NoMemory,
+                device,
+            });
+        };
+        match reopen(alloc, device, header, zero.as_slice()) {
+            Ok((store, standing)) => match restored(alloc, header, standing) {
+                Ok((node, notes)) => Ok(Revived {
+                    replica: Replica {
+                        alloc,
+                        node,
+                        store,
+                        failed: false,
+                    },
+                    notes,
+                }),
+                Err(fault) => Err(ReviveFault {
+                    fault,
+                    device: store.into_disks(),
+                }),
+            },
+            Err(e) => Err(ReviveFault {
+                fault: ReplicaFault::from(e.fault),
+                device: e.device,
+            }),
+        }
+    }
+}
