@@ -1,8 +1,8 @@
 -- What an event has done, by what its calls came to.
-use Rattle.std.proofs.Common.{◌≡◌, ℕ, ◌⊎◌, List, [], ◌++◌, set, Option, ap, sym, ◌∙◌, subst, subst₂, inl, inr, append_assoc, append-nil}
+use Rattle.std.proofs.Common.{◌≡◌, ℕ, ◌⊎◌, List, [], ◌++◌, set, Option, Result, Ok, Err, refl, ap, sym, ◌∙◌, subst, subst₂, inl, inr, append_assoc, append-nil}
 use Rattle.std.proofs.lemmas.List.{get_or_default}
 use Rattle.lk_disk.specs.Disk.{Disk}
-use Rattle.lk_disk.specs.Memory.{Memory}
+use Rattle.lk_disk.specs.Memory.{Memory, disk_of}
 use Rattle.lk_disk.specs.declared.device.Side.{Side}
 use Rattle.lk_log.specs.Values.{HeaderValue}
 use Rattle.lk_state.specs.Meanings.{Meaning}
@@ -14,11 +14,13 @@ use Rattle.lk_node.specs.declared.note.Note.{Note}
 use Rattle.lk_sim.specs.Traces.{asked_in, happened, Tells, asked_note}
 use Rattle.lk_sim.specs.Scenes.{Scene}
 use Rattle.lk_sim.specs.Seats.{At, SeatFits, SeatGoes}
-use Rattle.lk_sim.specs.Events.{AreOwn, Adds, Falls, IsGiven, ComesUp, IsHalted}
-use Rattle.lk_sim.specs.Outcomes.{HasFallen, HasHalted, HasTaken, HasRevived, HasAdded, HasGivenUp}
+use Rattle.lk_replica.specs.Behaviours.{Taking, Reviving}
+use Rattle.lk_sim.specs.Events.{AreOwn, Adds, Breaks, StaysDown, Falls, IsGiven, ComesUp, IsHalted, LeftBy, LeftByRevival}
+use Rattle.lk_sim.specs.Outcomes.{HasFallen, HasHalted, HasTaken, HasRevived, HasAdded, HasGivenUp, StoodIn}
 use Rattle.lk_sim.specs.Worlds.{Holds}
 use Rattle.lk_sim.specs.declared.end.End.{End}
 use Rattle.lk_sim.specs.declared.seat.Seat.{Seat}
+use Rattle.lk_sim.specs.declared.seat.Life.{Life}
 use Rattle.lk_sim.specs.declared.seat.Life.TheVariants.{Up, Down}
 use Rattle.lk_sim.proofs.Ending.{goes_fits}
 use Rattle.lk_sim.proofs.Lists.{at_set_here}
@@ -33,13 +35,17 @@ nothing_told batch told none tells = subst (λ l. Tells l told) none tells
 
 module _ {R : Type 0} (old new : Scene R) where
   -- a node that a fault ended has added nothing of its own
-  pub falls : (t : Seat R) (asked mine told : List Note) (batch : List Datagram) (how : Option End) → Adds old new ((asked ++ mine) ++ told) batch → Tells batch told → new.ended ≡ how
-      → HasFallen t mine batch how → Falls old new t asked
-  falls t asked mine told batch how a tells ended f = record {
+  pub falls : (Ends : ℕ → Memory → Type 0) (t : Seat R) (asked mine told : List Note) (batch : List Datagram) (how : Option End) → Adds old new ((asked ++ mine) ++ told) batch → Tells batch told → new.ended ≡ how
+      → HasFallen Ends t mine batch how → Falls Ends old new t asked
+  falls Ends t asked mine told batch how a tells ended f = record {
+    number = f.number;
+    left = f.left;
+    ends = f.ends;
+    no_want = f.no_want;
     device = f.device;
     down = f.down;
+    disks = f.disks;
     trap = f.trap;
-    number = f.number;
     ended = ended ∙ f.ended;
     adds = record {
       genesis = a.genesis;
@@ -49,10 +55,10 @@ module _ {R : Type 0} (old new : Scene R) where
   }
 
   -- a node that was given something
-  pub given : (Takes : R → Option (List ℕ) → R → List Note → List Datagram → Type 0) (i n : ℕ) (s t : Seat R) (r : R) (o : Option (List ℕ)) (asked mine : List Note) (batch : List Datagram) (how : Option End)
+  pub given : (Takes : Taking R) (disks : R → Side → Disk) (i n : ℕ) (s t : Seat R) (r : R) (o : Option (List ℕ)) (asked mine : List Note) (batch : List Datagram) (how : Option End)
       → At old.seats i s → s.number ≡ n → s.life ≡ Up r → t.number ≡ s.number → ((q : R) → t.life ≡ Up q → AreOwn mine)
-      → HasAdded (record old { seats = set old.seats i t }) new asked mine batch how → HasTaken Takes r o t mine batch how ⊎ HasFallen t mine batch how → IsGiven Takes old new n o asked
-  given Takes i n s t r o asked mine batch how at is up number own k cases = record {
+      → HasAdded (record old { seats = set old.seats i t }) new asked mine batch how → HasTaken Takes r o t mine batch how ⊎ HasFallen (Breaks Takes disks r o) t mine batch how → IsGiven Takes disks old new n o asked
+  given Takes disks i n s t r o asked mine batch how at is up number own k cases = record {
     seat = s;
     number = is;
     replica = r;
@@ -61,22 +67,22 @@ module _ {R : Type 0} (old new : Scene R) where
     turns = record { place = i; at = at; number = number; seats = k.seats };
     comes_to = elim cases [
       | inl q ↦ inl (record { replica = q.replica; up = q.up; notes = mine; told = k.told; batch = batch; takes = q.takes; own = own q.replica q.up; tells = k.tells; adds = adds; ended = k.ended ∙ q.ended })
-      | inr f ↦ inr (falls t asked mine k.told batch how adds k.tells k.ended f)
+      | inr f ↦ inr (falls (Breaks Takes disks r o) t asked mine k.told batch how adds k.tells k.ended f)
     ];
   }
     where
       adds : Adds old new ((asked ++ mine) ++ k.told) batch
       adds = record { genesis = k.adds.genesis; sent = k.adds.sent; trace = k.adds.trace }
 
-  pub comes : (Revives : (Side → Disk) → HeaderValue → R → List Note → Type 0) (t : Seat R) (d : Side → Disk) (n : ℕ) (mine told : List Note) (batch : List Datagram) (how : Option End)
+  pub comes : (Revives : Reviving R) (t : Seat R) (d : Memory) (n : ℕ) (mine told : List Note) (batch : List Datagram) (how : Option End)
       → t.number ≡ n → ((q : R) → t.life ≡ Up q → AreOwn mine) → Adds old new (([] ++ mine) ++ told) batch → Tells batch told → new.ended ≡ how
-      → HasRevived Revives d (header_of old.genesis n) t mine batch how ⊎ HasFallen t mine batch how → ComesUp Revives old new t d
+      → HasRevived Revives d (header_of old.genesis n) t mine batch how ⊎ HasFallen (StaysDown Revives d (header_of old.genesis n)) t mine batch how → ComesUp Revives old new t d
   comes Revives t d n mine told batch how number own a tells ended cases = elim cases [
     | inl k ↦ inl (record {
       replica = k.replica;
       up = k.up;
       notes = mine;
-      revives = subst (λ z. Revives d (header_of old.genesis z) k.replica mine) (sym number) k.revives;
+      revives = subst (λ z. Revives d (header_of old.genesis z) (Ok (k.replica, mine))) (sym number) k.revives;
       own = own k.replica k.up;
       adds = record {
         genesis = a.genesis;
@@ -85,29 +91,55 @@ module _ {R : Type 0} (old new : Scene R) where
       };
       ended = ended ∙ k.ended;
     })
-    | inr f ↦ inr (falls t [] mine told batch how a tells ended f)
+    | inr f ↦ inr (falls (StaysDown Revives d (header_of old.genesis t.number)) t [] mine told batch how a tells ended (subst (λ z. HasFallen (StaysDown Revives d (header_of old.genesis z)) t mine batch how) (sym number) f))
   ]
 
   -- a node that was given up
-  pub given_up : (Shows : R → Genesis → ℕ → Holding → Type 0) (disks : R → Side → Disk) (m : Meaning) (i n : ℕ) (s t : Seat R) → At old.seats i s → s.number ≡ n → t.number ≡ s.number
-      → HasGivenUp Shows disks m (record old { seats = set old.seats i t }) i new → IsHalted old new n
-  given_up Shows disks m i n s t at is number k = record {
-    seat = s;
-    number = is;
-    next = k.next;
-    turns = record {
-      place = i;
-      at = at;
-      number = k.number ∙ ap (λ (z : Seat R). z.number) (at_same (set old.seats i t) i k.seat t k.at (at_set_here old.seats i t at.0)) ∙ number;
-      seats = k.seats ∙ set_twice old.seats i t k.next;
-    };
-    device = k.halted.device;
-    down = k.halted.down;
-    synced = k.halted.synced;
-    trap = k.halted.trap;
-    adds = record { genesis = k.adds.genesis; sent = k.adds.sent; trace = k.adds.trace };
-    ended = k.ended;
-  }
+  pub given_up : (Left : Life R → (Side → Disk) → Type 0) (Shows : R → Genesis → ℕ → Holding → Type 0) (disks : R → Side → Disk) (m : Meaning) (i n : ℕ) (s t : Seat R) → At old.seats i s → s.number ≡ n → t.number ≡ s.number
+      → ((left : Side → Disk) → StoodIn disks t.life left → Left s.life left)
+      → HasGivenUp Shows disks m (record old { seats = set old.seats i t }) i new → IsHalted Left old new n
+  given_up Left Shows disks m i n s t at is number stood k =
+      let same : k.seat ≡ t = at_same (set old.seats i t) i k.seat t k.at (at_set_here old.seats i t at.0) in
+      record {
+        seat = s;
+        number = is;
+        next = k.next;
+        turns = record {
+          place = i;
+          at = at;
+          number = k.number ∙ ap (λ (z : Seat R). z.number) same ∙ number;
+          seats = k.seats ∙ set_twice old.seats i t k.next;
+        };
+        disks = k.halted.disks;
+        left = stood k.halted.disks (subst (λ (z : Seat R). StoodIn disks z.life k.halted.disks) same k.halted.left);
+        device = k.halted.device;
+        down = k.halted.down;
+        stopped = k.halted.stopped;
+        trap = k.halted.trap;
+        adds = record { genesis = k.adds.genesis; sent = k.adds.sent; trace = k.adds.trace };
+        ended = k.ended;
+      }
+
+-- the disks of a node, told for one that is up and for one that is down
+pub stood_in : {R : Type 0} (disks : R → Side → Disk) (life : Life R) (left : Side → Disk)
+    → ((r : R) → life ≡ Up r → (k : Side) → left k ≡ disks r k) → ((d : Memory) → life ≡ Down d → (k : Side) → left k ≡ disk_of d k) → StoodIn disks life left
+stood_in disks (Up r) left up down = up r refl
+stood_in disks (Down d) left up down = down d refl
+
+-- whatever a node's call came to, the disks that the node then has are those that the call left
+pub taken_left : {R : Type 0} (Takes : Taking R) (disks : R → Side → Disk) (r : R) (o : Option (List ℕ)) (life : Life R) (t : Seat R) (mine : List Note) (batch : List Datagram) (how : Option End)
+    → life ≡ Up r → HasTaken Takes r o t mine batch how ⊎ HasFallen (Breaks Takes disks r o) t mine batch how → (left : Side → Disk) → StoodIn disks t.life left → LeftBy Takes disks o life left
+taken_left Takes disks r o life t mine batch how up cases left stood = elim cases [
+  | inl k ↦ (r, k.replica, Ok (mine, batch), up, k.takes, subst (λ z. StoodIn disks z left) k.up stood)
+  | inr f ↦ (let on = subst (λ z. StoodIn disks z left) f.down stood in (r, f.ends.0, Err f.number, up, f.ends.1, (λ s. on s ∙ f.disks s ∙ f.ends.2 s)))
+]
+
+pub revived_left : {R : Type 0} (Revives : Reviving R) (disks : R → Side → Disk) (d : Memory) (header : HeaderValue) (life : Life R) (t : Seat R) (mine : List Note) (batch : List Datagram) (how : Option End)
+    → life ≡ Down d → HasRevived Revives d header t mine batch how ⊎ HasFallen (StaysDown Revives d header) t mine batch how → (left : Side → Disk) → StoodIn disks t.life left → LeftByRevival Revives disks header life left
+revived_left Revives disks d header life t mine batch how down cases left stood = elim cases [
+  | inl k ↦ (d, Ok (k.replica, mine), down, k.revives, subst (λ z. StoodIn disks z left) k.up stood)
+  | inr f ↦ (let on = subst (λ z. StoodIn disks z left) f.down stood in (d, Err (f.number, f.left), down, f.ends, (λ s. on s ∙ f.disks s)))
+]
 
 -- a node is up, or was ended with nothing added
 pub record Ends {R : Type 0} (t : Seat R) (mine : List Note) (batch : List Datagram) : Type 0 where
@@ -116,15 +148,15 @@ pub record Ends {R : Type 0} (t : Seat R) (mine : List Note) (batch : List Datag
   pub no_notes : mine ≡ []
   pub no_batch : batch ≡ []
 
-pub taken_cases : {R : Type 0} (Takes : R → Option (List ℕ) → R → List Note → List Datagram → Type 0) (r : R) (o : Option (List ℕ)) (t : Seat R) (mine : List Note) (batch : List Datagram) (how : Option End)
-    → HasTaken Takes r o t mine batch how ⊎ HasFallen t mine batch how → ((q : R) × (t.life ≡ Up q)) ⊎ Ends t mine batch
-taken_cases Takes r o t mine batch how cases = elim cases [
+pub taken_cases : {R : Type 0} (Takes : Taking R) (disks : R → Side → Disk) (r : R) (o : Option (List ℕ)) (t : Seat R) (mine : List Note) (batch : List Datagram) (how : Option End)
+    → HasTaken Takes r o t mine batch how ⊎ HasFallen (Breaks Takes disks r o) t mine batch how → ((q : R) × (t.life ≡ Up q)) ⊎ Ends t mine batch
+taken_cases Takes disks r o t mine batch how cases = elim cases [
   | inl k ↦ inl (k.replica, k.up)
   | inr f ↦ inr (record { device = f.device; down = f.down; no_notes = f.no_notes; no_batch = f.no_batch })
 ]
 
-pub revived_cases : {R : Type 0} (Revives : (Side → Disk) → HeaderValue → R → List Note → Type 0) (d : Side → Disk) (whose : HeaderValue) (t : Seat R) (mine : List Note) (batch : List Datagram) (how : Option End)
-    → HasRevived Revives d whose t mine batch how ⊎ HasFallen t mine batch how → ((q : R) × (t.life ≡ Up q)) ⊎ Ends t mine batch
+pub revived_cases : {R : Type 0} (Revives : Reviving R) (d : Memory) (whose : HeaderValue) (t : Seat R) (mine : List Note) (batch : List Datagram) (how : Option End)
+    → HasRevived Revives d whose t mine batch how ⊎ HasFallen (StaysDown Revives d whose) t mine batch how → ((q : R) × (t.life ≡ Up q)) ⊎ Ends t mine batch
 revived_cases Revives d whose t mine batch how cases = elim cases [
   | inl k ↦ inl (k.replica, k.up)
   | inr f ↦ inr (record { device = f.device; down = f.down; no_notes = f.no_notes; no_batch = f.no_batch })
@@ -142,8 +174,8 @@ module _ {R : Type 0} (Shows : R → Genesis → ℕ → Holding → Type 0) (di
   since = asked_maybe Shows disks m genesis seats sent trace w o
 
   -- a node that was halted keeps all that holds
-  pub halted_holds : (off : Seat R) → off.number ≡ s.number → HasHalted off → (v : View) → SeatFits Shows disks m h v off → Holds Shows disks m genesis (set seats i off) sent trace
-  halted_holds off same k v f = went_off Shows disks m genesis seats sent trace w i s off at same (asked_in asked) v k.device k.down f
+  pub halted_holds : (Left : (Side → Disk) → Type 0) (off : Seat R) → off.number ≡ s.number → HasHalted Left off → (v : View) → SeatFits Shows disks m h v off → Holds Shows disks m genesis (set seats i off) sent trace
+  halted_holds Left off same k v f = went_off Shows disks m genesis seats sent trace w i s off at same (asked_in asked) v k.device k.down f
 
   module _ (mine : List Note) (batch : List Datagram)
       (goes : (q : R) → t.life ≡ Up q → SeatGoes Shows disks m h t mine batch)
@@ -185,4 +217,4 @@ module _ {R : Type 0} (Shows : R → Genesis → ℕ → Holding → Type 0) (di
         subst (λ g. Holds Shows disks m g new.seats new.sent new.trace) (sym k.adds.genesis)
         (subst (λ z. Holds Shows disks m genesis z new.sent new.trace) (sym (k.seats ∙ set_twice seats i t k.next))
         (subst₂ (λ a b. Holds Shows disks m genesis (set seats i k.next) a b) (sym (k.adds.sent ∙ append-nil sent)) (sym (k.adds.trace ∙ append-nil trace))
-        (halted_holds k.next (k.number ∙ ap (λ (z : Seat R). z.number) same ∙ number) k.halted f.0 (k.fits h f.0 (subst (λ z. SeatFits Shows disks m h f.0 z) (sym same) f.1)))))
+        (halted_holds (StoodIn disks k.seat.life) k.next (k.number ∙ ap (λ (z : Seat R). z.number) same ∙ number) k.halted f.0 (k.fits h f.0 (subst (λ z. SeatFits Shows disks m h f.0 z) (sym same) f.1)))))

@@ -1,5 +1,5 @@
 -- What an event does to a world.
-use Rattle.std.specs.Prelude.{◌≡◌, ℕ, ◌⊎◌, List, [], ◌∷◌, ◌++◌, Option, Some, None, set, Contains}
+use Rattle.std.specs.Prelude.{◌≡◌, ℕ, ◌⊎◌, false, List, [], ◌∷◌, ◌++◌, Option, Some, None, Result, Ok, Err, set, Contains}
 use Rattle.lk_disk.specs.Disk.{Disk}
 use Rattle.lk_disk.specs.Memory.{Memory, disk_of}
 use Rattle.lk_disk.specs.declared.device.Side.{Side}
@@ -13,6 +13,7 @@ use Rattle.lk_node.specs.Leavings.{header_of}
 use Rattle.lk_node.specs.Served.{IsOfNode}
 use Rattle.lk_node.specs.declared.note.Note.{Note}
 use Rattle.lk_node.specs.declared.note.Note.TheVariants as note
+use Rattle.lk_replica.specs.Behaviours.{Taking, Reviving}
 use Rattle.lk_sim.specs.Heard.{Asks}
 use Rattle.lk_sim.specs.Refusals.{datagram_at, May, MayNot}
 use Rattle.lk_sim.specs.Scenes.{Scene}
@@ -24,6 +25,7 @@ use Rattle.lk_sim.specs.declared.event.Event.TheVariants as event
 use Rattle.lk_sim.specs.declared.refused.Refused.{Refused}
 use Rattle.lk_sim.specs.declared.refused.Refused.TheVariants.{WorldMemory}
 use Rattle.lk_sim.specs.declared.seat.Seat.{Seat}
+use Rattle.lk_sim.specs.declared.seat.Life.{Life}
 use Rattle.lk_sim.specs.declared.seat.Life.TheVariants.{Up, Down}
 
 -- of all nodes this one alone is another now
@@ -43,12 +45,31 @@ pub record Adds {R : Type 0} (old new : Scene R) (notes : List Note) (batch : Li
   pub sent : new.sent ≡ old.sent ++ batch
   pub trace : new.trace ≡ old.trace ++ notes
 
--- a fault ended the node, which is down: it noted and sent nothing
-pub record Falls {R : Type 0} (old new : Scene R) (t : Seat R) (asked : List Note) : Type 0 where
+-- a call of the replica was refused with the fault of this number, and left these disks
+abbrev pub Breaks : {R : Type 0} → Taking R → (R → Side → Disk) → R → Option (List ℕ) → ℕ → Memory → Type 0
+Breaks {R = R} Takes disks r o number left = (q : R) × Takes r o q (Err number) × ((s : Side) → disk_of left s ≡ disks q s)
+
+-- a revival was refused with the fault of this number, and left this device
+abbrev pub StaysDown : {R : Type 0} → Reviving R → Memory → HeaderValue → ℕ → Memory → Type 0
+StaysDown Revives device header number left = Revives device header (Err (number, left))
+
+-- a fault is not for want of memory
+pub record IsNoWant (number : ℕ) (left : Memory) : Type 0 where
+  pub memory : number ≡ 8 → ⊥
+  pub halted : number ≡ 14 → ⊥
+  pub letters : number ≡ 15 → ⊥
+  pub starved : left.starved ≡ false
+
+-- a fault of that kind ended the node, which is down on the disks that it left: it noted and sent nothing
+pub record Falls {R : Type 0} (Ends : ℕ → Memory → Type 0) (old new : Scene R) (t : Seat R) (asked : List Note) : Type 0 where
+  pub number : ℕ
+  pub left : Memory
+  pub ends : Ends number left
+  pub no_want : IsNoWant number left
   pub device : Memory
   pub down : t.life ≡ Down device
+  pub disks : (s : Side) → disk_of device s ≡ disk_of left s
   pub trap : device.trap ≡ Off
-  pub number : ℕ
   pub ended : new.ended ≡ Some (Fault t.number number)
   pub adds : Adds old new asked []
 
@@ -56,41 +77,41 @@ pub record Falls {R : Type 0} (old new : Scene R) (t : Seat R) (asked : List Not
 
 -- it goes on: what its replica noted and sent was added, behind a request that was just asked, and its answers and passes
 -- were noted as they were sent
-pub record GoesOn {R : Type 0} (Takes : R → Option (List ℕ) → R → List Note → List Datagram → Type 0) (old new : Scene R) (r : R) (t : Seat R) (o : Option (List ℕ)) (asked : List Note) : Type 0 where
+pub record GoesOn {R : Type 0} (Takes : Taking R) (old new : Scene R) (r : R) (t : Seat R) (o : Option (List ℕ)) (asked : List Note) : Type 0 where
   pub replica : R
   pub up : t.life ≡ Up replica
   pub notes : List Note
   pub told : List Note
   pub batch : List Datagram
-  pub takes : Takes r o replica notes batch
+  pub takes : Takes r o replica (Ok (notes, batch))
   pub own : AreOwn notes
   pub tells : Tells batch told
   pub adds : Adds old new ((asked ++ notes) ++ told) batch
   pub ended : new.ended ≡ None
 
 -- the node of this number was given a tick or these bytes
-pub record IsGiven {R : Type 0} (Takes : R → Option (List ℕ) → R → List Note → List Datagram → Type 0) (old new : Scene R) (n : ℕ) (o : Option (List ℕ)) (asked : List Note) : Type 0 where
+pub record IsGiven {R : Type 0} (Takes : Taking R) (disks : R → Side → Disk) (old new : Scene R) (n : ℕ) (o : Option (List ℕ)) (asked : List Note) : Type 0 where
   pub seat : Seat R
   pub number : seat.number ≡ n
   pub replica : R
   pub up : seat.life ≡ Up replica
   pub next : Seat R
   pub turns : Turns old.seats new.seats seat next
-  pub comes_to : GoesOn Takes old new replica next o asked ⊎ Falls old new next asked
+  pub comes_to : GoesOn Takes old new replica next o asked ⊎ Falls (Breaks Takes disks replica o) old new next asked
 
 -- the node to which the datagram was bound was given its bytes
-pub record IsDelivered {R : Type 0} (Takes : R → Option (List ℕ) → R → List Note → List Datagram → Type 0) (old new : Scene R) (k : ℕ) : Type 0 where
+pub record IsDelivered {R : Type 0} (Takes : Taking R) (disks : R → Side → Disk) (old new : Scene R) (k : ℕ) : Type 0 where
   pub datagram : Datagram
   pub stands : datagram_at old.sent k ≡ Some datagram
   pub node : ℕ
   pub bound : datagram.to ≡ party.Node node
-  pub given : IsGiven Takes old new node (Some datagram.bytes) []
+  pub given : IsGiven Takes disks old new node (Some datagram.bytes) []
 
 -- the node was given these bytes, and a request in them was noted as asked
-pub record IsInjected {R : Type 0} (Takes : R → Option (List ℕ) → R → List Note → List Datagram → Type 0) (old new : Scene R) (n : ℕ) (bytes : List ℕ) : Type 0 where
+pub record IsInjected {R : Type 0} (Takes : Taking R) (disks : R → Side → Disk) (old new : Scene R) (n : ℕ) (bytes : List ℕ) : Type 0 where
   pub request : Option RequestValue
   pub asks : Asks bytes request
-  pub given : IsGiven Takes old new n (Some bytes) (asked_note request)
+  pub given : IsGiven Takes disks old new n (Some bytes) (asked_note request)
 
 -- the client's datagram was added, bound for the node, and noted as asked
 pub record IsAsked {R : Type 0} (old new : Scene R) (n : ℕ) (r : RequestValue) : Type 0 where
@@ -104,37 +125,37 @@ pub record IsAsked {R : Type 0} (old new : Scene R) (n : ℕ) (r : RequestValue)
 
 -- ---- a node comes up
 
--- it came up on these disks, and what it executed was noted
-pub record IsRevived {R : Type 0} (Revives : (Side → Disk) → HeaderValue → R → List Note → Type 0) (old new : Scene R) (t : Seat R) (disks : Side → Disk) : Type 0 where
+-- it came up on this device, and what it executed was noted
+pub record IsRevived {R : Type 0} (Revives : Reviving R) (old new : Scene R) (t : Seat R) (device : Memory) : Type 0 where
   pub replica : R
   pub up : t.life ≡ Up replica
   pub notes : List Note
-  pub revives : Revives disks (header_of old.genesis t.number) replica notes
+  pub revives : Revives device (header_of old.genesis t.number) (Ok (replica, notes))
   pub own : AreOwn notes
   pub adds : Adds old new notes []
   pub ended : new.ended ≡ None
 
-abbrev pub ComesUp : {R : Type 0} → ((Side → Disk) → HeaderValue → R → List Note → Type 0) → Scene R → Scene R → Seat R → (Side → Disk) → Type 0
-ComesUp Revives old new t disks = IsRevived Revives old new t disks ⊎ Falls old new t []
+abbrev pub ComesUp : {R : Type 0} → Reviving R → Scene R → Scene R → Seat R → Memory → Type 0
+ComesUp Revives old new t device = IsRevived Revives old new t device ⊎ Falls (StaysDown Revives device (header_of old.genesis t.number)) old new t []
 
 -- a node was added, and came up on empty disks
-pub record IsBegun {R : Type 0} (Revives : (Side → Disk) → HeaderValue → R → List Note → Type 0) (old new : Scene R) (n : ℕ) : Type 0 where
+pub record IsBegun {R : Type 0} (Revives : Reviving R) (old new : Scene R) (n : ℕ) : Type 0 where
   pub seat : Seat R
   pub number : seat.number ≡ n
   pub seats : new.seats ≡ old.seats ++ seat ∷ []
   pub device : Memory
   pub empty : (s : Side) → disk_of device s ≡ record { synced = []; unsynced = [] }
-  pub comes : ComesUp Revives old new seat (disk_of device)
+  pub comes : ComesUp Revives old new seat device
 
 -- a node that was down came up on its disks
-pub record IsBack {R : Type 0} (Revives : (Side → Disk) → HeaderValue → R → List Note → Type 0) (old new : Scene R) (n : ℕ) : Type 0 where
+pub record IsBack {R : Type 0} (Revives : Reviving R) (old new : Scene R) (n : ℕ) : Type 0 where
   pub seat : Seat R
   pub number : seat.number ≡ n
   pub device : Memory
   pub down : seat.life ≡ Down device
   pub next : Seat R
   pub turns : Turns old.seats new.seats seat next
-  pub comes : ComesUp Revives old new next (disk_of device)
+  pub comes : ComesUp Revives old new next device
 
 -- ---- a node goes down, or its device will fail
 
@@ -164,44 +185,64 @@ pub record WillFail {R : Type 0} (disks : R → Side → Disk) (old new : Scene 
 -- ---- an event
 
 -- what comes of it
-abbrev pub Brings : {R : Type 0} → (R → Option (List ℕ) → R → List Note → List Datagram → Type 0) → ((Side → Disk) → HeaderValue → R → List Note → Type 0) → (R → Side → Disk) → Scene R → Event → Scene R → Type 0
+abbrev pub Brings : {R : Type 0} → Taking R → Reviving R → (R → Side → Disk) → Scene R → Event → Scene R → Type 0
 Brings Takes Revives disks old (event.Start n) new = IsBegun Revives old new n
 Brings Takes Revives disks old (event.Restart n) new = IsBack Revives old new n
-Brings Takes Revives disks old (event.Tick n) new = IsGiven Takes old new n None []
+Brings Takes Revives disks old (event.Tick n) new = IsGiven Takes disks old new n None []
 Brings Takes Revives disks old (event.Client n r) new = IsAsked old new n r
-Brings Takes Revives disks old (event.Deliver k) new = IsDelivered Takes old new k
-Brings Takes Revives disks old (event.Inject n bytes) new = IsInjected Takes old new n bytes.items
+Brings Takes Revives disks old (event.Deliver k) new = IsDelivered Takes disks old new k
+Brings Takes Revives disks old (event.Inject n bytes) new = IsInjected Takes disks old new n bytes.items
 Brings Takes Revives disks old (event.Stop n x y) new = GoesDown disks old new n x y
 Brings Takes Revives disks old (event.FailAt n count) new = WillFail disks old new n count
 
 -- what an event does that is done
-abbrev pub Does : {R : Type 0} → (R → Option (List ℕ) → R → List Note → List Datagram → Type 0) → ((Side → Disk) → HeaderValue → R → List Note → Type 0) → (R → Side → Disk) → Scene R → Event → Scene R → Type 0
+abbrev pub Does : {R : Type 0} → Taking R → Reviving R → (R → Side → Disk) → Scene R → Event → Scene R → Type 0
 Does Takes Revives disks old e new = May old e × Brings Takes Revives disks old e new
 
--- the node has stopped, and none of its bytes is unsynced
-pub record IsHalted {R : Type 0} (old new : Scene R) (n : ℕ) : Type 0 where
+-- ---- what want of memory leaves
+
+-- a call of the replica, whatever it came to, left these disks
+abbrev pub LeftBy : {R : Type 0} → Taking R → (R → Side → Disk) → Option (List ℕ) → Life R → (Side → Disk) → Type 0
+LeftBy {R = R} Takes disks o life left =
+    (r q : R) × (came : Result (List Note × List Datagram) ℕ) × (life ≡ Up r) × Takes r o q came × ((s : Side) → left s ≡ disks q s)
+
+-- these are the disks of what a revival came to
+abbrev pub AreOf : {R : Type 0} → (R → Side → Disk) → Result (R × List Note) (ℕ × Memory) → (Side → Disk) → Type 0
+AreOf disks (Ok came) left = (s : Side) → left s ≡ disks came.0 s
+AreOf disks (Err came) left = (s : Side) → left s ≡ disk_of came.1 s
+
+-- a revival, whatever it came to, left these disks
+abbrev pub LeftByRevival : {R : Type 0} → Reviving R → (R → Side → Disk) → HeaderValue → Life R → (Side → Disk) → Type 0
+LeftByRevival {R = R} Revives disks header life left =
+    (d : Memory) × (came : Result (R × List Note) (ℕ × Memory)) × (life ≡ Down d) × Revives d header came × AreOf disks came left
+
+-- the node has stopped, with none of the unsynced bytes of the disks that its call had left
+pub record IsHalted {R : Type 0} (Left : Life R → (Side → Disk) → Type 0) (old new : Scene R) (n : ℕ) : Type 0 where
   pub seat : Seat R
   pub number : seat.number ≡ n
   pub next : Seat R
   pub turns : Turns old.seats new.seats seat next
+  pub disks : Side → Disk
+  pub left : Left seat.life disks
   pub device : Memory
   pub down : next.life ≡ Down device
-  pub synced : (device.a.unsynced ≡ []) × (device.b.unsynced ≡ [])
+  pub stopped : IsStopped 0 0 disks device
   pub trap : device.trap ≡ Off
   pub adds : Adds old new [] []
   pub ended : new.ended ≡ old.ended
 
--- the node that the event steps, or revives
-abbrev pub Moves : List Datagram → Event → ℕ → Type 0
-Moves sent (event.Restart m) n = m ≡ n
-Moves sent (event.Tick m) n = m ≡ n
-Moves sent (event.Deliver k) n = (d : Datagram) × (datagram_at sent k ≡ Some d) × (d.to ≡ party.Node n)
-Moves sent (event.Inject m bytes) n = m ≡ n
-Moves sent e n = ⊥
+-- the node that the event steps, or revives, has stopped
+abbrev pub Halts : {R : Type 0} → Taking R → Reviving R → (R → Side → Disk) → Scene R → Event → ℕ → Scene R → Type 0
+Halts Takes Revives disks old (event.Restart m) n new = (m ≡ n) × IsHalted (LeftByRevival Revives disks (header_of old.genesis n)) old new n
+Halts Takes Revives disks old (event.Tick m) n new = (m ≡ n) × IsHalted (LeftBy Takes disks None) old new n
+Halts Takes Revives disks old (event.Deliver k) n new =
+    (d : Datagram) × (datagram_at old.sent k ≡ Some d) × (d.to ≡ party.Node n) × IsHalted (LeftBy Takes disks (Some d.bytes)) old new n
+Halts Takes Revives disks old (event.Inject m bytes) n new = (m ≡ n) × IsHalted (LeftBy Takes disks (Some bytes.items)) old new n
+Halts Takes Revives disks old e n new = ⊥
 
--- what want of memory leaves: nothing has changed, or that node has stopped. Nothing was noted or sent
-abbrev pub Wants : {R : Type 0} → Scene R → Event → Scene R → Type 0
-Wants old e new = (new ≡ old) ⊎ ((n : ℕ) × Moves old.sent e n × IsHalted old new n)
+-- nothing has changed, or that node has stopped. Nothing was noted or sent
+abbrev pub Wants : {R : Type 0} → Taking R → Reviving R → (R → Side → Disk) → Scene R → Event → Scene R → Type 0
+Wants Takes Revives disks old e new = (new ≡ old) ⊎ ((n : ℕ) × Halts Takes Revives disks old e n new)
 
 -- memory may be wanting where nothing else refuses the event; and to read what is injected
 abbrev pub MayWant : {R : Type 0} → Scene R → Event → Type 0
@@ -209,12 +250,12 @@ MayWant w (event.Inject n bytes) = IsUp w.seats n
 MayWant w e = May w e
 
 -- what an event leaves that is refused
-abbrev pub IsRefused : {R : Type 0} → Scene R → Event → Refused → Scene R → Type 0
-IsRefused old e r new = (MayNot old e r × (new ≡ old)) ⊎ ((r ≡ WorldMemory) × MayWant old e × Wants old e new)
+abbrev pub IsRefused : {R : Type 0} → Taking R → Reviving R → (R → Side → Disk) → Scene R → Event → Refused → Scene R → Type 0
+IsRefused Takes Revives disks old e r new = (MayNot old e r × (new ≡ old)) ⊎ ((r ≡ WorldMemory) × MayWant old e × Wants Takes Revives disks old e new)
 
 -- so of an event that steps the node of this number, by why not, and where memory may be wanting
-abbrev pub IsRefusedAt : {R : Type 0} → (Refused → Type 0) → Type 0 → Scene R → ℕ → Refused → Scene R → Type 0
-IsRefusedAt Why CanWant old n r new = (Why r × (new ≡ old)) ⊎ ((r ≡ WorldMemory) × CanWant × ((new ≡ old) ⊎ IsHalted old new n))
+abbrev pub IsRefusedAt : {R : Type 0} → (Refused → Type 0) → Type 0 → (Life R → (Side → Disk) → Type 0) → Scene R → ℕ → Refused → Scene R → Type 0
+IsRefusedAt Why CanWant Left old n r new = (Why r × (new ≡ old)) ⊎ ((r ≡ WorldMemory) × CanWant × ((new ≡ old) ⊎ IsHalted Left old new n))
 
 -- ---- what every event keeps
 

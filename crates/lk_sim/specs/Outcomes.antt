@@ -1,7 +1,7 @@
 -- What a call of a node leaves.
-use Rattle.std.specs.Prelude.{◌≡◌, ℕ, List, [], ◌++◌, Option, Some, None, set}
+use Rattle.std.specs.Prelude.{◌≡◌, ℕ, List, [], ◌++◌, Option, Some, None, Ok, set}
 use Rattle.lk_disk.specs.Disk.{Disk}
-use Rattle.lk_disk.specs.Memory.{Memory}
+use Rattle.lk_disk.specs.Memory.{Memory, disk_of}
 use Rattle.lk_disk.specs.declared.device.Side.{Side}
 use Rattle.lk_disk.specs.declared.trap.Trap.TheVariants.{Off}
 use Rattle.lk_log.specs.Values.{HeaderValue}
@@ -10,44 +10,61 @@ use Rattle.lk_history.specs.Nodes.{View}
 use Rattle.lk_node.specs.Histories.{History, Genesis, Datagram}
 use Rattle.lk_node.specs.Holdings.{Holding}
 use Rattle.lk_node.specs.declared.note.Note.{Note}
-use Rattle.lk_sim.specs.Events.{Adds}
+use Rattle.lk_replica.specs.Behaviours.{Taking, Reviving}
+use Rattle.lk_sim.specs.Events.{Adds, IsNoWant}
 use Rattle.lk_sim.specs.Scenes.{Scene}
-use Rattle.lk_sim.specs.Seats.{SeatFits, At}
+use Rattle.lk_sim.specs.Seats.{SeatFits, At, IsStopped}
 use Rattle.lk_sim.specs.Traces.{Tells}
 use Rattle.lk_sim.specs.declared.end.End.{End}
 use Rattle.lk_sim.specs.declared.end.End.TheVariants.{Fault}
 use Rattle.lk_sim.specs.declared.seat.Seat.{Seat}
+use Rattle.lk_sim.specs.declared.seat.Life.{Life}
 use Rattle.lk_sim.specs.declared.seat.Life.TheVariants.{Up, Down}
 
--- a fault ended the node: it is down, its trap is gone, and it noted and sent nothing
-pub record HasFallen {R : Type 0} (s : Seat R) (mine : List Note) (batch : List Datagram) (how : Option End) : Type 0 where
+-- a fault of that kind ended the node: it is down on the disks that it left, its trap is gone, and it noted and sent nothing
+pub record HasFallen {R : Type 0} (Ends : ℕ → Memory → Type 0) (s : Seat R) (mine : List Note) (batch : List Datagram) (how : Option End) : Type 0 where
+  pub number : ℕ
+  pub left : Memory
+  pub ends : Ends number left
+  pub no_want : IsNoWant number left
   pub device : Memory
   pub down : s.life ≡ Down device
+  pub disks : (k : Side) → disk_of device k ≡ disk_of left k
   pub trap : device.trap ≡ Off
-  pub number : ℕ
   pub ended : how ≡ Some (Fault s.number number)
   pub no_notes : mine ≡ []
   pub no_batch : batch ≡ []
 
--- it was stopped: it is down, its trap is gone, and none of its bytes is unsynced
-pub record HasHalted {R : Type 0} (s : Seat R) : Type 0 where
+-- the fault has this number, and left this device
+abbrev pub IsThis : ℕ → Memory → ℕ → Memory → Type 0
+IsThis number left n d = (n ≡ number) × (d ≡ left)
+
+-- these are the disks of a node, up or down
+abbrev pub StoodIn : {R : Type 0} → (R → Side → Disk) → Life R → (Side → Disk) → Type 0
+StoodIn disks (Up r) left = (s : Side) → left s ≡ disks r s
+StoodIn disks (Down d) left = (s : Side) → left s ≡ disk_of d s
+
+-- it was stopped: it is down, its trap is gone, and of such disks it has none of the unsynced bytes
+pub record HasHalted {R : Type 0} (Left : (Side → Disk) → Type 0) (s : Seat R) : Type 0 where
+  pub disks : Side → Disk
+  pub left : Left disks
   pub device : Memory
   pub down : s.life ≡ Down device
-  pub synced : (device.a.unsynced ≡ []) × (device.b.unsynced ≡ [])
+  pub stopped : IsStopped 0 0 disks device
   pub trap : device.trap ≡ Off
 
 -- its replica took a tick or these bytes
-pub record HasTaken {R : Type 0} (Takes : R → Option (List ℕ) → R → List Note → List Datagram → Type 0) (r : R) (o : Option (List ℕ)) (s : Seat R) (mine : List Note) (batch : List Datagram) (how : Option End) : Type 0 where
+pub record HasTaken {R : Type 0} (Takes : Taking R) (r : R) (o : Option (List ℕ)) (s : Seat R) (mine : List Note) (batch : List Datagram) (how : Option End) : Type 0 where
   pub replica : R
   pub up : s.life ≡ Up replica
-  pub takes : Takes r o replica mine batch
+  pub takes : Takes r o replica (Ok (mine, batch))
   pub ended : how ≡ None
 
--- it came up on these disks
-pub record HasRevived {R : Type 0} (Revives : (Side → Disk) → HeaderValue → R → List Note → Type 0) (disks : Side → Disk) (header : HeaderValue) (s : Seat R) (mine : List Note) (batch : List Datagram) (how : Option End) : Type 0 where
+-- it came up on this device
+pub record HasRevived {R : Type 0} (Revives : Reviving R) (device : Memory) (header : HeaderValue) (s : Seat R) (mine : List Note) (batch : List Datagram) (how : Option End) : Type 0 where
   pub replica : R
   pub up : s.life ≡ Up replica
-  pub revives : Revives disks header replica mine
+  pub revives : Revives device header (Ok (replica, mine))
   pub no_batch : batch ≡ []
   pub ended : how ≡ None
 
@@ -66,7 +83,7 @@ pub record HasGivenUp {R : Type 0} (Shows : R → Genesis → ℕ → Holding �
   pub at : At old.seats i seat
   pub number : next.number ≡ seat.number
   pub seats : new.seats ≡ set old.seats i next
-  pub halted : HasHalted next
+  pub halted : HasHalted (StoodIn disks seat.life) next
   pub fits : (h : History) (w : View) → SeatFits Shows disks m h w seat → SeatFits Shows disks m h w next
   pub adds : Adds old new [] []
   pub ended : new.ended ≡ old.ended

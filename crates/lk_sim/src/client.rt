@@ -11,7 +11,8 @@ use crate::parts::Parts;
 use crate::refused::Refused;
 use bytes::BytesMut;
 use lk_history::Party;
-use lk_node::{Datagram, MemoryReplica, Note};
+use lk_node::Note;
+use lk_replica::{Datagram, MemoryReplica};
 use lk_types::{NoMemory, NodeNo, Request};
 use lk_wire::{Content, Message, write};
 use std::alloc::Global;
@@ -78,7 +79,7 @@ pub fn client<R: MemoryReplica>(
     requires { PartsHold R.Shows R.disks R.meaning parts.old }
     ensures holds { PartsHold R.Shows R.disks R.meaning parts.new }
     ensures ok { OnOk result (Does R.Takes R.Revives R.disks (scene_of parts.old) (event.Client number request.now) (scene_of parts.new)) }
-    ensures err { IfErr result (λ e. IsRefused (scene_of parts.old) (event.Client number request.now) e (scene_of parts.new)) }
+    ensures err { IfErr result (λ e. IsRefused R.Takes R.Revives R.disks (scene_of parts.old) (event.Client number request.now) e (scene_of parts.new)) }
 {
     let Some(_) = find(&parts.seats, number) else {
         return Err(Refused::NoSuchNode);

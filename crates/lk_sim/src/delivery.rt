@@ -4,7 +4,7 @@ ghost use Rattle.lk_history.specs.Datagrams.{Datagram as DatagramValue};
 ghost use Rattle.lk_history.specs.declared.party.Party.TheVariants as party;
 ghost use Rattle.lk_wire.specs.declared.message.Content.TheVariants as content;
 ghost use Rattle.lk_node.specs.Histories.{RequestValue};
-ghost use Rattle.lk_sim.specs.Events.{Does, IsInjected, IsRefused, IsRefusedAt};
+ghost use Rattle.lk_sim.specs.Events.{Does, IsInjected, IsRefused, IsRefusedAt, LeftBy};
 ghost use Rattle.lk_sim.specs.Heard.{Asks, IsForged};
 ghost use Rattle.lk_sim.specs.Refusals.{datagram_at, HasRoom, NoTurn, NoDelivery, NoInjection, MayTurn};
 ghost use Rattle.lk_sim.specs.Seats.{IsUp, IsUpAt};
@@ -16,7 +16,8 @@ use crate::giving::give;
 use crate::parts::Parts;
 use crate::refused::Refused;
 use lk_history::Party;
-use lk_node::{Datagram, Input, MemoryReplica};
+use lk_node::Input;
+use lk_replica::{Datagram, MemoryReplica};
 use lk_types::{NoMemory, NodeNo, Request};
 use lk_wire::{Content, ReadFault, read};
 use std::alloc::Global;
@@ -38,7 +39,7 @@ pub fn tick<R: MemoryReplica>(parts: &mut Parts<R>, number: NodeNo) -> Result<()
     requires { PartsHold R.Shows R.disks R.meaning parts.old }
     ensures holds { PartsHold R.Shows R.disks R.meaning parts.new }
     ensures ok { OnOk result (Does R.Takes R.Revives R.disks (scene_of parts.old) (event.Tick number) (scene_of parts.new)) }
-    ensures err { IfErr result (λ e. IsRefused (scene_of parts.old) (event.Tick number) e (scene_of parts.new)) }
+    ensures err { IfErr result (λ e. IsRefused R.Takes R.Revives R.disks (scene_of parts.old) (event.Tick number) e (scene_of parts.new)) }
 {
     let i = turn_of(parts, number)?;
     give(parts, i, Input::Tick, None)?;
@@ -83,7 +84,7 @@ pub fn deliver<R: MemoryReplica>(parts: &mut Parts<R>, k: usize) -> Result<(), R
     requires { PartsHold R.Shows R.disks R.meaning parts.old }
     ensures holds { PartsHold R.Shows R.disks R.meaning parts.new }
     ensures ok { OnOk result (Does R.Takes R.Revives R.disks (scene_of parts.old) (event.Deliver k) (scene_of parts.new)) }
-    ensures err { IfErr result (λ e. IsRefused (scene_of parts.old) (event.Deliver k) e (scene_of parts.new)) }
+    ensures err { IfErr result (λ e. IsRefused R.Takes R.Revives R.disks (scene_of parts.old) (event.Deliver k) e (scene_of parts.new)) }
 {
     let number = bound(parts, k)?;
     let i = turn_of(parts, number)?;
@@ -126,8 +127,8 @@ pub fn inject<R: MemoryReplica>(
 ) -> Result<(), Refused>
     requires { PartsHold R.Shows R.disks R.meaning parts.old }
     ensures holds { PartsHold R.Shows R.disks R.meaning parts.new }
-    ensures ok { OnOk result (MayTurn (scene_of parts.old) number × (IsForged bytes.now → ⊥) × IsInjected R.Takes (scene_of parts.old) (scene_of parts.new) number bytes.now) }
-    ensures err { IfErr result (λ e. IsRefusedAt (NoInjection parts.old.seats.items parts.old.sent.items number bytes.now) (IsUp parts.old.seats.items number) (scene_of parts.old) number e (scene_of parts.new)) }
+    ensures ok { OnOk result (MayTurn (scene_of parts.old) number × (IsForged bytes.now → ⊥) × IsInjected R.Takes R.disks (scene_of parts.old) (scene_of parts.new) number bytes.now) }
+    ensures err { IfErr result (λ e. IsRefusedAt (NoInjection parts.old.seats.items parts.old.sent.items number bytes.now) (IsUp parts.old.seats.items number) (LeftBy R.Takes R.disks (Some bytes.now)) (scene_of parts.old) number e (scene_of parts.new)) }
 {
     let i = find_up(&parts.seats, number)?;
     let asked = request_in(parts.alloc, bytes)?;

@@ -5,7 +5,7 @@ ghost use Rattle.lk_sim.specs.Seats.{IsSeatOf, IsUpAt, IsDownAt, HasNo};
 
 use crate::refused::Refused;
 use crate::seat::{Life, Seat};
-use lk_node::Datagram;
+use lk_replica::Datagram;
 use lk_types::NodeNo;
 
 // More datagrams than this may stand behind a step, but no step begins then.

@@ -4,8 +4,9 @@ ghost use Rattle.lk_disk.specs.Memory.{Memory, disk_of};
 ghost use Rattle.lk_history.specs.Nodes.{View};
 ghost use Rattle.lk_node.specs.Calls.{heard_by, InputFits};
 ghost use Rattle.lk_node.specs.Histories.{History};
+ghost use Rattle.lk_node.specs.Leavings.{header_of};
 ghost use Rattle.lk_node.specs.declared.note.Note.{Note as NoteValue};
-ghost use Rattle.lk_sim.specs.Events.{IsGiven, IsHalted, ComesUp, IsBack};
+ghost use Rattle.lk_sim.specs.Events.{IsGiven, IsHalted, IsBack, LeftBy, LeftByRevival};
 ghost use Rattle.lk_sim.specs.Outcomes.{HasAdded, HasGivenUp};
 ghost use Rattle.lk_sim.specs.Seats.{IsUpAt, IsDownAt};
 ghost use Rattle.lk_sim.specs.Traces.{happened, asked_note, Tells};
@@ -14,7 +15,8 @@ ghost use Rattle.lk_sim.specs.Worlds.{PartsHold, scene_of};
 use crate::parts::Parts;
 use crate::seat::{Outcome, revive, step, stop};
 use crate::telling::tell;
-use lk_node::{Datagram, Input, MemoryReplica, Note};
+use lk_node::{Input, Note};
+use lk_replica::{Datagram, MemoryReplica};
 use lk_types::{NoMemory, Request};
 use std::alloc::Global;
 
@@ -105,9 +107,9 @@ pub fn give<R: MemoryReplica>(
     requires holds { PartsHold R.Shows R.disks R.meaning parts.old }
     ensures holds { PartsHold R.Shows R.disks R.meaning parts.new }
     ensures given { (n : ℕ) → IsUpAt parts.old.seats.items i n
-        → OnOk result (IsGiven R.Takes (scene_of parts.old) (scene_of parts.new) n (heard_by input.entry) (asked_note asked)) }
+        → OnOk result (IsGiven R.Takes R.disks (scene_of parts.old) (scene_of parts.new) n (heard_by input.entry) (asked_note asked)) }
     ensures halted { (n : ℕ) → IsUpAt parts.old.seats.items i n
-        → OnErr result (IsHalted (scene_of parts.old) (scene_of parts.new) n) }
+        → OnErr result (IsHalted (LeftBy R.Takes R.disks (heard_by input.entry)) (scene_of parts.old) (scene_of parts.new) n) }
 {
     let outcome = step(parts.alloc, &mut parts.seats[i], input)?;
     settle(parts, i, asked, outcome)?;
@@ -122,7 +124,7 @@ pub fn come_up<R: MemoryReplica>(parts: &mut Parts<R>, i: usize) -> Result<(), N
     ensures back { (n : ℕ) → IsDownAt parts.old.seats.items i n
         → OnOk result (IsBack R.Revives (scene_of parts.old) (scene_of parts.new) n) }
     ensures halted { (n : ℕ) → IsDownAt parts.old.seats.items i n
-        → OnErr result (IsHalted (scene_of parts.old) (scene_of parts.new) n) }
+        → OnErr result (IsHalted (LeftByRevival R.Revives R.disks (header_of parts.old.genesis n)) (scene_of parts.old) (scene_of parts.new) n) }
 {
     let outcome = revive(parts.alloc, &mut parts.seats[i], &parts.genesis)?;
     settle(parts, i, None, outcome)?;

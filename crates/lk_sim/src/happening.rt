@@ -11,14 +11,14 @@ use crate::event::Event;
 use crate::lives::{fail_at, halt, restart, start};
 use crate::parts::Parts;
 use crate::refused::Refused;
-use lk_node::MemoryReplica;
+use lk_replica::MemoryReplica;
 
 /// One event happens.
 pub fn happen<R: MemoryReplica>(parts: &mut Parts<R>, event: &Event) -> Result<(), Refused>
     requires { PartsHold R.Shows R.disks R.meaning parts.old }
     ensures holds { PartsHold R.Shows R.disks R.meaning parts.new }
     ensures ok { OnOk result (Does R.Takes R.Revives R.disks (scene_of parts.old) event.now (scene_of parts.new)) }
-    ensures err { IfErr result (λ e. IsRefused (scene_of parts.old) event.now e (scene_of parts.new)) }
+    ensures err { IfErr result (λ e. IsRefused R.Takes R.Revives R.disks (scene_of parts.old) event.now e (scene_of parts.new)) }
 {
     match event {
         Event::Start(number) => start(parts, *number),

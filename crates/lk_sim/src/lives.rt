@@ -11,7 +11,7 @@ use crate::parts::Parts;
 use crate::refused::Refused;
 use crate::seat::{Life, Seat, revive, set_trap, stop};
 use lk_disk::MemoryDisk;
-use lk_node::MemoryReplica;
+use lk_replica::MemoryReplica;
 use lk_types::{NoMemory, NodeNo};
 
 // At most so many nodes are ever started.
@@ -39,7 +39,7 @@ pub fn start<R: MemoryReplica>(parts: &mut Parts<R>, number: NodeNo) -> Result<(
     requires { PartsHold R.Shows R.disks R.meaning parts.old }
     ensures holds { PartsHold R.Shows R.disks R.meaning parts.new }
     ensures ok { OnOk result (Does R.Takes R.Revives R.disks (scene_of parts.old) (event.Start number) (scene_of parts.new)) }
-    ensures err { IfErr result (λ e. IsRefused (scene_of parts.old) (event.Start number) e (scene_of parts.new)) }
+    ensures err { IfErr result (λ e. IsRefused R.Takes R.Revives R.disks (scene_of parts.old) (event.Start number) e (scene_of parts.new)) }
 {
     if let Some(_) = find(&parts.seats, number) {
         return Err(Refused::AlreadyUp);
@@ -56,7 +56,7 @@ pub fn restart<R: MemoryReplica>(parts: &mut Parts<R>, number: NodeNo) -> Result
     requires { PartsHold R.Shows R.disks R.meaning parts.old }
     ensures holds { PartsHold R.Shows R.disks R.meaning parts.new }
     ensures ok { OnOk result (Does R.Takes R.Revives R.disks (scene_of parts.old) (event.Restart number) (scene_of parts.new)) }
-    ensures err { IfErr result (λ e. IsRefused (scene_of parts.old) (event.Restart number) e (scene_of parts.new)) }
+    ensures err { IfErr result (λ e. IsRefused R.Takes R.Revives R.disks (scene_of parts.old) (event.Restart number) e (scene_of parts.new)) }
 {
     let i = find_down(&parts.seats, number)?;
     come_up(parts, i)?;
@@ -73,7 +73,7 @@ pub fn halt<R: MemoryReplica>(
     requires { PartsHold R.Shows R.disks R.meaning parts.old }
     ensures holds { PartsHold R.Shows R.disks R.meaning parts.new }
     ensures ok { OnOk result (Does R.Takes R.Revives R.disks (scene_of parts.old) (event.Stop number x y) (scene_of parts.new)) }
-    ensures err { IfErr result (λ e. IsRefused (scene_of parts.old) (event.Stop number x y) e (scene_of parts.new)) }
+    ensures err { IfErr result (λ e. IsRefused R.Takes R.Revives R.disks (scene_of parts.old) (event.Stop number x y) e (scene_of parts.new)) }
 {
     let i = find_up(&parts.seats, number)?;
     stop(parts.alloc, &mut parts.seats[i], x, y);
@@ -90,7 +90,7 @@ pub fn fail_at<R: MemoryReplica>(
     requires { PartsHold R.Shows R.disks R.meaning parts.old }
     ensures holds { PartsHold R.Shows R.disks R.meaning parts.new }
     ensures ok { OnOk result (Does R.Takes R.Revives R.disks (scene_of parts.old) (event.FailAt number count) (scene_of parts.new)) }
-    ensures err { IfErr result (λ e. IsRefused (scene_of parts.old) (event.FailAt number count) e (scene_of parts.new)) }
+    ensures err { IfErr result (λ e. IsRefused R.Takes R.Revives R.disks (scene_of parts.old) (event.FailAt number count) e (scene_of parts.new)) }
 {
     let i = find(&parts.seats, number).ok_or(Refused::NoSuchNode)?;
     set_trap(&mut parts.seats[i], count);

@@ -1,6 +1,7 @@
 use crate::end::End;
 use crate::seat::Seat;
-use lk_node::{Datagram, Note};
+use lk_node::Note;
+use lk_replica::Datagram;
 use lk_types::Genesis;
 use std::alloc::Global;
 

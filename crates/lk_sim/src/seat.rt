@@ -1,5 +1,5 @@
 // A node of the world.
-ghost use Rattle.std.specs.Prelude.{◌≡◌, ℕ, ◌⊎◌, List, [], None, Some, IfOk, OnOk, OnErr};
+ghost use Rattle.std.specs.Prelude.{◌≡◌, ℕ, ◌⊎◌, List, [], false, None, Some, IfOk, OnOk, OnErr};
 ghost use Rattle.lk_disk.specs.Disk.{Disk};
 ghost use Rattle.lk_disk.specs.Memory.{Memory, disk_of};
 ghost use Rattle.lk_disk.specs.declared.device.Side.{Side};
@@ -8,14 +8,17 @@ ghost use Rattle.lk_history.specs.Nodes.{View};
 ghost use Rattle.lk_node.specs.Histories.{History, Genesis as GenesisValue, IsLawful};
 ghost use Rattle.lk_node.specs.Leavings.{header_of, DisksFit};
 ghost use Rattle.lk_node.specs.Calls.{heard_by, InputFits};
+ghost use Rattle.lk_replica.specs.Faults.{fault_number};
+ghost use Rattle.lk_sim.specs.Events.{Breaks, StaysDown, IsNoWant, LeftBy, LeftByRevival};
 ghost use Rattle.lk_sim.specs.Seats.{SeatFits, SeatGoes, IsStopped, IsTrapped};
-ghost use Rattle.lk_sim.specs.Outcomes.{HasFallen, HasHalted, HasTaken, HasRevived};
+ghost use Rattle.lk_sim.specs.Outcomes.{HasFallen, HasHalted, HasTaken, HasRevived, IsThis, StoodIn};
 ghost use Rattle.lk_sim.specs.declared.seat.Life.TheVariants.{Up, Down};
 
 use crate::end::End;
 use lk_disk::{MemoryDisk, Trap, Trapped};
 use lk_log::Header;
-use lk_node::{Datagram, Input, MemoryReplica, Note, ReplicaFault};
+use lk_node::{Input, Note};
+use lk_replica::{Datagram, MemoryReplica, ReplicaFault};
 use lk_types::{Genesis, NoMemory, NodeNo};
 use std::alloc::Global;
 use std::mem;
@@ -67,7 +70,7 @@ fn take_device<R: MemoryReplica>(alloc: Global, seat: &mut Seat<R>) -> MemoryDis
 pub fn stop<R: MemoryReplica>(alloc: Global, seat: &mut Seat<R>, x: usize, y: usize)
     ensures number { seat.new.number ≡ seat.old.number }
     ensures fits { (h : History) (w : View) → SeatFits R.Shows R.disks R.meaning h w seat.old → SeatFits R.Shows R.disks R.meaning h w seat.new }
-    ensures halted { (x ≡ 0) → (y ≡ 0) → HasHalted seat.new }
+    ensures halted { (x ≡ 0) → (y ≡ 0) → HasHalted (StoodIn R.disks seat.old.life) seat.new }
     ensures up { (r : R) → seat.old.life ≡ Up r → (d : Memory) × (seat.new.life ≡ Down d) × IsStopped x y (R.disks r) d × (d.trap ≡ Off) }
 {
     let mut device = take_device(alloc, seat);
@@ -75,9 +78,15 @@ pub fn stop<R: MemoryReplica>(alloc: Global, seat: &mut Seat<R>, x: usize, y: us
     seat.life = Life::Down(device);
 }
 
-// Whether the fault is for want of memory.
-fn is_wanting(fault: &ReplicaFault, device: &MemoryDisk) -> bool {
-    device.starved() || matches!(fault, ReplicaFault::NoMemory | ReplicaFault::Halted)
+// Whether the fault is for want of memory: a letter is lost in memory for nothing else.
+fn is_wanting(fault: &ReplicaFault, device: &MemoryDisk) -> bool
+    ensures { result ≡ false → IsNoWant (fault_number fault.now) device.now }
+{
+    device.starved()
+        || matches!(
+            fault,
+            ReplicaFault::NoMemory | ReplicaFault::Halted | ReplicaFault::Send(_)
+        )
 }
 
 // A fault leaves the node down, on the disks as they are; want of memory stops it. Either way the trap is gone, and the
@@ -90,10 +99,8 @@ fn fall<R: MemoryReplica>(
 ) -> Result<Outcome, NoMemory>
     ensures number { seat.new.number ≡ seat.old.number }
     ensures fits { (h : History) (w : View) → DisksFit R.meaning h seat.old.number (disk_of device) → SeatFits R.Shows R.disks R.meaning h w seat.new }
-    ensures fallen { IfOk result (λ o. HasFallen seat.new o.notes.items o.sent.items o.ended) }
-    ensures as_it_is { OnOk result ((d : Memory) × (seat.new.life ≡ Down d) × (d.a ≡ device.a) × (d.b ≡ device.b)) }
-    ensures halted { OnErr result (HasHalted seat.new) }
-    ensures stopped { OnErr result ((d : Memory) × (seat.new.life ≡ Down d) × IsStopped 0 0 (disk_of device) d) }
+    ensures fallen { IfOk result (λ o. HasFallen (IsThis (fault_number fault) device) seat.new o.notes.items o.sent.items o.ended) }
+    ensures halted { OnErr result (HasHalted (StoodIn R.disks (Down device)) seat.new) }
 {
     if is_wanting(&fault, &device) {
         device.stop(0, 0);
@@ -123,8 +130,8 @@ pub fn step<R: MemoryReplica>(
     ensures falls { (h : History) (w : View) → IsLawful h → SeatFits R.Shows R.disks R.meaning h w seat.old → InputFits h input.entry
         → (d : Memory) → seat.new.life ≡ Down d → SeatFits R.Shows R.disks R.meaning h w seat.new }
     ensures exact { (r : R) → seat.old.life ≡ Up r
-        → IfOk result (λ o. HasTaken R.Takes r (heard_by input.entry) seat.new o.notes.items o.sent.items o.ended ⊎ HasFallen seat.new o.notes.items o.sent.items o.ended) }
-    ensures halted { OnErr result (HasHalted seat.new) }
+        → IfOk result (λ o. HasTaken R.Takes r (heard_by input.entry) seat.new o.notes.items o.sent.items o.ended ⊎ HasFallen (Breaks R.Takes R.disks r (heard_by input.entry)) seat.new o.notes.items o.sent.items o.ended) }
+    ensures halted { OnErr result (HasHalted (LeftBy R.Takes R.disks (heard_by input.entry) seat.old.life) seat.new) }
 {
     let Life::Up(replica) = &mut seat.life else {
         unreachable!()
@@ -154,8 +161,8 @@ pub fn revive<R: MemoryReplica>(
     ensures falls { (h : History) (w : View) → h.genesis ≡ genesis.now → IsLawful h → SeatFits R.Shows R.disks R.meaning h w seat.old
         → (d : Memory) → seat.new.life ≡ Down d → SeatFits R.Shows R.disks R.meaning h w seat.new }
     ensures exact { (d : Memory) → seat.old.life ≡ Down d
-        → IfOk result (λ o. HasRevived R.Revives (disk_of d) (header_of genesis.now seat.old.number) seat.new o.notes.items o.sent.items o.ended ⊎ HasFallen seat.new o.notes.items o.sent.items o.ended) }
-    ensures halted { OnErr result (HasHalted seat.new) }
+        → IfOk result (λ o. HasRevived R.Revives d (header_of genesis.now seat.old.number) seat.new o.notes.items o.sent.items o.ended ⊎ HasFallen (StaysDown R.Revives d (header_of genesis.now seat.old.number)) seat.new o.notes.items o.sent.items o.ended) }
+    ensures halted { (d : Memory) → seat.old.life ≡ Down d → OnErr result (HasHalted (LeftByRevival R.Revives R.disks (header_of genesis.now seat.old.number) seat.old.life) seat.new) }
 {
     let device = take_device(alloc, seat);
     match R::revive(alloc, device, &Header::new(seat.number, genesis.copy())) {

@@ -3,7 +3,8 @@ ghost use Rattle.std.specs.Prelude.{◌≡◌, ◌++◌, [], ◌∷◌, List, On
 ghost use Rattle.lk_node.specs.declared.note.Note.{Note as NoteValue};
 ghost use Rattle.lk_sim.specs.Traces.{told_by, listed, Tells};
 
-use lk_node::{Datagram, Note};
+use lk_node::Note;
+use lk_replica::Datagram;
 use lk_types::NoMemory;
 use lk_wire::{Content, Message, NodeMessage, read};
 use std::alloc::Global;

@@ -4,7 +4,8 @@ use crate::event::Event;
 use crate::happening::{happen, happen_all};
 use crate::parts::Parts;
 use crate::refused::Refused;
-use lk_node::{Datagram, MemoryReplica, Note};
+use lk_node::Note;
+use lk_replica::{Datagram, MemoryReplica};
 use lk_types::Genesis;
 use std::alloc::Global;
 use std::marker::Model;
@@ -60,7 +61,7 @@ impl<R: MemoryReplica> World<R> {
     /// A refused event changes nothing; under `WorldMemory` the node that was stepping or coming up has stopped.
     pub fn apply(&mut self, event: Event) -> Result<(), Refused>
         ensures does { OnOk result (Does R.Takes R.Revives R.disks self.old event self.new) }
-        ensures refused { IfErr result (λ e. IsRefused self.old event e self.new) }
+        ensures refused { IfErr result (λ e. IsRefused R.Takes R.Revives R.disks self.old event e self.new) }
         ensures grows { Grows self.old self.new }
         ensures explained { (L : List Command) × Chosen self.new.genesis self.new.sent L × Explains R.meaning self.new.genesis self.new.sent self.new.trace L }
         ensures agree { (L K : List Command) → Chosen self.new.genesis self.new.sent L → Chosen self.new.genesis self.new.sent K → IsBeginning L K ⊎ IsBeginning K L }

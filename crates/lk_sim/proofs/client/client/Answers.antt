@@ -30,7 +30,7 @@ pub returns-in_err-ask-clause-err : goal.returns-in_err-ask-clause-err
 returns-in_err-ask-clause-err g c =
     let u : IsSeatOf c.args.parts.now.seats.items c.in-Some.field-0 c.args.number = search rules in
     let room : HasRoom c.args.parts.now.sent.items = search rules in
-    let k : IsRefused (scene_of c.args.parts.now) (event.Client c.args.number c.args.request.now) WorldMemory (scene_of c.ask.new.parts) =
+    let k : IsRefused g.R.MemoryReplica.Takes g.R.MemoryReplica.Revives g.R.MemoryReplica.disks (scene_of c.args.parts.now) (event.Client c.args.number c.args.request.now) WorldMemory (scene_of c.ask.new.parts) =
     inr (refl, ((u.0.life, (c.in-Some.field-0, u.0, u.1, u.2, refl)), room), inl c.in_err-ask.ensures.err) in
     search rules
 

@@ -1,7 +1,7 @@
 use Rattle.std.proofs.Common.{rules, ◌≡◌, ◌∙◌, Some, [], refl, inr, ap, subst}
 use Rattle.lk_history.specs.Datagrams.{Datagram}
 use Rattle.lk_history.specs.declared.party.Party.TheVariants as party
-use Rattle.lk_sim.specs.Events.{IsGiven, IsRefused}
+use Rattle.lk_sim.specs.Events.{IsGiven, IsHalted, IsRefused, LeftBy}
 use Rattle.lk_sim.specs.Refusals.{HasRoom, datagram_at}
 use Rattle.lk_sim.specs.Seats.{IsUpAt}
 use Rattle.lk_sim.specs.Worlds.{scene_of}
@@ -23,8 +23,12 @@ returns-in_err-give-clause-err g c =
     let n = c.in_ok-number.number in
     let d : (d : Datagram) × (datagram_at p.sent.items c.args.k ≡ Some d) × (d.to ≡ party.Node n) = search rules in
     let u : IsUpAt p.seats.items c.in_ok-i.i n × HasRoom p.sent.items = search rules in
-    let k : IsRefused (scene_of p) (event.Deliver c.args.k) WorldMemory (scene_of c.give.new.parts) =
-    inr (refl, (d.0, n, d.1, d.2, ((u.0.1, (c.in_ok-i.i, u.0.0, u.0.2, u.0.3, u.0.4)), u.1)), inr (n, (d.0, d.1, d.2), c.in_err-give.ensures.halted n u.0)) in
+    let b = c.in_ok-bytes.ensures in
+    let same : c.deref.result.now ≡ c.in_ok-bytes.bytes.items = search rules in
+    let bytes : c.deref.result.now ≡ d.0.bytes = same ∙ b.2 ∙ ap (λ (z : Datagram). z.bytes) (one_datagram p.sent.items c.args.k b.0 d.0 b.1 d.1) in
+    let halted = subst (λ l. IsHalted (LeftBy g.R.MemoryReplica.Takes g.R.MemoryReplica.disks (Some l)) (scene_of p) (scene_of c.give.new.parts) n) bytes (c.in_err-give.ensures.halted n u.0) in
+    let k : IsRefused g.R.MemoryReplica.Takes g.R.MemoryReplica.Revives g.R.MemoryReplica.disks (scene_of p) (event.Deliver c.args.k) WorldMemory (scene_of c.give.new.parts) =
+    inr (refl, (d.0, n, d.1, d.2, ((u.0.1, (c.in_ok-i.i, u.0.0, u.0.2, u.0.3, u.0.4)), u.1)), inr (n, (d.0, d.1, d.2, halted))) in
     search rules
 
 pub returns-clause-ok : goal.returns-clause-ok
@@ -42,6 +46,6 @@ returns-clause-ok g c =
         stands = d.1;
         node = n;
         bound = d.2;
-        given = subst (λ l. IsGiven g.R.MemoryReplica.Takes (scene_of p) (scene_of c.give.new.parts) n (Some l) []) bytes (c.in_ok-give.ensures.given n u.0);
+        given = subst (λ l. IsGiven g.R.MemoryReplica.Takes g.R.MemoryReplica.disks (scene_of p) (scene_of c.give.new.parts) n (Some l) []) bytes (c.in_ok-give.ensures.given n u.0);
       },
     )

@@ -1,9 +1,11 @@
-use Rattle.std.proofs.Common.{◌≡◌, rules, None, refl, sym}
+use Rattle.std.proofs.Common.{◌≡◌, rules, None, refl, sym, subst}
+use Rattle.lk_node.specs.Leavings.{header_of}
+use Rattle.lk_sim.specs.Events.{LeftByRevival}
 use Rattle.lk_sim.specs.Seats.{At}
 use Rattle.lk_sim.specs.declared.seat.Life.TheVariants.{Down}
 use Rattle.lk_sim.specs.Worlds.{scene_of}
 use Rattle.lk_sim.proofs.Explaining.{lawful}
-use Rattle.lk_sim.proofs.Doing.{at_same, comes, revived_cases, since, halted_holds, added_holds, given_up_holds, given_up}
+use Rattle.lk_sim.proofs.Doing.{at_same, comes, revived_cases, revived_left, since, halted_holds, added_holds, given_up_holds, given_up}
 use Rattle.lk_sim.proofs.giving.come_up.Goals as goal
 
 pub returns-in_err-outcome-clause-holds : goal.returns-in_err-outcome-clause-holds
@@ -12,8 +14,8 @@ returns-in_err-outcome-clause-holds g c =
     let s = c.index_mut.result.now in
     let at : At p.seats.items c.args.i s = (search rules, sym c.index_mut.ensures.value) in
     let v = since _ _ _ p.genesis p.seats.items p.sent.items p.trace.items c.requires.holds c.args.i s c.revive.new.seat at c.revive.ensures.number None in
-    let k = c.in_err-outcome.ensures.halted in
-    halted_holds _ _ _ p.genesis p.seats.items p.sent.items p.trace.items c.requires.holds c.args.i s c.revive.new.seat at c.revive.ensures.number None c.revive.new.seat c.revive.ensures.number k
+    let k = c.in_err-outcome.ensures.halted c.requires.down.1.1 (rw (at_same _ _ _ _ at c.requires.down.1.2) c.requires.down.1.4) in
+    halted_holds _ _ _ p.genesis p.seats.items p.sent.items p.trace.items c.requires.holds c.args.i s c.revive.new.seat at c.revive.ensures.number None _ c.revive.new.seat c.revive.ensures.number k
     (v.views s.number) (c.in_err-outcome.ensures.falls _ (v.views s.number) refl (lawful _ _ _ _ _ _ _ v) (v.seated c.args.i s at) k.device k.down)
 
 pub returns-in_err-settle-clause-holds : goal.returns-in_err-settle-clause-holds
@@ -35,7 +37,9 @@ returns-in_err-settle-clause-halted g c n d =
     let p = c.args.parts.now in
     let s = c.index_mut.result.now in
     let at : At p.seats.items c.args.i s = (search rules, sym c.index_mut.ensures.value) in
-    let k = given_up (scene_of p) (scene_of c.settle.new.parts) _ _ _ c.args.i n s c.revive.new.seat at (rw (at_same _ _ _ _ at d.2) d.3) c.revive.ensures.number c.in_err-settle.ensures.err in
+    let is : s.number ≡ n = rw (at_same _ _ _ _ at d.2) d.3 in
+    let down : s.life ≡ Down d.1 = rw (at_same _ _ _ _ at d.2) d.4 in
+    let k = given_up (scene_of p) (scene_of c.settle.new.parts) (LeftByRevival g.R.MemoryReplica.Revives g.R.MemoryReplica.disks (header_of p.genesis n)) _ _ _ c.args.i n s c.revive.new.seat at (rw (at_same _ _ _ _ at d.2) d.3) c.revive.ensures.number (λ left stood. subst (λ z. LeftByRevival g.R.MemoryReplica.Revives g.R.MemoryReplica.disks (header_of p.genesis z) s.life left) is (revived_left _ _ d.1 _ _ _ _ _ _ down (c.in_ok-outcome.ensures.exact d.1 down) left stood)) c.in_err-settle.ensures.err in
     search rules
 
 pub returns-clause-holds : goal.returns-clause-holds

@@ -17,3 +17,13 @@ returns-clause-fits g c h w f =
     down_fits _ _ _ h w _ c.trap-2.new.self refl
     (same_disks _ h c.args.seat.now.number (disk_of c.args.device) (disk_of c.trap-2.new.self)
     (elim [ A ↦ ap (λ (z : Memory). z.a) c.trap-2.ensures | B ↦ ap (λ (z : Memory). z.b) c.trap-2.ensures ]) f)
+
+pub returns-then-is_wanting-clause-halted : goal.returns-then-is_wanting-clause-halted
+returns-then-is_wanting-clause-halted g c = record {
+  disks = disk_of c.args.device;
+  left = λ s. refl;
+  device = c.trap.new.self;
+  down = refl;
+  stopped = (ap (λ (d : Memory). d.a) c.trap.ensures ∙ ap (λ (d : Memory). d.a) c.stop.ensures.after, ap (λ (d : Memory). d.b) c.trap.ensures ∙ ap (λ (d : Memory). d.b) c.stop.ensures.after);
+  trap = ap (λ (d : Memory). d.trap) c.trap.ensures;
+}
