@@ -1,6 +1,6 @@
 pub mod HexSpelling
 pub mod WordLemmas
-pub mod MemberLemmas
+pub mod GenesisLemmas
 pub mod LineLemmas
 pub mod ServerLemmas
 pub mod PrintLemmas

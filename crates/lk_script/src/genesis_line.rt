@@ -2,54 +2,17 @@
 ghost use Rattle.std.specs.Prelude.{◌≡◌, ℕ, List, None, true, false, codes, IfOk, IfSome, IsNone, IsErrOf};
 ghost use Rattle.lk_types.specs.declared.member.Member.{Member as MemberValue};
 ghost use Rattle.lk_types.specs.Genesis.{genesis_fault};
-ghost use Rattle.lk_script.specs.GenesisLines.{IsMemberWord, SpellsMembers, SpellsGenesis, IsGenesisLine};
+ghost use Rattle.lk_script.specs.GenesisLines.{SpellsGenesis, IsGenesisLine};
 ghost use Rattle.lk_script.specs.WorldLines.{Leads};
 
 use crate::fault::LineFault;
 use crate::world_words::first_number;
+use lk_types::Genesis;
 use lk_types::limits::MAX_ALPHA;
-use lk_types::{Genesis, Member};
-use lk_words::operation::{node_of, port_of};
-use lk_words::word::{split_at, split_word};
-use std::alloc::Global;
+use lk_words::member::read_members;
+use lk_words::word::split_word;
 
 const LAST_ALPHA: u64 = MAX_ALPHA as u64;
-
-/// The member that a word tells.
-fn member_of(word: &[u8]) -> Option<Member>
-    ensures some { IfSome result (λ m. IsMemberWord m word.now) }
-    ensures none { IsNone result → (m : MemberValue) → IsMemberWord m word.now → ⊥ }
-{
-    let (node, port) = split_at(word, b':')?;
-    let Some(node) = node_of(node) else {
-        return None;
-    };
-    match port_of(port) {
-        Some(port) => Some(Member { node, port }),
-        None => None,
-    }
-}
-
-/// The members that words tell.
-fn read_members(alloc: Global, words: &[u8]) -> Result<Vec<Member>, LineFault>
-    ensures ok { IfOk result (λ ms. SpellsMembers words.now ms.items) }
-    ensures not_understood { IsErrOf result LineFault.NotUnderstood → (ms : List MemberValue) → SpellsMembers words.now ms → ⊥ }
-{
-    let mut members = Vec::new(alloc);
-    let mut rest = words;
-    'words: while let Some((word, behind)) = split_word(rest) {
-        let Some(member) = member_of(word) else {
-            return Err(LineFault::NotUnderstood);
-        };
-        members.push(member)?;
-        rest = behind;
-    }
-    let Some(member) = member_of(rest) else {
-        return Err(LineFault::NotUnderstood);
-    };
-    members.push(member)?;
-    Ok(members)
-}
 
 /// The cluster's number and its alpha, and the words of its members.
 fn numbers_of(words: &[u8]) -> Option<(u64, u64, &[u8])>
@@ -61,18 +24,16 @@ fn numbers_of(words: &[u8]) -> Option<(u64, u64, &[u8])>
     Some((cluster, alpha, words))
 }
 
-/// The genesis that words tell.
-fn genesis_of(alloc: Global, words: &[u8]) -> Result<Genesis, LineFault>
-    ensures ok { IfOk result (λ g. SpellsGenesis words.now g.cluster g.alpha g.members × (genesis_fault g.alpha g.members ≡ None)) }
-    ensures not_understood { IsErrOf result LineFault.NotUnderstood → (cluster alpha : ℕ) (ms : List MemberValue) → SpellsGenesis words.now cluster alpha ms → genesis_fault alpha ms ≡ None → ⊥ }
+/// The genesis that words tell, or `None` where they tell none or one that is refused.
+fn genesis_of(words: &[u8]) -> Option<Genesis>
+    ensures some { IfSome result (λ g. SpellsGenesis words.now g.cluster g.alpha g.members × (genesis_fault g.alpha g.members ≡ None)) }
+    ensures none { IsNone result → (cluster alpha : ℕ) (ms : List MemberValue) → SpellsGenesis words.now cluster alpha ms → genesis_fault alpha ms ≡ None → ⊥ }
 {
-    let Some((cluster, alpha, words)) = numbers_of(words) else {
-        return Err(LineFault::NotUnderstood);
-    };
-    let members = read_members(alloc, words)?;
-    match Genesis::of(cluster, alpha as u8, &members) {
-        Ok(genesis) => Ok(genesis),
-        Err(_) => Err(LineFault::NotUnderstood),
+    let (cluster, alpha, words) = numbers_of(words)?;
+    let members = read_members(words, b' ')?;
+    match Genesis::of(cluster, alpha as u8, members.as_slice()) {
+        Ok(genesis) => Some(genesis),
+        Err(_) => None,
     }
 }
 
@@ -88,7 +49,7 @@ fn is_genesis(word: &[u8]) -> bool
 }
 
 /// The genesis that a line tells, whose first word is `genesis`. One that is refused is not understood.
-pub fn read_genesis(alloc: Global, line: &[u8]) -> Result<Genesis, LineFault>
+pub fn read_genesis(line: &[u8]) -> Result<Genesis, LineFault>
     ensures ok { IfOk result (λ g. IsGenesisLine line.now g.cluster g.alpha g.members) }
     ensures not_understood { IsErrOf result LineFault.NotUnderstood → (cluster alpha : ℕ) (ms : List MemberValue) → IsGenesisLine line.now cluster alpha ms → ⊥ }
 {
@@ -98,6 +59,8 @@ pub fn read_genesis(alloc: Global, line: &[u8]) -> Result<Genesis, LineFault>
     if !is_genesis(word) {
         return Err(LineFault::NotUnderstood);
     }
-    let genesis = genesis_of(alloc, words)?;
-    Ok(genesis)
+    match genesis_of(words) {
+        Some(genesis) => Ok(genesis),
+        None => Err(LineFault::NotUnderstood),
+    }
 }

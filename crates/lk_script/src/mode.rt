@@ -1,6 +1,6 @@
 use crate::server::Server;
 use crate::world_run::WorldRun;
-use lk_node::MemoryReplica;
+use lk_replica::MemoryReplica;
 
 /// What a script has set up so far.
 #[derive(Drop)]

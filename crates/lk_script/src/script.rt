@@ -18,7 +18,7 @@ use crate::lines::next_line;
 use crate::mode::Mode;
 use crate::server::Server;
 use crate::world_run::WorldRun;
-use lk_node::MemoryReplica;
+use lk_replica::MemoryReplica;
 use lk_sim::Refused;
 use lk_types::Genesis;
 use std::alloc::{AllocError, Global};
@@ -79,7 +79,7 @@ fn begin<M: MemoryReplica>(alloc: Global, line: &[u8]) -> Result<Mode<M>, LineFa
     match cluster_of(alloc, line) {
         Ok(cluster) => Ok(table_mode(alloc, cluster)),
         Err(LineFault::NotUnderstood) => {
-            let genesis = read_genesis(alloc, line)?;
+            let genesis = read_genesis(line)?;
             Ok(world_mode(alloc, genesis))
         }
         Err(LineFault::NoMemory) => Err(LineFault::NoMemory),

@@ -10,7 +10,7 @@ use crate::fault::LineFault;
 use crate::order::Order;
 use crate::printing::{print_event, print_refusal};
 use crate::world_line::read_order;
-use lk_node::MemoryReplica;
+use lk_replica::MemoryReplica;
 use lk_sim::{Event, Refused, World};
 use lk_types::{Genesis, NoMemory, NodeNo};
 use std::alloc::Global;

@@ -1,2 +1,4 @@
 pub mod Splits
+pub mod MemberWords
 mod Numerals
+mod GenesisWords

@@ -1,7 +1,6 @@
 -- Where the first space, or another sign, of a text stands.
-use Rattle.std.proofs.Common.{◌≡◌, ℕ, ◌+◌, ◌%◌, ◌<◌, ◌^◌, ◌==◌, ◌||◌, true, false, List, [], ◌∷◌, ◌++◌, length, take, drop, get_or, refl, sym, ap, ◌∙◌, arith}
-use Rattle.std.proofs.lemmas.List.{take-append-drop, drop_more}
-use Rattle.std.proofs.lemmas.List.Folds.{list_any-append, list_any_more}
+use Rattle.std.proofs.Common.{◌≡◌, ℕ, ◌+◌, ◌%◌, ◌<◌, ◌^◌, ◌==◌, ◌||◌, true, false, List, [], ◌∷◌, ◌++◌, refl, sym, ◌∙◌, arith}
+use Rattle.std.proofs.lemmas.List.Folds.{list_any-append}
 use Rattle.std.proofs.lemmas.Fmt.{decimal_by_steps, decimal_injective}
 use Rattle.std.proofs.lemmas.Bool.{eq-eqb}
 use Rattle.std.proofs.lemmas.Grind.{common_steps}
@@ -51,13 +50,17 @@ has_space = has_sign 32
 last : (sign : ℕ) (word : List ℕ) (b : ℕ) → (b == sign) ≡ false → HasNo sign word → HasNo sign (word ++ b ∷ [])
 last sign word b e h = rw (list_any-append (λ c. c == sign) word (b ∷ []), h, e) refl
 
--- a number has no space
-pub number_has_no_space : (n : ℕ) → n < 2 ^ 64 → HasNoSpace (decimal n)
-number_has_no_space = decimal_by_steps (λ _ ds. HasNoSpace ds)
-    (λ n small. last 32 [] (48 + n) (grind (arith, common_steps)) refl)
-    (λ n ds large h. last 32 ds (48 + n % 10) (grind (arith, common_steps)) h)
+-- a number has no sign below its digits
+pub number_has_no : (sign : ℕ) → sign < 48 → (n : ℕ) → n < 2 ^ 64 → HasNo sign (decimal n)
+number_has_no sign low = decimal_by_steps (λ _ ds. HasNo sign ds)
+    (λ n small. last sign [] (48 + n) (grind (arith, common_steps, low)) refl)
+    (λ n ds large h. last sign ds (48 + n % 10) (grind (arith, common_steps, low)) h)
 
--- nor a colon
+-- as a space is
+pub number_has_no_space : (n : ℕ) → n < 2 ^ 64 → HasNoSpace (decimal n)
+number_has_no_space = number_has_no 32 (omega arith)
+
+-- nor has it a colon
 pub number_has_no_colon : (n : ℕ) → n < 2 ^ 64 → HasNo 58 (decimal n)
 number_has_no_colon = decimal_by_steps (λ _ ds. HasNo 58 ds)
     (λ n small. last 58 [] (48 + n) (grind (arith, common_steps)) refl)

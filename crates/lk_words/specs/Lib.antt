@@ -1,3 +1,4 @@
 pub mod Words
 pub mod Verbs
 pub mod Operations
+pub mod Geneses

@@ -1,6 +1,8 @@
 //! The words in which a person or a script asks something of the service.
 #![tactic(auto)]
 
+pub mod genesis;
+pub mod member;
 pub mod number;
 pub mod operation;
 mod verb;

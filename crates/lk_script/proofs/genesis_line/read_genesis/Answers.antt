@@ -10,8 +10,8 @@ returns-then-not-is_genesis-clause-not_understood c = λ _ cluster alpha ms line
     let parts = one_way c.args.line.now c.in-Some.word.now c.in-Some.words.now (codes "genesis") line.words first.0 first.1 refl line.line_is in
     c.is_genesis.ensures.other (search rules) parts.0
 
-pub returns-in_err-genesis-clause-not_understood : goal.returns-in_err-genesis-clause-not_understood
-returns-in_err-genesis-clause-not_understood c = λ bad cluster alpha ms line.
+pub returns-in-None-clause-not_understood : goal.returns-in-None-clause-not_understood
+returns-in-None-clause-not_understood c = λ bad cluster alpha ms line.
     let first = c.in-Some.ensures.some in
     let parts = one_way c.args.line.now c.in-Some.word.now c.in-Some.words.now (codes "genesis") line.words first.0 first.1 refl line.line_is in
-    c.in_err-genesis.ensures.not_understood (search rules) cluster alpha ms (subst (λ (t : List ℕ). SpellsGenesis t cluster alpha ms) (sym parts.1) line.spelled) line.begins
+    c.in-None.ensures.none refl cluster alpha ms (subst (λ (t : List ℕ). SpellsGenesis t cluster alpha ms) (sym parts.1) line.spelled) line.begins

@@ -1,4 +1,4 @@
-use Rattle.std.proofs.Common.{rules, [], refl}
+use Rattle.std.proofs.Common.{rules, []}
 use Rattle.lk_script.specs.Scripts.{table, world}
 use Rattle.lk_script.specs.Scripts.Takes.{begins, opens}
 use Rattle.lk_script.proofs.ScriptLemmas.{nothing_begun}

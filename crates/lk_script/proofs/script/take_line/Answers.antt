@@ -1,4 +1,4 @@
-use Rattle.std.proofs.Common.{rules, subst}
+use Rattle.std.proofs.Common.{subst}
 use Rattle.lk_script.specs.Servers.{Fits}
 use Rattle.lk_script.proofs.ScriptLemmas.{some_line, none_line, world_line, world_refusal, world_unknown}
 use Rattle.lk_script.proofs.script.take_line.Goals as goal

@@ -1,8 +1,6 @@
-use Rattle.std.proofs.Common.{◌≡◌, ℕ, List, Ok, rules, refl, sym, subst, arith}
-use Rattle.std.specs.Prelude.{IsErrOf}
+use Rattle.std.proofs.Common.{◌≡◌, ℕ, List, Ok, rules, sym, subst, arith}
 use Rattle.hex.specs.Hex.{decode_of}
 use Rattle.lk_types.specs.Limits.{max_node}
-use Rattle.lk_script.specs.declared.fault.LineFault.TheVariants.{NotUnderstood}
 use Rattle.lk_script.proofs.WordLemmas.{leads_once}
 use Rattle.lk_script.proofs.world_line.to_inject.Goals as goal
 

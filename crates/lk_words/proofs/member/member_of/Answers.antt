@@ -1,7 +1,7 @@
 use Rattle.std.proofs.Common.{◌<◌, ◌^◌, refl, sym, ◌∙◌, arith}
 use Rattle.std.specs.Fmt.{decimal}
 use Rattle.lk_words.proofs.Splits.{one_parting, number_has_no_colon}
-use Rattle.lk_script.proofs.genesis_line.member_of.Goals as goal
+use Rattle.lk_words.proofs.member.member_of.Goals as goal
 
 pub returns-in_default-clause-none : goal.returns-in_default-clause-none
 returns-in_default-clause-none c = λ _ m is.

@@ -1,0 +1,24 @@
+-- Members and a genesis, in words.
+use Rattle.std.specs.Prelude.{◌≡◌, ◌≤◌, ℕ, List, [], ◌∷◌, ◌++◌, None}
+use Rattle.std.specs.Fmt.{decimal}
+use Rattle.lk_types.specs.Genesis.{genesis_fault}
+use Rattle.lk_types.specs.Ranges.{IsNode, IsPort}
+use Rattle.lk_types.specs.declared.member.Member.{Member}
+
+-- `NODE:PORT`
+abbrev pub IsMemberWord : Member → List ℕ → Type 0
+IsMemberWord m word = IsNode m.node × IsPort m.port × (word ≡ decimal m.node ++ 58 ∷ decimal m.port)
+
+-- members in words, one or more, parted by a sign
+pub data SpellsMembers (sign : ℕ) : List ℕ → List Member → Type 0 where
+  one : (m : Member) (word : List ℕ) → IsMemberWord m word → SpellsMembers sign word (m ∷ [])
+  more : (m : Member) (word rest : List ℕ) (members : List Member) → IsMemberWord m word → SpellsMembers sign rest members → SpellsMembers sign (word ++ sign ∷ rest) (m ∷ members)
+
+-- `CLUSTER,ALPHA,NODE:PORT,..`, which is not refused
+pub record SpellsGenesis (text : List ℕ) (cluster alpha : ℕ) (members : List Member) : Type 0 where
+  pub words : List ℕ
+  pub cluster_fits : cluster ≤ 18446744073709551615
+  pub alpha_fits : alpha ≤ 16
+  pub text_is : text ≡ decimal cluster ++ 44 ∷ (decimal alpha ++ 44 ∷ words)
+  pub members_are : SpellsMembers 44 words members
+  pub begins : genesis_fault alpha members ≡ None
