@@ -1,10 +1,14 @@
 //! The program `locks`.
 #![tactic(auto)]
 
+mod commands;
+mod plans;
 mod words;
 
 use std::alloc::Global;
+use std::fs::Files;
 use std::io::{BufReader, BufWriter, Write};
+use std::net::Net;
 use std::process::ExitCode;
 use std::rt::Env;
 use std::{env, io};
@@ -12,7 +16,7 @@ use words::{run_words, tell_start};
 
 /// Runs the command line that the program was given, on its streams. It fails where nothing could be run: memory was
 /// refused, or a word is no text.
-fn run<R: Env + Input + Print + Alloc<A = Global>, E: Write>(
+fn run<R: Env + Input + Print + Eprint + Files + Net + Alloc<A = Global>, E: Write>(
     rt: &R,
     err: &mut E,
 ) -> io::Result<u8> {
@@ -26,7 +30,7 @@ fn run<R: Env + Input + Print + Alloc<A = Global>, E: Write>(
     }
     let mut reader = BufReader::new(alloc, rt.reader())?;
     let mut out = BufWriter::new(alloc, io::writer(rt))?;
-    Ok(run_words(alloc, &texts, &mut reader, &mut out, err))
+    Ok(run_words(rt, alloc, &texts, &mut reader, &mut out, err))
 }
 
 /// Ends with the status of the command line.

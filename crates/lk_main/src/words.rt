@@ -2,32 +2,84 @@
 
 ghost use Rattle.std.specs.Prelude.{◌≤◌};
 
+use crate::commands::program;
+use crate::plans::{ask_plan, node_plan};
 use clap::error::ErrorKind;
-use clap::{ArgMatches, Command, Error};
+use clap::{ArgMatches, Error};
 use lk_disk::MemoryDisk;
 use lk_locks::LockTable;
-use lk_node::Replica;
+use lk_replica::Replica;
 use lk_script::ending::{end, tell};
 use lk_script::fault::ScriptFault;
 use lk_script::script::run_to_end;
-use std::alloc::{AllocError, Global};
+use lk_service::asking::ask;
+use lk_service::demo::demo;
+use lk_service::dump::dump;
+use lk_service::fault::ServiceFault;
+use lk_service::running::run_node;
+use lk_service::socket::LocalSocket;
+use log::sink::{Console, Discard};
+use log::{Level, Logged};
+use std::alloc::Global;
+use std::fs::Files;
 use std::io;
 use std::io::{BufRead, Write};
+use std::net::Net;
 
 /// The nodes of world mode.
 type Nodes = Replica<LockTable, MemoryDisk>;
 
-/// The program and its subcommands.
-fn program<'a>(alloc: Global) -> Result<Command<'a>, AllocError> {
-    let sim = Command::new(alloc, "sim").about("runs a script from standard input");
-    Command::new(alloc, "locks")
-        .about("a replicated service of named locks with fencing numbers")
-        .subcommand_required(true)
-        .subcommand(sim)
+/// Tells that words of a subcommand are not understood. The status is 2.
+fn refuse_words<E: Write>(err: &mut E) -> u8
+    ensures { result ≤ 2 }
+{
+    let _ = writeln!(err, "error: the words are not understood");
+    2
+}
+
+/// Runs a node.
+fn run_node_words<R: Files + Net + Eprint, E: Write>(
+    rt: &R,
+    alloc: Global,
+    matches: &ArgMatches<'_>,
+    err: &mut E,
+) -> u8
+    ensures { result ≤ 2 }
+{
+    let Some(plan) = node_plan(matches) else {
+        return refuse_words(err);
+    };
+    if matches.get_flag("log") {
+        let log = Logged::new(rt, Level::Info, Console(rt));
+        return run_node::<LockTable, _, _, _>(rt, alloc, &plan, &log, err);
+    }
+    run_node::<LockTable, _, _, _>(rt, alloc, &plan, &Discard, err)
+}
+
+/// Asks a node once.
+fn ask_words<R: Net, W: Write, E: Write>(
+    rt: &R,
+    alloc: Global,
+    matches: &ArgMatches<'_>,
+    out: &mut W,
+    err: &mut E,
+) -> u8
+    ensures { result ≤ 2 }
+{
+    let question = match ask_plan(alloc, matches) {
+        Ok(Some(question)) => question,
+        Ok(None) => return refuse_words(err),
+        Err(_) => return ServiceFault::NoMemory.tell(err),
+    };
+    match LocalSocket::bind(rt, 0) {
+        Ok(mut socket) => ask(alloc, &mut socket, &question, out, err),
+        Err(fault) => fault.tell(err),
+    }
 }
 
 /// Runs the subcommand that was named.
-fn run_matches<R: BufRead, W: Write, E: Write>(
+fn run_matches<H: Files + Net + Eprint, R: BufRead, W: Write, E: Write>(
+    rt: &H,
     alloc: Global,
     matches: &ArgMatches<'_>,
     reader: &mut R,
@@ -38,6 +90,10 @@ fn run_matches<R: BufRead, W: Write, E: Write>(
 {
     match matches.subcommand() {
         Some(("sim", _)) => run_to_end::<Nodes, R, W, E>(alloc, reader, out, err),
+        Some(("node", words)) => run_node_words(rt, alloc, words, err),
+        Some(("ask", words)) => ask_words(rt, alloc, words, out, err),
+        Some(("demo", _)) => demo::<LockTable, H, W, E>(rt, alloc, out, err),
+        Some(("dump", words)) => dump(rt, alloc, words.get_str("dir").unwrap_or(""), out, err),
         _ => 2,
     }
 }
@@ -64,8 +120,9 @@ fn refuse<W: Write, E: Write>(error: &Error, out: &mut W, err: &mut E) -> u8
 }
 
 /// Reads the command line, whose first word is the program's name, and runs it. The status is 0, 1 where a fault was told
-/// in the last line of standard error, or 2 where the line is none.
-pub fn run_words<'a, R: BufRead, W: Write, E: Write>(
+/// in the last line of standard error, where nothing answered and where no store stands, or 2 where the line is none.
+pub fn run_words<'a, H: Files + Net + Eprint, R: BufRead, W: Write, E: Write>(
+    rt: &H,
     alloc: Global,
     words: &'a [&'a str],
     reader: &mut R,
@@ -78,7 +135,7 @@ pub fn run_words<'a, R: BufRead, W: Write, E: Write>(
         return tell(ScriptFault::ScriptMemory, err);
     };
     match command.try_get_matches_from(words) {
-        Ok(matches) => run_matches(alloc, &matches, reader, out, err),
+        Ok(matches) => run_matches(rt, alloc, &matches, reader, out, err),
         Err(error) => refuse(&error, out, err),
     }
 }

@@ -2,3 +2,4 @@ pub mod Faults
 pub mod Addresses
 pub mod Posts
 pub mod Replies
+pub mod Servers

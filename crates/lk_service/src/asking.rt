@@ -27,7 +27,7 @@ pub struct Question {
 }
 
 /// The bytes of the request.
-fn datagram(alloc: Global, question: &Question) -> Result<BytesMut, ServiceFault> {
+pub fn datagram(alloc: Global, question: &Question) -> Result<BytesMut, ServiceFault> {
     let message = Message {
         cluster: question.cluster,
         content: Content::Request(question.request.copy()),
@@ -39,12 +39,30 @@ fn datagram(alloc: Global, question: &Question) -> Result<BytesMut, ServiceFault
     Ok(bytes)
 }
 
-/// The reply in the next datagram, if one comes and it is one.
-fn next_reply<S: Datagrams>(alloc: Global, socket: &mut S, question: &Question) -> Option<Reply> {
+/// What comes next to a client that has asked.
+#[derive(Clone, Copy, Debug, PartialEq, Eq)]
+pub enum Heard {
+    Nothing,
+    /// A datagram that is no reply to the request.
+    Other,
+    Reply(Reply),
+}
+
+/// What comes next to whoever asked that.
+pub fn next_reply<S: Datagrams>(alloc: Global, socket: &mut S, question: &Question) -> Heard {
     let mut buffer = [0; MAX_DATAGRAM + 1];
-    let (length, _) = socket.receive(&mut buffer)?;
-    let bytes = buffer.get(..length)?;
-    read_reply(alloc, question.cluster, &question.request, bytes)
+    let Some((length, _)) = socket.receive(&mut buffer) else {
+        return Heard::Nothing;
+    };
+    match read_reply(
+        alloc,
+        question.cluster,
+        &question.request,
+        &buffer[..length],
+    ) {
+        Some(reply) => Heard::Reply(reply),
+        None => Heard::Other,
+    }
 }
 
 /// Sends the request to a port of 127.0.0.1, follows the first 20 Elsewhere, and gives what it is replied, or `None` where
@@ -59,19 +77,19 @@ pub fn exchange<S: Datagrams>(
     let mut followed = 0;
     for _ in 0..RECEIVES {
         match next_reply(alloc, socket, question) {
-            Some(Reply::Elsewhere(member)) if followed < FOLLOWED => {
+            Heard::Reply(Reply::Elsewhere(member)) if followed < FOLLOWED => {
                 followed += 1;
                 let _ = socket.send_to(local(member.port.get()), &bytes);
             }
-            Some(Reply::Elsewhere(_)) | None => {}
-            Some(reply) => return Ok(Some(reply)),
+            Heard::Reply(Reply::Elsewhere(_)) | Heard::Other | Heard::Nothing => {}
+            Heard::Reply(reply) => return Ok(Some(reply)),
         }
     }
     Ok(None)
 }
 
 /// Writes what was replied: an answer's text, `passed LAST`, or `no answer`. Whether it was an answer or a Passed.
-fn write_reply<W: Write>(reply: Option<&Reply>, out: &mut W) -> io::Result<bool> {
+pub fn write_reply<W: Write>(reply: Option<&Reply>, out: &mut W) -> io::Result<bool> {
     match reply {
         Some(Reply::Answer(answer)) => writeln!(out, "{answer}")?,
         Some(Reply::Passed(last)) => writeln!(out, "passed {}", last.get())?,

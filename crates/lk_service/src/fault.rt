@@ -4,6 +4,7 @@ ghost use Rattle.std.specs.Prelude.{◌≡◌};
 
 use lk_disk::CannotOpen;
 use lk_log::StoreFault;
+use lk_replica::ReplicaFault;
 use std::alloc::AllocError;
 use std::io::Write;
 use thiserror::Error;
@@ -29,12 +30,35 @@ pub enum ServiceFault {
     /// Fault 11: the store has failed before.
     #[error("fault 11")]
     Failed,
+    /// Fault 14: the node was refused memory.
+    #[error("fault 14")]
+    Halted,
+    /// Fault 15: a datagram was not sent. A server passes over it.
+    #[error("fault 15")]
+    Send,
     /// Fault 24: the output could not be written.
     #[error("fault 24")]
     Write,
 }
 
 impl ServiceFault {
+    ghost use Rattle.lk_service.specs.Faults.{replica_fault};
+
+    /// The fault that a replica's is.
+    pub fn of_replica(fault: &ReplicaFault) -> ServiceFault
+        ensures { result ≡ replica_fault fault.now }
+    {
+        match fault {
+            ReplicaFault::Device => ServiceFault::Device,
+            ReplicaFault::NoMemory => ServiceFault::NoMemory,
+            ReplicaFault::Damaged => ServiceFault::Damaged,
+            ReplicaFault::WrongStore => ServiceFault::WrongStore,
+            ReplicaFault::Failed => ServiceFault::Failed,
+            ReplicaFault::Halted => ServiceFault::Halted,
+            ReplicaFault::Send(_) => ServiceFault::Send,
+        }
+    }
+
     /// Tells it in a line of standard error. The status is 1.
     pub fn tell<E: Write>(self, err: &mut E) -> u8
         ensures { result ≡ 1 }

@@ -4,8 +4,14 @@
 pub mod addresses;
 pub mod asking;
 pub mod command_words;
+pub mod demo;
 pub mod dump;
 pub mod fault;
+mod hearing;
+pub mod node_replica;
+pub mod notes;
 pub mod post;
 pub mod reply;
+pub mod running;
+pub mod server;
 pub mod socket;

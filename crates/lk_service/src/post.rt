@@ -1,35 +1,34 @@
 //! The post of a node that has a socket.
 
-ghost use Rattle.std.specs.Prelude.{◌≡◌, ◌≤◌, ◌++◌, [], Option, length, IfSome, OnOk, OnErr};
+ghost use Rattle.std.specs.Prelude.{◌≡◌, ◌++◌, [], Option, OnOk, OnErr};
 ghost use Rattle.std.specs.declared.net.socket_addr.SocketAddr.{SocketAddr as Address};
 ghost use Rattle.lk_disk.specs.Disk.{HasCause};
-ghost use Rattle.lk_service.specs.Posts.{IsRoute, carried, Hears};
+ghost use Rattle.lk_service.specs.Posts.{IsRoute, carried};
 
 use crate::addresses::Addresses;
 use crate::socket::{Datagrams, local};
-use lk_node::{Post, SendFault, To};
-use lk_wire::{Content, read};
-use std::alloc::Global;
+use lk_node::To;
+use lk_replica::{Post, SendFault};
 use std::marker::Model;
 use std::net::SocketAddr;
 
-/// A socket, and from where others wrote to it.
+/// A socket that is lent for a call, and from where others wrote to it.
 ///
 /// What is bound for a client goes to the address from which its last request came, and is dropped without one. What is
 /// bound for a node goes to its port on 127.0.0.1; where that is not known, to the address from which it wrote last.
 #[derive(Drop)]
-pub struct SocketPost<S: Datagrams + Drop> {
-    socket: S,
-    addresses: Addresses,
+pub struct SocketPost<'a, S: Datagrams> {
+    socket: &'a mut S,
+    addresses: &'a Addresses,
     failures: u64,
 }
 
-impl<S: Datagrams + Drop> Model for SocketPost<S> {
+impl<'a, S: Datagrams> Model for SocketPost<'a, S> {
     ghost use Rattle.lk_service.specs.Posts.{PostValue};
 
     ghost Value = { PostValue };
 
-    ghost view = { λ p. record { sent = S.sent p.socket; addresses = p.addresses; failures = p.failures } };
+    ghost view = { λ p. record { sent = S.sent p.socket.now; addresses = p.addresses.now; failures = p.failures } };
 }
 
 /// Where a letter goes.
@@ -43,49 +42,22 @@ fn route(addresses: &Addresses, to: &To) -> Option<SocketAddr>
     }
 }
 
-impl<S: Datagrams + Drop> SocketPost<S> {
-    /// The post of a socket, to which nobody has written yet.
-    pub fn new(socket: S) -> SocketPost<S>
-        ensures sent { result.sent ≡ S.sent socket }
+impl<'a, S: Datagrams> SocketPost<'a, S> {
+    /// The post of a socket, by these addresses.
+    pub fn new(socket: &'a mut S, addresses: &'a Addresses) -> SocketPost<'a, S>
+        ensures sent { result.sent ≡ S.sent socket.old }
+        ensures addresses { result.addresses ≡ addresses.now }
         ensures failures { result.failures ≡ 0 }
     {
         SocketPost {
             socket,
-            addresses: Addresses::new(),
+            addresses,
             failures: 0,
-        }
-    }
-
-    /// The next datagram, as the socket's receive gives it.
-    pub fn receive(&mut self, buffer: &mut [u8]) -> Option<(usize, SocketAddr)>
-        ensures within { IfSome result (λ r. r.0 ≤ length buffer.new) }
-        ensures addresses { self.new.addresses ≡ self.old.addresses }
-        ensures failures { self.new.failures ≡ self.old.failures }
-    {
-        self.socket.receive(buffer)
-    }
-
-    /// Keeps from where a datagram of the cluster came: a client's request, or what a node says. All else is passed over,
-    /// also a datagram that could not be read for want of memory.
-    pub fn hear(&mut self, alloc: Global, cluster: u64, bytes: &[u8], from: SocketAddr)
-        ensures heard { Hears cluster bytes.now from self.old.addresses self.new.addresses }
-        ensures sent { self.new.sent ≡ self.old.sent }
-        ensures failures { self.new.failures ≡ self.old.failures }
-    {
-        let Ok(message) = read(alloc, bytes) else {
-            return;
-        };
-        if message.cluster != cluster {
-            return;
-        }
-        match &message.content {
-            Content::Request(request) => self.addresses.hear_client(request.client, from),
-            Content::Node(node, _) => self.addresses.hear_node(*node, from),
         }
     }
 }
 
-impl<S: Datagrams + Drop> Post for SocketPost<S> {
+impl<'a, S: Datagrams> Post for SocketPost<'a, S> {
     ghost sent = { λ _. [] };
 
     ghost is_telling = { ⊥ };
@@ -98,7 +70,7 @@ impl<S: Datagrams + Drop> Post for SocketPost<S> {
         ensures addresses { self.new.addresses ≡ self.old.addresses }
         ensures cause { HasCause self.old.failures self.new.failures result }
     {
-        let Some(place) = route(&self.addresses, &to) else {
+        let Some(place) = route(self.addresses, &to) else {
             return Ok(());
         };
         match self.socket.send_to(place, bytes) {

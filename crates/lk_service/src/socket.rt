@@ -5,7 +5,7 @@ ghost use Rattle.std.specs.Net.Socket.{socket_port};
 ghost use Rattle.std.specs.declared.net.socket_addr.SocketAddr.{SocketAddr as Address};
 
 use crate::fault::ServiceFault;
-use lk_node::SendFault;
+use lk_replica::SendFault;
 use std::net::{Ipv4Addr, Net, SocketAddr, UdpSocket};
 use std::time::Duration;
 
@@ -37,6 +37,9 @@ pub trait Datagrams {
     fn receive(&mut self, buffer: &mut [u8]) -> Option<(usize, SocketAddr)>
         ensures within { IfSome result (λ r. r.0 ≤ length buffer.new) }
         ensures unchanged { is_telling → sent self.new ≡ sent self.old };
+
+    /// The port at which datagrams come, if that is known.
+    fn port(&self) -> Option<u16>;
 }
 
 /// A UDP socket of 127.0.0.1. What it sends and takes no contract can say.
@@ -60,10 +63,13 @@ impl LocalSocket {
         Ok(LocalSocket { socket })
     }
 
-    /// The port of the socket.
-    pub fn port(&self) -> Option<u16> {
-        let address = self.socket.local_addr().ok()?;
-        Some(address.port())
+    /// The same, but its receives do not wait.
+    pub fn without_waiting<R: Net>(rt: &R, port: u16) -> Result<LocalSocket, ServiceFault> {
+        let socket = LocalSocket::bind(rt, port)?;
+        if socket.socket.set_nonblocking(true).is_err() {
+            return Err(ServiceFault::CannotOpen);
+        }
+        Ok(socket)
     }
 }
 
@@ -81,5 +87,10 @@ impl Datagrams for LocalSocket {
 
     fn receive(&mut self, buffer: &mut [u8]) -> Option<(usize, SocketAddr)> {
         self.socket.recv_from(buffer).ok()
+    }
+
+    fn port(&self) -> Option<u16> {
+        let address = self.socket.local_addr().ok()?;
+        Some(address.port())
     }
 }

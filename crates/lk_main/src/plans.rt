@@ -1,0 +1,58 @@
+//! What the words of a subcommand ask for, where they are understood.
+
+use clap::ArgMatches;
+use lk_log::Header;
+use lk_service::asking::Question;
+use lk_service::command_words::operation_of;
+use lk_service::running::NodePlan;
+use lk_types::limits::{MAX_CLIENT, MAX_COUNT};
+use lk_types::{ClientNo, NodeNo, Op, Port, Request, RequestNumber};
+use lk_words::genesis::read_genesis;
+use lk_words::number::read_number;
+use lk_words::operation::{node_of, port_of};
+use std::alloc::{AllocError, Global};
+
+/// The bytes of a word that was named.
+fn word<'a>(matches: &ArgMatches<'a>, name: &str) -> Option<&'a [u8]> {
+    Some(matches.get_str(name)?.as_bytes())
+}
+
+/// The node that `locks node` is to run.
+pub fn node_plan<'a>(matches: &ArgMatches<'a>) -> Option<NodePlan<'a>> {
+    let genesis = read_genesis(word(matches, "genesis")?)?;
+    let node: NodeNo = node_of(word(matches, "number")?)?;
+    let port: Port = port_of(word(matches, "port")?)?;
+    Some(NodePlan {
+        header: Header::new(node, genesis),
+        port,
+        folder: matches.get_str("dir")?,
+    })
+}
+
+/// The client that a word names.
+fn client_of(word: &[u8]) -> Option<ClientNo> {
+    let number = read_number(word, u64::from(MAX_CLIENT))?;
+    ClientNo::of(number as u16)
+}
+
+/// The question of an operation that `locks ask` is to put.
+fn question_of(matches: &ArgMatches<'_>, op: Op) -> Option<Question> {
+    let cluster = read_number(word(matches, "cluster")?, u64::MAX)?;
+    let port = port_of(word(matches, "port")?)?;
+    let client = client_of(word(matches, "client")?)?;
+    let number = RequestNumber::of(read_number(word(matches, "request")?, MAX_COUNT)?)?;
+    Some(Question {
+        cluster,
+        port,
+        request: Request { client, number, op },
+    })
+}
+
+/// What `locks ask` is to ask. It refuses where memory was refused.
+pub fn ask_plan(alloc: Global, matches: &ArgMatches<'_>) -> Result<Option<Question>, AllocError> {
+    let words = matches.get_strs("op").unwrap_or(&[]);
+    match operation_of(alloc, words)? {
+        Some(op) => Ok(question_of(matches, op)),
+        None => Ok(None),
+    }
+}

@@ -1,0 +1,256 @@
+//! The service shown in one process: three nodes, and two clients that ask in turn.
+
+ghost use Rattle.std.specs.Prelude.{◌≤◌};
+
+use crate::asking::{Heard, Question, datagram, next_reply, write_reply};
+use crate::fault::ServiceFault;
+use crate::reply::Reply;
+use crate::running::revive;
+use crate::server::Server;
+use crate::socket::{Datagrams, LocalSocket, local};
+use lk_disk::MemoryDisk;
+use lk_log::Header;
+use lk_replica::Replica;
+use lk_state::Machine;
+use lk_types::{ClientNo, Genesis, Member, NodeNo, Port, Request, RequestNumber};
+use lk_words::operation::read_operation;
+use log::sink::Discard;
+use std::alloc::Global;
+use std::io::Write;
+use std::net::Net;
+
+/// The number of the cluster that is shown.
+const CLUSTER: u64 = 1;
+/// How many positions ahead its members are known.
+const ALPHA: u8 = 2;
+/// What the clients ask in turn: the client, its number, and the words.
+const STORY: [(u16, u64, &[u8]); 4] = [
+    (1, 1, b"acquire db"),
+    (2, 1, b"acquire db"),
+    (1, 2, b"release db 1"),
+    (2, 2, b"acquire db"),
+];
+/// The idle turns behind which a request is sent again.
+const PATIENCE: u32 = 200;
+/// The idle turns behind which nothing is waited for any more.
+const IDLE_TURNS: u32 = 10_000;
+/// The turns between two idle ones, at most.
+const TURNS: u64 = 1 << 48;
+
+/// The sockets of three nodes, and that of their clients.
+#[derive(Drop)]
+pub struct Sockets<S: Datagrams + Drop> {
+    pub first: S,
+    pub second: S,
+    pub third: S,
+    pub client: S,
+}
+
+/// A node on a disk in memory.
+type DemoServer<M, S> = Server<Replica<M, MemoryDisk>, S>;
+
+/// The nodes, and the socket of their clients.
+#[derive(Drop)]
+struct Cluster<M: Machine, S: Datagrams + Drop> {
+    first: DemoServer<M, S>,
+    second: DemoServer<M, S>,
+    third: DemoServer<M, S>,
+    client: S,
+    // where requests are sent first
+    port: Port,
+}
+
+/// The member that serves on a socket.
+fn member_at<S: Datagrams>(node: u32, socket: &S) -> Option<Member> {
+    let port = socket.port()?;
+    match (NodeNo::of(node), Port::of(port)) {
+        (Some(node), Some(port)) => Some(Member { node, port }),
+        _ => None,
+    }
+}
+
+/// The members that serve on these sockets.
+fn members_at<S: Datagrams>(first: &S, second: &S, third: &S) -> Option<[Member; 3]> {
+    Some([
+        member_at(1, first)?,
+        member_at(2, second)?,
+        member_at(3, third)?,
+    ])
+}
+
+/// The server of a member.
+fn start<M: Machine, S: Datagrams + Drop>(
+    alloc: Global,
+    member: Member,
+    genesis: &Genesis,
+    socket: S,
+) -> Result<DemoServer<M, S>, ServiceFault> {
+    let header = Header::new(member.node, genesis.copy());
+    let disk = MemoryDisk::new(alloc);
+    revive::<M, _, _, _>(alloc, &header, disk, socket, &Discard)
+}
+
+/// The question that a row of the story asks at a port.
+fn question_of(row: (u16, u64, &[u8]), port: Port) -> Option<Question> {
+    let (client, number, words) = row;
+    let op = read_operation(words)?;
+    match (ClientNo::of(client), RequestNumber::of(number)) {
+        (Some(client), Some(number)) => Some(Question {
+            cluster: CLUSTER,
+            port,
+            request: Request { client, number, op },
+        }),
+        _ => None,
+    }
+}
+
+impl<M: Machine, S: Datagrams + Drop> Cluster<M, S> {
+    /// A new cluster on these sockets.
+    fn begin(alloc: Global, sockets: Sockets<S>) -> Result<Cluster<M, S>, ServiceFault> {
+        let Sockets {
+            first,
+            second,
+            third,
+            client,
+        } = sockets;
+        let Some(members) = members_at(&first, &second, &third) else {
+            return Err(ServiceFault::CannotOpen);
+        };
+        let Ok(genesis) = Genesis::of(CLUSTER, ALPHA, &members) else {
+            return Err(ServiceFault::CannotOpen);
+        };
+        Ok(Cluster {
+            first: start(alloc, members[0], &genesis, first)?,
+            second: start(alloc, members[1], &genesis, second)?,
+            third: start(alloc, members[2], &genesis, third)?,
+            client,
+            port: members[0].port,
+        })
+    }
+
+    /// Each node takes the next datagram that waits for it. Whether one waited for any.
+    fn serve(&mut self, alloc: Global) -> Result<bool, ServiceFault> {
+        let first = self.first.serve_next(alloc, &Discard)?;
+        let second = self.second.serve_next(alloc, &Discard)?;
+        let third = self.third.serve_next(alloc, &Discard)?;
+        Ok(first || second || third)
+    }
+
+    /// Some time passes at each node.
+    fn tick(&mut self) -> Result<(), ServiceFault> {
+        self.first.tick(&Discard)?;
+        self.second.tick(&Discard)?;
+        self.third.tick(&Discard)
+    }
+
+    /// What the clients hear next. An Elsewhere is followed.
+    fn hear(&mut self, alloc: Global, question: &Question, bytes: &[u8]) -> Heard {
+        match next_reply(alloc, &mut self.client, question) {
+            Heard::Reply(Reply::Elsewhere(member)) => {
+                let _ = self.client.send_to(local(member.port.get()), bytes);
+                Heard::Other
+            }
+            heard => heard,
+        }
+    }
+
+    /// Serves until a reply comes, or no datagram waits.
+    fn serve_waiting(
+        &mut self,
+        alloc: Global,
+        question: &Question,
+        bytes: &[u8],
+    ) -> Result<Option<Reply>, ServiceFault> {
+        for _ in 0..TURNS {
+            let was_served = self.serve(alloc)?;
+            match self.hear(alloc, question, bytes) {
+                Heard::Reply(reply) => return Ok(Some(reply)),
+                Heard::Nothing if !was_served => return Ok(None),
+                Heard::Nothing | Heard::Other => {}
+            }
+        }
+        Ok(None)
+    }
+
+    /// Sends a request, and again behind every 200 idle turns, in each of which a tick comes to each node. Gives its reply,
+    /// or `None` behind 10,000 idle turns.
+    fn ask(&mut self, alloc: Global, question: &Question) -> Result<Option<Reply>, ServiceFault> {
+        let bytes = datagram(alloc, question)?;
+        for idle in 0..IDLE_TURNS {
+            if idle % PATIENCE == 0 {
+                let _ = self.client.send_to(local(self.port.get()), &bytes);
+            }
+            if let Some(reply) = self.serve_waiting(alloc, question, &bytes)? {
+                return Ok(Some(reply));
+            }
+            self.tick()?;
+        }
+        Ok(None)
+    }
+
+    /// Asks what a row of the story says, and prints the reply. Whether there was one.
+    fn tell<W: Write>(
+        &mut self,
+        alloc: Global,
+        row: (u16, u64, &[u8]),
+        out: &mut W,
+    ) -> Result<bool, ServiceFault> {
+        let reply = match question_of(row, self.port) {
+            Some(question) => self.ask(alloc, &question)?,
+            None => None,
+        };
+        write_reply(reply.as_ref(), out).map_err(|_| ServiceFault::Write)
+    }
+}
+
+/// Runs three nodes on disks in memory, and prints what their clients are replied, who ask in turn. The sockets' receives are
+/// not to wait. Whether each request was replied to: where one was not, the last line is `no answer`.
+pub fn play<M: Machine, S: Datagrams + Drop, W: Write>(
+    alloc: Global,
+    sockets: Sockets<S>,
+    out: &mut W,
+) -> Result<bool, ServiceFault> {
+    let mut cluster: Cluster<M, S> = Cluster::begin(alloc, sockets)?;
+    for row in STORY {
+        if !cluster.tell(alloc, row, out)? {
+            return Ok(false);
+        }
+    }
+    Ok(true)
+}
+
+/// Plays on four free ports of 127.0.0.1.
+fn play_on_ports<M: Machine, R: Net, W: Write>(
+    rt: &R,
+    alloc: Global,
+    out: &mut W,
+) -> Result<bool, ServiceFault> {
+    let sockets = Sockets {
+        first: LocalSocket::without_waiting(rt, 0)?,
+        second: LocalSocket::without_waiting(rt, 0)?,
+        third: LocalSocket::without_waiting(rt, 0)?,
+        client: LocalSocket::without_waiting(rt, 0)?,
+    };
+    let is_told = play::<M, _, W>(alloc, sockets, out)?;
+    if out.flush().is_err() {
+        return Err(ServiceFault::Write);
+    }
+    Ok(is_told)
+}
+
+/// Shows the service: three nodes of this process on free ports of 127.0.0.1, and what two clients are replied in turn. The
+/// status is 0; 1 where nothing was, which is printed as `no answer`, and where a fault is told on standard error.
+pub fn demo<M: Machine, R: Net, W: Write, E: Write>(
+    rt: &R,
+    alloc: Global,
+    out: &mut W,
+    err: &mut E,
+) -> u8
+    ensures { result ≤ 1 }
+{
+    match play_on_ports::<M, R, W>(rt, alloc, out) {
+        Ok(true) => 0,
+        Ok(false) => 1,
+        Err(fault) => fault.tell(err),
+    }
+}

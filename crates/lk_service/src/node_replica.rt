@@ -1,0 +1,41 @@
+//! A replica as a server runs it.
+
+ghost use Rattle.std.specs.Prelude.{◌≡◌, ◌++◌, ◌∷◌, ℕ, List, [], Option, Bool, true, false, OnOk, IfErr};
+ghost use Rattle.lk_node.specs.Calls.{heard_by};
+ghost use Rattle.lk_replica.specs.Faults.{fault_number, IfSend};
+
+use lk_disk::LogDisk;
+use lk_node::{Input, Note};
+use lk_replica::{Post, Replica, ReplicaFault};
+use lk_state::Machine;
+
+/// A replica as a server runs it: what is given to it, it takes.
+pub trait NodeReplica: Sized + Drop {
+    /// What it was given, in order: the bytes of a datagram, or none at a tick.
+    ghost given: { Self → List (Option (List ℕ)) };
+
+    /// It tells what it was given. It is a fact of its kind, so no call can end it.
+    ghost is_telling: { Type 0 };
+
+    /// A call has ended it.
+    ghost failed: { Self → Bool };
+
+    /// Takes a tick or a datagram, as `Replica::take` does. Any refusal but `Send` ends it.
+    fn take<P: Post>(&mut self, input: Input, post: &mut P) -> Result<Vec<Note>, ReplicaFault>
+        ensures given { is_telling → given self.new ≡ given self.old ++ heard_by input.entry ∷ [] }
+        ensures alive { OnOk result (failed self.new ≡ false) }
+        ensures sends_on { IfErr result (IfSend (λ notes. failed self.new ≡ false)) }
+        ensures broken { IfErr result (λ e. (fault_number e ≡ 15 → ⊥) → failed self.new ≡ true) };
+}
+
+impl<M: Machine, D: LogDisk + Drop> NodeReplica for Replica<M, D> {
+    ghost given = { λ _. [] };
+
+    ghost is_telling = { ⊥ };
+
+    ghost failed = { λ r. r.failed };
+
+    fn take<P: Post>(&mut self, input: Input, post: &mut P) -> Result<Vec<Note>, ReplicaFault> {
+        Replica::take(self, input, post)
+    }
+}

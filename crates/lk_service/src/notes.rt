@@ -1,0 +1,16 @@
+//! The notes of a node as lines of a log.
+
+use lk_node::Note;
+use log::{Log, info};
+
+/// Logs what a node counted and executed, a line each at the level of information: `counted POSITION`, `ran POSITION`. A line
+/// that fails is dropped.
+pub fn log_notes<L: Log>(log: &L, notes: &[Note]) {
+    for note in notes {
+        match note {
+            Note::Counted(_, position, _, _) => info!(log; "counted {}", position.get()),
+            Note::Ran(_, position, _) => info!(log; "ran {}", position.get()),
+            Note::Asked(_) | Note::Answered(_, _, _, _) | Note::Told(_, _, _, _) => {}
+        }
+    }
+}
