@@ -13,7 +13,7 @@ use Rattle.lk_node.specs.Calls.{Goes}
 use Rattle.lk_node.specs.Histories.{History}
 use Rattle.lk_node.specs.Leavings.{header_of, DisksFit}
 use Rattle.lk_node.specs.Served.{text}
-use Rattle.lk_node.proofs.Replicas.{held_by, held_fits, nothing_later}
+use Rattle.lk_replica.proofs.Replicas.{held_by, held_fits, nothing_later}
 
 pub empty_list : {X : Type 0} (xs : List X) → length xs ≡ 0 → xs ≡ []
 empty_list [] e = refl

@@ -1,12 +1,13 @@
 // A replica that keeps its disks, which have to be empty, and does nothing else.
-ghost use Rattle.std.specs.Prelude.{◌≡◌, []};
+ghost use Rattle.std.specs.Prelude.{◌≡◌, [], Ok, IfOk};
 ghost use Rattle.lk_disk.specs.Memory.{disk_of};
 ghost use Rattle.lk_state.specs.Meanings.{meaning};
 ghost use Rattle.lk_state.specs.States.{SumsUp};
 
 use lk_disk::{MemoryDisk, Trap, Trapped};
 use lk_log::Header;
-use lk_node::{Input, MemoryReplica, ReplicaFault, ReviveFault, Revived, Taken};
+use lk_node::Input;
+use lk_replica::{MemoryReplica, ReplicaFault, ReviveFault, Revived, Taken};
 use lk_state::{Machine, Whole};
 use std::alloc::Global;
 
@@ -26,9 +27,9 @@ impl<M: Machine> MemoryReplica for Idle<M> {
 
     ghost whole = { λ r. r.whole };
 
-    ghost Takes = { λ r o q notes sent. (q ≡ r) × (notes ≡ []) × (sent ≡ []) };
+    ghost Takes = { λ r o q came. (q ≡ r) × (came ≡ Ok ([], [])) };
 
-    ghost Revives = { λ disks header r notes. notes ≡ [] };
+    ghost Revives = { λ device header came. IfOk came (λ c. c.1 ≡ []) };
 
     fn revive(
         alloc: Global,

@@ -11,6 +11,8 @@ mod digits;
 #[cfg(test)]
 mod disk;
 #[cfg(test)]
+mod failing;
+#[cfg(test)]
 mod files;
 #[cfg(test)]
 mod idle;
@@ -21,23 +23,37 @@ mod learner;
 #[cfg(test)]
 mod locks;
 #[cfg(test)]
-mod log;
-#[cfg(test)]
 mod members;
 #[cfg(test)]
 mod node;
 #[cfg(test)]
 mod node_messages;
 #[cfg(test)]
+mod node_ticks;
+#[cfg(test)]
+mod node_turns;
+#[cfg(test)]
+mod node_waiting;
+#[cfg(test)]
 mod reviving;
 #[cfg(test)]
 mod script;
 #[cfg(test)]
+mod second;
+#[cfg(test)]
 mod service;
+#[cfg(test)]
+mod serving;
+#[cfg(test)]
+mod starving;
 #[cfg(test)]
 mod state;
 #[cfg(test)]
+mod store;
+#[cfg(test)]
 mod tour;
+#[cfg(test)]
+mod turns;
 #[cfg(test)]
 mod wire;
 #[cfg(test)]

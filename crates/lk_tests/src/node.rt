@@ -1,11 +1,11 @@
 use crate::digits::bytes_of;
+use crate::second::header;
 use lk_acceptor::Acceptor;
 use lk_learner::Learner;
 use lk_locks::LockTable;
-use lk_log::Header;
 use lk_node::{Input, Node, Outbox, To};
 use lk_state::Whole;
-use lk_types::{Ballot, Executed, Genesis, Member, NodeNo, Port};
+use lk_types::{Ballot, Executed, NodeNo};
 use std::alloc::Global;
 use std::test::Fail;
 
@@ -29,18 +29,6 @@ const ACCEPT: &str =
 
 const ACCEPTED: &str =
     "4c4b0104 0000000000000005 00000002 0000000000000003 00000001 0000000000000102 00";
-
-fn member(node: u32, port: u16) -> Result<Member, Fail> {
-    let node = NodeNo::of(node).ok_or("node")?;
-    let port = Port::of(port).ok_or("port")?;
-    Ok(Member { node, port })
-}
-
-fn header() -> Result<Header, Fail> {
-    let members = [member(1, 7001)?, member(2, 7002)?, member(3, 7003)?];
-    let genesis = Genesis::of(5, 1, &members)?;
-    Ok(Header::new(NodeNo::of(2).ok_or("node")?, genesis))
-}
 
 // Node 2, which has promised (1, 1) and executed 256 positions, all of them in its snapshot.
 fn node(alloc: Global) -> Result<Node<LockTable>, Fail> {

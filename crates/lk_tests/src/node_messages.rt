@@ -1,13 +1,13 @@
 //! What a node sends for a request, and for what another node wants, refuses or leads in, by bytes.
 
 use crate::digits::bytes_of;
+use crate::second::header;
 use lk_acceptor::Acceptor;
 use lk_learner::Learner;
 use lk_locks::LockTable;
-use lk_log::Header;
 use lk_node::{Input, Node, Outbox, To};
 use lk_state::Whole;
-use lk_types::{Ballot, ClientNo, Command, Executed, Genesis, Member, NodeNo, Port, Position};
+use lk_types::{Ballot, ClientNo, Command, Executed, NodeNo, Position};
 use std::alloc::Global;
 use std::test::Fail;
 
@@ -42,18 +42,6 @@ const ASKED_AGAIN: Text<'static> = ("09", "0007 0000000000000009 00 04 01 02 616
 const ASKED_BELOW: Text<'static> = ("09", "0007 0000000000000008 00 04 01 02 6161");
 
 const ASKED_ANEW: Text<'static> = ("09", "0007 000000000000000a 00 04 01 02 6161");
-
-fn member(node: u32, port: u16) -> Result<Member, Fail> {
-    let node = NodeNo::of(node).ok_or("node")?;
-    let port = Port::of(port).ok_or("port")?;
-    Ok(Member { node, port })
-}
-
-fn header() -> Result<Header, Fail> {
-    let members = [member(1, 7001)?, member(2, 7002)?, member(3, 7003)?];
-    let genesis = Genesis::of(5, 1, &members)?;
-    Ok(Header::new(NodeNo::of(2).ok_or("node")?, genesis))
-}
 
 // Two no-ops are executed behind the state.
 fn learner(alloc: Global) -> Result<Learner<LockTable>, Fail> {

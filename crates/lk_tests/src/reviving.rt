@@ -1,9 +1,9 @@
 use crate::digits::bytes_of;
+use crate::second::header;
 use lk_disk::{LogDisk, MemoryDisk, Side, Trap, Trapped};
 use lk_locks::LockTable;
-use lk_log::Header;
-use lk_node::{Input, MemoryReplica, Post, Replica, ReplicaFault, ReviveFault, SendFault, To};
-use lk_types::{Genesis, Member, NodeNo, Port};
+use lk_node::{Input, To};
+use lk_replica::{MemoryReplica, Post, Replica, ReplicaFault, ReviveFault, SendFault};
 use std::alloc::Global;
 use std::test::Fail;
 
@@ -55,18 +55,6 @@ const DECIDED_257: &str = "0000000a 04 0000000000000101 00";
 const DECIDED_258: &str = "0000000a 04 0000000000000102 00";
 
 const DECIDED_259: &str = "0000000a 04 0000000000000103 00";
-
-fn member(node: u32, port: u16) -> Result<Member, Fail> {
-    let node = NodeNo::of(node).ok_or("node")?;
-    let port = Port::of(port).ok_or("port")?;
-    Ok(Member { node, port })
-}
-
-fn header() -> Result<Header, Fail> {
-    let members = [member(1, 7001)?, member(2, 7002)?, member(3, 7003)?];
-    let genesis = Genesis::of(5, 1, &members)?;
-    Ok(Header::new(NodeNo::of(2).ok_or("node")?, genesis))
-}
 
 // A device whose file A has these bytes, all synced.
 fn device_of(alloc: Global, texts: &[&str]) -> Result<MemoryDisk, Fail> {

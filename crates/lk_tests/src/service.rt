@@ -1,10 +1,11 @@
 ghost use Rattle.std.specs.Prelude.{[]};
 
 use crate::digits::bytes_of;
-use crate::log::{ZERO, header, promise, vote};
+use crate::store::{ZERO, header, promise, vote};
 use lk_disk::{FileDisk, SystemFile};
 use lk_log::{Store, reopen};
-use lk_node::{Post, SendFault, To};
+use lk_node::To;
+use lk_replica::{Post, SendFault};
 use lk_service::addresses::Addresses;
 use lk_service::asking::{Question, ask};
 use lk_service::command_words::operation_of;
@@ -17,7 +18,7 @@ use lk_words::operation::read_operation;
 use std::alloc::Global;
 use std::fs;
 use std::fs::{Files, OpenFile};
-use std::net::{Net, SocketAddr};
+use std::net::SocketAddr;
 use std::test::Fail;
 
 // A new empty folder of that name.
@@ -116,6 +117,10 @@ impl Datagrams for Scripted {
         let place = buffer.get_mut(..datagram.len())?;
         place.copy_from_slice(datagram);
         Some((datagram.len(), local(1)))
+    }
+
+    fn port(&self) -> Option<u16> {
+        None
     }
 }
 
@@ -239,27 +244,27 @@ fn a_port_that_is_taken_cannot_be_opened(rt: HostRuntime) -> Result<(), Fail> {
     Ok(())
 }
 
-// A post that has heard the datagram of a client's socket.
-fn heard<R: Net>(
-    rt: &R,
+// From where a node has heard the datagram of a client's socket.
+fn heard(
     alloc: Global,
+    node: &mut LocalSocket,
     client: &mut LocalSocket,
     text: &str,
-) -> Result<SocketPost<LocalSocket>, Fail> {
-    let node = LocalSocket::bind(rt, 0)?;
+) -> Result<Addresses, Fail> {
     let _ = client.send_to(
         local(node.port().ok_or("port")?),
         &bytes_of(alloc, &[text])?,
     );
-    let mut post = SocketPost::new(node);
+    let mut addresses = Addresses::new();
     let mut buffer = [0; 100];
-    let (length, from) = post.receive(&mut buffer).ok_or("nothing came")?;
-    post.hear(alloc, 5, buffer.get(..length).ok_or("length")?, from);
-    Ok(post)
+    let (length, from) = node.receive(&mut buffer).ok_or("nothing came")?;
+    addresses.hear(alloc, 5, buffer.get(..length).ok_or("length")?, from);
+    Ok(addresses)
 }
 
-// Whether what is bound for that receiver comes to the socket.
-fn comes(post: &mut SocketPost<LocalSocket>, socket: &mut LocalSocket, to: To) -> bool {
+// Whether what a node sends to that receiver comes to the socket.
+fn comes(node: &mut LocalSocket, addresses: &Addresses, socket: &mut LocalSocket, to: To) -> bool {
+    let mut post = SocketPost::new(node, addresses);
     post.send(to, b"bytes").is_ok() && receives(socket, b"bytes")
 }
 
@@ -271,14 +276,15 @@ const OTHER_CLUSTER: &str =
 #[test]
 fn a_client_is_answered_where_it_wrote(rt: HostRuntime) -> Result<(), Fail> {
     let alloc = rt.alloc();
+    let mut node = LocalSocket::bind(&rt, 0)?;
     let mut socket = LocalSocket::bind(&rt, 0)?;
     let client = To::Client(ClientNo::of(7).ok_or("client")?);
     let other = To::Client(ClientNo::of(8).ok_or("client")?);
-    let mut post = heard(&rt, alloc, &mut socket, REQUEST)?;
-    assert!(rt; comes(&mut post, &mut socket, client));
-    assert!(rt; !comes(&mut post, &mut socket, other));
-    let mut post = heard(&rt, alloc, &mut socket, OTHER_CLUSTER)?;
-    assert!(rt; !comes(&mut post, &mut socket, client));
+    let addresses = heard(alloc, &mut node, &mut socket, REQUEST)?;
+    assert!(rt; comes(&mut node, &addresses, &mut socket, client));
+    assert!(rt; !comes(&mut node, &addresses, &mut socket, other));
+    let addresses = heard(alloc, &mut node, &mut socket, OTHER_CLUSTER)?;
+    assert!(rt; !comes(&mut node, &addresses, &mut socket, client));
     Ok(())
 }
 
@@ -287,14 +293,15 @@ const WANT: &str = "4c4b0107 0000000000000005 00000004 0000000000000001 00000000
 #[test]
 fn a_node_without_a_port_is_answered_where_it_wrote(rt: HostRuntime) -> Result<(), Fail> {
     let alloc = rt.alloc();
+    let mut node = LocalSocket::bind(&rt, 0)?;
     let mut socket = LocalSocket::bind(&rt, 0)?;
     let port = socket.port().ok_or("port")?;
-    let node = NodeNo::of(4).ok_or("node")?;
-    let other = NodeNo::of(3).ok_or("node")?;
-    let mut post = heard(&rt, alloc, &mut socket, WANT)?;
-    assert!(rt; comes(&mut post, &mut socket, To::Node(node, 0)));
-    assert!(rt; !comes(&mut post, &mut socket, To::Node(other, 0)));
-    assert!(rt; comes(&mut post, &mut socket, To::Node(other, port)));
+    let four = NodeNo::of(4).ok_or("node")?;
+    let three = NodeNo::of(3).ok_or("node")?;
+    let addresses = heard(alloc, &mut node, &mut socket, WANT)?;
+    assert!(rt; comes(&mut node, &addresses, &mut socket, To::Node(four, 0)));
+    assert!(rt; !comes(&mut node, &addresses, &mut socket, To::Node(three, 0)));
+    assert!(rt; comes(&mut node, &addresses, &mut socket, To::Node(three, port)));
     Ok(())
 }
 

@@ -1,5 +1,6 @@
 use crate::digits::bytes_of;
-use lk_types::{NodeNo, Op, Port};
+use lk_types::{Genesis, Member, NodeNo, Op, Port};
+use lk_words::genesis::read_genesis;
 use lk_words::operation::read_operation;
 use std::alloc::Global;
 use std::test::Fail;
@@ -120,4 +121,55 @@ fn a_raw_body_has_64_bytes_at_most(rt: HostRuntime) -> Result<(), Fail> {
         assert_eq!(rt; is_body(rt.alloc(), digits)?, is_good);
     }
     Ok(())
+}
+
+#[test]
+fn a_genesis_is_told_by_words(rt: HostRuntime) -> Result<(), Fail> {
+    let first = Member {
+        node: NodeNo::of(1).ok_or("node")?,
+        port: Port::of(7001).ok_or("port")?,
+    };
+    let second = Member {
+        node: NodeNo::of(2_147_483_648).ok_or("node")?,
+        port: Port::of(65_535).ok_or("port")?,
+    };
+    assert_eq!(rt;
+        read_genesis(b"0,1,1:7001"),
+        Genesis::of(0, 1, &[first]).ok()
+    );
+    assert_eq!(rt;
+        read_genesis(b"18446744073709551615,16,1:7001,2147483648:65535"),
+        Genesis::of(u64::MAX, 16, &[first, second]).ok()
+    );
+    Ok(())
+}
+
+// Texts that are no genesis, or one that is refused.
+const NO_GENESIS: [&[u8]; 16] = [
+    b"",
+    b"5",
+    b"5,2",
+    b"5,2,",
+    b"5,2,1",
+    b"5,2,1:7001,",
+    b",2,1:7001",
+    b"5,,1:7001",
+    b"5,2,1:7001 2:7002",
+    b"18446744073709551616,2,1:7001",
+    b"5,0,1:7001",
+    b"5,17,1:7001",
+    b"5,02,1:7001",
+    b"5,2,2:7002,1:7001",
+    b"5,2,1:7001,1:7002",
+    b"5,2,1:1,2:1,3:1,4:1,5:1,6:1,7:1,8:1",
+];
+
+// The first of the texts that is a genesis.
+fn first_genesis(texts: &'static [&'static [u8]]) -> Option<usize> {
+    texts.iter().position(|text| read_genesis(text).is_some())
+}
+
+#[test]
+fn other_words_tell_no_genesis(rt: HostRuntime) {
+    assert_eq!(rt; first_genesis(&NO_GENESIS), None);
 }

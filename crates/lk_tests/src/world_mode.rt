@@ -1,6 +1,6 @@
 use lk_disk::MemoryDisk;
 use lk_locks::LockTable;
-use lk_node::Replica;
+use lk_replica::Replica;
 use lk_script::fault::ScriptFault;
 use lk_script::script::run_script;
 use lk_sim::Refused;

@@ -1,4 +1,4 @@
-use Rattle.lk_node.proofs.Replicas.{stands_still}
+use Rattle.lk_replica.proofs.Replicas.{stands_still}
 use Rattle.lk_tests.proofs.idle.IdleMemoryReplica.take.Goals as goal
 
 pub returns-clause-goes : goal.returns-clause-goes
