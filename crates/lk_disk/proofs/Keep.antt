@@ -1,8 +1,9 @@
 -- What a stop keeps of a file in memory.
-use Rattle.std.proofs.Common.{◌≡◌, ℕ, ◌+◌, ◌-◌, min, List, ◌++◌, length, take, drop, arith, sym, ◌∙◌, ap, append_assoc, length-drop, Option, Some, None}
-use Rattle.std.proofs.Math.Seq.{take-add, take-append-add}
-use Rattle.std.proofs.lemmas.List.{take_min, take_all, drop_all, append-nil, take-append-drop}
-use Rattle.lk_disk.specs.Disk.{Disk, MayLeave, contents, kept_by}
+use Rattle.std.proofs.Common.{◌≡◌, ℕ, ◌+◌, ◌-◌, ◌≤◌, min, max, List, [], ◌++◌, length, take, drop, arith, sym, ◌∙◌, ap, append_assoc, length-drop, Option, Some, None}
+use Rattle.std.proofs.Math.Seq.{take-add, take-append-add, take-length}
+use Rattle.std.proofs.lemmas.List.{take_min, take_all, drop_all, append-nil, take-append-drop, length-take-le}
+use Rattle.lk_disk.specs.Disk.{Disk, MayLeave, AppendsSome, CutShort, contents, appended, cut_to, kept_by}
+use Rattle.lk_disk.specs.Memory.{cut_within}
 use Rattle.lk_disk.specs.Files.{left_of, file_showing}
 
 keep_front : (n s : ℕ) (b : List ℕ) → take (s + min n (length b - s)) b ≡ take s b ++ take n (drop s b)
@@ -29,3 +30,20 @@ keeps_image_of n (Some k) d = (
       ∙ append_assoc (take k d.synced) (drop k d.synced) (take n d.unsynced)
       ∙ ap (λ (l : List ℕ). take k d.synced ++ l) (sym (take-append-add (drop k d.synced) d.unsynced n)),
 )
+
+length-front : (k : ℕ) (l : List ℕ) → k ≤ length l → length (take k l ++ []) ≡ k
+length-front k l le = ap length (append-nil (take k l)) ∙ length-take-le k l le
+
+-- a stop inside a cut leaves what a failed cut may leave
+pub cut_short : (n bytes : ℕ) (d : Disk) → n ≤ length (contents d) → CutShort n d (cut_within n bytes d)
+cut_short n bytes d le =
+    let k : ℕ = min (max bytes n) (length (contents d)) in
+    let reaches : k ≤ length (contents d) = omega arith in
+    record {
+      front = append-nil (take k (contents d)) ∙ ap (λ j. take j (contents d)) (sym (length-front k (contents d) reaches));
+      kept = omega (arith, length-take-le k (contents d) reaches, le);
+    }
+
+-- a whole piece is a beginning of itself
+pub appends_all : (piece : List ℕ) (old new : Disk) → new ≡ appended old piece → AppendsSome piece old new
+appends_all piece old new e = (length piece, e ∙ ap (appended old) (sym (take-length piece)))

@@ -1,20 +1,24 @@
 ghost use Rattle.std.specs.Prelude.{◌≡◌};
-ghost use Rattle.lk_disk.specs.Traps.{is_due, trap_behind};
+ghost use Rattle.lk_disk.specs.Traps.{is_due, stops_next, trap_behind};
 ghost use Rattle.lk_disk.specs.declared.device.Side.{Side};
 
 use crate::device::LogDisk;
 
-/// What befalls a changing call (an append, a sync or a cut) to come.
+/// What befalls a changing call (an append, a sync or a cut) to come. Calls are counted from 1 from now on; none has number 0.
 #[derive(Clone, Copy, Debug, PartialEq, Eq)]
 pub enum Trap {
     /// No call.
     Off,
-    /// The call of that number, counted from 1 from now on, fails once and changes nothing. No call has number 0.
+    /// The call of that number fails once and changes nothing.
     Fail(u64),
+    /// A stop at the call of that number, for so many bytes: that call and each later one fails until a stop. An append is made
+    /// all the same, a sync is not, and a cut leaves up to so many bytes of the file. Whoever sends behind the calls of a step
+    /// counts the sends on.
+    Arm(u64, usize),
 }
 
 impl Trap {
-    // A changing call passes by. Whether it is the one that fails.
+    // A changing call passes by. Whether the trap goes off at it.
     pub(crate) fn pass(&mut self) -> bool
         ensures due { result ≡ is_due self.old }
         ensures behind { self.new ≡ trap_behind self.old }
@@ -29,6 +33,20 @@ impl Trap {
                 };
                 count == 1
             }
+            Trap::Arm(count, bytes) => {
+                *self = Trap::Arm(count.saturating_sub(1), bytes);
+                count == 1
+            }
+        }
+    }
+
+    // For how many bytes the device stops at the next changing call, if it does.
+    pub(crate) fn stops_next(self) -> Option<usize>
+        ensures { result ≡ stops_next self }
+    {
+        match self {
+            Trap::Arm(1, bytes) => Some(bytes),
+            _ => None,
         }
     }
 }

@@ -14,7 +14,7 @@ use Rattle.lk_state.specs.Meanings.{Meaning}
 use Rattle.lk_state.specs.States.{SumsUp, whole_after}
 use Rattle.lk_state.specs.Runs.{ran}
 use Rattle.lk_state.proofs.Wholes.{ran-whole_after}
-use Rattle.lk_learner.specs.Learners.{Command, Pair, WholeValue, LearnerValue, executed, begun, keeping, IsNext, advanced, IsServed, news_from}
+use Rattle.lk_learner.specs.Learners.{Command, Pair, WholeValue, LearnerValue, executed, begun, keeping, IsNext, advanced, IsServed, news_from, standing_here}
 use Rattle.lk_learner.specs.Following.{Follows}
 use Rattle.lk_learner.proofs.PairLaws.{with_has, with_others, with_only, without_from}
 
@@ -66,6 +66,18 @@ module _ (m : Meaning) (genesis : Genesis) where
         served = sym (drop_of_length-le done (omega (arith, e)));
         known = λ p h. h;
         kept = λ p h. h;
+      }
+
+  -- with a snapshot of its state in the place of what it has executed
+  pub here_follows : (done : List Command) (pairs : List Pair) (l : LearnerValue) → Follows m genesis done pairs l → Follows m genesis done pairs (standing_here l)
+  here_follows done pairs l f =
+      let e = executed_is done l.whole f.sums in
+      record {
+        sums = f.sums;
+        within = omega (arith, e);
+        served = sym (drop_of_length-le done (omega (arith, e)));
+        known = f.known;
+        kept = f.kept;
       }
 
   pub keeping_follows : (done : List Command) (pairs : List Pair) (l : LearnerValue) (p : Pair) → Follows m genesis done pairs l → Follows m genesis done (pairs ++ p ∷ []) (keeping p l)

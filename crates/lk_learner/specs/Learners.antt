@@ -66,6 +66,10 @@ advanced m v l = record {
   gathered = l.gathered;
 }
 
+-- a snapshot of its state takes the place of the commands that it has executed
+abbrev pub standing_here : LearnerValue → LearnerValue
+standing_here l = record { whole = l.whole; snapshot_position = executed l; served = []; pairs = l.pairs; gathered = l.gathered }
+
 -- the position is executed, and above the snapshot
 abbrev pub IsServed : LearnerValue → ℕ → Type 0
 IsServed l i = (l.snapshot_position < i) × (i ≤ executed l)

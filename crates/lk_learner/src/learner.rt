@@ -3,6 +3,7 @@ ghost use Rattle.lk_types.specs.Limits.{max_count};
 
 use crate::pair::{Pair, is_kept, place_of};
 use arrayvec::ArrayVec;
+use bytes::BytesMut;
 use lk_state::{Machine, Ran, Whole};
 use lk_types::limits::{MAX_COMMANDS, MAX_VOTES};
 use lk_types::{Command, Executed, NoMemory, Position};
@@ -33,14 +34,15 @@ impl<M: Machine> Model for Learner<M> {
 }
 
 impl<M: Machine> Learner<M> {
-    ghost use Rattle.std.specs.Prelude.{◌≡◌, ◌↔◌, ◌+◌, ◌-◌, ◌*◌, ◌<◌, ◌≤◌, ◌++◌, Some, None, false, List, [], ◌∷◌, IsTrue, OnOk, OnErr, IfOk, MatchOption, Ok, slice_get, take, drop};
+    ghost use Rattle.std.specs.Prelude.{◌≡◌, ◌↔◌, ◌+◌, ◌-◌, ◌*◌, ◌<◌, ◌≤◌, ◌++◌, Some, None, false, List, [], ◌∷◌, IsTrue, OnOk, OnErr, IfOk, MatchOption, Ok, slice_get, length, take, drop};
+    ghost use Rattle.lk_state.specs.Packed.{packed};
     ghost use Rattle.std.specs.Option.{option_copied};
     ghost use Rattle.lk_members.specs.Counting.{Command, counted};
     ghost use Rattle.lk_members.specs.Rosters.{Genesis};
     ghost use Rattle.lk_state.specs.Meanings.{meaning};
     ghost use Rattle.lk_state.specs.States.{SumsUp, reply_of};
     ghost use Rattle.lk_state.specs.Runs.{run_answer};
-    ghost use Rattle.lk_learner.specs.Learners.{IsLearner, executed, alpha, begun, IsWanted, keeping, IsNext, advanced, IsServed, news_from, wanted};
+    ghost use Rattle.lk_learner.specs.Learners.{IsLearner, executed, alpha, begun, IsWanted, keeping, IsNext, advanced, standing_here, IsServed, news_from, wanted};
 
     /// A learner that stands on this state, as a snapshot leaves it. It takes no memory.
     pub fn new(alloc: Global, whole: Whole<M>) -> Learner<M>
@@ -143,6 +145,26 @@ impl<M: Machine> Learner<M> {
         let pair = self.pairs.remove(0);
         self.served.push(pair.command).unwrap();
         Ok(Some(ran))
+    }
+
+    /// The packed text of the state behind the executed commands.
+    pub fn pack_now(&self) -> Result<BytesMut, NoMemory>
+        ensures text { IfOk result (λ t. t.items ≡ packed self.now.whole) }
+        ensures some { IfOk result (λ t. 1 ≤ length t.items) }
+        ensures room { IfOk result (λ t. length t.items ≤ 42087) }
+    {
+        self.whole.facts();
+        let mut text = BytesMut::new(self.alloc);
+        self.whole.pack(&mut text)?;
+        Ok(text)
+    }
+
+    /// A snapshot of the state takes the place of the executed commands. It takes no memory.
+    pub fn stand_here(&mut self)
+        ensures { self.new ≡ standing_here self.old }
+    {
+        self.snapshot_position = self.whole.executed();
+        self.served = Vec::new(self.alloc);
     }
 
     /// What to ask for: the commands from the next position on, or the rest of a snapshot that is gathered. `None` where

@@ -56,7 +56,7 @@ nothing_front : (c d : List ℕ) (p : ℕ) → IsFile c [] false → d ≡ take 
 nothing_front c d p f is = subst (λ (l : List ℕ). IsFile l [] false) (sym is) (front_past p c [] f (omega arith))
 
 -- the front of what an entry spells is the entry or nothing
-entry_or_nothing : (e : Stored) (p : ℕ) (c : List ℕ) → IsStored e → c ≡ take p (spelling e) → IsFile c [] false ⊎ IsFile c (e ∷ []) false
+pub entry_or_nothing : (e : Stored) (p : ℕ) (c : List ℕ) → IsStored e → c ≡ take p (spelling e) → IsFile c [] false ⊎ IsFile c (e ∷ []) false
 entry_or_nothing e p c fits is = elim (cases_lt p (length (spelling e))) [
   | inl short ↦ inl (record { whole = record { fit = tt; rest = c; is = refl; ends = subst (λ (l : List ℕ). NoneBegins l) (sym is) (front_begins_none e p fits short) }; damage = ap (λ (l : List ℕ). not (is_torn l)) is ∙ ap not (entry_front_torn e p fits short) })
   | inr all ↦ inr (file_spelled (e ∷ []) c (fits, tt) (is ∙ take_all p (spelling e) all ∙ sym (append-nil (spelling e))))
@@ -129,7 +129,7 @@ begins_pick B old new h text all image left = all image (λ s. each_side (λ (t 
 
 -- ---- the first Base is an entry
 
-members_long : (ms : List Member) → length (flat_map member ms) ≤ 6 * length ms
+pub members_long : (ms : List Member) → length (flat_map member ms) ≤ 6 * length ms
 unfolding two four
 members_long [] = omega arith
 members_long (m ∷ ms) = omega (arith, ap length (flat_map-cons member m ms), length-append (member m) (flat_map member ms), members_long ms)

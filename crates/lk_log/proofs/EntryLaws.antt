@@ -197,7 +197,7 @@ module _ {X : Type 0} where
 
 -- ---- entries
 
-len_ballot : (b : BallotValue) → length (ballot b) ≡ 12
+pub len_ballot : (b : BallotValue) → length (ballot b) ≡ 12
 unfolding eight four
 len_ballot b = refl
 
@@ -207,7 +207,7 @@ len_op (Table bytes) f = omega (arith, f.1)
 len_op (Join node port) f = lit≤ tt
 len_op (Leave node) f = lit≤ tt
 
-len_command : (c : Command) → IsCommand c → length (command c) ≤ 77
+pub len_command : (c : Command) → IsCommand c → length (command c) ≤ 77
 unfolding eight four two
 len_command Noop f = omega arith
 len_command (Request r) f = omega (arith, len_op r.op f.2)

@@ -9,6 +9,8 @@ mod Settle
 mod InOrder
 mod StandingLaws
 mod BeginLaws
+mod RebaseLaws
 mod RecoverLaws
 mod OneStanding
+pub mod Room
 pub mod StoreLaws

@@ -43,7 +43,7 @@ whole_left d = (length d.unsynced, ap (λ (l : List ℕ). d.synced ++ l) (sym (t
 pub one_image : (old new : Disk) (es : List Stored) → IsFile (contents old) es false → ((c : List ℕ) → MayLeave new c → IsFile c es false) → FileNarrows old new
 one_image old new es f each c left = (contents old, whole_left old, both_same (contents old) c es false f (each c left))
 
-all_synced : (d : Disk) (bytes c : List ℕ) → d ≡ record { synced = bytes; unsynced = [] } → MayLeave d c → c ≡ bytes
+pub all_synced : (d : Disk) (bytes c : List ℕ) → d ≡ record { synced = bytes; unsynced = [] } → MayLeave d c → c ≡ bytes
 all_synced d bytes c is left = left.1 ∙ (λ i. (is i).synced ++ take left.0 (is i).unsynced) ∙ ap (λ (l : List ℕ). bytes ++ l) (take_nil left.0) ∙ append-nil bytes
 
 -- cut behind its whole entries a file is these

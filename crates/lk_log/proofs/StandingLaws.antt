@@ -128,15 +128,18 @@ greater_zero b = by_test (is_below zero_ballot b) refl
     by_test true e = refl
     by_test false e = let z = zeros e in λ i. record { round = sym z.0 i; node = sym z.1 i }
 
-pub base_stands : (b : BaseValue) → IsBase b → StandsFor (Base b ∷ []) (of_base b)
-base_stands b fits = record {
+pub rising_stands : (b : BaseValue) → are_votes_above b.standing.position b.standing.votes ≡ true → are_pairs_above b.standing.position b.standing.pairs ≡ true → StandsFor (Base b ∷ []) (of_base b)
+rising_stands b votes_rise pairs_rise = record {
   snapshot = (refl, refl);
   promised = ap (λ (g : BallotValue). greatest_of g (map ballot_of b.standing.votes)) (sym (greater_zero b.standing.promised)) ∙ ap (greatest_of zero_ballot) (sym (append-nil (ballots_in (Base b))));
-  votes = λ i above. best-rising i b.standing.position b.standing.votes fits.2.6 ∙ ap (best_vote i) (sym (append-nil b.standing.votes));
-  votes_rise = fits.2.6;
+  votes = λ i above. best-rising i b.standing.position b.standing.votes votes_rise ∙ ap (best_vote i) (sym (append-nil b.standing.votes));
+  votes_rise = votes_rise;
   pairs = λ i above. ap (decided_at i) (sym (append-nil b.standing.pairs));
-  pairs_rise = fits.2.9;
+  pairs_rise = pairs_rise;
 }
+
+pub base_stands : (b : BaseValue) → IsBase b → StandsFor (Base b ∷ []) (of_base b)
+base_stands b fits = rising_stands b fits.2.6 fits.2.9
 
 -- ---- all entries, one after the other
 

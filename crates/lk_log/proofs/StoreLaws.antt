@@ -1,18 +1,19 @@
 -- What the crates above cite of a store: standings, the entries of its images, and what openings leave of these.
-use Rattle.std.proofs.Common.{◌≡◌, ℕ, zero, suc, ◌<◌, ◌⊎◌, inl, inr, false, List, [], ◌∷◌, ◌++◌, length, take, refl, sym, ap, subst, ◌∙◌, arith, append_assoc}
+use Rattle.std.proofs.Common.{◌≡◌, ℕ, zero, suc, ◌<◌, ◌⊎◌, inl, inr, true, false, List, [], ◌∷◌, ◌++◌, length, take, refl, sym, ap, subst, ◌∙◌, arith, append_assoc}
 use Rattle.std.specs.List.{AllByRecursion}
 use Rattle.std.proofs.lemmas.List.{append-nil, take_at}
 use Rattle.lk_types.specs.declared.entry.Entry.{Entry}
 use Rattle.lk_disk.specs.Disk.{Disk}
 use Rattle.lk_disk.specs.declared.device.Side.{Side}
 use Rattle.lk_disk.specs.declared.device.Side.TheVariants.{A, B}
-use Rattle.lk_log.specs.Entries.{IsBase, IsStored}
+use Rattle.lk_wire.specs.Values.{are_votes_above}
+use Rattle.lk_log.specs.Entries.{IsBase, IsStored, are_pairs_above}
 use Rattle.lk_log.specs.EveryImage.{AllMean, EveryFound, NarrowsOrBeganSome}
 use Rattle.lk_log.specs.Files.{IsFile}
 use Rattle.lk_log.specs.Images.{Image, MayLeaveBoth, has_base, is_misplaced, generation, Means, IsLive, IsEmpty, SameMeaning, seen}
 use Rattle.lk_log.specs.Standings.{HasHeader, StandsFor, with_plain, with_all, of_base}
 use Rattle.lk_log.specs.StoreValue.{StoreValue, pick, disks}
-use Rattle.lk_log.specs.Stores.{plain, Holds, KeepsAtLeast, first_base, Found, NarrowsOrBegins, Opens}
+use Rattle.lk_log.specs.Stores.{plain, Holds, KeepsAtLeast, KeepsOrIs, first_base, Found, NarrowsOrBegins, Opens}
 use Rattle.lk_log.specs.Values.{HeaderValue, StandingValue, BaseValue}
 use Rattle.lk_log.specs.declared.stored.Stored.{Stored}
 use Rattle.lk_log.specs.declared.stored.Stored.TheVariants.{Base, Plain}
@@ -42,6 +43,10 @@ all_stand es s (e ∷ more) h =
 pub base_stands : (b : BaseValue) → IsBase b → StandsFor (Base b ∷ []) (of_base b)
 base_stands = standings.base_stands
 
+-- a Base whose votes and pairs rise
+pub rising_stands : (b : BaseValue) → are_votes_above b.standing.position b.standing.votes ≡ true → are_pairs_above b.standing.position b.standing.pairs ≡ true → StandsFor (Base b ∷ []) (of_base b)
+rising_stands = standings.rising_stands
+
 -- entries stand for one thing at most
 pub one_standing : (es : List Stored) (s t : StandingValue) → StandsFor es s → StandsFor es t → s ≡ t
 one_standing = one.one_standing
@@ -65,7 +70,7 @@ plain_behind (Plain x ∷ ks) ls some placed = absurd (omega arith)
 
 -- what a store holds unsynced is plain
 pub holds_plain : (s : StoreValue) (ks ls : List Stored) → Holds s ks ls → (more : List Entry) × (ls ≡ plain more)
-holds_plain s ks ls h = plain_behind ks ls (omega (arith, h.older.less)) h.placed
+holds_plain s ks ls h = plain_behind ks ls (omega (arith, h.on.older.less)) h.on.placed
 
 pub plain_append : (xs ys : List Entry) → plain (xs ++ ys) ≡ plain xs ++ plain ys
 plain_append [] ys = refl
@@ -182,7 +187,7 @@ take_nothing (suc k) = refl
 
 -- an open store keeps at least what it holds
 pub holds_keeps : (s : StoreValue) (ks ls : List Stored) → Holds s ks ls → KeepsAtLeast s ks ls
-holds_keeps s ks ls h = subst (KeepsAtLeast s ks) (append-nil ls) (keeps_at s.live s.live_disk s.other_disk ks ls [] h)
+holds_keeps s ks ls h = subst (KeepsAtLeast s ks) (append-nil ls) (keeps_at s.live s.live_disk s.other_disk ks ls [] h.on)
 
 -- where all is kept that was synced, and nothing else was written, each image has just that
 pub keeps_live : (s : StoreValue) (ks : List Stored) → KeepsAtLeast s ks [] → (image : Image) → MayLeaveBoth (disks s) image → IsLive image ks
@@ -225,11 +230,15 @@ synced_image s ks ls h =
     let only : StoreValue = record s { live_disk = bare s.live_disk } in
     let nothing = sym (append-nil ks) in
     let alone : Holds only ks [] = record {
-      synced = h.synced;
-      unsynced = refl;
-      fit = subst (AllByRecursion IsStored) nothing (all-left IsStored ks ls h.fit);
-      placed = subst (λ (l : List Stored). is_misplaced l ≡ false) (take_at ks ls (length ks) refl ∙ nothing) (images.misplaced-take (length ks) (ks ++ ls) h.placed);
-      older = h.older;
+      on = record {
+        synced = h.on.synced;
+        unsynced = refl;
+        fit = subst (AllByRecursion IsStored) nothing (all-left IsStored ks ls h.on.fit);
+        placed = subst (λ (l : List Stored). is_misplaced l ≡ false) (take_at ks ls (length ks) refl ∙ nothing) (images.misplaced-take (length ks) (ks ++ ls) h.on.placed);
+        older = h.on.older;
+      };
+      generation_is = h.generation_is;
+      header_is = h.header_is;
     } in
     let image : Image = λ side. (disks s side).synced ++ take 0 (disks s side).unsynced in
     (image, λ side. (0, refl), synced_live only ks alone image (left_bare s.live))
@@ -288,7 +297,32 @@ put_keeps_every P Q old new ks ls tail given whose text h is keeps grows all eve
     let whole : ls ++ plain given ≡ plain (tail ++ given) = ap (λ (l : List Stored). l ++ plain given) is ∙ sym (plain_append tail given) in
     keeps_every P new ks (tail ++ given) whose text (subst (KeepsAtLeast new ks) whole keeps) (grown P Q ks (tail ++ given) grows all (of_every P old ks ls whose text h every))
 
+-- ---- a rebase
+
+-- entries have one header
+pub one_header : (es : List Stored) (h k : HeaderValue) → HasHeader es h → HasHeader es k → h ≡ k
+one_header [] h k a b = absurd a
+one_header (Base x ∷ es) h k a b = sym a ∙ b
+one_header (Plain x ∷ es) h k a b = absurd a
+
+-- What every image has that outlasts each entry of the tail, and the new Base alone has, every image has after any exit of a rebase.
+pub rebase_every : (P : List Stored → Type 0) (Q : Entry → Type 0) (old new : StoreValue) (ks ls : List Stored) (tail : List Entry) (b : BaseValue) (whose : HeaderValue) (text : List ℕ)
+    → Holds old ks ls → ls ≡ plain tail → KeepsOrIs (disks new) ks ls b → ((es : List Stored) (e : Entry) → Q e → P es → P (es ++ Plain e ∷ []))
+    → AllByRecursion Q tail → P (Base b ∷ []) → EveryFound (disks old) whose text P → EveryFound (disks new) whose text P
+rebase_every P Q old new ks ls tail b whose text h is keeps grows all base every image left = elim (keeps image left) [
+  | inl at ↦ (
+    ks ++ plain (take at.0 tail),
+    inl (subst (λ (l : List Stored). IsLive image (ks ++ l)) (ap (take at.0) is ∙ plain_take at.0 tail) at.1),
+    grown P Q ks tail grows all (of_every P old ks ls whose text h every) at.0,
+  )
+  | inr alone ↦ (Base b ∷ [], inl alone, base)
+]
+
 -- ---- openings
+
+-- what an opened store of this header holds
+pub opens_holds : (before : Image) (whose : HeaderValue) (text : List ℕ) (store : StoreValue) (s : StandingValue) (o : Opens before whose text store s) → store.header ≡ whose → Holds store o.entries []
+opens_holds before whose text store s o same = record { on = o.holds; generation_is = o.generation_is; header_is = subst (HasHeader o.entries) (sym same) o.header }
 
 -- each image then comes to something
 pub every_means : (P : List Stored → Type 0) (disks : Side → Disk) (whose : HeaderValue) (text : List ℕ) → EveryFound disks whose text P → AllMean disks

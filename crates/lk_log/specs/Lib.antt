@@ -9,3 +9,4 @@ pub mod Images
 pub mod Standings
 pub mod Stores
 pub mod EveryImage
+pub mod Rooms

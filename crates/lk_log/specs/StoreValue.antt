@@ -3,15 +3,17 @@ use Rattle.std.specs.Prelude.{ℕ, Bool}
 use Rattle.lk_disk.specs.Disk.{Disk}
 use Rattle.lk_disk.specs.declared.device.Side.{Side}
 use Rattle.lk_disk.specs.declared.device.Side.TheVariants.{A, B}
+use Rattle.lk_log.specs.Values.{HeaderValue}
 
 -- the disk of the live file and the other one, how often the device has failed, which side is live, the generation of
--- its Base, and whether the store refuses all calls
+-- its Base, whose store it is, and whether the store refuses all calls
 pub record StoreValue : Type 0 where
   pub live_disk : Disk
   pub other_disk : Disk
   pub failures : ℕ
   pub live : Side
   pub generation : ℕ
+  pub header : HeaderValue
   pub failed : Bool
 
 -- one thing at a side, and another one at the other side

@@ -1,11 +1,13 @@
 -- An open store, and what a stop may leave of it.
-use Rattle.std.specs.Prelude.{◌≡◌, ℕ, ◌<◌, ◌⊎◌, Bool, false, List, [], ◌∷◌, ◌++◌, length, take}
+use Rattle.std.specs.Prelude.{◌≡◌, ℕ, ◌+◌, ◌<◌, ◌≤◌, ◌⊎◌, Bool, false, IsTrue, List, [], ◌∷◌, ◌++◌, length, take}
 use Rattle.std.specs.List.{AllByRecursion}
 use Rattle.lk_types.specs.Ballots.{zero_ballot}
+use Rattle.lk_types.specs.Limits.{max_votes}
 use Rattle.lk_types.specs.declared.entry.Entry.{Entry}
+use Rattle.lk_wire.specs.Values.{are_votes_above}
 use Rattle.lk_disk.specs.Disk.{Disk, other, contents, MayLeave}
 use Rattle.lk_disk.specs.declared.device.Side.{Side}
-use Rattle.lk_log.specs.Entries.{spelling_of_all, IsStored}
+use Rattle.lk_log.specs.Entries.{spelling_of_all, IsStored, are_pairs_above}
 use Rattle.lk_log.specs.Files.{IsFile}
 use Rattle.lk_log.specs.Images.{Image, MayLeaveBoth, is_misplaced, generation, IsLive, IsEmpty, SameMeaning, seen}
 use Rattle.lk_log.specs.Standings.{HasHeader, StandsFor}
@@ -35,9 +37,11 @@ pub record HoldsOn (live_disk other_disk : Disk) (synced_entries unsynced_entrie
   pub placed : is_misplaced (synced_entries ++ unsynced_entries) ≡ false
   pub older : IsOlder other_disk (generation synced_entries)
 
--- a store holds these entries, the first of them synced
-abbrev pub Holds : StoreValue → List Stored → List Stored → Type 0
-Holds s = HoldsOn s.live_disk s.other_disk
+-- a store holds these entries, the first of them synced, behind a Base of its generation and its header
+pub record Holds (s : StoreValue) (synced_entries unsynced_entries : List Stored) : Type 0 where
+  pub on : HoldsOn s.live_disk s.other_disk synced_entries unsynced_entries
+  pub generation_is : s.generation ≡ generation synced_entries
+  pub header_is : HasHeader synced_entries s.header
 
 -- each image that a stop may leave of these disks has all of the first entries and a beginning of the others
 abbrev pub KeepsAtLeastOn : Side → Disk → Disk → List Stored → List Stored → Type 0
@@ -47,6 +51,33 @@ KeepsAtLeastOn live live_disk other_disk first more = (image : Image) → MayLea
 -- so of a store
 abbrev pub KeepsAtLeast : StoreValue → List Stored → List Stored → Type 0
 KeepsAtLeast s = KeepsAtLeastOn s.live s.live_disk s.other_disk
+
+-- ---- a rebase
+
+-- bytes of a snapshot that leave room in a Base for a header, 32 votes and 32 pairs
+abbrev pub max_snapshot : ℕ
+max_snapshot = 43230
+
+-- a standing that may be written: its snapshot leaves room in a Base for all votes and pairs, and these are few and in order
+pub record MayBegin (s : StandingValue) : Type 0 where
+  pub some : 1 ≤ length s.snapshot
+  pub room : length s.snapshot ≤ max_snapshot
+  pub few_votes : length s.votes ≤ max_votes
+  pub votes_rise : IsTrue (are_votes_above s.position s.votes)
+  pub few_pairs : length s.pairs ≤ max_votes
+  pub pairs_rise : IsTrue (are_pairs_above s.position s.pairs)
+
+-- the Base of the next generation of a store
+abbrev pub next_base : StoreValue → StandingValue → BaseValue
+next_base s t = record { generation = s.generation + 1; header = s.header; standing = t }
+
+-- each image that a stop may leave of these disks has all of the first entries and a beginning of the others, or the new
+-- Base alone
+abbrev pub KeepsOrIs : (Side → Disk) → List Stored → List Stored → BaseValue → Type 0
+KeepsOrIs disks first more b = (image : Image) → MayLeaveBoth disks image
+    → ((k : ℕ) × IsLive image (first ++ take k more)) ⊎ IsLive image (Base b ∷ [])
+
+-- ---- an opening
 
 -- the Base of a store that is begun
 abbrev pub first_base : HeaderValue → List ℕ → BaseValue

@@ -1,6 +1,6 @@
 // Adding entries to the live file of a device.
-ghost use Rattle.std.specs.Prelude.{◌≡◌, ◌++◌, List, [], take, true, false, OnOk, OnErr, IsErrOf};
-ghost use Rattle.lk_disk.specs.Disk.{other, appended, AppendsSome, HasCause};
+ghost use Rattle.std.specs.Prelude.{◌≡◌, ◌≤◌, ◌+◌, ◌*◌, ◌++◌, List, [], length, take, true, false, OnOk, OnErr, IsErrOf};
+ghost use Rattle.lk_disk.specs.Disk.{other, contents, appended, AppendsSome, HasCause};
 ghost use Rattle.lk_log.specs.Causes.{IsCaused};
 ghost use Rattle.lk_log.specs.Images.{Image, MayLeaveBoth, IsLive};
 ghost use Rattle.lk_log.specs.StoreValue.{pick};
@@ -42,6 +42,8 @@ pub fn add<D: LogDisk>(
         → KeepsAtLeastOn live (D.disk device.new live) (D.disk device.new (other live)) ks (ls ++ plain entries.now) }
     ensures beside { D.is_honest → D.disk device.new (other live) ≡ D.disk device.old (other live) }
     ensures no_memory { D.is_honest → IsErrOf result StoreFault.NoMemory → D.disk device.new live ≡ D.disk device.old live }
+    // Whatever it comes to, it adds no more bytes than so many entries have, each at most 102.
+    ensures grows { D.is_honest → length (contents (D.disk device.new live)) ≤ length (contents (D.disk device.old live)) + 102 * length entries.now }
     ensures cause { IsCaused (D.failures device.old) (D.failures device.new) result }
 {
     entries_facts(entries);

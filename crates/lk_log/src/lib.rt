@@ -10,6 +10,7 @@ mod header;
 pub mod laws;
 mod opening;
 mod reading;
+mod rebasing;
 mod reopening;
 mod standing;
 mod store;

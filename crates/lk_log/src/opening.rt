@@ -4,6 +4,7 @@ ghost use Rattle.lk_disk.specs.Disk.{contents, other, flushed, HasCause};
 ghost use Rattle.lk_log.specs.Causes.{IsCaused, IsCounted};
 ghost use Rattle.lk_log.specs.Entries.{spelling_of_all};
 ghost use Rattle.lk_log.specs.Files.{IsFile};
+ghost use Rattle.lk_log.specs.Rooms.{StaysWithin};
 ghost use Rattle.lk_log.specs.Images.{unless_damaged, verdict, IsEmpty, IsDamaged, Narrows, seen, is_misplaced, generation};
 ghost use Rattle.lk_log.specs.Stores.{FileNarrows, HoldsOn, IsOlder, FoundLive, MayStand};
 ghost use Rattle.lk_log.specs.declared.stored.Stored.{Stored};
@@ -76,6 +77,7 @@ fn cut_off<D: LogDisk>(
         → OnOk result (contents (D.disk device.new live) ≡ spelling_of_all es) }
     ensures narrows { D.is_honest → (es : List Stored) → FoundLive (D.disk device.old) live es end size
         → FileNarrows (D.disk device.old live) (D.disk device.new live) }
+    ensures room { D.is_honest → StaysWithin 0 (D.disk device.old) (D.disk device.new) }
     ensures beside { D.is_honest → D.disk device.new (other live) ≡ D.disk device.old (other live) }
     ensures cause { HasCause (D.failures device.old) (D.failures device.new) result }
 {
@@ -97,6 +99,7 @@ pub fn settle<D: LogDisk>(
         → OnOk result (HoldsOn (D.disk device.new live) (D.disk device.new (other live)) es []) }
     ensures narrows { D.is_honest → (es : List Stored) → FoundLive (D.disk device.old) live es end size
         → Narrows (D.disk device.old) (D.disk device.new) }
+    ensures room { D.is_honest → StaysWithin 0 (D.disk device.old) (D.disk device.new) }
     ensures cause { IsCaused (D.failures device.old) (D.failures device.new) result }
 {
     cut_off(device, live, end, size)?;

@@ -3,10 +3,12 @@ ghost use Rattle.std.specs.Prelude.{◌≡◌, ◌≤◌, ◌<◌, ◌+◌, ◌-
 ghost use Rattle.lk_disk.specs.Disk.{other};
 ghost use Rattle.lk_disk.specs.declared.device.Side.{Side};
 ghost use Rattle.lk_disk.specs.declared.device.Side.TheVariants.{A, B};
+ghost use Rattle.lk_types.specs.Limits.{max_base};
 ghost use Rattle.lk_log.specs.Causes.{IsCaused, IsCounted};
 ghost use Rattle.lk_log.specs.Headers.{IsHeader};
 ghost use Rattle.lk_log.specs.Images.{IsEmpty, IsDamaged, seen, generation};
 ghost use Rattle.lk_log.specs.Standings.{HasHeader};
+ghost use Rattle.lk_log.specs.Rooms.{StaysWithin};
 ghost use Rattle.lk_log.specs.StoreValue.{disks};
 ghost use Rattle.lk_log.specs.Stores.{first_base, FoundLive, IsWrittenOver, OpensOn, Opens, IsWrong, Shows, NarrowsOrBegins, MayStand, StandsForSome};
 ghost use Rattle.lk_log.specs.declared.stored.Stored.{Stored};
@@ -34,10 +36,15 @@ struct Opened {
 }
 
 // Writes these bytes in the place of a file's, and syncs them.
-fn write_over<D: LogDisk>(device: &mut D, side: Side, bytes: &[u8]) -> Result<(), StoreFault>
+pub(crate) fn write_over<D: LogDisk>(
+    device: &mut D,
+    side: Side,
+    bytes: &[u8],
+) -> Result<(), StoreFault>
     ensures ok { D.is_honest → OnOk result (D.disk device.new side ≡ record { synced = bytes.now; unsynced = [] }) }
     ensures any { D.is_honest → IsWrittenOver (D.disk device.old side) bytes.now (D.disk device.new side) }
     ensures beside { D.is_honest → D.disk device.new (other side) ≡ D.disk device.old (other side) }
+    ensures only { IfErr result (λ e. e ≡ StoreFault.Device) }
     ensures cause { IsCaused (D.failures device.old) (D.failures device.new) result }
 {
     device.cut(side, 0)?;
@@ -79,6 +86,7 @@ fn begin<D: LogDisk>(
     ensures opens { D.is_honest → IsEmpty (seen (D.disk device.old))
         → IfOk result (λ o. OpensOn (seen (D.disk device.old)) header.now zero.now (D.disk device.new o.live) (D.disk device.new (other o.live)) o.generation o.standing) }
     ensures stays { D.is_honest → IsEmpty (seen (D.disk device.old)) → NarrowsOrBegins (D.disk device.old) (D.disk device.new) header.now zero.now }
+    ensures room { D.is_honest → StaysWithin max_base (D.disk device.old) (D.disk device.new) }
     ensures in_a { IfOk result (λ o. o.live ≡ A) }
     ensures stands { IfOk result (λ o. StandsForSome o.standing) }
     ensures cause { IsCaused (D.failures device.old) (D.failures device.new) result }
@@ -120,6 +128,7 @@ fn open<D: LogDisk>(
         → IfOk result (λ o. OpensOn (seen (D.disk device.old)) header.now zero (D.disk device.new o.live) (D.disk device.new (other o.live)) o.generation o.standing) }
     ensures stays { D.is_honest → FoundLive (D.disk device.old) live file.entries.items file.end file.size → (zero : List ℕ)
         → NarrowsOrBegins (D.disk device.old) (D.disk device.new) header.now zero }
+    ensures room { D.is_honest → StaysWithin 0 (D.disk device.old) (D.disk device.new) }
     ensures stands { MayStand file.entries.items → IfOk result (λ o. StandsForSome o.standing) }
     ensures wrong { IsErrOf result StoreFault.WrongStore → HasHeader file.entries.items header.now → ⊥ }
     ensures wrong_stays { D.is_honest → IsErrOf result StoreFault.WrongStore → (s : Side) → D.disk device.new s ≡ D.disk device.old s }
@@ -158,6 +167,7 @@ fn recover<D: LogDisk>(
     ensures opens { D.is_honest
         → IfOk result (λ o. OpensOn (seen (D.disk device.old)) header.now zero.now (D.disk device.new o.live) (D.disk device.new (other o.live)) o.generation o.standing) }
     ensures stays { D.is_honest → NarrowsOrBegins (D.disk device.old) (D.disk device.new) header.now zero.now }
+    ensures room { D.is_honest → StaysWithin max_base (D.disk device.old) (D.disk device.new) }
     ensures begun { D.is_honest → IsEmpty (seen (D.disk device.old)) → IfOk result (λ o. o.live ≡ A) }
     ensures stands { IfOk result (λ o. StandsForSome o.standing) }
     ensures damaged { D.is_honest → IsErrOf result StoreFault.Damaged → IsDamaged (seen (D.disk device.old)) }
@@ -189,11 +199,15 @@ pub fn reopen<D: LogDisk + Drop>(
     // The standing is that of the whole entries of the live file, or of a store that is begun, and all of it is synced.
     ensures ok { D.is_honest → IfOk result (λ r. Opens (seen (D.disk device)) header.now zero.now r.0 r.1) }
     ensures open { IfOk result (λ r. r.0.failed ≡ false) }
+    ensures whose { IfOk result (λ r. r.0.header ≡ header.now) }
     // Whatever the device gave to read, some entries stand for it.
     ensures stands { IfOk result (λ r. StandsForSome r.1) }
     // After any exit each image comes to what an image before it came to, or to a store that is begun.
     ensures stays { D.is_honest → IfOk result (λ r. NarrowsOrBegins (D.disk device) (disks r.0) header.now zero.now) }
     ensures stays_err { D.is_honest → IfErr result (λ e. NarrowsOrBegins (D.disk device) (D.disk e.device) header.now zero.now) }
+    // After any exit neither file is longer than it was, or else than a Base.
+    ensures room { D.is_honest → IfOk result (λ r. StaysWithin max_base (D.disk device) (disks r.0)) }
+    ensures room_err { D.is_honest → IfErr result (λ e. StaysWithin max_base (D.disk device) (D.disk e.device)) }
     // A store is begun in A.
     ensures begun { D.is_honest → IsEmpty (seen (D.disk device)) → IfOk result (λ r. r.0.live ≡ A) }
     // A damaged store and another's stay as they are.
@@ -219,6 +233,7 @@ pub fn reopen<D: LogDisk + Drop>(
                 device,
                 live,
                 generation,
+                header: header.copy(),
                 failed: false,
             };
             Ok((store, standing))

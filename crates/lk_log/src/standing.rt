@@ -1,3 +1,9 @@
+ghost use Rattle.std.specs.List.{AllByRecursion};
+ghost use Rattle.lk_types.specs.Ballots.{IsMark};
+ghost use Rattle.lk_types.specs.Ranges.{IsTotal};
+ghost use Rattle.lk_types.specs.Votes.{IsVote};
+ghost use Rattle.lk_log.specs.Entries.{IsPair};
+
 use lk_types::{Ballot, Command, Executed, Position, Vote};
 use std::marker::Model;
 
@@ -28,4 +34,38 @@ impl Model for Standing {
       votes = s.votes.items;
       pairs = s.pairs.items;
     } };
+}
+
+// Each vote is in its range. It does nothing.
+fn votes_facts(votes: &[Vote])
+    ensures { AllByRecursion IsVote votes.now }
+{
+    for vote in votes {
+        vote.facts();
+    }
+}
+
+// Each pair is in its range. It does nothing.
+fn pairs_facts(pairs: &[(Position, Command)])
+    ensures { AllByRecursion IsPair pairs.now }
+{
+    for each in pairs {
+        let _ = each.0.get();
+        each.1.facts();
+    }
+}
+
+impl Standing {
+    /// Each part is in its range. It does nothing.
+    pub fn facts(&self)
+        ensures promised { IsMark self.now.promised }
+        ensures position { IsTotal self.now.position }
+        ensures votes { AllByRecursion IsVote self.now.votes }
+        ensures pairs { AllByRecursion IsPair self.now.pairs }
+    {
+        let _ = self.promised.round();
+        let _ = self.position.get();
+        votes_facts(&self.votes);
+        pairs_facts(&self.pairs);
+    }
 }

@@ -1,16 +1,24 @@
 // The store: entries behind one another in the live file.
-ghost use Rattle.std.specs.Prelude.{◌≡◌, ◌++◌, ◌≤◌, ◌^◌, ◌+◌, ◌-◌, List, [], min, length, true, false, IfOk, IfErr, OnOk, OnErr, IsErrOf};
+ghost use Rattle.std.specs.Prelude.{◌≡◌, ◌++◌, ◌∷◌, ◌<◌, ◌≤◌, ◌^◌, ◌+◌, ◌-◌, ◌*◌, List, [], min, length, true, false, IfOk, IfErr, OnOk, OnErr, IsErrOf};
+ghost use Rattle.lk_types.specs.Limits.{max_base, max_count};
 ghost use Rattle.lk_disk.specs.Disk.{contents, other};
 ghost use Rattle.lk_disk.specs.declared.device.Side.{Side};
 ghost use Rattle.lk_log.specs.Causes.{IsCaused, IsCounted};
+ghost use Rattle.lk_log.specs.Rooms.{StaysWithin};
 ghost use Rattle.lk_log.specs.StoreValue.{disks};
-ghost use Rattle.lk_log.specs.Stores.{plain, Holds, KeepsAtLeast};
+ghost use Rattle.lk_log.specs.Stores.{plain, Holds, KeepsAtLeast, MayBegin, next_base, KeepsOrIs};
 ghost use Rattle.lk_log.specs.declared.stored.Stored.{Stored};
+ghost use Rattle.lk_log.specs.declared.stored.Stored.TheVariants.{Base};
 
 use crate::adding::add;
 use crate::fault::StoreFault;
+use crate::header::Header;
+use crate::rebasing::{go_over, other};
+use crate::standing::Standing;
+use crate::writing::spelled_parts;
 use lk_disk::{LogDisk, Side, Trap, Trapped};
 use lk_types::Entry;
+use lk_types::limits::MAX_COUNT;
 use std::alloc::Global;
 use std::marker::Model;
 
@@ -21,6 +29,7 @@ pub struct Store<D: LogDisk + Drop> {
     pub(crate) device: D,
     pub(crate) live: Side,
     pub(crate) generation: u64,
+    pub(crate) header: Header,
     pub(crate) failed: bool,
 }
 
@@ -36,6 +45,7 @@ impl<D: LogDisk + Drop> Model for Store<D> {
       failures = D.failures s.device;
       live = s.live;
       generation = s.generation;
+      header = s.header;
       failed = s.failed;
     } };
 }
@@ -56,8 +66,11 @@ impl<D: LogDisk + Drop> Store<D> {
         // The other file stays as it is, and where memory was refused the live one too.
         ensures other_disk { D.is_honest → self.new.other_disk ≡ self.old.other_disk }
         ensures no_memory { D.is_honest → IsErrOf result StoreFault.NoMemory → self.new.live_disk ≡ self.old.live_disk }
+        // After any exit the live file has grown by no more bytes than so many entries have, each at most 102.
+        ensures grows { D.is_honest → length (contents self.new.live_disk) ≤ length (contents self.old.live_disk) + 102 * length entries.now }
         ensures live { self.new.live ≡ self.old.live }
         ensures generation { self.new.generation ≡ self.old.generation }
+        ensures header { self.new.header ≡ self.old.header }
         ensures err { OnErr result (self.new.failed ≡ true) }
         ensures alive { OnOk result (self.new.failed ≡ false) }
         ensures failed { self.old.failed ≡ true → self.new ≡ self.old }
@@ -73,6 +86,46 @@ impl<D: LogDisk + Drop> Store<D> {
         Ok(())
     }
 
+    /// Writes a standing as the Base of a further file, the next generation's, and goes over to that file: the other one
+    /// is cut to nothing. It stands for this standing alone, and for nothing that was put before.
+    ///
+    /// It refuses with `Device` (7) and `NoMemory` (8); after that each later call answers `Failed` (11). At generation 2^48
+    /// it refuses with `Failed` and changes nothing. Memory is wanted before the device is called.
+    pub fn rebase(&mut self, standing: &Standing) -> Result<(), StoreFault>
+        requires { MayBegin standing.now }
+        // At Ok the Base alone stands there, synced, and the file that was left is empty.
+        ensures base { D.is_honest → (ks ls : List Stored) → Holds self.old ks ls
+            → OnOk result (Holds self.new (Base (next_base self.old standing.now) ∷ []) []) }
+        ensures left { D.is_honest → OnOk result (self.new.other_disk ≡ record { synced = []; unsynced = [] }) }
+        // After any exit each image that a stop may leave has what it had, or that Base alone.
+        ensures any { D.is_honest → (ks ls : List Stored) → Holds self.old ks ls
+            → KeepsOrIs (disks self.new) ks ls (next_base self.old standing.now) }
+        ensures no_memory { D.is_honest → IsErrOf result StoreFault.NoMemory → (s : Side) → disks self.new s ≡ disks self.old s }
+        // After any exit neither file is longer than it was, or else than a Base; at Ok the live one is no longer than a Base.
+        ensures room { D.is_honest → StaysWithin max_base (disks self.old) (disks self.new) }
+        ensures short { D.is_honest → OnOk result (length (contents self.new.live_disk) ≤ max_base) }
+        ensures header { self.new.header ≡ self.old.header }
+        ensures err { self.old.generation < max_count → OnErr result (self.new.failed ≡ true) }
+        ensures alive { OnOk result (self.new.failed ≡ false) }
+        ensures failed { self.old.failed ≡ true → self.new ≡ self.old }
+        ensures refuses { self.old.failed ≡ true → IsErrOf result StoreFault.Failed }
+        ensures last { max_count ≤ self.old.generation → (self.new ≡ self.old) × IsErrOf result StoreFault.Failed }
+        ensures cause { self.old.failed ≡ false → self.old.generation < max_count → IsCaused self.old.failures self.new.failures result }
+    {
+        if self.failed || self.generation >= MAX_COUNT {
+            return Err(StoreFault::Failed);
+        }
+        self.header.facts();
+        standing.facts();
+        self.failed = true;
+        let bytes = spelled_parts(self.alloc, self.generation + 1, &self.header, standing)?;
+        go_over(&mut self.device, self.live, &bytes)?;
+        self.live = other(self.live);
+        self.generation += 1;
+        self.failed = false;
+        Ok(())
+    }
+
     /// The number of bytes of the live file, synced or not.
     ///
     /// It takes no memory, and refuses with `Device` (7) alone; after that each later call answers `Failed` (11).
@@ -82,6 +135,7 @@ impl<D: LogDisk + Drop> Store<D> {
         ensures other_disk { D.is_honest → self.new.other_disk ≡ self.old.other_disk }
         ensures live { self.new.live ≡ self.old.live }
         ensures generation { self.new.generation ≡ self.old.generation }
+        ensures header { self.new.header ≡ self.old.header }
         ensures err { OnErr result (self.new.failed ≡ true) }
         ensures alive { OnOk result (self.new.failed ≡ false) }
         ensures failed { self.old.failed ≡ true → self.new ≡ self.old }
@@ -118,6 +172,7 @@ impl<D: LogDisk + Drop> Store<D> {
             device,
             live: _,
             generation: _,
+            header: _,
             failed: _,
         } = self;
         device
@@ -132,6 +187,7 @@ impl<D: Trapped + Drop> Store<D> {
         ensures failures { self.new.failures ≡ self.old.failures }
         ensures live { self.new.live ≡ self.old.live }
         ensures generation { self.new.generation ≡ self.old.generation }
+        ensures header { self.new.header ≡ self.old.header }
         ensures failed { self.new.failed ≡ self.old.failed }
     {
         self.device.trap(trap);

@@ -93,14 +93,19 @@ fn put_standing(out: &mut BytesMut, value: &Standing) -> Result<(), AllocError>
 
 // A Base without its length.
 #[tactic(auto, unfolding(crate::specs::Entries::base))]
-fn put_base_body(out: &mut BytesMut, value: &Base) -> Result<(), AllocError>
-    requires { IsBase value.now }
-    ensures { OnOk result (out.new.items ≡ out.old.items ++ body (base_entry value.now)) }
+fn put_base_body(
+    out: &mut BytesMut,
+    generation: u64,
+    whose: &Header,
+    value: &Standing,
+) -> Result<(), AllocError>
+    requires { IsBase (record { generation = generation; header = whose.now; standing = value.now }) }
+    ensures { OnOk result (out.new.items ≡ out.old.items ++ body (base_entry (record { generation = generation; header = whose.now; standing = value.now }))) }
 {
     put_u8(out, 1)?;
-    put_u64(out, value.generation)?;
-    put_header(out, &value.header)?;
-    put_standing(out, &value.standing)?;
+    put_u64(out, generation)?;
+    put_header(out, whose)?;
+    put_standing(out, value)?;
     Ok(())
 }
 
@@ -135,17 +140,30 @@ fn put_behind_length(out: &mut BytesMut, text: &[u8]) -> Result<(), AllocError>
     Ok(())
 }
 
-// The spelling of a Base.
+// The spelling of the Base of this generation, header and standing.
 #[tactic(auto, using(crate::proofs::EntryLaws::body_short), unfolding(crate::specs::Entries::spelling))]
+pub fn spelled_parts(
+    alloc: Global,
+    generation: u64,
+    whose: &Header,
+    value: &Standing,
+) -> Result<BytesMut, AllocError>
+    requires { IsStored (base_entry (record { generation = generation; header = whose.now; standing = value.now })) }
+    ensures { IfOk result (λ out. out.items ≡ spelling (base_entry (record { generation = generation; header = whose.now; standing = value.now }))) }
+{
+    let mut text = BytesMut::new(alloc);
+    put_base_body(&mut text, generation, whose, value)?;
+    let mut out = BytesMut::new(alloc);
+    put_behind_length(&mut out, &text)?;
+    Ok(out)
+}
+
+// The spelling of a Base.
 pub fn spelled_base(alloc: Global, value: &Base) -> Result<BytesMut, AllocError>
     requires { IsStored (base_entry value.now) }
     ensures { IfOk result (λ out. out.items ≡ spelling (base_entry value.now)) }
 {
-    let mut text = BytesMut::new(alloc);
-    put_base_body(&mut text, value)?;
-    let mut out = BytesMut::new(alloc);
-    put_behind_length(&mut out, &text)?;
-    Ok(out)
+    spelled_parts(alloc, value.generation, &value.header, &value.standing)
 }
 
 // The range of each part of an entry. It does nothing.

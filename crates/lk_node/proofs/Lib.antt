@@ -12,6 +12,8 @@ mod ExecutionRules
 mod Deciding
 mod CountingRules
 mod BallotRules
+mod NearRules
 mod Reminders
 mod Settling
+mod FewEntries
 pub mod Nodes

@@ -1,3 +1,4 @@
 -- The lemmas that other crates cite: of this folder nothing else is for them.
 pub use Rattle.lk_node.proofs.Lists.{cons_cases, contains_more, take_contains, map_contains, map_has}
 pub use Rattle.lk_node.proofs.Serving.{letter_spelled, mapped_append}
+pub use Rattle.lk_node.proofs.FewEntries.{few_entries}

@@ -20,6 +20,8 @@ pub mod Learning
 pub mod Executing
 pub mod Telling
 pub mod Promised
+pub mod Nearness
+pub mod Packing
 pub mod Leading
 pub mod DecidedPairs
 pub mod Counting

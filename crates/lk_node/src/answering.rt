@@ -65,7 +65,8 @@ impl<M: Machine> Node<M> {
         ensures { IfOk result (λ o. Responds self.old from (AnswersAccept self.old.acceptor self.old.learner.whole.roster.executed vote) self.new o) }
     {
         let response = self.acceptor.accept(vote, self.learner.whole().executed())?;
-        self.respond(from, response)
+        let out = self.respond(from, response)?;
+        Ok(out)
     }
 
     #[tactic(auto, using(crate::proofs::AcceptorRules::prepare_goes_on))]

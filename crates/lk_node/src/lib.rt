@@ -16,6 +16,7 @@ mod letter;
 mod node;
 mod note;
 mod outbox;
+mod packing;
 mod reminding;
 mod replying;
 mod step;

@@ -3,6 +3,7 @@ ghost use Rattle.std.specs.Prelude.{◌≡◌, ◌∷◌, [], None, true, false,
 ghost use Rattle.lk_wire.specs.Grammar.{spelling, IsMessage};
 ghost use Rattle.lk_members.specs.Ports.{port_of};
 ghost use Rattle.lk_leader.specs.Terms.{idle};
+ghost use Rattle.lk_node.specs.Nearness.{AreNear};
 ghost use Rattle.lk_node.specs.Outboxes.{nothing, with_letter};
 ghost use Rattle.lk_node.specs.Saying.{saying, to_node, port_or_none};
 
@@ -44,11 +45,12 @@ pub struct Node<M: Machine> {
 
 impl<M: Machine> Model for Node<M> {
     ghost use Rattle.lk_node.specs.NodeValue.{NodeValue};
+    ghost use Rattle.lk_node.specs.Nearness.{AreNear};
     ghost use Rattle.lk_node.specs.Promised.{HasPromised};
 
     ghost Value = { NodeValue };
 
-    ghost invariant = { λ n. HasPromised n.acceptor n.leader };
+    ghost invariant = { λ n. HasPromised n.acceptor n.leader × AreNear n.acceptor n.learner };
 
     ghost view = { λ n. record { header = n.header; acceptor = n.acceptor; learner = n.learner; leader = n.leader; ticks = n.ticks; rounds = n.rounds; known = n.known; halted = n.halted } };
 }
@@ -80,6 +82,7 @@ pub fn port_in(roster: &Roster, node: NodeNo) -> u16
 impl<M: Machine> Node<M> {
     /// A node that holds this and has learned that. It has no term, and remembers nothing else.
     pub fn new(alloc: Global, header: Header, acceptor: Acceptor, learner: Learner<M>) -> Node<M>
+        requires near { AreNear acceptor learner }
         ensures { result ≡ record { header = header; acceptor = acceptor; learner = learner; leader = idle; ticks = 0; rounds = 0; known = None; halted = false } }
     {
         Node {
@@ -93,6 +96,13 @@ impl<M: Machine> Node<M> {
             known: None,
             halted: false,
         }
+    }
+
+    /// Whether it has halted: then each step answers `Halted`.
+    pub fn halted(&self) -> bool
+        ensures { result ≡ self.now.halted }
+    {
+        self.halted
     }
 
     /// Who it is, and how its cluster began.

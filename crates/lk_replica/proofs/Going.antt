@@ -87,7 +87,7 @@ put_keeps whose old new a b es true k written decided added synced = record {
 
 -- ---- what is known was chosen
 
-known_rests : (h : History) (n : ℕ) (w : View) → ViewFits h.genesis h.sent n w → (e : Entry) → IsKnown w e → Rests h e
+pub known_rests : (h : History) (n : ℕ) (w : View) → ViewFits h.genesis h.sent n w → (e : Entry) → IsKnown w e → Rests h e
 known_rests h n w f (Promise b) k = absurd k
 known_rests h n w f (Vote x) k = absurd k
 known_rests h n w f (Decided i c) (inl pair) = f.stems.pairs i c pair

@@ -94,11 +94,11 @@ fit_disks m h n store ks loose holds rests f =
     entries_fit m h n (disks store) (keeps_every (EntriesFit m h n) store ks loose (header_of h.genesis n) (text m h.genesis []) (holds_keeps store ks (plain loose) holds) (grown (EntriesFit m h n) (Rests h) ks loose (adds m h n) rests f))
 
 -- any entries at all
-none_asked : (es : List Entry) → AllByRecursion (λ e. Unit {0}) es
+pub none_asked : (es : List Entry) → AllByRecursion (λ e. Unit {0}) es
 none_asked [] = tt
 none_asked (e ∷ es) = (tt, none_asked es)
 
-cover_more : (genesis : Genesis) (n : ℕ) (x : NodeMessage) (es : List Stored) (e : Entry) → Unit {0} → EntriesCover genesis n x es → EntriesCover genesis n x (es ++ Plain e ∷ [])
+pub cover_more : (genesis : Genesis) (n : ℕ) (x : NodeMessage) (es : List Stored) (e : Entry) → Unit {0} → EntriesCover genesis n x es → EntriesCover genesis n x (es ++ Plain e ∷ [])
 cover_more genesis n x es e none c = (header_more es (Plain e ∷ []) (header_of genesis n) c.0, (with_plain e c.1.0, plain_stands es c.1.0 e c.1.1, covers_more c.1.0 e x c.1.2))
 
 pub cover_disks : (m : Meaning) (genesis : Genesis) (n : ℕ) (store : StoreValue) (ks : List Stored) (loose : List Entry) (x : NodeMessage) → Holds store ks (plain loose) → EntriesCover genesis n x ks → AllCover m genesis n (disks store) x

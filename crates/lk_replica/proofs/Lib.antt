@@ -1,4 +1,6 @@
 mod Revivals
+mod Rebasing
+mod Behind
 mod Adding
 mod Images
 mod Standings

@@ -16,6 +16,9 @@ use Rattle.lk_node.specs.Leavings.{acceptor_of}
 use Rattle.lk_node.specs.NodeValue.{NodeValue}
 use Rattle.lk_replica.specs.Revivals.{run_from, notes_of, relearned, reached, Unpacks, MayRevive, Restores}
 use Rattle.lk_node.specs.declared.note.Note.{Note}
+use Rattle.lk_history.specs.Acceptors.{AcceptorState}
+use Rattle.lk_learner.specs.Learners.{executed}
+use Rattle.lk_node.specs.Nearness as nearness
 use Rattle.lk_node.proofs.Nodes.{cons_cases, contains_more}
 use Rattle.lk_replica.proofs.Ordered.{standing_ordered}
 
@@ -36,6 +39,15 @@ tested_within f [] t v h = absurd (omega (arith, h.1))
 tested_within f (w ∷ ws) t v h =
     let b = and_parts (nat_le w.position f) (list_all (λ (v : Vote). nat_le v.position f) ws) t in
     elim (cons_cases w ws v h) [ inl same ↦ subst (λ (x : Vote). x.position ≤ f) same (leb-true w.position f b.0) | inr later ↦ tested_within f ws b.1 v later ]
+
+-- what is revived is near
+pub revived_near : (a : AcceptorValue) (l : LearnerValue) (alpha : ℕ) (s : AcceptorState) (f : ℕ) → a ≡ record { alpha = alpha; state = s } → length l.whole.roster.sets ≡ alpha → s.snapshot_position ≤ executed l
+    → list_all (λ (v : Vote). nat_le v.position f) s.votes ≡ true → f ≡ executed l + 2 * alpha → nearness.AreNear a l
+revived_near a l alpha s f is sets within all far = subst (λ (x : AcceptorValue). nearness.AreNear x l) (sym is) (record {
+  alpha_is = sym sets;
+  snapshot = within;
+  votes = λ v c. let k = tested_within f s.votes all v c in omega (arith, k, far, sets);
+})
 
 -- what an acceptor is made of is in order
 pub some_ordered : (s : StandingValue) → StandsForSome s → IsOrdered (acceptor_of s)

@@ -9,12 +9,13 @@ use Rattle.lk_disk.specs.Disk.{Disk, other}
 use Rattle.lk_disk.specs.declared.device.Side.{Side}
 use Rattle.lk_disk.specs.declared.device.Side.TheVariants.{A, B}
 use Rattle.lk_log.specs.Images.{Image, seen}
+use Rattle.lk_log.specs.Rooms.{StaysWithin}
 use Rattle.lk_log.specs.StoreValue.{StoreValue, pick, disks}
 use Rattle.lk_log.specs.Stores.{Opens, NarrowsOrBegins}
 use Rattle.lk_log.specs.Values.{HeaderValue, StandingValue}
 use Rattle.lk_log.specs.declared.fault.StoreFault.{StoreFault}
 use Rattle.lk_log.specs.declared.fault.StoreFault.TheVariants as store
-use Rattle.lk_log.proofs.StoreLaws.{one_standing, opens_found}
+use Rattle.lk_log.proofs.StoreLaws.{one_standing, opens_found, opens_holds}
 use Rattle.lk_state.specs.Meanings.{Meaning, KeepsTexts}
 use Rattle.lk_state.specs.States.{WholeValue, whole_after}
 use Rattle.lk_state.proofs.Wholes.{ran-whole_after, states_fit}
@@ -154,7 +155,7 @@ follows_again m genesis under w ps sums =
 
 -- what its entries stand for, the disks of each image that was there fit, so does what the node holds
 module _ (m : Meaning) (IsText : List ℕ → Type 0) (keeps : KeepsTexts IsText m) (h : History) (n : ℕ) (old : Side → Disk) (store : StoreValue) (s : StandingValue) (node : NodeValue) (notes : List Note)
-    (lawful : IsLawful h) (fits : IsGenesis h.genesis) (o : Opens (seen old) (header_of h.genesis n) (text m h.genesis []) store s) (r : Restores m IsText (header_of h.genesis n) s node notes) (before : DisksFit m h n old) where
+    (lawful : IsLawful h) (fits : IsGenesis h.genesis) (o : Opens (seen old) (header_of h.genesis n) (text m h.genesis []) store s) (r : Restores m IsText (header_of h.genesis n) s node notes) (before : DisksFit m h n old) (named : store.header ≡ header_of h.genesis n) where
   entries : EntriesFit m h n o.entries
   entries = opens_found (EntriesFit m h n) old (header_of h.genesis n) (text m h.genesis []) store s o (fit_entries m h n old before)
 
@@ -214,7 +215,7 @@ module _ (m : Meaning) (IsText : List ℕ → Type 0) (keeps : KeepsTexts IsText
   shown : Stands m node store h.genesis n holding
   shown = subst (λ (k : NodeValue). Stands m k store h.genesis n holding) (sym r.node_is) (record {
     whose = refl;
-    keeps = record { entries = o.entries; loose = []; holds = o.holds; decided = tt; header = o.header; standing = s; stands = o.stands; remembers = refl };
+    keeps = record { entries = o.entries; loose = []; holds = opens_holds (seen old) (header_of h.genesis n) (text m h.genesis []) store s o named; decided = tt; header = o.header; standing = s; stands = o.stands; remembers = refl };
     known = tt;
     held = record { acceptor = refl; follows = follows_again m h.genesis under r.whole s.pairs unpacked; leads = λ k is. absurd (cc is); waiting = refl; gathered = refl };
   })
@@ -271,6 +272,9 @@ given_fit m h n store d here there = subst (DisksFit m h n) (λ i s. sym (picked
 
 pub given_cover : (m : Meaning) (genesis : Genesis) (n : ℕ) (x : NodeMessage) (store : StoreValue) (d : Side → Disk) → d store.live ≡ store.live_disk → d (other store.live) ≡ store.other_disk → AllCover m genesis n (disks store) x → AllCover m genesis n d x
 given_cover m genesis n x store d here there = subst (λ (e : Side → Disk). AllCover m genesis n e x) (λ i s. sym (picked store.live d store.live_disk store.other_disk here there s) i)
+
+pub given_room : (most : ℕ) (old : Side → Disk) (store : StoreValue) (d : Side → Disk) → d store.live ≡ store.live_disk → d (other store.live) ≡ store.other_disk → StaysWithin most old (disks store) → StaysWithin most old d
+given_room most old store d here there = subst (StaysWithin most old) (λ i s. sym (picked store.live d store.live_disk store.other_disk here there s) i)
 
 -- ---- which refusal it is
 

@@ -4,3 +4,5 @@ pub mod Revivals
 pub mod ReplicaValue
 pub mod Posts
 pub mod Behaviours
+pub mod Compacting
+pub mod Rooms

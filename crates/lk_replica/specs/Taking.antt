@@ -1,5 +1,6 @@
 -- What a call of a replica has done that was not refused: that and nothing else.
-use Rattle.std.specs.Prelude.{◌≡◌, ℕ, ◌+◌, ◌-◌, ◌^◌, ◌≤◌, min, true, false, Option, Result, Ok, Err, List, [], ◌++◌}
+use Rattle.std.specs.Prelude.{◌≡◌, ℕ, ◌+◌, ◌-◌, ◌^◌, ◌<◌, ◌≤◌, min, true, false, Option, Result, Ok, Err, List, [], ◌++◌}
+use Rattle.lk_types.specs.Limits.{max_count}
 use Rattle.lk_log.specs.StoreValue.{StoreValue}
 use Rattle.lk_log.specs.Stores.{plain, Holds}
 use Rattle.lk_state.specs.Meanings.{Meaning}
@@ -7,7 +8,9 @@ use Rattle.lk_log.specs.declared.stored.Stored.{Stored}
 use Rattle.lk_node.specs.Calls.{heard_by}
 use Rattle.lk_node.specs.Histories.{Datagram}
 use Rattle.lk_node.specs.Letters.{LetterValue, batch_of}
+use Rattle.lk_replica.specs.Compacting.{RebasesWhereDue}
 use Rattle.lk_replica.specs.ReplicaValue.{ReplicaValue}
+use Rattle.lk_node.specs.NodeValue.{NodeValue}
 use Rattle.lk_node.specs.Outboxes.{OutboxValue}
 use Rattle.lk_node.specs.Steps.{Steps}
 use Rattle.lk_node.specs.declared.input.Input.{Input}
@@ -18,19 +21,22 @@ abbrev pub Puts : StoreValue → OutboxValue → StoreValue → Type 0
 Puts old out new = (ks ls : List Stored) → Holds old ks ls
     → (out.sync ≡ false → Holds new ks (ls ++ plain out.entries)) × (out.sync ≡ true → Holds new (ks ++ (ls ++ plain out.entries)) [])
 
--- the replica has taken a step, put the outbox's entries, given its notes, and sent its letters
+-- the replica has rebased where that was due, taken a step, put the outbox's entries, given its notes, and sent its letters
 pub record IsTaken (m : Meaning) (old : ReplicaValue) (i : Input) (new : ReplicaValue) (notes : List Note) (Sends : List LetterValue → Type 0) : Type 0 where
+  pub mid : NodeValue
+  pub between : StoreValue
+  pub rebases : RebasesWhereDue old.node old.store mid between
   pub out : OutboxValue
-  pub steps : Steps m old.node i new.node out
-  pub puts : Puts old.store out new.store
+  pub steps : Steps m mid i new.node out
+  pub puts : Puts between out new.store
   pub noted : notes ≡ out.notes
   pub sent : Sends out.letters
 
 -- a call was refused with the fault of this number, for its cause: 7 only where the device has failed once more, 11 only behind an
--- earlier refusal, behind which there is no other
+-- earlier refusal, behind which there is no other, or where no further generation is left
 pub record IsRefused (old new : ReplicaValue) (number : ℕ) : Type 0 where
   pub device : number ≡ 7 → min (old.store.failures + 1) (2 ^ 64 - 1) ≤ new.store.failures
-  pub earlier : number ≡ 11 → old.failed ≡ false → old.store.failed ≡ false → ⊥
+  pub earlier : number ≡ 11 → old.failed ≡ false → old.store.failed ≡ false → old.store.generation < max_count → ⊥
   pub once : old.failed ≡ true → (number ≡ 11) × (new ≡ old)
 
 -- the replica was given this, and sent these datagrams of its node

@@ -62,6 +62,10 @@ impl<M: Machine> MemoryReplica for Replica<M, MemoryDisk> {
         Ok(Taken { notes, sent })
     }
 
+    fn device(&self) -> &MemoryDisk {
+        Replica::device(self)
+    }
+
     fn trap(&mut self, trap: Trap) {
         Replica::trap(self, trap);
     }

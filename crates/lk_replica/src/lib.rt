@@ -2,6 +2,7 @@
 #![tactic(auto)]
 
 mod collected;
+mod compacting;
 mod datagram;
 mod delivering;
 mod fault;

@@ -1,7 +1,9 @@
 ghost use Rattle.std.specs.Prelude.{◌≡◌, ℕ, [], Contains, Ok, Err, IfOk, IfErr, OnErr};
+ghost use Rattle.lk_types.specs.Limits.{max_base};
 ghost use Rattle.lk_disk.specs.Disk.{Disk};
 ghost use Rattle.lk_disk.specs.Memory.{disk_of};
 ghost use Rattle.lk_disk.specs.declared.device.Side.{Side};
+ghost use Rattle.lk_log.specs.Rooms.{StaysWithin};
 ghost use Rattle.lk_log.specs.Values.{HeaderValue};
 ghost use Rattle.lk_state.specs.Meanings.{Meaning};
 ghost use Rattle.lk_state.specs.States.{WholeValue, SumsUp};
@@ -13,6 +15,7 @@ ghost use Rattle.lk_node.specs.Leavings.{header_of, DisksFit, AllCover};
 ghost use Rattle.lk_node.specs.Calls.{heard_by, InputFits, NodeFits, Goes};
 ghost use Rattle.lk_replica.specs.Behaviours.{Taking, Reviving};
 ghost use Rattle.lk_replica.specs.Faults.{fault_number};
+ghost use Rattle.lk_replica.specs.Rooms.{max_behind};
 
 use crate::datagram::Datagram;
 use crate::fault::ReplicaFault;
@@ -84,6 +87,9 @@ pub trait MemoryReplica: Sized + Drop {
             → IfOk result (λ r. AllCover meaning genesis n (disks r.replica) x) }
         ensures covers_err { (genesis : Genesis) (n : ℕ) (x : NodeMessage) → header.now ≡ header_of genesis n → AllCover meaning genesis n (disk_of device) x
             → IfErr result (λ e. AllCover meaning genesis n (disk_of e.device) x) }
+        // Neither file is longer than it was, or else than a Base.
+        ensures room { IfOk result (λ r. StaysWithin max_base (disk_of device) (disks r.replica)) }
+        ensures room_err { IfErr result (λ e. StaysWithin max_base (disk_of device) (disk_of e.device)) }
         ensures exact { IfOk result (λ r. Revives device header.now (Ok (r.replica, r.notes.items))) }
         ensures refused { IfErr result (λ e. Revives device header.now (Err (fault_number e.fault, e.device))) };
 
@@ -98,13 +104,18 @@ pub trait MemoryReplica: Sized + Drop {
             → IfOk result (λ t. (d : DatagramValue) → Contains t.sent.items d → Spells (said_by genesis n x) d.bytes → AllCover meaning genesis n (disks self.new) x) }
         ensures covers { (genesis : Genesis) (n : ℕ) (held : Holding) (x : NodeMessage) → Shows self.old genesis n held
             → AllCover meaning genesis n (disks self.old) x → AllCover meaning genesis n (disks self.new) x }
+        // After any exit neither file is longer than it was, or else than half of what a file may hold, and a step.
+        ensures room { StaysWithin max_behind (disks self.old) (disks self.new) }
         ensures exact { IfOk result (λ t. Takes self.old (heard_by input.entry) self.new (Ok (t.notes.items, t.sent.items))) }
         ensures refused { IfErr result (λ e. Takes self.old (heard_by input.entry) self.new (Err (fault_number e))) };
 
-    /// Sets the trap of the device, in place of one that is pending.
+    /// Its device.
+    fn device(&self) -> &MemoryDisk
+        ensures disks { (s : Side) → disk_of result.now s ≡ disks self.now s };
+
+    /// Sets the trap of the device, in place of one that is pending. Of that nothing is seen.
     fn trap(&mut self, trap: Trap)
-        ensures shows { (genesis : Genesis) (n : ℕ) (x : Holding) → Shows self.old genesis n x → Shows self.new genesis n x }
-        ensures disks { (s : Side) → disks self.new s ≡ disks self.old s };
+        ensures unchanged { self.new ≡ self.old };
 
     /// The device, as the replica leaves it.
     fn into_disks(self) -> MemoryDisk

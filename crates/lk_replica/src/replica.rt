@@ -1,7 +1,12 @@
 // The replica: a node and its store.
-ghost use Rattle.std.specs.Prelude.{◌≡◌, ℕ, ◌+◌, ◌-◌, ◌^◌, ◌≤◌, min, ◌++◌, List, [], true, false, Contains, IfOk, IfErr, OnOk, OnErr, IsErrOf};
+ghost use Rattle.std.specs.Prelude.{◌≡◌, ℕ, ◌+◌, ◌-◌, ◌^◌, ◌<◌, ◌≤◌, min, length, ◌++◌, List, [], true, false, Contains, IfOk, IfErr, OnOk, OnErr, IsErrOf};
+ghost use Rattle.lk_types.specs.Limits.{max_count};
+ghost use Rattle.lk_disk.specs.Disk.{contents};
 ghost use Rattle.lk_disk.specs.declared.device.Side.{Side};
-ghost use Rattle.lk_log.specs.StoreValue.{disks};
+ghost use Rattle.lk_log.specs.Rooms.{StaysWithin};
+ghost use Rattle.lk_log.specs.StoreValue.{StoreValue, disks};
+ghost use Rattle.lk_node.specs.NodeValue.{NodeValue};
+ghost use Rattle.lk_replica.specs.Compacting.{RebasesWhereDue};
 ghost use Rattle.lk_state.specs.Meanings.{meaning};
 ghost use Rattle.lk_wire.specs.Grammar.{Spells};
 ghost use Rattle.lk_history.specs.Datagrams.{NodeMessage, Datagram as DatagramValue, said_by};
@@ -16,7 +21,9 @@ ghost use Rattle.lk_replica.specs.Posts.{AreOf, SendsSome};
 ghost use Rattle.lk_node.specs.Steps.{Steps};
 ghost use Rattle.lk_replica.specs.Taking.{Puts, IsTaken};
 ghost use Rattle.lk_replica.specs.Faults.{fault_number, IfSend};
+ghost use Rattle.lk_replica.specs.Rooms.{max_step, max_behind};
 
+use crate::compacting::rebase_where_due;
 use crate::delivering::deliver;
 use crate::fault::ReplicaFault;
 use crate::post::{Post, SendFault};
@@ -82,12 +89,14 @@ impl<M: Machine, D: LogDisk + Drop> Replica<M, D> {
         ensures runs_on { IfErr result (IfSend (λ notes. NothingToRun self.new.node)) }
         ensures sends_on { IfErr result (IfSend (λ notes. self.new.failed ≡ false)) }
         ensures broken { IfErr result (λ e. (fault_number e ≡ 15 → ⊥) → self.new.failed ≡ true) }
+        // After any exit neither file is longer than it was, or else than half of what a file may hold, and a step.
+        ensures room { D.is_honest → StaysWithin max_behind (disks self.old.store) (disks self.new.store) }
         // `Device` comes only where the device's count of failures rose, and `Send` only where the post's did, or it stood at 2^64 - 1.
         ensures cause { IfErr result (λ e. fault_number e ≡ 7 → min (self.old.store.failures + 1) (2 ^ 64 - 1) ≤ self.new.store.failures) }
         ensures cause_send { IfErr result (IfSend (λ notes. min (P.failures post.old + 1) (2 ^ 64 - 1) ≤ P.failures post.new)) }
         ensures failed { self.old.failed ≡ true → IsErrOf result ReplicaFault.Failed }
-        // Nothing but an earlier refusal, its own or its store's, makes it answer `Failed`.
-        ensures failed_before { self.old.failed ≡ false → self.old.store.failed ≡ false → IsErrOf result ReplicaFault.Failed → ⊥ }
+        // Nothing but an earlier refusal, its own or its store's, makes it answer `Failed`, or a rebase behind the last generation.
+        ensures failed_before { self.old.failed ≡ false → self.old.store.failed ≡ false → self.old.store.generation < max_count → IsErrOf result ReplicaFault.Failed → ⊥ }
         ensures store_alive { OnOk result (self.new.store.failed ≡ false) }
         ensures store_sends_on { IfErr result (IfSend (λ notes. self.new.store.failed ≡ false)) }
         ensures stays_failed { self.old.failed ≡ true → self.new ≡ self.old }
@@ -97,7 +106,7 @@ impl<M: Machine, D: LogDisk + Drop> Replica<M, D> {
             return Err(ReplicaFault::Failed);
         }
         self.failed = true;
-        let outbox = write(&mut self.node, &mut self.store, input)?;
+        let outbox = write_behind(&mut self.node, &mut self.store, input)?;
         self.failed = false;
         let Outbox {
             entries: _,
@@ -113,6 +122,13 @@ impl<M: Machine, D: LogDisk + Drop> Replica<M, D> {
 }
 
 impl<M: Machine, D: LogDisk + Drop> Replica<M, D> {
+    /// Whether it has ended: then each call answers `Failed`, until its disks are revived.
+    pub fn ended(&self) -> bool
+        ensures { result ≡ self.now.failed }
+    {
+        self.failed
+    }
+
     /// The device.
     pub fn device(&self) -> &D
         ensures disks { (s : Side) → D.disk result.now s ≡ disks self.now.store s }
@@ -170,8 +186,39 @@ fn write<M: Machine, D: LogDisk + Drop>(
     ensures alive { OnOk result (store.new.failed ≡ false) }
     ensures failed_before { store.old.failed ≡ false → IsErrOf result ReplicaFault.Failed → ⊥ }
     ensures cause { IfErr result (λ e. fault_number e ≡ 7 → min (store.old.failures + 1) (2 ^ 64 - 1) ≤ store.new.failures) }
+    ensures grows { D.is_honest → length (contents store.new.live_disk) ≤ length (contents store.old.live_disk) + max_step }
+    ensures beside { D.is_honest → store.new.other_disk ≡ store.old.other_disk }
+    ensures live { store.new.live ≡ store.old.live }
 {
     let outbox = node.step(input)?;
     store.put(&outbox.entries, outbox.sync)?;
+    Ok(outbox)
+}
+
+// Rebases where that is due, and then steps and writes as the step tells. Nothing is sent.
+fn write_behind<M: Machine, D: LogDisk + Drop>(
+    node: &mut Node<M>,
+    store: &mut Store<D>,
+    input: Input,
+) -> Result<Outbox, ReplicaFault>
+    ensures goes { D.is_honest → (h : History) (n : ℕ) → NodeFits (meaning M.first M.next M.answer) h n (Stands (meaning M.first M.next M.answer) node.old store.old h.genesis n) (disks store.old) → InputFits h input.entry
+        → IfOk result (λ o. (sent : List LetterValue) → AreOf sent o.letters → Goes (meaning M.first M.next M.answer) h n (Stands (meaning M.first M.next M.answer) node.new store.new h.genesis n) (disks store.new) o.notes (batch_of n sent)) }
+    ensures ends { D.is_honest → (h : History) (n : ℕ) → NodeFits (meaning M.first M.next M.answer) h n (Stands (meaning M.first M.next M.answer) node.old store.old h.genesis n) (disks store.old) → InputFits h input.entry
+        → DisksFit (meaning M.first M.next M.answer) h n (disks store.new) }
+    ensures syncs { D.is_honest → (genesis : Genesis) (n : ℕ) (held : Holding) (x : NodeMessage) → Stands (meaning M.first M.next M.answer) node.old store.old genesis n held
+        → IfOk result (λ o. (d : DatagramValue) → Contains (batch_of n o.letters) d → Spells (said_by genesis n x) d.bytes → AllCover (meaning M.first M.next M.answer) genesis n (disks store.new) x) }
+    ensures covers { D.is_honest → (genesis : Genesis) (n : ℕ) (held : Holding) (x : NodeMessage) → Stands (meaning M.first M.next M.answer) node.old store.old genesis n held
+        → AllCover (meaning M.first M.next M.answer) genesis n (disks store.old) x → AllCover (meaning M.first M.next M.answer) genesis n (disks store.new) x }
+    ensures exact { D.is_honest → IfOk result (λ o. (mid : NodeValue) × (between : StoreValue) × RebasesWhereDue node.old store.old mid between
+        × Steps (meaning M.first M.next M.answer) mid input.entry node.new o × Puts between o store.new) }
+    ensures runs { NothingToRun node.old → OnOk result (NothingToRun node.new) }
+    ensures alive { OnOk result (store.new.failed ≡ false) }
+    ensures only { IfErr result (IfSend (λ notes. ⊥)) }
+    ensures failed_before { store.old.failed ≡ false → store.old.generation < max_count → IsErrOf result ReplicaFault.Failed → ⊥ }
+    ensures cause { IfErr result (λ e. fault_number e ≡ 7 → min (store.old.failures + 1) (2 ^ 64 - 1) ≤ store.new.failures) }
+    ensures room { D.is_honest → StaysWithin max_behind (disks store.old) (disks store.new) }
+{
+    rebase_where_due(node, store)?;
+    let outbox = write(node, store, input)?;
     Ok(outbox)
 }

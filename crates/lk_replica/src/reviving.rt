@@ -5,6 +5,8 @@ ghost use Rattle.lk_disk.specs.declared.device.Side.{Side};
 ghost use Rattle.lk_log.specs.Images.{IsDamaged, seen};
 ghost use Rattle.lk_log.specs.Stores.{IsWrong, StandsForSome};
 ghost use Rattle.lk_log.specs.StoreValue.{disks};
+ghost use Rattle.lk_log.specs.Rooms.{StaysWithin};
+ghost use Rattle.lk_types.specs.Limits.{max_base};
 ghost use Rattle.lk_state.specs.Meanings.{meaning};
 ghost use Rattle.lk_state.specs.Packed.{Packs};
 ghost use Rattle.lk_state.specs.States.{WholeValue};
@@ -126,6 +128,9 @@ impl<M: Machine, D: LogDisk + Drop> Replica<M, D> {
         ensures wrong { D.is_honest → IfErr result (λ e. fault_number e.fault ≡ 10 → IsWrong (seen (D.disk device)) header.now) }
         ensures only { IfErr result (λ e. (7 ≤ fault_number e.fault) × (fault_number e.fault ≤ 10)) }
         ensures cause { IfErr result (λ e. fault_number e.fault ≡ 7 → min (D.failures device + 1) (2 ^ 64 - 1) ≤ D.failures e.device) }
+        // After any exit neither file is longer than it was, or else than a Base.
+        ensures room { D.is_honest → IfOk result (λ r. StaysWithin max_base (D.disk device) (disks r.replica.store)) }
+        ensures room_err { D.is_honest → IfErr result (λ e. StaysWithin max_base (D.disk device) (D.disk e.device)) }
         ensures alive { IfOk result (λ r. r.replica.failed ≡ false) }
         ensures store_alive { IfOk result (λ r. r.replica.store.failed ≡ false) }
         // What it can execute it has executed.

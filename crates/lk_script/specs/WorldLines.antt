@@ -72,6 +72,11 @@ AsksToStop words o = (n : ℕ) × (x : ℕ) × (y : ℕ) × (more : List ℕ) ×
 abbrev pub AsksToFail : List ℕ → Order → Type 0
 AsksToFail words o = (n : ℕ) × (count : ℕ) × (word : List ℕ) × NodeLeads n word words × IsWord 1 max_count count word × (o ≡ Once (event.FailAt n count))
 
+-- `N COUNT BYTES`
+abbrev pub AsksToArm : List ℕ → Order → Type 0
+AsksToArm words o = (n : ℕ) × (count : ℕ) × (bytes : ℕ) × (more : List ℕ) × (word : List ℕ)
+    × NodeLeads n more words × Leads 1 max_count count word more × IsWord 0 max_count bytes word × (o ≡ Once (event.Arm n count bytes))
+
 -- ---- a line
 
 abbrev pub word_of : EventVerb → List ℕ
@@ -83,6 +88,7 @@ word_of verb.Client = codes "client"
 word_of verb.Inject = codes "inject"
 word_of verb.Stop = codes "stop"
 word_of verb.Fail = codes "fail"
+word_of verb.Arm = codes "arm"
 
 abbrev pub Asks : EventVerb → List ℕ → Order → Type 0
 Asks verb.Start = AsksToStart
@@ -93,6 +99,7 @@ Asks verb.Client = AsksOfClient
 Asks verb.Inject = AsksToInject
 Asks verb.Stop = AsksToStop
 Asks verb.Fail = AsksToFail
+Asks verb.Arm = AsksToArm
 
 -- a verb, a space, and words of that verb
 abbrev pub SpellsOrder : List ℕ → Order → Type 0

@@ -13,6 +13,7 @@ pub enum EventVerb {
     Inject,
     Stop,
     Fail,
+    Arm,
 }
 
 impl EventVerb {
@@ -30,6 +31,7 @@ impl EventVerb {
             b"inject" => Some(EventVerb::Inject),
             b"stop" => Some(EventVerb::Stop),
             b"fail" => Some(EventVerb::Fail),
+            b"arm" => Some(EventVerb::Arm),
             _ => None,
         }
     }

@@ -131,16 +131,26 @@ fn print_sent(
     Ok(())
 }
 
-/// Adds the line of how an event ended a node.
-fn print_end(text: &mut Vec<u8>, end: &End) -> Result<(), NoMemory> {
-    let End::Fault(node, number) = end;
-    let (node, number) = (node.get(), *number);
+/// Adds the line of a fault that ended a node.
+fn print_fault(text: &mut Vec<u8>, node: NodeNo, number: u8) -> Result<(), NoMemory> {
+    let node = node.get();
     let name = match number {
         7 => "device",
         9 => "damaged",
         _ => "failed",
     };
     writeln!(text, "fault {node} {number} {name}").map_err(|_| NoMemory)
+}
+
+/// Adds the line of how an event ended a node.
+fn print_end(text: &mut Vec<u8>, end: &End) -> Result<(), NoMemory> {
+    match end {
+        End::Fault(node, number) => print_fault(text, *node, *number),
+        End::Stopped(node) => {
+            let node = node.get();
+            writeln!(text, "stopped {node}").map_err(|_| NoMemory)
+        }
+    }
 }
 
 /// Adds what an event printed, which added the notes and the datagrams from these places on: its notes, the datagrams, each

@@ -6,7 +6,7 @@ ghost use Rattle.lk_types.specs.Limits.{max_node};
 ghost use Rattle.lk_members.specs.Counting.{RequestValue};
 ghost use Rattle.lk_script.specs.declared.order.Order.TheVariants as order;
 ghost use Rattle.lk_script.specs.declared.order.Order.{Order as OrderValue};
-ghost use Rattle.lk_script.specs.WorldLines.{AsksToStart, AsksToRestart, AsksForTicks, AsksToDeliver, SpellsRequest, AsksOfClient, AsksToInject, AsksToStop, AsksToFail, Asks, SpellsOrder};
+ghost use Rattle.lk_script.specs.WorldLines.{AsksToStart, AsksToRestart, AsksForTicks, AsksToDeliver, SpellsRequest, AsksOfClient, AsksToInject, AsksToStop, AsksToFail, AsksToArm, Asks, SpellsOrder};
 
 use crate::event_verb::EventVerb;
 use crate::fault::LineFault;
@@ -122,6 +122,17 @@ fn to_fail(words: &[u8]) -> Option<Order>
     Some(Order::Once(Event::FailAt(node, count)))
 }
 
+fn to_arm(words: &[u8]) -> Option<Order>
+    ensures some { IfSome result (AsksToArm words.now) }
+    ensures none { IsNone result → (o : OrderValue) → AsksToArm words.now o → ⊥ }
+{
+    let (number, words) = first_number(words, 1, LAST_NODE)?;
+    let (count, word) = first_number(words, 1, MAX_COUNT)?;
+    let bytes = number_of(word, 0, MAX_COUNT)?;
+    let node = NodeNo::of(number as u32).unwrap();
+    Some(Order::Once(Event::Arm(node, count, bytes as usize)))
+}
+
 /// The bytes that an even number of hex digits, two or more, spell.
 fn in_hex(alloc: Global, digits: &[u8]) -> Result<Vec<u8>, LineFault>
     ensures ok { IfOk result (λ b. (decode_of digits.now ≡ Ok b.items) × (b.items ≢ [])) }
@@ -169,6 +180,7 @@ fn asked(alloc: Global, verb: EventVerb, words: &[u8]) -> Result<Order, LineFaul
         EventVerb::Inject => to_inject(alloc, words),
         EventVerb::Stop => understood(to_stop(words)),
         EventVerb::Fail => understood(to_fail(words)),
+        EventVerb::Arm => understood(to_arm(words)),
     }
 }
 

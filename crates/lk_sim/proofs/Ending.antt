@@ -82,6 +82,7 @@ module _ {R : Type 0} (Shows : R → Genesis → ℕ → Holding → Type 0) (di
     notes = w.notes;
     messages = w.messages;
     told = w.told;
+    in_time = w.in_time;
   }
 
 -- a node that has come up, or went on, fits

@@ -19,10 +19,12 @@ use Rattle.lk_node.specs.declared.note.Note.{Note}
 use Rattle.lk_node.specs.declared.note.Note.TheVariants as note
 use Rattle.lk_sim.specs.Traces.{asked_by, asked_in, happened}
 use Rattle.lk_sim.specs.Explained.{Explains}
+use Rattle.lk_sim.specs.Orders.{InOrder}
 use Rattle.lk_sim.specs.Seats.{At}
 use Rattle.lk_sim.specs.States.{KeepsPacked, SumsUpChosen}
 use Rattle.lk_sim.specs.Worlds.{Holds}
 use Rattle.lk_sim.specs.declared.seat.Seat.{Seat}
+use Rattle.lk_sim.proofs.Ordering.{in_order}
 
 asked_of : (x : Note) (r : RequestValue) → Contains (asked_by x) r → x ≡ note.Asked r
 asked_of (note.Asked q) r c = ap note.Asked (only q r c)
@@ -38,6 +40,9 @@ noted_asked (x ∷ xs) r c = elim (Contains-append_cases (asked_by x) (asked_in 
   | inr later ↦ contains_more x xs (note.Asked r) (noted_asked xs r later)
 ]
 
+at_place : (L : List Command) (v : Command) → Contains L v → (k : ℕ) × (command_at L (suc k) ≡ Some v)
+at_place L v c = (c.0, slice_get-get_or L c.0 v c.1 ∙ ap Some c.2)
+
 module _ {R : Type 0} (Shows : R → Genesis → ℕ → Holding → Type 0) (disks : R → Side → Disk) (m : Meaning) (genesis : Genesis) (seats : List (Seat R)) (sent : List Datagram) (trace : List Note)
     (w : Holds Shows disks m genesis seats sent trace) where
   abbrev sound : Sound genesis sent
@@ -50,18 +55,21 @@ module _ {R : Type 0} (Shows : R → Genesis → ℕ → Holding → Type 0) (di
   agree L K l k = chosen_agree genesis sent sound L K l k
 
   -- what is chosen was asked
-  chosen_asked : (i : ℕ) (v : Command) → ChosenAt genesis sent i v → WasAsked (happened genesis sent trace) v
+  pub chosen_asked : (i : ℕ) (v : Command) → ChosenAt genesis sent i v → WasAsked (happened genesis sent trace) v
   chosen_asked i v p =
       let n = chosen_was_accepted genesis sent i v p in
       w.proposed (record { position = i; ballot = n.1; command = v }) (sound.proposed n.0 (record { position = i; ballot = n.1; command = v }) n.2)
 
-  at_place : (v : Command) → Contains w.list v → (k : ℕ) × (command_at w.list (suc k) ≡ Some v)
-  at_place v c = (c.0, slice_get-get_or w.list c.0 v c.1 ∙ ap Some c.2)
+  -- so is each request of a chosen list
+  pub request_asked : (L : List Command) → Chosen genesis sent L → (r : RequestValue) → Contains L (Request r) → Contains (asked_in trace) r
+  request_asked L l r c = let at = at_place L (Request r) c in chosen_asked (suc at.0) (Request r) (entry_chosen genesis sent L l (suc at.0) (Request r) at.1)
+
+  pub ordered : InOrder genesis sent trace
+  ordered = in_order m genesis sent sound trace w.in_time noted_asked
 
   pub explains : Explains m genesis sent trace w.list
   explains = record {
-    asked = λ r c. let at = at_place (Request r) c in
-        noted_asked trace r (chosen_asked (suc at.0) (Request r) (entry_chosen genesis sent w.list w.chosen (suc at.0) (Request r) at.1));
+    asked = λ r c. noted_asked trace r (request_asked w.list w.chosen r c);
     ran = λ n i v c. w.notes (note.Ran n i v) c;
     among = λ n i set v c. let b = w.notes (note.Counted n i set v) c in (b.0, b.1);
     counted = λ n i set v u c at. one_chosen genesis sent sound i v u (w.notes (note.Counted n i set v) c).2 (entry_chosen genesis sent w.list w.chosen i u at);

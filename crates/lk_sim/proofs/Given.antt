@@ -45,17 +45,10 @@ module _ {R : Type 0} (Shows : R → Genesis → ℕ → Holding → Type 0) (di
   }
 
   -- a trap was set
-  pub trapped_up : (s new : Seat R) (r q : R) → s.life ≡ Up r → new.life ≡ Up q → new.number ≡ s.number
-      → ((genesis : Genesis) (n : ℕ) (x : Holding) → Shows r genesis n x → Shows q genesis n x) → ((k : Side) → disks q k ≡ disks r k) → SeatFits Shows disks m h w s → SeatFits Shows disks m h w new
-  trapped_up s new r q old now number shows same f = record {
-    up = λ p is. let e : q ≡ p = cc (now, is) in let u = f.up r old in
-        subst (λ k. UpFits Shows disks m h w k p) (sym number) (subst (λ z. UpFits Shows disks m h w s.number z) e (record {
-          holding = u.holding;
-          view = u.view;
-          shown = shows h.genesis s.number u.holding u.shown;
-          fits = u.fits;
-          left = same_disks m h s.number (disks r) (disks q) same u.left;
-        }));
+  pub trapped_up : (s new : Seat R) (r q : R) → s.life ≡ Up r → new.life ≡ Up q → new.number ≡ s.number → q ≡ r → SeatFits Shows disks m h w s → SeatFits Shows disks m h w new
+  trapped_up s new r q old now number same f = record {
+    up = λ p is. let e : r ≡ p = cc (now, is, same) in
+        subst (λ k. UpFits Shows disks m h w k p) (sym number) (subst (λ z. UpFits Shows disks m h w s.number z) e (f.up r old));
     down = λ d is. absurd (cc (now, is));
   }
 

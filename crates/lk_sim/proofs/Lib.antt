@@ -2,6 +2,7 @@ mod Lists
 mod Told
 mod Growth
 mod Bearing
+mod Ordering
 mod Explaining
 mod Sending
 mod Asking
@@ -9,5 +10,7 @@ mod Ending
 mod Starting
 mod Given
 mod Hearing
+mod Keeping
 mod Doing
 mod Running
+mod Stopping

@@ -57,7 +57,7 @@ module _ {R : Type 0} (Takes : Taking R) (Revives : Reviving R) (disks : R → S
   come_grows old new t d c = elim c [ inl r ↦ ([], r.adds.sent) | inr f ↦ ([], f.adds.sent) ]
 
   given_grows : (old new : Scene R) (n : ℕ) (o : Option (List ℕ)) (asked : List Note) → IsGiven Takes disks old new n o asked → Grows old new
-  given_grows old new n o asked k = elim k.comes_to [ inl r ↦ (r.batch, r.adds.sent) | inr f ↦ ([], f.adds.sent) ]
+  given_grows old new n o asked k = elim k.comes_to [ inl r ↦ (r.batch, r.adds.sent) | inr (inl r) ↦ (take r.sends r.batch, r.adds.sent) | inr (inr f) ↦ ([], f.adds.sent) ]
 
   brings_grows : (old new : Scene R) (e : Event) → Brings Takes Revives disks old e new → Grows old new
   brings_grows old new (event.Start n) k = come_grows old new k.seat k.device k.comes
@@ -68,6 +68,7 @@ module _ {R : Type 0} (Takes : Taking R) (Revives : Reviving R) (disks : R → S
   brings_grows old new (event.Inject n bytes) k = given_grows old new n (Some bytes.items) (asked_note k.request) k.given
   brings_grows old new (event.Stop n x y) k = ([], k.adds.sent)
   brings_grows old new (event.FailAt n count) k = ([], k.adds.sent)
+  brings_grows old new (event.Arm n count bytes) k = ([], k.adds.sent)
 
   pub done_grows : (old new : Scene R) (e : Event) → Does Takes Revives disks old e new → Grows old new
   done_grows old new e k = brings_grows old new e k.1
@@ -81,6 +82,7 @@ module _ {R : Type 0} (Takes : Taking R) (Revives : Reviving R) (disks : R → S
   halted_grows old new n (event.Inject m bytes) k = ([], k.1.adds.sent)
   halted_grows old new n (event.Stop m x y) k = absurd k
   halted_grows old new n (event.FailAt m count) k = absurd k
+  halted_grows old new n (event.Arm m count bytes) k = absurd k
 
   pub refused_grows : (old new : Scene R) (e : Event) (r : Refused) → IsRefused Takes Revives disks old e r new → Grows old new
   refused_grows old new e r k = elim k [

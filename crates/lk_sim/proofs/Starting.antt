@@ -1,5 +1,5 @@
 -- A node is started: its disks are empty, and it has sent nothing.
-use Rattle.std.proofs.Common.{◌≡◌, ℕ, zero, suc, ◌⊎◌, List, [], ◌∷◌, ◌++◌, length, take, refl, ap, sym, ◌∙◌, subst, inl, inr, arith}
+use Rattle.std.proofs.Common.{◌≡◌, ℕ, zero, suc, ◌⊎◌, List, [], ◌∷◌, ◌++◌, length, take, Contains, refl, ap, sym, ◌∙◌, subst, inl, inr, arith}
 use Rattle.lk_disk.specs.Disk.{Disk}
 use Rattle.lk_disk.specs.Memory.{Memory, disk_of}
 use Rattle.lk_disk.specs.declared.device.Side.{Side}
@@ -16,6 +16,7 @@ use Rattle.lk_node.specs.Served.{text}
 use Rattle.lk_node.specs.Holdings.{Holding}
 use Rattle.lk_node.specs.Leavings.{header_of, DisksFit}
 use Rattle.lk_node.specs.declared.note.Note.{Note}
+use Rattle.lk_node.specs.declared.note.Note.TheVariants as note
 use Rattle.lk_sim.specs.Traces.{happened}
 use Rattle.lk_sim.specs.Seats.{SeatFits, At}
 use Rattle.lk_sim.specs.Worlds.{Holds}
@@ -98,6 +99,7 @@ module _ {R : Type 0} (Shows : R → Genesis → ℕ → Holding → Type 0) (di
     notes = w.notes;
     messages = w.messages;
     told = w.told;
+    in_time = w.in_time;
   }
 
 -- nothing was started, sent or noted
@@ -115,4 +117,9 @@ nothing_holds Shows disks m genesis = record {
   notes = λ x c. absurd (omega (arith, c.1));
   messages = λ n x c. absurd (omega (arith, c.listed.1));
   told = refl;
+  in_time = λ front back parted n client number a c. absurd (nobody front back parted (note.Answered n client number a) c);
 }
+  where
+    nobody : (front back : List Note) → [] ≡ front ++ back → (x : Note) → Contains front x → ⊥
+    nobody [] back e x c = omega (arith, c.1)
+    nobody (y ∷ front) back e x c = cc e

@@ -1,9 +1,10 @@
 -- What an event does to a world.
-use Rattle.std.specs.Prelude.{◌≡◌, ℕ, ◌⊎◌, false, List, [], ◌∷◌, ◌++◌, Option, Some, None, Result, Ok, Err, set, Contains}
+use Rattle.std.specs.Prelude.{◌≡◌, ℕ, ◌<◌, ◌⊎◌, false, length, take, List, [], ◌∷◌, ◌++◌, Option, Some, None, Result, Ok, Err, set, Contains}
 use Rattle.lk_disk.specs.Disk.{Disk}
-use Rattle.lk_disk.specs.Memory.{Memory, disk_of}
+use Rattle.lk_disk.specs.Memory.{Memory, disk_of, stopping}
 use Rattle.lk_disk.specs.declared.device.Side.{Side}
-use Rattle.lk_disk.specs.declared.trap.Trap.TheVariants.{Off}
+use Rattle.lk_disk.specs.declared.trap.Trap.{Trap}
+use Rattle.lk_disk.specs.declared.trap.Trap.TheVariants.{Off, Fail, Arm}
 use Rattle.lk_log.specs.Values.{HeaderValue}
 use Rattle.lk_wire.specs.Grammar.{Spells}
 use Rattle.lk_wire.specs.declared.message.Content.TheVariants as content
@@ -19,7 +20,8 @@ use Rattle.lk_sim.specs.Refusals.{datagram_at, May, MayNot}
 use Rattle.lk_sim.specs.Scenes.{Scene}
 use Rattle.lk_sim.specs.Seats.{At, IsUp, IsStopped, IsTrapped}
 use Rattle.lk_sim.specs.Traces.{Tells, asked_note}
-use Rattle.lk_sim.specs.declared.end.End.TheVariants.{Fault}
+use Rattle.lk_sim.specs.declared.end.End.{End}
+use Rattle.lk_sim.specs.declared.end.End.TheVariants.{Fault, Stopped}
 use Rattle.lk_sim.specs.declared.event.Event.{Event}
 use Rattle.lk_sim.specs.declared.event.Event.TheVariants as event
 use Rattle.lk_sim.specs.declared.refused.Refused.{Refused}
@@ -60,7 +62,27 @@ pub record IsNoWant (number : ℕ) (left : Memory) : Type 0 where
   pub letters : number ≡ 15 → ⊥
   pub starved : left.starved ≡ false
 
--- a fault of that kind ended the node, which is down on the disks that it left: it noted and sent nothing
+-- how a node ended that has come to an armed stop, or else to a fault of this number
+abbrev pub end_by : Option ℕ → ℕ → ℕ → End
+end_by None n number = Fault n number
+end_by (Some bytes) n number = Stopped n
+
+-- how a node ended that has come to an armed stop at a send, if it has
+abbrev pub end_at : Option ℕ → ℕ → Option End
+end_at None n = None
+end_at (Some bytes) n = Some (Stopped n)
+
+-- a node that is down has these disks as they are; or, where it has come to an armed stop, what that leaves of them
+abbrev pub IsLeftOn : Option ℕ → (Side → Disk) → Memory → Type 0
+IsLeftOn None disks d = (s : Side) → disk_of d s ≡ disks s
+IsLeftOn (Some bytes) disks d = IsStopped bytes bytes disks d
+
+-- all of these were sent; or an armed stop came at one of them, and those in front of it were sent
+abbrev pub SentUpTo : Option ℕ → List Datagram → List Datagram → Type 0
+SentUpTo None all sent = sent ≡ all
+SentUpTo (Some bytes) all sent = (k : ℕ) × (k < length all) × (sent ≡ take k all)
+
+-- a fault of that kind, or an armed stop at a call of the device, ended the node, which is down: it noted and sent nothing
 pub record Falls {R : Type 0} (Ends : ℕ → Memory → Type 0) (old new : Scene R) (t : Seat R) (asked : List Note) : Type 0 where
   pub number : ℕ
   pub left : Memory
@@ -68,9 +90,9 @@ pub record Falls {R : Type 0} (Ends : ℕ → Memory → Type 0) (old new : Scen
   pub no_want : IsNoWant number left
   pub device : Memory
   pub down : t.life ≡ Down device
-  pub disks : (s : Side) → disk_of device s ≡ disk_of left s
+  pub disks : IsLeftOn (stopping left) (disk_of left) device
   pub trap : device.trap ≡ Off
-  pub ended : new.ended ≡ Some (Fault t.number number)
+  pub ended : new.ended ≡ Some (end_by (stopping left) t.number number)
   pub adds : Adds old new asked []
 
 -- ---- a node is given something
@@ -89,6 +111,30 @@ pub record GoesOn {R : Type 0} (Takes : Taking R) (old new : Scene R) (r : R) (t
   pub adds : Adds old new ((asked ++ notes) ++ told) batch
   pub ended : new.ended ≡ None
 
+-- an armed stop ended it at a send: all that its replica noted was added, and what it sent in front of that
+pub record StopsSending {R : Type 0} (Takes : Taking R) (disks : R → Side → Disk) (old new : Scene R) (r : R) (t : Seat R) (o : Option (List ℕ)) (asked : List Note) : Type 0 where
+  pub replica : R
+  pub notes : List Note
+  pub told : List Note
+  pub batch : List Datagram
+  pub takes : Takes r o replica (Ok (notes, batch))
+  pub own : AreOwn notes
+  pub sends : ℕ
+  pub within : sends < length batch
+  pub tells : Tells (take sends batch) told
+  pub adds : Adds old new ((asked ++ notes) ++ told) (take sends batch)
+  pub bytes : ℕ
+  pub device : Memory
+  pub down : t.life ≡ Down device
+  pub stopped : IsStopped bytes bytes (disks replica) device
+  pub trap : device.trap ≡ Off
+  pub ended : new.ended ≡ Some (Stopped t.number)
+
+-- what came of a tick, or of these bytes
+abbrev pub Comes : {R : Type 0} → Taking R → (R → Side → Disk) → Scene R → Scene R → R → Seat R → Option (List ℕ) → List Note → Type 0
+Comes Takes disks old new r t o asked =
+    GoesOn Takes old new r t o asked ⊎ StopsSending Takes disks old new r t o asked ⊎ Falls (Breaks Takes disks r o) old new t asked
+
 -- the node of this number was given a tick or these bytes
 pub record IsGiven {R : Type 0} (Takes : Taking R) (disks : R → Side → Disk) (old new : Scene R) (n : ℕ) (o : Option (List ℕ)) (asked : List Note) : Type 0 where
   pub seat : Seat R
@@ -97,7 +143,7 @@ pub record IsGiven {R : Type 0} (Takes : Taking R) (disks : R → Side → Disk)
   pub up : seat.life ≡ Up replica
   pub next : Seat R
   pub turns : Turns old.seats new.seats seat next
-  pub comes_to : GoesOn Takes old new replica next o asked ⊎ Falls (Breaks Takes disks replica o) old new next asked
+  pub comes_to : Comes Takes disks old new replica next o asked
 
 -- the node to which the datagram was bound was given its bytes
 pub record IsDelivered {R : Type 0} (Takes : Taking R) (disks : R → Side → Disk) (old new : Scene R) (k : ℕ) : Type 0 where
@@ -173,12 +219,12 @@ pub record GoesDown {R : Type 0} (disks : R → Side → Disk) (old new : Scene 
   pub adds : Adds old new [] []
   pub ended : new.ended ≡ None
 
-pub record WillFail {R : Type 0} (disks : R → Side → Disk) (old new : Scene R) (n count : ℕ) : Type 0 where
+pub record HasTrap {R : Type 0} (old new : Scene R) (n : ℕ) (trap : Trap) : Type 0 where
   pub seat : Seat R
   pub number : seat.number ≡ n
   pub next : Seat R
   pub turns : Turns old.seats new.seats seat next
-  pub trapped : IsTrapped disks seat next count
+  pub trapped : IsTrapped seat next trap
   pub adds : Adds old new [] []
   pub ended : new.ended ≡ None
 
@@ -193,7 +239,8 @@ Brings Takes Revives disks old (event.Client n r) new = IsAsked old new n r
 Brings Takes Revives disks old (event.Deliver k) new = IsDelivered Takes disks old new k
 Brings Takes Revives disks old (event.Inject n bytes) new = IsInjected Takes disks old new n bytes.items
 Brings Takes Revives disks old (event.Stop n x y) new = GoesDown disks old new n x y
-Brings Takes Revives disks old (event.FailAt n count) new = WillFail disks old new n count
+Brings Takes Revives disks old (event.FailAt n count) new = HasTrap old new n (Fail count)
+Brings Takes Revives disks old (event.Arm n count bytes) new = HasTrap old new n (Arm count bytes)
 
 -- what an event does that is done
 abbrev pub Does : {R : Type 0} → Taking R → Reviving R → (R → Side → Disk) → Scene R → Event → Scene R → Type 0

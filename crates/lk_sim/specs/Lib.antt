@@ -7,5 +7,7 @@ pub mod States
 pub mod Refusals
 pub mod Events
 pub mod Outcomes
+pub mod Orders
+pub mod Kept
 pub mod Worlds
 pub mod Runs

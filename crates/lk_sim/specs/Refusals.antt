@@ -94,6 +94,7 @@ MayNot w (event.Deliver k) e = NoDelivery w.seats w.sent (datagram_at w.sent k) 
 MayNot w (event.Inject n bytes) e = NoInjection w.seats w.sent n bytes.items e
 MayNot w (event.Stop n x y) e = NoneUp w.seats n e
 MayNot w (event.FailAt n count) e = NotStarted w.seats n e
+MayNot w (event.Arm n count bytes) e = NotStarted w.seats n e
 
 -- ---- what is not refused so
 
@@ -114,3 +115,4 @@ May w (event.Deliver k) = MayDeliver w k
 May w (event.Inject n bytes) = MayTurn w n × (IsForged bytes.items → ⊥)
 May w (event.Stop n x y) = IsUp w.seats n
 May w (event.FailAt n count) = IsStarted w.seats n
+May w (event.Arm n count bytes) = IsStarted w.seats n

@@ -4,7 +4,7 @@ use Rattle.lk_disk.specs.Disk.{Disk, kept_by}
 use Rattle.lk_disk.specs.Memory.{Memory, disk_of}
 use Rattle.lk_disk.specs.declared.device.Side.{Side}
 use Rattle.lk_disk.specs.declared.device.Side.TheVariants.{A, B}
-use Rattle.lk_disk.specs.declared.trap.Trap.TheVariants.{Fail}
+use Rattle.lk_disk.specs.declared.trap.Trap.{Trap}
 use Rattle.lk_state.specs.Meanings.{Meaning}
 use Rattle.lk_history.specs.Nodes.{View}
 use Rattle.lk_node.specs.Histories.{History, Genesis, Datagram}
@@ -41,11 +41,11 @@ HasNo {R = R} seats number = (k : ℕ) (s : Seat R) → At seats k s → s.numbe
 abbrev pub IsStopped : ℕ → ℕ → (Side → Disk) → Memory → Type 0
 IsStopped x y disks d = (d.a ≡ kept_by x (disks A)) × (d.b ≡ kept_by y (disks B))
 
--- a device that is down has the trap; a replica that is up keeps its disks
-abbrev pub IsTrapped : {R : Type 0} → (R → Side → Disk) → Seat R → Seat R → ℕ → Type 0
-IsTrapped {R = R} disks s t count =
-    ((r q : R) × (s.life ≡ Up r) × (t.life ≡ Up q) × ((k : Side) → disks q k ≡ disks r k))
-    ⊎ ((d : Memory) × (s.life ≡ Down d) × (t.life ≡ Down (record d { trap = Fail count; sprung = false; starved = false })))
+-- the device of a node that is down has the trap; of one that is up it is not seen
+abbrev pub IsTrapped : {R : Type 0} → Seat R → Seat R → Trap → Type 0
+IsTrapped {R = R} s t trap =
+    ((r : R) × (s.life ≡ Up r) × (t.life ≡ Up r))
+    ⊎ ((d : Memory) × (s.life ≡ Down d) × (t.life ≡ Down (record d { trap = trap; sprung = false; starved = false })))
 
 -- ---- how a node fits to what has happened
 

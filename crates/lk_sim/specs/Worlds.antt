@@ -13,6 +13,7 @@ use Rattle.lk_node.specs.Histories.{Genesis, Datagram, Command, RequestValue, Wa
 use Rattle.lk_node.specs.Served.{BearsOut, BearsOutMessage}
 use Rattle.lk_node.specs.Holdings.{Holding}
 use Rattle.lk_node.specs.declared.note.Note.{Note}
+use Rattle.lk_sim.specs.Orders.{InTime}
 use Rattle.lk_sim.specs.Scenes.{Scene}
 use Rattle.lk_sim.specs.Traces.{asked_in, happened, told_in, Tells}
 use Rattle.lk_sim.specs.Seats.{SeatFits, At}
@@ -37,6 +38,8 @@ pub record Holds {R : Type 0} (Shows : R → Genesis → ℕ → Holding → Typ
   pub messages : (n : ℕ) (x : NodeMessage) → HasSent genesis sent n x → BearsOutMessage m (happened genesis sent trace) list x
   -- what was answered and told was noted, in order
   pub told : Tells sent (told_in trace)
+  -- what was answered is borne out by what was asked by then
+  pub in_time : InTime m genesis sent trace
 
 -- so of the parts of a world
 abbrev pub PartsHold : {R : Type 0} → (R → Genesis → ℕ → Holding → Type 0) → (R → Side → Disk) → Meaning → Parts R → Type 0

@@ -19,4 +19,7 @@ pub enum Event {
     Stop(NodeNo, usize, usize),
     /// The count-th append, sync or cut of a node from now fails once.
     FailAt(NodeNo, u64),
+    /// A node stops at its count-th append, sync, cut or send from now. It keeps up to so many unsynced bytes of each disk, and
+    /// up to so many bytes of what that call cuts.
+    Arm(NodeNo, u64, usize),
 }

@@ -7,13 +7,13 @@ ghost use Rattle.lk_node.specs.Histories.{History};
 ghost use Rattle.lk_node.specs.Leavings.{header_of};
 ghost use Rattle.lk_node.specs.declared.note.Note.{Note as NoteValue};
 ghost use Rattle.lk_sim.specs.Events.{IsGiven, IsHalted, IsBack, LeftBy, LeftByRevival};
-ghost use Rattle.lk_sim.specs.Outcomes.{HasAdded, HasGivenUp};
+ghost use Rattle.lk_sim.specs.Outcomes.{HasAdded, HasSettled, HasGivenUp};
 ghost use Rattle.lk_sim.specs.Seats.{IsUpAt, IsDownAt};
 ghost use Rattle.lk_sim.specs.Traces.{happened, asked_note, Tells};
 ghost use Rattle.lk_sim.specs.Worlds.{PartsHold, scene_of};
 
 use crate::parts::Parts;
-use crate::seat::{Outcome, revive, step, stop};
+use crate::seat::{Outcome, rest, revive, step, stop};
 use crate::telling::tell;
 use lk_node::{Input, Note};
 use lk_replica::{Datagram, MemoryReplica};
@@ -68,6 +68,7 @@ pub fn add<R: MemoryReplica>(
         notes,
         sent: batch,
         ended,
+        stop: _,
     } = outcome;
     let all = notes_of(parts.alloc, asked, notes, &batch)?;
     join(&mut parts.sent, &mut parts.trace, batch, all)?;
@@ -75,7 +76,8 @@ pub fn add<R: MemoryReplica>(
     Ok(())
 }
 
-// Keeps what a call of the node at this place came to; where memory is refused, the node is stopped.
+// Keeps what a call of the node at this place came to, and makes an armed stop to which it has come; where memory is refused, the
+// node is stopped.
 fn settle<R: MemoryReplica>(
     parts: &mut Parts<R>,
     i: usize,
@@ -83,11 +85,15 @@ fn settle<R: MemoryReplica>(
     outcome: Outcome,
 ) -> Result<(), NoMemory>
     requires place { i < length parts.old.seats.items }
-    ensures ok { OnOk result (HasAdded (scene_of parts.old) (scene_of parts.new) (asked_note asked) outcome.notes.items outcome.sent.items outcome.ended) }
+    ensures ok { OnOk result (HasSettled R.Shows R.disks R.meaning (scene_of parts.old) i (scene_of parts.new) (asked_note asked) outcome.notes.items outcome.sent.items outcome.ended outcome.stop) }
     ensures err { OnErr result (HasGivenUp R.Shows R.disks R.meaning (scene_of parts.old) i (scene_of parts.new)) }
 {
+    let at = outcome.stop;
     match add(parts, asked, outcome) {
-        Ok(()) => Ok(()),
+        Ok(()) => {
+            rest(parts.alloc, &mut parts.seats[i], at);
+            Ok(())
+        }
         Err(refused) => {
             stop(parts.alloc, &mut parts.seats[i], 0, 0);
             Err(refused)

@@ -8,7 +8,7 @@ use crate::client::client;
 use crate::delivery::{deliver, inject, tick};
 use crate::end::RunEnd;
 use crate::event::Event;
-use crate::lives::{fail_at, halt, restart, start};
+use crate::lives::{arm, fail_at, halt, restart, start};
 use crate::parts::Parts;
 use crate::refused::Refused;
 use lk_replica::MemoryReplica;
@@ -29,6 +29,7 @@ pub fn happen<R: MemoryReplica>(parts: &mut Parts<R>, event: &Event) -> Result<(
         Event::Inject(number, bytes) => inject(parts, *number, bytes),
         Event::Stop(number, x, y) => halt(parts, *number, *x, *y),
         Event::FailAt(number, count) => fail_at(parts, *number, *count),
+        Event::Arm(number, count, bytes) => arm(parts, *number, *count, *bytes),
     }
 }
 

@@ -9,8 +9,8 @@ use crate::finding::{find, find_down, find_up};
 use crate::giving::{add, come_up};
 use crate::parts::Parts;
 use crate::refused::Refused;
-use crate::seat::{Life, Seat, revive, set_trap, stop};
-use lk_disk::MemoryDisk;
+use crate::seat::{Life, Seat, rest, revive, set_trap, stop};
+use lk_disk::{MemoryDisk, Trap};
 use lk_replica::MemoryReplica;
 use lk_types::{NoMemory, NodeNo};
 
@@ -29,7 +29,9 @@ fn begin<R: MemoryReplica>(parts: &mut Parts<R>, number: NodeNo) -> Result<(), N
     let mut seat = Seat { number, life };
     parts.seats.reserve(1)?;
     let outcome = revive(parts.alloc, &mut seat, &parts.genesis)?;
+    let at = outcome.stop;
     add(parts, None, outcome)?;
+    rest(parts.alloc, &mut seat, at);
     parts.seats.push(seat).unwrap();
     Ok(())
 }
@@ -93,7 +95,25 @@ pub fn fail_at<R: MemoryReplica>(
     ensures err { IfErr result (λ e. IsRefused R.Takes R.Revives R.disks (scene_of parts.old) (event.FailAt number count) e (scene_of parts.new)) }
 {
     let i = find(&parts.seats, number).ok_or(Refused::NoSuchNode)?;
-    set_trap(&mut parts.seats[i], count);
+    set_trap(&mut parts.seats[i], Trap::Fail(count));
+    parts.ended = None;
+    Ok(())
+}
+
+/// A node will stop at a changing call of its device to come, or at a send.
+pub fn arm<R: MemoryReplica>(
+    parts: &mut Parts<R>,
+    number: NodeNo,
+    count: u64,
+    bytes: usize,
+) -> Result<(), Refused>
+    requires { PartsHold R.Shows R.disks R.meaning parts.old }
+    ensures holds { PartsHold R.Shows R.disks R.meaning parts.new }
+    ensures ok { OnOk result (Does R.Takes R.Revives R.disks (scene_of parts.old) (event.Arm number count bytes) (scene_of parts.new)) }
+    ensures err { IfErr result (λ e. IsRefused R.Takes R.Revives R.disks (scene_of parts.old) (event.Arm number count bytes) e (scene_of parts.new)) }
+{
+    let i = find(&parts.seats, number).ok_or(Refused::NoSuchNode)?;
+    set_trap(&mut parts.seats[i], Trap::Arm(count, bytes));
     parts.ended = None;
     Ok(())
 }

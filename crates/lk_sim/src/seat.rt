@@ -1,24 +1,26 @@
 // A node of the world.
-ghost use Rattle.std.specs.Prelude.{◌≡◌, ℕ, ◌⊎◌, List, [], false, None, Some, IfOk, OnOk, OnErr};
-ghost use Rattle.lk_disk.specs.Disk.{Disk};
+ghost use Rattle.std.specs.Prelude.{◌≡◌, ℕ, ◌⊎◌, List, [], length, false, None, Some, IfOk, OnOk, OnErr};
+ghost use Rattle.lk_disk.specs.Disk.{Disk, contents};
 ghost use Rattle.lk_disk.specs.Memory.{Memory, disk_of};
 ghost use Rattle.lk_disk.specs.declared.device.Side.{Side};
+ghost use Rattle.lk_disk.specs.declared.device.Side.TheVariants.{A, B};
 ghost use Rattle.lk_disk.specs.declared.trap.Trap.TheVariants.{Off};
 ghost use Rattle.lk_history.specs.Nodes.{View};
 ghost use Rattle.lk_node.specs.Histories.{History, Genesis as GenesisValue, IsLawful};
 ghost use Rattle.lk_node.specs.Leavings.{header_of, DisksFit};
 ghost use Rattle.lk_node.specs.Calls.{heard_by, InputFits};
 ghost use Rattle.lk_replica.specs.Faults.{fault_number};
-ghost use Rattle.lk_sim.specs.Events.{Breaks, StaysDown, IsNoWant, LeftBy, LeftByRevival};
+ghost use Rattle.lk_sim.specs.Events.{Breaks, StaysDown, IsNoWant, LeftBy, LeftByRevival, SentUpTo, end_by, end_at};
 ghost use Rattle.lk_sim.specs.Seats.{SeatFits, SeatGoes, IsStopped, IsTrapped};
-ghost use Rattle.lk_sim.specs.Outcomes.{HasFallen, HasHalted, HasTaken, HasRevived, IsThis, StoodIn};
+ghost use Rattle.lk_sim.specs.Kept.{disks_of};
+ghost use Rattle.lk_sim.specs.Outcomes.{HasFallen, HasStopped, HasHalted, HasTaken, HasRevived, IsThis, StoodIn, Rests};
 ghost use Rattle.lk_sim.specs.declared.seat.Life.TheVariants.{Up, Down};
 
 use crate::end::End;
 use lk_disk::{MemoryDisk, Trap, Trapped};
 use lk_log::Header;
 use lk_node::{Input, Note};
-use lk_replica::{Datagram, MemoryReplica, ReplicaFault};
+use lk_replica::{Datagram, MemoryReplica, ReplicaFault, Taken};
 use lk_types::{Genesis, NoMemory, NodeNo};
 use std::alloc::Global;
 use std::mem;
@@ -43,6 +45,8 @@ pub struct Outcome {
     pub notes: Vec<Note>,
     pub sent: Vec<Datagram>,
     pub ended: Option<End>,
+    // it has come to an armed stop, for so many bytes, which is still to be made
+    pub stop: Option<usize>,
 }
 
 // What stands in the seat, which is left with empty disks.
@@ -70,12 +74,23 @@ fn take_device<R: MemoryReplica>(alloc: Global, seat: &mut Seat<R>) -> MemoryDis
 pub fn stop<R: MemoryReplica>(alloc: Global, seat: &mut Seat<R>, x: usize, y: usize)
     ensures number { seat.new.number ≡ seat.old.number }
     ensures fits { (h : History) (w : View) → SeatFits R.Shows R.disks R.meaning h w seat.old → SeatFits R.Shows R.disks R.meaning h w seat.new }
-    ensures halted { (x ≡ 0) → (y ≡ 0) → HasHalted (StoodIn R.disks seat.old.life) seat.new }
+    ensures stopped { HasStopped (StoodIn R.disks seat.old.life) x y seat.new }
     ensures up { (r : R) → seat.old.life ≡ Up r → (d : Memory) × (seat.new.life ≡ Down d) × IsStopped x y (R.disks r) d × (d.trap ≡ Off) }
 {
     let mut device = take_device(alloc, seat);
     device.stop(x, y);
     seat.life = Life::Down(device);
+}
+
+/// The node, where it has come to an armed stop for so many bytes, goes down.
+pub fn rest<R: MemoryReplica>(alloc: Global, seat: &mut Seat<R>, at: Option<usize>)
+    ensures number { seat.new.number ≡ seat.old.number }
+    ensures fits { (h : History) (w : View) → SeatFits R.Shows R.disks R.meaning h w seat.old → SeatFits R.Shows R.disks R.meaning h w seat.new }
+    ensures rests { Rests R.disks at seat.old seat.new }
+{
+    if let Some(bytes) = at {
+        stop(alloc, seat, bytes, bytes);
+    }
 }
 
 // Whether the fault is for want of memory: a letter is lost in memory for nothing else.
@@ -90,7 +105,7 @@ fn is_wanting(fault: &ReplicaFault, device: &MemoryDisk) -> bool
 }
 
 // A fault leaves the node down, on the disks as they are; want of memory stops it. Either way the trap is gone, and the
-// device forgets that it was starved.
+// device forgets that it was starved. Where the fault is that of an armed stop, that is told, and still to be made.
 fn fall<R: MemoryReplica>(
     alloc: Global,
     seat: &mut Seat<R>,
@@ -99,7 +114,7 @@ fn fall<R: MemoryReplica>(
 ) -> Result<Outcome, NoMemory>
     ensures number { seat.new.number ≡ seat.old.number }
     ensures fits { (h : History) (w : View) → DisksFit R.meaning h seat.old.number (disk_of device) → SeatFits R.Shows R.disks R.meaning h w seat.new }
-    ensures fallen { IfOk result (λ o. HasFallen (IsThis (fault_number fault) device) seat.new o.notes.items o.sent.items o.ended) }
+    ensures fallen { IfOk result (λ o. HasFallen (IsThis (fault_number fault) device) seat.new o.notes.items o.sent.items o.ended o.stop) }
     ensures halted { OnErr result (HasHalted (StoodIn R.disks (Down device)) seat.new) }
 {
     if is_wanting(&fault, &device) {
@@ -108,13 +123,56 @@ fn fall<R: MemoryReplica>(
         seat.life = Life::Down(device);
         return Err(NoMemory);
     }
+    let stop = device.stopping();
     device.trap(Trap::Off);
     seat.life = Life::Down(device);
     Ok(Outcome {
         notes: Vec::new(alloc),
         sent: Vec::new(alloc),
-        ended: Some(End::Fault(seat.number, fault.number())),
+        ended: Some(ended_by(stop, seat.number, fault.number())),
+        stop,
     })
+}
+
+// How a node ended that has come to an armed stop, or else to this fault.
+fn ended_by(stop: Option<usize>, node: NodeNo, number: u8) -> End
+    ensures { result ≡ end_by stop node number }
+{
+    match stop {
+        Some(_) => End::Stopped(node),
+        None => End::Fault(node, number),
+    }
+}
+
+// How a node ended that has come to an armed stop at a send, if it has.
+fn ended_at(stop: Option<usize>, node: NodeNo) -> Option<End>
+    ensures { result ≡ end_at stop node }
+{
+    match stop {
+        Some(_) => Some(End::Stopped(node)),
+        None => None,
+    }
+}
+
+// Counts the sends of a step against an armed trap. Where the node stops at one of them, those from it on are not sent, and it is
+// told for how many bytes.
+fn count_sends<R: MemoryReplica>(replica: &mut R, sent: &mut Vec<Datagram>) -> Option<usize>
+    ensures replica { replica.new ≡ replica.old }
+    ensures sends { SentUpTo result sent.old.items sent.new.items }
+{
+    let Trap::Arm(count, bytes) = replica.device().pending() else {
+        return None;
+    };
+    let sends = sent.len() as u64;
+    if count > sends {
+        replica.trap(Trap::Arm(count - sends, bytes));
+        return None;
+    }
+    if count == 0 {
+        return None;
+    }
+    sent.truncate(count as usize - 1);
+    Some(bytes)
 }
 
 /// The node, which is up, takes an input. Where its replica ends, it goes down.
@@ -130,18 +188,24 @@ pub fn step<R: MemoryReplica>(
     ensures falls { (h : History) (w : View) → IsLawful h → SeatFits R.Shows R.disks R.meaning h w seat.old → InputFits h input.entry
         → (d : Memory) → seat.new.life ≡ Down d → SeatFits R.Shows R.disks R.meaning h w seat.new }
     ensures exact { (r : R) → seat.old.life ≡ Up r
-        → IfOk result (λ o. HasTaken R.Takes r (heard_by input.entry) seat.new o.notes.items o.sent.items o.ended ⊎ HasFallen (Breaks R.Takes R.disks r (heard_by input.entry)) seat.new o.notes.items o.sent.items o.ended) }
+        → IfOk result (λ o. HasTaken R.Takes r (heard_by input.entry) seat.new o.notes.items o.sent.items o.ended o.stop ⊎ HasFallen (Breaks R.Takes R.disks r (heard_by input.entry)) seat.new o.notes.items o.sent.items o.ended o.stop) }
     ensures halted { OnErr result (HasHalted (LeftBy R.Takes R.disks (heard_by input.entry) seat.old.life) seat.new) }
 {
+    let node = seat.number;
     let Life::Up(replica) = &mut seat.life else {
         unreachable!()
     };
     match replica.take(input) {
-        Ok(taken) => Ok(Outcome {
-            notes: taken.notes,
-            sent: taken.sent,
-            ended: None,
-        }),
+        Ok(taken) => {
+            let Taken { notes, mut sent } = taken;
+            let stop = count_sends(replica, &mut sent);
+            Ok(Outcome {
+                notes,
+                sent,
+                ended: ended_at(stop, node),
+                stop,
+            })
+        }
         Err(fault) => {
             let device = take_device(alloc, seat);
             fall(alloc, seat, device, fault)
@@ -161,7 +225,7 @@ pub fn revive<R: MemoryReplica>(
     ensures falls { (h : History) (w : View) → h.genesis ≡ genesis.now → IsLawful h → SeatFits R.Shows R.disks R.meaning h w seat.old
         → (d : Memory) → seat.new.life ≡ Down d → SeatFits R.Shows R.disks R.meaning h w seat.new }
     ensures exact { (d : Memory) → seat.old.life ≡ Down d
-        → IfOk result (λ o. HasRevived R.Revives d (header_of genesis.now seat.old.number) seat.new o.notes.items o.sent.items o.ended ⊎ HasFallen (StaysDown R.Revives d (header_of genesis.now seat.old.number)) seat.new o.notes.items o.sent.items o.ended) }
+        → IfOk result (λ o. HasRevived R.Revives d (header_of genesis.now seat.old.number) seat.new o.notes.items o.sent.items o.ended o.stop ⊎ HasFallen (StaysDown R.Revives d (header_of genesis.now seat.old.number)) seat.new o.notes.items o.sent.items o.ended o.stop) }
     ensures halted { (d : Memory) → seat.old.life ≡ Down d → OnErr result (HasHalted (LeftByRevival R.Revives R.disks (header_of genesis.now seat.old.number) seat.old.life) seat.new) }
 {
     let device = take_device(alloc, seat);
@@ -172,6 +236,7 @@ pub fn revive<R: MemoryReplica>(
                 notes: revived.notes,
                 sent: Vec::new(alloc),
                 ended: None,
+                stop: None,
             })
         }
         Err(refused) => fall(alloc, seat, refused.device, refused.fault),
@@ -179,13 +244,24 @@ pub fn revive<R: MemoryReplica>(
 }
 
 /// Sets the trap of the node's device.
-pub fn set_trap<R: MemoryReplica>(seat: &mut Seat<R>, count: u64)
+pub fn set_trap<R: MemoryReplica>(seat: &mut Seat<R>, trap: Trap)
     ensures number { seat.new.number ≡ seat.old.number }
     ensures fits { (h : History) (w : View) → SeatFits R.Shows R.disks R.meaning h w seat.old → SeatFits R.Shows R.disks R.meaning h w seat.new }
-    ensures trapped { IsTrapped R.disks seat.old seat.new count }
+    ensures trapped { IsTrapped seat.old seat.new trap }
 {
     match &mut seat.life {
-        Life::Up(replica) => replica.trap(Trap::Fail(count)),
-        Life::Down(device) => device.trap(Trap::Fail(count)),
+        Life::Up(replica) => replica.trap(trap),
+        Life::Down(device) => device.trap(trap),
+    }
+}
+
+/// How many bytes the node's disks have, synced or not.
+pub fn lengths<R: MemoryReplica>(seat: &Seat<R>) -> (usize, usize)
+    ensures a { result.0 ≡ length (contents (disks_of R.disks seat.now.life A)) }
+    ensures b { result.1 ≡ length (contents (disks_of R.disks seat.now.life B)) }
+{
+    match &seat.life {
+        Life::Up(replica) => replica.device().lengths(),
+        Life::Down(device) => device.lengths(),
     }
 }

@@ -1,12 +1,14 @@
 // A world of replicas.
 use crate::end::{End, RunEnd};
 use crate::event::Event;
+use crate::finding::find;
 use crate::happening::{happen, happen_all};
 use crate::parts::Parts;
 use crate::refused::Refused;
+use crate::seat::lengths;
 use lk_node::Note;
 use lk_replica::{Datagram, MemoryReplica};
-use lk_types::Genesis;
+use lk_types::{Genesis, NodeNo};
 use std::alloc::Global;
 use std::marker::Model;
 
@@ -28,13 +30,17 @@ impl<R: MemoryReplica> Model for World<R> {
 }
 
 impl<R: MemoryReplica> World<R> {
-    ghost use Rattle.std.specs.Prelude.{◌≡◌, ℕ, ◌⊎◌, List, [], None, OnOk, IfErr};
-    ghost use Rattle.lk_history.specs.Chosen.{Chosen, IsBeginning};
+    ghost use Rattle.std.specs.Prelude.{◌≡◌, ℕ, ◌⊎◌, List, [], length, None, Some, IfSome, OnOk, IfErr};
+    ghost use Rattle.lk_history.specs.Chosen.{command_at, Chosen, IsBeginning};
     ghost use Rattle.lk_node.specs.Histories.{Command};
     ghost use Rattle.lk_sim.specs.Events.{Does, IsRefused, Grows};
     ghost use Rattle.lk_sim.specs.Explained.{Explains};
+    ghost use Rattle.lk_disk.specs.Disk.{contents};
+    ghost use Rattle.lk_disk.specs.declared.device.Side.TheVariants.{A, B};
+    ghost use Rattle.lk_sim.specs.Kept.{disks_of, CoversAll, IsKeptBy};
+    ghost use Rattle.lk_sim.specs.Orders.{InOrder};
     ghost use Rattle.lk_sim.specs.Runs.{Runs};
-    ghost use Rattle.lk_sim.specs.Seats.{At};
+    ghost use Rattle.lk_sim.specs.Seats.{At, HasNo};
     ghost use Rattle.lk_sim.specs.States.{SumsUpChosen};
     ghost use Rattle.lk_sim.specs.Traces.{told_in, Tells};
     ghost use Rattle.lk_sim.specs.declared.seat.Seat.{Seat as SeatValue};
@@ -67,6 +73,12 @@ impl<R: MemoryReplica> World<R> {
         ensures agree { (L K : List Command) → Chosen self.new.genesis self.new.sent L → Chosen self.new.genesis self.new.sent K → IsBeginning L K ⊎ IsBeginning K L }
         ensures told { Tells self.new.sent (told_in self.new.trace) }
         ensures states { (k : ℕ) (s : SeatValue R) → At self.new.seats k s → SumsUpChosen R.whole R.disks R.meaning self.new.genesis self.new.sent s }
+        // Whatever a stop may leave of a node's disks covers all that the node has sent.
+        ensures covered { (k : ℕ) (s : SeatValue R) → At self.new.seats k s → CoversAll R.disks R.meaning self.new.genesis self.new.sent s }
+        // A majority keeps each command of a chosen list, whatever stops may leave.
+        ensures kept { (L : List Command) (i : ℕ) (v : Command) → Chosen self.new.genesis self.new.sent L → command_at L i ≡ Some v → IsKeptBy R.disks R.meaning self.new.genesis self.new.seats self.new.sent L i v }
+        // What was answered before a request was asked counts in front of it.
+        ensures order { InOrder self.new.genesis self.new.sent self.new.trace }
     {
         let result = happen(&mut self.parts, &event);
         self.facts();
@@ -81,6 +93,12 @@ impl<R: MemoryReplica> World<R> {
         ensures agree { (L K : List Command) → Chosen self.new.genesis self.new.sent L → Chosen self.new.genesis self.new.sent K → IsBeginning L K ⊎ IsBeginning K L }
         ensures told { Tells self.new.sent (told_in self.new.trace) }
         ensures states { (k : ℕ) (s : SeatValue R) → At self.new.seats k s → SumsUpChosen R.whole R.disks R.meaning self.new.genesis self.new.sent s }
+        // Whatever a stop may leave of a node's disks covers all that the node has sent.
+        ensures covered { (k : ℕ) (s : SeatValue R) → At self.new.seats k s → CoversAll R.disks R.meaning self.new.genesis self.new.sent s }
+        // A majority keeps each command of a chosen list, whatever stops may leave.
+        ensures kept { (L : List Command) (i : ℕ) (v : Command) → Chosen self.new.genesis self.new.sent L → command_at L i ≡ Some v → IsKeptBy R.disks R.meaning self.new.genesis self.new.seats self.new.sent L i v }
+        // What was answered before a request was asked counts in front of it.
+        ensures order { InOrder self.new.genesis self.new.sent self.new.trace }
     {
         let how = happen_all(&mut self.parts, events);
         self.facts();
@@ -108,12 +126,28 @@ impl<R: MemoryReplica> World<R> {
         self.parts.ended
     }
 
+    /// How many bytes the disks A and B of this node have, synced or not, or `None` where it was never started.
+    pub fn lengths(&self, node: NodeNo) -> Option<(usize, usize)>
+        ensures some { IfSome result (λ l. (k : ℕ) × (s : SeatValue R) × At self.now.seats k s × (s.number ≡ node)
+            × (l.0 ≡ length (contents (disks_of R.disks s.life A))) × (l.1 ≡ length (contents (disks_of R.disks s.life B)))) }
+        ensures none { result ≡ None → HasNo self.now.seats node }
+    {
+        let i = find(&self.parts.seats, node)?;
+        Some(lengths(&self.parts.seats[i]))
+    }
+
     /// Some list explains the world, chosen lists agree, and each node has executed one. It does nothing.
     pub fn facts(&self)
         ensures explained { (L : List Command) × Chosen self.now.genesis self.now.sent L × Explains R.meaning self.now.genesis self.now.sent self.now.trace L }
         ensures agree { (L K : List Command) → Chosen self.now.genesis self.now.sent L → Chosen self.now.genesis self.now.sent K → IsBeginning L K ⊎ IsBeginning K L }
         ensures told { Tells self.now.sent (told_in self.now.trace) }
         ensures states { (k : ℕ) (s : SeatValue R) → At self.now.seats k s → SumsUpChosen R.whole R.disks R.meaning self.now.genesis self.now.sent s }
+        // Whatever a stop may leave of a node's disks covers all that the node has sent.
+        ensures covered { (k : ℕ) (s : SeatValue R) → At self.now.seats k s → CoversAll R.disks R.meaning self.now.genesis self.now.sent s }
+        // A majority keeps each command of a chosen list, whatever stops may leave.
+        ensures kept { (L : List Command) (i : ℕ) (v : Command) → Chosen self.now.genesis self.now.sent L → command_at L i ≡ Some v → IsKeptBy R.disks R.meaning self.now.genesis self.now.seats self.now.sent L i v }
+        // What was answered before a request was asked counts in front of it.
+        ensures order { InOrder self.now.genesis self.now.sent self.now.trace }
     {
         let _ = &self.parts;
     }

@@ -4,7 +4,7 @@ ghost use Rattle.lk_disk.specs.Memory.{disk_of};
 ghost use Rattle.lk_state.specs.Meanings.{meaning};
 ghost use Rattle.lk_state.specs.States.{SumsUp};
 
-use lk_disk::{MemoryDisk, Trap, Trapped};
+use lk_disk::{MemoryDisk, Trap};
 use lk_log::Header;
 use lk_node::Input;
 use lk_replica::{MemoryReplica, ReplicaFault, ReviveFault, Revived, Taken};
@@ -59,9 +59,12 @@ impl<M: Machine> MemoryReplica for Idle<M> {
         })
     }
 
-    fn trap(&mut self, trap: Trap) {
-        self.device.trap(trap);
+    fn device(&self) -> &MemoryDisk {
+        &self.device
     }
+
+    // It makes no call of its device, so no trap goes off.
+    fn trap(&mut self, _trap: Trap) {}
 
     fn into_disks(self) -> MemoryDisk {
         let Idle {

@@ -44,7 +44,7 @@ const BAD_FIRST: [&str; 30] = [
 ];
 
 /// Lines that are not understood behind `genesis 5 2 1:7001` and an empty line.
-const BAD_LATER: [&str; 79] = [
+const BAD_LATER: [&str; 83] = [
     "table 5",
     "genesis 5 2 1:7001",
     "start",
@@ -121,7 +121,11 @@ const BAD_LATER: [&str; 79] = [
     "fail 0 1",
     "fail 1 281474976710657",
     "compact 1",
-    "arm 1 1 0",
+    "arm 1 1",
+    "arm 1 0 0",
+    "arm 1 1 0 0",
+    "arm 0 1 0",
+    "arm 1 1 281474976710657",
     "00",
     "4c4b",
 ];

@@ -1,5 +1,6 @@
-use Rattle.std.proofs.Common.{◌∙◌}
-use Rattle.lk_disk.specs.Disk.{other}
+use Rattle.std.proofs.Common.{◌∙◌, ap, arith, length}
+use Rattle.lk_disk.specs.Disk.{other, contents}
+use Rattle.lk_log.proofs.Room.{some_room, all_room, synced_room}
 use Rattle.lk_log.specs.Stores.{plain}
 use Rattle.lk_log.proofs.Steps.{stands_at, keeps_at, torn_piece, grows_holds, holds_piece, holds_same, holds_sync, grows_synced}
 use Rattle.lk_log.proofs.adding.add.Goals as goal
@@ -65,3 +66,22 @@ returns-clause-any g c honest ks ls holds =
     (holds_piece (old c.args.live) (old (other c.args.live)) (mid c.args.live) (mid (other c.args.live)) ks ls c.args.entries.now c.deref.result.now (c.deref.ensures ∙ c.in_ok-bytes.ensures)
     holds c.entries_facts.ensures (c.in_ok-append_some.ensures.ok honest) (c.append_some.ensures.beside honest))
     (c.in_ok-sync.ensures.ok honest) (c.sync.ensures.beside honest))
+
+pub returns-in_err-append_some-clause-grows : goal.returns-in_err-append_some-clause-grows
+returns-in_err-append_some-clause-grows g c honest =
+    some_room _ _ c.deref.result.now c.args.entries.now (c.deref.ensures ∙ c.in_ok-bytes.ensures) c.entries_facts.ensures (c.in_err-append_some.ensures.err honest)
+
+pub returns-then-not-sync-clause-grows : goal.returns-then-not-sync-clause-grows
+returns-then-not-sync-clause-grows g c honest =
+    all_room _ _ c.deref.result.now c.args.entries.now (c.deref.ensures ∙ c.in_ok-bytes.ensures) c.entries_facts.ensures (c.in_ok-append_some.ensures.ok honest)
+
+pub returns-in_err-sync-clause-grows : goal.returns-in_err-sync-clause-grows
+returns-in_err-sync-clause-grows g c honest =
+    let grown = all_room (g.D.LogDisk.disk c.args.device.now c.args.live) (g.D.LogDisk.disk c.append_some.new.device c.args.live) c.deref.result.now c.args.entries.now (c.deref.ensures ∙ c.in_ok-bytes.ensures) c.entries_facts.ensures (c.in_ok-append_some.ensures.ok honest) in
+    omega (arith, grown, ap (λ d. length (contents d)) (c.in_err-sync.ensures.err honest))
+
+pub returns-clause-grows : goal.returns-clause-grows
+returns-clause-grows g c honest =
+    let mid = g.D.LogDisk.disk c.append_some.new.device c.args.live in
+    let grown = all_room (g.D.LogDisk.disk c.args.device.now c.args.live) mid c.deref.result.now c.args.entries.now (c.deref.ensures ∙ c.in_ok-bytes.ensures) c.entries_facts.ensures (c.in_ok-append_some.ensures.ok honest) in
+    omega (arith, grown, synced_room mid (g.D.LogDisk.disk c.sync.new.self c.args.live) (c.in_ok-sync.ensures.ok honest))

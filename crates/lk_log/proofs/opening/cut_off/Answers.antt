@@ -1,6 +1,7 @@
 use Rattle.std.proofs.Common.{refl, arith}
 use Rattle.lk_log.proofs.Settle.{file_same, cut_narrows, short_narrows, cut_contents, nothing_behind}
 use Rattle.lk_log.proofs.opening.cut_off.Goals as goal
+use Rattle.lk_log.proofs.Room.{within_same, within_side, cut_short_room, cut_room}
 
 pub returns-then-size-end-clause-contents : goal.returns-then-size-end-clause-contents
 returns-then-size-end-clause-contents g c honest es found = nothing_behind (g.D.LogDisk.disk c.args.device.now c.args.live) es found.file.whole (omega (arith, found.ends, found.sized))
@@ -16,3 +17,18 @@ returns-clause-contents g c honest es found = cut_contents (g.D.LogDisk.disk c.a
 
 pub returns-clause-narrows : goal.returns-clause-narrows
 returns-clause-narrows g c honest es found = cut_narrows _ _ c.args.end es found.file found.ends (c.in_ok-cut.ensures.ok honest)
+
+pub returns-then-size-end-clause-room : goal.returns-then-size-end-clause-room
+returns-then-size-end-clause-room g c honest = within_same 0 (g.D.LogDisk.disk c.args.device.now) (g.D.LogDisk.disk c.args.device.now) (λ s. refl)
+
+pub returns-in_err-cut-clause-room : goal.returns-in_err-cut-clause-room
+returns-in_err-cut-clause-room g c honest =
+    let old = g.D.LogDisk.disk c.args.device.now in
+    let new = g.D.LogDisk.disk c.cut.new.self in
+    within_side 0 c.args.live old new (omega (arith, cut_short_room c.args.end (old c.args.live) (new c.args.live) (c.in_err-cut.ensures.err honest))) (c.cut.ensures.beside honest)
+
+pub returns-clause-room : goal.returns-clause-room
+returns-clause-room g c honest =
+    let old = g.D.LogDisk.disk c.args.device.now in
+    let new = g.D.LogDisk.disk c.cut.new.self in
+    within_side 0 c.args.live old new (omega (arith, cut_room c.args.end (old c.args.live) (new c.args.live) (c.in_ok-cut.ensures.ok honest))) (c.cut.ensures.beside honest)

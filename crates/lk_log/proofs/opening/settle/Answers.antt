@@ -1,10 +1,11 @@
-use Rattle.std.proofs.Common.{◌∙◌}
-use Rattle.lk_disk.specs.Disk.{other}
+use Rattle.std.proofs.Common.{◌∙◌, ap, arith, length}
+use Rattle.lk_disk.specs.Disk.{other, contents}
 use Rattle.lk_disk.specs.declared.device.Side.{Side}
 use Rattle.lk_log.specs.Stores.{FileNarrows}
 use Rattle.lk_log.proofs.ImageLaws.{each_side}
 use Rattle.lk_log.proofs.Settle.{narrows, file_same, file_then, flushed_narrows, settled}
 use Rattle.lk_log.proofs.opening.settle.Goals as goal
+use Rattle.lk_log.proofs.Room.{within_then, within_side, synced_room}
 
 pub returns-in_err-cut_off-clause-narrows : goal.returns-in_err-cut_off-clause-narrows
 returns-in_err-cut_off-clause-narrows g c honest es found =
@@ -37,3 +38,17 @@ returns-clause-holds g c honest es found =
     settled (g.D.LogDisk.disk c.cut_off.new.device c.args.live) _ (g.D.LogDisk.disk c.args.device.now (other c.args.live)) _ es found.file.whole.fit found.placed
     (c.in_ok-cut_off.ensures.contents honest es found) (c.in_ok-sync.ensures.ok honest)
     (c.sync.ensures.beside honest ∙ c.cut_off.ensures.beside honest) found.older
+
+pub returns-in_err-sync-clause-room : goal.returns-in_err-sync-clause-room
+returns-in_err-sync-clause-room g c honest =
+    let mid = g.D.LogDisk.disk c.cut_off.new.device in
+    let new = g.D.LogDisk.disk c.sync.new.self in
+    within_then 0 (g.D.LogDisk.disk c.args.device.now) mid new (c.cut_off.ensures.room honest)
+    (within_side 0 c.args.live mid new (omega (arith, ap (λ d. length (contents d)) (c.in_err-sync.ensures.err honest))) (c.sync.ensures.beside honest))
+
+pub returns-clause-room : goal.returns-clause-room
+returns-clause-room g c honest =
+    let mid = g.D.LogDisk.disk c.cut_off.new.device in
+    let new = g.D.LogDisk.disk c.sync.new.self in
+    within_then 0 (g.D.LogDisk.disk c.args.device.now) mid new (c.cut_off.ensures.room honest)
+    (within_side 0 c.args.live mid new (omega (arith, synced_room (mid c.args.live) (new c.args.live) (c.in_ok-sync.ensures.ok honest))) (c.sync.ensures.beside honest))

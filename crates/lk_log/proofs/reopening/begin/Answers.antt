@@ -1,4 +1,4 @@
-use Rattle.std.proofs.Common.{◌≡◌, ◌∙◌, refl, sym, ap, subst, List, [], ◌∷◌, ℕ}
+use Rattle.std.proofs.Common.{◌≡◌, ◌∙◌, refl, sym, ap, subst, List, [], ◌∷◌, ℕ, length, arith}
 use Rattle.lk_disk.specs.declared.device.Side.TheVariants.{A, B}
 use Rattle.lk_log.specs.Entries.{spelling, IsStored}
 use Rattle.lk_log.specs.Images.{seen}
@@ -9,6 +9,8 @@ use Rattle.lk_log.specs.declared.stored.Stored.TheVariants.{Base}
 use Rattle.lk_log.proofs.BeginLaws.{begins_same, begins, begun_opens, first_fits}
 use Rattle.lk_log.proofs.StoreLaws.{first_stands}
 use Rattle.lk_log.proofs.reopening.begin.Goals as goal
+use Rattle.lk_log.proofs.Room.{within_same, within_side, begun_room}
+use Rattle.lk_types.specs.Limits.{max_base}
 
 pub spelled_base-requires : goal.spelled_base-requires
 spelled_base-requires g c = subst (λ (b : BaseValue). IsStored (Base b)) (sym c.in_ok-base.ensures.value) (first_fits c.args.header.now c.args.zero.now c.first_base.ensures.header c.requires.some c.requires.room)
@@ -51,3 +53,29 @@ pub returns-clause-stands : goal.returns-clause-stands
 returns-clause-stands g c =
     let base = first_base c.args.header.now c.args.zero.now in
     (Base base ∷ [], subst (λ (b : BaseValue). StandsFor (Base base ∷ []) b.standing) (sym (c.base.view_is ∙ c.in_ok-base.ensures.value)) (first_stands c.args.header.now c.args.zero.now))
+
+pub returns-in_err-base-clause-room : goal.returns-in_err-base-clause-room
+returns-in_err-base-clause-room g c honest = within_same max_base (g.D.LogDisk.disk c.args.device.now) (g.D.LogDisk.disk c.args.device.now) (λ s. refl)
+
+pub returns-in_err-bytes-clause-room : goal.returns-in_err-bytes-clause-room
+returns-in_err-bytes-clause-room g c honest = within_same max_base (g.D.LogDisk.disk c.args.device.now) (g.D.LogDisk.disk c.args.device.now) (λ s. refl)
+
+pub returns-in_err-write_over-clause-room : goal.returns-in_err-write_over-clause-room
+returns-in_err-write_over-clause-room g c honest =
+    let old = g.D.LogDisk.disk c.args.device.now in
+    let new = g.D.LogDisk.disk c.write_over.new.device in
+    let base = first_base c.args.header.now c.args.zero.now in
+    let piece = c.deref.ensures ∙ c.in_ok-bytes.ensures ∙ ap (λ (b : BaseValue). spelling (Base b)) c.in_ok-base.ensures.value in
+    let fits = first_fits c.args.header.now c.args.zero.now c.first_base.ensures.header c.requires.some c.requires.room in
+    within_side max_base A old new
+    (begun_room base (old A) (new A) fits (subst (λ (l : List ℕ). IsWrittenOver (old A) l (new A)) piece (c.write_over.ensures.any honest))) (c.write_over.ensures.beside honest)
+
+pub returns-clause-room : goal.returns-clause-room
+returns-clause-room g c honest =
+    let old = g.D.LogDisk.disk c.args.device.now in
+    let new = g.D.LogDisk.disk c.write_over.new.device in
+    let base = first_base c.args.header.now c.args.zero.now in
+    let piece = c.deref.ensures ∙ c.in_ok-bytes.ensures ∙ ap (λ (b : BaseValue). spelling (Base b)) c.in_ok-base.ensures.value in
+    let fits = first_fits c.args.header.now c.args.zero.now c.first_base.ensures.header c.requires.some c.requires.room in
+    within_side max_base A old new
+    (begun_room base (old A) (new A) fits (subst (λ (l : List ℕ). IsWrittenOver (old A) l (new A)) piece (c.write_over.ensures.any honest))) (c.write_over.ensures.beside honest)

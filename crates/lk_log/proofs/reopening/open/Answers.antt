@@ -4,6 +4,7 @@ use Rattle.lk_log.specs.declared.stored.Stored.{Stored}
 use Rattle.lk_log.proofs.BeginLaws.{begins_same, begins_narrows}
 use Rattle.lk_log.proofs.ImageLaws.{found_is_live, found_positive}
 use Rattle.lk_log.proofs.reopening.open.Goals as goal
+use Rattle.lk_log.proofs.Room.{within_same}
 
 pub returns-then-not-has_header-clause-stays : goal.returns-then-not-has_header-clause-stays
 returns-then-not-has_header-clause-stays g c honest found zero = begins_same (g.D.LogDisk.disk c.args.device.now) (g.D.LogDisk.disk c.args.device.now) c.args.header.now zero (λ s. refl)
@@ -29,3 +30,6 @@ returns-clause-opens g c honest found zero = record {
   generation_is = search rules;
   stands = c.in_ok-standing.ensures.stands found.file.whole.fit found.placed (found_positive (g.D.LogDisk.disk c.args.device.now) c.args.live c.args.file.entries.items c.args.file.end c.args.file.size found);
 }
+
+pub returns-then-not-has_header-clause-room : goal.returns-then-not-has_header-clause-room
+returns-then-not-has_header-clause-room g c honest = within_same 0 (g.D.LogDisk.disk c.args.device.now) (g.D.LogDisk.disk c.args.device.now) (λ s. refl)

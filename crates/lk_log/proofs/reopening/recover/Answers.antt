@@ -1,4 +1,4 @@
-use Rattle.std.proofs.Common.{ap}
+use Rattle.std.proofs.Common.{ap, refl}
 use Rattle.lk_disk.specs.Disk.{contents, other}
 use Rattle.lk_log.specs.Images.{seen}
 use Rattle.lk_log.proofs.BeginLaws.{begins_same, begins_after}
@@ -6,6 +6,8 @@ use Rattle.lk_log.proofs.ImageLaws.{found_is_live}
 use Rattle.lk_log.proofs.RecoverLaws.{ok_then, found_after, empty_after, opens_before}
 use Rattle.lk_log.proofs.StoreLaws.{not_both}
 use Rattle.lk_log.proofs.reopening.recover.Goals as goal
+use Rattle.lk_log.proofs.Room.{within_same, within_then, within_more}
+use Rattle.lk_types.specs.Limits.{max_base}
 
 pub returns-in_err-live-clause-stays : goal.returns-in_err-live-clause-stays
 returns-in_err-live-clause-stays g c honest = begins_same (g.D.LogDisk.disk c.args.device.now) (g.D.LogDisk.disk c.find.new.device) c.args.header.now c.args.zero.now (c.find.ensures.unchanged honest)
@@ -63,3 +65,19 @@ returns-in-None-clause-stays g c honest =
     let same = c.find.ensures.unchanged honest in
     let empty = c.in_ok-live.ensures.empty honest (cc) in
     begins_after old mid new c.args.header.now c.args.zero.now same (λ s. ap contents (same s)) (c.begin.ensures.stays honest (empty_after old mid same empty))
+
+pub returns-in_err-live-clause-room : goal.returns-in_err-live-clause-room
+returns-in_err-live-clause-room g c honest = within_same max_base (g.D.LogDisk.disk c.args.device.now) (g.D.LogDisk.disk c.find.new.device) (c.find.ensures.unchanged honest)
+
+pub returns-in-Some-clause-room : goal.returns-in-Some-clause-room
+returns-in-Some-clause-room g c honest =
+    let old = g.D.LogDisk.disk c.args.device.now in
+    let mid = g.D.LogDisk.disk c.find.new.device in
+    let new = g.D.LogDisk.disk c.open.new.device in
+    within_then max_base old mid new (within_same 0 old mid (c.find.ensures.unchanged honest)) (within_more max_base mid new (c.open.ensures.room honest))
+
+pub returns-in-None-clause-room : goal.returns-in-None-clause-room
+returns-in-None-clause-room g c honest =
+    let old = g.D.LogDisk.disk c.args.device.now in
+    let mid = g.D.LogDisk.disk c.find.new.device in
+    within_then max_base old mid (g.D.LogDisk.disk c.begin.new.device) (within_same 0 old mid (c.find.ensures.unchanged honest)) (c.begin.ensures.room honest)

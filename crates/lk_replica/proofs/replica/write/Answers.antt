@@ -1,10 +1,11 @@
-use Rattle.std.proofs.Common.{◌≡◌, true, false, List, [], ◌++◌, ◌∙◌, ap, subst}
+use Rattle.std.proofs.Common.{◌≡◌, true, false, List, [], ◌++◌, ◌∙◌, ◌≤◌, length, ap, subst, arith}
 use Rattle.lk_types.specs.declared.entry.Entry.{Entry}
 use Rattle.lk_log.specs.Stores.{plain, Holds, KeepsAtLeast}
 use Rattle.lk_node.specs.Calls.{InputFits}
 use Rattle.lk_node.specs.Outboxes.{OutboxValue}
 use Rattle.lk_replica.proofs.Going.{put_leaves, put_goes, step_keeps, step_syncs, step_covers}
 use Rattle.lk_replica.proofs.replica.write.Goals as goal
+use Rattle.lk_node.proofs.Nodes.{few_entries}
 
 pub returns-in_err-outbox-clause-ends : goal.returns-in_err-outbox-clause-ends
 returns-in_err-outbox-clause-ends g c honest h n f heard = f.left
@@ -61,3 +62,15 @@ returns-clause-puts g c honest ks ls holds =
       λ no'. subst (λ (es : List Entry). Holds c.put.new.self ks (ls ++ plain es)) is (c.in_ok-put.ensures.added honest (ap (λ (o : OutboxValue). o.sync) c.outbox.view_is ∙ no') ks ls holds),
       λ yes'. subst (λ (es : List Entry). Holds c.put.new.self (ks ++ (ls ++ plain es)) []) is (c.in_ok-put.ensures.synced honest (ap (λ (o : OutboxValue). o.sync) c.outbox.view_is ∙ yes') ks ls holds),
     )
+
+pub returns-in_err-put-clause-grows : goal.returns-in_err-put-clause-grows
+returns-in_err-put-clause-grows g c honest =
+    let is : c.deref.result.now ≡ c.in_ok-outbox.outbox.entries = c.deref.ensures.value ∙ ap (λ (o : OutboxValue). o.entries) c.outbox.view_is in
+    let few : length c.in_ok-outbox.outbox.entries ≤ 16 = few_entries _ c.args.node.now _ c.step.new.self c.in_ok-outbox.outbox c.in_ok-outbox.ensures.steps in
+    omega (arith, c.put.ensures.grows honest, few, ap length is)
+
+pub returns-clause-grows : goal.returns-clause-grows
+returns-clause-grows g c honest =
+    let is : c.deref.result.now ≡ c.in_ok-outbox.outbox.entries = c.deref.ensures.value ∙ ap (λ (o : OutboxValue). o.entries) c.outbox.view_is in
+    let few : length c.in_ok-outbox.outbox.entries ≤ 16 = few_entries _ c.args.node.now _ c.step.new.self c.in_ok-outbox.outbox c.in_ok-outbox.ensures.steps in
+    omega (arith, c.put.ensures.grows honest, few, ap length is)

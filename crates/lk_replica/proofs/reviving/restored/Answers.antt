@@ -1,4 +1,4 @@
-use Rattle.std.proofs.Common.{◌≡◌, ℕ, ◌+◌, ◌*◌, List, ◌∙◌, ap, sym, subst, rules}
+use Rattle.std.proofs.Common.{◌≡◌, ℕ, ◌+◌, ◌*◌, true, nat_le, length, List, ◌∙◌, ap, sym, subst, rules, arith}
 use Rattle.lk_acceptor.specs.States.{IsOrdered}
 use Rattle.lk_learner.specs.Learners.{Command, LearnerValue, IsNext, executed}
 use Rattle.lk_node.specs.NodeValue.{NodeValue}
@@ -7,7 +7,9 @@ use Rattle.lk_state.specs.Packed.{Packs}
 use Rattle.lk_state.specs.States.{WholeValue}
 use Rattle.lk_node.specs.Leavings.{acceptor_of}
 use Rattle.lk_replica.specs.Revivals.{Unpacks, MayRevive, reached}
-use Rattle.lk_replica.proofs.Restoring.{some_ordered, pairs_far, votes_far, may_revive, restores}
+use Rattle.lk_types.specs.declared.vote.Vote.{Vote}
+use Rattle.std.specs.List.{list_all}
+use Rattle.lk_replica.proofs.Restoring.{revived_near, some_ordered, pairs_far, votes_far, may_revive, restores}
 use Rattle.lk_replica.proofs.reviving.restored.Goals as goal
 
 pub new-acceptor-requires-clause-kept : goal.new-acceptor-requires-clause-kept
@@ -55,3 +57,15 @@ returns-clause-restores g c =
 pub returns-clause-runs : goal.returns-clause-runs
 returns-clause-runs g c =
     subst (λ (l : LearnerValue). (v : Command) → IsNext l v → ⊥) (sym (ap (λ (n : NodeValue). n.learner) c.new.ensures)) c.in_ok-learner.ensures.quiet
+
+pub new-requires : goal.new-requires
+new-requires g c =
+    let place : c.executed.result ≡ executed c.in_ok-learner.learner = c.executed.ensures ∙ ap (λ (w : WholeValue). w.roster.executed) c.whole.ensures in
+    let all : list_all (λ (v : Vote). nat_le v.position (c.executed.result + 2 * c.genesis.result.now.alpha)) c.deref-3.result.now ≡ true = sym c.are_near.ensures ∙ search rules in
+    record {
+      near = revived_near c.new-acceptor.result c.in_ok-learner.learner c.genesis.result.now.alpha (acceptor_of (record { promised = c.standing.inside.promised; position = c.standing.inside.position; snapshot = c.standing.inside.snapshot.items; votes = c.standing.inside.votes.items; pairs = c.standing.inside.pairs.items }))
+          (c.executed.result + 2 * c.genesis.result.now.alpha) c.new-acceptor.ensures (c.in_ok-learner.ensures.sets ∙ c.in_ok-whole.ensures.unpacks.sets)
+          (omega (arith, c.in_ok-learner.ensures.reaches, c.in_ok-whole.ensures.unpacks.executed))
+          (subst (λ (vs : List Vote). list_all (λ (v : Vote). nat_le v.position (c.executed.result + 2 * c.genesis.result.now.alpha)) vs ≡ true) c.deref-3.ensures.value all)
+          (ap (λ (e : ℕ). e + 2 * c.genesis.result.now.alpha) place);
+    }

@@ -26,3 +26,6 @@ returns-in-Stop-clause-not_understood c = λ bad o asks. c.to_stop.ensures.none 
 
 pub returns-in-Fail-clause-not_understood : goal.returns-in-Fail-clause-not_understood
 returns-in-Fail-clause-not_understood c = λ bad o asks. c.to_fail.ensures.none (c.understood-in-Fail.ensures.not_understood bad) o (subst (λ (v : EventVerb). Asks v c.args.words.now o) c.in-Fail.is asks)
+
+pub returns-in-Arm-clause-not_understood : goal.returns-in-Arm-clause-not_understood
+returns-in-Arm-clause-not_understood c = λ bad o asks. c.to_arm.ensures.none (c.understood-in-Arm.ensures.not_understood bad) o (subst (λ (v : EventVerb). Asks v c.args.words.now o) c.in-Arm.is asks)

@@ -3,7 +3,7 @@ use Rattle.lk_words.specs.Words.{HasNoSpace}
 use Rattle.lk_words.proofs.Splits.{one_way}
 use Rattle.lk_script.specs.WorldLines.{word_of}
 use Rattle.lk_script.specs.declared.event_verb.EventVerb.{EventVerb}
-use Rattle.lk_script.specs.declared.event_verb.EventVerb.TheVariants.{Start, Restart, Tick, Deliver, Client, Inject, Stop, Fail}
+use Rattle.lk_script.specs.declared.event_verb.EventVerb.TheVariants.{Start, Restart, Tick, Deliver, Client, Inject, Stop, Fail, Arm}
 use Rattle.lk_script.proofs.world_line.read_order.Goals as goal
 
 one_verb : (v : EventVerb) → HasNoSpace (word_of v)
@@ -15,6 +15,7 @@ one_verb Client = refl
 one_verb Inject = refl
 one_verb Stop = refl
 one_verb Fail = refl
+one_verb Arm = refl
 
 pub returns-in-None-clause-not_understood : goal.returns-in-None-clause-not_understood
 returns-in-None-clause-not_understood c = λ _ o asks.

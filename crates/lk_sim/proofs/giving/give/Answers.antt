@@ -5,7 +5,7 @@ use Rattle.lk_sim.specs.Seats.{At}
 use Rattle.lk_sim.specs.declared.seat.Life.TheVariants.{Up}
 use Rattle.lk_sim.specs.Worlds.{scene_of}
 use Rattle.lk_sim.proofs.Explaining.{lawful}
-use Rattle.lk_sim.proofs.Doing.{at_same, given, taken_cases, taken_left, since, halted_holds, added_holds, given_up_holds, given_up}
+use Rattle.lk_sim.proofs.Doing.{at_same, given, taken_cases, taken_left, since, halted_holds, settled_holds, given_up_holds, given_up}
 use Rattle.lk_sim.proofs.giving.give.Goals as goal
 
 pub returns-in_err-outcome-clause-holds : goal.returns-in_err-outcome-clause-holds
@@ -29,7 +29,7 @@ returns-in_err-settle-clause-holds g c =
     given_up_holds _ _ _ p.genesis p.seats.items p.sent.items p.trace.items c.requires.holds c.args.i s c.step.new.seat at c.step.ensures.number c.args.asked _ _
     (e.goes _ (v.views s.number) (lawful _ _ _ _ _ _ _ v) (v.seated c.args.i s at) c.requires.heard)
     (e.falls _ (v.views s.number) (lawful _ _ _ _ _ _ _ v) (v.seated c.args.i s at) c.requires.heard)
-    (taken_cases _ _ _ _ _ _ _ _ (e.exact u.1 (rw (at_same _ _ _ _ at u.2) u.4)))
+    (taken_cases _ _ _ _ _ _ _ _ _ (e.exact u.1 (rw (at_same _ _ _ _ at u.2) u.4)))
     p.ended (scene_of c.settle.new.parts) c.in_err-settle.ensures.err
 
 pub returns-in_err-settle-clause-halted : goal.returns-in_err-settle-clause-halted
@@ -38,7 +38,7 @@ returns-in_err-settle-clause-halted g c n u =
     let s = c.index_mut.result.now in
     let at : At p.seats.items c.args.i s = (search rules, sym c.index_mut.ensures.value) in
     let up : s.life ≡ Up u.1 = rw (at_same _ _ _ _ at u.2) u.4 in
-    let k = given_up (scene_of p) (scene_of c.settle.new.parts) (LeftBy g.R.MemoryReplica.Takes g.R.MemoryReplica.disks (heard_by c.args.input)) _ _ _ c.args.i n s c.step.new.seat at (rw (at_same _ _ _ _ at u.2) u.3) c.step.ensures.number (taken_left _ _ u.1 _ _ _ _ _ _ up (c.in_ok-outcome.ensures.exact u.1 up)) c.in_err-settle.ensures.err in
+    let k = given_up (scene_of p) (scene_of c.settle.new.parts) (LeftBy g.R.MemoryReplica.Takes g.R.MemoryReplica.disks (heard_by c.args.input)) _ _ _ c.args.i n s c.step.new.seat at (rw (at_same _ _ _ _ at u.2) u.3) c.step.ensures.number (taken_left _ _ u.1 _ _ _ _ _ _ _ up (c.in_ok-outcome.ensures.exact u.1 up)) c.in_err-settle.ensures.err in
     search rules
 
 pub returns-clause-holds : goal.returns-clause-holds
@@ -49,11 +49,11 @@ returns-clause-holds g c =
     let v = since _ _ _ p.genesis p.seats.items p.sent.items p.trace.items c.requires.holds c.args.i s c.step.new.seat at c.step.ensures.number c.args.asked in
     let u = c.requires.up.1 in
     let e = c.in_ok-outcome.ensures in
-    added_holds _ _ _ p.genesis p.seats.items p.sent.items p.trace.items c.requires.holds c.args.i s c.step.new.seat at c.step.ensures.number c.args.asked _ _
+    settled_holds _ _ _ p.genesis p.seats.items p.sent.items p.trace.items c.requires.holds c.args.i s c.step.new.seat at c.step.ensures.number c.args.asked _ _
     (e.goes _ (v.views s.number) (lawful _ _ _ _ _ _ _ v) (v.seated c.args.i s at) c.requires.heard)
     (e.falls _ (v.views s.number) (lawful _ _ _ _ _ _ _ v) (v.seated c.args.i s at) c.requires.heard)
-    (taken_cases _ _ _ _ _ _ _ _ (e.exact u.1 (rw (at_same _ _ _ _ at u.2) u.4)))
-    p.ended _ (scene_of c.settle.new.parts) c.in_ok-settle.ensures.ok
+    (taken_cases _ _ _ _ _ _ _ _ _ (e.exact u.1 (rw (at_same _ _ _ _ at u.2) u.4)))
+    p.ended _ _ (scene_of c.settle.new.parts) c.in_ok-settle.ensures.ok
 
 pub returns-clause-given : goal.returns-clause-given
 returns-clause-given g c n u =
@@ -62,5 +62,5 @@ returns-clause-given g c n u =
     let at : At p.seats.items c.args.i s = (search rules, sym c.index_mut.ensures.value) in
     let v = since _ _ _ p.genesis p.seats.items p.sent.items p.trace.items c.requires.holds c.args.i s c.step.new.seat at c.step.ensures.number c.args.asked in
     let goes = c.in_ok-outcome.ensures.goes _ (v.views s.number) (lawful _ _ _ _ _ _ _ v) (v.seated c.args.i s at) c.requires.heard in
-    given (scene_of p) (scene_of c.settle.new.parts) _ _ c.args.i n s c.step.new.seat u.1 _ _ _ _ _ at (rw (at_same _ _ _ _ at u.2) u.3) (rw (at_same _ _ _ _ at u.2) u.4) c.step.ensures.number (λ q up x k. ((goes q up).goes.noted x k).0)
+    given (scene_of p) (scene_of c.settle.new.parts) _ _ _ _ c.args.i n s c.step.new.seat u.1 _ _ _ _ _ _ at (rw (at_same _ _ _ _ at u.2) u.3) (rw (at_same _ _ _ _ at u.2) u.4) c.step.ensures.number (λ q up x k. ((goes q up).goes.noted x k).0)
     c.in_ok-settle.ensures.ok (c.in_ok-outcome.ensures.exact u.1 (rw (at_same _ _ _ _ at u.2) u.4))

@@ -3,10 +3,11 @@ use Rattle.lk_disk.specs.declared.device.Side.TheVariants.{A, B}
 use Rattle.lk_sim.specs.Scenes.{Scene}
 use Rattle.lk_sim.specs.declared.seat.Life.TheVariants.{Down}
 use Rattle.lk_sim.specs.declared.seat.Seat.{Seat}
-use Rattle.lk_sim.proofs.Doing.{comes, revived_cases, since, added_holds}
+use Rattle.lk_sim.proofs.Doing.{comes, revived_cases, since, settled_holds}
 use Rattle.lk_sim.proofs.Explaining.{lawful}
-use Rattle.lk_sim.proofs.Lists.{set_last}
+use Rattle.lk_sim.proofs.Lists.{set_last, at_set_here}
 use Rattle.lk_sim.proofs.Starting.{starts, at_end}
+use Rattle.lk_sim.proofs.Given.{set_twice}
 use Rattle.lk_sim.proofs.lives.begin.Goals as goal
 
 pub returns-clause-holds : goal.returns-clause-holds
@@ -20,15 +21,21 @@ returns-clause-holds g c =
     let e = c.in_ok-outcome.ensures in
     let k = c.in_ok-add.ensures.ok in
     let new : Scene g.row.R.Denot = record { genesis = q.genesis; seats = c.push.new.self.items; sent = q.sent.items; trace = q.trace.items; ended = q.ended } in
-    let pushed : c.push.new.self.items ≡ p.seats.items ++ c.revive.new.seat ∷ [] = search rules in
-    added_holds _ _ _ p.genesis (p.seats.items ++ s ∷ []) p.sent.items p.trace.items w (length p.seats.items) s c.revive.new.seat at c.revive.ensures.number None _ _
+    let pushed : c.push.new.self.items ≡ p.seats.items ++ c.rest.new.seat ∷ [] = search rules in
+    settled_holds _ _ _ p.genesis (p.seats.items ++ s ∷ []) p.sent.items p.trace.items w (length p.seats.items) s c.revive.new.seat at c.revive.ensures.number None _ _
     (e.goes _ (v.views s.number) refl (lawful _ _ _ _ _ _ _ v) (v.seated _ s at))
     (e.falls _ (v.views s.number) refl (lawful _ _ _ _ _ _ _ v) (v.seated _ s at))
-    (revived_cases _ _ _ _ _ _ _ (e.exact c.new.result refl))
-    p.ended _ new (record {
+    (revived_cases _ _ _ _ _ _ _ _ (e.exact c.new.result refl))
+    p.ended _ _ new (record {
       told = k.told;
       tells = k.tells;
-      seats = pushed ∙ sym (set_last p.seats.items s c.revive.new.seat);
+      seat = c.revive.new.seat;
+      next = c.rest.new.seat;
+      at = at_set_here (p.seats.items ++ s ∷ []) (length p.seats.items) c.revive.new.seat at.0;
+      number = c.rest.ensures.number;
+      seats = pushed ∙ sym (set_last p.seats.items s c.rest.new.seat) ∙ sym (set_twice (p.seats.items ++ s ∷ []) (length p.seats.items) c.revive.new.seat c.rest.new.seat);
+      rests = c.rest.ensures.rests;
+      fits = c.rest.ensures.fits;
       adds = record { genesis = k.adds.genesis; sent = k.adds.sent; trace = k.adds.trace };
       ended = k.ended;
     })
@@ -42,13 +49,13 @@ returns-clause-ok g c =
     let v = since _ _ _ p.genesis (p.seats.items ++ s ∷ []) p.sent.items p.trace.items w (length p.seats.items) s c.revive.new.seat at c.revive.ensures.number None in
     let goes = c.in_ok-outcome.ensures.goes _ (v.views s.number) refl (lawful _ _ _ _ _ _ _ v) (v.seated _ s at) in
     let k = c.in_ok-add.ensures.ok in
-    let pushed : c.push.new.self.items ≡ p.seats.items ++ c.revive.new.seat ∷ [] = search rules in
+    let pushed : c.push.new.self.items ≡ p.seats.items ++ c.rest.new.seat ∷ [] = search rules in
     record {
-      seat = c.revive.new.seat;
-      number = c.revive.ensures.number;
+      seat = c.rest.new.seat;
+      number = c.rest.ensures.number ∙ c.revive.ensures.number;
       seats = pushed;
       device = c.new.result;
       empty = elim [ A ↦ c.new.ensures.a | B ↦ c.new.ensures.b ];
-      comes = comes _ _ _ c.revive.new.seat _ c.args.number _ k.told _ _ c.revive.ensures.number (λ q up x c. ((goes q up).goes.noted x c).0)
+      comes = comes _ _ _ _ c.revive.new.seat c.rest.new.seat _ c.args.number _ k.told _ _ _ c.revive.ensures.number c.rest.ensures.number c.rest.ensures.rests (λ q up x c. ((goes q up).goes.noted x c).0)
           (record { genesis = k.adds.genesis; sent = k.adds.sent; trace = k.adds.trace }) k.tells k.ended (c.in_ok-outcome.ensures.exact c.new.result refl);
     }

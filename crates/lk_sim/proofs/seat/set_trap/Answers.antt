@@ -8,7 +8,7 @@ use Rattle.lk_sim.specs.declared.seat.Life.TheVariants.{Up, Down}
 pub returns-in-Up-clause-fits : goal.returns-in-Up-clause-fits
 returns-in-Up-clause-fits g c h w f =
     let is : c.args.seat.now.life ≡ Up c.in-Up.replica = search rules in
-    trapped_up _ _ _ h w c.args.seat.now _ c.in-Up.replica c.trap.new.self is refl refl c.trap.ensures.shows c.trap.ensures.disks f
+    trapped_up _ _ _ h w c.args.seat.now _ c.in-Up.replica c.trap.new.self is refl refl c.trap.ensures.unchanged f
 
 pub returns-in-Down-clause-fits : goal.returns-in-Down-clause-fits
 returns-in-Down-clause-fits g c h w f =

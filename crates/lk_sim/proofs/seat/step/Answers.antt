@@ -1,8 +1,9 @@
-use Rattle.std.proofs.Common.{rules, ◌≡◌, refl, sym, subst}
+use Rattle.std.proofs.Common.{rules, ◌≡◌, refl, ap, sym, subst}
 use Rattle.lk_disk.specs.Memory.{disk_of}
 use Rattle.lk_node.specs.Leavings.{DisksFit}
 use Rattle.lk_sim.proofs.Growth.{same_disks}
 use Rattle.lk_sim.proofs.Given.{node_fits}
+use Rattle.lk_sim.proofs.Stopping.{goes_up_to}
 use Rattle.lk_sim.proofs.seat.step.Goals as goal
 use Rattle.lk_sim.specs.declared.seat.Life.TheVariants.{Up}
 
@@ -11,8 +12,9 @@ returns-in-Ok-clause-goes g c h w lawful f input q same =
     let is : c.args.seat.now.life ≡ Up c.in-Up.replica = search rules in
     record {
       replica = c.take.new.self;
-      up = refl;
-      goes = c.in-Ok.ensures.goes h c.args.seat.now.number (node_fits _ _ _ h w _ _ lawful (f.up c.in-Up.replica is)) input;
+      up = ap Up c.count_sends-stop.ensures.replica;
+      goes = goes_up_to _ h c.args.seat.now.number _ _ _ _ _ _ c.count_sends-stop.ensures.sends
+          (c.in-Ok.ensures.goes h c.args.seat.now.number (node_fits _ _ _ h w _ _ lawful (f.up c.in-Up.replica is)) input);
     }
 
 pub returns-in-Err-clause-falls : goal.returns-in-Err-clause-falls

@@ -1,6 +1,5 @@
 use Rattle.std.proofs.Common.{◌≡◌, refl, ap, sym, subst}
 use Rattle.lk_disk.specs.declared.device.Side.TheVariants.{A, B}
-use Rattle.lk_disk.specs.Disk.{kept_by}
 use Rattle.lk_disk.specs.Memory.{Memory, disk_of}
 use Rattle.lk_node.specs.Leavings.{DisksFit}
 use Rattle.lk_sim.proofs.Ending.{stopped_fit}
@@ -16,17 +15,14 @@ returns-clause-fits g c h w f =
     (elim [ A ↦ (c.args.x, ap (λ (d : Memory). d.a) c.stop.ensures.after) | B ↦ (c.args.y, ap (λ (d : Memory). d.b) c.stop.ensures.after) ])
     (c.take_device-device.ensures.fits h w f)))
 
-pub returns-clause-halted : goal.returns-clause-halted
-returns-clause-halted g c no_a no_b =
+pub returns-clause-stopped : goal.returns-clause-stopped
+returns-clause-stopped g c =
     let device = c.take_device-device.result in
     record {
       disks = disk_of device;
       left = stood_in g.R.MemoryReplica.disks c.args.seat.now.life (disk_of device) c.take_device-device.ensures.up (λ d is k. ap (λ (z : Memory). disk_of z k) (c.take_device-device.ensures.down d is));
       device = c.stop.new.self;
       down = refl;
-      stopped = (
-        subst (λ x. c.stop.new.self.a ≡ kept_by x device.a) no_a (ap (λ (d : Memory). d.a) c.stop.ensures.after),
-        subst (λ y. c.stop.new.self.b ≡ kept_by y device.b) no_b (ap (λ (d : Memory). d.b) c.stop.ensures.after),
-      );
+      stopped = (ap (λ (d : Memory). d.a) c.stop.ensures.after, ap (λ (d : Memory). d.b) c.stop.ensures.after);
       trap = ap (λ (d : Memory). d.trap) c.stop.ensures.after;
     }

@@ -4,4 +4,4 @@ use Rattle.lk_log.proofs.store.Store.put.Goals as goal
 
 -- nothing was written
 pub returns-then-self-clause-any : goal.returns-then-self-clause-any
-returns-then-self-clause-any g c honest ks ls holds = keeps_at c.args.self.now.live c.args.self.now.live_disk c.args.self.now.other_disk ks ls (plain c.args.entries.now) holds
+returns-then-self-clause-any g c honest ks ls holds = keeps_at c.args.self.now.live c.args.self.now.live_disk c.args.self.now.other_disk ks ls (plain c.args.entries.now) holds.on

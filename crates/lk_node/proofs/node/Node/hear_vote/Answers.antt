@@ -29,15 +29,19 @@ returns g c =
 pub invariant_of-self : goal.invariant_of-self
 invariant_of-self g c =
     let was : NodeValue = record { header = c.self.inside.header; acceptor = c.self.inside.acceptor; learner = c.self.inside.learner; leader = c.self.inside.leader; ticks = c.self.inside.ticks; rounds = c.self.inside.rounds; known = c.self.inside.known; halted = c.self.inside.halted } in
-    let same : c.roster-roster.result.now ≡ was.learner.whole.roster = c.roster-roster.ensures ∙ ap (λ (w : WholeValue). w.roster) c.whole.ensures in
-    still_promised c.args.from c.args.vote.now was c.accepted-chosen.new.self c.accepted-chosen.result c.in-Some.members.now c.roster-roster.result.now same
-    ((c.members_at.ensures.some.0 (ap is_some c.in-Some.is)).0, c.in-Some.ensures.value) c.accepted-chosen.ensures.heard c.accepted-chosen.ensures.other
-    c.self.inside.acceptor.state.promised c.self.invariant
+    let same : c.roster-roster.result.now ≡ was.learner.whole.roster = c.roster-roster.ensures ∙ ap (λ (w : WholeValue). w.roster) c.whole.ensures in (
+      still_promised c.args.from c.args.vote.now was c.accepted-chosen.new.self c.accepted-chosen.result c.in-Some.members.now c.roster-roster.result.now same
+          ((c.members_at.ensures.some.0 (ap is_some c.in-Some.is)).0, c.in-Some.ensures.value) c.accepted-chosen.ensures.heard c.accepted-chosen.ensures.other
+          c.self.inside.acceptor.state.promised c.self.invariant.0,
+      c.self.invariant.1,
+    )
 
 pub invariant_of-self-2 : goal.invariant_of-self-2
 invariant_of-self-2 g c =
     let was : NodeValue = record { header = c.self.inside.header; acceptor = c.self.inside.acceptor; learner = c.self.inside.learner; leader = c.self.inside.leader; ticks = c.self.inside.ticks; rounds = c.self.inside.rounds; known = c.self.inside.known; halted = c.self.inside.halted } in
-    let same : c.roster-roster.result.now ≡ was.learner.whole.roster = c.roster-roster.ensures ∙ ap (λ (w : WholeValue). w.roster) c.whole.ensures in
-    still_promised c.args.from c.args.vote.now was c.accepted-chosen.new.self c.accepted-chosen.result c.in-Some.members.now c.roster-roster.result.now same
-    ((c.members_at.ensures.some.0 (ap is_some c.in-Some.is)).0, c.in-Some.ensures.value) c.accepted-chosen.ensures.heard c.accepted-chosen.ensures.other
-    c.self.inside.acceptor.state.promised c.self.invariant
+    let same : c.roster-roster.result.now ≡ was.learner.whole.roster = c.roster-roster.ensures ∙ ap (λ (w : WholeValue). w.roster) c.whole.ensures in (
+      still_promised c.args.from c.args.vote.now was c.accepted-chosen.new.self c.accepted-chosen.result c.in-Some.members.now c.roster-roster.result.now same
+          ((c.members_at.ensures.some.0 (ap is_some c.in-Some.is)).0, c.in-Some.ensures.value) c.accepted-chosen.ensures.heard c.accepted-chosen.ensures.other
+          c.self.inside.acceptor.state.promised c.self.invariant.0,
+      c.self.invariant.1,
+    )

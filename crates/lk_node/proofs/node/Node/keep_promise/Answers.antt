@@ -6,7 +6,7 @@ use Rattle.lk_node.proofs.node.Node.keep_promise.Goals as goal
 
 pub invariant_of-self-2 : goal.invariant_of-self-2
 invariant_of-self-2 g c =
-    report_promised c.self.inside.acceptor c.self.inside.leader c.promise.new.self c.roster-roster.result.now c.args.from c.ballot-ballot.result _ _ c.self.invariant c.in_ok-promise.ensures.kept c.in_ok-promise.ensures.other
+    (report_promised c.self.inside.acceptor c.self.inside.leader c.promise.new.self c.roster-roster.result.now c.args.from c.ballot-ballot.result _ _ c.self.invariant.0 c.in_ok-promise.ensures.kept c.in_ok-promise.ensures.other, c.self.invariant.1)
 
 pub returns : goal.returns
 returns g c =

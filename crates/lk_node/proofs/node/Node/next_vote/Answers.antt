@@ -10,7 +10,7 @@ returns-in_default-propose g c =
 
 pub invariant_of-self-2 : goal.invariant_of-self-2
 invariant_of-self-2 g c =
-    next_promised c.self.inside.acceptor c.self.inside.leader c.propose.new.self c.roster-roster.result.now _ _ c.self.invariant c.in-Some-propose.ensures.some c.in-Some-propose.ensures.term
+    (next_promised c.self.inside.acceptor c.self.inside.leader c.propose.new.self c.roster-roster.result.now _ _ c.self.invariant.0 c.in-Some-propose.ensures.some c.in-Some-propose.ensures.term, c.self.invariant.1)
 
 pub returns : goal.returns
 returns g c =

@@ -14,3 +14,9 @@ returns-clause-covers_err g c = c.revive.ensures.covers_err tt
 
 pub returns-clause-exact : goal.returns-clause-exact
 returns-clause-exact g c = c.revive.ensures.exact tt
+
+pub returns-clause-room : goal.returns-clause-room
+returns-clause-room g c = c.revive.ensures.room tt
+
+pub returns-clause-room_err : goal.returns-clause-room_err
+returns-clause-room_err g c = c.revive.ensures.room_err tt

@@ -34,3 +34,12 @@ returns-in_err-sent-clause-covers g c = c.take.ensures.covers tt
 
 pub returns-clause-covers : goal.returns-clause-covers
 returns-clause-covers g c = c.take.ensures.covers tt
+
+pub returns-in_err-notes-clause-room : goal.returns-in_err-notes-clause-room
+returns-in_err-notes-clause-room g c = c.take.ensures.room tt
+
+pub returns-in_err-sent-clause-room : goal.returns-in_err-sent-clause-room
+returns-in_err-sent-clause-room g c = c.take.ensures.room tt
+
+pub returns-clause-room : goal.returns-clause-room
+returns-clause-room g c = c.take.ensures.room tt

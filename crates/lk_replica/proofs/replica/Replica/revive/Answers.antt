@@ -12,7 +12,7 @@ use Rattle.lk_node.specs.Histories.{Genesis}
 use Rattle.lk_node.specs.Leavings.{DisksFit, AllCover}
 use Rattle.lk_replica.specs.Revivals.{Restores}
 use Rattle.lk_node.specs.Served.{text}
-use Rattle.lk_replica.proofs.Revivals.{revived_goes, began, own_header, opened, opening_fits_as, opening_covers_as, given_fit, given_cover, wrong_only, damaged_only}
+use Rattle.lk_replica.proofs.Revivals.{revived_goes, began, own_header, opened, opening_fits_as, opening_covers_as, given_fit, given_cover, given_room, wrong_only, damaged_only}
 use Rattle.lk_replica.proofs.replica.Replica.revive.Goals as goal
 
 pub returns-in-Ok-restored-clause-up : goal.returns-in-Ok-restored-clause-up
@@ -26,7 +26,7 @@ returns-in-Ok-restored-clause-up g c honest h n is lawful before =
     let after : DisksFit m h n (disks c.in-Ok-reopen.store) = opening_fits_as m h n c.args.header.now c.as_slice.result.now is begins old (disks c.in-Ok-reopen.store) (c.in-Ok-reopen.ensures.stays honest) before in
     revived_goes m g.M.Machine.IsText keeps h n old c.in-Ok-reopen.store c.in-Ok-reopen.standing c.in-Ok-restored.node c.in-Ok-restored.notes.items lawful fits
     (opened m h.genesis n c.args.header.now c.as_slice.result.now is begins old c.in-Ok-reopen.store c.in-Ok-reopen.standing (c.in-Ok-reopen.ensures.ok honest))
-    (subst (λ (w : HeaderValue). Restores m g.M.Machine.IsText w c.in-Ok-reopen.standing c.in-Ok-restored.node c.in-Ok-restored.notes.items) is c.in-Ok-restored.ensures.restores) before after
+    (subst (λ (w : HeaderValue). Restores m g.M.Machine.IsText w c.in-Ok-reopen.standing c.in-Ok-restored.node c.in-Ok-restored.notes.items) is c.in-Ok-restored.ensures.restores) before (c.in-Ok-reopen.ensures.whose ∙ is) after
 
 pub returns-in-Ok-restored-clause-covers : goal.returns-in-Ok-restored-clause-covers
 returns-in-Ok-restored-clause-covers g c honest genesis n x is every =
@@ -97,3 +97,7 @@ returns-clause-covers_err g c honest genesis n x is every =
 
 pub returns-clause-wrong : goal.returns-clause-wrong
 returns-clause-wrong g c honest ten = c.in-Err.ensures.wrong honest (wrong_only c.in-Err.e.fault (sym (ap fault_number c.from.ensures) ∙ ten))
+
+pub returns-in-Ok-reopen-clause-room_err : goal.returns-in-Ok-reopen-clause-room_err
+returns-in-Ok-reopen-clause-room_err g c honest =
+    given_room 49152 (g.D.LogDisk.disk c.args.device) c.in-Ok-reopen.store (g.D.LogDisk.disk c.into_disks.result) c.into_disks.ensures.live_disk c.into_disks.ensures.other_disk (c.in-Ok-reopen.ensures.room honest)

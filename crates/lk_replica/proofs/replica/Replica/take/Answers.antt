@@ -1,4 +1,4 @@
-use Rattle.std.proofs.Common.{◌≡◌, List, ◌++◌, Contains, sym, ◌∙◌, ap, subst}
+use Rattle.std.proofs.Common.{◌≡◌, List, ◌++◌, Contains, refl, sym, ◌∙◌, ap, subst}
 use Rattle.lk_log.specs.StoreValue.{disks}
 use Rattle.lk_state.specs.Meanings.{meaning}
 use Rattle.lk_node.specs.Calls.{NodeFits, Goes}
@@ -8,10 +8,11 @@ use Rattle.lk_node.specs.Letters.{LetterValue, batch_of}
 use Rattle.lk_replica.specs.Posts.{SendsSome}
 use Rattle.lk_replica.specs.ReplicaValue.{ReplicaValue}
 use Rattle.lk_node.specs.Outboxes.{OutboxValue}
-use Rattle.lk_node.specs.Steps.{Steps}
-use Rattle.lk_replica.specs.Taking.{Puts}
+use Rattle.lk_replica.specs.Compacting.{RebasesWhereDue}
 use Rattle.lk_node.specs.declared.note.Note.{Note}
 use Rattle.lk_replica.proofs.Thinning.{thins_are_of, batch_among}
+use Rattle.lk_log.specs.Rooms.{StaysWithin}
+use Rattle.lk_log.proofs.Room.{within_same}
 use Rattle.lk_replica.proofs.replica.Replica.take.Goals as goal
 
 pub returns-in-Ok-clause-goes : goal.returns-in-Ok-clause-goes
@@ -22,8 +23,8 @@ returns-in-Ok-clause-goes g c honest telling h n f heard =
     let letters : c.in_ok-outbox.outbox.letters ≡ c.deref.result.now = sym (c.deref.ensures.value ∙ ap (λ (o : OutboxValue). o.letters) c.outbox.view_is) in (
       c.deref.result.now,
       c.in-Ok.ensures.all telling,
-      subst (λ (notes : List Note). Goes m h n (Stands m c.write.new.node c.write.new.store h.genesis n) (disks c.write.new.store) notes (batch_of n c.deref.result.now)) (sym (ap (λ (o : OutboxValue). o.notes) c.outbox.view_is))
-          (subst (λ (sent : List LetterValue). Goes m h n (Stands m c.write.new.node c.write.new.store h.genesis n) (disks c.write.new.store) c.in_ok-outbox.outbox.notes (batch_of n sent)) letters
+      subst (λ (notes : List Note). Goes m h n (Stands m c.write_behind.new.node c.write_behind.new.store h.genesis n) (disks c.write_behind.new.store) notes (batch_of n c.deref.result.now)) (sym (ap (λ (o : OutboxValue). o.notes) c.outbox.view_is))
+          (subst (λ (sent : List LetterValue). Goes m h n (Stands m c.write_behind.new.node c.write_behind.new.store h.genesis n) (disks c.write_behind.new.store) c.in_ok-outbox.outbox.notes (batch_of n sent)) letters
           (c.in_ok-outbox.ensures.goes honest h n fits heard c.in_ok-outbox.outbox.letters (λ l listed. listed))),
     )
 
@@ -36,41 +37,41 @@ returns-clause-sends g c honest telling h n f heard =
     let kept = c.in-Err.ensures.some telling in (
       kept.0,
       kept.2,
-      subst (λ (notes : List Note). Goes m h n (Stands m c.write.new.node c.write.new.store h.genesis n) (disks c.write.new.store) notes (batch_of n kept.0)) (sym (ap (λ (o : OutboxValue). o.notes) c.outbox.view_is))
+      subst (λ (notes : List Note). Goes m h n (Stands m c.write_behind.new.node c.write_behind.new.store h.genesis n) (disks c.write_behind.new.store) notes (batch_of n kept.0)) (sym (ap (λ (o : OutboxValue). o.notes) c.outbox.view_is))
           (c.in_ok-outbox.ensures.goes honest h n fits heard kept.0 (subst (λ (all : List LetterValue). (l : LetterValue) → Contains kept.0 l → Contains all l) letters (thins_are_of c.deref.result.now kept.0 kept.1))),
     )
 
 pub returns-clause-ends : goal.returns-clause-ends
 returns-clause-ends g c honest h n f heard =
     let m = meaning g.M.Machine.first g.M.Machine.next g.M.Machine.answer in
-    c.write.ensures.ends honest h n (subst (λ (r : ReplicaValue). NodeFits m h n (Stands m r.node r.store h.genesis n) (disks r.store)) (sym c.self.view_is) f) heard
+    c.write_behind.ensures.ends honest h n (subst (λ (r : ReplicaValue). NodeFits m h n (Stands m r.node r.store h.genesis n) (disks r.store)) (sym c.self.view_is) f) heard
 
 pub returns-in_err-outbox-clause-ends : goal.returns-in_err-outbox-clause-ends
 returns-in_err-outbox-clause-ends g c honest h n f heard =
     let m = meaning g.M.Machine.first g.M.Machine.next g.M.Machine.answer in
-    c.write.ensures.ends honest h n (subst (λ (r : ReplicaValue). NodeFits m h n (Stands m r.node r.store h.genesis n) (disks r.store)) (sym c.self.view_is) f) heard
+    c.write_behind.ensures.ends honest h n (subst (λ (r : ReplicaValue). NodeFits m h n (Stands m r.node r.store h.genesis n) (disks r.store)) (sym c.self.view_is) f) heard
 
 pub returns-in-Ok-clause-ends : goal.returns-in-Ok-clause-ends
 returns-in-Ok-clause-ends g c honest h n f heard =
     let m = meaning g.M.Machine.first g.M.Machine.next g.M.Machine.answer in
-    c.write.ensures.ends honest h n (subst (λ (r : ReplicaValue). NodeFits m h n (Stands m r.node r.store h.genesis n) (disks r.store)) (sym c.self.view_is) f) heard
+    c.write_behind.ensures.ends honest h n (subst (λ (r : ReplicaValue). NodeFits m h n (Stands m r.node r.store h.genesis n) (disks r.store)) (sym c.self.view_is) f) heard
 
 pub returns-in_err-outbox-clause-covers : goal.returns-in_err-outbox-clause-covers
 returns-in_err-outbox-clause-covers g c honest genesis n held x shown every =
     let m = meaning g.M.Machine.first g.M.Machine.next g.M.Machine.answer in
-    c.write.ensures.covers honest genesis n held x (subst (λ (r : ReplicaValue). Stands m r.node r.store genesis n held) (sym c.self.view_is) shown)
+    c.write_behind.ensures.covers honest genesis n held x (subst (λ (r : ReplicaValue). Stands m r.node r.store genesis n held) (sym c.self.view_is) shown)
     (subst (λ (r : ReplicaValue). AllCover m genesis n (disks r.store) x) (sym c.self.view_is) every)
 
 pub returns-in-Ok-clause-covers : goal.returns-in-Ok-clause-covers
 returns-in-Ok-clause-covers g c honest genesis n held x shown every =
     let m = meaning g.M.Machine.first g.M.Machine.next g.M.Machine.answer in
-    c.write.ensures.covers honest genesis n held x (subst (λ (r : ReplicaValue). Stands m r.node r.store genesis n held) (sym c.self.view_is) shown)
+    c.write_behind.ensures.covers honest genesis n held x (subst (λ (r : ReplicaValue). Stands m r.node r.store genesis n held) (sym c.self.view_is) shown)
     (subst (λ (r : ReplicaValue). AllCover m genesis n (disks r.store) x) (sym c.self.view_is) every)
 
 pub returns-clause-covers : goal.returns-clause-covers
 returns-clause-covers g c honest genesis n held x shown every =
     let m = meaning g.M.Machine.first g.M.Machine.next g.M.Machine.answer in
-    c.write.ensures.covers honest genesis n held x (subst (λ (r : ReplicaValue). Stands m r.node r.store genesis n held) (sym c.self.view_is) shown)
+    c.write_behind.ensures.covers honest genesis n held x (subst (λ (r : ReplicaValue). Stands m r.node r.store genesis n held) (sym c.self.view_is) shown)
     (subst (λ (r : ReplicaValue). AllCover m genesis n (disks r.store) x) (sym c.self.view_is) every)
 
 pub returns-in-Ok-clause-syncs : goal.returns-in-Ok-clause-syncs
@@ -98,8 +99,11 @@ returns-in-Ok-clause-exact g c honest telling =
     let letters : c.deref.result.now ≡ c.in_ok-outbox.outbox.letters = c.deref.ensures.value ∙ ap (λ (o : OutboxValue). o.letters) c.outbox.view_is in
     record {
       out = c.in_ok-outbox.outbox;
-      steps = subst (λ (r : ReplicaValue). Steps (meaning g.M.Machine.first g.M.Machine.next g.M.Machine.answer) r.node c.args.input c.write.new.node c.in_ok-outbox.outbox) c.self.view_is c.in_ok-outbox.ensures.steps;
-      puts = subst (λ (r : ReplicaValue). Puts r.store c.in_ok-outbox.outbox c.write.new.store) c.self.view_is (c.in_ok-outbox.ensures.puts honest);
+      mid = (c.in_ok-outbox.ensures.exact honest).0;
+      between = (c.in_ok-outbox.ensures.exact honest).1;
+      rebases = subst (λ (r : ReplicaValue). RebasesWhereDue r.node r.store (c.in_ok-outbox.ensures.exact honest).0 (c.in_ok-outbox.ensures.exact honest).1) c.self.view_is (c.in_ok-outbox.ensures.exact honest).2;
+      steps = (c.in_ok-outbox.ensures.exact honest).3;
+      puts = (c.in_ok-outbox.ensures.exact honest).4;
       noted = ap (λ (o : OutboxValue). o.notes) c.outbox.view_is;
       sent = c.in-Ok.ensures.all telling ∙ ap (λ (ls : List LetterValue). g.P.Post.sent c.args.post.now ++ ls) letters;
     }
@@ -109,8 +113,11 @@ returns-clause-exact_send g c honest telling =
     let letters : c.deref.result.now ≡ c.in_ok-outbox.outbox.letters = c.deref.ensures.value ∙ ap (λ (o : OutboxValue). o.letters) c.outbox.view_is in
     record {
       out = c.in_ok-outbox.outbox;
-      steps = subst (λ (r : ReplicaValue). Steps (meaning g.M.Machine.first g.M.Machine.next g.M.Machine.answer) r.node c.args.input c.write.new.node c.in_ok-outbox.outbox) c.self.view_is c.in_ok-outbox.ensures.steps;
-      puts = subst (λ (r : ReplicaValue). Puts r.store c.in_ok-outbox.outbox c.write.new.store) c.self.view_is (c.in_ok-outbox.ensures.puts honest);
+      mid = (c.in_ok-outbox.ensures.exact honest).0;
+      between = (c.in_ok-outbox.ensures.exact honest).1;
+      rebases = subst (λ (r : ReplicaValue). RebasesWhereDue r.node r.store (c.in_ok-outbox.ensures.exact honest).0 (c.in_ok-outbox.ensures.exact honest).1) c.self.view_is (c.in_ok-outbox.ensures.exact honest).2;
+      steps = (c.in_ok-outbox.ensures.exact honest).3;
+      puts = (c.in_ok-outbox.ensures.exact honest).4;
       noted = ap (λ (o : OutboxValue). o.notes) c.outbox.view_is;
       sent = subst (λ (ls : List LetterValue). SendsSome ls (g.P.Post.sent c.args.post.now) (g.P.Post.sent c.deliver.new.post)) letters (c.in-Err.ensures.some telling);
     }
@@ -126,3 +133,15 @@ invariant_of-self-2 g c lives = c.in_ok-outbox.ensures.runs (c.self.invariant c.
 
 pub returns-clause-runs_on : goal.returns-clause-runs_on
 returns-clause-runs_on g c = c.in_ok-outbox.ensures.runs (c.self.invariant c.if-self.false)
+
+pub returns-then-self-clause-room : goal.returns-then-self-clause-room
+returns-then-self-clause-room g c honest = within_same 132704 (disks c.args.self.now.store) (disks c.args.self.now.store) (λ s. refl)
+
+pub returns-in_err-outbox-clause-room : goal.returns-in_err-outbox-clause-room
+returns-in_err-outbox-clause-room g c honest = subst (λ (r : ReplicaValue). StaysWithin 132704 (disks r.store) (disks c.write_behind.new.store)) c.self.view_is (c.write_behind.ensures.room honest)
+
+pub returns-in-Ok-clause-room : goal.returns-in-Ok-clause-room
+returns-in-Ok-clause-room g c honest = subst (λ (r : ReplicaValue). StaysWithin 132704 (disks r.store) (disks c.write_behind.new.store)) c.self.view_is (c.write_behind.ensures.room honest)
+
+pub returns-clause-room : goal.returns-clause-room
+returns-clause-room g c honest = subst (λ (r : ReplicaValue). StaysWithin 132704 (disks r.store) (disks c.write_behind.new.store)) c.self.view_is (c.write_behind.ensures.room honest)

@@ -1,4 +1,5 @@
-use Rattle.lk_sim.proofs.Explaining.{explains, agree, states}
+use Rattle.lk_sim.proofs.Explaining.{explains, agree, states, ordered}
+use Rattle.lk_sim.proofs.Keeping.{covered, kept}
 use Rattle.lk_sim.proofs.world.World.facts.Goals as goal
 
 pub returns-clause-explained : goal.returns-clause-explained
@@ -19,3 +20,18 @@ pub returns-clause-states : goal.returns-clause-states
 returns-clause-states g c =
     let p = c.self.inside.parts in
     rw (← c.self.view_is) (states _ _ _ p.genesis p.seats.items p.sent.items p.trace.items c.self.invariant _ g.met.R.MemoryReplica.sums_up)
+
+pub returns-clause-covered : goal.returns-clause-covered
+returns-clause-covered g c =
+    let p = c.self.inside.parts in
+    rw (← c.self.view_is) (covered _ _ _ p.genesis p.seats.items p.sent.items p.trace.items c.self.invariant)
+
+pub returns-clause-kept : goal.returns-clause-kept
+returns-clause-kept g c =
+    let p = c.self.inside.parts in
+    rw (← c.self.view_is) (λ L i v chosen. kept _ _ _ p.genesis p.seats.items p.sent.items p.trace.items c.self.invariant L chosen i v)
+
+pub returns-clause-order : goal.returns-clause-order
+returns-clause-order g c =
+    let p = c.self.inside.parts in
+    rw (← c.self.view_is) (ordered _ _ _ p.genesis p.seats.items p.sent.items p.trace.items c.self.invariant)

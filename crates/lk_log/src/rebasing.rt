@@ -1,0 +1,44 @@
+// Going over from the live file to the other one.
+ghost use Rattle.std.specs.Prelude.{◌≡◌, ◌<◌, ◌≤◌, List, [], ◌∷◌, length, OnOk, IfErr};
+ghost use Rattle.lk_types.specs.Limits.{max_base};
+ghost use Rattle.lk_disk.specs.Disk.{contents, other};
+ghost use Rattle.lk_log.specs.Causes.{IsCaused};
+ghost use Rattle.lk_log.specs.Entries.{IsStored, spelling};
+ghost use Rattle.lk_log.specs.Images.{generation};
+ghost use Rattle.lk_log.specs.Rooms.{StaysWithin};
+ghost use Rattle.lk_log.specs.Stores.{HoldsOn, KeepsOrIs};
+ghost use Rattle.lk_log.specs.Values.{BaseValue};
+ghost use Rattle.lk_log.specs.declared.stored.Stored.{Stored};
+ghost use Rattle.lk_log.specs.declared.stored.Stored.TheVariants.{Base as base_entry};
+
+use crate::fault::StoreFault;
+use crate::reopening::write_over;
+use lk_disk::{LogDisk, Side};
+
+// The other side.
+pub fn other(side: Side) -> Side
+    ensures { result ≡ other side }
+{
+    match side {
+        Side::A => Side::B,
+        Side::B => Side::A,
+    }
+}
+
+// Writes these bytes of a Base in the place of the other file's, syncs them, and cuts the live file to nothing.
+pub fn go_over<D: LogDisk>(device: &mut D, live: Side, bytes: &[u8]) -> Result<(), StoreFault>
+    ensures holds { D.is_honest → (b : BaseValue) → IsStored (base_entry b) → bytes.now ≡ spelling (base_entry b)
+        → OnOk result (HoldsOn (D.disk device.new (other live)) (D.disk device.new live) (base_entry b ∷ []) []) }
+    ensures left { D.is_honest → OnOk result (D.disk device.new live ≡ record { synced = []; unsynced = [] }) }
+    ensures any { D.is_honest → (b : BaseValue) (ks ls : List Stored) → HoldsOn (D.disk device.old live) (D.disk device.old (other live)) ks ls
+        → generation ks < b.generation → IsStored (base_entry b) → bytes.now ≡ spelling (base_entry b) → KeepsOrIs (D.disk device.new) ks ls b }
+    ensures room { D.is_honest → length bytes.now ≤ max_base → StaysWithin max_base (D.disk device.old) (D.disk device.new) }
+    ensures short { D.is_honest → length bytes.now ≤ max_base → OnOk result (length (contents (D.disk device.new (other live))) ≤ max_base) }
+    ensures only { IfErr result (λ e. e ≡ StoreFault.Device) }
+    ensures cause { IsCaused (D.failures device.old) (D.failures device.new) result }
+{
+    let side = other(live);
+    write_over(device, side, bytes)?;
+    device.cut(live, 0)?;
+    Ok(())
+}

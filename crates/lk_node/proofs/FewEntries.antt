@@ -1,0 +1,173 @@
+-- A step writes few entries.
+use Rattle.std.proofs.lemmas.Bool.Decides.{nat_tests}
+use Rattle.std.proofs.Common.{true, ◌≡◌, ℕ, ◌+◌, ◌≤◌, ◌⊎◌, List, [], ◌∷◌, ◌++◌, length, Option, Some, None, refl, ap, sym, ◌∙◌, subst, inl, inr, arith, length-append}
+use Rattle.lk_types.specs.declared.entry.Entry.{Entry}
+use Rattle.lk_types.specs.declared.vote.Vote.{Vote}
+use Rattle.lk_wire.specs.Grammar.{IsContent, IsNodeMessage}
+use Rattle.lk_wire.specs.Values.{DecidedValue, are_commands_from}
+use Rattle.lk_wire.specs.declared.message.Content.{Content}
+use Rattle.lk_wire.specs.declared.message.Content.TheVariants as content
+use Rattle.lk_wire.specs.declared.message.NodeMessage.{NodeMessage}
+use Rattle.lk_wire.specs.declared.message.NodeMessage.TheVariants as kinds
+use Rattle.lk_state.specs.Meanings.{Meaning}
+use Rattle.lk_state.specs.declared.session.Session.{Session}
+use Rattle.lk_log.specs.Values.{HeaderValue}
+use Rattle.lk_learner.specs.Learners.{Command, Pair}
+use Rattle.lk_acceptor.specs.declared.response.Response.{Response}
+use Rattle.lk_history.specs.Ballots.{BallotValue}
+use Rattle.lk_node.specs.Executing.{with_told, SettlesAny, waiting_number, Executes, Runs, goes_on, stays}
+use Rattle.lk_node.specs.Learning.{Learns}
+use Rattle.lk_node.specs.DecidedPairs.{TakesPairs, none_yet, one_more}
+use Rattle.lk_node.specs.Leading.{ProposesAll}
+use Rattle.lk_node.specs.Reminding.{OffersFirst, OffersAhead, OffersAgain, Ticks, none_yet as none_offered, one_more as one_offered}
+use Rattle.lk_node.specs.Outboxes.{OutboxValue, nothing, with_entry, with_optional}
+use Rattle.lk_node.specs.NodeValue.{NodeValue}
+use Rattle.lk_node.specs.Steps.{Steps, HearsNode, Hears}
+use Rattle.lk_node.specs.Asking.{HearsRequest, PointsTo, TakesNew, TakesAs, leader_in}
+use Rattle.lk_node.specs.Histories.{RequestValue}
+use Rattle.lk_types.specs.declared.member.Member.{Member}
+use Rattle.lk_leader.specs.Terms.{TermValue}
+use Rattle.lk_state.specs.Sessions.{session_of}
+use Rattle.lk_state.specs.Runs.{seen_as}
+use Rattle.lk_state.specs.declared.whole.Seen.{Seen}
+use Rattle.lk_state.specs.declared.whole.Seen.TheVariants as seen
+use Rattle.lk_node.specs.declared.input.Input.{Input}
+use Rattle.lk_node.specs.declared.input.Input.TheVariants as input
+
+-- the second has as many entries as the first, and at most so many more
+abbrev Few : ℕ → OutboxValue → OutboxValue → Type 0
+Few k before behind = length behind.entries ≤ length before.entries + k
+
+same_few : (before behind : OutboxValue) → behind.entries ≡ before.entries → Few 0 before behind
+same_few before behind e = omega (arith, ap length e)
+
+one_few : (e : Entry) (before behind : OutboxValue) → behind ≡ with_entry e before → Few 1 before behind
+one_few e before behind is = omega (arith, ap (λ (o : OutboxValue). length o.entries) is, length-append before.entries (e ∷ []))
+
+-- ---- what is executed
+
+told_same : (whose : HeaderValue) (s : Session) (o : Option ℕ) (out : OutboxValue) → (with_told whose s o out).entries ≡ out.entries
+told_same whose s None out = refl
+told_same whose s (Some n) out = refl
+
+settled_same : (o : Option Session) (old new : NodeValue) (before behind : OutboxValue) → SettlesAny o old before new behind → behind.entries ≡ before.entries
+settled_same None old new before behind s = ap (λ (b : OutboxValue). b.entries) s.1
+settled_same (Some s) old new before behind k = ap (λ (b : OutboxValue). b.entries) k.comes_to ∙ told_same old.header s (waiting_number s old) before
+
+ran_same : (m : Meaning) (old : NodeValue) (before : OutboxValue) (new : NodeValue) (behind : OutboxValue) → Runs m old before new behind → behind.entries ≡ before.entries
+ran_same m old before new behind stays = refl
+ran_same m old before new behind (goes_on {mid = mid} {between = between} r e) = settled_same _ _ _ _ behind e.settles ∙ ran_same m old before mid between r
+
+-- ---- what is learned
+
+learned_few : (p : Pair) (old new : NodeValue) (before behind : OutboxValue) → Learns p old before new behind → Few 1 before behind
+learned_few p old new before behind k = elim k [ inl a ↦ one_few _ before behind a.2 | inr b ↦ omega (arith, ap (λ (o : OutboxValue). length o.entries) b.2) ]
+
+pairs_few : (m : Meaning) (first : ℕ) (commands : List Command) (old : NodeValue) (before : OutboxValue) (k : ℕ) (new : NodeValue) (behind : OutboxValue) → TakesPairs m first commands old before k new behind → Few k before behind
+pairs_few m first commands old before k new behind none_yet = omega arith
+pairs_few m first commands old before n new behind (one_more {k = k} {mid = mid} {between = between} v so_far at pair) =
+    omega (arith, pairs_few m first commands old before k mid between so_far, learned_few _ mid pair.learned between pair.written pair.learns, ap length (ran_same m pair.learned pair.written new behind pair.runs.0))
+
+-- ---- what is proposed and told again
+
+proposed_same : (xs : List Vote) (old new : NodeValue) (before out : OutboxValue) → ProposesAll xs old new before out → out.entries ≡ before.entries
+proposed_same [] old new before out p = ap (λ (o : OutboxValue). o.entries) p.2
+proposed_same (x ∷ xs) old new before out p = proposed_same xs _ new _ out p.1
+
+offered_again_same : (node : NodeValue) (b : BallotValue) (i : ℕ) (before out : OutboxValue) → OffersAgain node b i before out → out.entries ≡ before.entries
+offered_again_same node b i before out k = elim k [ inl a ↦ ap (λ (o : OutboxValue). o.entries) a.2.1 | inr c ↦ ap (λ (o : OutboxValue). o.entries) c.1 ]
+
+offered_ahead_same : (node : NodeValue) (b : BallotValue) (i : ℕ) (before out : OutboxValue) → OffersAhead node b i before out → out.entries ≡ before.entries
+offered_ahead_same node b i before out k = elim k [ inl a ↦ offered_again_same node b _ before out a | inr c ↦ ap (λ (o : OutboxValue). o.entries) c.1 ]
+
+offered_same : (node : NodeValue) (b : BallotValue) (before : OutboxValue) (k : ℕ) (out : OutboxValue) → OffersFirst node b before k out → out.entries ≡ before.entries
+offered_same node b before k out none_offered = refl
+offered_same node b before n out (one_offered {k = k} {mid = mid} so_far more) = offered_ahead_same node b k mid out more ∙ offered_same node b before k mid so_far
+
+-- ---- what is heard
+
+optional_few : (o : Option Entry) → length (with_optional o nothing).entries ≤ 1
+optional_few None = omega arith
+optional_few (Some e) = omega arith
+
+none_written : (out : OutboxValue) → out.entries ≡ [] → length out.entries ≤ 16
+none_written out e = omega (arith, ap length e)
+
+heard_few : (m : Meaning) (old : NodeValue) (from : ℕ) (x : NodeMessage) (new : NodeValue) (out : OutboxValue) → ((d : DecidedValue) → x ≡ kinds.Decided d → length d.commands ≤ 16)
+    → HearsNode m old from x new out → length out.entries ≤ 16
+heard_few m old from (kinds.Prepare b first) new out short r = omega (arith, optional_few r.response.entry, ap (λ (o : OutboxValue). length o.entries) r.comes_to)
+heard_few m old from (kinds.Accept x) new out short r = omega (arith, optional_few r.response.entry, ap (λ (o : OutboxValue). length o.entries) r.comes_to)
+heard_few m old from (kinds.Promise p) new out short h = none_written out (ap (λ (o : OutboxValue). o.entries) h.1)
+heard_few m old from (kinds.Accepted x) new out short h = elim h [
+  | inl k ↦ (let c = k.2 in omega (arith, learned_few _ _ c.learned _ c.written c.learns, ap length (ran_same m c.learned c.written new c.ran c.runs.0), ap (λ (o : OutboxValue). length o.entries) c.comes_to))
+  | inr k ↦ none_written out (ap (λ (o : OutboxValue). o.entries) k.1)
+]
+heard_few m old from (kinds.Decided d) new out short h = omega (arith, short d refl, pairs_few m d.first d.commands old nothing (length d.commands) new out h)
+heard_few m old from (kinds.Nack k) new out short h = none_written out (elim h.1 [
+  | inl a ↦ elim a.1 [ inl s ↦ ap (λ (o : OutboxValue). o.entries) s.1.1 | inr s ↦ ap (λ (o : OutboxValue). o.entries) s.1 ]
+  | inr (inl a) ↦ elim a.1 [ inl s ↦ ap (λ (o : OutboxValue). o.entries) s.1.1 | inr s ↦ ap (λ (o : OutboxValue). o.entries) s.1 ]
+  | inr (inr a) ↦ ap (λ (o : OutboxValue). o.entries) a.1
+])
+heard_few m old from (kinds.Want w) new out short h = none_written out (elim h.1 [ inl s ↦ ap (λ (o : OutboxValue). o.entries) s.1.1 | inr s ↦ ap (λ (o : OutboxValue). o.entries) s.1 ])
+heard_few m old from (kinds.Lead b executed) new out short h = none_written out (elim h [
+  | inl a ↦ ap (λ (o : OutboxValue). o.entries) a.2.1
+  | inr a ↦ elim a.2 [
+    | inl c ↦ elim c.1 [ inl s ↦ ap (λ (o : OutboxValue). o.entries) s.1.1 | inr s ↦ ap (λ (o : OutboxValue). o.entries) s.1 ]
+    | inr c ↦ ap (λ (o : OutboxValue). o.entries) c.1
+  ]
+])
+heard_few m old from (kinds.Part p) new out short h = none_written out (ap (λ (o : OutboxValue). o.entries) h.1)
+heard_few m old from (kinds.Answer a) new out short h = none_written out (ap (λ (o : OutboxValue). o.entries) h.1)
+heard_few m old from (kinds.Elsewhere e) new out short h = none_written out (ap (λ (o : OutboxValue). o.entries) h.1)
+heard_few m old from (kinds.Passed p) new out short h = none_written out (ap (λ (o : OutboxValue). o.entries) h.1)
+
+asked_few : (old : NodeValue) (r : RequestValue) (new : NodeValue) (out : OutboxValue) → HearsRequest old r new out → out.entries ≡ []
+asked_few old r new out = at (seen_as (session_of r.client old.learner.whole.sessions) r.number)
+  where
+    pointed : (o : Option Member) → PointsTo o old r new out → out.entries ≡ []
+    pointed None h = ap (λ (o : OutboxValue). o.entries) h.1
+    pointed (Some k) h = ap (λ (o : OutboxValue). o.entries) h.1.1
+
+    taken : (t : Option TermValue) → TakesNew t old r new out → out.entries ≡ []
+    taken None h = pointed (leader_in old.known old.learner.whole.roster.sets) h
+    taken (Some k) h = ap (λ (o : OutboxValue). o.entries) h.1
+
+    at : (s : Seen) → TakesAs s old r new out → out.entries ≡ []
+    at (seen.Same answer) h = ap (λ (o : OutboxValue). o.entries) h.1.1
+    at (seen.Passed last) h = ap (λ (o : OutboxValue). o.entries) h.1.1
+    at seen.New h = taken old.leader.term h
+
+few_commands : (first : ℕ) (cs : List Command) → are_commands_from first cs ≡ true → length cs ≤ 16
+few_commands first cs e = grind (arith, nat_tests)
+
+-- ---- a tick
+
+ticked_few : (old new : NodeValue) (out : OutboxValue) → Ticks old new out → length out.entries ≤ 16
+ticked_few old new out t = elim t [
+  | inl k ↦ (let r = k.2 in none_written out
+      (ap (λ (o : OutboxValue). o.entries) r.leads.2.1 ∙ proposed_same r.proposes.0 old new r.offered r.proposed r.proposes.1 ∙ offered_same old k.0 r.asked _ r.offered r.offers
+      ∙ elim r.asks [ inl a ↦ ap (λ (o : OutboxValue). o.entries) a.2.1 | inr a ↦ ap (λ (o : OutboxValue). o.entries) a.1 ]))
+  | inr k ↦ elim k.1 [
+    | inl b ↦ elim b.1.asks [
+      | inl a ↦ omega (arith, ap (λ (o : OutboxValue). length o.entries) a.1)
+      | inr a ↦ omega (arith, ap (λ (o : OutboxValue). length o.entries) a.1)
+    ]
+    | inr b ↦ none_written out (ap (λ (o : OutboxValue). o.entries) b.2)
+  ]
+]
+
+-- ---- a step
+
+-- a step writes at most 16 entries: that many decided commands, or one vote or promise
+pub few_entries : (m : Meaning) (old : NodeValue) (i : Input) (new : NodeValue) (out : OutboxValue) → Steps m old i new out → length out.entries ≤ 16
+few_entries m old input.Tick new out t = ticked_few old new out t
+few_entries m old (input.Datagram bytes) new out t =
+    let heard : length t.first.entries ≤ 16 = elim t.takes [
+      | inl h ↦ by_content h.0.content h.1.0.1 h.3
+      | inr h ↦ none_written t.first (ap (λ (o : OutboxValue). o.entries) h.1.1)
+    ] in
+    omega (arith, heard, ap length (proposed_same t.proposes.0 t.mid new t.first out t.proposes.1))
+  where
+    by_content : (c : Content) → IsContent c → Hears m old c t.mid t.first → length t.first.entries ≤ 16
+    by_content (content.Request r) fits h = none_written t.first (asked_few old r t.mid t.first h)
+    by_content (content.Node from x) fits h = heard_few m old from x t.mid t.first (λ d e. few_commands d.first d.commands (subst (λ z. IsNodeMessage z) e fits.1).2) h

@@ -1,0 +1,10 @@
+use Rattle.lk_node.proofs.NearRules.{decided_near}
+use Rattle.lk_node.proofs.node.Node.keep.Goals as goal
+
+pub invariant_of-self : goal.invariant_of-self
+invariant_of-self g c =
+    (c.self.invariant.0, decided_near c.self.inside.acceptor c.self.inside.learner c.decided.new.self (c.args.position, c.args.command.now) c.decided.result c.self.invariant.1 c.decided.ensures.kept c.decided.ensures.unchanged)
+
+pub invariant_of-self-2 : goal.invariant_of-self-2
+invariant_of-self-2 g c =
+    (c.self.invariant.0, decided_near c.self.inside.acceptor c.self.inside.learner c.decided.new.self (c.args.position, c.args.command.now) c.decided.result c.self.invariant.1 c.decided.ensures.kept c.decided.ensures.unchanged)

@@ -1,0 +1,12 @@
+-- An acceptor and a learner of one node.
+use Rattle.std.specs.Prelude.{◌≡◌, ◌≤◌, ◌+◌, ◌*◌, Contains}
+use Rattle.lk_history.specs.Datagrams.{Vote}
+use Rattle.lk_acceptor.specs.AcceptorValue.{AcceptorValue}
+use Rattle.lk_learner.specs.Learners.{LearnerValue, executed, alpha}
+
+-- they know the members as far ahead, the snapshot of the one is executed by the other, and no vote lies more than twice
+-- alpha above what is executed
+pub record AreNear (acceptor : AcceptorValue) (l : LearnerValue) : Type 0 where
+  pub alpha_is : acceptor.alpha ≡ alpha l
+  pub snapshot : acceptor.state.snapshot_position ≤ executed l
+  pub votes : (v : Vote) → Contains acceptor.state.votes v → v.position ≤ executed l + 2 * alpha l

@@ -1,0 +1,25 @@
+-- What a node writes as the Base of a further file.
+use Rattle.lk_log.specs.Values.{StandingValue}
+use Rattle.lk_state.specs.Packed.{packed}
+use Rattle.lk_acceptor.specs.States.{without_votes_to, with_state}
+use Rattle.lk_acceptor.specs.VoteLists.{votes_above}
+use Rattle.lk_learner.specs.Learners.{executed}
+use Rattle.lk_learner.specs.Learners as learners
+use Rattle.lk_node.specs.NodeValue.{NodeValue}
+
+-- what it holds, with a snapshot of its state in the place of all that it has executed
+abbrev pub standing_of : NodeValue → StandingValue
+standing_of node = record {
+  promised = node.acceptor.state.promised;
+  position = executed node.learner;
+  snapshot = packed node.learner.whole;
+  votes = votes_above (executed node.learner) node.acceptor.state.votes;
+  pairs = node.learner.pairs;
+}
+
+-- the node once that snapshot has taken the place of the votes and of the executed commands up to there
+abbrev pub standing_here : NodeValue → NodeValue
+standing_here node = record node {
+  acceptor = with_state node.acceptor (without_votes_to node.acceptor.state (executed node.learner));
+  learner = learners.standing_here node.learner;
+}

@@ -1,0 +1,79 @@
+// What a node writes as the Base of a further file, and what it then holds.
+ghost use Rattle.std.specs.Prelude.{◌≡◌, ◌+◌, ◌≤◌, ◌↔◌, IsTrue, IfOk};
+ghost use Rattle.lk_acceptor.specs.VoteLists.{votes_above};
+ghost use Rattle.lk_learner.specs.Learners.{executed};
+ghost use Rattle.lk_log.specs.Stores.{MayBegin};
+ghost use Rattle.lk_node.specs.Nearness.{AreNear};
+ghost use Rattle.lk_node.specs.Packing.{standing_of, standing_here};
+
+use crate::node::Node;
+use lk_learner::Pair;
+use lk_log::Standing;
+use lk_state::Machine;
+use lk_types::{Command, Executed, NoMemory, Position, Vote};
+use std::alloc::Global;
+
+// The votes above a position.
+fn votes_above(alloc: Global, votes: &[Vote], executed: Executed) -> Result<Vec<Vote>, NoMemory>
+    ensures { IfOk result (λ vs. vs.items ≡ votes_above executed votes.now) }
+{
+    let mut above = Vec::new(alloc);
+    for vote in votes {
+        if vote.position.get() > executed.get() {
+            above.push(vote.copy())?;
+        }
+    }
+    Ok(above)
+}
+
+// The same pairs.
+fn copied(alloc: Global, pairs: &[Pair]) -> Result<Vec<(Position, Command)>, NoMemory>
+    ensures { IfOk result (λ ps. ps.items ≡ pairs.now) }
+{
+    let mut copies = Vec::new(alloc);
+    for pair in pairs {
+        copies.push((pair.position(), pair.command().copy()))?;
+    }
+    Ok(copies)
+}
+
+impl<M: Machine> Node<M> {
+    /// What is written as the Base of a further file: all that the node holds, with a snapshot of its state in the place of
+    /// what it has executed.
+    pub fn standing(&self) -> Result<Standing, NoMemory>
+        ensures value { IfOk result (λ s. s ≡ standing_of self.now) }
+        ensures may { IfOk result MayBegin }
+        ensures near { AreNear self.now.acceptor self.now.learner }
+    {
+        self.acceptor.facts();
+        self.learner.facts();
+        let executed = self.learner.whole().executed();
+        let snapshot = self.learner.pack_now()?.as_slice().to_vec(self.alloc)?;
+        let votes = votes_above(self.alloc, self.acceptor.votes(), executed)?;
+        let pairs = copied(self.alloc, self.learner.pairs())?;
+        Ok(Standing {
+            promised: self.acceptor.promised(),
+            position: executed,
+            snapshot,
+            votes,
+            pairs,
+        })
+    }
+
+    /// Whether 256 positions or more are executed above the snapshot.
+    pub fn is_far(&self) -> bool
+        ensures { IsTrue result ↔ (self.now.acceptor.state.snapshot_position + 256 ≤ executed self.now.learner) }
+    {
+        let snapshot = self.acceptor.snapshot_position().get();
+        self.learner.whole().executed().get() >= snapshot + 256
+    }
+
+    /// That snapshot takes the place of the votes and of the executed commands up to there. It takes no memory.
+    pub fn stand_here(&mut self)
+        ensures { self.new ≡ standing_here self.old }
+    {
+        let executed = self.learner.whole().executed();
+        self.acceptor.forget(executed);
+        self.learner.stand_here();
+    }
+}

@@ -1,0 +1,95 @@
+-- What a call leaves that steps, rebases in place of putting what the step writes, and then sends.
+use Rattle.std.proofs.Common.{◌≡◌, ℕ, ◌≤◌, List, [], ◌∷◌, take, Contains, sym, subst}
+use Rattle.lk_wire.specs.declared.message.NodeMessage.{NodeMessage}
+use Rattle.lk_wire.specs.declared.message.NodeMessage.TheVariants as kinds
+use Rattle.lk_log.specs.StoreValue.{StoreValue, disks}
+use Rattle.lk_log.specs.Stores.{Holds, MayBegin, next_base}
+use Rattle.lk_log.specs.Values.{StandingValue}
+use Rattle.lk_log.specs.declared.stored.Stored.TheVariants.{Base}
+use Rattle.lk_log.proofs.StoreLaws.{one_standing}
+use Rattle.lk_state.specs.Meanings.{Meaning}
+use Rattle.lk_history.specs.Acceptors.{Covers, CoversSent}
+use Rattle.lk_history.specs.Changes.{with_acceptor}
+use Rattle.lk_history.specs.Nodes.{View, MaySend}
+use Rattle.lk_history.proofs.Histories.{still_stems, covers_both}
+use Rattle.lk_acceptor.specs.States.{without_votes_to}
+use Rattle.lk_acceptor.proofs.Acceptors.{takes_snapshot}
+use Rattle.lk_learner.specs.Learners.{executed}
+use Rattle.lk_node.specs.Calls.{MayGo, Goes}
+use Rattle.lk_node.specs.Entries.{EntriesFit}
+use Rattle.lk_node.specs.Histories.{History, Datagram, later, IsLawful}
+use Rattle.lk_node.specs.Holdings.{Holding, HoldingFits}
+use Rattle.lk_node.specs.Keeping.{Stands}
+use Rattle.lk_node.specs.Leavings.{acceptor_of, view_of}
+use Rattle.lk_node.specs.Letters.{LetterValue, batch_of}
+use Rattle.lk_node.specs.NodeValue.{NodeValue}
+use Rattle.lk_node.specs.Outboxes.{OutboxValue}
+use Rattle.lk_node.specs.Packing.{standing_of, standing_here}
+use Rattle.lk_node.specs.Served.{IsOfNode, IsBorneOut}
+use Rattle.lk_node.specs.Serving.{Tells}
+use Rattle.lk_node.specs.declared.note.Note.{Note}
+use Rattle.lk_replica.specs.Compacting.{IsLight}
+use Rattle.lk_replica.specs.Posts.{AreOf}
+use Rattle.lk_replica.proofs.Going.{batch_covered}
+use Rattle.lk_replica.proofs.Images.{fit_disks}
+use Rattle.lk_replica.proofs.Rebasing.{snapshot_covers, base_stands, here, rebase_stands, base_fits, here_fits}
+use Rattle.lk_replica.proofs.Thinning.{batch_among}
+
+-- all but promises and votes may still be sent
+light_may : (h : History) (w : View) (i : ℕ) (x : NodeMessage) → IsLight x → MaySend h.genesis h.sent w x → MaySend h.genesis h.sent (with_acceptor w (without_votes_to w.acceptor i)) x
+light_may h w i (kinds.Prepare b first) light may = may
+light_may h w i (kinds.Promise p) light may = absurd light
+light_may h w i (kinds.Accept v) light may = may
+light_may h w i (kinds.Accepted v) light may = absurd light
+light_may h w i (kinds.Nack k) light may = may
+light_may h w i (kinds.Decided d) light may = may
+light_may h w i (kinds.Want k) light may = may
+light_may h w i (kinds.Part p) light may = may
+light_may h w i (kinds.Answer k) light may = may
+light_may h w i (kinds.Elsewhere k) light may = may
+light_may h w i (kinds.Passed p) light may = may
+light_may h w i (kinds.Lead b k) light may = may
+
+-- The node stands on the store as it was before the step, since the step has left its acceptor and what is unsynced known.
+module _ (m : Meaning) (h : History) (n : ℕ) (node : NodeValue) (old new : StoreValue) (x : Holding) (shown : Stands m node old h.genesis n x)
+    (may : MayBegin (standing_of node)) (within : node.acceptor.state.snapshot_position ≤ executed node.learner) (lawful : IsLawful h) (fits : HoldingFits m h n x)
+    (out : OutboxValue) (tells : (l : LetterValue) → Contains out.letters l → Tells node.header node.acceptor.state l)
+    (goes : (d : Datagram) → Contains (batch_of n out.letters) d → MayGo m h n x.view d) (light : (d : Datagram) (c : Contains (batch_of n out.letters) d) → IsLight (goes d c).message)
+    (noted : (k : Note) → Contains out.notes k → IsOfNode k × IsBorneOut m h k) (holds : Holds new (Base (next_base old (standing_of node)) ∷ []) [])
+    (sent : List LetterValue) (among : AreOf sent out.letters) where
+  base : EntriesFit m h n (Base (next_base old (standing_of node)) ∷ [])
+  base = base_fits m h n node old new x shown may within lawful fits
+
+  same : standing_of node ≡ base.standing
+  same = one_standing (Base (next_base old (standing_of node)) ∷ []) (standing_of node) base.standing (base_stands m h.genesis n node old new x shown may within) base.stands
+
+  sent_covered : (k : ℕ) → CoversSent h.genesis (take k (batch_of n sent)) n (acceptor_of (standing_of node))
+  sent_covered k y c =
+      snapshot_covers node.acceptor.state (without_votes_to node.acceptor.state (executed node.learner)) (executed node.learner) (takes_snapshot node.acceptor.state (executed node.learner) within) y
+      (batch_covered h.genesis n node sent shown.whose (λ l d. tells l (among l d)) k y c)
+
+  sent_fit : (k : ℕ) → EntriesFit m (later h (take k (batch_of n sent))) n (Base (next_base old (standing_of node)) ∷ [])
+  sent_fit k = record {
+    standing = base.standing;
+    header = base.header;
+    stands = base.stands;
+    under = base.under;
+    position = base.position;
+    snapshot = base.snapshot;
+    covers = covers_both h.genesis h.sent (take k (batch_of n sent)) n (acceptor_of base.standing) base.covers
+        (subst (λ (s : StandingValue). CoversSent h.genesis (take k (batch_of n sent)) n (acceptor_of s)) same (sent_covered k));
+    stems = still_stems h.genesis h.sent (take k (batch_of n sent)) (view_of base.standing base.under) base.stems;
+  }
+
+  pub rebased_goes : Goes m h n (Stands m (standing_here node) new h.genesis n) (disks new) out.notes (batch_of n sent)
+  rebased_goes = record {
+    holding = here m h.genesis n node old new x shown may within;
+    shown = rebase_stands m h.genesis n node old new x shown may within holds;
+    fits = here_fits m h n node old new x shown may within lawful fits;
+    may = λ d c.
+        let listed = batch_among n sent out.letters among d c in
+        let k = goes d listed in
+        record { message = k.message; from = k.from; spelled = k.spelled; may = light_may h x.view (executed node.learner) k.message (light d listed) k.may; served = k.served };
+    noted = noted;
+    left = λ k. fit_disks m (later h (take k (batch_of n sent))) n new (Base (next_base old (standing_of node)) ∷ []) [] holds tt (sent_fit k);
+  }

@@ -1,0 +1,96 @@
+use Rattle.std.proofs.Common.{◌≡◌, List, [], ◌∷◌, refl, sym, ap, subst}
+use Rattle.lk_log.specs.StoreValue.{disks}
+use Rattle.lk_log.specs.Stores.{plain, Holds, MayBegin, next_base, KeepsOrIs}
+use Rattle.lk_log.specs.Values.{StandingValue}
+use Rattle.lk_log.specs.declared.stored.Stored.{Stored}
+use Rattle.lk_log.specs.declared.stored.Stored.TheVariants.{Base}
+use Rattle.lk_state.specs.Meanings.{Meaning, meaning}
+use Rattle.lk_learner.specs.Learners.{LearnerValue, Command, IsNext, executed}
+use Rattle.lk_node.specs.Calls.{Goes}
+use Rattle.lk_node.specs.Keeping.{Stands}
+use Rattle.lk_node.specs.NodeValue.{NodeValue}
+use Rattle.lk_node.specs.Packing.{standing_of, standing_here}
+use Rattle.lk_replica.specs.Compacting.{AllStandAt}
+use Rattle.lk_log.proofs.Room.{within_same}
+use Rattle.lk_replica.proofs.Rebasing.{here, rebase_covers, rebase_stands, rebase_fits, rebase_goes, all_stand}
+use Rattle.lk_replica.proofs.compacting.write_base.Goals as goal
+
+pub returns-in_err-rebase-clause-ends : goal.returns-in_err-rebase-clause-ends
+returns-in_err-rebase-clause-ends g c honest h n f =
+    let m : Meaning = meaning g.M.Machine.first g.M.Machine.next g.M.Machine.answer in
+    let is = c.in_ok-standing.ensures.value in
+    let may = subst MayBegin is c.in_ok-standing.ensures.may in
+    rebase_fits m h n c.args.node.now c.args.store.now c.rebase.new.self f.holding f.shown may c.standing.ensures.near.snapshot f.lawful f.fits
+    (subst (λ (s : StandingValue). KeepsOrIs (disks c.rebase.new.self) f.shown.keeps.entries (plain f.shown.keeps.loose) (next_base c.args.store.now s)) is
+    (c.rebase.ensures.any honest f.shown.keeps.entries (plain f.shown.keeps.loose) f.shown.keeps.holds)) f.left
+
+pub returns-in_err-rebase-clause-covers : goal.returns-in_err-rebase-clause-covers
+returns-in_err-rebase-clause-covers g c honest genesis n held x shown every =
+    let m : Meaning = meaning g.M.Machine.first g.M.Machine.next g.M.Machine.answer in
+    let is = c.in_ok-standing.ensures.value in
+    let may = subst MayBegin is c.in_ok-standing.ensures.may in
+    rebase_covers m genesis n c.args.node.now c.args.store.now c.rebase.new.self held shown may c.standing.ensures.near.snapshot
+    (subst (λ (s : StandingValue). KeepsOrIs (disks c.rebase.new.self) shown.keeps.entries (plain shown.keeps.loose) (next_base c.args.store.now s)) is
+    (c.rebase.ensures.any honest shown.keeps.entries (plain shown.keeps.loose) shown.keeps.holds)) x every
+
+pub returns-clause-ends : goal.returns-clause-ends
+returns-clause-ends g c honest h n f =
+    let m : Meaning = meaning g.M.Machine.first g.M.Machine.next g.M.Machine.answer in
+    let is = c.in_ok-standing.ensures.value in
+    let may = subst MayBegin is c.in_ok-standing.ensures.may in
+    rebase_fits m h n c.args.node.now c.args.store.now c.rebase.new.self f.holding f.shown may c.standing.ensures.near.snapshot f.lawful f.fits
+    (subst (λ (s : StandingValue). KeepsOrIs (disks c.rebase.new.self) f.shown.keeps.entries (plain f.shown.keeps.loose) (next_base c.args.store.now s)) is
+    (c.rebase.ensures.any honest f.shown.keeps.entries (plain f.shown.keeps.loose) f.shown.keeps.holds)) f.left
+
+pub returns-clause-covers : goal.returns-clause-covers
+returns-clause-covers g c honest genesis n held x shown every =
+    let m : Meaning = meaning g.M.Machine.first g.M.Machine.next g.M.Machine.answer in
+    let is = c.in_ok-standing.ensures.value in
+    let may = subst MayBegin is c.in_ok-standing.ensures.may in
+    rebase_covers m genesis n c.args.node.now c.args.store.now c.rebase.new.self held shown may c.standing.ensures.near.snapshot
+    (subst (λ (s : StandingValue). KeepsOrIs (disks c.rebase.new.self) shown.keeps.entries (plain shown.keeps.loose) (next_base c.args.store.now s)) is
+    (c.rebase.ensures.any honest shown.keeps.entries (plain shown.keeps.loose) shown.keeps.holds)) x every
+
+pub returns-clause-goes : goal.returns-clause-goes
+returns-clause-goes g c honest h n f =
+    let m : Meaning = meaning g.M.Machine.first g.M.Machine.next g.M.Machine.answer in
+    let is = c.in_ok-standing.ensures.value in
+    let may = subst MayBegin is c.in_ok-standing.ensures.may in
+    let holds = subst (λ (s : StandingValue). Holds c.rebase.new.self (Base (next_base c.args.store.now s) ∷ []) []) is (c.in_ok-rebase.ensures.base honest f.shown.keeps.entries (plain f.shown.keeps.loose) f.shown.keeps.holds) in
+    let keeps = subst (λ (s : StandingValue). KeepsOrIs (disks c.rebase.new.self) f.shown.keeps.entries (plain f.shown.keeps.loose) (next_base c.args.store.now s)) is
+    (c.rebase.ensures.any honest f.shown.keeps.entries (plain f.shown.keeps.loose) f.shown.keeps.holds) in
+    subst (λ (k : NodeValue). Goes m h n (Stands m k c.rebase.new.self h.genesis n) (disks c.rebase.new.self) [] []) (sym c.stand_here.ensures)
+    (rebase_goes m h n c.args.node.now c.args.store.now c.rebase.new.self f.holding f.shown may c.standing.ensures.near.snapshot f.lawful f.fits holds
+    (rebase_fits m h n c.args.node.now c.args.store.now c.rebase.new.self f.holding f.shown may c.standing.ensures.near.snapshot f.lawful f.fits keeps f.left))
+
+pub returns-clause-stands : goal.returns-clause-stands
+returns-clause-stands g c honest genesis n held shown =
+    let m : Meaning = meaning g.M.Machine.first g.M.Machine.next g.M.Machine.answer in
+    let is = c.in_ok-standing.ensures.value in
+    let may = subst MayBegin is c.in_ok-standing.ensures.may in
+    let holds = subst (λ (s : StandingValue). Holds c.rebase.new.self (Base (next_base c.args.store.now s) ∷ []) []) is (c.in_ok-rebase.ensures.base honest shown.keeps.entries (plain shown.keeps.loose) shown.keeps.holds) in
+    subst (λ (k : NodeValue). AllStandAt m genesis n (disks c.rebase.new.self) (executed k.learner)) (sym c.stand_here.ensures)
+    (all_stand m genesis n c.args.node.now c.args.store.now c.rebase.new.self held shown may c.standing.ensures.near.snapshot holds)
+
+pub returns-clause-runs : goal.returns-clause-runs
+returns-clause-runs g c none = subst (λ (k : NodeValue). (v : Command) → IsNext k.learner v → ⊥) (sym c.stand_here.ensures) none
+
+pub returns-clause-shows : goal.returns-clause-shows
+returns-clause-shows g c honest genesis n held shown =
+    let m : Meaning = meaning g.M.Machine.first g.M.Machine.next g.M.Machine.answer in
+    let is = c.in_ok-standing.ensures.value in
+    let may = subst MayBegin is c.in_ok-standing.ensures.may in
+    let holds = subst (λ (s : StandingValue). Holds c.rebase.new.self (Base (next_base c.args.store.now s) ∷ []) []) is (c.in_ok-rebase.ensures.base honest shown.keeps.entries (plain shown.keeps.loose) shown.keeps.holds) in (
+      _,
+      subst (λ (k : NodeValue). Stands m k c.rebase.new.self genesis n (here m genesis n c.args.node.now c.args.store.now c.rebase.new.self held shown may c.standing.ensures.near.snapshot)) (sym c.stand_here.ensures)
+          (rebase_stands m genesis n c.args.node.now c.args.store.now c.rebase.new.self held shown may c.standing.ensures.near.snapshot holds),
+    )
+
+pub returns-in_err-rebase-clause-room : goal.returns-in_err-rebase-clause-room
+returns-in_err-rebase-clause-room g c honest = c.rebase.ensures.room honest
+
+pub returns-clause-room : goal.returns-clause-room
+returns-clause-room g c honest = c.rebase.ensures.room honest
+
+pub returns-in_err-standing-clause-room : goal.returns-in_err-standing-clause-room
+returns-in_err-standing-clause-room g c honest = within_same 49152 (disks c.args.store.now) (disks c.args.store.now) (λ s. refl)

@@ -1,0 +1,54 @@
+use Rattle.std.proofs.Common.{◌≡◌, false, [], refl, sym, ap, subst}
+use Rattle.lk_log.specs.StoreValue.{disks}
+use Rattle.lk_state.specs.Meanings.{Meaning, meaning}
+use Rattle.lk_node.specs.Calls.{NodeFits}
+use Rattle.lk_node.specs.Keeping.{Stands}
+use Rattle.lk_node.specs.Leavings.{AllCover}
+use Rattle.lk_replica.specs.ReplicaValue.{ReplicaValue}
+use Rattle.lk_log.specs.Rooms.{StaysWithin}
+use Rattle.lk_log.proofs.Room.{within_same}
+use Rattle.lk_replica.proofs.replica.Replica.compact.Goals as goal
+
+pub returns-in_err-write_base-clause-ends : goal.returns-in_err-write_base-clause-ends
+returns-in_err-write_base-clause-ends g c honest h n f =
+    let m : Meaning = meaning g.M.Machine.first g.M.Machine.next g.M.Machine.answer in
+    c.write_base.ensures.ends honest h n (subst (λ (r : ReplicaValue). NodeFits m h n (Stands m r.node r.store h.genesis n) (disks r.store)) (sym c.self.view_is) f)
+
+pub returns-in_err-write_base-clause-covers : goal.returns-in_err-write_base-clause-covers
+returns-in_err-write_base-clause-covers g c honest genesis n held x shown every =
+    let m : Meaning = meaning g.M.Machine.first g.M.Machine.next g.M.Machine.answer in
+    c.write_base.ensures.covers honest genesis n held x (subst (λ (r : ReplicaValue). Stands m r.node r.store genesis n held) (sym c.self.view_is) shown)
+    (subst (λ (r : ReplicaValue). AllCover m genesis n (disks r.store) x) (sym c.self.view_is) every)
+
+pub returns-clause-ends : goal.returns-clause-ends
+returns-clause-ends g c honest h n f =
+    let m : Meaning = meaning g.M.Machine.first g.M.Machine.next g.M.Machine.answer in
+    c.write_base.ensures.ends honest h n (subst (λ (r : ReplicaValue). NodeFits m h n (Stands m r.node r.store h.genesis n) (disks r.store)) (sym c.self.view_is) f)
+
+pub returns-clause-covers : goal.returns-clause-covers
+returns-clause-covers g c honest genesis n held x shown every =
+    let m : Meaning = meaning g.M.Machine.first g.M.Machine.next g.M.Machine.answer in
+    c.write_base.ensures.covers honest genesis n held x (subst (λ (r : ReplicaValue). Stands m r.node r.store genesis n held) (sym c.self.view_is) shown)
+    (subst (λ (r : ReplicaValue). AllCover m genesis n (disks r.store) x) (sym c.self.view_is) every)
+
+pub returns-clause-goes : goal.returns-clause-goes
+returns-clause-goes g c honest h n f =
+    let m : Meaning = meaning g.M.Machine.first g.M.Machine.next g.M.Machine.answer in
+    c.in_ok-write_base.ensures.goes honest h n (subst (λ (r : ReplicaValue). NodeFits m h n (Stands m r.node r.store h.genesis n) (disks r.store)) (sym c.self.view_is) f)
+
+pub returns-clause-stands : goal.returns-clause-stands
+returns-clause-stands g c honest genesis n held shown =
+    let m : Meaning = meaning g.M.Machine.first g.M.Machine.next g.M.Machine.answer in
+    c.in_ok-write_base.ensures.stands honest genesis n held (subst (λ (r : ReplicaValue). Stands m r.node r.store genesis n held) (sym c.self.view_is) shown)
+
+pub invariant_of-self-2 : goal.invariant_of-self-2
+invariant_of-self-2 g c alive = c.in_ok-write_base.ensures.runs (c.self.invariant c.if-self.false)
+
+pub returns-then-self-clause-room : goal.returns-then-self-clause-room
+returns-then-self-clause-room g c honest = within_same 49152 (disks c.args.self.now.store) (disks c.args.self.now.store) (λ s. refl)
+
+pub returns-in_err-write_base-clause-room : goal.returns-in_err-write_base-clause-room
+returns-in_err-write_base-clause-room g c honest = subst (λ (r : ReplicaValue). StaysWithin 49152 (disks r.store) (disks c.write_base.new.store)) c.self.view_is (c.write_base.ensures.room honest)
+
+pub returns-clause-room : goal.returns-clause-room
+returns-clause-room g c honest = subst (λ (r : ReplicaValue). StaysWithin 49152 (disks r.store) (disks c.write_base.new.store)) c.self.view_is (c.write_base.ensures.room honest)

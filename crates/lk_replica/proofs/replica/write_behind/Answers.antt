@@ -1,0 +1,57 @@
+use Rattle.lk_log.specs.StoreValue.{disks}
+use Rattle.lk_log.proofs.Room.{refused_room, behind_room}
+use Rattle.lk_replica.proofs.replica.write_behind.Goals as goal
+
+pub returns-in_err-rebase_where_due-clause-ends : goal.returns-in_err-rebase_where_due-clause-ends
+returns-in_err-rebase_where_due-clause-ends g c honest h n f heard =
+    c.rebase_where_due.ensures.ends honest h n f
+
+pub returns-in_err-rebase_where_due-clause-covers : goal.returns-in_err-rebase_where_due-clause-covers
+returns-in_err-rebase_where_due-clause-covers g c honest genesis n held x shown every =
+    c.rebase_where_due.ensures.covers honest genesis n held x shown every
+
+pub returns-in_err-outbox-clause-ends : goal.returns-in_err-outbox-clause-ends
+returns-in_err-outbox-clause-ends g c honest h n f heard =
+    c.write.ensures.ends honest h n (c.in_ok-rebase_where_due.ensures.goes honest h n f) heard
+
+pub returns-in_err-outbox-clause-covers : goal.returns-in_err-outbox-clause-covers
+returns-in_err-outbox-clause-covers g c honest genesis n held x shown every =
+    let mid = c.in_ok-rebase_where_due.ensures.shows honest genesis n held shown in
+    c.write.ensures.covers honest genesis n mid.0 x mid.1 (c.rebase_where_due.ensures.covers honest genesis n held x shown every)
+
+pub returns-clause-ends : goal.returns-clause-ends
+returns-clause-ends g c honest h n f heard =
+    c.write.ensures.ends honest h n (c.in_ok-rebase_where_due.ensures.goes honest h n f) heard
+
+pub returns-clause-covers : goal.returns-clause-covers
+returns-clause-covers g c honest genesis n held x shown every =
+    let mid = c.in_ok-rebase_where_due.ensures.shows honest genesis n held shown in
+    c.write.ensures.covers honest genesis n mid.0 x mid.1 (c.rebase_where_due.ensures.covers honest genesis n held x shown every)
+
+pub returns-clause-goes : goal.returns-clause-goes
+returns-clause-goes g c honest h n f heard =
+    c.in_ok-outbox.ensures.goes honest h n (c.in_ok-rebase_where_due.ensures.goes honest h n f) heard
+
+pub returns-clause-syncs : goal.returns-clause-syncs
+returns-clause-syncs g c honest genesis n held x shown =
+    let mid = c.in_ok-rebase_where_due.ensures.shows honest genesis n held shown in
+    c.in_ok-outbox.ensures.syncs honest genesis n mid.0 x mid.1
+
+pub returns-clause-exact : goal.returns-clause-exact
+returns-clause-exact g c honest =
+    (c.rebase_where_due.new.node, c.rebase_where_due.new.store, c.in_ok-rebase_where_due.ensures.exact honest, c.in_ok-outbox.ensures.steps, c.in_ok-outbox.ensures.puts honest)
+
+pub returns-clause-runs : goal.returns-clause-runs
+returns-clause-runs g c none =
+    c.in_ok-outbox.ensures.runs (c.in_ok-rebase_where_due.ensures.runs none)
+
+pub returns-in_err-rebase_where_due-clause-room : goal.returns-in_err-rebase_where_due-clause-room
+returns-in_err-rebase_where_due-clause-room g c honest = refused_room (disks c.args.store.now) (disks c.rebase_where_due.new.store) (c.rebase_where_due.ensures.room honest)
+
+pub returns-in_err-outbox-clause-room : goal.returns-in_err-outbox-clause-room
+returns-in_err-outbox-clause-room g c honest =
+    behind_room (disks c.args.store.now) c.rebase_where_due.new.store c.write.new.store (c.rebase_where_due.ensures.room honest) (c.in_ok-rebase_where_due.ensures.small honest) c.write.ensures.live (c.write.ensures.grows honest) (c.write.ensures.beside honest)
+
+pub returns-clause-room : goal.returns-clause-room
+returns-clause-room g c honest =
+    behind_room (disks c.args.store.now) c.rebase_where_due.new.store c.write.new.store (c.rebase_where_due.ensures.room honest) (c.in_ok-rebase_where_due.ensures.small honest) c.write.ensures.live (c.write.ensures.grows honest) (c.write.ensures.beside honest)

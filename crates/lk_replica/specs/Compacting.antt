@@ -1,0 +1,52 @@
+-- What a call of a replica has done that rebases its store.
+use Rattle.std.specs.Prelude.{◌≡◌, ℕ, ◌+◌, ◌≤◌, ◌⊎◌, List, [], ◌∷◌, length}
+use Rattle.lk_wire.specs.declared.message.NodeMessage.{NodeMessage}
+use Rattle.lk_wire.specs.declared.message.NodeMessage.TheVariants as kinds
+use Rattle.lk_disk.specs.Disk.{Disk, contents}
+use Rattle.lk_disk.specs.declared.device.Side.{Side}
+use Rattle.lk_log.specs.Images.{Image, MayLeaveBoth}
+use Rattle.lk_log.specs.StoreValue.{StoreValue}
+use Rattle.lk_log.specs.Stores.{Holds, next_base}
+use Rattle.lk_log.specs.Values.{StandingValue}
+use Rattle.lk_log.specs.declared.stored.Stored.{Stored}
+use Rattle.lk_log.specs.declared.stored.Stored.TheVariants.{Base}
+use Rattle.lk_learner.specs.Learners.{executed}
+use Rattle.lk_node.specs.NodeValue.{NodeValue}
+use Rattle.lk_node.specs.Packing.{standing_of, standing_here}
+use Rattle.lk_state.specs.Meanings.{Meaning}
+use Rattle.lk_node.specs.Histories.{Genesis}
+use Rattle.lk_node.specs.Leavings.{header_of, StandsAs}
+use Rattle.lk_node.specs.Served.{text}
+
+-- each image that a stop may leave of these disks stands for a snapshot at this position
+abbrev pub AllStandAt : Meaning → Genesis → ℕ → (Side → Disk) → ℕ → Type 0
+AllStandAt m genesis n disks position = (image : Image) → MayLeaveBoth disks image
+    → (s : StandingValue) × StandsAs (header_of genesis n) (text m genesis []) image s × (s.position ≡ position)
+
+-- the live file has grown to half of what a file may hold, or 256 positions are executed above the snapshot
+abbrev pub IsDue : NodeValue → StoreValue → Type 0
+IsDue node store = (131072 ≤ length (contents store.live_disk)) ⊎ (node.acceptor.state.snapshot_position + 256 ≤ executed node.learner)
+
+-- the store has the same files and knows the same of them
+pub record IsSameStore (old new : StoreValue) : Type 0 where
+  pub live_disk : new.live_disk ≡ old.live_disk
+  pub other_disk : new.other_disk ≡ old.other_disk
+  pub live : new.live ≡ old.live
+  pub generation : new.generation ≡ old.generation
+  pub header : new.header ≡ old.header
+
+-- the node's Base stands alone in the store, and the node stands on it
+pub record Rebases (node : NodeValue) (store : StoreValue) (new : NodeValue) (after : StoreValue) : Type 0 where
+  pub becomes : new ≡ standing_here node
+  pub writes : (ks ls : List Stored) → Holds store ks ls → Holds after (Base (next_base store (standing_of node)) ∷ []) []
+
+-- what was due was done, and else nothing
+pub record RebasesWhereDue (node : NodeValue) (store : StoreValue) (new : NodeValue) (after : StoreValue) : Type 0 where
+  pub due : IsDue node store → Rebases node store new after
+  pub rests : (IsDue node store → ⊥) → (new ≡ node) × IsSameStore store after
+
+-- the message is no promise and no vote: what it may be sent by, a rebase leaves
+abbrev pub IsLight : NodeMessage → Type 0
+IsLight (kinds.Promise p) = ⊥
+IsLight (kinds.Accepted x) = ⊥
+IsLight _ = Unit {0}

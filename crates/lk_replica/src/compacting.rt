@@ -1,0 +1,145 @@
+// Writing all that a node holds as the Base of the other file.
+ghost use Rattle.std.specs.Prelude.{◌≡◌, ℕ, ◌+◌, ◌-◌, ◌^◌, ◌≤◌, ◌<◌, min, length, List, [], ◌∷◌, false, ◌↔◌, IsTrue, OnOk, IfOk, IfErr, IsErrOf};
+ghost use Rattle.lk_types.specs.Limits.{max_base, max_count};
+ghost use Rattle.lk_disk.specs.Disk.{contents};
+ghost use Rattle.lk_log.specs.Rooms.{StaysWithin};
+ghost use Rattle.lk_log.specs.StoreValue.{disks};
+ghost use Rattle.lk_log.specs.Stores.{Holds, next_base};
+ghost use Rattle.lk_log.specs.declared.stored.Stored.{Stored};
+ghost use Rattle.lk_log.specs.declared.stored.Stored.TheVariants.{Base};
+ghost use Rattle.lk_state.specs.Meanings.{meaning};
+ghost use Rattle.lk_history.specs.Datagrams.{NodeMessage};
+ghost use Rattle.lk_learner.specs.Learners.{executed};
+ghost use Rattle.lk_node.specs.Calls.{NodeFits, Goes};
+ghost use Rattle.lk_node.specs.Executing.{NothingToRun};
+ghost use Rattle.lk_node.specs.Histories.{History, Genesis};
+ghost use Rattle.lk_node.specs.Holdings.{Holding};
+ghost use Rattle.lk_node.specs.Keeping.{Stands};
+ghost use Rattle.lk_node.specs.Leavings.{DisksFit, AllCover};
+ghost use Rattle.lk_node.specs.Packing.{standing_of, standing_here};
+ghost use Rattle.lk_replica.specs.Compacting.{AllStandAt, IsDue, IsSameStore, RebasesWhereDue};
+ghost use Rattle.lk_replica.specs.Faults.{fault_number, IfSend};
+
+use crate::fault::ReplicaFault;
+use crate::replica::Replica;
+use lk_disk::LogDisk;
+use lk_log::Store;
+use lk_node::Node;
+use lk_state::Machine;
+
+// Writes what the node holds as the Base of the other file, and goes over to it: a snapshot of all that was executed takes
+// the place of the commands and the votes up to there. Nothing is sent.
+pub fn write_base<M: Machine, D: LogDisk + Drop>(
+    node: &mut Node<M>,
+    store: &mut Store<D>,
+) -> Result<(), ReplicaFault>
+    ensures goes { D.is_honest → (h : History) (n : ℕ) → NodeFits (meaning M.first M.next M.answer) h n (Stands (meaning M.first M.next M.answer) node.old store.old h.genesis n) (disks store.old)
+        → OnOk result (Goes (meaning M.first M.next M.answer) h n (Stands (meaning M.first M.next M.answer) node.new store.new h.genesis n) (disks store.new) [] []) }
+    ensures ends { D.is_honest → (h : History) (n : ℕ) → NodeFits (meaning M.first M.next M.answer) h n (Stands (meaning M.first M.next M.answer) node.old store.old h.genesis n) (disks store.old)
+        → DisksFit (meaning M.first M.next M.answer) h n (disks store.new) }
+    ensures covers { D.is_honest → (genesis : Genesis) (n : ℕ) (held : Holding) (x : NodeMessage) → Stands (meaning M.first M.next M.answer) node.old store.old genesis n held
+        → AllCover (meaning M.first M.next M.answer) genesis n (disks store.old) x → AllCover (meaning M.first M.next M.answer) genesis n (disks store.new) x }
+    ensures stands { D.is_honest → (genesis : Genesis) (n : ℕ) (held : Holding) → Stands (meaning M.first M.next M.answer) node.old store.old genesis n held
+        → OnOk result (AllStandAt (meaning M.first M.next M.answer) genesis n (disks store.new) (executed node.new.learner)) }
+    ensures shows { D.is_honest → (genesis : Genesis) (n : ℕ) (held : Holding) → Stands (meaning M.first M.next M.answer) node.old store.old genesis n held
+        → OnOk result ((x : Holding) × Stands (meaning M.first M.next M.answer) node.new store.new genesis n x) }
+    ensures becomes { OnOk result (node.new ≡ standing_here node.old) }
+    ensures writes { D.is_honest → (ks ls : List Stored) → Holds store.old ks ls → OnOk result (Holds store.new (Base (next_base store.old (standing_of node.old)) ∷ []) []) }
+    ensures runs { NothingToRun node.old → OnOk result (NothingToRun node.new) }
+    ensures alive { OnOk result (store.new.failed ≡ false) }
+    ensures only { IfErr result (IfSend (λ notes. ⊥)) }
+    ensures failed_before { store.old.failed ≡ false → store.old.generation < max_count → IsErrOf result ReplicaFault.Failed → ⊥ }
+    ensures cause { IfErr result (λ e. fault_number e ≡ 7 → min (store.old.failures + 1) (2 ^ 64 - 1) ≤ store.new.failures) }
+    ensures later { OnOk result (store.old.failures ≤ store.new.failures) }
+    // After any exit neither file is longer than it was, or else than a Base; at Ok the live one is no longer than a Base.
+    ensures room { D.is_honest → StaysWithin max_base (disks store.old) (disks store.new) }
+    ensures short { D.is_honest → OnOk result (length (contents store.new.live_disk) ≤ max_base) }
+{
+    let standing = node.standing()?;
+    store.rebase(&standing)?;
+    node.stand_here();
+    Ok(())
+}
+
+// Whether a rebase is due: the live file has grown to half of what a file may hold, or 256 positions are executed above the
+// snapshot.
+fn is_due<M: Machine, D: LogDisk + Drop>(
+    node: &Node<M>,
+    store: &mut Store<D>,
+) -> Result<bool, ReplicaFault>
+    ensures value { D.is_honest → IfOk result (λ due. IsTrue due ↔ IsDue node.now store.old) }
+    ensures same { D.is_honest → IsSameStore store.old store.new }
+    ensures generation { store.new.generation ≡ store.old.generation }
+    ensures alive { OnOk result (store.new.failed ≡ false) }
+    ensures only { IfErr result (IfSend (λ notes. ⊥)) }
+    ensures failed_before { store.old.failed ≡ false → IsErrOf result ReplicaFault.Failed → ⊥ }
+    ensures cause { IfErr result (λ e. fault_number e ≡ 7 → min (store.old.failures + 1) (2 ^ 64 - 1) ≤ store.new.failures) }
+    ensures later { OnOk result (store.old.failures ≤ store.new.failures) }
+    ensures small { D.is_honest → IfOk result (λ due. due ≡ false → length (contents store.new.live_disk) < 131072) }
+{
+    let length = store.live_length()?;
+    Ok(length >= 131_072 || node.is_far())
+}
+
+// Writes the node's Base where that is due.
+pub fn rebase_where_due<M: Machine, D: LogDisk + Drop>(
+    node: &mut Node<M>,
+    store: &mut Store<D>,
+) -> Result<(), ReplicaFault>
+    ensures goes { D.is_honest → (h : History) (n : ℕ) → NodeFits (meaning M.first M.next M.answer) h n (Stands (meaning M.first M.next M.answer) node.old store.old h.genesis n) (disks store.old)
+        → OnOk result (NodeFits (meaning M.first M.next M.answer) h n (Stands (meaning M.first M.next M.answer) node.new store.new h.genesis n) (disks store.new)) }
+    ensures ends { D.is_honest → (h : History) (n : ℕ) → NodeFits (meaning M.first M.next M.answer) h n (Stands (meaning M.first M.next M.answer) node.old store.old h.genesis n) (disks store.old)
+        → DisksFit (meaning M.first M.next M.answer) h n (disks store.new) }
+    ensures covers { D.is_honest → (genesis : Genesis) (n : ℕ) (held : Holding) (x : NodeMessage) → Stands (meaning M.first M.next M.answer) node.old store.old genesis n held
+        → AllCover (meaning M.first M.next M.answer) genesis n (disks store.old) x → AllCover (meaning M.first M.next M.answer) genesis n (disks store.new) x }
+    ensures shows { D.is_honest → (genesis : Genesis) (n : ℕ) (held : Holding) → Stands (meaning M.first M.next M.answer) node.old store.old genesis n held
+        → OnOk result ((x : Holding) × Stands (meaning M.first M.next M.answer) node.new store.new genesis n x) }
+    ensures exact { D.is_honest → OnOk result (RebasesWhereDue node.old store.old node.new store.new) }
+    ensures runs { NothingToRun node.old → OnOk result (NothingToRun node.new) }
+    ensures alive { OnOk result (store.new.failed ≡ false) }
+    ensures only { IfErr result (IfSend (λ notes. ⊥)) }
+    ensures failed_before { store.old.failed ≡ false → store.old.generation < max_count → IsErrOf result ReplicaFault.Failed → ⊥ }
+    ensures cause { IfErr result (λ e. fault_number e ≡ 7 → min (store.old.failures + 1) (2 ^ 64 - 1) ≤ store.new.failures) }
+    ensures later { OnOk result (store.old.failures ≤ store.new.failures) }
+    // After any exit neither file is longer than it was, or else than a Base; at Ok the live one is shorter than what makes a rebase due.
+    ensures room { D.is_honest → StaysWithin max_base (disks store.old) (disks store.new) }
+    ensures small { D.is_honest → OnOk result (length (contents store.new.live_disk) < 131072) }
+{
+    let due = is_due(node, store)?;
+    if !due {
+        return Ok(());
+    }
+    write_base(node, store)?;
+    Ok(())
+}
+
+impl<M: Machine, D: LogDisk + Drop> Replica<M, D> {
+    /// Writes a snapshot of all that is executed, in the place of the commands and the votes up to there.
+    ///
+    /// It refuses with `Device` (7), `NoMemory` (8), and at generation 2^48 with `Failed` (11); after that each later call
+    /// answers `Failed` (11).
+    pub fn compact(&mut self) -> Result<(), ReplicaFault>
+        ensures goes { D.is_honest → (h : History) (n : ℕ) → NodeFits (meaning M.first M.next M.answer) h n (Stands (meaning M.first M.next M.answer) self.old.node self.old.store h.genesis n) (disks self.old.store)
+            → OnOk result (Goes (meaning M.first M.next M.answer) h n (Stands (meaning M.first M.next M.answer) self.new.node self.new.store h.genesis n) (disks self.new.store) [] []) }
+        // After any exit each image that a stop may leave fits, and covers what every image covered.
+        ensures ends { D.is_honest → (h : History) (n : ℕ) → NodeFits (meaning M.first M.next M.answer) h n (Stands (meaning M.first M.next M.answer) self.old.node self.old.store h.genesis n) (disks self.old.store)
+            → DisksFit (meaning M.first M.next M.answer) h n (disks self.new.store) }
+        ensures covers { D.is_honest → (genesis : Genesis) (n : ℕ) (held : Holding) (x : NodeMessage) → Stands (meaning M.first M.next M.answer) self.old.node self.old.store genesis n held
+            → AllCover (meaning M.first M.next M.answer) genesis n (disks self.old.store) x → AllCover (meaning M.first M.next M.answer) genesis n (disks self.new.store) x }
+        // At Ok each image stands for a snapshot of all that is executed.
+        ensures stands { D.is_honest → (genesis : Genesis) (n : ℕ) (held : Holding) → Stands (meaning M.first M.next M.answer) self.old.node self.old.store genesis n held
+            → OnOk result (AllStandAt (meaning M.first M.next M.answer) genesis n (disks self.new.store) (executed self.new.node.learner)) }
+        ensures becomes { OnOk result (self.new.node ≡ standing_here self.old.node) }
+        // After any exit neither file is longer than it was, or else than a Base.
+        ensures room { D.is_honest → StaysWithin max_base (disks self.old.store) (disks self.new.store) }
+        ensures alive { OnOk result (self.new.failed ≡ false) }
+    {
+        if self.failed {
+            return Err(ReplicaFault::Failed);
+        }
+        self.failed = true;
+        write_base(&mut self.node, &mut self.store)?;
+        self.failed = false;
+        Ok(())
+    }
+}

@@ -1,0 +1,55 @@
+-- What the disks of a majority keep of a chosen list.
+use Rattle.std.specs.Prelude.{◌≡◌, ℕ, ◌≤◌, ◌⊎◌, List, [], length, Some, Contains}
+use Rattle.lk_types.specs.declared.vote.Vote.{Vote}
+use Rattle.lk_disk.specs.Disk.{Disk}
+use Rattle.lk_disk.specs.Memory.{disk_of}
+use Rattle.lk_disk.specs.declared.device.Side.{Side}
+use Rattle.lk_log.specs.Images.{Image, MayLeaveBoth}
+use Rattle.lk_log.specs.Values.{StandingValue}
+use Rattle.lk_members.specs.Rosters.{members}
+use Rattle.lk_members.specs.Majorities.{IsMajority}
+use Rattle.lk_state.specs.Meanings.{Meaning}
+use Rattle.lk_history.specs.Acceptors.{CoversSent}
+use Rattle.lk_history.specs.Chosen.{command_at, Chosen, IsBeginning}
+use Rattle.lk_node.specs.Histories.{Genesis, Datagram, Command}
+use Rattle.lk_node.specs.Leavings.{header_of, acceptor_of, StandsAs}
+use Rattle.lk_node.specs.Served.{text}
+use Rattle.lk_sim.specs.Seats.{At}
+use Rattle.lk_sim.specs.declared.seat.Seat.{Seat}
+use Rattle.lk_sim.specs.declared.seat.Life.{Life}
+use Rattle.lk_sim.specs.declared.seat.Life.TheVariants.{Up, Down}
+
+-- the disks of a node, up or down
+abbrev pub disks_of : {R : Type 0} → (R → Side → Disk) → Life R → Side → Disk
+disks_of disks (Up r) = disks r
+disks_of disks (Down d) = disk_of d
+
+-- whatever a stop may leave of the node's disks has a standing that is so
+abbrev pub EveryStanding : {R : Type 0} → (R → Side → Disk) → Meaning → Genesis → Seat R → (StandingValue → Type 0) → Type 0
+EveryStanding disks m genesis s Is = (image : Image) → MayLeaveBoth (disks_of disks s.life) image
+    → (x : StandingValue) × StandsAs (header_of genesis s.number) (text m genesis []) image x × Is x
+
+-- it covers all that the node has sent
+abbrev pub CoversAll : {R : Type 0} → (R → Side → Disk) → Meaning → Genesis → List Datagram → Seat R → Type 0
+CoversAll disks m genesis sent s = EveryStanding disks m genesis s (λ x. CoversSent genesis sent s.number (acceptor_of x))
+
+-- the snapshot is the packed text of a beginning of the list, or of a chosen list that goes on from it
+pub record HasPacked (m : Meaning) (genesis : Genesis) (sent : List Datagram) (L : List Command) (x : StandingValue) : Type 0 where
+  pub under : List Command
+  pub chosen : Chosen genesis sent under
+  pub position : length under ≡ x.position
+  pub snapshot : x.snapshot ≡ text m genesis under
+  pub agrees : IsBeginning under L ⊎ IsBeginning L under
+
+-- it keeps the command of the position: the snapshot reaches it, or there is a vote for it
+abbrev pub KeepsCommand : Meaning → Genesis → List Datagram → List Command → ℕ → Command → StandingValue → Type 0
+KeepsCommand m genesis sent L i v x =
+    ((i ≤ x.position) × HasPacked m genesis sent L x)
+    ⊎ ((y : Vote) × Contains x.votes y × (y.position ≡ i) × (y.command ≡ v))
+
+-- a majority of the members that the list names for the position keeps its command so: each was started, and whatever a stop may
+-- leave of its disks does
+pub record IsKeptBy {R : Type 0} (disks : R → Side → Disk) (m : Meaning) (genesis : Genesis) (seats : List (Seat R)) (sent : List Datagram) (L : List Command) (i : ℕ) (v : Command) : Type 0 where
+  pub nodes : List ℕ
+  pub majority : IsMajority nodes (members genesis L i)
+  pub keep : (n : ℕ) → Contains nodes n → (k : ℕ) × (s : Seat R) × At seats k s × (s.number ≡ n) × EveryStanding disks m genesis s (KeepsCommand m genesis sent L i v)
