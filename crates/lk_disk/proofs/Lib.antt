@@ -1,3 +1,2 @@
-mod Counts
 mod Keep
-pub mod Images
+pub mod Devices

@@ -1,5 +1,5 @@
 -- A disk, what the calls of a device do to it, and what a stop may leave.
-use Rattle.std.specs.Prelude.{◌≡◌, ℕ, ◌+◌, ◌-◌, ◌^◌, ◌≤◌, min, List, [], ◌++◌, length, take, Result, IsErr}
+use Rattle.std.specs.Prelude.{◌≡◌, ℕ, ◌+◌, ◌-◌, ◌^◌, ◌≤◌, nat_lt, min, List, [], ◌++◌, length, take, Result, Ok, Err, if◌then◌else◌}
 use Rattle.lk_disk.specs.declared.device.Side.{Side}
 use Rattle.lk_disk.specs.declared.device.Side.TheVariants.{A, B}
 
@@ -46,7 +46,11 @@ pub record CutShort (n : ℕ) (old new : Disk) : Type 0 where
   pub front : contents new ≡ take (length (contents new)) (contents old)
   pub kept : min n (length old.synced) ≤ length new.synced
 
--- failures are counted up to 2^64 - 1: the count never falls, and it rises in a call that fails, unless it stood there
-pub record HasCause {T E : Type 0} (before now : ℕ) (result : Result T E) : Type 0 where
-  pub later : before ≤ now
-  pub rises : IsErr result → min (before + 1) (2 ^ 64 - 1) ≤ now
+-- a count goes up by one, and stays at its greatest value
+abbrev pub one_more : ℕ → ℕ
+one_more n = if nat_lt n (2 ^ 64 - 1) then n + 1 else n
+
+-- a count of failures is one more where the call failed, and the same where it did not
+abbrev pub HasCause : {T E : Type 0} → ℕ → ℕ → Result T E → Type 0
+HasCause before now (Ok _) = now ≡ before
+HasCause before now (Err _) = now ≡ one_more before

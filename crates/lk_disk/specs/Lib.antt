@@ -1,4 +1,5 @@
 pub mod Disk
 pub mod Memory
+pub mod Meters
 pub mod Traps
 pub mod Files

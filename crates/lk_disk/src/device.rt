@@ -1,7 +1,9 @@
 // A device of two disks, each seen as its synced bytes and the unsynced bytes behind them.
 ghost use Rattle.std.specs.Prelude.{◌≡◌, ◌≤◌, ◌<◌, ◌+◌, ℕ, length, slice_range, OnOk, OnErr, IfOk};
 ghost use Rattle.lk_disk.specs.Disk.{Disk, other, contents, appended, flushed, cut_to, AppendsSome, CutShort, HasCause};
+ghost use Rattle.lk_disk.specs.Meters.{Calls, Reads};
 ghost use Rattle.lk_disk.specs.declared.device.Side.{Side};
+ghost use Rattle.lk_disk.specs.declared.meter.Meter.{Meter};
 
 use thiserror::Error;
 
@@ -30,7 +32,7 @@ impl DeviceFault {
 ///
 /// The bytes up to some point are synced: they outlast a stop, which may take the unsynced bytes behind them from some
 /// byte on. What is said of the disks holds where the device is honest. An `Err` is counted in any case: the count of
-/// failures rose in that call, or stood at 2^64 - 1.
+/// failures is one more then, up to 2^64 - 1, and the same at `Ok`.
 pub trait LogDisk {
     /// The two disks.
     ghost disk: { Self → Side → Disk };
@@ -41,10 +43,18 @@ pub trait LogDisk {
     /// How often a call has failed.
     ghost failures: { Self → ℕ };
 
+    /// What makes it fail.
+    ghost meter: { Self → Meter };
+
+    /// It counts its calls and fails as its meter tells, for want of memory or past the end of a disk, and by nothing else. It is
+    /// a fact of the kind of device, so no call can end it.
+    ghost is_metered: { Type 0 };
+
     /// The number of bytes of a disk, synced or not.
     fn length(&mut self, side: Side) -> Result<usize, DeviceFault>
         ensures value { is_honest → IfOk result (λ n. n ≡ length (contents (disk self.old side))) }
         ensures unchanged { is_honest → (s : Side) → disk self.new s ≡ disk self.old s }
+        ensures metered { is_metered → Reads (meter self.old) (meter self.new) result }
         ensures cause { HasCause (failures self.old) (failures self.new) result };
 
     /// Fills the buffer with the bytes from the offset on. A read past the end fails. After an `Err` the buffer may hold
@@ -53,6 +63,7 @@ pub trait LogDisk {
         ensures value { is_honest → OnOk result (buffer.new ≡ slice_range (contents (disk self.old side)) offset (offset + length buffer.old)) }
         ensures within { is_honest → OnOk result (offset + length buffer.old ≤ length (contents (disk self.old side))) }
         ensures unchanged { is_honest → (s : Side) → disk self.new s ≡ disk self.old s }
+        ensures metered { is_honest → is_metered → offset + length buffer.old ≤ length (contents (disk self.old side)) → Reads (meter self.old) (meter self.new) result }
         ensures cause { HasCause (failures self.old) (failures self.new) result };
 
     /// Adds a piece at the end, unsynced. A failed call adds a beginning of it.
@@ -60,6 +71,7 @@ pub trait LogDisk {
         ensures ok { is_honest → OnOk result (disk self.new side ≡ appended (disk self.old side) piece.now) }
         ensures err { is_honest → OnErr result (AppendsSome piece.now (disk self.old side) (disk self.new side)) }
         ensures beside { is_honest → disk self.new (other side) ≡ disk self.old (other side) }
+        ensures metered { is_metered → Calls (meter self.old) (meter self.new) result }
         ensures cause { HasCause (failures self.old) (failures self.new) result };
 
     /// Makes all bytes synced. A failed call changes nothing.
@@ -67,6 +79,7 @@ pub trait LogDisk {
         ensures ok { is_honest → OnOk result (disk self.new side ≡ flushed (disk self.old side)) }
         ensures err { is_honest → OnErr result (disk self.new side ≡ disk self.old side) }
         ensures beside { is_honest → disk self.new (other side) ≡ disk self.old (other side) }
+        ensures metered { is_metered → Calls (meter self.old) (meter self.new) result }
         ensures cause { HasCause (failures self.old) (failures self.new) result };
 
     /// Leaves the first `len` bytes, all of them synced. A failed call leaves those that are synced of them, and may
@@ -77,5 +90,6 @@ pub trait LogDisk {
         ensures err { is_honest → OnErr result (CutShort len (disk self.old side) (disk self.new side)) }
         ensures past_end { is_honest → length (contents (disk self.old side)) < len → disk self.new side ≡ disk self.old side }
         ensures beside { is_honest → disk self.new (other side) ≡ disk self.old (other side) }
+        ensures metered { is_honest → is_metered → len ≤ length (contents (disk self.old side)) → Calls (meter self.old) (meter self.new) result }
         ensures cause { HasCause (failures self.old) (failures self.new) result };
 }

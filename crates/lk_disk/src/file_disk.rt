@@ -1,7 +1,7 @@
 // A device of two files.
 ghost use Rattle.std.specs.Prelude.{◌≡◌, ◌≤◌, ◌<◌, ◌+◌, length, slice_range, IsFalse, OnOk, OnErr, IfOk};
-ghost use Rattle.lk_disk.specs.Disk.{contents, appended, flushed, cut_to, other, AppendsSome, CutShort};
-ghost use Rattle.lk_disk.specs.Memory.{one_more};
+ghost use Rattle.lk_disk.specs.Disk.{contents, appended, flushed, cut_to, other, one_more, AppendsSome, CutShort};
+ghost use Rattle.lk_disk.specs.Meters.{fresh};
 ghost use Rattle.lk_disk.specs.Files.{FilePair, IsWhole, disk_at};
 ghost use Rattle.lk_disk.specs.declared.device.Side.{Side};
 
@@ -64,13 +64,17 @@ impl<F: AppendFile + Drop> FileDisk<F> {
     }
 }
 
-#[tactic(auto, using(crate::proofs::Counts::has_cause))]
 impl<F: AppendFile + Drop> LogDisk for FileDisk<F> {
     ghost disk = { disk_at };
 
     ghost is_honest = { F.is_honest };
 
     ghost failures = { λ p. p.failures };
+
+    // What a file fails by is not told.
+    ghost meter = { λ _. fresh };
+
+    ghost is_metered = { ⊥ };
 
     fn length(&mut self, side: Side) -> Result<usize, DeviceFault> {
         let length = match side {

@@ -8,6 +8,7 @@ mod file_disk;
 mod file_in_memory;
 mod memory;
 mod memory_file;
+mod meter;
 mod system_file;
 mod trap;
 mod used_file;

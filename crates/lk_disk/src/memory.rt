@@ -1,12 +1,14 @@
 // A device in memory, which can be made to fail.
-ghost use Rattle.std.specs.Prelude.{◌≡◌, ◌⊎◌, ◌≤◌, ◌<◌, ◌+◌, ℕ, [], None, Some, length, false, ⊤, slice_range, IsTrue, IsFalse, IsOk, IsErr, IfOk, OnOk, OnErr, MatchResult};
-ghost use Rattle.lk_disk.specs.Disk.{MayLeave, AppendsSome, CutShort, HasCause, other, contents, appended, flushed, cut_to, kept_by};
-ghost use Rattle.lk_disk.specs.Memory.{disk_of, with_disk, is_refused, is_unread, stopping, asked, cut_within, called, failed, refused, wanting};
+ghost use Rattle.std.specs.Prelude.{◌≡◌, ◌⊎◌, ◌≤◌, ◌<◌, ◌+◌, ℕ, None, Some, Ok, length, true, false, ⊤, slice_range, IsTrue, IsFalse, IsOk, IsErr, IfOk, OnOk, OnErr, MatchResult};
+ghost use Rattle.lk_disk.specs.Disk.{MayLeave, AppendsSome, CutShort, HasCause, other, contents, appended, flushed, cut_to};
+ghost use Rattle.lk_disk.specs.Memory.{empty, disk_of, with_disk, counted, heeded, cut_within, failed, refused, wanting, stopped};
+ghost use Rattle.lk_disk.specs.Meters.{is_refused, is_unread, Calls, Reads, trapped, stopping};
 ghost use Rattle.lk_disk.specs.Traps.{stops_next};
 ghost use Rattle.lk_disk.specs.declared.device.Side.{Side};
 
 use crate::device::{DeviceFault, LogDisk, Side};
 use crate::memory_file::MemoryFile;
+use crate::meter::Meter;
 use crate::trap::{Trap, Trapped};
 use std::alloc::{AllocError, Global};
 use std::marker::Model;
@@ -20,15 +22,8 @@ use std::marker::Model;
 pub struct MemoryDisk {
     a: MemoryFile,
     b: MemoryFile,
-    trap: Trap,
-    // the changing calls that still pass
-    fuse: Option<u64>,
-    // the reading call from now that fails; 0 where none does
-    unread: u64,
-    calls: u64,
+    meter: Meter,
     failures: u64,
-    sprung: bool,
-    starved: bool,
 }
 
 impl Model for MemoryDisk {
@@ -36,74 +31,45 @@ impl Model for MemoryDisk {
 
     ghost Value = { Memory };
 
-    ghost view = { λ d. record {
-      a = d.a;
-      b = d.b;
-      trap = d.trap;
-      fuse = d.fuse;
-      unread = d.unread;
-      calls = d.calls;
-      failures = d.failures;
-      sprung = d.sprung;
-      starved = d.starved;
-    } };
+    ghost view = { λ d. record { a = d.a; b = d.b; meter = d.meter; failures = d.failures } };
 }
 
 impl MemoryDisk {
     /// Two empty disks, which nothing makes fail.
     pub fn new(alloc: Global) -> Self
-        ensures a { result.a ≡ record { synced = []; unsynced = [] } }
-        ensures b { result.b ≡ record { synced = []; unsynced = [] } }
-        ensures trap { result.trap ≡ Trap.Off }
-        ensures fuse { result.fuse ≡ None }
-        ensures unread { result.unread ≡ 0 }
-        ensures calls { result.calls ≡ 0 }
-        ensures failures { result.failures ≡ 0 }
-        ensures sprung { IsFalse result.sprung }
-        ensures starved { IsFalse result.starved }
+        ensures { result ≡ empty }
     {
         MemoryDisk {
             a: MemoryFile::new(alloc),
             b: MemoryFile::new(alloc),
-            trap: Trap::Off,
-            fuse: None,
-            unread: 0,
-            calls: 0,
+            meter: Meter::new(),
             failures: 0,
-            sprung: false,
-            starved: false,
         }
     }
 
     /// A stop that keeps up to `x` of the unsynced bytes of A and up to `y` of those of B. What is left is synced; the
     /// trap and the fuse are gone.
     pub fn stop(&mut self, x: usize, y: usize)
-        ensures after { self.new ≡ record self.old {
-          a = kept_by x self.old.a;
-          b = kept_by y self.old.b;
-          trap = Trap.Off;
-          fuse = None;
-        } }
+        ensures after { self.new ≡ stopped x y self.old }
         ensures image { (s : Side) → MayLeave (disk_of self.old s) (contents (disk_of self.new s)) }
     {
         self.a.stop(x);
         self.b.stop(y);
-        self.trap = Trap::Off;
-        self.fuse = None;
+        self.meter.ease();
     }
 
     /// Lets so many changing calls pass, and fails all later ones until a stop or another fuse.
     pub fn fuse(&mut self, calls: u64)
-        ensures { self.new ≡ record self.old { fuse = Some calls } }
+        ensures { self.new ≡ record self.old { meter = record self.old.meter { fuse = Some calls } } }
     {
-        self.fuse = Some(calls);
+        self.meter.fuse = Some(calls);
     }
 
     /// Makes the reading call of that number (a `length` or a `read_into`, counted from 1 from now on) fail once. None has number 0.
     pub fn fail_read(&mut self, count: u64)
-        ensures { self.new ≡ record self.old { unread = count } }
+        ensures { self.new ≡ record self.old { meter = record self.old.meter { unread = count } } }
     {
-        self.unread = count;
+        self.meter.unread = count;
     }
 
     /// The number of bytes of A and of B, synced or not.
@@ -116,72 +82,60 @@ impl MemoryDisk {
 
     /// The number of changing calls so far, failed ones among them. At 2^64 - 1 it stays.
     pub fn calls(&self) -> u64
-        ensures { result ≡ self.now.calls }
+        ensures { result ≡ self.now.meter.calls }
     {
-        self.calls
+        self.meter.calls
     }
 
     /// Whether the trap went off since it was last set.
     pub fn sprung(&self) -> bool
-        ensures { result ≡ self.now.sprung }
+        ensures { result ≡ self.now.meter.sprung }
     {
-        self.sprung
+        self.meter.sprung
     }
 
     /// The trap that is pending: of an armed one what is left of its count.
     pub fn pending(&self) -> Trap
-        ensures { result ≡ self.now.trap }
+        ensures { result ≡ self.now.meter.trap }
     {
-        self.trap
+        self.meter.trap
     }
 
     /// For how many bytes it has come to an armed stop since the trap was last set, if it has.
     pub fn stopping(&self) -> Option<usize>
-        ensures { result ≡ stopping self.now }
+        ensures { result ≡ stopping self.now.meter }
     {
-        match self.trap {
-            Trap::Arm(_, bytes) if self.sprung => Some(bytes),
-            _ => None,
-        }
+        self.meter.stopping()
     }
 
     /// Whether memory was refused since the trap was last set.
     pub fn starved(&self) -> bool
-        ensures { result ≡ self.now.starved }
+        ensures { result ≡ self.now.meter.starved }
     {
-        self.starved
+        self.meter.starved
     }
 
     // Counts a changing call, which the trap or the fuse may fail, and tells for how many bytes it is an armed stop, if it is one.
     fn begin(&mut self) -> Result<Option<usize>, DeviceFault>
-        ensures ok { OnOk result (IsFalse (is_refused self.old) × (self.new ≡ called self.old)) }
-        ensures stop { IfOk result (λ stop. stop ≡ stops_next self.old.trap) }
-        ensures err { OnErr result (IsTrue (is_refused self.old) × (self.new ≡ refused self.old)) }
+        ensures ok { OnOk result ((is_refused self.old.meter ≡ false) × (self.new ≡ counted self.old)) }
+        ensures stop { IfOk result (λ stop. stop ≡ stops_next self.old.meter.trap) }
+        ensures err { OnErr result ((is_refused self.old.meter ≡ true) × (self.new ≡ refused self.old)) }
     {
-        self.calls = self.calls.saturating_add(1);
-        let stop = self.trap.stops_next();
-        let is_due = self.trap.pass();
-        let is_blown = self.fuse == Some(0);
-        self.fuse = match stop {
-            Some(_) => Some(0),
-            None => self.fuse.map(|passes| passes.saturating_sub(1)),
-        };
-        self.sprung = self.sprung || is_due;
-        if (is_due && stop.is_none()) || is_blown {
-            Err(self.fail())
-        } else {
-            Ok(stop)
+        match self.meter.call() {
+            Ok(stop) => Ok(stop),
+            Err(DeviceFault) => Err(self.fail()),
         }
     }
 
     // Counts a reading call, which may have to fail.
     fn ask(&mut self) -> Result<(), DeviceFault>
-        ensures ok { OnOk result (IsFalse (is_unread self.old) × (self.new ≡ asked self.old)) }
-        ensures err { OnErr result (IsTrue (is_unread self.old) × (self.new ≡ failed (asked self.old))) }
+        ensures ok { OnOk result ((is_unread self.old.meter ≡ false) × (self.new ≡ heeded self.old)) }
+        ensures err { OnErr result ((is_unread self.old.meter ≡ true) × (self.new ≡ failed (heeded self.old))) }
     {
-        let is_unread = self.unread == 1;
-        self.unread = self.unread.saturating_sub(1);
-        if is_unread { Err(self.fail()) } else { Ok(()) }
+        match self.meter.read() {
+            Ok(()) => Ok(()),
+            Err(DeviceFault) => Err(self.fail()),
+        }
     }
 
     // Counts a failure.
@@ -230,7 +184,6 @@ impl MemoryDisk {
     }
 }
 
-#[tactic(auto, using(crate::proofs::Counts::has_cause))]
 impl LogDisk for MemoryDisk {
     ghost disk = { disk_of };
 
@@ -238,21 +191,25 @@ impl LogDisk for MemoryDisk {
 
     ghost failures = { λ m. m.failures };
 
+    ghost meter = { λ m. m.meter };
+
+    ghost is_metered = { ⊤ };
+
     fn length(&mut self, side: Side) -> Result<usize, DeviceFault>
-        ensures refused { IsTrue (is_unread self.old) → IsErr result × (self.new ≡ failed (asked self.old)) }
-        ensures passed { IsFalse (is_unread self.old) → (result ≡ Ok (length (contents (disk_of self.old side)))) × (self.new ≡ asked self.old) }
+        ensures refused { IsTrue (is_unread self.old.meter) → IsErr result × (self.new ≡ failed (heeded self.old)) }
+        ensures passed { IsFalse (is_unread self.old.meter) → (result ≡ Ok (length (contents (disk_of self.old side)))) × (self.new ≡ heeded self.old) }
     {
         self.ask()?;
         Ok(self.len_of(side))
     }
 
     fn read_into(&mut self, side: Side, offset: usize, buffer: &mut [u8]) -> Result<(), DeviceFault>
-        ensures refused { IsTrue (is_unread self.old) → IsErr result }
+        ensures refused { IsTrue (is_unread self.old.meter) → IsErr result }
         ensures past_end { length (contents (disk_of self.old side)) < offset + length buffer.old → IsErr result }
-        ensures passed { IsFalse (is_unread self.old) → offset + length buffer.old ≤ length (contents (disk_of self.old side)) → IsOk result }
+        ensures passed { IsFalse (is_unread self.old.meter) → offset + length buffer.old ≤ length (contents (disk_of self.old side)) → IsOk result }
         ensures value { OnOk result (buffer.new ≡ slice_range (contents (disk_of self.old side)) offset (offset + length buffer.old)) }
-        ensures ok { OnOk result (self.new ≡ asked self.old) }
-        ensures err { OnErr result ((self.new ≡ failed (asked self.old)) × (buffer.new ≡ buffer.old)) }
+        ensures ok { OnOk result (self.new ≡ heeded self.old) }
+        ensures err { OnErr result ((self.new ≡ failed (heeded self.old)) × (buffer.new ≡ buffer.old)) }
     {
         self.ask()?;
         let is_read = match side {
@@ -262,20 +219,20 @@ impl LogDisk for MemoryDisk {
         if is_read { Ok(()) } else { Err(self.fail()) }
     }
 
-    #[tactic(auto, using(crate::proofs::Counts::has_cause, crate::proofs::Keep::appends_all))]
+    #[tactic(auto, using(crate::proofs::Keep::appends_all))]
     fn append(&mut self, side: Side, piece: &[u8]) -> Result<(), DeviceFault>
         ensures err { OnErr result (AppendsSome piece.now (disk_of self.old side) (disk_of self.new side)) }
         ensures cause { HasCause self.old.failures self.new.failures result }
-        ensures refused { IsTrue (is_refused self.old) → IsErr result × (self.new ≡ refused self.old) }
-        ensures stopped { IsFalse (is_refused self.old) → (bytes : ℕ) → stops_next self.old.trap ≡ Some bytes → IsErr result
-            × ((self.new ≡ failed (with_disk side (appended (disk_of self.old side) piece.now) (called self.old))) ⊎ (self.new ≡ wanting self.old)) }
-        ensures passed { IsFalse (is_refused self.old) → stops_next self.old.trap ≡ None → MatchResult result
-            (λ _. self.new ≡ with_disk side (appended (disk_of self.old side) piece.now) (called self.old))
+        ensures refused { IsTrue (is_refused self.old.meter) → IsErr result × (self.new ≡ refused self.old) }
+        ensures stopped { IsFalse (is_refused self.old.meter) → (bytes : ℕ) → stops_next self.old.meter.trap ≡ Some bytes → IsErr result
+            × ((self.new ≡ failed (with_disk side (appended (disk_of self.old side) piece.now) (counted self.old))) ⊎ (self.new ≡ wanting self.old)) }
+        ensures passed { IsFalse (is_refused self.old.meter) → stops_next self.old.meter.trap ≡ None → MatchResult result
+            (λ _. self.new ≡ with_disk side (appended (disk_of self.old side) piece.now) (counted self.old))
             (λ _. self.new ≡ wanting self.old) }
     {
         let stop = self.begin()?;
         if self.grow(side, piece).is_err() {
-            self.starved = true;
+            self.meter.starved = true;
             return Err(self.fail());
         }
         match stop {
@@ -285,10 +242,10 @@ impl LogDisk for MemoryDisk {
     }
 
     fn sync(&mut self, side: Side) -> Result<(), DeviceFault>
-        ensures refused { IsTrue (is_refused self.old) → IsErr result × (self.new ≡ refused self.old) }
-        ensures stopped { IsFalse (is_refused self.old) → (bytes : ℕ) → stops_next self.old.trap ≡ Some bytes → IsErr result × (self.new ≡ refused self.old) }
-        ensures passed { IsFalse (is_refused self.old) → stops_next self.old.trap ≡ None → IsOk result
-            × (self.new ≡ with_disk side (flushed (disk_of self.old side)) (called self.old)) }
+        ensures refused { IsTrue (is_refused self.old.meter) → IsErr result × (self.new ≡ refused self.old) }
+        ensures stopped { IsFalse (is_refused self.old.meter) → (bytes : ℕ) → stops_next self.old.meter.trap ≡ Some bytes → IsErr result × (self.new ≡ refused self.old) }
+        ensures passed { IsFalse (is_refused self.old.meter) → stops_next self.old.meter.trap ≡ None → IsOk result
+            × (self.new ≡ with_disk side (flushed (disk_of self.old side)) (counted self.old)) }
     {
         match self.begin()? {
             Some(_) => Err(self.fail()),
@@ -299,18 +256,19 @@ impl LogDisk for MemoryDisk {
         }
     }
 
-    #[tactic(auto, using(crate::proofs::Counts::has_cause, crate::proofs::Keep::cut_short))]
+    #[tactic(auto, using(crate::proofs::Keep::cut_short))]
     fn cut(&mut self, side: Side, len: usize) -> Result<(), DeviceFault>
-        ensures ok { OnOk result ((len ≤ length (contents (disk_of self.old side))) × (self.new ≡ with_disk side (cut_to len (disk_of self.old side)) (called self.old))) }
+        ensures ok { OnOk result ((len ≤ length (contents (disk_of self.old side))) × (self.new ≡ with_disk side (cut_to len (disk_of self.old side)) (counted self.old))) }
         ensures err { OnErr result (CutShort len (disk_of self.old side) (disk_of self.new side)) }
         ensures beside { disk_of self.new (other side) ≡ disk_of self.old (other side) }
         ensures cause { HasCause self.old.failures self.new.failures result }
-        ensures refused { IsTrue (is_refused self.old) → IsErr result × (self.new ≡ refused self.old) }
+        ensures refused { IsTrue (is_refused self.old.meter) → IsErr result × (self.new ≡ refused self.old) }
+        ensures metered { len ≤ length (contents (disk_of self.old side)) → Calls self.old.meter self.new.meter result }
         ensures past_end { length (contents (disk_of self.old side)) < len → IsErr result × (self.new ≡ refused self.old) }
-        ensures stopped { IsFalse (is_refused self.old) → len ≤ length (contents (disk_of self.old side)) → (bytes : ℕ) → stops_next self.old.trap ≡ Some bytes → IsErr result
-            × (self.new ≡ failed (with_disk side (cut_within len bytes (disk_of self.old side)) (called self.old))) }
-        ensures passed { IsFalse (is_refused self.old) → len ≤ length (contents (disk_of self.old side)) → stops_next self.old.trap ≡ None → IsOk result
-            × (self.new ≡ with_disk side (cut_to len (disk_of self.old side)) (called self.old)) }
+        ensures stopped { IsFalse (is_refused self.old.meter) → len ≤ length (contents (disk_of self.old side)) → (bytes : ℕ) → stops_next self.old.meter.trap ≡ Some bytes → IsErr result
+            × (self.new ≡ failed (with_disk side (cut_within len bytes (disk_of self.old side)) (counted self.old))) }
+        ensures passed { IsFalse (is_refused self.old.meter) → len ≤ length (contents (disk_of self.old side)) → stops_next self.old.meter.trap ≡ None → IsOk result
+            × (self.new ≡ with_disk side (cut_to len (disk_of self.old side)) (counted self.old)) }
     {
         let stop = self.begin()?;
         let size = self.len_of(side);
@@ -332,10 +290,8 @@ impl LogDisk for MemoryDisk {
 
 impl Trapped for MemoryDisk {
     fn trap(&mut self, trap: Trap)
-        ensures { self.new ≡ record self.old { trap = trap; sprung = false; starved = false } }
+        ensures { self.new ≡ record self.old { meter = trapped trap self.old.meter } }
     {
-        self.trap = trap;
-        self.sprung = false;
-        self.starved = false;
+        self.meter.set(trap);
     }
 }

@@ -1,4 +1,5 @@
 ghost use Rattle.std.specs.Prelude.{◌≡◌};
+ghost use Rattle.lk_disk.specs.Meters.{trapped};
 ghost use Rattle.lk_disk.specs.Traps.{is_due, stops_next, trap_behind};
 ghost use Rattle.lk_disk.specs.declared.device.Side.{Side};
 
@@ -56,5 +57,6 @@ pub trait Trapped: LogDisk {
     /// Sets the trap, in place of one that is pending. It changes no disk.
     fn trap(&mut self, trap: Trap)
         ensures unchanged { Self.is_honest → (s : Side) → Self.disk self.new s ≡ Self.disk self.old s }
+        ensures set { Self.is_metered → Self.meter self.new ≡ trapped trap (Self.meter self.old) }
         ensures failures { Self.failures self.new ≡ Self.failures self.old };
 }

@@ -5,6 +5,7 @@ mod Torn
 mod Whole
 mod ImageLaws
 mod Steps
+mod Metering
 mod Settle
 mod InOrder
 mod StandingLaws

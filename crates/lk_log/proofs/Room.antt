@@ -9,7 +9,7 @@ use Rattle.lk_wire.specs.Fields.{four, eight}
 use Rattle.lk_disk.specs.Disk.{Disk, other, contents, appended, flushed, cut_to, AppendsSome, CutShort}
 use Rattle.lk_disk.specs.declared.device.Side.{Side}
 use Rattle.lk_disk.specs.declared.device.Side.TheVariants.{A, B}
-use Rattle.lk_disk.proofs.Images.{contents_may_be_left}
+use Rattle.lk_disk.proofs.Devices.{contents_may_be_left}
 use Rattle.lk_log.specs.Entries.{spelling, spelling_of_all, body, IsEntry, IsStored}
 use Rattle.lk_log.specs.Stores.{plain, IsWrittenOver}
 use Rattle.lk_log.specs.Values.{BaseValue}

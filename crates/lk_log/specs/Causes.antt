@@ -1,5 +1,8 @@
--- Why a call of a store refused.
-use Rattle.std.specs.Prelude.{◌≡◌, ℕ, ◌+◌, ◌-◌, ◌^◌, ◌≤◌, ◌⊎◌, min, Result, IfErr, IsErrOf}
+-- Why a call of a store refused, and what the device tells of it.
+use Rattle.std.specs.Prelude.{◌≡◌, ℕ, ◌+◌, ◌⊎◌, Bool, List, [], ◌∷◌, Result, Ok, Err, IfErr, if◌then◌else◌}
+use Rattle.lk_disk.specs.Disk.{one_more}
+use Rattle.lk_disk.specs.Meters.{Passes, Breaks}
+use Rattle.lk_disk.specs.declared.meter.Meter.{Meter}
 use Rattle.lk_log.specs.declared.fault.StoreFault.{StoreFault}
 use Rattle.lk_log.specs.declared.fault.StoreFault.TheVariants.{Device, NoMemory, Damaged, WrongStore, Failed}
 
@@ -11,12 +14,53 @@ number_of Damaged = 9
 number_of WrongStore = 10
 number_of Failed = 11
 
--- the count of the device's failures never falls, and 7 comes only where it rose, or stood at 2^64 - 1
-pub record IsCounted {T : Type 0} (before now : ℕ) (result : Result T StoreFault) : Type 0 where
-  pub later : before ≤ now
-  pub rises : IsErrOf result Device → min (before + 1) (2 ^ 64 - 1) ≤ now
+-- the count of the device's failures after such a refusal: 7 comes exactly where a call of the device has failed
+abbrev pub failures_after : StoreFault → ℕ → ℕ
+failures_after Device n = one_more n
+failures_after NoMemory n = n
+failures_after Damaged n = n
+failures_after WrongStore n = n
+failures_after Failed n = n
+
+-- so of a call
+abbrev pub IsCounted : {T : Type 0} → ℕ → ℕ → Result T StoreFault → Type 0
+IsCounted before now (Ok _) = now ≡ before
+IsCounted before now (Err e) = now ≡ failures_after e before
 
 -- and nothing but 7 and 8 comes
 pub record IsCaused {T : Type 0} (before now : ℕ) (result : Result T StoreFault) : Type 0 where
   pub counted : IsCounted before now result
   pub only : IfErr result (λ e. (e ≡ Device) ⊎ (e ≡ NoMemory))
+
+-- ---- which calls of a metered device were made
+
+-- so many changing calls passed, or one failed after some
+abbrev pub ComesBy : {T E : Type 0} → Meter → Meter → ℕ → Result T E → Type 0
+ComesBy m n k (Ok _) = Passes m n k
+ComesBy m n k (Err _) = Breaks m n
+
+-- a call of the device failed after some, or some passed and something else was refused
+abbrev pub IsRefusedBy : Meter → Meter → StoreFault → Type 0
+IsRefusedBy m n Device = Breaks m n
+IsRefusedBy m n NoMemory = (k : ℕ) × Passes m n k
+IsRefusedBy m n Damaged = (k : ℕ) × Passes m n k
+IsRefusedBy m n WrongStore = (k : ℕ) × Passes m n k
+IsRefusedBy m n Failed = (k : ℕ) × Passes m n k
+
+-- so many changing calls passed, or it was refused so
+abbrev pub IsMetered : {T : Type 0} → Meter → Meter → ℕ → Result T StoreFault → Type 0
+IsMetered m n k (Ok _) = Passes m n k
+IsMetered m n k (Err e) = IsRefusedBy m n e
+
+-- one call where there is anything to write
+abbrev pub calls_for : {X : Type 0} → List X → ℕ
+calls_for [] = 0
+calls_for (x ∷ xs) = 1
+
+-- an append, where there are entries, and a sync, where one is asked for
+abbrev pub put_calls : {X : Type 0} → List X → Bool → ℕ
+put_calls entries sync = calls_for entries + (if sync then 1 else 0)
+
+-- the other file is cut, the Base is appended and synced, and the old file is cut
+abbrev pub rebase_calls : ℕ
+rebase_calls = 4

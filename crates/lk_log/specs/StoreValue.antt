@@ -1,16 +1,19 @@
 -- What a contract sees of a store.
 use Rattle.std.specs.Prelude.{ℕ, Bool}
 use Rattle.lk_disk.specs.Disk.{Disk}
+use Rattle.lk_disk.specs.Memory.{Memory}
+use Rattle.lk_disk.specs.declared.meter.Meter.{Meter}
 use Rattle.lk_disk.specs.declared.device.Side.{Side}
 use Rattle.lk_disk.specs.declared.device.Side.TheVariants.{A, B}
 use Rattle.lk_log.specs.Values.{HeaderValue}
 
--- the disk of the live file and the other one, how often the device has failed, which side is live, the generation of
+-- the disk of the live file and the other one, how often the device has failed, what makes it fail, which side is live, the generation of
 -- its Base, whose store it is, and whether the store refuses all calls
 pub record StoreValue : Type 0 where
   pub live_disk : Disk
   pub other_disk : Disk
   pub failures : ℕ
+  pub meter : Meter
   pub live : Side
   pub generation : ℕ
   pub header : HeaderValue
@@ -26,3 +29,7 @@ pick B here there B = here
 -- the disks of its device
 abbrev pub disks : StoreValue → Side → Disk
 disks s = pick s.live s.live_disk s.other_disk
+
+-- its device, where that is one in memory
+abbrev pub device_of : StoreValue → Memory
+device_of s = record { a = disks s A; b = disks s B; meter = s.meter; failures = s.failures }

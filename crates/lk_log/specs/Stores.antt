@@ -1,5 +1,5 @@
 -- An open store, and what a stop may leave of it.
-use Rattle.std.specs.Prelude.{◌≡◌, ℕ, ◌+◌, ◌<◌, ◌≤◌, ◌⊎◌, Bool, false, IsTrue, List, [], ◌∷◌, ◌++◌, length, take}
+use Rattle.std.specs.Prelude.{◌≡◌, ℕ, ◌+◌, ◌<◌, ◌≤◌, ◌⊎◌, nat_le, Bool, false, IsTrue, List, [], ◌∷◌, ◌++◌, length, take, if◌then◌else◌}
 use Rattle.std.specs.List.{AllByRecursion}
 use Rattle.lk_types.specs.Ballots.{zero_ballot}
 use Rattle.lk_types.specs.Limits.{max_votes}
@@ -79,6 +79,10 @@ KeepsOrIs disks first more b = (image : Image) → MayLeaveBoth disks image
 
 -- ---- an opening
 
+-- a file of that size is cut where its entries end, by no call where nothing stands after them
+abbrev pub cut_calls : ℕ → ℕ → ℕ
+cut_calls end size = if nat_le size end then 0 else 1
+
 -- the Base of a store that is begun
 abbrev pub first_base : HeaderValue → List ℕ → BaseValue
 first_base h zero = record {
@@ -103,6 +107,13 @@ pub record OpensOn (before : Image) (h : HeaderValue) (zero : List ℕ) (live_di
 -- so by an opened store
 abbrev pub Opens : Image → HeaderValue → List ℕ → StoreValue → StandingValue → Type 0
 Opens before h zero s = OpensOn before h zero s.live_disk s.other_disk s.generation
+
+-- how many changing calls of the device an opening makes: three where it begins a store, and else a cut, where something is torn,
+-- and a sync
+abbrev pub OpensBy : Image → ℕ → Type 0
+OpensBy before k =
+    (IsEmpty before × (k ≡ 3))
+    ⊎ ((live : Side) × (es : List Stored) × IsLive before es × IsFile (before live) es false × (k ≡ cut_calls (length (spelling_of_all es)) (length (before live)) + 1))
 
 -- whole entries with one Base, in front: those that stand for something
 pub record MayStand (es : List Stored) : Type 0 where

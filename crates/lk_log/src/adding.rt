@@ -1,7 +1,7 @@
 // Adding entries to the live file of a device.
 ghost use Rattle.std.specs.Prelude.{◌≡◌, ◌≤◌, ◌+◌, ◌*◌, ◌++◌, List, [], length, take, true, false, OnOk, OnErr, IsErrOf};
 ghost use Rattle.lk_disk.specs.Disk.{other, contents, appended, AppendsSome, HasCause};
-ghost use Rattle.lk_log.specs.Causes.{IsCaused};
+ghost use Rattle.lk_log.specs.Causes.{IsCaused, ComesBy, IsMetered, calls_for, put_calls};
 ghost use Rattle.lk_log.specs.Images.{Image, MayLeaveBoth, IsLive};
 ghost use Rattle.lk_log.specs.StoreValue.{pick};
 ghost use Rattle.lk_log.specs.Stores.{plain, HoldsOn, KeepsAtLeastOn};
@@ -19,6 +19,7 @@ fn append_some<D: LogDisk>(device: &mut D, side: Side, bytes: &[u8]) -> Result<(
     ensures err { D.is_honest → OnErr result (AppendsSome bytes.now (D.disk device.old side) (D.disk device.new side)) }
     ensures beside { D.is_honest → D.disk device.new (other side) ≡ D.disk device.old (other side) }
     ensures cause { HasCause (D.failures device.old) (D.failures device.new) result }
+    ensures metered { D.is_metered → ComesBy (D.meter device.old) (D.meter device.new) (calls_for bytes.now) result }
 {
     if bytes.is_empty() {
         return Ok(());
@@ -45,6 +46,7 @@ pub fn add<D: LogDisk>(
     // Whatever it comes to, it adds no more bytes than so many entries have, each at most 102.
     ensures grows { D.is_honest → length (contents (D.disk device.new live)) ≤ length (contents (D.disk device.old live)) + 102 * length entries.now }
     ensures cause { IsCaused (D.failures device.old) (D.failures device.new) result }
+    ensures metered { D.is_metered → IsMetered (D.meter device.old) (D.meter device.new) (put_calls entries.now sync) result }
 {
     entries_facts(entries);
     let bytes = spelled(alloc, entries)?;

@@ -2,7 +2,7 @@
 ghost use Rattle.std.specs.Prelude.{◌≡◌, ◌++◌, length, false, IfOk, IfErr};
 ghost use Rattle.std.specs.List.{AllByRecursion};
 ghost use Rattle.lk_disk.specs.Disk.{contents};
-ghost use Rattle.lk_log.specs.Causes.{IsCaused};
+ghost use Rattle.lk_log.specs.Causes.{IsCaused, IsMetered};
 ghost use Rattle.lk_log.specs.Entries.{spelling_of_all, IsStored};
 ghost use Rattle.lk_log.specs.Files.{is_torn, IsFile};
 ghost use Rattle.lk_log.specs.Images.{generation, is_misplaced, has_base};
@@ -74,6 +74,7 @@ fn read_bytes<D: LogDisk>(alloc: Global, device: &mut D, side: Side) -> Result<V
     ensures unchanged { D.is_honest → (s : _) → D.disk device.new s ≡ D.disk device.old s }
     ensures value { D.is_honest → IfOk result (λ v. v.items ≡ contents (D.disk device.old side)) }
     ensures cause { IsCaused (D.failures device.old) (D.failures device.new) result }
+    ensures metered { D.is_metered → D.is_honest → IsMetered (D.meter device.old) (D.meter device.new) 0 result }
 {
     let count = device.length(side)?;
     let mut bytes = vec![in alloc; 0; count]?;
@@ -89,6 +90,7 @@ pub fn read_file<D: LogDisk>(alloc: Global, device: &mut D, side: Side) -> Resul
     ensures end { IfOk result (λ f. f.end ≡ length (spelling_of_all f.entries.items)) }
     ensures size { D.is_honest → IfOk result (λ f. f.size ≡ length (contents (D.disk device.old side))) }
     ensures cause { IsCaused (D.failures device.old) (D.failures device.new) result }
+    ensures metered { D.is_metered → D.is_honest → IsMetered (D.meter device.old) (D.meter device.new) 0 result }
 {
     let bytes = read_bytes(alloc, device, side)?;
     file_of(alloc, &bytes)

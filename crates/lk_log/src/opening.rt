@@ -1,12 +1,12 @@
 // Opening a store that a stop may have left.
-ghost use Rattle.std.specs.Prelude.{◌≡◌, List, [], ◌∷◌, false, length, IfOk, IfErr, IfSome, OnOk, IsErrOf, Ok};
+ghost use Rattle.std.specs.Prelude.{◌≡◌, ◌+◌, List, [], ◌∷◌, false, length, IfOk, IfErr, IfSome, OnOk, IsErrOf, Ok};
 ghost use Rattle.lk_disk.specs.Disk.{contents, other, flushed, HasCause};
-ghost use Rattle.lk_log.specs.Causes.{IsCaused, IsCounted};
+ghost use Rattle.lk_log.specs.Causes.{IsCaused, IsCounted, ComesBy, IsMetered};
 ghost use Rattle.lk_log.specs.Entries.{spelling_of_all};
 ghost use Rattle.lk_log.specs.Files.{IsFile};
 ghost use Rattle.lk_log.specs.Rooms.{StaysWithin};
 ghost use Rattle.lk_log.specs.Images.{unless_damaged, verdict, IsEmpty, IsDamaged, Narrows, seen, is_misplaced, generation};
-ghost use Rattle.lk_log.specs.Stores.{FileNarrows, HoldsOn, IsOlder, FoundLive, MayStand};
+ghost use Rattle.lk_log.specs.Stores.{cut_calls, FileNarrows, HoldsOn, IsOlder, FoundLive, MayStand};
 ghost use Rattle.lk_log.specs.declared.stored.Stored.{Stored};
 
 use crate::fault::StoreFault;
@@ -55,6 +55,7 @@ pub fn find<D: LogDisk>(alloc: Global, device: &mut D) -> Result<Option<(Side, F
     ensures wrong { IsErrOf result StoreFault.WrongStore → ⊥ }
     ensures failed { IsErrOf result StoreFault.Failed → ⊥ }
     ensures cause { IsCounted (D.failures device.old) (D.failures device.new) result }
+    ensures metered { D.is_metered → D.is_honest → IsMetered (D.meter device.old) (D.meter device.new) 0 result }
 {
     let a = read_file(alloc, device, Side::A)?;
     let b = read_file(alloc, device, Side::B)?;
@@ -80,6 +81,8 @@ fn cut_off<D: LogDisk>(
     ensures room { D.is_honest → StaysWithin 0 (D.disk device.old) (D.disk device.new) }
     ensures beside { D.is_honest → D.disk device.new (other live) ≡ D.disk device.old (other live) }
     ensures cause { HasCause (D.failures device.old) (D.failures device.new) result }
+    ensures metered { D.is_metered → D.is_honest → (es : List Stored) → FoundLive (D.disk device.old) live es end size
+        → ComesBy (D.meter device.old) (D.meter device.new) (cut_calls end size) result }
 {
     if size <= end {
         return Ok(());
@@ -101,6 +104,8 @@ pub fn settle<D: LogDisk>(
         → Narrows (D.disk device.old) (D.disk device.new) }
     ensures room { D.is_honest → StaysWithin 0 (D.disk device.old) (D.disk device.new) }
     ensures cause { IsCaused (D.failures device.old) (D.failures device.new) result }
+    ensures metered { D.is_metered → D.is_honest → (es : List Stored) → FoundLive (D.disk device.old) live es end size
+        → IsMetered (D.meter device.old) (D.meter device.new) (cut_calls end size + 1) result }
 {
     cut_off(device, live, end, size)?;
     device.sync(live)?;

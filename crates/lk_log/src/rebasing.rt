@@ -2,7 +2,7 @@
 ghost use Rattle.std.specs.Prelude.{◌≡◌, ◌<◌, ◌≤◌, List, [], ◌∷◌, length, OnOk, IfErr};
 ghost use Rattle.lk_types.specs.Limits.{max_base};
 ghost use Rattle.lk_disk.specs.Disk.{contents, other};
-ghost use Rattle.lk_log.specs.Causes.{IsCaused};
+ghost use Rattle.lk_log.specs.Causes.{IsCaused, IsMetered, rebase_calls};
 ghost use Rattle.lk_log.specs.Entries.{IsStored, spelling};
 ghost use Rattle.lk_log.specs.Images.{generation};
 ghost use Rattle.lk_log.specs.Rooms.{StaysWithin};
@@ -36,6 +36,7 @@ pub fn go_over<D: LogDisk>(device: &mut D, live: Side, bytes: &[u8]) -> Result<(
     ensures short { D.is_honest → length bytes.now ≤ max_base → OnOk result (length (contents (D.disk device.new (other live))) ≤ max_base) }
     ensures only { IfErr result (λ e. e ≡ StoreFault.Device) }
     ensures cause { IsCaused (D.failures device.old) (D.failures device.new) result }
+    ensures metered { D.is_metered → D.is_honest → IsMetered (D.meter device.old) (D.meter device.new) rebase_calls result }
 {
     let side = other(live);
     write_over(device, side, bytes)?;

@@ -1,16 +1,17 @@
 // Opening a store, and looking at one.
-ghost use Rattle.std.specs.Prelude.{◌≡◌, ◌≤◌, ◌<◌, ◌+◌, ◌-◌, ◌^◌, ◌↔◌, List, ℕ, [], min, true, false, length, IsTrue, IfOk, IfErr, IfSome, OnOk, IsErrOf, Ok};
+ghost use Rattle.std.specs.Prelude.{◌≡◌, ◌≤◌, ◌<◌, ◌+◌, ◌-◌, ◌^◌, ◌↔◌, List, ℕ, [], false, length, IsTrue, IfOk, IfErr, IfSome, OnOk, IsErrOf, MatchResult, Ok};
 ghost use Rattle.lk_disk.specs.Disk.{other};
+ghost use Rattle.lk_disk.specs.Meters.{Passes};
 ghost use Rattle.lk_disk.specs.declared.device.Side.{Side};
 ghost use Rattle.lk_disk.specs.declared.device.Side.TheVariants.{A, B};
 ghost use Rattle.lk_types.specs.Limits.{max_base};
-ghost use Rattle.lk_log.specs.Causes.{IsCaused, IsCounted};
+ghost use Rattle.lk_log.specs.Causes.{IsCaused, IsCounted, failures_after, IsMetered, IsRefusedBy};
 ghost use Rattle.lk_log.specs.Headers.{IsHeader};
 ghost use Rattle.lk_log.specs.Images.{IsEmpty, IsDamaged, seen, generation};
 ghost use Rattle.lk_log.specs.Standings.{HasHeader};
 ghost use Rattle.lk_log.specs.Rooms.{StaysWithin};
 ghost use Rattle.lk_log.specs.StoreValue.{disks};
-ghost use Rattle.lk_log.specs.Stores.{first_base, FoundLive, IsWrittenOver, OpensOn, Opens, IsWrong, Shows, NarrowsOrBegins, MayStand, StandsForSome};
+ghost use Rattle.lk_log.specs.Stores.{first_base, cut_calls, OpensBy, FoundLive, IsWrittenOver, OpensOn, Opens, IsWrong, Shows, NarrowsOrBegins, MayStand, StandsForSome};
 ghost use Rattle.lk_log.specs.declared.stored.Stored.{Stored};
 
 use crate::base::Base;
@@ -46,6 +47,7 @@ pub(crate) fn write_over<D: LogDisk>(
     ensures beside { D.is_honest → D.disk device.new (other side) ≡ D.disk device.old (other side) }
     ensures only { IfErr result (λ e. e ≡ StoreFault.Device) }
     ensures cause { IsCaused (D.failures device.old) (D.failures device.new) result }
+    ensures metered { D.is_metered → D.is_honest → IsMetered (D.meter device.old) (D.meter device.new) 3 result }
 {
     device.cut(side, 0)?;
     device.append(side, bytes)?;
@@ -90,6 +92,7 @@ fn begin<D: LogDisk>(
     ensures in_a { IfOk result (λ o. o.live ≡ A) }
     ensures stands { IfOk result (λ o. StandsForSome o.standing) }
     ensures cause { IsCaused (D.failures device.old) (D.failures device.new) result }
+    ensures metered { D.is_metered → D.is_honest → IsMetered (D.meter device.old) (D.meter device.new) 3 result }
 {
     let base = first_base(alloc, header, zero)?;
     let bytes = spelled_base(alloc, &base)?;
@@ -135,6 +138,8 @@ fn open<D: LogDisk>(
     ensures damaged { IsErrOf result StoreFault.Damaged → ⊥ }
     ensures failed { IsErrOf result StoreFault.Failed → ⊥ }
     ensures cause { IsCounted (D.failures device.old) (D.failures device.new) result }
+    ensures metered { D.is_metered → D.is_honest → FoundLive (D.disk device.old) live file.entries.items file.end file.size
+        → IsMetered (D.meter device.old) (D.meter device.new) (cut_calls file.end file.size + 1) result }
 {
     let File {
         entries,
@@ -176,6 +181,9 @@ fn recover<D: LogDisk>(
     ensures wrong_stays { D.is_honest → IsErrOf result StoreFault.WrongStore → (s : Side) → D.disk device.new s ≡ D.disk device.old s }
     ensures failed { IsErrOf result StoreFault.Failed → ⊥ }
     ensures cause { IsCounted (D.failures device.old) (D.failures device.new) result }
+    ensures metered { D.is_metered → D.is_honest → MatchResult result
+        (λ _. (k : ℕ) × OpensBy (seen (D.disk device.old)) k × Passes (D.meter device.old) (D.meter device.new) k)
+        (λ e. IsRefusedBy (D.meter device.old) (D.meter device.new) e) }
 {
     match find(alloc, device)? {
         Some((live, file)) => open(alloc, device, header, live, file),
@@ -216,9 +224,11 @@ pub fn reopen<D: LogDisk + Drop>(
     ensures wrong { D.is_honest → IfErr result (λ e. e.fault ≡ StoreFault.WrongStore → IsWrong (seen (D.disk device)) header.now) }
     ensures wrong_stays { D.is_honest → IfErr result (λ e. e.fault ≡ StoreFault.WrongStore → (s : Side) → D.disk e.device s ≡ D.disk device s) }
     ensures failed { IfErr result (λ e. e.fault ≡ StoreFault.Failed → ⊥) }
-    ensures later { IfOk result (λ r. D.failures device ≤ r.0.failures) }
-    ensures later_err { IfErr result (λ e. D.failures device ≤ D.failures e.device) }
-    ensures cause { IfErr result (λ e. e.fault ≡ StoreFault.Device → min (D.failures device + 1) (2 ^ 64 - 1) ≤ D.failures e.device) }
+    ensures cause { MatchResult result (λ r. r.0.failures ≡ D.failures device) (λ e. D.failures e.device ≡ failures_after e.fault (D.failures device)) }
+    // Of a metered device it tells which of its calls were made.
+    ensures metered { D.is_metered → D.is_honest → MatchResult result
+        (λ r. (k : ℕ) × OpensBy (seen (D.disk device)) k × Passes (D.meter device) r.0.meter k)
+        (λ e. IsRefusedBy (D.meter device) (D.meter e.device) e.fault) }
 {
     let mut device = device;
     match recover(alloc, &mut device, header, zero) {

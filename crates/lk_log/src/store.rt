@@ -1,9 +1,10 @@
 // The store: entries behind one another in the live file.
-ghost use Rattle.std.specs.Prelude.{◌≡◌, ◌++◌, ◌∷◌, ◌<◌, ◌≤◌, ◌^◌, ◌+◌, ◌-◌, ◌*◌, List, [], min, length, true, false, IfOk, IfErr, OnOk, OnErr, IsErrOf};
+ghost use Rattle.std.specs.Prelude.{◌≡◌, ◌++◌, ◌∷◌, ◌<◌, ◌≤◌, ◌^◌, ◌+◌, ◌-◌, ◌*◌, ◌⊎◌, List, [], length, true, false, IfOk, IfErr, OnOk, OnErr, IsErrOf};
 ghost use Rattle.lk_types.specs.Limits.{max_base, max_count};
 ghost use Rattle.lk_disk.specs.Disk.{contents, other};
+ghost use Rattle.lk_disk.specs.Meters.{trapped};
 ghost use Rattle.lk_disk.specs.declared.device.Side.{Side};
-ghost use Rattle.lk_log.specs.Causes.{IsCaused, IsCounted};
+ghost use Rattle.lk_log.specs.Causes.{IsCounted, IsMetered, put_calls, rebase_calls};
 ghost use Rattle.lk_log.specs.Rooms.{StaysWithin};
 ghost use Rattle.lk_log.specs.StoreValue.{disks};
 ghost use Rattle.lk_log.specs.Stores.{plain, Holds, KeepsAtLeast, MayBegin, next_base, KeepsOrIs};
@@ -43,6 +44,7 @@ impl<D: LogDisk + Drop> Model for Store<D> {
       live_disk = D.disk s.device s.live;
       other_disk = D.disk s.device (other s.live);
       failures = D.failures s.device;
+      meter = D.meter s.device;
       live = s.live;
       generation = s.generation;
       header = s.header;
@@ -75,7 +77,10 @@ impl<D: LogDisk + Drop> Store<D> {
         ensures alive { OnOk result (self.new.failed ≡ false) }
         ensures failed { self.old.failed ≡ true → self.new ≡ self.old }
         ensures refuses { self.old.failed ≡ true → IsErrOf result StoreFault.Failed }
-        ensures cause { self.old.failed ≡ false → IsCaused self.old.failures self.new.failures result }
+        ensures only { self.old.failed ≡ false → IfErr result (λ e. (e ≡ StoreFault.Device) ⊎ (e ≡ StoreFault.NoMemory)) }
+        ensures cause { IsCounted self.old.failures self.new.failures result }
+        // Of a metered device: an append where there are entries, and a sync where one is asked for.
+        ensures metered { D.is_metered → IsMetered self.old.meter self.new.meter (put_calls entries.now sync) result }
     {
         if self.failed {
             return Err(StoreFault::Failed);
@@ -110,7 +115,10 @@ impl<D: LogDisk + Drop> Store<D> {
         ensures failed { self.old.failed ≡ true → self.new ≡ self.old }
         ensures refuses { self.old.failed ≡ true → IsErrOf result StoreFault.Failed }
         ensures last { max_count ≤ self.old.generation → (self.new ≡ self.old) × IsErrOf result StoreFault.Failed }
-        ensures cause { self.old.failed ≡ false → self.old.generation < max_count → IsCaused self.old.failures self.new.failures result }
+        ensures only { self.old.failed ≡ false → self.old.generation < max_count → IfErr result (λ e. (e ≡ StoreFault.Device) ⊎ (e ≡ StoreFault.NoMemory)) }
+        ensures cause { IsCounted self.old.failures self.new.failures result }
+        // Of a metered device: four calls.
+        ensures metered { D.is_metered → D.is_honest → IsMetered self.old.meter self.new.meter rebase_calls result }
     {
         if self.failed || self.generation >= MAX_COUNT {
             return Err(StoreFault::Failed);
@@ -141,7 +149,8 @@ impl<D: LogDisk + Drop> Store<D> {
         ensures failed { self.old.failed ≡ true → self.new ≡ self.old }
         ensures refuses { self.old.failed ≡ true → IsErrOf result StoreFault.Failed }
         ensures only { self.old.failed ≡ false → IfErr result (λ e. e ≡ StoreFault.Device) }
-        ensures cause { self.old.failed ≡ false → IsCounted self.old.failures self.new.failures result }
+        ensures cause { IsCounted self.old.failures self.new.failures result }
+        ensures metered { D.is_metered → IsMetered self.old.meter self.new.meter 0 result }
     {
         if self.failed {
             return Err(StoreFault::Failed);
@@ -157,6 +166,7 @@ impl<D: LogDisk + Drop> Store<D> {
         ensures live_disk { D.disk result.now self.now.live ≡ self.now.live_disk }
         ensures other_disk { D.disk result.now (other self.now.live) ≡ self.now.other_disk }
         ensures failures { D.failures result.now ≡ self.now.failures }
+        ensures meter { D.meter result.now ≡ self.now.meter }
     {
         &self.device
     }
@@ -166,6 +176,7 @@ impl<D: LogDisk + Drop> Store<D> {
         ensures live_disk { D.disk result self.live ≡ self.live_disk }
         ensures other_disk { D.disk result (other self.live) ≡ self.other_disk }
         ensures failures { D.failures result ≡ self.failures }
+        ensures meter { D.meter result ≡ self.meter }
     {
         let Store {
             alloc: _,
@@ -182,6 +193,7 @@ impl<D: LogDisk + Drop> Store<D> {
 impl<D: Trapped + Drop> Store<D> {
     /// Sets the trap of the device. It changes no disk.
     pub fn trap(&mut self, trap: Trap)
+        ensures set { D.is_metered → self.new.meter ≡ trapped trap self.old.meter }
         ensures live_disk { D.is_honest → self.new.live_disk ≡ self.old.live_disk }
         ensures other_disk { D.is_honest → self.new.other_disk ≡ self.old.other_disk }
         ensures failures { self.new.failures ≡ self.old.failures }

@@ -7,6 +7,8 @@ mod Standings
 mod Ordered
 mod NoSend
 mod Thinning
+mod OnDevices
+mod Calling
 mod Going
 pub mod Replicas
 mod Rerunning

@@ -1,43 +1,46 @@
 -- Letters of which some are lost.
-use Rattle.std.proofs.Common.{◌≡◌, ℕ, zero, suc, ◌+◌, ◌-◌, ◌^◌, ◌<◌, ◌≤◌, min, inl, inr, Bool, true, false, List, [], ◌∷◌, ◌++◌, length, take, get_or, Contains, refl, sym, ap, ◌∙◌, subst, append_assoc, append-nil, arith}
+use Rattle.std.proofs.Common.{◌≡◌, ℕ, zero, suc, ◌≢◌, ◌+◌, ◌<◌, inl, inr, Bool, true, false, List, [], ◌∷◌, ◌++◌, length, take, get_or, Contains, refl, sym, ap, ◌∙◌, subst, append_assoc, append-nil, arith}
 use Rattle.std.proofs.lemmas.Bool.{false≢true}
-use Rattle.std.proofs.lemmas.Bool.Decides.{nat_tests}
+use Rattle.lk_disk.specs.Disk.{one_more}
 use Rattle.lk_history.specs.Datagrams.{Datagram}
 use Rattle.lk_node.specs.Letters.{LetterValue, datagram_of, batch_of}
-use Rattle.lk_replica.specs.Posts.{AreOf, Thins, SendsSome}
+use Rattle.lk_replica.specs.Posts.{AreOf, Thins, SendsBut, more_by}
 use Rattle.lk_node.proofs.Nodes.{cons_cases, contains_more, map_contains, map_has}
 
 nil_push : (l : LetterValue) (kept : List LetterValue) → kept ≡ [] → kept ++ l ∷ [] ≡ l ∷ []
 nil_push l kept e = ap (λ (k : List LetterValue). k ++ l ∷ []) e
 
 -- one more that is sent
-pub thins_kept : (letters kept : List LetterValue) (l : LetterValue) → Thins letters kept → Thins (letters ++ l ∷ []) (kept ++ l ∷ [])
-thins_kept [] kept l t = inr ([], nil_push l kept t, refl)
-thins_kept (x ∷ xs) kept l (inl lost) = inl (thins_kept xs kept l lost)
-thins_kept (x ∷ xs) kept l (inr sent) = inr (sent.0 ++ l ∷ [], ap (λ (k : List LetterValue). k ++ l ∷ []) sent.1, thins_kept xs sent.0 l sent.2)
+pub thins_kept : (letters : List LetterValue) (lost : ℕ) (kept : List LetterValue) (l : LetterValue) → Thins letters lost kept → Thins (letters ++ l ∷ []) lost (kept ++ l ∷ [])
+thins_kept [] lost kept l t = inr ([], nil_push l kept t.1, (t.0, refl))
+thins_kept (x ∷ xs) lost kept l (inl gone) = inl (gone.0, gone.1, thins_kept xs gone.0 kept l gone.2)
+thins_kept (x ∷ xs) lost kept l (inr sent) = inr (sent.0 ++ l ∷ [], ap (λ (k : List LetterValue). k ++ l ∷ []) sent.1, thins_kept xs lost sent.0 l sent.2)
 
 -- one more that is lost
-pub thins_lost : (letters kept : List LetterValue) (l : LetterValue) → Thins letters kept → Thins (letters ++ l ∷ []) kept
-thins_lost [] kept l t = inl t
-thins_lost (x ∷ xs) kept l (inl lost) = inl (thins_lost xs kept l lost)
-thins_lost (x ∷ xs) kept l (inr sent) = inr (sent.0, sent.1, thins_lost xs sent.0 l sent.2)
+pub thins_lost : (letters : List LetterValue) (lost : ℕ) (kept : List LetterValue) (l : LetterValue) → Thins letters lost kept → Thins (letters ++ l ∷ []) (lost + 1) kept
+thins_lost [] lost kept l t = inl (lost, refl, t)
+thins_lost (x ∷ xs) lost kept l (inl gone) = inl (lost, refl, subst (λ (k : ℕ). Thins (xs ++ l ∷ []) k kept) (sym gone.1) (thins_lost xs gone.0 kept l gone.2))
+thins_lost (x ∷ xs) lost kept l (inr sent) = inr (sent.0, sent.1, thins_lost xs lost sent.0 l sent.2)
 
-pub sends_kept : (letters old new newer : List LetterValue) (l : LetterValue) → SendsSome letters old new → newer ≡ new ++ l ∷ [] → SendsSome (letters ++ l ∷ []) old newer
-sends_kept letters old new newer l s e = (s.0 ++ l ∷ [], thins_kept letters s.0 l s.1, e ∙ ap (λ (k : List LetterValue). k ++ l ∷ []) s.2 ∙ append_assoc old s.0 (l ∷ []))
+pub sends_kept : (lost : ℕ) (letters old new newer : List LetterValue) (l : LetterValue) → SendsBut lost letters old new → newer ≡ new ++ l ∷ [] → SendsBut lost (letters ++ l ∷ []) old newer
+sends_kept lost letters old new newer l s e = (s.0 ++ l ∷ [], thins_kept letters lost s.0 l s.1, e ∙ ap (λ (k : List LetterValue). k ++ l ∷ []) s.2 ∙ append_assoc old s.0 (l ∷ []))
 
-pub sends_lost : (letters old new newer : List LetterValue) (l : LetterValue) → SendsSome letters old new → newer ≡ new → SendsSome (letters ++ l ∷ []) old newer
-sends_lost letters old new newer l s e = (s.0, thins_lost letters s.0 l s.1, e ∙ s.2)
+pub sends_lost : (lost : ℕ) (letters old new newer : List LetterValue) (l : LetterValue) → SendsBut lost letters old new → newer ≡ new → SendsBut (lost + 1) (letters ++ l ∷ []) old newer
+sends_lost lost letters old new newer l s e = (s.0, thins_lost letters lost s.0 l s.1, e ∙ s.2)
 
-pub sends_none : (old : List LetterValue) → SendsSome [] old old
-sends_none old = ([], refl, sym (append-nil old))
+-- where none is lost all are sent
+pub none_lost : (letters kept : List LetterValue) → Thins letters 0 kept → kept ≡ letters
+none_lost [] kept t = t.1
+none_lost (x ∷ xs) kept (inl gone) = absurd (omega (arith, gone.1))
+none_lost (x ∷ xs) kept (inr sent) = sent.1 ∙ ap (λ (k : List LetterValue). x ∷ k) (none_lost xs sent.0 sent.2)
 
 -- what is left is of the letters
-pub thins_are_of : (letters kept : List LetterValue) → Thins letters kept → AreOf kept letters
-thins_are_of [] kept t l c = subst (λ (k : List LetterValue). Contains k l) t c
-thins_are_of (x ∷ xs) kept (inl lost) l c = contains_more x xs l (thins_are_of xs kept lost l c)
-thins_are_of (x ∷ xs) kept (inr sent) l c = elim (cons_cases x sent.0 l (subst (λ (k : List LetterValue). Contains k l) sent.1 c)) [
+pub thins_are_of : (letters : List LetterValue) (lost : ℕ) (kept : List LetterValue) → Thins letters lost kept → AreOf kept letters
+thins_are_of [] lost kept t l c = subst (λ (k : List LetterValue). Contains k l) t.1 c
+thins_are_of (x ∷ xs) lost kept (inl gone) l c = contains_more x xs l (thins_are_of xs gone.0 kept gone.2 l c)
+thins_are_of (x ∷ xs) lost kept (inr sent) l c = elim (cons_cases x sent.0 l (subst (λ (k : List LetterValue). Contains k l) sent.1 c)) [
   | inl same ↦ (0, omega arith, same)
-  | inr later ↦ contains_more x xs l (thins_are_of xs sent.0 sent.2 l later)
+  | inr later ↦ contains_more x xs l (thins_are_of xs lost sent.0 sent.2 l later)
 ]
 
 -- so each datagram of them is one of the batch
@@ -56,34 +59,44 @@ take_suc (y ∷ ys) (suc i) x lt is = ap (λ (l : List LetterValue). y ∷ l) (t
 pub take_one_more : (letters : List LetterValue) (i : ℕ) (x : LetterValue) → i < length letters → x ≡ get_or letters i x → take (i + 1) letters ≡ take i letters ++ x ∷ []
 take_one_more letters i x lt is = let e : i + 1 ≡ suc i = omega arith in ap (λ (k : ℕ). take k letters) e ∙ take_suc letters i x lt is
 
--- what stands once the first letters were sent or lost
-abbrev pub Delivers : List LetterValue → List LetterValue → List LetterValue → Bool → Type 0
-Delivers front old new lost = (lost ≡ false → new ≡ old ++ front) × SendsSome front old new
+-- what stands once the first letters were tried: how many were lost, and whether any was
+pub record Delivers (Telling : Type 0) (front old new : List LetterValue) (before now : ℕ) (lost : Bool) : Type 0 where
+  pub count : ℕ
+  pub sends : Telling → SendsBut count front old new
+  pub counted : now ≡ more_by count before
+  pub none : lost ≡ false → count ≡ 0
+  pub some : lost ≡ true → count ≢ 0
 
-pub after_lost : (letters : List LetterValue) (i : ℕ) (x : LetterValue) (old new newer : List LetterValue) (was now : Bool) → take (i + 1) letters ≡ take i letters ++ x ∷ [] → now ≡ true
-    → Delivers (take i letters) old new was → newer ≡ new → Delivers (take (i + 1) letters) old newer now
-after_lost letters i x old new newer was now more is so_far e =
-    (λ none. absurd (false≢true (sym none ∙ is)), subst (λ (front : List LetterValue). SendsSome front old newer) (sym more) (sends_lost (take i letters) old new newer x so_far.1 e))
+pub delivers_none : (Telling : Type 0) (old : List LetterValue) (before : ℕ) (lost : Bool) → lost ≡ false → Delivers Telling [] old old before before lost
+delivers_none Telling old before lost is = record {
+  count = 0;
+  sends = λ telling. ([], (refl, refl), sym (append-nil old));
+  counted = refl;
+  none = λ e. refl;
+  some = λ e. absurd (false≢true (sym is ∙ e));
+}
 
-pub after_sent : (letters : List LetterValue) (i : ℕ) (x : LetterValue) (old new newer : List LetterValue) (was now : Bool) → take (i + 1) letters ≡ take i letters ++ x ∷ [] → now ≡ was
-    → Delivers (take i letters) old new was → newer ≡ new ++ x ∷ [] → Delivers (take (i + 1) letters) old newer now
-after_sent letters i x old new newer was now more is so_far e = (
-  λ none. e ∙ ap (λ (k : List LetterValue). k ++ x ∷ []) (so_far.0 (sym is ∙ none)) ∙ append_assoc old (take i letters) (x ∷ []) ∙ ap (λ (k : List LetterValue). old ++ k) (sym more),
-  subst (λ (front : List LetterValue). SendsSome front old newer) (sym more) (sends_kept (take i letters) old new newer x so_far.1 e),
-)
+module _ (Telling : Type 0) (letters : List LetterValue) (i : ℕ) (x : LetterValue) (old new newer : List LetterValue) (before mid now : ℕ) (was lost : Bool) (more : take (i + 1) letters ≡ take i letters ++ x ∷ []) where
+  pub after_lost : lost ≡ true → Delivers Telling (take i letters) old new before mid was → (Telling → newer ≡ new) → now ≡ one_more mid → Delivers Telling (take (i + 1) letters) old newer before now lost
+  after_lost is d e counted = record {
+    count = d.count + 1;
+    sends = λ telling. subst (λ (front : List LetterValue). SendsBut (d.count + 1) front old newer) (sym more) (sends_lost d.count (take i letters) old new newer x (d.sends telling) (e telling));
+    counted = let k : d.count + 1 ≡ suc d.count = omega arith in counted ∙ ap one_more d.counted ∙ ap (λ (j : ℕ). more_by j before) (sym k);
+    none = λ none. absurd (false≢true (sym none ∙ is));
+    some = λ _ none. omega (arith, none);
+  }
 
--- ---- what is counted of it
+  pub after_sent : lost ≡ was → Delivers Telling (take i letters) old new before mid was → (Telling → newer ≡ new ++ x ∷ []) → now ≡ mid → Delivers Telling (take (i + 1) letters) old newer before now lost
+  after_sent is d e counted = record {
+    count = d.count;
+    sends = λ telling. subst (λ (front : List LetterValue). SendsBut d.count front old newer) (sym more) (sends_kept d.count (take i letters) old new newer x (d.sends telling) (e telling));
+    counted = counted ∙ d.counted;
+    none = λ none. d.none (sym is ∙ none);
+    some = λ some. d.some (sym is ∙ some);
+  }
 
--- the count of failures does not fall, and has risen where something was lost
-pub record Counts (before now : ℕ) (lost : Bool) : Type 0 where
-  pub later : before ≤ now
-  pub rises : lost ≡ true → min (before + 1) (2 ^ 64 - 1) ≤ now
-
-less : (before mid now : ℕ) → before ≤ mid → min (mid + 1) (2 ^ 64 - 1) ≤ now → min (before + 1) (2 ^ 64 - 1) ≤ now
-less before mid now le rises = grind (arith, nat_tests)
-
-pub count_lost : (before mid now : ℕ) (lost after : Bool) → Counts before mid lost → mid ≤ now → min (mid + 1) (2 ^ 64 - 1) ≤ now → Counts before now after
-count_lost before mid now lost after c later rises = record { later = omega (arith, c.later, later); rises = λ e. less before mid now c.later rises }
-
-pub count_sent : (before mid now : ℕ) (lost after : Bool) → after ≡ lost → Counts before mid lost → mid ≤ now → Counts before now after
-count_sent before mid now lost after is c later = record { later = omega (arith, c.later, later); rises = λ e. omega (arith, c.rises (sym is ∙ e), later) }
+-- all were sent
+pub all_sent : (Telling : Type 0) (letters front old new : List LetterValue) (before now : ℕ) (lost : Bool) → front ≡ letters → lost ≡ false → Delivers Telling front old new before now lost → Telling → new ≡ old ++ letters
+all_sent Telling letters front old new before now lost whole is d telling =
+    let s = d.sends telling in
+    s.2 ∙ ap (λ (k : List LetterValue). old ++ k) (none_lost front s.0 (subst (λ (j : ℕ). Thins front j s.0) (d.none is) s.1) ∙ whole)

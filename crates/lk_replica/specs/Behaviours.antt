@@ -1,6 +1,10 @@
 -- What the calls of a replica come to, in the form in which a world of replicas is told of them.
-use Rattle.std.specs.Prelude.{ℕ, List, Option, Result}
-use Rattle.lk_disk.specs.Memory.{Memory}
+use Rattle.std.specs.Prelude.{◌≡◌, ℕ, List, Option, Result}
+use Rattle.lk_disk.specs.Disk.{Disk}
+use Rattle.lk_disk.specs.Memory.{Memory, disk_of}
+use Rattle.lk_disk.specs.Meters.{trapped}
+use Rattle.lk_disk.specs.declared.device.Side.{Side}
+use Rattle.lk_disk.specs.declared.trap.Trap.{Trap}
 use Rattle.lk_log.specs.Values.{HeaderValue}
 use Rattle.lk_node.specs.Histories.{Datagram}
 use Rattle.lk_node.specs.declared.note.Note.{Note}
@@ -13,3 +17,24 @@ Taking R = R → Option (List ℕ) → R → Result (List Note × List Datagram)
 -- it was left
 abbrev pub Reviving : Type 0 → Type 1
 Reviving R = Memory → HeaderValue → Result (R × List Note) (ℕ × Memory) → Type 0
+
+-- what a kind of replica shows, and does in its calls
+pub record Behaviour (R : Type 0) : Type 1 where
+  -- its device, two disks in memory
+  pub memory : R → Memory
+  -- the same replica, at whose device this trap is set
+  pub with_trap : Trap → R → R
+  -- The first replica, given a tick (`None`) or these bytes, becomes the second by one call of `take`, which gives these notes and
+  -- sends these datagrams in order, and does nothing else, or refuses with the fault of this number.
+  pub Takes : Taking R
+  -- A revival on this device, for a node of this header, makes this replica and gives these notes, or refuses with the fault of this
+  -- number and leaves that device.
+  pub Revives : Reviving R
+
+-- a trap is one of the device, and nothing else of it changes
+abbrev pub TrapsAlone : {R : Type 0} → Behaviour R → Type 0
+TrapsAlone {R = R} b = (t : Trap) (r : R) → b.memory (b.with_trap t r) ≡ record (b.memory r) { meter = trapped t (b.memory r).meter }
+
+-- the disks of its device
+abbrev pub disks_by : {R : Type 0} → Behaviour R → R → Side → Disk
+disks_by b r = disk_of (b.memory r)

@@ -4,6 +4,7 @@ use Rattle.lk_wire.specs.declared.message.NodeMessage.{NodeMessage}
 use Rattle.lk_wire.specs.declared.message.NodeMessage.TheVariants as kinds
 use Rattle.lk_disk.specs.Disk.{Disk, contents}
 use Rattle.lk_disk.specs.declared.device.Side.{Side}
+use Rattle.lk_log.specs.Causes.{rebase_calls}
 use Rattle.lk_log.specs.Images.{Image, MayLeaveBoth}
 use Rattle.lk_log.specs.StoreValue.{StoreValue}
 use Rattle.lk_log.specs.Stores.{Holds, next_base}
@@ -44,6 +45,11 @@ pub record Rebases (node : NodeValue) (store : StoreValue) (new : NodeValue) (af
 pub record RebasesWhereDue (node : NodeValue) (store : StoreValue) (new : NodeValue) (after : StoreValue) : Type 0 where
   pub due : IsDue node store → Rebases node store new after
   pub rests : (IsDue node store → ⊥) → (new ≡ node) × IsSameStore store after
+
+-- how many changing calls of the device that takes
+pub record CallsWhereDue (node : NodeValue) (store : StoreValue) (k : ℕ) : Type 0 where
+  pub due : IsDue node store → k ≡ rebase_calls
+  pub rests : (IsDue node store → ⊥) → k ≡ 0
 
 -- the message is no promise and no vote: what it may be sent by, a rebase leaves
 abbrev pub IsLight : NodeMessage → Type 0

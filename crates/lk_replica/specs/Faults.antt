@@ -1,5 +1,8 @@
 -- The numbers of a replica's refusals, and those that its store tells.
-use Rattle.std.specs.Prelude.{ℕ, List}
+use Rattle.std.specs.Prelude.{◌≡◌, ℕ, ◌==◌, List, Result, Ok, Err, MatchBool, MatchResult, if◌then◌else◌}
+use Rattle.lk_disk.specs.Disk.{one_more}
+use Rattle.lk_disk.specs.Meters.{Passes, Breaks}
+use Rattle.lk_disk.specs.declared.meter.Meter.{Meter}
 use Rattle.lk_log.specs.declared.fault.StoreFault.{StoreFault}
 use Rattle.lk_log.specs.declared.fault.StoreFault.TheVariants as store
 use Rattle.lk_state.specs.declared.machine.UnpackFault.{UnpackFault}
@@ -16,6 +19,23 @@ fault_number fault.WrongStore = 10
 fault_number fault.Failed = 11
 fault_number fault.Halted = 14
 fault_number (fault.Send notes) = 15
+
+-- the count of the device's failures after a refusal of this number: 7 comes exactly where a call of the device has failed
+abbrev pub failures_by : ℕ → ℕ → ℕ
+failures_by number n = if number == 7 then one_more n else n
+
+-- so of a call
+abbrev pub CountsFailure : {T : Type 0} → ℕ → ℕ → Result T ReplicaFault → Type 0
+CountsFailure before now (Ok _) = now ≡ before
+CountsFailure before now (Err e) = now ≡ failures_by (fault_number e) before
+
+-- which calls of a metered device a refusal of this number comes after: one has failed, or all have passed
+abbrev pub RefusedAfter : ℕ → Meter → Meter → Type 0
+RefusedAfter number m n = MatchBool (number == 7) (Breaks m n) ((k : ℕ) × Passes m n k)
+
+-- so many passed, or it was refused so
+abbrev pub PassesOr : {T : Type 0} → Meter → Meter → ℕ → Result T ReplicaFault → Type 0
+PassesOr m n k r = MatchResult r (λ _. Passes m n k) (λ e. RefusedAfter (fault_number e) m n)
 
 -- a refusal of the store is one of the replica
 abbrev pub fault_of : StoreFault → ReplicaFault

@@ -1,19 +1,31 @@
 -- What is sent of what is to be sent.
-use Rattle.std.specs.Prelude.{◌≡◌, ℕ, ◌⊎◌, List, [], ◌∷◌, ◌++◌, Contains}
+use Rattle.std.specs.Prelude.{◌≡◌, ℕ, zero, suc, ◌+◌, ◌⊎◌, List, [], ◌∷◌, ◌++◌, Contains}
+use Rattle.lk_disk.specs.Disk.{one_more}
 use Rattle.lk_node.specs.Letters.{LetterValue}
 
 -- the first letters are some of the others
 abbrev pub AreOf : List LetterValue → List LetterValue → Type 0
 AreOf some letters = (l : LetterValue) → Contains some l → Contains letters l
 
--- these letters without some of them, in the same order
-abbrev pub Thins : List LetterValue → List LetterValue → Type 0
-Thins [] kept = kept ≡ []
-Thins (l ∷ letters) kept = Thins letters kept ⊎ ((rest : List LetterValue) × (kept ≡ l ∷ rest) × Thins letters rest)
+-- these letters without so many of them, in the same order
+abbrev pub Thins : List LetterValue → ℕ → List LetterValue → Type 0
+Thins [] lost kept = (lost ≡ 0) × (kept ≡ [])
+Thins (l ∷ letters) lost kept =
+    ((fewer : ℕ) × (lost ≡ fewer + 1) × Thins letters fewer kept)
+    ⊎ ((rest : List LetterValue) × (kept ≡ l ∷ rest) × Thins letters lost rest)
 
--- so many of them were sent behind what was sent before
-abbrev pub SendsSome : List LetterValue → List LetterValue → List LetterValue → Type 0
-SendsSome letters old new = (kept : List LetterValue) × Thins letters kept × (new ≡ old ++ kept)
+-- a count that went up so many times, and stays at its greatest value
+abbrev pub more_by : ℕ → ℕ → ℕ
+more_by zero n = n
+more_by (suc k) n = one_more (more_by k n)
+
+-- all but so many of them were sent after what was sent before, in order
+abbrev pub SendsBut : ℕ → List LetterValue → List LetterValue → List LetterValue → Type 0
+SendsBut lost letters old new = (kept : List LetterValue) × Thins letters lost kept × (new ≡ old ++ kept)
+
+-- each of them was tried: as many were lost as sends failed, and the others were sent in order
+abbrev pub SendsSome : List LetterValue → (old new : List LetterValue) → (before now : ℕ) → Type 0
+SendsSome letters old new before now = (lost : ℕ) × SendsBut lost letters old new × (now ≡ more_by lost before)
 
 -- the letters that were kept, and how often one was not
 pub record CollectedValue : Type 0 where

@@ -1,11 +1,13 @@
 -- What a revival makes of what a store stands for.
-use Rattle.std.specs.Prelude.{◌≡◌, ℕ, ◌⊎◌, ◌+◌, ◌-◌, ◌*◌, ◌^◌, ◌≤◌, ◌==◌, min, if◌then◌else◌, false, None, Result, Ok, Err, List, [], ◌∷◌, length, drop, Contains}
+use Rattle.std.specs.Prelude.{◌≡◌, ℕ, ◌⊎◌, ◌+◌, ◌-◌, ◌*◌, ◌≤◌, ◌==◌, if◌then◌else◌, false, None, Result, Ok, Err, List, [], ◌∷◌, length, drop, Contains}
 use Rattle.lk_types.specs.declared.vote.Vote.{Vote}
 use Rattle.lk_disk.specs.Disk.{Disk}
 use Rattle.lk_disk.specs.Memory.{Memory, disk_of}
+use Rattle.lk_disk.specs.Meters.{Passes}
 use Rattle.lk_disk.specs.declared.device.Side.{Side}
+use Rattle.lk_disk.specs.declared.meter.Meter.{Meter}
 use Rattle.lk_log.specs.Images.{IsDamaged, seen}
-use Rattle.lk_log.specs.Stores.{IsWrong, Opens}
+use Rattle.lk_log.specs.Stores.{IsWrong, Opens, OpensBy}
 use Rattle.lk_log.specs.Values.{HeaderValue, StandingValue}
 use Rattle.lk_state.specs.Meanings.{Meaning}
 use Rattle.lk_state.specs.Packed.{Packs}
@@ -16,6 +18,7 @@ use Rattle.lk_learner.specs.Learners.{Pair, LearnerValue}
 use Rattle.lk_node.specs.Histories.{Genesis, Command}
 use Rattle.lk_node.specs.Leavings.{header_of, acceptor_of, StandsAs}
 use Rattle.lk_node.specs.NodeValue.{NodeValue}
+use Rattle.lk_replica.specs.Faults.{failures_by, RefusedAfter}
 use Rattle.lk_replica.specs.ReplicaValue.{ReplicaValue}
 use Rattle.lk_node.specs.Served.{text}
 use Rattle.lk_node.specs.declared.note.Note.{Note}
@@ -90,6 +93,12 @@ pub record Revives (m : Meaning) (IsText : List ℕ → Type 0) (disks : Side �
   pub standing : StandingValue
   pub opens : Opens (seen disks) whose (text m genesis []) r.store standing
   pub restores : Restores m IsText whose standing r.node notes
+  pub alive : r.failed ≡ false
+  pub store_alive : r.store.failed ≡ false
+
+-- the calls of a metered device in which a store was opened
+abbrev pub CallsOfOpening : (Side → Disk) → Meter → Meter → Type 0
+CallsOfOpening disks m n = (k : ℕ) × OpensBy (seen disks) k × Passes m n k
 
 -- what these disks stand for may not be revived
 pub record NoneRevives (m : Meaning) (IsText : List ℕ → Type 0) (disks : Side → Disk) (whose : HeaderValue) : Type 0 where
@@ -101,12 +110,16 @@ pub record NoneRevives (m : Meaning) (IsText : List ℕ → Type 0) (disks : Sid
 
 -- a revival was refused with the fault of this number, for its cause, and left that device
 pub record IsNotRevived (m : Meaning) (IsText : List ℕ → Type 0) (device : Memory) (whose : HeaderValue) (number : ℕ) (left : Memory) : Type 0 where
-  pub device_failed : number ≡ 7 → min (device.failures + 1) (2 ^ 64 - 1) ≤ left.failures
+  pub failures : left.failures ≡ failures_by number device.failures
+  pub calls : RefusedAfter number device.meter left.meter
   pub damaged : number ≡ 9 → IsDamaged (seen (disk_of device)) ⊎ NoneRevives m IsText (disk_of device) whose
   pub wrong : number ≡ 10 → IsWrong (seen (disk_of device)) whose
   pub only : (7 ≤ number) × (number ≤ 10)
 
 -- what a revival came to
 abbrev pub RevivesTo : Meaning → (List ℕ → Type 0) → Memory → HeaderValue → Result (ReplicaValue × List Note) (ℕ × Memory) → Type 0
-RevivesTo m IsText device whose (Ok came) = Revives m IsText (disk_of device) whose came.0 came.1
+RevivesTo m IsText device whose (Ok came) =
+    Revives m IsText (disk_of device) whose came.0 came.1
+    × (came.0.store.failures ≡ device.failures)
+    × CallsOfOpening (disk_of device) device.meter came.0.store.meter
 RevivesTo m IsText device whose (Err left) = IsNotRevived m IsText device whose left.0 left.1

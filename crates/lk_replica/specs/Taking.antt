@@ -1,6 +1,8 @@
 -- What a call of a replica has done that was not refused: that and nothing else.
-use Rattle.std.specs.Prelude.{◌≡◌, ℕ, ◌+◌, ◌-◌, ◌^◌, ◌<◌, ◌≤◌, min, true, false, Option, Result, Ok, Err, List, [], ◌++◌}
+use Rattle.std.specs.Prelude.{◌≡◌, ℕ, ◌+◌, ◌<◌, ⊤, true, false, Option, Result, Ok, Err, List, [], ◌++◌}
+use Rattle.lk_disk.specs.Meters.{Passes}
 use Rattle.lk_types.specs.Limits.{max_count}
+use Rattle.lk_log.specs.Causes.{put_calls}
 use Rattle.lk_log.specs.StoreValue.{StoreValue}
 use Rattle.lk_log.specs.Stores.{plain, Holds}
 use Rattle.lk_state.specs.Meanings.{Meaning}
@@ -8,7 +10,8 @@ use Rattle.lk_log.specs.declared.stored.Stored.{Stored}
 use Rattle.lk_node.specs.Calls.{heard_by}
 use Rattle.lk_node.specs.Histories.{Datagram}
 use Rattle.lk_node.specs.Letters.{LetterValue, batch_of}
-use Rattle.lk_replica.specs.Compacting.{RebasesWhereDue}
+use Rattle.lk_replica.specs.Compacting.{RebasesWhereDue, CallsWhereDue}
+use Rattle.lk_replica.specs.Faults.{failures_by, RefusedAfter}
 use Rattle.lk_replica.specs.ReplicaValue.{ReplicaValue}
 use Rattle.lk_node.specs.NodeValue.{NodeValue}
 use Rattle.lk_node.specs.Outboxes.{OutboxValue}
@@ -21,8 +24,13 @@ abbrev pub Puts : StoreValue → OutboxValue → StoreValue → Type 0
 Puts old out new = (ks ls : List Stored) → Holds old ks ls
     → (out.sync ≡ false → Holds new ks (ls ++ plain out.entries)) × (out.sync ≡ true → Holds new (ks ++ (ls ++ plain out.entries)) [])
 
--- the replica has rebased where that was due, taken a step, put the outbox's entries, given its notes, and sent its letters
-pub record IsTaken (m : Meaning) (old : ReplicaValue) (i : Input) (new : ReplicaValue) (notes : List Note) (Sends : List LetterValue → Type 0) : Type 0 where
+-- the calls of a metered device in which a step's outbox was put, after a rebase that was due
+abbrev pub CallsOfStep : NodeValue → StoreValue → OutboxValue → StoreValue → Type 0
+CallsOfStep node store out new = (k : ℕ) × CallsWhereDue node store k × Passes store.meter new.meter (k + put_calls out.entries out.sync)
+
+-- the replica has rebased where that was due, taken a step, put the outbox's entries, given its notes, and sent its letters, and goes
+-- on. `Metered` says that its device is
+pub record IsTaken (m : Meaning) (Metered : Type 0) (old : ReplicaValue) (i : Input) (new : ReplicaValue) (notes : List Note) (Sends : List LetterValue → Type 0) : Type 0 where
   pub mid : NodeValue
   pub between : StoreValue
   pub rebases : RebasesWhereDue old.node old.store mid between
@@ -31,11 +39,15 @@ pub record IsTaken (m : Meaning) (old : ReplicaValue) (i : Input) (new : Replica
   pub puts : Puts between out new.store
   pub noted : notes ≡ out.notes
   pub sent : Sends out.letters
+  pub calls : Metered → CallsOfStep old.node old.store out new.store
+  pub alive : new.failed ≡ false
+  pub store_alive : new.store.failed ≡ false
 
--- a call was refused with the fault of this number, for its cause: 7 only where the device has failed once more, 11 only behind an
--- earlier refusal, behind which there is no other, or where no further generation is left
+-- a call was refused with the fault of this number, for its cause: 7 exactly where the device has failed once more, 11 only after an
+-- earlier refusal, after which there is no other, or where no further generation is left
 pub record IsRefused (old new : ReplicaValue) (number : ℕ) : Type 0 where
-  pub device : number ≡ 7 → min (old.store.failures + 1) (2 ^ 64 - 1) ≤ new.store.failures
+  pub failures : new.store.failures ≡ failures_by number old.store.failures
+  pub calls : RefusedAfter number old.store.meter new.store.meter
   pub earlier : number ≡ 11 → old.failed ≡ false → old.store.failed ≡ false → old.store.generation < max_count → ⊥
   pub once : old.failed ≡ true → (number ≡ 11) × (new ≡ old)
 
@@ -45,7 +57,7 @@ pub record IsTakenAs (m : Meaning) (old : ReplicaValue) (bytes : Option (List �
   pub given : heard_by input ≡ bytes
   pub letters : List LetterValue
   pub batch : sent ≡ batch_of old.node.header.node letters
-  pub taken : IsTaken m old input new notes (λ ls. ls ≡ letters)
+  pub taken : IsTaken m ⊤ old input new notes (λ ls. ls ≡ letters)
 
 -- what a call came to
 abbrev pub ComesTo : Meaning → ReplicaValue → Option (List ℕ) → ReplicaValue → Result (List Note × List Datagram) ℕ → Type 0

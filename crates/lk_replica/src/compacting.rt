@@ -1,7 +1,9 @@
 // Writing all that a node holds as the Base of the other file.
-ghost use Rattle.std.specs.Prelude.{◌≡◌, ℕ, ◌+◌, ◌-◌, ◌^◌, ◌≤◌, ◌<◌, min, length, List, [], ◌∷◌, false, ◌↔◌, IsTrue, OnOk, IfOk, IfErr, IsErrOf};
+ghost use Rattle.std.specs.Prelude.{◌≡◌, ℕ, ◌≤◌, ◌<◌, length, List, [], ◌∷◌, false, ◌↔◌, IsTrue, OnOk, IfOk, IfErr, IsErrOf, MatchResult};
 ghost use Rattle.lk_types.specs.Limits.{max_base, max_count};
 ghost use Rattle.lk_disk.specs.Disk.{contents};
+ghost use Rattle.lk_disk.specs.Meters.{Passes};
+ghost use Rattle.lk_log.specs.Causes.{rebase_calls};
 ghost use Rattle.lk_log.specs.Rooms.{StaysWithin};
 ghost use Rattle.lk_log.specs.StoreValue.{disks};
 ghost use Rattle.lk_log.specs.Stores.{Holds, next_base};
@@ -17,8 +19,8 @@ ghost use Rattle.lk_node.specs.Holdings.{Holding};
 ghost use Rattle.lk_node.specs.Keeping.{Stands};
 ghost use Rattle.lk_node.specs.Leavings.{DisksFit, AllCover};
 ghost use Rattle.lk_node.specs.Packing.{standing_of, standing_here};
-ghost use Rattle.lk_replica.specs.Compacting.{AllStandAt, IsDue, IsSameStore, RebasesWhereDue};
-ghost use Rattle.lk_replica.specs.Faults.{fault_number, IfSend};
+ghost use Rattle.lk_replica.specs.Compacting.{AllStandAt, IsDue, IsSameStore, RebasesWhereDue, CallsWhereDue};
+ghost use Rattle.lk_replica.specs.Faults.{fault_number, CountsFailure, RefusedAfter, PassesOr, IfSend};
 
 use crate::fault::ReplicaFault;
 use crate::replica::Replica;
@@ -49,8 +51,8 @@ pub fn write_base<M: Machine, D: LogDisk + Drop>(
     ensures alive { OnOk result (store.new.failed ≡ false) }
     ensures only { IfErr result (IfSend (λ notes. ⊥)) }
     ensures failed_before { store.old.failed ≡ false → store.old.generation < max_count → IsErrOf result ReplicaFault.Failed → ⊥ }
-    ensures cause { IfErr result (λ e. fault_number e ≡ 7 → min (store.old.failures + 1) (2 ^ 64 - 1) ≤ store.new.failures) }
-    ensures later { OnOk result (store.old.failures ≤ store.new.failures) }
+    ensures cause { CountsFailure store.old.failures store.new.failures result }
+    ensures metered { D.is_metered → D.is_honest → PassesOr store.old.meter store.new.meter rebase_calls result }
     // After any exit neither file is longer than it was, or else than a Base; at Ok the live one is no longer than a Base.
     ensures room { D.is_honest → StaysWithin max_base (disks store.old) (disks store.new) }
     ensures short { D.is_honest → OnOk result (length (contents store.new.live_disk) ≤ max_base) }
@@ -73,8 +75,8 @@ fn is_due<M: Machine, D: LogDisk + Drop>(
     ensures alive { OnOk result (store.new.failed ≡ false) }
     ensures only { IfErr result (IfSend (λ notes. ⊥)) }
     ensures failed_before { store.old.failed ≡ false → IsErrOf result ReplicaFault.Failed → ⊥ }
-    ensures cause { IfErr result (λ e. fault_number e ≡ 7 → min (store.old.failures + 1) (2 ^ 64 - 1) ≤ store.new.failures) }
-    ensures later { OnOk result (store.old.failures ≤ store.new.failures) }
+    ensures cause { CountsFailure store.old.failures store.new.failures result }
+    ensures metered { D.is_metered → PassesOr store.old.meter store.new.meter 0 result }
     ensures small { D.is_honest → IfOk result (λ due. due ≡ false → length (contents store.new.live_disk) < 131072) }
 {
     let length = store.live_length()?;
@@ -99,8 +101,10 @@ pub fn rebase_where_due<M: Machine, D: LogDisk + Drop>(
     ensures alive { OnOk result (store.new.failed ≡ false) }
     ensures only { IfErr result (IfSend (λ notes. ⊥)) }
     ensures failed_before { store.old.failed ≡ false → store.old.generation < max_count → IsErrOf result ReplicaFault.Failed → ⊥ }
-    ensures cause { IfErr result (λ e. fault_number e ≡ 7 → min (store.old.failures + 1) (2 ^ 64 - 1) ≤ store.new.failures) }
-    ensures later { OnOk result (store.old.failures ≤ store.new.failures) }
+    ensures cause { CountsFailure store.old.failures store.new.failures result }
+    ensures metered { D.is_metered → D.is_honest → MatchResult result
+        (λ _. (k : ℕ) × CallsWhereDue node.old store.old k × Passes store.old.meter store.new.meter k)
+        (λ e. RefusedAfter (fault_number e) store.old.meter store.new.meter) }
     // After any exit neither file is longer than it was, or else than a Base; at Ok the live one is shorter than what makes a rebase due.
     ensures room { D.is_honest → StaysWithin max_base (disks store.old) (disks store.new) }
     ensures small { D.is_honest → OnOk result (length (contents store.new.live_disk) < 131072) }
@@ -133,6 +137,9 @@ impl<M: Machine, D: LogDisk + Drop> Replica<M, D> {
         // After any exit neither file is longer than it was, or else than a Base.
         ensures room { D.is_honest → StaysWithin max_base (disks self.old.store) (disks self.new.store) }
         ensures alive { OnOk result (self.new.failed ≡ false) }
+        // `Device` comes exactly where a call of the device has failed.
+        ensures cause { CountsFailure self.old.store.failures self.new.store.failures result }
+        ensures metered { D.is_metered → D.is_honest → PassesOr self.old.store.meter self.new.store.meter rebase_calls result }
     {
         if self.failed {
             return Err(ReplicaFault::Failed);

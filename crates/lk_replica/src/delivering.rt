@@ -1,7 +1,7 @@
 // Sending what a step tells to send. No device is in its reach.
-ghost use Rattle.std.specs.Prelude.{◌≡◌, ◌+◌, ◌-◌, ◌^◌, ◌≤◌, min, true, false, [], ◌∷◌, ◌++◌, OnOk, OnErr};
-ghost use Rattle.lk_disk.specs.Disk.{HasCause};
-ghost use Rattle.lk_replica.specs.Posts.{SendsSome};
+ghost use Rattle.std.specs.Prelude.{◌≡◌, ◌≢◌, ℕ, true, false, [], ◌∷◌, ◌++◌, OnOk, OnErr};
+ghost use Rattle.lk_disk.specs.Disk.{one_more};
+ghost use Rattle.lk_replica.specs.Posts.{SendsSome, more_by};
 
 use crate::post::{Post, SendFault};
 use lk_node::Letter;
@@ -10,8 +10,8 @@ use lk_node::Letter;
 fn is_sent<P: Post>(letter: &Letter, post: &mut P) -> bool
     ensures sent { P.is_telling → result ≡ true → P.sent post.new ≡ P.sent post.old ++ letter.now ∷ [] }
     ensures lost { P.is_telling → result ≡ false → P.sent post.new ≡ P.sent post.old }
-    ensures later { P.failures post.old ≤ P.failures post.new }
-    ensures rises { result ≡ false → min (P.failures post.old + 1) (2 ^ 64 - 1) ≤ P.failures post.new }
+    ensures same { result ≡ true → P.failures post.new ≡ P.failures post.old }
+    ensures rises { result ≡ false → P.failures post.new ≡ one_more (P.failures post.old) }
 {
     match post.send(letter.to, &letter.bytes) {
         Ok(()) => true,
@@ -19,11 +19,12 @@ fn is_sent<P: Post>(letter: &Letter, post: &mut P) -> bool
     }
 }
 
-// Sends the letters in order. Those whose send fails are lost, and the others are sent all the same.
+// Sends the letters in order. Those whose send fails are lost, and the others are sent all the same: each of them is tried.
 pub fn deliver<P: Post>(letters: &[Letter], post: &mut P) -> Result<(), SendFault>
     ensures all { P.is_telling → OnOk result (P.sent post.new ≡ P.sent post.old ++ letters.now) }
-    ensures some { P.is_telling → OnErr result (SendsSome letters.now (P.sent post.old) (P.sent post.new)) }
-    ensures cause { HasCause (P.failures post.old) (P.failures post.new) result }
+    ensures some { P.is_telling → OnErr result (SendsSome letters.now (P.sent post.old) (P.sent post.new) (P.failures post.old) (P.failures post.new)) }
+    ensures cause { OnOk result (P.failures post.new ≡ P.failures post.old) }
+    ensures rises { OnErr result ((lost : ℕ) × (lost ≢ 0) × (P.failures post.new ≡ more_by lost (P.failures post.old))) }
 {
     let mut lost = false;
     for letter in letters {

@@ -1,6 +1,7 @@
 // The replica on disks in memory.
-ghost use Rattle.std.specs.Prelude.{◌≡◌, []};
-ghost use Rattle.lk_log.specs.StoreValue.{disks};
+ghost use Rattle.std.specs.Prelude.{◌≡◌, [], refl};
+ghost use Rattle.lk_disk.specs.Meters.{trapped};
+ghost use Rattle.lk_log.specs.StoreValue.{device_of};
 ghost use Rattle.lk_state.specs.Meanings.{meaning};
 ghost use Rattle.lk_node.specs.Keeping.{Stands};
 ghost use Rattle.lk_replica.specs.Revivals.{RevivesTo};
@@ -14,7 +15,7 @@ use lk_disk::{LogDisk, MemoryDisk, Trap};
 use lk_log::Header;
 use lk_node::Input;
 use lk_state::Machine;
-use lk_types::NodeNo;
+use lk_types::{NoMemory, NodeNo};
 use std::alloc::Global;
 
 impl<M: Machine, D: LogDisk + Drop> Replica<M, D> {
@@ -38,13 +39,14 @@ impl<M: Machine> MemoryReplica for Replica<M, MemoryDisk> {
 
     ghost Shows = { λ r genesis n x. Stands (meaning M.first M.next M.answer) r.node r.store genesis n x };
 
-    ghost disks = { λ r. disks r.store };
+    ghost behaves = { record {
+      memory = λ r. device_of r.store;
+      with_trap = λ t r. record r { store = record r.store { meter = trapped t r.store.meter } };
+      Takes = λ old bytes new came. ComesTo (meaning M.first M.next M.answer) old bytes new came;
+      Revives = λ device whose came. RevivesTo (meaning M.first M.next M.answer) M.IsText device whose came;
+    } };
 
     ghost whole = { λ r. r.node.learner.whole };
-
-    ghost Takes = { λ old bytes new came. ComesTo (meaning M.first M.next M.answer) old bytes new came };
-
-    ghost Revives = { λ device whose came. RevivesTo (meaning M.first M.next M.answer) M.IsText device whose came };
 
     fn revive(
         alloc: Global,
@@ -58,8 +60,10 @@ impl<M: Machine> MemoryReplica for Replica<M, MemoryDisk> {
         let node = self.number();
         let mut post = self.empty_post();
         let notes = Replica::take(self, input, &mut post)?;
-        let sent = post.into_datagrams(node)?;
-        Ok(Taken { notes, sent })
+        match post.into_datagrams(node) {
+            Ok(sent) => Ok(Taken { notes, sent }),
+            Err(NoMemory) => Err(ReplicaFault::Send(notes)),
+        }
     }
 
     fn device(&self) -> &MemoryDisk {
@@ -75,4 +79,24 @@ impl<M: Machine> MemoryReplica for Replica<M, MemoryDisk> {
     }
 
     ghost sums_up = { λ r genesis n x shown. shown.held.follows.sums };
+
+    ghost traps_alone = { λ t r. refl };
+
+    ghost shows_on = { λ t r genesis n x shown. record {
+      whose = shown.whose;
+      keeps = record {
+        entries = shown.keeps.entries;
+        loose = shown.keeps.loose;
+        holds = record { on = shown.keeps.holds.on; generation_is = shown.keeps.holds.generation_is; header_is = shown.keeps.holds.header_is };
+        decided = shown.keeps.decided;
+        header = shown.keeps.header;
+        standing = shown.keeps.standing;
+        stands = shown.keeps.stands;
+        remembers = shown.keeps.remembers;
+      };
+      known = shown.known;
+      held = shown.held;
+    } };
+
+    ghost whole_stays = { λ t r. refl };
 }

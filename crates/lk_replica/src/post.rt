@@ -13,7 +13,7 @@ pub struct SendFault;
 /// What carries datagrams off.
 ///
 /// What is said of the letters that were sent holds where the post tells them. An `Err` is counted in any case: the count
-/// of failures rose in that call, or stood at 2^64 - 1.
+/// of failures is one more then, up to 2^64 - 1, and the same at `Ok`.
 pub trait Post {
     /// What was sent, in order.
     ghost sent: { Self → List LetterValue };

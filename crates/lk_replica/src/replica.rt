@@ -1,8 +1,10 @@
 // The replica: a node and its store.
-ghost use Rattle.std.specs.Prelude.{◌≡◌, ℕ, ◌+◌, ◌-◌, ◌^◌, ◌<◌, ◌≤◌, min, length, ◌++◌, List, [], true, false, Contains, IfOk, IfErr, OnOk, OnErr, IsErrOf};
+ghost use Rattle.std.specs.Prelude.{◌≡◌, ◌≢◌, ℕ, ◌+◌, ◌<◌, ◌≤◌, length, ◌++◌, List, [], true, false, Contains, IfOk, IfErr, OnOk, OnErr, IsErrOf, MatchResult};
 ghost use Rattle.lk_types.specs.Limits.{max_count};
 ghost use Rattle.lk_disk.specs.Disk.{contents};
 ghost use Rattle.lk_disk.specs.declared.device.Side.{Side};
+ghost use Rattle.lk_disk.specs.Meters.{Passes, trapped};
+ghost use Rattle.lk_log.specs.Causes.{put_calls};
 ghost use Rattle.lk_log.specs.Rooms.{StaysWithin};
 ghost use Rattle.lk_log.specs.StoreValue.{StoreValue, disks};
 ghost use Rattle.lk_node.specs.NodeValue.{NodeValue};
@@ -17,10 +19,10 @@ ghost use Rattle.lk_node.specs.Holdings.{Holding};
 ghost use Rattle.lk_node.specs.Keeping.{Stands};
 ghost use Rattle.lk_node.specs.Leavings.{DisksFit, AllCover};
 ghost use Rattle.lk_node.specs.Letters.{LetterValue, batch_of};
-ghost use Rattle.lk_replica.specs.Posts.{AreOf, SendsSome};
+ghost use Rattle.lk_replica.specs.Posts.{AreOf, SendsSome, more_by};
 ghost use Rattle.lk_node.specs.Steps.{Steps};
-ghost use Rattle.lk_replica.specs.Taking.{Puts, IsTaken};
-ghost use Rattle.lk_replica.specs.Faults.{fault_number, IfSend};
+ghost use Rattle.lk_replica.specs.Taking.{Puts, CallsOfStep, IsTaken};
+ghost use Rattle.lk_replica.specs.Faults.{fault_number, CountsFailure, RefusedAfter, IfSend};
 ghost use Rattle.lk_replica.specs.Rooms.{max_step, max_behind};
 
 use crate::compacting::rebase_where_due;
@@ -82,8 +84,8 @@ impl<M: Machine, D: LogDisk + Drop> Replica<M, D> {
             → AllCover (meaning M.first M.next M.answer) genesis n (disks self.old.store) x → AllCover (meaning M.first M.next M.answer) genesis n (disks self.new.store) x }
         // At Ok it has put the outbox of its step, given its notes and sent its letters in order, and nothing else. Under
         // `Send` the letters whose send failed are lost.
-        ensures exact { D.is_honest → P.is_telling → IfOk result (λ notes. IsTaken (meaning M.first M.next M.answer) self.old input.entry self.new notes.items (λ letters. P.sent post.new ≡ P.sent post.old ++ letters)) }
-        ensures exact_send { D.is_honest → P.is_telling → IfErr result (IfSend (λ notes. IsTaken (meaning M.first M.next M.answer) self.old input.entry self.new notes (λ letters. SendsSome letters (P.sent post.old) (P.sent post.new)))) }
+        ensures exact { D.is_honest → P.is_telling → IfOk result (λ notes. IsTaken (meaning M.first M.next M.answer) D.is_metered self.old input.entry self.new notes.items (λ letters. P.sent post.new ≡ P.sent post.old ++ letters)) }
+        ensures exact_send { D.is_honest → P.is_telling → IfErr result (IfSend (λ notes. IsTaken (meaning M.first M.next M.answer) D.is_metered self.old input.entry self.new notes (λ letters. SendsSome letters (P.sent post.old) (P.sent post.new) (P.failures post.old) (P.failures post.new)))) }
         // What it can execute it has executed.
         ensures runs { OnOk result (NothingToRun self.new.node) }
         ensures runs_on { IfErr result (IfSend (λ notes. NothingToRun self.new.node)) }
@@ -91,9 +93,10 @@ impl<M: Machine, D: LogDisk + Drop> Replica<M, D> {
         ensures broken { IfErr result (λ e. (fault_number e ≡ 15 → ⊥) → self.new.failed ≡ true) }
         // After any exit neither file is longer than it was, or else than half of what a file may hold, and a step.
         ensures room { D.is_honest → StaysWithin max_behind (disks self.old.store) (disks self.new.store) }
-        // `Device` comes only where the device's count of failures rose, and `Send` only where the post's did, or it stood at 2^64 - 1.
-        ensures cause { IfErr result (λ e. fault_number e ≡ 7 → min (self.old.store.failures + 1) (2 ^ 64 - 1) ≤ self.new.store.failures) }
-        ensures cause_send { IfErr result (IfSend (λ notes. min (P.failures post.old + 1) (2 ^ 64 - 1) ≤ P.failures post.new)) }
+        // `Device` comes exactly where a call of the device has failed, and `Send` exactly where some of the post's did.
+        ensures cause { CountsFailure self.old.store.failures self.new.store.failures result }
+        ensures cause_send { IfErr result (IfSend (λ notes. (lost : ℕ) × (lost ≢ 0) × (P.failures post.new ≡ more_by lost (P.failures post.old)))) }
+        ensures metered { D.is_metered → D.is_honest → IfErr result (λ e. RefusedAfter (fault_number e) self.old.store.meter self.new.store.meter) }
         ensures failed { self.old.failed ≡ true → IsErrOf result ReplicaFault.Failed }
         // Nothing but an earlier refusal, its own or its store's, makes it answer `Failed`, or a rebase behind the last generation.
         ensures failed_before { self.old.failed ≡ false → self.old.store.failed ≡ false → self.old.store.generation < max_count → IsErrOf result ReplicaFault.Failed → ⊥ }
@@ -133,6 +136,7 @@ impl<M: Machine, D: LogDisk + Drop> Replica<M, D> {
     pub fn device(&self) -> &D
         ensures disks { (s : Side) → D.disk result.now s ≡ disks self.now.store s }
         ensures failures { D.failures result.now ≡ self.now.store.failures }
+        ensures meter { D.meter result.now ≡ self.now.store.meter }
     {
         self.store.device()
     }
@@ -141,6 +145,7 @@ impl<M: Machine, D: LogDisk + Drop> Replica<M, D> {
     pub fn into_disks(self) -> D
         ensures disks { (s : Side) → D.disk result s ≡ disks self.store s }
         ensures failures { D.failures result ≡ self.store.failures }
+        ensures meter { D.meter result ≡ self.store.meter }
     {
         let Replica {
             alloc: _,
@@ -156,7 +161,7 @@ impl<M: Machine, D: Trapped + Drop> Replica<M, D> {
     /// Sets the trap of the device, in place of one that is pending. It changes no disk.
     pub fn trap(&mut self, trap: Trap)
         ensures node { self.new.node ≡ self.old.node }
-        ensures store { D.is_honest → self.new.store ≡ self.old.store }
+        ensures store { D.is_honest → D.is_metered → self.new.store ≡ record self.old.store { meter = trapped trap self.old.store.meter } }
         ensures failures { self.new.store.failures ≡ self.old.store.failures }
         ensures failed { self.new.failed ≡ self.old.failed }
     {
@@ -181,11 +186,12 @@ fn write<M: Machine, D: LogDisk + Drop>(
         → AllCover (meaning M.first M.next M.answer) genesis n (disks store.old) x → AllCover (meaning M.first M.next M.answer) genesis n (disks store.new) x }
     ensures steps { IfOk result (λ o. Steps (meaning M.first M.next M.answer) node.old input.entry node.new o) }
     ensures puts { D.is_honest → IfOk result (λ o. Puts store.old o store.new) }
+    ensures metered { D.is_metered → MatchResult result (λ o. Passes store.old.meter store.new.meter (put_calls o.entries o.sync)) (λ e. RefusedAfter (fault_number e) store.old.meter store.new.meter) }
     ensures runs { NothingToRun node.old → OnOk result (NothingToRun node.new) }
     ensures only { IfErr result (IfSend (λ notes. ⊥)) }
     ensures alive { OnOk result (store.new.failed ≡ false) }
     ensures failed_before { store.old.failed ≡ false → IsErrOf result ReplicaFault.Failed → ⊥ }
-    ensures cause { IfErr result (λ e. fault_number e ≡ 7 → min (store.old.failures + 1) (2 ^ 64 - 1) ≤ store.new.failures) }
+    ensures cause { CountsFailure store.old.failures store.new.failures result }
     ensures grows { D.is_honest → length (contents store.new.live_disk) ≤ length (contents store.old.live_disk) + max_step }
     ensures beside { D.is_honest → store.new.other_disk ≡ store.old.other_disk }
     ensures live { store.new.live ≡ store.old.live }
@@ -211,11 +217,13 @@ fn write_behind<M: Machine, D: LogDisk + Drop>(
         → AllCover (meaning M.first M.next M.answer) genesis n (disks store.old) x → AllCover (meaning M.first M.next M.answer) genesis n (disks store.new) x }
     ensures exact { D.is_honest → IfOk result (λ o. (mid : NodeValue) × (between : StoreValue) × RebasesWhereDue node.old store.old mid between
         × Steps (meaning M.first M.next M.answer) mid input.entry node.new o × Puts between o store.new) }
+    ensures calls { D.is_metered → D.is_honest → IfOk result (λ o. CallsOfStep node.old store.old o store.new) }
+    ensures metered { D.is_metered → D.is_honest → IfErr result (λ e. RefusedAfter (fault_number e) store.old.meter store.new.meter) }
     ensures runs { NothingToRun node.old → OnOk result (NothingToRun node.new) }
     ensures alive { OnOk result (store.new.failed ≡ false) }
     ensures only { IfErr result (IfSend (λ notes. ⊥)) }
     ensures failed_before { store.old.failed ≡ false → store.old.generation < max_count → IsErrOf result ReplicaFault.Failed → ⊥ }
-    ensures cause { IfErr result (λ e. fault_number e ≡ 7 → min (store.old.failures + 1) (2 ^ 64 - 1) ≤ store.new.failures) }
+    ensures cause { CountsFailure store.old.failures store.new.failures result }
     ensures room { D.is_honest → StaysWithin max_behind (disks store.old) (disks store.new) }
 {
     rebase_where_due(node, store)?;

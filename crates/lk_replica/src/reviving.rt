@@ -1,5 +1,5 @@
 // Reviving what a stop left.
-ghost use Rattle.std.specs.Prelude.{◌≡◌, ◌⊎◌, ℕ, ◌+◌, ◌-◌, ◌*◌, ◌^◌, ◌≤◌, min, [], false, length, nat_le, Contains, IfOk, IfErr, IsErrOf};
+ghost use Rattle.std.specs.Prelude.{◌≡◌, ◌⊎◌, ℕ, ◌+◌, ◌*◌, ◌≤◌, [], false, length, nat_le, Contains, IfOk, IfErr, IsErrOf, MatchResult};
 ghost use Rattle.std.specs.List.{list_all};
 ghost use Rattle.lk_disk.specs.declared.device.Side.{Side};
 ghost use Rattle.lk_log.specs.Images.{IsDamaged, seen};
@@ -12,12 +12,12 @@ ghost use Rattle.lk_state.specs.Packed.{Packs};
 ghost use Rattle.lk_state.specs.States.{WholeValue};
 ghost use Rattle.lk_history.specs.Datagrams.{NodeMessage};
 ghost use Rattle.lk_node.specs.Calls.{Goes};
-ghost use Rattle.lk_replica.specs.Faults.{fault_number};
+ghost use Rattle.lk_replica.specs.Faults.{fault_number, failures_by, RefusedAfter};
 ghost use Rattle.lk_node.specs.Executing.{NothingToRun};
 ghost use Rattle.lk_node.specs.Histories.{History, Genesis as TheGenesis, IsLawful};
 ghost use Rattle.lk_node.specs.Keeping.{Stands};
 ghost use Rattle.lk_node.specs.Leavings.{header_of, DisksFit, AllCover};
-ghost use Rattle.lk_replica.specs.Revivals.{Unpacks, MayRevive, Restores, Revives, NoneRevives};
+ghost use Rattle.lk_replica.specs.Revivals.{Unpacks, MayRevive, Restores, Revives, NoneRevives, CallsOfOpening};
 ghost use Rattle.lk_node.specs.Served.{text};
 
 use crate::fault::ReplicaFault;
@@ -127,7 +127,11 @@ impl<M: Machine, D: LogDisk + Drop> Replica<M, D> {
         ensures damaged { D.is_honest → IfErr result (λ e. fault_number e.fault ≡ 9 → IsDamaged (seen (D.disk device)) ⊎ NoneRevives (meaning M.first M.next M.answer) M.IsText (D.disk device) header.now) }
         ensures wrong { D.is_honest → IfErr result (λ e. fault_number e.fault ≡ 10 → IsWrong (seen (D.disk device)) header.now) }
         ensures only { IfErr result (λ e. (7 ≤ fault_number e.fault) × (fault_number e.fault ≤ 10)) }
-        ensures cause { IfErr result (λ e. fault_number e.fault ≡ 7 → min (D.failures device + 1) (2 ^ 64 - 1) ≤ D.failures e.device) }
+        // `Device` comes exactly where a call of the device has failed.
+        ensures cause { MatchResult result (λ r. r.replica.store.failures ≡ D.failures device) (λ e. D.failures e.device ≡ failures_by (fault_number e.fault) (D.failures device)) }
+        ensures metered { D.is_metered → D.is_honest → MatchResult result
+            (λ r. CallsOfOpening (D.disk device) (D.meter device) r.replica.store.meter)
+            (λ e. RefusedAfter (fault_number e.fault) (D.meter device) (D.meter e.device)) }
         // After any exit neither file is longer than it was, or else than a Base.
         ensures room { D.is_honest → IfOk result (λ r. StaysWithin max_base (D.disk device) (disks r.replica.store)) }
         ensures room_err { D.is_honest → IfErr result (λ e. StaysWithin max_base (D.disk device) (D.disk e.device)) }

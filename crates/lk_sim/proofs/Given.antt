@@ -45,10 +45,10 @@ module _ {R : Type 0} (Shows : R → Genesis → ℕ → Holding → Type 0) (di
   }
 
   -- a trap was set
-  pub trapped_up : (s new : Seat R) (r q : R) → s.life ≡ Up r → new.life ≡ Up q → new.number ≡ s.number → q ≡ r → SeatFits Shows disks m h w s → SeatFits Shows disks m h w new
-  trapped_up s new r q old now number same f = record {
-    up = λ p is. let e : r ≡ p = cc (now, is, same) in
-        subst (λ k. UpFits Shows disks m h w k p) (sym number) (subst (λ z. UpFits Shows disks m h w s.number z) e (f.up r old));
+  pub trapped_up : (s new : Seat R) (r q : R) → s.life ≡ Up r → new.life ≡ Up q → new.number ≡ s.number → ((n : ℕ) → UpFits Shows disks m h w n r → UpFits Shows disks m h w n q) → SeatFits Shows disks m h w s → SeatFits Shows disks m h w new
+  trapped_up s new r q old now number on f = record {
+    up = λ p is. let e : q ≡ p = cc (now, is) in
+        subst (λ k. UpFits Shows disks m h w k p) (sym number) (subst (λ z. UpFits Shows disks m h w s.number z) e (on s.number (f.up r old)));
     down = λ d is. absurd (cc (now, is));
   }
 

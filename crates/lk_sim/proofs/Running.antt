@@ -1,13 +1,11 @@
 -- Events in a row.
 use Rattle.std.proofs.Common.{◌≡◌, ℕ, suc, List, [], ◌∷◌, ◌++◌, take, slice_get, Some, None, refl, sym, ap, ◌∙◌, subst, inl, inr, append_assoc, append-nil}
-use Rattle.lk_disk.specs.Disk.{Disk}
-use Rattle.lk_disk.specs.Memory.{Memory}
-use Rattle.lk_disk.specs.declared.device.Side.{Side}
-use Rattle.lk_replica.specs.Behaviours.{Taking, Reviving}
+use Rattle.lk_disk.specs.Memory.{Memory, empty}
+use Rattle.lk_replica.specs.Behaviours.{Behaviour}
 use Rattle.std.specs.Prelude.{Option, Result, Ok, Err, Vec, OnOk, IfErr}
 use Rattle.std.specs.Global.{Global}
 use Rattle.lk_node.specs.declared.note.Note.{Note}
-use Rattle.lk_sim.specs.Events.{IsGiven, ComesUp, Brings, Does, IsRefused, IsRefusedAt, Halts, LeftBy, Grows}
+use Rattle.lk_sim.specs.Events.{IsGiven, ComesUp, Brings, Does, Wants, IsRefused, IsRefusedAt, LeftBy, Grows}
 use Rattle.lk_sim.specs.Refusals.{NoInjection}
 use Rattle.lk_sim.specs.Runs.{Passes, StopsAt, Runs}
 use Rattle.lk_sim.specs.Scenes.{Scene}
@@ -20,14 +18,14 @@ use Rattle.lk_sim.specs.declared.refused.Refused.{Refused}
 use Rattle.lk_sim.specs.declared.seat.Seat.{Seat}
 use Rattle.lk_sim.proofs.Lists.{take_next}
 
-module _ {R : Type 0} (Takes : Taking R) (Revives : Reviving R) (disks : R → Side → Disk) where
-  passes_on : (es : List Event) (e : Event) (old mid new : Scene R) → Passes Takes Revives disks es old mid → Does Takes Revives disks mid e new → Passes Takes Revives disks (es ++ e ∷ []) old new
-  passes_on [] e old mid new p d = (new, subst (λ z. Does Takes Revives disks z e new) p d, refl)
+module _ {R : Type 0} (b : Behaviour R) where
+  passes_on : (es : List Event) (e : Event) (old mid new : Scene R) → Passes b es old mid → Does b mid e new → Passes b (es ++ e ∷ []) old new
+  passes_on [] e old mid new p d = (new, subst (λ z. Does b z e new) p d, refl)
   passes_on (x ∷ es) e old mid new p d = (p.0, p.1, passes_on es e p.0 mid new p.2 d)
 
   -- one event more
-  pub passes_next : (es : List Event) (i : ℕ) (e : Event) (old mid new : Scene R) → slice_get es i ≡ Some e → Passes Takes Revives disks (take i es) old mid → Does Takes Revives disks mid e new → Passes Takes Revives disks (take (suc i) es) old new
-  passes_next es i e old mid new at p d = subst (λ l. Passes Takes Revives disks l old new) (sym (take_next es i e at)) (passes_on (take i es) e old mid new p d)
+  pub passes_next : (es : List Event) (i : ℕ) (e : Event) (old mid new : Scene R) → slice_get es i ≡ Some e → Passes b (take i es) old mid → Does b mid e new → Passes b (take (suc i) es) old new
+  passes_next es i e old mid new at p d = subst (λ l. Passes b l old new) (sym (take_next es i e at)) (passes_on (take i es) e old mid new p d)
 
 -- what follows of each refusal
 pub if_err : {A E : Type 0} (P Q : E → Type 0) (r : Result A E) → ((e : E) → P e → Q e) → IfErr r P → IfErr r Q
@@ -35,11 +33,11 @@ if_err P Q (Ok x) f p = tt
 if_err P Q (Err e) f p = f e p
 
 -- bytes that were refused are a refused event
-pub injected_refused : {R : Type 0} (Takes : Taking R) (Revives : Reviving R) (disks : R → Side → Disk) (old new : Scene R) (n : ℕ) (bytes : Vec ℕ Global) (r : Refused)
-    → IsRefusedAt (NoInjection old.seats old.sent n bytes.items) (IsUp old.seats n) (LeftBy Takes disks (Some bytes.items)) old n r new → IsRefused Takes Revives disks old (event.Inject n bytes) r new
-injected_refused Takes Revives disks old new n bytes r k = elim k [
+pub injected_refused : {R : Type 0} (b : Behaviour R) (old new : Scene R) (n : ℕ) (bytes : Vec ℕ Global) (r : Refused)
+    → IsRefusedAt (NoInjection old.seats old.sent n bytes.items) (IsUp old.seats n) (LeftBy b (Some bytes.items)) old n r new → IsRefused b old (event.Inject n bytes) r new
+injected_refused b old new n bytes r k = elim k [
   | inl why ↦ inl why
-  | inr wants ↦ inr (wants.0, wants.1, elim wants.2 [ inl same ↦ inl same | inr halted ↦ inr (n, (refl, halted)) ])
+  | inr wants ↦ inr wants
 ]
 
 -- ---- the datagrams only grow
@@ -49,18 +47,18 @@ pub of_result : {A E : Type 0} (G P : Type 0) (Q : E → Type 0) (r : Result A E
 of_result G P Q (Ok x) p q a b = p a
 of_result G P Q (Err e) p q a b = q e b
 
-module _ {R : Type 0} (Takes : Taking R) (Revives : Reviving R) (disks : R → Side → Disk) where
+module _ {R : Type 0} (b : Behaviour R) where
   nothing_more : (old new : Scene R) → new ≡ old → Grows old new
   nothing_more old new same = ([], ap (λ (z : Scene R). z.sent) same ∙ sym (append-nil old.sent))
 
-  come_grows : (old new : Scene R) (t : Seat R) (d : Memory) → ComesUp Revives old new t d → Grows old new
+  come_grows : (old new : Scene R) (t : Seat R) (d : Memory) → ComesUp b old new t d → Grows old new
   come_grows old new t d c = elim c [ inl r ↦ ([], r.adds.sent) | inr f ↦ ([], f.adds.sent) ]
 
-  given_grows : (old new : Scene R) (n : ℕ) (o : Option (List ℕ)) (asked : List Note) → IsGiven Takes disks old new n o asked → Grows old new
+  given_grows : (old new : Scene R) (n : ℕ) (o : Option (List ℕ)) (asked : List Note) → IsGiven b old new n o asked → Grows old new
   given_grows old new n o asked k = elim k.comes_to [ inl r ↦ (r.batch, r.adds.sent) | inr (inl r) ↦ (take r.sends r.batch, r.adds.sent) | inr (inr f) ↦ ([], f.adds.sent) ]
 
-  brings_grows : (old new : Scene R) (e : Event) → Brings Takes Revives disks old e new → Grows old new
-  brings_grows old new (event.Start n) k = come_grows old new k.seat k.device k.comes
+  brings_grows : (old new : Scene R) (e : Event) → Brings b old e new → Grows old new
+  brings_grows old new (event.Start n) k = come_grows old new k.seat empty k.comes
   brings_grows old new (event.Restart n) k = come_grows old new k.next k.device k.comes
   brings_grows old new (event.Tick n) k = given_grows old new n None [] k
   brings_grows old new (event.Client n r) k = (k.datagram ∷ [], k.adds.sent)
@@ -70,36 +68,33 @@ module _ {R : Type 0} (Takes : Taking R) (Revives : Reviving R) (disks : R → S
   brings_grows old new (event.FailAt n count) k = ([], k.adds.sent)
   brings_grows old new (event.Arm n count bytes) k = ([], k.adds.sent)
 
-  pub done_grows : (old new : Scene R) (e : Event) → Does Takes Revives disks old e new → Grows old new
+  pub done_grows : (old new : Scene R) (e : Event) → Does b old e new → Grows old new
   done_grows old new e k = brings_grows old new e k.1
 
-  halted_grows : (old new : Scene R) (n : ℕ) (e : Event) → Halts Takes Revives disks old e n new → Grows old new
-  halted_grows old new n (event.Start m) k = absurd k
-  halted_grows old new n (event.Restart m) k = ([], k.1.adds.sent)
-  halted_grows old new n (event.Tick m) k = ([], k.1.adds.sent)
-  halted_grows old new n (event.Client m r) k = absurd k
-  halted_grows old new n (event.Deliver i) k = ([], k.3.adds.sent)
-  halted_grows old new n (event.Inject m bytes) k = ([], k.1.adds.sent)
-  halted_grows old new n (event.Stop m x y) k = absurd k
-  halted_grows old new n (event.FailAt m count) k = absurd k
-  halted_grows old new n (event.Arm m count bytes) k = absurd k
+  wants_grow : (old new : Scene R) (e : Event) → Wants b old e new → Grows old new
+  wants_grow old new (event.Start m) k = nothing_more old new k
+  wants_grow old new (event.Restart m) k = ([], k.adds.sent)
+  wants_grow old new (event.Tick m) k = ([], k.adds.sent)
+  wants_grow old new (event.Client m r) k = nothing_more old new k
+  wants_grow old new (event.Deliver i) k = elim k [ inl same ↦ nothing_more old new same | inr h ↦ ([], h.4.adds.sent) ]
+  wants_grow old new (event.Inject m bytes) k = elim k [ inl same ↦ nothing_more old new same | inr h ↦ ([], h.adds.sent) ]
+  wants_grow old new (event.Stop m x y) k = absurd k
+  wants_grow old new (event.FailAt m count) k = absurd k
+  wants_grow old new (event.Arm m count bytes) k = absurd k
 
-  pub refused_grows : (old new : Scene R) (e : Event) (r : Refused) → IsRefused Takes Revives disks old e r new → Grows old new
-  refused_grows old new e r k = elim k [
-    | inl same ↦ nothing_more old new same.1
-    | inr wants ↦ elim wants.2 [ inl same ↦ nothing_more old new same | inr h ↦ halted_grows old new h.0 e h.1 ]
-  ]
+  pub refused_grows : (old new : Scene R) (e : Event) (r : Refused) → IsRefused b old e r new → Grows old new
+  refused_grows old new e r k = elim k [ inl same ↦ nothing_more old new same.1 | inr wants ↦ wants_grow old new e wants.2 ]
 
   both_grow : (old mid new : Scene R) → Grows old mid → Grows mid new → Grows old new
-  both_grow old mid new a b = (a.0 ++ b.0, b.1 ∙ ap (λ l. l ++ b.0) a.1 ∙ append_assoc old.sent a.0 b.0)
+  both_grow old mid new x y = (x.0 ++ y.0, y.1 ∙ ap (λ l. l ++ y.0) x.1 ∙ append_assoc old.sent x.0 y.0)
 
-  passes_grow : (es : List Event) (old new : Scene R) → Passes Takes Revives disks es old new → Grows old new
+  passes_grow : (es : List Event) (old new : Scene R) → Passes b es old new → Grows old new
   passes_grow [] old new p = nothing_more old new p
   passes_grow (e ∷ es) old new p = both_grow old p.0 new (done_grows old p.0 e p.1) (passes_grow es p.0 new p.2)
 
-  stops_grow : (es : List Event) (done : ℕ) (o : Option Refused) (last new : Scene R) → StopsAt Takes Revives disks es done o last new → Grows last new
+  stops_grow : (es : List Event) (done : ℕ) (o : Option Refused) (last new : Scene R) → StopsAt b es done o last new → Grows last new
   stops_grow es done None last new k = nothing_more last new k.1
   stops_grow es done (Some r) last new k = refused_grows last new k.0 r k.2
 
-  pub run_grows : (old new : Scene R) (es : List Event) (how : RunEnd) → Runs Takes Revives disks old es how new → Grows old new
+  pub run_grows : (old new : Scene R) (es : List Event) (how : RunEnd) → Runs b old es how new → Grows old new
   run_grows old new es how k = both_grow old k.last new (passes_grow (take how.done es) old k.last k.passes) (stops_grow es how.done how.refused k.last new k.stops)

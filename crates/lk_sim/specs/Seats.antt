@@ -1,10 +1,11 @@
 -- The nodes of a world.
-use Rattle.std.specs.Prelude.{◌≡◌, ℕ, ◌<◌, ◌⊎◌, false, List, length, get_or}
-use Rattle.lk_disk.specs.Disk.{Disk, kept_by}
-use Rattle.lk_disk.specs.Memory.{Memory, disk_of}
+use Rattle.std.specs.Prelude.{◌≡◌, ℕ, ◌<◌, ◌⊎◌, Option, Some, None, List, length, get_or}
+use Rattle.lk_disk.specs.Disk.{Disk}
+use Rattle.lk_disk.specs.Memory.{Memory, disk_of, stopped}
+use Rattle.lk_disk.specs.Meters.{trapped, eased}
 use Rattle.lk_disk.specs.declared.device.Side.{Side}
-use Rattle.lk_disk.specs.declared.device.Side.TheVariants.{A, B}
 use Rattle.lk_disk.specs.declared.trap.Trap.{Trap}
+use Rattle.lk_disk.specs.declared.trap.Trap.TheVariants.{Off}
 use Rattle.lk_state.specs.Meanings.{Meaning}
 use Rattle.lk_history.specs.Nodes.{View}
 use Rattle.lk_node.specs.Histories.{History, Genesis, Datagram}
@@ -12,6 +13,7 @@ use Rattle.lk_node.specs.Calls.{Goes}
 use Rattle.lk_node.specs.declared.note.Note.{Note}
 use Rattle.lk_node.specs.Holdings.{Holding, HoldingFits}
 use Rattle.lk_node.specs.Leavings.{DisksFit}
+use Rattle.lk_replica.specs.Behaviours.{Behaviour}
 use Rattle.lk_sim.specs.declared.seat.Seat.{Seat}
 use Rattle.lk_sim.specs.declared.seat.Life.{Life}
 use Rattle.lk_sim.specs.declared.seat.Life.TheVariants.{Up, Down}
@@ -37,15 +39,31 @@ IsDown {R = R} seats number = (d : Memory) × Sits seats number (Down d)
 abbrev pub HasNo : {R : Type 0} → List (Seat R) → ℕ → Type 0
 HasNo {R = R} seats number = (k : ℕ) (s : Seat R) → At seats k s → s.number ≡ number → ⊥
 
--- the device has what a stop leaves of these disks that keeps up to so many unsynced bytes of each
-abbrev pub IsStopped : ℕ → ℕ → (Side → Disk) → Memory → Type 0
-IsStopped x y disks d = (d.a ≡ kept_by x (disks A)) × (d.b ≡ kept_by y (disks B))
+-- ---- the device of a node that is down
 
--- the device of a node that is down has the trap; of one that is up it is not seen
-abbrev pub IsTrapped : {R : Type 0} → Seat R → Seat R → Trap → Type 0
-IsTrapped {R = R} s t trap =
-    ((r : R) × (s.life ≡ Up r) × (t.life ≡ Up r))
-    ⊎ ((d : Memory) × (s.life ≡ Down d) × (t.life ≡ Down (record d { trap = trap; sprung = false; starved = false })))
+-- a stop that keeps up to so many unsynced bytes of each disk has left it, and nothing is pending
+abbrev pub stopped_on : ℕ → ℕ → Memory → Memory
+stopped_on x y m = record (stopped x y m) { meter = trapped Off (eased m.meter) }
+
+-- a fault has left it as it is, and no trap is pending
+abbrev pub fallen_on : Memory → Memory
+fallen_on m = record m { meter = trapped Off m.meter }
+
+-- so it is; or, where the node has come to an armed stop for so many bytes, that stop has left it
+abbrev pub rested_on : Option ℕ → Memory → Memory
+rested_on None m = fallen_on m
+rested_on (Some bytes) m = stopped_on bytes bytes m
+
+-- the device of a node, up or down
+abbrev pub device_in : {R : Type 0} → Behaviour R → Life R → Memory
+device_in b (Up r) = b.memory r
+device_in b (Down d) = d
+
+-- a trap was set at the device of the node, and nothing else changed
+abbrev pub IsTrapped : {R : Type 0} → Behaviour R → Seat R → Seat R → Trap → Type 0
+IsTrapped {R = R} b s t trap =
+    ((r : R) × (s.life ≡ Up r) × (t.life ≡ Up (b.with_trap trap r)))
+    ⊎ ((d : Memory) × (s.life ≡ Down d) × (t.life ≡ Down (record d { meter = trapped trap d.meter })))
 
 -- ---- how a node fits to what has happened
 

@@ -2,6 +2,7 @@
 ghost use Rattle.std.specs.Prelude.{◌≡◌, ◌++◌, [], ◌∷◌, IfOk, IfErr, OnOk, OnErr};
 ghost use Rattle.lk_wire.specs.Grammar.{Spells};
 ghost use Rattle.lk_wire.specs.declared.message.Content.TheVariants as content;
+ghost use Rattle.lk_replica.specs.Behaviours.{disks_by};
 ghost use Rattle.lk_sim.specs.Events.{Does, IsAsked, IsRefused};
 ghost use Rattle.lk_sim.specs.Worlds.{PartsHold, scene_of};
 ghost use Rattle.lk_sim.specs.declared.event.Event.TheVariants as event;
@@ -76,10 +77,10 @@ pub fn client<R: MemoryReplica>(
     number: NodeNo,
     request: &Request,
 ) -> Result<(), Refused>
-    requires { PartsHold R.Shows R.disks R.meaning parts.old }
-    ensures holds { PartsHold R.Shows R.disks R.meaning parts.new }
-    ensures ok { OnOk result (Does R.Takes R.Revives R.disks (scene_of parts.old) (event.Client number request.now) (scene_of parts.new)) }
-    ensures err { IfErr result (λ e. IsRefused R.Takes R.Revives R.disks (scene_of parts.old) (event.Client number request.now) e (scene_of parts.new)) }
+    requires { PartsHold R.Shows (disks_by R.behaves) R.meaning parts.old }
+    ensures holds { PartsHold R.Shows (disks_by R.behaves) R.meaning parts.new }
+    ensures ok { OnOk result (Does R.behaves (scene_of parts.old) (event.Client number request.now) (scene_of parts.new)) }
+    ensures err { IfErr result (λ e. IsRefused R.behaves (scene_of parts.old) (event.Client number request.now) e (scene_of parts.new)) }
 {
     let Some(_) = find(&parts.seats, number) else {
         return Err(Refused::NoSuchNode);

@@ -4,6 +4,7 @@ ghost use Rattle.lk_history.specs.Datagrams.{Datagram as DatagramValue};
 ghost use Rattle.lk_history.specs.declared.party.Party.TheVariants as party;
 ghost use Rattle.lk_wire.specs.declared.message.Content.TheVariants as content;
 ghost use Rattle.lk_node.specs.Histories.{RequestValue};
+ghost use Rattle.lk_replica.specs.Behaviours.{disks_by};
 ghost use Rattle.lk_sim.specs.Events.{Does, IsInjected, IsRefused, IsRefusedAt, LeftBy};
 ghost use Rattle.lk_sim.specs.Heard.{Asks, IsForged};
 ghost use Rattle.lk_sim.specs.Refusals.{datagram_at, HasRoom, NoTurn, NoDelivery, NoInjection, MayTurn};
@@ -36,10 +37,10 @@ fn turn_of<R: MemoryReplica>(parts: &Parts<R>, number: NodeNo) -> Result<usize, 
 
 /// Some time passes at a node.
 pub fn tick<R: MemoryReplica>(parts: &mut Parts<R>, number: NodeNo) -> Result<(), Refused>
-    requires { PartsHold R.Shows R.disks R.meaning parts.old }
-    ensures holds { PartsHold R.Shows R.disks R.meaning parts.new }
-    ensures ok { OnOk result (Does R.Takes R.Revives R.disks (scene_of parts.old) (event.Tick number) (scene_of parts.new)) }
-    ensures err { IfErr result (λ e. IsRefused R.Takes R.Revives R.disks (scene_of parts.old) (event.Tick number) e (scene_of parts.new)) }
+    requires { PartsHold R.Shows (disks_by R.behaves) R.meaning parts.old }
+    ensures holds { PartsHold R.Shows (disks_by R.behaves) R.meaning parts.new }
+    ensures ok { OnOk result (Does R.behaves (scene_of parts.old) (event.Tick number) (scene_of parts.new)) }
+    ensures err { IfErr result (λ e. IsRefused R.behaves (scene_of parts.old) (event.Tick number) e (scene_of parts.new)) }
 {
     let i = turn_of(parts, number)?;
     give(parts, i, Input::Tick, None)?;
@@ -81,10 +82,10 @@ fn bytes_of<R: MemoryReplica>(parts: &Parts<R>, k: usize) -> Result<Vec<u8>, NoM
 
 /// The node to which the datagram of this place was bound takes it.
 pub fn deliver<R: MemoryReplica>(parts: &mut Parts<R>, k: usize) -> Result<(), Refused>
-    requires { PartsHold R.Shows R.disks R.meaning parts.old }
-    ensures holds { PartsHold R.Shows R.disks R.meaning parts.new }
-    ensures ok { OnOk result (Does R.Takes R.Revives R.disks (scene_of parts.old) (event.Deliver k) (scene_of parts.new)) }
-    ensures err { IfErr result (λ e. IsRefused R.Takes R.Revives R.disks (scene_of parts.old) (event.Deliver k) e (scene_of parts.new)) }
+    requires { PartsHold R.Shows (disks_by R.behaves) R.meaning parts.old }
+    ensures holds { PartsHold R.Shows (disks_by R.behaves) R.meaning parts.new }
+    ensures ok { OnOk result (Does R.behaves (scene_of parts.old) (event.Deliver k) (scene_of parts.new)) }
+    ensures err { IfErr result (λ e. IsRefused R.behaves (scene_of parts.old) (event.Deliver k) e (scene_of parts.new)) }
 {
     let number = bound(parts, k)?;
     let i = turn_of(parts, number)?;
@@ -125,10 +126,10 @@ pub fn inject<R: MemoryReplica>(
     number: NodeNo,
     bytes: &[u8],
 ) -> Result<(), Refused>
-    requires { PartsHold R.Shows R.disks R.meaning parts.old }
-    ensures holds { PartsHold R.Shows R.disks R.meaning parts.new }
-    ensures ok { OnOk result (MayTurn (scene_of parts.old) number × (IsForged bytes.now → ⊥) × IsInjected R.Takes R.disks (scene_of parts.old) (scene_of parts.new) number bytes.now) }
-    ensures err { IfErr result (λ e. IsRefusedAt (NoInjection parts.old.seats.items parts.old.sent.items number bytes.now) (IsUp parts.old.seats.items number) (LeftBy R.Takes R.disks (Some bytes.now)) (scene_of parts.old) number e (scene_of parts.new)) }
+    requires { PartsHold R.Shows (disks_by R.behaves) R.meaning parts.old }
+    ensures holds { PartsHold R.Shows (disks_by R.behaves) R.meaning parts.new }
+    ensures ok { OnOk result (MayTurn (scene_of parts.old) number × (IsForged bytes.now → ⊥) × IsInjected R.behaves (scene_of parts.old) (scene_of parts.new) number bytes.now) }
+    ensures err { IfErr result (λ e. IsRefusedAt (NoInjection parts.old.seats.items parts.old.sent.items number bytes.now) (IsUp parts.old.seats.items number) (LeftBy R.behaves (Some bytes.now)) (scene_of parts.old) number e (scene_of parts.new)) }
 {
     let i = find_up(&parts.seats, number)?;
     let asked = request_in(parts.alloc, bytes)?;

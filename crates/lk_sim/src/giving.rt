@@ -6,6 +6,7 @@ ghost use Rattle.lk_node.specs.Calls.{heard_by, InputFits};
 ghost use Rattle.lk_node.specs.Histories.{History};
 ghost use Rattle.lk_node.specs.Leavings.{header_of};
 ghost use Rattle.lk_node.specs.declared.note.Note.{Note as NoteValue};
+ghost use Rattle.lk_replica.specs.Behaviours.{disks_by};
 ghost use Rattle.lk_sim.specs.Events.{IsGiven, IsHalted, IsBack, LeftBy, LeftByRevival};
 ghost use Rattle.lk_sim.specs.Outcomes.{HasAdded, HasSettled, HasGivenUp};
 ghost use Rattle.lk_sim.specs.Seats.{IsUpAt, IsDownAt};
@@ -85,8 +86,8 @@ fn settle<R: MemoryReplica>(
     outcome: Outcome,
 ) -> Result<(), NoMemory>
     requires place { i < length parts.old.seats.items }
-    ensures ok { OnOk result (HasSettled R.Shows R.disks R.meaning (scene_of parts.old) i (scene_of parts.new) (asked_note asked) outcome.notes.items outcome.sent.items outcome.ended outcome.stop) }
-    ensures err { OnErr result (HasGivenUp R.Shows R.disks R.meaning (scene_of parts.old) i (scene_of parts.new)) }
+    ensures ok { OnOk result (HasSettled R.Shows R.behaves R.meaning (scene_of parts.old) i (scene_of parts.new) (asked_note asked) outcome.notes.items outcome.sent.items outcome.ended outcome.stop) }
+    ensures err { OnErr result (HasGivenUp R.Shows R.behaves R.meaning (scene_of parts.old) i (scene_of parts.new)) }
 {
     let at = outcome.stop;
     match add(parts, asked, outcome) {
@@ -110,12 +111,12 @@ pub fn give<R: MemoryReplica>(
 ) -> Result<(), NoMemory>
     requires up { (n : ℕ) × IsUpAt parts.old.seats.items i n }
     requires heard { InputFits (happened parts.old.genesis parts.old.sent.items (parts.old.trace.items ++ asked_note asked)) input }
-    requires holds { PartsHold R.Shows R.disks R.meaning parts.old }
-    ensures holds { PartsHold R.Shows R.disks R.meaning parts.new }
+    requires holds { PartsHold R.Shows (disks_by R.behaves) R.meaning parts.old }
+    ensures holds { PartsHold R.Shows (disks_by R.behaves) R.meaning parts.new }
     ensures given { (n : ℕ) → IsUpAt parts.old.seats.items i n
-        → OnOk result (IsGiven R.Takes R.disks (scene_of parts.old) (scene_of parts.new) n (heard_by input.entry) (asked_note asked)) }
+        → OnOk result (IsGiven R.behaves (scene_of parts.old) (scene_of parts.new) n (heard_by input.entry) (asked_note asked)) }
     ensures halted { (n : ℕ) → IsUpAt parts.old.seats.items i n
-        → OnErr result (IsHalted (LeftBy R.Takes R.disks (heard_by input.entry)) (scene_of parts.old) (scene_of parts.new) n) }
+        → OnErr result (IsHalted (LeftBy R.behaves (heard_by input.entry)) (scene_of parts.old) (scene_of parts.new) n) }
 {
     let outcome = step(parts.alloc, &mut parts.seats[i], input)?;
     settle(parts, i, asked, outcome)?;
@@ -125,12 +126,12 @@ pub fn give<R: MemoryReplica>(
 /// The node at this place, which is down, takes up what its disks have.
 pub fn come_up<R: MemoryReplica>(parts: &mut Parts<R>, i: usize) -> Result<(), NoMemory>
     requires down { (n : ℕ) × IsDownAt parts.old.seats.items i n }
-    requires holds { PartsHold R.Shows R.disks R.meaning parts.old }
-    ensures holds { PartsHold R.Shows R.disks R.meaning parts.new }
+    requires holds { PartsHold R.Shows (disks_by R.behaves) R.meaning parts.old }
+    ensures holds { PartsHold R.Shows (disks_by R.behaves) R.meaning parts.new }
     ensures back { (n : ℕ) → IsDownAt parts.old.seats.items i n
-        → OnOk result (IsBack R.Revives (scene_of parts.old) (scene_of parts.new) n) }
+        → OnOk result (IsBack R.behaves (scene_of parts.old) (scene_of parts.new) n) }
     ensures halted { (n : ℕ) → IsDownAt parts.old.seats.items i n
-        → OnErr result (IsHalted (LeftByRevival R.Revives R.disks (header_of parts.old.genesis n)) (scene_of parts.old) (scene_of parts.new) n) }
+        → OnErr result (IsHalted (LeftByRevival R.behaves (header_of parts.old.genesis n)) (scene_of parts.old) (scene_of parts.new) n) }
 {
     let outcome = revive(parts.alloc, &mut parts.seats[i], &parts.genesis)?;
     settle(parts, i, None, outcome)?;

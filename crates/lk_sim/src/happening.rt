@@ -1,5 +1,6 @@
 // Events happen.
 ghost use Rattle.std.specs.Prelude.{OnOk, IfErr};
+ghost use Rattle.lk_replica.specs.Behaviours.{disks_by};
 ghost use Rattle.lk_sim.specs.Events.{Does, IsRefused};
 ghost use Rattle.lk_sim.specs.Runs.{Runs};
 ghost use Rattle.lk_sim.specs.Worlds.{PartsHold, scene_of};
@@ -15,10 +16,10 @@ use lk_replica::MemoryReplica;
 
 /// One event happens.
 pub fn happen<R: MemoryReplica>(parts: &mut Parts<R>, event: &Event) -> Result<(), Refused>
-    requires { PartsHold R.Shows R.disks R.meaning parts.old }
-    ensures holds { PartsHold R.Shows R.disks R.meaning parts.new }
-    ensures ok { OnOk result (Does R.Takes R.Revives R.disks (scene_of parts.old) event.now (scene_of parts.new)) }
-    ensures err { IfErr result (λ e. IsRefused R.Takes R.Revives R.disks (scene_of parts.old) event.now e (scene_of parts.new)) }
+    requires { PartsHold R.Shows (disks_by R.behaves) R.meaning parts.old }
+    ensures holds { PartsHold R.Shows (disks_by R.behaves) R.meaning parts.new }
+    ensures ok { OnOk result (Does R.behaves (scene_of parts.old) event.now (scene_of parts.new)) }
+    ensures err { IfErr result (λ e. IsRefused R.behaves (scene_of parts.old) event.now e (scene_of parts.new)) }
 {
     match event {
         Event::Start(number) => start(parts, *number),
@@ -35,9 +36,9 @@ pub fn happen<R: MemoryReplica>(parts: &mut Parts<R>, event: &Event) -> Result<(
 
 /// Events happen in order, up to the first that is refused.
 pub fn happen_all<R: MemoryReplica>(parts: &mut Parts<R>, events: &[Event]) -> RunEnd
-    requires { PartsHold R.Shows R.disks R.meaning parts.old }
-    ensures holds { PartsHold R.Shows R.disks R.meaning parts.new }
-    ensures runs { Runs R.Takes R.Revives R.disks (scene_of parts.old) events.now result (scene_of parts.new) }
+    requires { PartsHold R.Shows (disks_by R.behaves) R.meaning parts.old }
+    ensures holds { PartsHold R.Shows (disks_by R.behaves) R.meaning parts.new }
+    ensures runs { Runs R.behaves (scene_of parts.old) events.now result (scene_of parts.new) }
 {
     'events: for i in 0..events.len() {
         if let Err(refused) = happen(parts, &events[i]) {

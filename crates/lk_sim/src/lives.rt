@@ -1,5 +1,6 @@
 // Nodes come up and go down.
 ghost use Rattle.std.specs.Prelude.{◌≡◌, IfErr, OnOk, OnErr};
+ghost use Rattle.lk_replica.specs.Behaviours.{disks_by};
 ghost use Rattle.lk_sim.specs.Events.{Does, IsBegun, IsRefused};
 ghost use Rattle.lk_sim.specs.Seats.{HasNo};
 ghost use Rattle.lk_sim.specs.Worlds.{PartsHold, scene_of};
@@ -20,9 +21,9 @@ const MAX_NODES: usize = 16;
 // A node that was never started comes up on empty disks, and joins the others.
 fn begin<R: MemoryReplica>(parts: &mut Parts<R>, number: NodeNo) -> Result<(), NoMemory>
     requires unused { HasNo parts.old.seats.items number }
-    requires holds { PartsHold R.Shows R.disks R.meaning parts.old }
-    ensures holds { PartsHold R.Shows R.disks R.meaning parts.new }
-    ensures ok { OnOk result (IsBegun R.Revives (scene_of parts.old) (scene_of parts.new) number) }
+    requires holds { PartsHold R.Shows (disks_by R.behaves) R.meaning parts.old }
+    ensures holds { PartsHold R.Shows (disks_by R.behaves) R.meaning parts.new }
+    ensures ok { OnOk result (IsBegun R.behaves (scene_of parts.old) (scene_of parts.new) number) }
     ensures err { OnErr result (scene_of parts.new ≡ scene_of parts.old) }
 {
     let life = Life::Down(MemoryDisk::new(parts.alloc));
@@ -38,10 +39,10 @@ fn begin<R: MemoryReplica>(parts: &mut Parts<R>, number: NodeNo) -> Result<(), N
 
 /// A node with two empty disks is revived.
 pub fn start<R: MemoryReplica>(parts: &mut Parts<R>, number: NodeNo) -> Result<(), Refused>
-    requires { PartsHold R.Shows R.disks R.meaning parts.old }
-    ensures holds { PartsHold R.Shows R.disks R.meaning parts.new }
-    ensures ok { OnOk result (Does R.Takes R.Revives R.disks (scene_of parts.old) (event.Start number) (scene_of parts.new)) }
-    ensures err { IfErr result (λ e. IsRefused R.Takes R.Revives R.disks (scene_of parts.old) (event.Start number) e (scene_of parts.new)) }
+    requires { PartsHold R.Shows (disks_by R.behaves) R.meaning parts.old }
+    ensures holds { PartsHold R.Shows (disks_by R.behaves) R.meaning parts.new }
+    ensures ok { OnOk result (Does R.behaves (scene_of parts.old) (event.Start number) (scene_of parts.new)) }
+    ensures err { IfErr result (λ e. IsRefused R.behaves (scene_of parts.old) (event.Start number) e (scene_of parts.new)) }
 {
     if let Some(_) = find(&parts.seats, number) {
         return Err(Refused::AlreadyUp);
@@ -55,10 +56,10 @@ pub fn start<R: MemoryReplica>(parts: &mut Parts<R>, number: NodeNo) -> Result<(
 
 /// A node that is down is revived on its disks.
 pub fn restart<R: MemoryReplica>(parts: &mut Parts<R>, number: NodeNo) -> Result<(), Refused>
-    requires { PartsHold R.Shows R.disks R.meaning parts.old }
-    ensures holds { PartsHold R.Shows R.disks R.meaning parts.new }
-    ensures ok { OnOk result (Does R.Takes R.Revives R.disks (scene_of parts.old) (event.Restart number) (scene_of parts.new)) }
-    ensures err { IfErr result (λ e. IsRefused R.Takes R.Revives R.disks (scene_of parts.old) (event.Restart number) e (scene_of parts.new)) }
+    requires { PartsHold R.Shows (disks_by R.behaves) R.meaning parts.old }
+    ensures holds { PartsHold R.Shows (disks_by R.behaves) R.meaning parts.new }
+    ensures ok { OnOk result (Does R.behaves (scene_of parts.old) (event.Restart number) (scene_of parts.new)) }
+    ensures err { IfErr result (λ e. IsRefused R.behaves (scene_of parts.old) (event.Restart number) e (scene_of parts.new)) }
 {
     let i = find_down(&parts.seats, number)?;
     come_up(parts, i)?;
@@ -72,10 +73,10 @@ pub fn halt<R: MemoryReplica>(
     x: usize,
     y: usize,
 ) -> Result<(), Refused>
-    requires { PartsHold R.Shows R.disks R.meaning parts.old }
-    ensures holds { PartsHold R.Shows R.disks R.meaning parts.new }
-    ensures ok { OnOk result (Does R.Takes R.Revives R.disks (scene_of parts.old) (event.Stop number x y) (scene_of parts.new)) }
-    ensures err { IfErr result (λ e. IsRefused R.Takes R.Revives R.disks (scene_of parts.old) (event.Stop number x y) e (scene_of parts.new)) }
+    requires { PartsHold R.Shows (disks_by R.behaves) R.meaning parts.old }
+    ensures holds { PartsHold R.Shows (disks_by R.behaves) R.meaning parts.new }
+    ensures ok { OnOk result (Does R.behaves (scene_of parts.old) (event.Stop number x y) (scene_of parts.new)) }
+    ensures err { IfErr result (λ e. IsRefused R.behaves (scene_of parts.old) (event.Stop number x y) e (scene_of parts.new)) }
 {
     let i = find_up(&parts.seats, number)?;
     stop(parts.alloc, &mut parts.seats[i], x, y);
@@ -89,10 +90,10 @@ pub fn fail_at<R: MemoryReplica>(
     number: NodeNo,
     count: u64,
 ) -> Result<(), Refused>
-    requires { PartsHold R.Shows R.disks R.meaning parts.old }
-    ensures holds { PartsHold R.Shows R.disks R.meaning parts.new }
-    ensures ok { OnOk result (Does R.Takes R.Revives R.disks (scene_of parts.old) (event.FailAt number count) (scene_of parts.new)) }
-    ensures err { IfErr result (λ e. IsRefused R.Takes R.Revives R.disks (scene_of parts.old) (event.FailAt number count) e (scene_of parts.new)) }
+    requires { PartsHold R.Shows (disks_by R.behaves) R.meaning parts.old }
+    ensures holds { PartsHold R.Shows (disks_by R.behaves) R.meaning parts.new }
+    ensures ok { OnOk result (Does R.behaves (scene_of parts.old) (event.FailAt number count) (scene_of parts.new)) }
+    ensures err { IfErr result (λ e. IsRefused R.behaves (scene_of parts.old) (event.FailAt number count) e (scene_of parts.new)) }
 {
     let i = find(&parts.seats, number).ok_or(Refused::NoSuchNode)?;
     set_trap(&mut parts.seats[i], Trap::Fail(count));
@@ -107,10 +108,10 @@ pub fn arm<R: MemoryReplica>(
     count: u64,
     bytes: usize,
 ) -> Result<(), Refused>
-    requires { PartsHold R.Shows R.disks R.meaning parts.old }
-    ensures holds { PartsHold R.Shows R.disks R.meaning parts.new }
-    ensures ok { OnOk result (Does R.Takes R.Revives R.disks (scene_of parts.old) (event.Arm number count bytes) (scene_of parts.new)) }
-    ensures err { IfErr result (λ e. IsRefused R.Takes R.Revives R.disks (scene_of parts.old) (event.Arm number count bytes) e (scene_of parts.new)) }
+    requires { PartsHold R.Shows (disks_by R.behaves) R.meaning parts.old }
+    ensures holds { PartsHold R.Shows (disks_by R.behaves) R.meaning parts.new }
+    ensures ok { OnOk result (Does R.behaves (scene_of parts.old) (event.Arm number count bytes) (scene_of parts.new)) }
+    ensures err { IfErr result (λ e. IsRefused R.behaves (scene_of parts.old) (event.Arm number count bytes) e (scene_of parts.new)) }
 {
     let i = find(&parts.seats, number).ok_or(Refused::NoSuchNode)?;
     set_trap(&mut parts.seats[i], Trap::Arm(count, bytes));

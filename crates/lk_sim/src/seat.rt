@@ -1,19 +1,18 @@
 // A node of the world.
-ghost use Rattle.std.specs.Prelude.{◌≡◌, ℕ, ◌⊎◌, List, [], length, false, None, Some, IfOk, OnOk, OnErr};
-ghost use Rattle.lk_disk.specs.Disk.{Disk, contents};
+ghost use Rattle.std.specs.Prelude.{◌≡◌, ℕ, ◌⊎◌, length, false, IfOk, OnErr};
+ghost use Rattle.lk_disk.specs.Disk.{contents};
 ghost use Rattle.lk_disk.specs.Memory.{Memory, disk_of};
-ghost use Rattle.lk_disk.specs.declared.device.Side.{Side};
 ghost use Rattle.lk_disk.specs.declared.device.Side.TheVariants.{A, B};
-ghost use Rattle.lk_disk.specs.declared.trap.Trap.TheVariants.{Off};
 ghost use Rattle.lk_history.specs.Nodes.{View};
 ghost use Rattle.lk_node.specs.Histories.{History, Genesis as GenesisValue, IsLawful};
 ghost use Rattle.lk_node.specs.Leavings.{header_of, DisksFit};
 ghost use Rattle.lk_node.specs.Calls.{heard_by, InputFits};
+ghost use Rattle.lk_replica.specs.Behaviours.{disks_by};
 ghost use Rattle.lk_replica.specs.Faults.{fault_number};
 ghost use Rattle.lk_sim.specs.Events.{Breaks, StaysDown, IsNoWant, LeftBy, LeftByRevival, SentUpTo, end_by, end_at};
-ghost use Rattle.lk_sim.specs.Seats.{SeatFits, SeatGoes, IsStopped, IsTrapped};
+ghost use Rattle.lk_sim.specs.Seats.{SeatFits, SeatGoes, IsTrapped, device_in, stopped_on};
 ghost use Rattle.lk_sim.specs.Kept.{disks_of};
-ghost use Rattle.lk_sim.specs.Outcomes.{HasFallen, HasStopped, HasHalted, HasTaken, HasRevived, IsThis, StoodIn, Rests};
+ghost use Rattle.lk_sim.specs.Outcomes.{HasFallen, HasHalted, HasTaken, HasRevived, IsThis, Rests};
 ghost use Rattle.lk_sim.specs.declared.seat.Life.TheVariants.{Up, Down};
 
 use crate::end::End;
@@ -60,9 +59,8 @@ fn vacate<R: Drop>(alloc: Global, seat: &mut Seat<R>) -> Life<R>
 // The device of the node, which is left with empty disks.
 fn take_device<R: MemoryReplica>(alloc: Global, seat: &mut Seat<R>) -> MemoryDisk
     ensures number { seat.new.number ≡ seat.old.number }
-    ensures up { (r : R) → seat.old.life ≡ Up r → (k : Side) → disk_of result k ≡ R.disks r k }
-    ensures down { (d : Memory) → seat.old.life ≡ Down d → result ≡ d }
-    ensures fits { (h : History) (w : View) → SeatFits R.Shows R.disks R.meaning h w seat.old → DisksFit R.meaning h seat.old.number (disk_of result) }
+    ensures is { result ≡ device_in R.behaves seat.old.life }
+    ensures fits { (h : History) (w : View) → SeatFits R.Shows (disks_by R.behaves) R.meaning h w seat.old → DisksFit R.meaning h seat.old.number (disk_of result) }
 {
     match vacate(alloc, seat) {
         Life::Up(replica) => replica.into_disks(),
@@ -73,20 +71,20 @@ fn take_device<R: MemoryReplica>(alloc: Global, seat: &mut Seat<R>) -> MemoryDis
 /// The node goes down, and its disks keep up to `x` and `y` of their unsynced bytes.
 pub fn stop<R: MemoryReplica>(alloc: Global, seat: &mut Seat<R>, x: usize, y: usize)
     ensures number { seat.new.number ≡ seat.old.number }
-    ensures fits { (h : History) (w : View) → SeatFits R.Shows R.disks R.meaning h w seat.old → SeatFits R.Shows R.disks R.meaning h w seat.new }
-    ensures stopped { HasStopped (StoodIn R.disks seat.old.life) x y seat.new }
-    ensures up { (r : R) → seat.old.life ≡ Up r → (d : Memory) × (seat.new.life ≡ Down d) × IsStopped x y (R.disks r) d × (d.trap ≡ Off) }
+    ensures fits { (h : History) (w : View) → SeatFits R.Shows (disks_by R.behaves) R.meaning h w seat.old → SeatFits R.Shows (disks_by R.behaves) R.meaning h w seat.new }
+    ensures stopped { seat.new.life ≡ Down (stopped_on x y (device_in R.behaves seat.old.life)) }
 {
     let mut device = take_device(alloc, seat);
     device.stop(x, y);
+    device.trap(Trap::Off);
     seat.life = Life::Down(device);
 }
 
 /// The node, where it has come to an armed stop for so many bytes, goes down.
 pub fn rest<R: MemoryReplica>(alloc: Global, seat: &mut Seat<R>, at: Option<usize>)
     ensures number { seat.new.number ≡ seat.old.number }
-    ensures fits { (h : History) (w : View) → SeatFits R.Shows R.disks R.meaning h w seat.old → SeatFits R.Shows R.disks R.meaning h w seat.new }
-    ensures rests { Rests R.disks at seat.old seat.new }
+    ensures fits { (h : History) (w : View) → SeatFits R.Shows (disks_by R.behaves) R.meaning h w seat.old → SeatFits R.Shows (disks_by R.behaves) R.meaning h w seat.new }
+    ensures rests { Rests R.behaves at seat.old seat.new }
 {
     if let Some(bytes) = at {
         stop(alloc, seat, bytes, bytes);
@@ -113,9 +111,9 @@ fn fall<R: MemoryReplica>(
     fault: ReplicaFault,
 ) -> Result<Outcome, NoMemory>
     ensures number { seat.new.number ≡ seat.old.number }
-    ensures fits { (h : History) (w : View) → DisksFit R.meaning h seat.old.number (disk_of device) → SeatFits R.Shows R.disks R.meaning h w seat.new }
+    ensures fits { (h : History) (w : View) → DisksFit R.meaning h seat.old.number (disk_of device) → SeatFits R.Shows (disks_by R.behaves) R.meaning h w seat.new }
     ensures fallen { IfOk result (λ o. HasFallen (IsThis (fault_number fault) device) seat.new o.notes.items o.sent.items o.ended o.stop) }
-    ensures halted { OnErr result (HasHalted (StoodIn R.disks (Down device)) seat.new) }
+    ensures halted { OnErr result (seat.new.life ≡ Down (stopped_on 0 0 device)) }
 {
     if is_wanting(&fault, &device) {
         device.stop(0, 0);
@@ -154,21 +152,17 @@ fn ended_at(stop: Option<usize>, node: NodeNo) -> Option<End>
     }
 }
 
-// Counts the sends of a step against an armed trap. Where the node stops at one of them, those from it on are not sent, and it is
-// told for how many bytes.
+// Counts the sends of a step against an armed trap. Where the node stops at one of them, those from it on are not sent, and it
+// is told for how many bytes.
 fn count_sends<R: MemoryReplica>(replica: &mut R, sent: &mut Vec<Datagram>) -> Option<usize>
-    ensures replica { replica.new ≡ replica.old }
-    ensures sends { SentUpTo result sent.old.items sent.new.items }
+    ensures sends { SentUpTo R.behaves result replica.old replica.new sent.old.items sent.new.items }
 {
     let Trap::Arm(count, bytes) = replica.device().pending() else {
         return None;
     };
     let sends = sent.len() as u64;
-    if count > sends {
-        replica.trap(Trap::Arm(count - sends, bytes));
-        return None;
-    }
-    if count == 0 {
+    if count == 0 || count > sends {
+        replica.trap(Trap::Arm(count.saturating_sub(sends), bytes));
         return None;
     }
     sent.truncate(count as usize - 1);
@@ -183,13 +177,13 @@ pub fn step<R: MemoryReplica>(
 ) -> Result<Outcome, NoMemory>
     requires up { (r : R) × (seat.old.life ≡ Up r) }
     ensures number { seat.new.number ≡ seat.old.number }
-    ensures goes { (h : History) (w : View) → IsLawful h → SeatFits R.Shows R.disks R.meaning h w seat.old → InputFits h input.entry
-        → IfOk result (λ o. (q : R) → seat.new.life ≡ Up q → SeatGoes R.Shows R.disks R.meaning h seat.new o.notes.items o.sent.items) }
-    ensures falls { (h : History) (w : View) → IsLawful h → SeatFits R.Shows R.disks R.meaning h w seat.old → InputFits h input.entry
-        → (d : Memory) → seat.new.life ≡ Down d → SeatFits R.Shows R.disks R.meaning h w seat.new }
+    ensures goes { (h : History) (w : View) → IsLawful h → SeatFits R.Shows (disks_by R.behaves) R.meaning h w seat.old → InputFits h input.entry
+        → IfOk result (λ o. (q : R) → seat.new.life ≡ Up q → SeatGoes R.Shows (disks_by R.behaves) R.meaning h seat.new o.notes.items o.sent.items) }
+    ensures falls { (h : History) (w : View) → IsLawful h → SeatFits R.Shows (disks_by R.behaves) R.meaning h w seat.old → InputFits h input.entry
+        → (d : Memory) → seat.new.life ≡ Down d → SeatFits R.Shows (disks_by R.behaves) R.meaning h w seat.new }
     ensures exact { (r : R) → seat.old.life ≡ Up r
-        → IfOk result (λ o. HasTaken R.Takes r (heard_by input.entry) seat.new o.notes.items o.sent.items o.ended o.stop ⊎ HasFallen (Breaks R.Takes R.disks r (heard_by input.entry)) seat.new o.notes.items o.sent.items o.ended o.stop) }
-    ensures halted { OnErr result (HasHalted (LeftBy R.Takes R.disks (heard_by input.entry) seat.old.life) seat.new) }
+        → IfOk result (λ o. HasTaken R.behaves r (heard_by input.entry) seat.new o.notes.items o.sent.items o.ended o.stop ⊎ HasFallen (Breaks R.behaves r (heard_by input.entry)) seat.new o.notes.items o.sent.items o.ended o.stop) }
+    ensures halted { OnErr result (HasHalted (LeftBy R.behaves (heard_by input.entry) seat.old.life) seat.new) }
 {
     let node = seat.number;
     let Life::Up(replica) = &mut seat.life else {
@@ -220,13 +214,13 @@ pub fn revive<R: MemoryReplica>(
     genesis: &Genesis,
 ) -> Result<Outcome, NoMemory>
     ensures number { seat.new.number ≡ seat.old.number }
-    ensures goes { (h : History) (w : View) → h.genesis ≡ genesis.now → IsLawful h → SeatFits R.Shows R.disks R.meaning h w seat.old
-        → IfOk result (λ o. (q : R) → seat.new.life ≡ Up q → SeatGoes R.Shows R.disks R.meaning h seat.new o.notes.items o.sent.items) }
-    ensures falls { (h : History) (w : View) → h.genesis ≡ genesis.now → IsLawful h → SeatFits R.Shows R.disks R.meaning h w seat.old
-        → (d : Memory) → seat.new.life ≡ Down d → SeatFits R.Shows R.disks R.meaning h w seat.new }
+    ensures goes { (h : History) (w : View) → h.genesis ≡ genesis.now → IsLawful h → SeatFits R.Shows (disks_by R.behaves) R.meaning h w seat.old
+        → IfOk result (λ o. (q : R) → seat.new.life ≡ Up q → SeatGoes R.Shows (disks_by R.behaves) R.meaning h seat.new o.notes.items o.sent.items) }
+    ensures falls { (h : History) (w : View) → h.genesis ≡ genesis.now → IsLawful h → SeatFits R.Shows (disks_by R.behaves) R.meaning h w seat.old
+        → (d : Memory) → seat.new.life ≡ Down d → SeatFits R.Shows (disks_by R.behaves) R.meaning h w seat.new }
     ensures exact { (d : Memory) → seat.old.life ≡ Down d
-        → IfOk result (λ o. HasRevived R.Revives d (header_of genesis.now seat.old.number) seat.new o.notes.items o.sent.items o.ended o.stop ⊎ HasFallen (StaysDown R.Revives d (header_of genesis.now seat.old.number)) seat.new o.notes.items o.sent.items o.ended o.stop) }
-    ensures halted { (d : Memory) → seat.old.life ≡ Down d → OnErr result (HasHalted (LeftByRevival R.Revives R.disks (header_of genesis.now seat.old.number) seat.old.life) seat.new) }
+        → IfOk result (λ o. HasRevived R.behaves d (header_of genesis.now seat.old.number) seat.new o.notes.items o.sent.items o.ended o.stop ⊎ HasFallen (StaysDown R.behaves d (header_of genesis.now seat.old.number)) seat.new o.notes.items o.sent.items o.ended o.stop) }
+    ensures halted { (d : Memory) → seat.old.life ≡ Down d → OnErr result (HasHalted (LeftByRevival R.behaves (header_of genesis.now seat.old.number) seat.old.life) seat.new) }
 {
     let device = take_device(alloc, seat);
     match R::revive(alloc, device, &Header::new(seat.number, genesis.copy())) {
@@ -246,8 +240,8 @@ pub fn revive<R: MemoryReplica>(
 /// Sets the trap of the node's device.
 pub fn set_trap<R: MemoryReplica>(seat: &mut Seat<R>, trap: Trap)
     ensures number { seat.new.number ≡ seat.old.number }
-    ensures fits { (h : History) (w : View) → SeatFits R.Shows R.disks R.meaning h w seat.old → SeatFits R.Shows R.disks R.meaning h w seat.new }
-    ensures trapped { IsTrapped seat.old seat.new trap }
+    ensures fits { (h : History) (w : View) → SeatFits R.Shows (disks_by R.behaves) R.meaning h w seat.old → SeatFits R.Shows (disks_by R.behaves) R.meaning h w seat.new }
+    ensures trapped { IsTrapped R.behaves seat.old seat.new trap }
 {
     match &mut seat.life {
         Life::Up(replica) => replica.trap(trap),
@@ -257,8 +251,8 @@ pub fn set_trap<R: MemoryReplica>(seat: &mut Seat<R>, trap: Trap)
 
 /// How many bytes the node's disks have, synced or not.
 pub fn lengths<R: MemoryReplica>(seat: &Seat<R>) -> (usize, usize)
-    ensures a { result.0 ≡ length (contents (disks_of R.disks seat.now.life A)) }
-    ensures b { result.1 ≡ length (contents (disks_of R.disks seat.now.life B)) }
+    ensures a { result.0 ≡ length (contents (disks_of (disks_by R.behaves) seat.now.life A)) }
+    ensures b { result.1 ≡ length (contents (disks_of (disks_by R.behaves) seat.now.life B)) }
 {
     match &seat.life {
         Life::Up(replica) => replica.device().lengths(),

@@ -19,6 +19,7 @@ pub struct World<R: MemoryReplica> {
 }
 
 impl<R: MemoryReplica> Model for World<R> {
+    ghost use Rattle.lk_replica.specs.Behaviours.{disks_by};
     ghost use Rattle.lk_sim.specs.Scenes.{Scene};
     ghost use Rattle.lk_sim.specs.Worlds.{PartsHold, scene_of};
 
@@ -26,13 +27,14 @@ impl<R: MemoryReplica> Model for World<R> {
 
     ghost view = { λ w. scene_of w.parts };
 
-    ghost invariant = { λ w. PartsHold R.Shows R.disks R.meaning w.parts };
+    ghost invariant = { λ w. PartsHold R.Shows (disks_by R.behaves) R.meaning w.parts };
 }
 
 impl<R: MemoryReplica> World<R> {
     ghost use Rattle.std.specs.Prelude.{◌≡◌, ℕ, ◌⊎◌, List, [], length, None, Some, IfSome, OnOk, IfErr};
     ghost use Rattle.lk_history.specs.Chosen.{command_at, Chosen, IsBeginning};
     ghost use Rattle.lk_node.specs.Histories.{Command};
+    ghost use Rattle.lk_replica.specs.Behaviours.{disks_by};
     ghost use Rattle.lk_sim.specs.Events.{Does, IsRefused, Grows};
     ghost use Rattle.lk_sim.specs.Explained.{Explains};
     ghost use Rattle.lk_disk.specs.Disk.{contents};
@@ -66,17 +68,17 @@ impl<R: MemoryReplica> World<R> {
     ///
     /// A refused event changes nothing; under `WorldMemory` the node that was stepping or coming up has stopped.
     pub fn apply(&mut self, event: Event) -> Result<(), Refused>
-        ensures does { OnOk result (Does R.Takes R.Revives R.disks self.old event self.new) }
-        ensures refused { IfErr result (λ e. IsRefused R.Takes R.Revives R.disks self.old event e self.new) }
+        ensures does { OnOk result (Does R.behaves self.old event self.new) }
+        ensures refused { IfErr result (λ e. IsRefused R.behaves self.old event e self.new) }
         ensures grows { Grows self.old self.new }
         ensures explained { (L : List Command) × Chosen self.new.genesis self.new.sent L × Explains R.meaning self.new.genesis self.new.sent self.new.trace L }
         ensures agree { (L K : List Command) → Chosen self.new.genesis self.new.sent L → Chosen self.new.genesis self.new.sent K → IsBeginning L K ⊎ IsBeginning K L }
         ensures told { Tells self.new.sent (told_in self.new.trace) }
-        ensures states { (k : ℕ) (s : SeatValue R) → At self.new.seats k s → SumsUpChosen R.whole R.disks R.meaning self.new.genesis self.new.sent s }
+        ensures states { (k : ℕ) (s : SeatValue R) → At self.new.seats k s → SumsUpChosen R.whole (disks_by R.behaves) R.meaning self.new.genesis self.new.sent s }
         // Whatever a stop may leave of a node's disks covers all that the node has sent.
-        ensures covered { (k : ℕ) (s : SeatValue R) → At self.new.seats k s → CoversAll R.disks R.meaning self.new.genesis self.new.sent s }
+        ensures covered { (k : ℕ) (s : SeatValue R) → At self.new.seats k s → CoversAll (disks_by R.behaves) R.meaning self.new.genesis self.new.sent s }
         // A majority keeps each command of a chosen list, whatever stops may leave.
-        ensures kept { (L : List Command) (i : ℕ) (v : Command) → Chosen self.new.genesis self.new.sent L → command_at L i ≡ Some v → IsKeptBy R.disks R.meaning self.new.genesis self.new.seats self.new.sent L i v }
+        ensures kept { (L : List Command) (i : ℕ) (v : Command) → Chosen self.new.genesis self.new.sent L → command_at L i ≡ Some v → IsKeptBy (disks_by R.behaves) R.meaning self.new.genesis self.new.seats self.new.sent L i v }
         // What was answered before a request was asked counts in front of it.
         ensures order { InOrder self.new.genesis self.new.sent self.new.trace }
     {
@@ -87,16 +89,16 @@ impl<R: MemoryReplica> World<R> {
 
     /// Events happen in order, up to the first that is refused. Whatever happens, what `apply` promises holds.
     pub fn run(&mut self, events: &[Event]) -> RunEnd
-        ensures runs { Runs R.Takes R.Revives R.disks self.old events.now result self.new }
+        ensures runs { Runs R.behaves self.old events.now result self.new }
         ensures grows { Grows self.old self.new }
         ensures explained { (L : List Command) × Chosen self.new.genesis self.new.sent L × Explains R.meaning self.new.genesis self.new.sent self.new.trace L }
         ensures agree { (L K : List Command) → Chosen self.new.genesis self.new.sent L → Chosen self.new.genesis self.new.sent K → IsBeginning L K ⊎ IsBeginning K L }
         ensures told { Tells self.new.sent (told_in self.new.trace) }
-        ensures states { (k : ℕ) (s : SeatValue R) → At self.new.seats k s → SumsUpChosen R.whole R.disks R.meaning self.new.genesis self.new.sent s }
+        ensures states { (k : ℕ) (s : SeatValue R) → At self.new.seats k s → SumsUpChosen R.whole (disks_by R.behaves) R.meaning self.new.genesis self.new.sent s }
         // Whatever a stop may leave of a node's disks covers all that the node has sent.
-        ensures covered { (k : ℕ) (s : SeatValue R) → At self.new.seats k s → CoversAll R.disks R.meaning self.new.genesis self.new.sent s }
+        ensures covered { (k : ℕ) (s : SeatValue R) → At self.new.seats k s → CoversAll (disks_by R.behaves) R.meaning self.new.genesis self.new.sent s }
         // A majority keeps each command of a chosen list, whatever stops may leave.
-        ensures kept { (L : List Command) (i : ℕ) (v : Command) → Chosen self.new.genesis self.new.sent L → command_at L i ≡ Some v → IsKeptBy R.disks R.meaning self.new.genesis self.new.seats self.new.sent L i v }
+        ensures kept { (L : List Command) (i : ℕ) (v : Command) → Chosen self.new.genesis self.new.sent L → command_at L i ≡ Some v → IsKeptBy (disks_by R.behaves) R.meaning self.new.genesis self.new.seats self.new.sent L i v }
         // What was answered before a request was asked counts in front of it.
         ensures order { InOrder self.new.genesis self.new.sent self.new.trace }
     {
@@ -129,7 +131,7 @@ impl<R: MemoryReplica> World<R> {
     /// How many bytes the disks A and B of this node have, synced or not, or `None` where it was never started.
     pub fn lengths(&self, node: NodeNo) -> Option<(usize, usize)>
         ensures some { IfSome result (λ l. (k : ℕ) × (s : SeatValue R) × At self.now.seats k s × (s.number ≡ node)
-            × (l.0 ≡ length (contents (disks_of R.disks s.life A))) × (l.1 ≡ length (contents (disks_of R.disks s.life B)))) }
+            × (l.0 ≡ length (contents (disks_of (disks_by R.behaves) s.life A))) × (l.1 ≡ length (contents (disks_of (disks_by R.behaves) s.life B)))) }
         ensures none { result ≡ None → HasNo self.now.seats node }
     {
         let i = find(&self.parts.seats, node)?;
@@ -141,11 +143,11 @@ impl<R: MemoryReplica> World<R> {
         ensures explained { (L : List Command) × Chosen self.now.genesis self.now.sent L × Explains R.meaning self.now.genesis self.now.sent self.now.trace L }
         ensures agree { (L K : List Command) → Chosen self.now.genesis self.now.sent L → Chosen self.now.genesis self.now.sent K → IsBeginning L K ⊎ IsBeginning K L }
         ensures told { Tells self.now.sent (told_in self.now.trace) }
-        ensures states { (k : ℕ) (s : SeatValue R) → At self.now.seats k s → SumsUpChosen R.whole R.disks R.meaning self.now.genesis self.now.sent s }
+        ensures states { (k : ℕ) (s : SeatValue R) → At self.now.seats k s → SumsUpChosen R.whole (disks_by R.behaves) R.meaning self.now.genesis self.now.sent s }
         // Whatever a stop may leave of a node's disks covers all that the node has sent.
-        ensures covered { (k : ℕ) (s : SeatValue R) → At self.now.seats k s → CoversAll R.disks R.meaning self.now.genesis self.now.sent s }
+        ensures covered { (k : ℕ) (s : SeatValue R) → At self.now.seats k s → CoversAll (disks_by R.behaves) R.meaning self.now.genesis self.now.sent s }
         // A majority keeps each command of a chosen list, whatever stops may leave.
-        ensures kept { (L : List Command) (i : ℕ) (v : Command) → Chosen self.now.genesis self.now.sent L → command_at L i ≡ Some v → IsKeptBy R.disks R.meaning self.now.genesis self.now.seats self.now.sent L i v }
+        ensures kept { (L : List Command) (i : ℕ) (v : Command) → Chosen self.now.genesis self.now.sent L → command_at L i ≡ Some v → IsKeptBy (disks_by R.behaves) R.meaning self.now.genesis self.now.seats self.now.sent L i v }
         // What was answered before a request was asked counts in front of it.
         ensures order { InOrder self.now.genesis self.now.sent self.now.trace }
     {

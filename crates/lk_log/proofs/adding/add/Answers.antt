@@ -1,9 +1,13 @@
-use Rattle.std.proofs.Common.{◌∙◌, ap, arith, length}
+use Rattle.std.proofs.Common.{rules, ◌∙◌, ap, arith, length}
 use Rattle.lk_disk.specs.Disk.{other, contents}
 use Rattle.lk_log.proofs.Room.{some_room, all_room, synced_room}
 use Rattle.lk_log.specs.Stores.{plain}
 use Rattle.lk_log.proofs.Steps.{stands_at, keeps_at, torn_piece, grows_holds, holds_piece, holds_same, holds_sync, grows_synced}
 use Rattle.lk_log.proofs.adding.add.Goals as goal
+use Rattle.lk_disk.specs.Meters.{start}
+use Rattle.lk_disk.proofs.Devices.{call_passes}
+use Rattle.lk_log.proofs.Metering.{put_unsynced, put_synced, refused}
+use Rattle.lk_log.specs.declared.fault.StoreFault.TheVariants.{NoMemory}
 
 -- nothing was written
 pub returns-in_err-bytes-clause-any : goal.returns-in_err-bytes-clause-any
@@ -85,3 +89,17 @@ returns-clause-grows g c honest =
     let mid = g.D.LogDisk.disk c.append_some.new.device c.args.live in
     let grown = all_room (g.D.LogDisk.disk c.args.device.now c.args.live) mid c.deref.result.now c.args.entries.now (c.deref.ensures ∙ c.in_ok-bytes.ensures) c.entries_facts.ensures (c.in_ok-append_some.ensures.ok honest) in
     omega (arith, grown, synced_room mid (g.D.LogDisk.disk c.sync.new.self c.args.live) (c.in_ok-sync.ensures.ok honest))
+
+-- ---- which calls were made
+
+pub returns-in_err-bytes-clause-metered : goal.returns-in_err-bytes-clause-metered
+returns-in_err-bytes-clause-metered g c metered = refused _ _ _ _ NoMemory c.from_residual.ensures.1 (0, start)
+
+pub returns-then-not-sync-clause-metered : goal.returns-then-not-sync-clause-metered
+returns-then-not-sync-clause-metered g c metered =
+    put_unsynced _ _ c.args.entries.now c.deref.result.now c.args.sync (c.deref.ensures ∙ c.in_ok-bytes.ensures) (search rules) (c.in_ok-append_some.ensures.metered metered)
+
+pub returns-clause-metered : goal.returns-clause-metered
+returns-clause-metered g c metered =
+    put_synced _ _ _ c.args.entries.now c.deref.result.now c.args.sync (c.deref.ensures ∙ c.in_ok-bytes.ensures) (search rules)
+    (c.in_ok-append_some.ensures.metered metered) (call_passes _ _ (c.in_ok-sync.ensures.metered metered))

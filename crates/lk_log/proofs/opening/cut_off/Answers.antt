@@ -2,6 +2,8 @@ use Rattle.std.proofs.Common.{refl, arith}
 use Rattle.lk_log.proofs.Settle.{file_same, cut_narrows, short_narrows, cut_contents, nothing_behind}
 use Rattle.lk_log.proofs.opening.cut_off.Goals as goal
 use Rattle.lk_log.proofs.Room.{within_same, within_side, cut_short_room, cut_room}
+use Rattle.lk_disk.proofs.Devices.{call_breaks}
+use Rattle.lk_log.proofs.Metering.{none_made, one_made, broken, no_cut, one_cut}
 
 pub returns-then-size-end-clause-contents : goal.returns-then-size-end-clause-contents
 returns-then-size-end-clause-contents g c honest es found = nothing_behind (g.D.LogDisk.disk c.args.device.now c.args.live) es found.file.whole (omega (arith, found.ends, found.sized))
@@ -32,3 +34,16 @@ returns-clause-room g c honest =
     let old = g.D.LogDisk.disk c.args.device.now in
     let new = g.D.LogDisk.disk c.cut.new.self in
     within_side 0 c.args.live old new (omega (arith, cut_room c.args.end (old c.args.live) (new c.args.live) (c.in_ok-cut.ensures.ok honest))) (c.cut.ensures.beside honest)
+
+-- ---- which calls were made
+
+pub returns-then-size-end-clause-metered : goal.returns-then-size-end-clause-metered
+returns-then-size-end-clause-metered g c metered honest es found = none_made _ _ (no_cut c.args.end c.args.size c.if-size-end.true)
+
+pub returns-in_err-cut-clause-metered : goal.returns-in_err-cut-clause-metered
+returns-in_err-cut-clause-metered g c metered honest es found =
+    broken _ _ _ _ _ c.from_residual.ensures.1 (call_breaks _ _ (c.in_err-cut.ensures.metered honest metered (omega (arith, c.if-size-end.false, found.sized))))
+
+pub returns-clause-metered : goal.returns-clause-metered
+returns-clause-metered g c metered honest es found =
+    one_made _ _ _ (one_cut c.args.end c.args.size c.if-size-end.false) (c.in_ok-cut.ensures.metered honest metered (omega (arith, c.if-size-end.false, found.sized)))

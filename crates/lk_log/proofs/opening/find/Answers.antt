@@ -7,6 +7,8 @@ use Rattle.lk_log.specs.StoreValue.{pick}
 use Rattle.lk_log.specs.declared.verdict.Verdict.TheVariants.{Damaged, Empty}
 use Rattle.lk_log.proofs.ImageLaws.{means_of, found_a, found_b}
 use Rattle.lk_log.proofs.opening.find.Goals as goal
+use Rattle.lk_disk.proofs.Devices.{passes_on}
+use Rattle.lk_log.proofs.Metering.{refused, refused_on}
 
 pub returns-in-Damaged-clause-damaged : goal.returns-in-Damaged-clause-damaged
 returns-in-Damaged-clause-damaged g c honest e =
@@ -34,3 +36,21 @@ returns-in-Live-B-clause-live g c honest =
     let at_b = subst (λ (d : Disk). IsFile (contents d) c.in_ok-b.b.entries.items c.in_ok-b.b.is_damaged) same (c.in_ok-b.ensures.file honest) in
     let is = rw c.in-Live-B.field-0-is at c.in-Live-B.ensures in
     found_b old c.in_ok-a.a.entries.items c.in_ok-b.b.entries.items c.in_ok-a.a.is_damaged c.in_ok-b.b.is_damaged c.in_ok-b.b.end c.in_ok-b.b.size (c.in_ok-a.ensures.file honest) at_b is c.in_ok-b.ensures.end (c.in_ok-b.ensures.size honest ∙ ap (λ (d : Disk). length (contents d)) same)
+
+-- ---- which calls were made
+
+pub returns-in_err-b-clause-metered : goal.returns-in_err-b-clause-metered
+returns-in_err-b-clause-metered g c metered honest =
+    refused _ _ 0 _ _ c.from_residual-in_err-b.ensures.1 (refused_on 0 (c.in_ok-a.ensures.metered metered honest) _ _ (c.in_err-b.ensures.metered metered honest))
+
+pub returns-in-Damaged-clause-metered : goal.returns-in-Damaged-clause-metered
+returns-in-Damaged-clause-metered g c metered honest = (0, passes_on 0 (c.in_ok-a.ensures.metered metered honest) 0 (c.in_ok-b.ensures.metered metered honest))
+
+pub returns-in-Empty-clause-metered : goal.returns-in-Empty-clause-metered
+returns-in-Empty-clause-metered g c metered honest = passes_on 0 (c.in_ok-a.ensures.metered metered honest) 0 (c.in_ok-b.ensures.metered metered honest)
+
+pub returns-in-Live-A-clause-metered : goal.returns-in-Live-A-clause-metered
+returns-in-Live-A-clause-metered g c metered honest = passes_on 0 (c.in_ok-a.ensures.metered metered honest) 0 (c.in_ok-b.ensures.metered metered honest)
+
+pub returns-in-Live-B-clause-metered : goal.returns-in-Live-B-clause-metered
+returns-in-Live-B-clause-metered g c metered honest = passes_on 0 (c.in_ok-a.ensures.metered metered honest) 0 (c.in_ok-b.ensures.metered metered honest)

@@ -6,6 +6,8 @@ use Rattle.lk_log.proofs.ImageLaws.{each_side}
 use Rattle.lk_log.proofs.Settle.{narrows, file_same, file_then, flushed_narrows, settled}
 use Rattle.lk_log.proofs.opening.settle.Goals as goal
 use Rattle.lk_log.proofs.Room.{within_then, within_side, synced_room}
+use Rattle.lk_disk.proofs.Devices.{passes_on, call_passes}
+use Rattle.lk_log.specs.Stores.{cut_calls}
 
 pub returns-in_err-cut_off-clause-narrows : goal.returns-in_err-cut_off-clause-narrows
 returns-in_err-cut_off-clause-narrows g c honest es found =
@@ -52,3 +54,7 @@ returns-clause-room g c honest =
     let new = g.D.LogDisk.disk c.sync.new.self in
     within_then 0 (g.D.LogDisk.disk c.args.device.now) mid new (c.cut_off.ensures.room honest)
     (within_side 0 c.args.live mid new (omega (arith, synced_room (mid c.args.live) (new c.args.live) (c.in_ok-sync.ensures.ok honest))) (c.sync.ensures.beside honest))
+
+pub returns-clause-metered : goal.returns-clause-metered
+returns-clause-metered g c metered honest es found =
+    passes_on (cut_calls c.args.end c.args.size) (c.in_ok-cut_off.ensures.metered metered honest es found) 1 (call_passes _ _ (c.in_ok-sync.ensures.metered metered))

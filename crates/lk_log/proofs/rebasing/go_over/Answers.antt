@@ -1,4 +1,4 @@
-use Rattle.std.proofs.Common.{◌≡◌, ◌≤◌, List, ℕ, [], sym, ◌∙◌, ap, subst, arith}
+use Rattle.std.proofs.Common.{◌≡◌, ◌≤◌, List, ℕ, [], sym, ◌∙◌, ap, subst, arith, rules}
 use Rattle.lk_disk.specs.Disk.{Disk, other, CutShort}
 use Rattle.lk_disk.specs.declared.device.Side.{Side}
 use Rattle.lk_log.specs.Entries.{spelling}
@@ -7,6 +7,7 @@ use Rattle.lk_log.specs.declared.stored.Stored.TheVariants.{Base}
 use Rattle.lk_log.proofs.RebaseLaws.{beside_live, over_keeps, front_keeps, cut_front, nothing_front, gone_over}
 use Rattle.lk_log.proofs.Room.{written_room, within_still, within_side, cut_short_room, cut_room, short_room}
 use Rattle.lk_log.proofs.rebasing.go_over.Goals as goal
+use Rattle.lk_disk.proofs.Devices.{passes_on, breaks_on, call_passes, call_breaks}
 
 pub returns-in_err-write_over-clause-any : goal.returns-in_err-write_over-clause-any
 returns-in_err-write_over-clause-any g c honest b ks ls holds less fits piece =
@@ -79,3 +80,9 @@ returns-clause-short g c honest few =
     let new = g.D.LogDisk.disk c.cut.new.self in
     let written : mid (other c.args.live) ≡ record { synced = c.args.bytes.now; unsynced = [] } = subst (λ (k : Side). mid k ≡ record { synced = c.args.bytes.now; unsynced = [] }) c.other-side.ensures (c.in_ok-write_over.ensures.ok honest) in
     short_room (new (other c.args.live)) c.args.bytes.now (c.cut.ensures.beside honest ∙ written) few
+
+-- ---- which calls were made
+
+pub returns-clause-metered : goal.returns-clause-metered
+returns-clause-metered g c metered honest =
+    passes_on 3 (c.in_ok-write_over.ensures.metered metered honest) 1 (call_passes _ _ (c.in_ok-cut.ensures.metered honest metered (search rules)))

@@ -11,6 +11,9 @@ use Rattle.lk_log.proofs.StoreLaws.{first_stands}
 use Rattle.lk_log.proofs.reopening.begin.Goals as goal
 use Rattle.lk_log.proofs.Room.{within_same, within_side, begun_room}
 use Rattle.lk_types.specs.Limits.{max_base}
+use Rattle.lk_disk.specs.Meters.{start}
+use Rattle.lk_log.specs.declared.fault.StoreFault.TheVariants.{NoMemory}
+use Rattle.lk_log.proofs.Metering.{refused}
 
 pub spelled_base-requires : goal.spelled_base-requires
 spelled_base-requires g c = subst (λ (b : BaseValue). IsStored (Base b)) (sym c.in_ok-base.ensures.value) (first_fits c.args.header.now c.args.zero.now c.first_base.ensures.header c.requires.some c.requires.room)
@@ -79,3 +82,11 @@ returns-clause-room g c honest =
     let fits = first_fits c.args.header.now c.args.zero.now c.first_base.ensures.header c.requires.some c.requires.room in
     within_side max_base A old new
     (begun_room base (old A) (new A) fits (subst (λ (l : List ℕ). IsWrittenOver (old A) l (new A)) piece (c.write_over.ensures.any honest))) (c.write_over.ensures.beside honest)
+
+-- ---- which calls were made
+
+pub returns-in_err-base-clause-metered : goal.returns-in_err-base-clause-metered
+returns-in_err-base-clause-metered g c metered honest = refused _ _ 3 _ NoMemory c.from_residual.ensures.1 (0, start)
+
+pub returns-in_err-bytes-clause-metered : goal.returns-in_err-bytes-clause-metered
+returns-in_err-bytes-clause-metered g c metered honest = refused _ _ 3 _ NoMemory c.from_residual-in_err-bytes.ensures.1 (0, start)

@@ -5,6 +5,7 @@ use Rattle.lk_log.proofs.BeginLaws.{begins_same, begins_narrows}
 use Rattle.lk_log.proofs.ImageLaws.{found_is_live, found_positive}
 use Rattle.lk_log.proofs.reopening.open.Goals as goal
 use Rattle.lk_log.proofs.Room.{within_same}
+use Rattle.lk_disk.specs.Meters.{start}
 
 pub returns-then-not-has_header-clause-stays : goal.returns-then-not-has_header-clause-stays
 returns-then-not-has_header-clause-stays g c honest found zero = begins_same (g.D.LogDisk.disk c.args.device.now) (g.D.LogDisk.disk c.args.device.now) c.args.header.now zero (λ s. refl)
@@ -33,3 +34,6 @@ returns-clause-opens g c honest found zero = record {
 
 pub returns-then-not-has_header-clause-room : goal.returns-then-not-has_header-clause-room
 returns-then-not-has_header-clause-room g c honest = within_same 0 (g.D.LogDisk.disk c.args.device.now) (g.D.LogDisk.disk c.args.device.now) (λ s. refl)
+
+pub returns-then-not-has_header-clause-metered : goal.returns-then-not-has_header-clause-metered
+returns-then-not-has_header-clause-metered g c metered honest found = (0, start)

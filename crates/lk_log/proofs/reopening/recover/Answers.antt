@@ -1,4 +1,4 @@
-use Rattle.std.proofs.Common.{ap, refl}
+use Rattle.std.proofs.Common.{rules, ap, refl, inl}
 use Rattle.lk_disk.specs.Disk.{contents, other}
 use Rattle.lk_log.specs.Images.{seen}
 use Rattle.lk_log.proofs.BeginLaws.{begins_same, begins_after}
@@ -8,6 +8,7 @@ use Rattle.lk_log.proofs.StoreLaws.{not_both}
 use Rattle.lk_log.proofs.reopening.recover.Goals as goal
 use Rattle.lk_log.proofs.Room.{within_same, within_then, within_more}
 use Rattle.lk_types.specs.Limits.{max_base}
+use Rattle.lk_log.proofs.Metering.{found_opens, opens_metered}
 
 pub returns-in_err-live-clause-stays : goal.returns-in_err-live-clause-stays
 returns-in_err-live-clause-stays g c honest = begins_same (g.D.LogDisk.disk c.args.device.now) (g.D.LogDisk.disk c.find.new.device) c.args.header.now c.args.zero.now (c.find.ensures.unchanged honest)
@@ -81,3 +82,19 @@ returns-in-None-clause-room g c honest =
     let old = g.D.LogDisk.disk c.args.device.now in
     let mid = g.D.LogDisk.disk c.find.new.device in
     within_then max_base old mid (g.D.LogDisk.disk c.begin.new.device) (within_same 0 old mid (c.find.ensures.unchanged honest)) (c.begin.ensures.room honest)
+
+-- ---- which calls were made
+
+pub returns-in-Some-clause-metered : goal.returns-in-Some-clause-metered
+returns-in-Some-clause-metered g c metered honest =
+    let old = g.D.LogDisk.disk c.args.device.now in
+    let mid = g.D.LogDisk.disk c.find.new.device in
+    let found = rw c.in-Some.is at (c.in_ok-live.ensures.live honest) in
+    opens_metered _ _ _ _ _ c.open.result (c.in_ok-live.ensures.metered metered honest)
+    (found_opens old c.in-Some.live c.in-Some.file.entries.items c.in-Some.file.end c.in-Some.file.size found)
+    (c.open.ensures.metered metered honest
+    (found_after old mid (c.find.ensures.unchanged honest) c.in-Some.live c.in-Some.file.entries.items c.in-Some.file.end c.in-Some.file.size found))
+
+pub returns-in-None-clause-metered : goal.returns-in-None-clause-metered
+returns-in-None-clause-metered g c metered honest =
+    opens_metered _ _ _ _ 3 c.begin.result (c.in_ok-live.ensures.metered metered honest) (inl (c.find.ensures.empty honest (search rules), refl)) (c.begin.ensures.metered metered honest)

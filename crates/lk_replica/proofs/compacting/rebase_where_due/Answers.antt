@@ -11,6 +11,9 @@ use Rattle.lk_replica.specs.Compacting.{RebasesWhereDue}
 use Rattle.lk_replica.proofs.Rebasing.{same_holds, same_stands, same_fit, same_cover, same_node_fits, same_room, goes_fits}
 use Rattle.lk_log.proofs.Room.{within_first}
 use Rattle.lk_replica.proofs.compacting.rebase_where_due.Goals as goal
+use Rattle.lk_disk.proofs.Devices.{passes_on}
+use Rattle.lk_log.specs.Causes.{rebase_calls}
+use Rattle.lk_replica.proofs.Calling.{refused_by, refused_on}
 
 pub returns-in_err-due-clause-ends : goal.returns-in_err-due-clause-ends
 returns-in_err-due-clause-ends g c honest h n f =
@@ -107,3 +110,13 @@ returns-clause-room g c honest =
 
 pub returns-clause-small : goal.returns-clause-small
 returns-clause-small g c honest = omega (arith, c.in_ok-write_base.ensures.short honest)
+
+-- ---- which calls were made
+
+pub returns-in_err-write_base-clause-metered : goal.returns-in_err-write_base-clause-metered
+returns-in_err-write_base-clause-metered g c metered honest =
+    refused_by _ _ _ _ _ c.from_residual-in_err-write_base.ensures.1 (refused_on 0 (c.in_ok-due.ensures.metered metered) _ _ (c.in_err-write_base.ensures.metered metered honest))
+
+pub returns-clause-metered : goal.returns-clause-metered
+returns-clause-metered g c metered honest =
+    (rebase_calls, record { due = λ _. refl; rests = λ no. absurd (no ((c.in_ok-due.ensures.value honest).0 (search rules))) }, passes_on 0 (c.in_ok-due.ensures.metered metered) rebase_calls (c.in_ok-write_base.ensures.metered metered honest))

@@ -14,6 +14,9 @@ use Rattle.lk_replica.specs.Compacting.{AllStandAt}
 use Rattle.lk_log.proofs.Room.{within_same}
 use Rattle.lk_replica.proofs.Rebasing.{here, rebase_covers, rebase_stands, rebase_fits, rebase_goes, all_stand}
 use Rattle.lk_replica.proofs.compacting.write_base.Goals as goal
+use Rattle.lk_disk.specs.Meters.{start}
+use Rattle.lk_replica.specs.declared.fault.ReplicaFault.TheVariants as fault
+use Rattle.lk_replica.proofs.Calling.{refused_by}
 
 pub returns-in_err-rebase-clause-ends : goal.returns-in_err-rebase-clause-ends
 returns-in_err-rebase-clause-ends g c honest h n f =
@@ -94,3 +97,6 @@ returns-clause-room g c honest = c.rebase.ensures.room honest
 
 pub returns-in_err-standing-clause-room : goal.returns-in_err-standing-clause-room
 returns-in_err-standing-clause-room g c honest = within_same 49152 (disks c.args.store.now) (disks c.args.store.now) (λ s. refl)
+
+pub returns-in_err-standing-clause-metered : goal.returns-in_err-standing-clause-metered
+returns-in_err-standing-clause-metered g c metered honest = refused_by _ _ _ _ fault.NoMemory c.from_residual.ensures.1 (0, start)

@@ -6,6 +6,9 @@ use Rattle.lk_node.specs.Outboxes.{OutboxValue}
 use Rattle.lk_replica.proofs.Going.{put_leaves, put_goes, step_keeps, step_syncs, step_covers}
 use Rattle.lk_replica.proofs.replica.write.Goals as goal
 use Rattle.lk_node.proofs.Nodes.{few_entries}
+use Rattle.lk_disk.specs.Meters.{start}
+use Rattle.lk_replica.specs.declared.fault.ReplicaFault.TheVariants as fault
+use Rattle.lk_replica.proofs.Calling.{refused_by}
 
 pub returns-in_err-outbox-clause-ends : goal.returns-in_err-outbox-clause-ends
 returns-in_err-outbox-clause-ends g c honest h n f heard = f.left
@@ -74,3 +77,6 @@ returns-clause-grows g c honest =
     let is : c.deref.result.now ≡ c.in_ok-outbox.outbox.entries = c.deref.ensures.value ∙ ap (λ (o : OutboxValue). o.entries) c.outbox.view_is in
     let few : length c.in_ok-outbox.outbox.entries ≤ 16 = few_entries _ c.args.node.now _ c.step.new.self c.in_ok-outbox.outbox c.in_ok-outbox.ensures.steps in
     omega (arith, c.put.ensures.grows honest, few, ap length is)
+
+pub returns-in_err-outbox-clause-metered : goal.returns-in_err-outbox-clause-metered
+returns-in_err-outbox-clause-metered g c metered = refused_by _ _ _ _ fault.Halted c.from_residual.ensures.1 (0, start)

@@ -1,6 +1,8 @@
 use Rattle.lk_log.specs.StoreValue.{disks}
 use Rattle.lk_log.proofs.Room.{refused_room, behind_room}
 use Rattle.lk_replica.proofs.replica.write_behind.Goals as goal
+use Rattle.lk_disk.proofs.Devices.{passes_on}
+use Rattle.lk_replica.proofs.Calling.{refused_by, refused_on}
 
 pub returns-in_err-rebase_where_due-clause-ends : goal.returns-in_err-rebase_where_due-clause-ends
 returns-in_err-rebase_where_due-clause-ends g c honest h n f heard =
@@ -55,3 +57,14 @@ returns-in_err-outbox-clause-room g c honest =
 pub returns-clause-room : goal.returns-clause-room
 returns-clause-room g c honest =
     behind_room (disks c.args.store.now) c.rebase_where_due.new.store c.write.new.store (c.rebase_where_due.ensures.room honest) (c.in_ok-rebase_where_due.ensures.small honest) c.write.ensures.live (c.write.ensures.grows honest) (c.write.ensures.beside honest)
+
+-- ---- which calls were made
+
+pub returns-in_err-outbox-clause-metered : goal.returns-in_err-outbox-clause-metered
+returns-in_err-outbox-clause-metered g c metered honest =
+    let d = c.in_ok-rebase_where_due.ensures.metered metered honest in
+    refused_by _ _ _ _ _ c.from_residual-in_err-outbox.ensures.1 (refused_on d.0 d.2 _ _ (c.in_err-outbox.ensures.metered metered))
+
+pub returns-clause-calls : goal.returns-clause-calls
+returns-clause-calls g c metered honest =
+    let d = c.in_ok-rebase_where_due.ensures.metered metered honest in (d.0, d.1, passes_on d.0 d.2 _ (c.in_ok-outbox.ensures.metered metered))

@@ -8,6 +8,7 @@ use Rattle.lk_sim.specs.declared.event.Event.TheVariants as event
 use Rattle.lk_sim.specs.declared.refused.Refused.TheVariants.{WorldMemory}
 use Rattle.lk_sim.proofs.Asking.{asked_holds}
 use Rattle.lk_sim.proofs.client.client.Goals as goal
+use Rattle.lk_replica.specs.Behaviours.{disks_by}
 
 pub returns-clause-holds : goal.returns-clause-holds
 returns-clause-holds g c =
@@ -15,9 +16,9 @@ returns-clause-holds g c =
     let q = scene_of c.ask.new.parts in
     let a = c.in_ok-ask.ensures.ok in
     let asks : IsClientRequest a.datagram = record { client = c.args.request.now.client; cluster = p.genesis.cluster; request = c.args.request.now; from = a.from; spelled = a.spelled } in
-    subst (λ z. Holds g.R.MemoryReplica.Shows g.R.MemoryReplica.disks g.R.MemoryReplica.meaning z q.seats q.sent q.trace) (sym a.adds.genesis)
-    (subst (λ z. Holds g.R.MemoryReplica.Shows g.R.MemoryReplica.disks g.R.MemoryReplica.meaning p.genesis z q.sent q.trace) (sym a.seats)
-    (subst₂ (λ l k. Holds g.R.MemoryReplica.Shows g.R.MemoryReplica.disks g.R.MemoryReplica.meaning p.genesis p.seats.items l k) (sym a.adds.sent) (sym a.adds.trace)
+    subst (λ z. Holds g.R.MemoryReplica.Shows (disks_by g.R.MemoryReplica.behaves) g.R.MemoryReplica.meaning z q.seats q.sent q.trace) (sym a.adds.genesis)
+    (subst (λ z. Holds g.R.MemoryReplica.Shows (disks_by g.R.MemoryReplica.behaves) g.R.MemoryReplica.meaning p.genesis z q.sent q.trace) (sym a.seats)
+    (subst₂ (λ l k. Holds g.R.MemoryReplica.Shows (disks_by g.R.MemoryReplica.behaves) g.R.MemoryReplica.meaning p.genesis p.seats.items l k) (sym a.adds.sent) (sym a.adds.trace)
     (asked_holds _ _ _ p.genesis p.seats.items p.sent.items p.trace.items c.requires c.args.request.now a.datagram asks refl)))
 
 pub returns-then-not-has_room-clause-err : goal.returns-then-not-has_room-clause-err
@@ -30,8 +31,8 @@ pub returns-in_err-ask-clause-err : goal.returns-in_err-ask-clause-err
 returns-in_err-ask-clause-err g c =
     let u : IsSeatOf c.args.parts.now.seats.items c.in-Some.field-0 c.args.number = search rules in
     let room : HasRoom c.args.parts.now.sent.items = search rules in
-    let k : IsRefused g.R.MemoryReplica.Takes g.R.MemoryReplica.Revives g.R.MemoryReplica.disks (scene_of c.args.parts.now) (event.Client c.args.number c.args.request.now) WorldMemory (scene_of c.ask.new.parts) =
-    inr (refl, ((u.0.life, (c.in-Some.field-0, u.0, u.1, u.2, refl)), room), inl c.in_err-ask.ensures.err) in
+    let k : IsRefused g.R.MemoryReplica.behaves (scene_of c.args.parts.now) (event.Client c.args.number c.args.request.now) WorldMemory (scene_of c.ask.new.parts) =
+    inr (refl, ((u.0.life, (c.in-Some.field-0, u.0, u.1, u.2, refl)), room), c.in_err-ask.ensures.err) in
     search rules
 
 pub returns-clause-ok : goal.returns-clause-ok

@@ -22,7 +22,7 @@ pub returns-in_err-give-clause-err : goal.returns-in_err-give-clause-err
 returns-in_err-give-clause-err g c =
     let p = c.args.parts.now in
     let u : IsUpAt p.seats.items c.in_ok-i.i c.args.number = search rules in
-    let k : IsRefusedAt (NoInjection p.seats.items p.sent.items c.args.number c.args.bytes.now) (IsUp p.seats.items c.args.number) (LeftBy g.R.MemoryReplica.Takes g.R.MemoryReplica.disks (Some c.args.bytes.now)) (scene_of p) c.args.number WorldMemory (scene_of c.give.new.parts) =
+    let k : IsRefusedAt (NoInjection p.seats.items p.sent.items c.args.number c.args.bytes.now) (IsUp p.seats.items c.args.number) (LeftBy g.R.MemoryReplica.behaves (Some c.args.bytes.now)) (scene_of p) c.args.number WorldMemory (scene_of c.give.new.parts) =
     inr (refl, (u.1, (c.in_ok-i.i, u.0, u.2, u.3, u.4)), inr (c.in_err-give.ensures.halted c.args.number u)) in
     search rules
 

@@ -5,7 +5,7 @@ use Rattle.lk_sim.specs.Seats.{At}
 use Rattle.lk_sim.specs.declared.seat.Life.TheVariants.{Down}
 use Rattle.lk_sim.specs.Worlds.{scene_of}
 use Rattle.lk_sim.proofs.Explaining.{lawful}
-use Rattle.lk_sim.proofs.Doing.{at_same, back, revived_cases, revived_left, since, halted_holds, settled_holds, given_up_holds, given_up}
+use Rattle.lk_sim.proofs.Doing.{StopsOn, at_same, back, revived_cases, revived_left, since, halted_holds, settled_holds, given_up_holds, given_up}
 use Rattle.lk_sim.proofs.giving.come_up.Goals as goal
 
 pub returns-in_err-outcome-clause-holds : goal.returns-in_err-outcome-clause-holds
@@ -13,23 +13,23 @@ returns-in_err-outcome-clause-holds g c =
     let p = c.args.parts.now in
     let s = c.index_mut.result.now in
     let at : At p.seats.items c.args.i s = (search rules, sym c.index_mut.ensures.value) in
-    let v = since _ _ _ p.genesis p.seats.items p.sent.items p.trace.items c.requires.holds c.args.i s c.revive.new.seat at c.revive.ensures.number None in
+    let v = since _ g.R.MemoryReplica.behaves _ p.genesis p.seats.items p.sent.items p.trace.items c.requires.holds c.args.i s c.revive.new.seat at c.revive.ensures.number None in
     let k = c.in_err-outcome.ensures.halted c.requires.down.1.1 (rw (at_same _ _ _ _ at c.requires.down.1.2) c.requires.down.1.4) in
-    halted_holds _ _ _ p.genesis p.seats.items p.sent.items p.trace.items c.requires.holds c.args.i s c.revive.new.seat at c.revive.ensures.number None _ c.revive.new.seat c.revive.ensures.number k
-    (v.views s.number) (c.in_err-outcome.ensures.falls _ (v.views s.number) refl (lawful _ _ _ _ _ _ _ v) (v.seated c.args.i s at) k.device k.down)
+    halted_holds _ g.R.MemoryReplica.behaves _ p.genesis p.seats.items p.sent.items p.trace.items c.requires.holds c.args.i s c.revive.new.seat at c.revive.ensures.number None c.revive.new.seat c.revive.ensures.number _ k.down
+    (v.views s.number) (c.in_err-outcome.ensures.falls _ (v.views s.number) refl (lawful _ _ _ _ _ _ _ v) (v.seated c.args.i s at) _ k.down)
 
 pub returns-in_err-settle-clause-holds : goal.returns-in_err-settle-clause-holds
 returns-in_err-settle-clause-holds g c =
     let p = c.args.parts.now in
     let s = c.index_mut.result.now in
     let at : At p.seats.items c.args.i s = (search rules, sym c.index_mut.ensures.value) in
-    let v = since _ _ _ p.genesis p.seats.items p.sent.items p.trace.items c.requires.holds c.args.i s c.revive.new.seat at c.revive.ensures.number None in
+    let v = since _ g.R.MemoryReplica.behaves _ p.genesis p.seats.items p.sent.items p.trace.items c.requires.holds c.args.i s c.revive.new.seat at c.revive.ensures.number None in
     let d = c.requires.down.1 in
     let e = c.in_ok-outcome.ensures in
-    given_up_holds _ _ _ p.genesis p.seats.items p.sent.items p.trace.items c.requires.holds c.args.i s c.revive.new.seat at c.revive.ensures.number None _ _
+    given_up_holds _ g.R.MemoryReplica.behaves _ p.genesis p.seats.items p.sent.items p.trace.items c.requires.holds c.args.i s c.revive.new.seat at c.revive.ensures.number None _ _
     (e.goes _ (v.views s.number) refl (lawful _ _ _ _ _ _ _ v) (v.seated c.args.i s at))
     (e.falls _ (v.views s.number) refl (lawful _ _ _ _ _ _ _ v) (v.seated c.args.i s at))
-    (revived_cases _ _ _ _ _ _ _ _ (e.exact d.1 (rw (at_same _ _ _ _ at d.2) d.4)))
+    (revived_cases g.R.MemoryReplica.behaves _ _ _ _ _ _ _ (e.exact d.1 (rw (at_same _ _ _ _ at d.2) d.4)))
     p.ended (scene_of c.settle.new.parts) c.in_err-settle.ensures.err
 
 pub returns-in_err-settle-clause-halted : goal.returns-in_err-settle-clause-halted
@@ -39,7 +39,8 @@ returns-in_err-settle-clause-halted g c n d =
     let at : At p.seats.items c.args.i s = (search rules, sym c.index_mut.ensures.value) in
     let is : s.number ≡ n = rw (at_same _ _ _ _ at d.2) d.3 in
     let down : s.life ≡ Down d.1 = rw (at_same _ _ _ _ at d.2) d.4 in
-    let k = given_up (scene_of p) (scene_of c.settle.new.parts) (LeftByRevival g.R.MemoryReplica.Revives g.R.MemoryReplica.disks (header_of p.genesis n)) _ _ _ c.args.i n s c.revive.new.seat at (rw (at_same _ _ _ _ at d.2) d.3) c.revive.ensures.number (λ left stood. subst (λ z. LeftByRevival g.R.MemoryReplica.Revives g.R.MemoryReplica.disks (header_of p.genesis z) s.life left) is (revived_left _ _ d.1 _ _ _ _ _ _ _ down (c.in_ok-outcome.ensures.exact d.1 down) left stood)) c.in_err-settle.ensures.err in
+    let k = given_up g.R.MemoryReplica.behaves (scene_of p) (scene_of c.settle.new.parts) (LeftByRevival g.R.MemoryReplica.behaves (header_of p.genesis n)) _ _ c.args.i n s c.revive.new.seat at (rw (at_same _ _ _ _ at d.2) d.3) c.revive.ensures.number
+    (subst (λ z. StopsOn g.R.MemoryReplica.behaves (LeftByRevival g.R.MemoryReplica.behaves (header_of p.genesis z) s.life) c.revive.new.seat.life) is (revived_left g.R.MemoryReplica.behaves d.1 _ _ _ _ _ _ _ down (c.in_ok-outcome.ensures.exact d.1 down))) c.in_err-settle.ensures.err in
     search rules
 
 pub returns-clause-holds : goal.returns-clause-holds
@@ -47,13 +48,13 @@ returns-clause-holds g c =
     let p = c.args.parts.now in
     let s = c.index_mut.result.now in
     let at : At p.seats.items c.args.i s = (search rules, sym c.index_mut.ensures.value) in
-    let v = since _ _ _ p.genesis p.seats.items p.sent.items p.trace.items c.requires.holds c.args.i s c.revive.new.seat at c.revive.ensures.number None in
+    let v = since _ g.R.MemoryReplica.behaves _ p.genesis p.seats.items p.sent.items p.trace.items c.requires.holds c.args.i s c.revive.new.seat at c.revive.ensures.number None in
     let d = c.requires.down.1 in
     let e = c.in_ok-outcome.ensures in
-    settled_holds _ _ _ p.genesis p.seats.items p.sent.items p.trace.items c.requires.holds c.args.i s c.revive.new.seat at c.revive.ensures.number None _ _
+    settled_holds _ g.R.MemoryReplica.behaves _ p.genesis p.seats.items p.sent.items p.trace.items c.requires.holds c.args.i s c.revive.new.seat at c.revive.ensures.number None _ _
     (e.goes _ (v.views s.number) refl (lawful _ _ _ _ _ _ _ v) (v.seated c.args.i s at))
     (e.falls _ (v.views s.number) refl (lawful _ _ _ _ _ _ _ v) (v.seated c.args.i s at))
-    (revived_cases _ _ _ _ _ _ _ _ (e.exact d.1 (rw (at_same _ _ _ _ at d.2) d.4)))
+    (revived_cases g.R.MemoryReplica.behaves _ _ _ _ _ _ _ (e.exact d.1 (rw (at_same _ _ _ _ at d.2) d.4)))
     p.ended _ _ (scene_of c.settle.new.parts) c.in_ok-settle.ensures.ok
 
 pub returns-clause-back : goal.returns-clause-back
@@ -61,9 +62,9 @@ returns-clause-back g c n d =
     let p = c.args.parts.now in
     let s = c.index_mut.result.now in
     let at : At p.seats.items c.args.i s = (search rules, sym c.index_mut.ensures.value) in
-    let v = since _ _ _ p.genesis p.seats.items p.sent.items p.trace.items c.requires.holds c.args.i s c.revive.new.seat at c.revive.ensures.number None in
+    let v = since _ g.R.MemoryReplica.behaves _ p.genesis p.seats.items p.sent.items p.trace.items c.requires.holds c.args.i s c.revive.new.seat at c.revive.ensures.number None in
     let goes = c.in_ok-outcome.ensures.goes _ (v.views s.number) refl (lawful _ _ _ _ _ _ _ v) (v.seated c.args.i s at) in
     let is : s.number ≡ n = rw (at_same _ _ _ _ at d.2) d.3 in
     let down : s.life ≡ Down d.1 = rw (at_same _ _ _ _ at d.2) d.4 in
-    back (scene_of p) (scene_of c.settle.new.parts) _ _ _ _ c.args.i n s c.revive.new.seat d.1 _ _ _ _ at is down c.revive.ensures.number (λ q up x e. ((goes q up).goes.noted x e).0)
+    back g.R.MemoryReplica.behaves (scene_of p) (scene_of c.settle.new.parts) _ _ c.args.i n s c.revive.new.seat d.1 _ _ _ _ at is down c.revive.ensures.number (λ q up x e. ((goes q up).goes.noted x e).0)
     c.in_ok-settle.ensures.ok (c.in_ok-outcome.ensures.exact d.1 down)

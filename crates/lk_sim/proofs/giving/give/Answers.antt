@@ -13,23 +13,23 @@ returns-in_err-outcome-clause-holds g c =
     let p = c.args.parts.now in
     let s = c.index_mut.result.now in
     let at : At p.seats.items c.args.i s = (search rules, sym c.index_mut.ensures.value) in
-    let v = since _ _ _ p.genesis p.seats.items p.sent.items p.trace.items c.requires.holds c.args.i s c.step.new.seat at c.step.ensures.number c.args.asked in
+    let v = since _ g.R.MemoryReplica.behaves _ p.genesis p.seats.items p.sent.items p.trace.items c.requires.holds c.args.i s c.step.new.seat at c.step.ensures.number c.args.asked in
     let k = c.in_err-outcome.ensures.halted in
-    halted_holds _ _ _ p.genesis p.seats.items p.sent.items p.trace.items c.requires.holds c.args.i s c.step.new.seat at c.step.ensures.number c.args.asked _ c.step.new.seat c.step.ensures.number k
-    (v.views s.number) (c.in_err-outcome.ensures.falls _ (v.views s.number) (lawful _ _ _ _ _ _ _ v) (v.seated c.args.i s at) c.requires.heard k.device k.down)
+    halted_holds _ g.R.MemoryReplica.behaves _ p.genesis p.seats.items p.sent.items p.trace.items c.requires.holds c.args.i s c.step.new.seat at c.step.ensures.number c.args.asked c.step.new.seat c.step.ensures.number _ k.down
+    (v.views s.number) (c.in_err-outcome.ensures.falls _ (v.views s.number) (lawful _ _ _ _ _ _ _ v) (v.seated c.args.i s at) c.requires.heard _ k.down)
 
 pub returns-in_err-settle-clause-holds : goal.returns-in_err-settle-clause-holds
 returns-in_err-settle-clause-holds g c =
     let p = c.args.parts.now in
     let s = c.index_mut.result.now in
     let at : At p.seats.items c.args.i s = (search rules, sym c.index_mut.ensures.value) in
-    let v = since _ _ _ p.genesis p.seats.items p.sent.items p.trace.items c.requires.holds c.args.i s c.step.new.seat at c.step.ensures.number c.args.asked in
+    let v = since _ g.R.MemoryReplica.behaves _ p.genesis p.seats.items p.sent.items p.trace.items c.requires.holds c.args.i s c.step.new.seat at c.step.ensures.number c.args.asked in
     let u = c.requires.up.1 in
     let e = c.in_ok-outcome.ensures in
-    given_up_holds _ _ _ p.genesis p.seats.items p.sent.items p.trace.items c.requires.holds c.args.i s c.step.new.seat at c.step.ensures.number c.args.asked _ _
+    given_up_holds _ g.R.MemoryReplica.behaves _ p.genesis p.seats.items p.sent.items p.trace.items c.requires.holds c.args.i s c.step.new.seat at c.step.ensures.number c.args.asked _ _
     (e.goes _ (v.views s.number) (lawful _ _ _ _ _ _ _ v) (v.seated c.args.i s at) c.requires.heard)
     (e.falls _ (v.views s.number) (lawful _ _ _ _ _ _ _ v) (v.seated c.args.i s at) c.requires.heard)
-    (taken_cases _ _ _ _ _ _ _ _ _ (e.exact u.1 (rw (at_same _ _ _ _ at u.2) u.4)))
+    (taken_cases g.R.MemoryReplica.behaves _ _ _ _ _ _ _ (e.exact u.1 (rw (at_same _ _ _ _ at u.2) u.4)))
     p.ended (scene_of c.settle.new.parts) c.in_err-settle.ensures.err
 
 pub returns-in_err-settle-clause-halted : goal.returns-in_err-settle-clause-halted
@@ -38,7 +38,7 @@ returns-in_err-settle-clause-halted g c n u =
     let s = c.index_mut.result.now in
     let at : At p.seats.items c.args.i s = (search rules, sym c.index_mut.ensures.value) in
     let up : s.life ≡ Up u.1 = rw (at_same _ _ _ _ at u.2) u.4 in
-    let k = given_up (scene_of p) (scene_of c.settle.new.parts) (LeftBy g.R.MemoryReplica.Takes g.R.MemoryReplica.disks (heard_by c.args.input)) _ _ _ c.args.i n s c.step.new.seat at (rw (at_same _ _ _ _ at u.2) u.3) c.step.ensures.number (taken_left _ _ u.1 _ _ _ _ _ _ _ up (c.in_ok-outcome.ensures.exact u.1 up)) c.in_err-settle.ensures.err in
+    let k = given_up g.R.MemoryReplica.behaves (scene_of p) (scene_of c.settle.new.parts) (LeftBy g.R.MemoryReplica.behaves (heard_by c.args.input)) _ _ c.args.i n s c.step.new.seat at (rw (at_same _ _ _ _ at u.2) u.3) c.step.ensures.number (taken_left g.R.MemoryReplica.behaves g.met.R.MemoryReplica.traps_alone u.1 _ _ _ _ _ _ _ up (c.in_ok-outcome.ensures.exact u.1 up)) c.in_err-settle.ensures.err in
     search rules
 
 pub returns-clause-holds : goal.returns-clause-holds
@@ -46,13 +46,13 @@ returns-clause-holds g c =
     let p = c.args.parts.now in
     let s = c.index_mut.result.now in
     let at : At p.seats.items c.args.i s = (search rules, sym c.index_mut.ensures.value) in
-    let v = since _ _ _ p.genesis p.seats.items p.sent.items p.trace.items c.requires.holds c.args.i s c.step.new.seat at c.step.ensures.number c.args.asked in
+    let v = since _ g.R.MemoryReplica.behaves _ p.genesis p.seats.items p.sent.items p.trace.items c.requires.holds c.args.i s c.step.new.seat at c.step.ensures.number c.args.asked in
     let u = c.requires.up.1 in
     let e = c.in_ok-outcome.ensures in
-    settled_holds _ _ _ p.genesis p.seats.items p.sent.items p.trace.items c.requires.holds c.args.i s c.step.new.seat at c.step.ensures.number c.args.asked _ _
+    settled_holds _ g.R.MemoryReplica.behaves _ p.genesis p.seats.items p.sent.items p.trace.items c.requires.holds c.args.i s c.step.new.seat at c.step.ensures.number c.args.asked _ _
     (e.goes _ (v.views s.number) (lawful _ _ _ _ _ _ _ v) (v.seated c.args.i s at) c.requires.heard)
     (e.falls _ (v.views s.number) (lawful _ _ _ _ _ _ _ v) (v.seated c.args.i s at) c.requires.heard)
-    (taken_cases _ _ _ _ _ _ _ _ _ (e.exact u.1 (rw (at_same _ _ _ _ at u.2) u.4)))
+    (taken_cases g.R.MemoryReplica.behaves _ _ _ _ _ _ _ (e.exact u.1 (rw (at_same _ _ _ _ at u.2) u.4)))
     p.ended _ _ (scene_of c.settle.new.parts) c.in_ok-settle.ensures.ok
 
 pub returns-clause-given : goal.returns-clause-given
@@ -60,7 +60,7 @@ returns-clause-given g c n u =
     let p = c.args.parts.now in
     let s = c.index_mut.result.now in
     let at : At p.seats.items c.args.i s = (search rules, sym c.index_mut.ensures.value) in
-    let v = since _ _ _ p.genesis p.seats.items p.sent.items p.trace.items c.requires.holds c.args.i s c.step.new.seat at c.step.ensures.number c.args.asked in
+    let v = since _ g.R.MemoryReplica.behaves _ p.genesis p.seats.items p.sent.items p.trace.items c.requires.holds c.args.i s c.step.new.seat at c.step.ensures.number c.args.asked in
     let goes = c.in_ok-outcome.ensures.goes _ (v.views s.number) (lawful _ _ _ _ _ _ _ v) (v.seated c.args.i s at) c.requires.heard in
-    given (scene_of p) (scene_of c.settle.new.parts) _ _ _ _ c.args.i n s c.step.new.seat u.1 _ _ _ _ _ _ at (rw (at_same _ _ _ _ at u.2) u.3) (rw (at_same _ _ _ _ at u.2) u.4) c.step.ensures.number (λ q up x k. ((goes q up).goes.noted x k).0)
+    given g.R.MemoryReplica.behaves (scene_of p) (scene_of c.settle.new.parts) _ _ c.args.i n s c.step.new.seat u.1 _ _ _ _ _ _ at (rw (at_same _ _ _ _ at u.2) u.3) (rw (at_same _ _ _ _ at u.2) u.4) c.step.ensures.number (λ q up x k. ((goes q up).goes.noted x k).0)
     c.in_ok-settle.ensures.ok (c.in_ok-outcome.ensures.exact u.1 (rw (at_same _ _ _ _ at u.2) u.4))

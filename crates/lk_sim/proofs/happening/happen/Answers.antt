@@ -14,8 +14,7 @@ pub returns-in-Inject-clause-err : goal.returns-in-Inject-clause-err
 returns-in-Inject-clause-err g c =
     let p = c.args.parts.now in
     let n = c.in-Inject.number in
-    let T = g.R.MemoryReplica.Takes in
     let same : c.deref.result.now ≡ c.in-Inject.bytes.items = c.deref.ensures.value in
     rw c.in-Inject.is
-    (if_err _ _ c.inject.result (λ e k. injected_refused T g.R.MemoryReplica.Revives g.R.MemoryReplica.disks (scene_of p) (scene_of c.inject.new.parts) n c.in-Inject.bytes e k)
-    (subst (λ (l : List ℕ). IfErr c.inject.result (λ e. IsRefusedAt (NoInjection p.seats.items p.sent.items n l) (IsUp p.seats.items n) (LeftBy T g.R.MemoryReplica.disks (Some l)) (scene_of p) n e (scene_of c.inject.new.parts))) same c.inject.ensures.err))
+    (if_err _ _ c.inject.result (λ e k. injected_refused g.R.MemoryReplica.behaves (scene_of p) (scene_of c.inject.new.parts) n c.in-Inject.bytes e k)
+    (subst (λ (l : List ℕ). IfErr c.inject.result (λ e. IsRefusedAt (NoInjection p.seats.items p.sent.items n l) (IsUp p.seats.items n) (LeftBy g.R.MemoryReplica.behaves (Some l)) (scene_of p) n e (scene_of c.inject.new.parts))) same c.inject.ensures.err))

@@ -1,6 +1,9 @@
-use Rattle.std.proofs.Common.{rules, ◌≡◌, [], ◌∷◌, ◌++◌, length, None, refl, sym, ◌∙◌}
+use Rattle.std.proofs.Common.{rules, ◌≡◌, [], ◌∷◌, ◌++◌, length, None, refl, ap, sym, subst, ◌∙◌}
+use Rattle.lk_disk.specs.Memory.{Memory}
 use Rattle.lk_disk.specs.declared.device.Side.TheVariants.{A, B}
+use Rattle.lk_sim.specs.Events.{ComesUp}
 use Rattle.lk_sim.specs.Scenes.{Scene}
+use Rattle.lk_sim.specs.Worlds.{scene_of}
 use Rattle.lk_sim.specs.declared.seat.Life.TheVariants.{Down}
 use Rattle.lk_sim.specs.declared.seat.Seat.{Seat}
 use Rattle.lk_sim.proofs.Doing.{comes, revived_cases, since, settled_holds}
@@ -15,17 +18,17 @@ returns-clause-holds g c =
     let p = c.args.parts.now in
     let q = c.add.new.parts in
     let s : Seat g.row.R.Denot = record { number = c.args.number; life = Down c.new.result } in
-    let w = starts _ _ _ p.genesis p.seats.items p.sent.items p.trace.items c.requires.holds s c.requires.unused c.new.result refl (elim [ A ↦ c.new.ensures.a | B ↦ c.new.ensures.b ]) in
+    let w = starts _ _ _ p.genesis p.seats.items p.sent.items p.trace.items c.requires.holds s c.requires.unused c.new.result refl (elim [ A ↦ ap (λ (m : Memory). m.a) c.new.ensures | B ↦ ap (λ (m : Memory). m.b) c.new.ensures ]) in
     let at = at_end p.seats.items s in
-    let v = since _ _ _ p.genesis (p.seats.items ++ s ∷ []) p.sent.items p.trace.items w (length p.seats.items) s c.revive.new.seat at c.revive.ensures.number None in
+    let v = since _ g.R.MemoryReplica.behaves _ p.genesis (p.seats.items ++ s ∷ []) p.sent.items p.trace.items w (length p.seats.items) s c.revive.new.seat at c.revive.ensures.number None in
     let e = c.in_ok-outcome.ensures in
     let k = c.in_ok-add.ensures.ok in
     let new : Scene g.row.R.Denot = record { genesis = q.genesis; seats = c.push.new.self.items; sent = q.sent.items; trace = q.trace.items; ended = q.ended } in
     let pushed : c.push.new.self.items ≡ p.seats.items ++ c.rest.new.seat ∷ [] = search rules in
-    settled_holds _ _ _ p.genesis (p.seats.items ++ s ∷ []) p.sent.items p.trace.items w (length p.seats.items) s c.revive.new.seat at c.revive.ensures.number None _ _
+    settled_holds _ g.R.MemoryReplica.behaves _ p.genesis (p.seats.items ++ s ∷ []) p.sent.items p.trace.items w (length p.seats.items) s c.revive.new.seat at c.revive.ensures.number None _ _
     (e.goes _ (v.views s.number) refl (lawful _ _ _ _ _ _ _ v) (v.seated _ s at))
     (e.falls _ (v.views s.number) refl (lawful _ _ _ _ _ _ _ v) (v.seated _ s at))
-    (revived_cases _ _ _ _ _ _ _ _ (e.exact c.new.result refl))
+    (revived_cases g.R.MemoryReplica.behaves _ _ _ _ _ _ _ (e.exact c.new.result refl))
     p.ended _ _ new (record {
       told = k.told;
       tells = k.tells;
@@ -44,18 +47,19 @@ pub returns-clause-ok : goal.returns-clause-ok
 returns-clause-ok g c =
     let p = c.args.parts.now in
     let s : Seat g.row.R.Denot = record { number = c.args.number; life = Down c.new.result } in
-    let w = starts _ _ _ p.genesis p.seats.items p.sent.items p.trace.items c.requires.holds s c.requires.unused c.new.result refl (elim [ A ↦ c.new.ensures.a | B ↦ c.new.ensures.b ]) in
+    let w = starts _ _ _ p.genesis p.seats.items p.sent.items p.trace.items c.requires.holds s c.requires.unused c.new.result refl (elim [ A ↦ ap (λ (m : Memory). m.a) c.new.ensures | B ↦ ap (λ (m : Memory). m.b) c.new.ensures ]) in
     let at = at_end p.seats.items s in
-    let v = since _ _ _ p.genesis (p.seats.items ++ s ∷ []) p.sent.items p.trace.items w (length p.seats.items) s c.revive.new.seat at c.revive.ensures.number None in
+    let v = since _ g.R.MemoryReplica.behaves _ p.genesis (p.seats.items ++ s ∷ []) p.sent.items p.trace.items w (length p.seats.items) s c.revive.new.seat at c.revive.ensures.number None in
     let goes = c.in_ok-outcome.ensures.goes _ (v.views s.number) refl (lawful _ _ _ _ _ _ _ v) (v.seated _ s at) in
     let k = c.in_ok-add.ensures.ok in
+    let q = c.add.new.parts in
+    let new : Scene g.row.R.Denot = record { genesis = q.genesis; seats = c.push.new.self.items; sent = q.sent.items; trace = q.trace.items; ended = q.ended } in
     let pushed : c.push.new.self.items ≡ p.seats.items ++ c.rest.new.seat ∷ [] = search rules in
     record {
       seat = c.rest.new.seat;
       number = c.rest.ensures.number ∙ c.revive.ensures.number;
       seats = pushed;
-      device = c.new.result;
-      empty = elim [ A ↦ c.new.ensures.a | B ↦ c.new.ensures.b ];
-      comes = comes _ _ _ _ c.revive.new.seat c.rest.new.seat _ c.args.number _ k.told _ _ _ c.revive.ensures.number c.rest.ensures.number c.rest.ensures.rests (λ q up x c. ((goes q up).goes.noted x c).0)
-          (record { genesis = k.adds.genesis; sent = k.adds.sent; trace = k.adds.trace }) k.tells k.ended (c.in_ok-outcome.ensures.exact c.new.result refl);
+      comes = subst (λ (z : Memory). ComesUp g.R.MemoryReplica.behaves (scene_of p) new c.rest.new.seat z) c.new.ensures
+          (comes g.R.MemoryReplica.behaves (scene_of p) new c.revive.new.seat c.rest.new.seat _ c.args.number _ k.told _ _ _ c.revive.ensures.number c.rest.ensures.number c.rest.ensures.rests (λ q up x c. ((goes q up).goes.noted x c).0)
+          (record { genesis = k.adds.genesis; sent = k.adds.sent; trace = k.adds.trace }) k.tells k.ended (c.in_ok-outcome.ensures.exact c.new.result refl));
     }

@@ -1,5 +1,7 @@
-use Rattle.std.proofs.Common.{rules, ◌≡◌, refl, sym, append-nil}
-use Rattle.lk_sim.specs.Seats.{At, IsUpAt}
+use Rattle.std.proofs.Common.{rules, ◌≡◌, ◌∙◌, refl, ap, sym, append-nil}
+use Rattle.lk_sim.specs.Seats.{At, IsUpAt, stopped_on, device_in}
+use Rattle.lk_sim.specs.declared.seat.Life.{Life}
+use Rattle.lk_sim.specs.declared.seat.Life.TheVariants.{Up, Down}
 use Rattle.lk_sim.proofs.Doing.{at_same}
 use Rattle.lk_sim.proofs.Given.{went_down}
 use Rattle.lk_sim.proofs.lives.halt.Goals as goal
@@ -20,7 +22,7 @@ returns-clause-ok g c =
     let u : IsUpAt p.seats.items c.in_ok-i.i c.args.number = search rules in
     let at : At p.seats.items c.in_ok-i.i s = (u.2.0, sym c.index_mut.ensures.value) in
     let same : u.0 ≡ s = at_same _ _ _ _ u.2 at in
-    let d = c.stop.ensures.up u.1 (rw (sym same) u.4) in (
+    let up : s.life ≡ Up u.1 = rw (sym same) u.4 in (
       (u.1, (c.in_ok-i.i, u.0, u.2, u.3, u.4)),
       record {
         seat = u.0;
@@ -29,10 +31,7 @@ returns-clause-ok g c =
         up = u.4;
         next = c.stop.new.seat;
         turns = record { place = c.in_ok-i.i; at = u.2; number = rw same c.stop.ensures.number; seats = refl };
-        device = d.0;
-        down = d.1;
-        stopped = d.2;
-        trap = d.3;
+        down = c.stop.ensures.stopped ∙ ap (λ (z : Life g.row.R.Denot). Down (stopped_on c.args.x c.args.y (device_in g.R.MemoryReplica.behaves z))) up;
         adds = record { genesis = refl; sent = sym (append-nil _); trace = sym (append-nil _) };
         ended = refl;
       },

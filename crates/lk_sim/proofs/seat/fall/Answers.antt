@@ -1,6 +1,9 @@
 use Rattle.std.proofs.Common.{rules, ◌≡◌, ◌∙◌, refl, ap}
 use Rattle.lk_disk.specs.declared.device.Side.TheVariants.{A, B}
 use Rattle.lk_disk.specs.Memory.{Memory, disk_of}
+use Rattle.lk_disk.specs.Meters.{trapped}
+use Rattle.lk_disk.specs.declared.trap.Trap.TheVariants.{Off}
+use Rattle.lk_sim.specs.declared.seat.Life.TheVariants.{Down}
 use Rattle.lk_sim.proofs.Ending.{stopped_fit}
 use Rattle.lk_sim.proofs.Growth.{same_disks}
 use Rattle.lk_sim.proofs.Given.{down_fits}
@@ -19,11 +22,4 @@ returns-clause-fits g c h w f =
     (elim [ A ↦ ap (λ (z : Memory). z.a) c.trap-2.ensures | B ↦ ap (λ (z : Memory). z.b) c.trap-2.ensures ]) f)
 
 pub returns-then-is_wanting-clause-halted : goal.returns-then-is_wanting-clause-halted
-returns-then-is_wanting-clause-halted g c = record {
-  disks = disk_of c.args.device;
-  left = λ s. refl;
-  device = c.trap.new.self;
-  down = refl;
-  stopped = (ap (λ (d : Memory). d.a) c.trap.ensures ∙ ap (λ (d : Memory). d.a) c.stop.ensures.after, ap (λ (d : Memory). d.b) c.trap.ensures ∙ ap (λ (d : Memory). d.b) c.stop.ensures.after);
-  trap = ap (λ (d : Memory). d.trap) c.trap.ensures;
-}
+returns-then-is_wanting-clause-halted g c = ap Down (c.trap.ensures ∙ ap (λ (d : Memory). record d { meter = trapped Off d.meter }) c.stop.ensures.after)

@@ -1,7 +1,6 @@
-use Rattle.std.proofs.Common.{rules, ◌≡◌, refl, ap, sym, subst}
-use Rattle.lk_disk.specs.Memory.{disk_of}
+use Rattle.std.proofs.Common.{rules, ◌≡◌, refl, sym, subst}
+use Rattle.lk_disk.specs.Memory.{Memory, disk_of}
 use Rattle.lk_node.specs.Leavings.{DisksFit}
-use Rattle.lk_sim.proofs.Growth.{same_disks}
 use Rattle.lk_sim.proofs.Given.{node_fits}
 use Rattle.lk_sim.proofs.Stopping.{goes_up_to}
 use Rattle.lk_sim.proofs.seat.step.Goals as goal
@@ -11,9 +10,9 @@ pub returns-in-Ok-clause-goes : goal.returns-in-Ok-clause-goes
 returns-in-Ok-clause-goes g c h w lawful f input q same =
     let is : c.args.seat.now.life ≡ Up c.in-Up.replica = search rules in
     record {
-      replica = c.take.new.self;
-      up = ap Up c.count_sends-stop.ensures.replica;
-      goes = goes_up_to _ h c.args.seat.now.number _ _ _ _ _ _ c.count_sends-stop.ensures.sends
+      replica = c.count_sends-stop.new.replica;
+      up = refl;
+      goes = goes_up_to g.R.MemoryReplica.behaves g.met.R.MemoryReplica.traps_alone g.R.MemoryReplica.Shows g.met.R.MemoryReplica.shows_on g.R.MemoryReplica.meaning h c.args.seat.now.number _ c.count_sends-stop.result c.take.new.self c.count_sends-stop.new.replica _ _ c.count_sends-stop.ensures.sends
           (c.in-Ok.ensures.goes h c.args.seat.now.number (node_fits _ _ _ h w _ _ lawful (f.up c.in-Up.replica is)) input);
     }
 
@@ -22,5 +21,5 @@ returns-in-Err-clause-falls g c h w lawful f input d down =
     let is : c.args.seat.now.life ≡ Up c.in-Up.replica = search rules in
     c.fall.ensures.fits h w
     (subst (λ k. DisksFit g.R.MemoryReplica.meaning h k (disk_of c.take_device-device.result)) (sym c.take_device-device.ensures.number)
-    (same_disks _ h c.args.seat.now.number _ _ (c.take_device-device.ensures.up c.take.new.self refl)
+    (subst (λ (m : Memory). DisksFit g.R.MemoryReplica.meaning h c.args.seat.now.number (disk_of m)) (sym c.take_device-device.ensures.is)
     (c.in-Err.ensures.ends h c.args.seat.now.number (node_fits _ _ _ h w _ _ lawful (f.up c.in-Up.replica is)) input)))

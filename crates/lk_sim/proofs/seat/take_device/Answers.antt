@@ -1,12 +1,13 @@
-use Rattle.std.proofs.Common.{rules, ◌≡◌}
-use Rattle.lk_sim.proofs.Growth.{same_disks}
+use Rattle.std.proofs.Common.{rules, ◌≡◌, sym, subst}
+use Rattle.lk_disk.specs.Memory.{Memory, disk_of}
+use Rattle.lk_node.specs.Leavings.{DisksFit}
 use Rattle.lk_sim.proofs.seat.take_device.Goals as goal
 use Rattle.lk_sim.specs.declared.seat.Life.TheVariants.{Up, Down}
 
 pub returns-in-Up-clause-fits : goal.returns-in-Up-clause-fits
 returns-in-Up-clause-fits g c h w f =
     let is : c.args.seat.now.life ≡ Up c.in-Up.replica = search rules in
-    same_disks _ h c.args.seat.now.number _ _ c.into_disks.ensures.disks (f.up c.in-Up.replica is).left
+    subst (λ (m : Memory). DisksFit g.R.MemoryReplica.meaning h c.args.seat.now.number (disk_of m)) (sym c.into_disks.ensures.is) (f.up c.in-Up.replica is).left
 
 pub returns-in-Down-clause-fits : goal.returns-in-Down-clause-fits
 returns-in-Down-clause-fits g c h w f =

@@ -10,6 +10,10 @@ use Rattle.lk_log.proofs.RebaseLaws.{base_fits, keeps_pick, keeps_still, held_at
 use Rattle.lk_log.specs.Rooms.{StaysWithin}
 use Rattle.lk_log.proofs.Room.{within_same, within_pick, within_from, spelling_room}
 use Rattle.lk_log.proofs.store.Store.rebase.Goals as goal
+use Rattle.lk_disk.specs.Meters.{start}
+use Rattle.lk_log.specs.Causes.{IsMetered, rebase_calls}
+use Rattle.lk_log.proofs.Metering.{refused}
+use Rattle.lk_log.specs.declared.fault.StoreFault.TheVariants.{NoMemory}
 
 pub returns-then-self-clause-any : goal.returns-then-self-clause-any
 returns-then-self-clause-any g c honest ks ls holds =
@@ -44,6 +48,7 @@ returns-clause-base g c honest ks ls holds =
       live_disk = new c.other-self-inside.result;
       other_disk = new (other c.other-self-inside.result);
       failures = g.D.LogDisk.failures c.go_over.new.device;
+      meter = g.D.LogDisk.meter c.go_over.new.device;
       live = c.other-self-inside.result;
       generation = c.self.inside.generation + 1;
       header = c.self.inside.header;
@@ -102,3 +107,13 @@ returns-clause-short g c honest =
     let fits = base_fits b (omega arith, omega (arith, c.if-self-ge-MAX_COUNT.false)) c.facts.ensures c.facts-2.ensures.promised c.facts-2.ensures.position c.facts-2.ensures.votes c.facts-2.ensures.pairs c.requires in
     let few : length c.deref.result.now ≤ 49152 = omega (arith, ap length (c.deref.ensures ∙ c.in_ok-bytes.ensures), spelling_room (Base b) fits) in
     subst (λ (k : Side). length (contents (new k)) ≤ 49152) (sym c.other-self-inside.ensures) (c.in_ok-go_over.ensures.short honest few)
+
+-- ---- which calls were made
+
+pub returns-then-self-clause-metered : goal.returns-then-self-clause-metered
+returns-then-self-clause-metered g c metered honest = (0, start)
+
+pub returns-in_err-bytes-clause-metered : goal.returns-in_err-bytes-clause-metered
+returns-in_err-bytes-clause-metered g c metered honest =
+    let now = g.D.LogDisk.meter c.self.inside.device in
+    subst (λ (s : StoreValue). IsMetered s.meter now rebase_calls c.from_residual.result) c.self.view_is (refused now now rebase_calls _ NoMemory c.from_residual.ensures.1 (0, start))

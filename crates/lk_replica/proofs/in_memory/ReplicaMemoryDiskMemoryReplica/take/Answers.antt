@@ -1,45 +1,68 @@
-use Rattle.std.proofs.Common.{◌≡◌, ◌∙◌, List, ◌++◌, Contains, ap, sym, subst}
-use Rattle.lk_log.specs.StoreValue.{disks}
+use Rattle.std.proofs.Common.{◌≡◌, ◌∙◌, List, ◌++◌, Result, Ok, Err, OnErr, Contains, ap, sym, subst}
+use Rattle.lk_log.specs.StoreValue.{disks, device_of}
 use Rattle.lk_log.specs.Values.{HeaderValue}
+use Rattle.lk_disk.specs.Memory.{disk_of}
 use Rattle.lk_state.specs.Meanings.{Meaning, meaning}
-use Rattle.lk_node.specs.Calls.{Goes}
+use Rattle.lk_node.specs.Calls.{NodeFits, Goes}
 use Rattle.lk_node.specs.Histories.{Datagram}
 use Rattle.lk_node.specs.Keeping.{Stands}
+use Rattle.lk_node.specs.Leavings.{DisksFit, AllCover}
 use Rattle.lk_node.specs.Letters.{batch_of}
 use Rattle.lk_replica.specs.Posts.{CollectedValue}
+use Rattle.lk_replica.proofs.OnDevices.{on_device, off_device}
 use Rattle.lk_replica.proofs.in_memory.ReplicaMemoryDiskMemoryReplica.take.Goals as goal
 
-pub returns-clause-goes : goal.returns-clause-goes
-returns-clause-goes g c h n fits heard =
+on_err : {T E : Type 0} (r : Result T E) (P : Type 0) → P → OnErr r P
+on_err (Ok x) P p = tt
+on_err (Err e) P p = p
+
+pub returns-in-Ok-clause-goes : goal.returns-in-Ok-clause-goes
+returns-in-Ok-clause-goes g c h n fits heard =
     let m : Meaning = meaning g.M.Machine.first g.M.Machine.next g.M.Machine.answer in
-    let went = c.in_ok-notes.ensures.goes tt tt h n fits heard in
+    let own = c.args.self.now in
+    let went = c.in_ok-notes.ensures.goes tt tt h n (off_device (λ d. NodeFits m h n (Stands m own.node own.store h.genesis n) d) own.store fits) heard in
     let letters : c.take.new.post.letters ≡ went.0 = went.1 ∙ ap (λ (p : CollectedValue). p.letters ++ went.0) c.empty_post-post.ensures in
     let is : c.number-node.result ≡ n = c.number-node.ensures ∙ ap (λ (w : HeaderValue). w.node) fits.shown.whose in
-    let batch : c.in_ok-sent.sent.items ≡ batch_of n went.0 = c.in_ok-sent.ensures ∙ (λ i. batch_of (is i) (letters i)) in
-    subst (λ (ds : List Datagram). Goes m h n (Stands m c.take.new.self.node c.take.new.self.store h.genesis n) (disks c.take.new.self.store) c.in_ok-notes.notes.items ds) (sym batch) went.2
+    let batch : c.in-Ok.sent.items ≡ batch_of n went.0 = c.in-Ok.ensures ∙ (λ i. batch_of (is i) (letters i)) in
+    subst (λ (ds : List Datagram). Goes m h n (Stands m c.take.new.self.node c.take.new.self.store h.genesis n) (disk_of (device_of c.take.new.self.store)) c.in_ok-notes.notes.items ds) (sym batch)
+    (on_device (λ d. Goes m h n (Stands m c.take.new.self.node c.take.new.self.store h.genesis n) d c.in_ok-notes.notes.items (batch_of n went.0)) c.take.new.self.store went.2)
 
-pub returns-clause-syncs : goal.returns-clause-syncs
-returns-clause-syncs g c genesis n held x shown =
+pub returns-in-Ok-clause-syncs : goal.returns-in-Ok-clause-syncs
+returns-in-Ok-clause-syncs g c genesis n held x shown =
+    let m : Meaning = meaning g.M.Machine.first g.M.Machine.next g.M.Machine.answer in
     let synced = c.take.ensures.syncs tt tt genesis n held x shown in
     let letters : c.take.new.post.letters ≡ synced.0 = synced.1 ∙ ap (λ (p : CollectedValue). p.letters ++ synced.0) c.empty_post-post.ensures in
     let is : c.number-node.result ≡ n = c.number-node.ensures ∙ ap (λ (w : HeaderValue). w.node) shown.whose in
-    let batch : c.in_ok-sent.sent.items ≡ batch_of n synced.0 = c.in_ok-sent.ensures ∙ (λ i. batch_of (is i) (letters i)) in
-    λ d listed said. synced.2 d (subst (λ (ds : List Datagram). Contains ds d) batch listed) said
+    let batch : c.in-Ok.sent.items ≡ batch_of n synced.0 = c.in-Ok.ensures ∙ (λ i. batch_of (is i) (letters i)) in
+    λ d listed said. on_device (λ z. AllCover m genesis n z x) c.take.new.self.store (synced.2 d (subst (λ (ds : List Datagram). Contains ds d) batch listed) said)
+
+-- ---- at every exit
+
+pub returns-in_err-notes-clause-ends : goal.returns-in_err-notes-clause-ends
+returns-in_err-notes-clause-ends g c h n fits heard =
+    let m : Meaning = meaning g.M.Machine.first g.M.Machine.next g.M.Machine.answer in
+    let own = c.args.self.now in
+    on_err c.from_residual.result _ (on_device (DisksFit m h n) c.take.new.self.store
+    (c.take.ensures.ends tt h n (off_device (λ d. NodeFits m h n (Stands m own.node own.store h.genesis n) d) own.store fits) heard))
+
+pub returns-in-Err-clause-ends : goal.returns-in-Err-clause-ends
+returns-in-Err-clause-ends g c h n fits heard =
+    let m : Meaning = meaning g.M.Machine.first g.M.Machine.next g.M.Machine.answer in
+    let own = c.args.self.now in
+    on_device (DisksFit m h n) c.take.new.self.store
+    (c.take.ensures.ends tt h n (off_device (λ d. NodeFits m h n (Stands m own.node own.store h.genesis n) d) own.store fits) heard)
 
 pub returns-in_err-notes-clause-covers : goal.returns-in_err-notes-clause-covers
-returns-in_err-notes-clause-covers g c = c.take.ensures.covers tt
+returns-in_err-notes-clause-covers g c genesis n held x shown every =
+    let m : Meaning = meaning g.M.Machine.first g.M.Machine.next g.M.Machine.answer in
+    on_device (λ d. AllCover m genesis n d x) c.take.new.self.store (c.take.ensures.covers tt genesis n held x shown (off_device (λ d. AllCover m genesis n d x) c.args.self.now.store every))
 
-pub returns-in_err-sent-clause-covers : goal.returns-in_err-sent-clause-covers
-returns-in_err-sent-clause-covers g c = c.take.ensures.covers tt
+pub returns-in-Ok-clause-covers : goal.returns-in-Ok-clause-covers
+returns-in-Ok-clause-covers g c genesis n held x shown every =
+    let m : Meaning = meaning g.M.Machine.first g.M.Machine.next g.M.Machine.answer in
+    on_device (λ d. AllCover m genesis n d x) c.take.new.self.store (c.take.ensures.covers tt genesis n held x shown (off_device (λ d. AllCover m genesis n d x) c.args.self.now.store every))
 
-pub returns-clause-covers : goal.returns-clause-covers
-returns-clause-covers g c = c.take.ensures.covers tt
-
-pub returns-in_err-notes-clause-room : goal.returns-in_err-notes-clause-room
-returns-in_err-notes-clause-room g c = c.take.ensures.room tt
-
-pub returns-in_err-sent-clause-room : goal.returns-in_err-sent-clause-room
-returns-in_err-sent-clause-room g c = c.take.ensures.room tt
-
-pub returns-clause-room : goal.returns-clause-room
-returns-clause-room g c = c.take.ensures.room tt
+pub returns-in-Err-clause-covers : goal.returns-in-Err-clause-covers
+returns-in-Err-clause-covers g c genesis n held x shown every =
+    let m : Meaning = meaning g.M.Machine.first g.M.Machine.next g.M.Machine.answer in
+    on_device (λ d. AllCover m genesis n d x) c.take.new.self.store (c.take.ensures.covers tt genesis n held x shown (off_device (λ d. AllCover m genesis n d x) c.args.self.now.store every))

@@ -8,6 +8,7 @@ use Rattle.lk_replica.specs.ReplicaValue.{ReplicaValue}
 use Rattle.lk_log.specs.Rooms.{StaysWithin}
 use Rattle.lk_log.proofs.Room.{within_same}
 use Rattle.lk_replica.proofs.replica.Replica.compact.Goals as goal
+use Rattle.lk_disk.specs.Meters.{start}
 
 pub returns-in_err-write_base-clause-ends : goal.returns-in_err-write_base-clause-ends
 returns-in_err-write_base-clause-ends g c honest h n f =
@@ -52,3 +53,6 @@ returns-in_err-write_base-clause-room g c honest = subst (λ (r : ReplicaValue).
 
 pub returns-clause-room : goal.returns-clause-room
 returns-clause-room g c honest = subst (λ (r : ReplicaValue). StaysWithin 49152 (disks r.store) (disks c.write_base.new.store)) c.self.view_is (c.write_base.ensures.room honest)
+
+pub returns-then-self-clause-metered : goal.returns-then-self-clause-metered
+returns-then-self-clause-metered g c metered honest = (0, start)

@@ -1,5 +1,7 @@
-use Rattle.std.proofs.Common.{◌≡◌, List, ℕ, [], inr, Err, ◌∙◌, ap, subst, sym}
+use Rattle.std.proofs.Common.{◌≡◌, List, ℕ, [], inl, inr, Err, refl, ◌∙◌, ap, subst, sym}
 use Rattle.lk_types.specs.Geneses.{IsGenesis}
+use Rattle.lk_disk.specs.Meters.{Passes, start}
+use Rattle.lk_replica.specs.Faults.{fault_number, RefusedAfter}
 use Rattle.lk_log.specs.Images.{seen}
 use Rattle.lk_log.specs.StoreValue.{disks}
 use Rattle.lk_log.specs.Stores.{Opens}
@@ -46,6 +48,8 @@ returns-in-Ok-restored-clause-exact g c honest =
       standing = c.in-Ok-reopen.standing;
       opens = subst (λ (t : List ℕ). Opens (seen (g.D.LogDisk.disk c.args.device)) c.args.header.now t c.in-Ok-reopen.store c.in-Ok-reopen.standing) begins (c.in-Ok-reopen.ensures.ok honest);
       restores = c.in-Ok-restored.ensures.restores;
+      alive = refl;
+      store_alive = c.in-Ok-reopen.ensures.open;
     }
 
 pub returns-in-Ok-reopen-clause-down : goal.returns-in-Ok-reopen-clause-down
@@ -101,3 +105,19 @@ returns-clause-wrong g c honest ten = c.in-Err.ensures.wrong honest (wrong_only 
 pub returns-in-Ok-reopen-clause-room_err : goal.returns-in-Ok-reopen-clause-room_err
 returns-in-Ok-reopen-clause-room_err g c honest =
     given_room 49152 (g.D.LogDisk.disk c.args.device) c.in-Ok-reopen.store (g.D.LogDisk.disk c.into_disks.result) c.into_disks.ensures.live_disk c.into_disks.ensures.other_disk (c.in-Ok-reopen.ensures.room honest)
+
+-- ---- which calls were made
+
+pub returns-in_default-clause-metered : goal.returns-in_default-clause-metered
+returns-in_default-clause-metered g c metered honest = (0, start)
+
+pub returns-in-Ok-reopen-clause-metered : goal.returns-in-Ok-reopen-clause-metered
+returns-in-Ok-reopen-clause-metered g c metered honest =
+    let old = g.D.LogDisk.meter c.args.device in
+    let new = g.D.LogDisk.meter c.into_disks.result in
+    let o = c.in-Ok-reopen.ensures.metered metered honest in
+    let left : (k : ℕ) × Passes old new k = (o.0, subst (λ z. Passes old z o.0) (sym c.into_disks.ensures.meter) o.2) in
+    elim c.in-Err-restored.ensures.only [
+      | inl e ↦ subst (λ f. RefusedAfter (fault_number f) old new) (sym e) left
+      | inr e ↦ subst (λ f. RefusedAfter (fault_number f) old new) (sym e) left
+    ]

@@ -9,11 +9,13 @@ use Rattle.lk_replica.specs.Posts.{SendsSome}
 use Rattle.lk_replica.specs.ReplicaValue.{ReplicaValue}
 use Rattle.lk_node.specs.Outboxes.{OutboxValue}
 use Rattle.lk_replica.specs.Compacting.{RebasesWhereDue}
+use Rattle.lk_replica.specs.Taking.{CallsOfStep}
 use Rattle.lk_node.specs.declared.note.Note.{Note}
 use Rattle.lk_replica.proofs.Thinning.{thins_are_of, batch_among}
 use Rattle.lk_log.specs.Rooms.{StaysWithin}
 use Rattle.lk_log.proofs.Room.{within_same}
 use Rattle.lk_replica.proofs.replica.Replica.take.Goals as goal
+use Rattle.lk_disk.specs.Meters.{start}
 
 pub returns-in-Ok-clause-goes : goal.returns-in-Ok-clause-goes
 returns-in-Ok-clause-goes g c honest telling h n f heard =
@@ -34,11 +36,11 @@ returns-clause-sends g c honest telling h n f heard =
     let fits : NodeFits m h n (Stands m c.self.inside.node c.self.inside.store h.genesis n) (disks c.self.inside.store) =
     subst (λ (r : ReplicaValue). NodeFits m h n (Stands m r.node r.store h.genesis n) (disks r.store)) (sym c.self.view_is) f in
     let letters : c.deref.result.now ≡ c.in_ok-outbox.outbox.letters = c.deref.ensures.value ∙ ap (λ (o : OutboxValue). o.letters) c.outbox.view_is in
-    let kept = c.in-Err.ensures.some telling in (
+    let kept = (c.in-Err.ensures.some telling).1 in (
       kept.0,
       kept.2,
       subst (λ (notes : List Note). Goes m h n (Stands m c.write_behind.new.node c.write_behind.new.store h.genesis n) (disks c.write_behind.new.store) notes (batch_of n kept.0)) (sym (ap (λ (o : OutboxValue). o.notes) c.outbox.view_is))
-          (c.in_ok-outbox.ensures.goes honest h n fits heard kept.0 (subst (λ (all : List LetterValue). (l : LetterValue) → Contains kept.0 l → Contains all l) letters (thins_are_of c.deref.result.now kept.0 kept.1))),
+          (c.in_ok-outbox.ensures.goes honest h n fits heard kept.0 (subst (λ (all : List LetterValue). (l : LetterValue) → Contains kept.0 l → Contains all l) letters (thins_are_of c.deref.result.now (c.in-Err.ensures.some telling).0 kept.0 kept.1))),
     )
 
 pub returns-clause-ends : goal.returns-clause-ends
@@ -87,11 +89,11 @@ pub returns-clause-syncs : goal.returns-clause-syncs
 returns-clause-syncs g c honest telling genesis n held x shown =
     let m = meaning g.M.Machine.first g.M.Machine.next g.M.Machine.answer in
     let letters : c.deref.result.now ≡ c.in_ok-outbox.outbox.letters = c.deref.ensures.value ∙ ap (λ (o : OutboxValue). o.letters) c.outbox.view_is in
-    let kept = c.in-Err.ensures.some telling in (
+    let kept = (c.in-Err.ensures.some telling).1 in (
       kept.0,
       kept.2,
       λ d listed said. c.in_ok-outbox.ensures.syncs honest genesis n held x (subst (λ (r : ReplicaValue). Stands m r.node r.store genesis n held) (sym c.self.view_is) shown) d
-          (subst (λ (ls : List LetterValue). Contains (batch_of n ls) d) letters (batch_among n kept.0 c.deref.result.now (thins_are_of c.deref.result.now kept.0 kept.1) d listed)) said,
+          (subst (λ (ls : List LetterValue). Contains (batch_of n ls) d) letters (batch_among n kept.0 c.deref.result.now (thins_are_of c.deref.result.now (c.in-Err.ensures.some telling).0 kept.0 kept.1) d listed)) said,
     )
 
 pub returns-in-Ok-clause-exact : goal.returns-in-Ok-clause-exact
@@ -106,6 +108,9 @@ returns-in-Ok-clause-exact g c honest telling =
       puts = (c.in_ok-outbox.ensures.exact honest).4;
       noted = ap (λ (o : OutboxValue). o.notes) c.outbox.view_is;
       sent = c.in-Ok.ensures.all telling ∙ ap (λ (ls : List LetterValue). g.P.Post.sent c.args.post.now ++ ls) letters;
+      calls = λ metered. subst (λ (r : ReplicaValue). CallsOfStep r.node r.store c.in_ok-outbox.outbox c.write_behind.new.store) c.self.view_is (c.in_ok-outbox.ensures.calls metered honest);
+      alive = refl;
+      store_alive = c.in_ok-outbox.ensures.alive;
     }
 
 pub returns-clause-exact_send : goal.returns-clause-exact_send
@@ -119,7 +124,10 @@ returns-clause-exact_send g c honest telling =
       steps = (c.in_ok-outbox.ensures.exact honest).3;
       puts = (c.in_ok-outbox.ensures.exact honest).4;
       noted = ap (λ (o : OutboxValue). o.notes) c.outbox.view_is;
-      sent = subst (λ (ls : List LetterValue). SendsSome ls (g.P.Post.sent c.args.post.now) (g.P.Post.sent c.deliver.new.post)) letters (c.in-Err.ensures.some telling);
+      sent = subst (λ (ls : List LetterValue). SendsSome ls (g.P.Post.sent c.args.post.now) (g.P.Post.sent c.deliver.new.post) (g.P.Post.failures c.args.post.now) (g.P.Post.failures c.deliver.new.post)) letters (c.in-Err.ensures.some telling);
+      calls = λ metered. subst (λ (r : ReplicaValue). CallsOfStep r.node r.store c.in_ok-outbox.outbox c.write_behind.new.store) c.self.view_is (c.in_ok-outbox.ensures.calls metered honest);
+      alive = refl;
+      store_alive = c.in_ok-outbox.ensures.alive;
     }
 
 pub invariant_of-self-in-Ok : goal.invariant_of-self-in-Ok
@@ -145,3 +153,10 @@ returns-in-Ok-clause-room g c honest = subst (λ (r : ReplicaValue). StaysWithin
 
 pub returns-clause-room : goal.returns-clause-room
 returns-clause-room g c honest = subst (λ (r : ReplicaValue). StaysWithin 132704 (disks r.store) (disks c.write_behind.new.store)) c.self.view_is (c.write_behind.ensures.room honest)
+
+pub returns-then-self-clause-metered : goal.returns-then-self-clause-metered
+returns-then-self-clause-metered g c metered honest = (0, start)
+
+pub returns-clause-metered : goal.returns-clause-metered
+returns-clause-metered g c metered honest =
+    let k = subst (λ (r : ReplicaValue). CallsOfStep r.node r.store c.in_ok-outbox.outbox c.write_behind.new.store) c.self.view_is (c.in_ok-outbox.ensures.calls metered honest) in (_, k.2)

@@ -7,6 +7,6 @@ returns-clause-grows g c =
     let old = scene_of c.self.inside.parts in
     let new = scene_of c.happen-result.new.parts in
     rw (← c.self.view_is) (of_result _ _ _ c.happen-result.result
-    (done_grows g.R.MemoryReplica.Takes g.R.MemoryReplica.Revives g.R.MemoryReplica.disks old new c.args.event)
-    (refused_grows g.R.MemoryReplica.Takes g.R.MemoryReplica.Revives g.R.MemoryReplica.disks old new c.args.event)
+    (done_grows g.R.MemoryReplica.behaves old new c.args.event)
+    (refused_grows g.R.MemoryReplica.behaves old new c.args.event)
     c.happen-result.ensures.ok c.happen-result.ensures.err)

@@ -2,4 +2,4 @@ use Rattle.lk_sim.proofs.Running.{run_grows}
 use Rattle.lk_sim.proofs.world.World.run.Goals as goal
 
 pub returns-clause-grows : goal.returns-clause-grows
-returns-clause-grows g c = rw (← c.self.view_is) (run_grows _ _ _ _ _ c.args.events.now c.happen_all-how.result c.happen_all-how.ensures.runs)
+returns-clause-grows g c = rw (← c.self.view_is) (run_grows g.R.MemoryReplica.behaves _ _ c.args.events.now c.happen_all-how.result c.happen_all-how.ensures.runs)

@@ -1,0 +1,98 @@
+-- What makes a device in memory fail, and what each call does to that.
+use Rattle.std.specs.Prelude.{◌≡◌, ℕ, ◌+◌, ◌-◌, ◌==◌, ◌||◌, ◌⊎◌, is_some, Bool, true, false, Option, Some, None, Result, Ok, Err, if◌then◌else◌}
+use Rattle.lk_disk.specs.Disk.{one_more}
+use Rattle.lk_disk.specs.Traps.{is_due, fails_next, stops_next, trap_behind, armed_for}
+use Rattle.lk_disk.specs.declared.meter.Meter.{Meter}
+use Rattle.lk_disk.specs.declared.trap.Trap.{Trap}
+use Rattle.lk_disk.specs.declared.trap.Trap.TheVariants.{Off}
+
+-- nothing makes the device fail, and no call was made
+abbrev pub fresh : Meter
+fresh = record { trap = Off; fuse = None; unread = 0; calls = 0; sprung = false; starved = false }
+
+-- ---- changing calls: an append, a sync, a cut
+
+-- no more calls pass
+abbrev pub is_blown : Option ℕ → Bool
+is_blown None = false
+is_blown (Some passes) = passes == 0
+
+-- the fuse after the next changing call
+abbrev pub fuse_behind : Option ℕ → Option ℕ
+fuse_behind None = None
+fuse_behind (Some passes) = Some (passes - 1)
+
+-- at a stop it is blown
+abbrev pub fuse_at : Option ℕ → Option ℕ → Option ℕ
+fuse_at None fuse = fuse_behind fuse
+fuse_at (Some bytes) fuse = Some 0
+
+-- the next changing call fails and changes nothing, by the trap or by the fuse
+abbrev pub is_refused : Meter → Bool
+is_refused m = fails_next m.trap || is_blown m.fuse
+
+-- the next changing call fails, so or at an armed stop
+abbrev pub is_failing : Meter → Bool
+is_failing m = is_refused m || is_some (stops_next m.trap)
+
+-- a changing call is counted, whatever comes of it
+abbrev pub called : Meter → Meter
+called m = record m {
+  trap = trap_behind m.trap;
+  fuse = fuse_at (stops_next m.trap) m.fuse;
+  calls = one_more m.calls;
+  sprung = m.sprung || is_due m.trap;
+}
+
+-- and memory was refused in it
+abbrev pub starving : Meter → Meter
+starving m = record (called m) { starved = true }
+
+-- a changing call passed, or it failed: by the trap, the fuse, or an armed stop, or for want of memory
+abbrev pub Calls : {T E : Type 0} → Meter → Meter → Result T E → Type 0
+Calls m n (Ok _) = (is_failing m ≡ false) × (n ≡ called m)
+Calls m n (Err _) = ((is_failing m ≡ true) × (n ≡ called m)) ⊎ (n ≡ starving m)
+
+-- ---- reading calls
+
+-- the next reading call fails
+abbrev pub is_unread : Meter → Bool
+is_unread m = m.unread == 1
+
+-- a reading call is counted, whatever comes of it
+abbrev pub asked : Meter → Meter
+asked m = record m { unread = m.unread - 1 }
+
+-- a reading call within the disk passed, or it had to fail
+abbrev pub Reads : {T E : Type 0} → Meter → Meter → Result T E → Type 0
+Reads m n (Ok _) = (is_unread m ≡ false) × (n ≡ asked m)
+Reads m n (Err _) = (is_unread m ≡ true) × (n ≡ asked m)
+
+-- ---- calls in a row
+
+-- so many changing calls were made, beside reading ones, and all of them passed
+pub data Passes (m : Meter) : Meter → ℕ → Type 0 where
+  start : Passes m m 0
+  call : {n : Meter} {k : ℕ} → Passes m n k → is_failing n ≡ false → Passes m (called n) (k + 1)
+  read : {n : Meter} {k : ℕ} → Passes m n k → is_unread n ≡ false → Passes m (asked n) k
+
+-- such calls passed, and the next one failed: a changing one as it had to, or for want of memory, or a reading one as it had to
+pub record Breaks (m n : Meter) : Type 0 where
+  pub passed : ℕ
+  pub last : Meter
+  pub passes : Passes m last passed
+  pub broke : ((is_failing last ≡ true) × (n ≡ called last)) ⊎ (n ≡ starving last) ⊎ ((is_unread last ≡ true) × (n ≡ asked last))
+
+-- ---- the trap
+
+-- a trap is set, in place of one that was pending
+abbrev pub trapped : Trap → Meter → Meter
+trapped t m = record m { trap = t; sprung = false; starved = false }
+
+-- the trap and the fuse are gone
+abbrev pub eased : Meter → Meter
+eased m = record m { trap = Off; fuse = None }
+
+-- the stop that was armed has come, for so many bytes: each later changing call fails
+abbrev pub stopping : Meter → Option ℕ
+stopping m = if m.sprung then armed_for m.trap else None

@@ -1,0 +1,20 @@
+-- Which calls of a device are made.
+use Rattle.std.proofs.Common.{ℕ, ◌+◌, ◌==◌, ◌≡◌, Bool, true, false, Result, Ok, Err, IsErrAnd, MatchBool, MatchResult, sym, subst}
+use Rattle.lk_disk.specs.Meters.{Passes, Breaks}
+use Rattle.lk_disk.specs.declared.meter.Meter.{Meter}
+use Rattle.lk_disk.proofs.Devices.{passes_on, breaks_on}
+use Rattle.lk_replica.specs.Faults.{fault_number, RefusedAfter}
+use Rattle.lk_replica.specs.declared.fault.ReplicaFault.{ReplicaFault}
+
+-- it was refused so
+pub refused_by : {T : Type 0} (m n : Meter) (Goes : T → Type 0) (r : Result T ReplicaFault) (f : ReplicaFault) → IsErrAnd r (λ e. e ≡ f) → RefusedAfter (fault_number f) m n → MatchResult r Goes (λ e. RefusedAfter (fault_number e) m n)
+refused_by m n Goes (Ok x) f is by = absurd is
+refused_by m n Goes (Err e) f is by = subst (λ x. RefusedAfter (fault_number x) m n) (sym is) by
+
+after_some : {l m : Meter} (j : ℕ) → Passes l m j → (n : Meter) (b : Bool) → MatchBool b (Breaks m n) ((k : ℕ) × Passes m n k) → MatchBool b (Breaks l n) ((k : ℕ) × Passes l n k)
+after_some j before n true by = breaks_on j before by
+after_some j before n false by = (j + by.0, passes_on j before by.0 by.1)
+
+-- a refusal after calls that passed
+pub refused_on : {l m : Meter} (j : ℕ) → Passes l m j → (n : Meter) (number : ℕ) → RefusedAfter number m n → RefusedAfter number l n
+refused_on j before n number by = after_some j before n (number == 7) by
