@@ -7,7 +7,7 @@ import sys
 
 HERE = os.path.dirname(os.path.dirname(os.path.abspath(__file__)))
 sys.path.insert(0, os.path.join(HERE, "clients", "python"))
-from locks_client import Client  # noqa: E402
+from locks_client import Client, milliseconds  # noqa: E402
 
 
 def built(program=None):
@@ -63,5 +63,6 @@ class Cluster:
         process.wait()
 
     def client(self, number, kind=Client, **how):
-        """A client of the cluster that knows each node's port."""
+        """A client of the cluster that knows each node's port, and whose numbers go on from the milliseconds since 1970."""
+        how.setdefault("first", milliseconds())
         return kind(self.cluster, number, list(self.ports.values()), **how)

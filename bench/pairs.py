@@ -19,7 +19,7 @@ import time
 from concurrent.futures import ProcessPoolExecutor
 
 from cluster import Cluster, built
-from locks_client import Client
+from locks_client import Client, milliseconds
 
 ECHO = """
 import socket
@@ -64,7 +64,7 @@ def limits(folder, count):
 
 def pairs(cluster, ports, number, count):
     """The seconds of so many pairs of one client."""
-    with Client(cluster, number, ports) as client:
+    with Client(cluster, number, ports, first=milliseconds()) as client:
         name = f"name-{number}"
         client.ask(name)  # now it knows who leads
 
