@@ -1,18 +1,32 @@
 #!/usr/bin/env python3
-"""examples.py: runs `./locks sim` on each script examples/NAME.txt. It has to print examples/NAME.out and nothing on standard error, with
-status 0, or 1 where the last line tells that an event was refused; where there is an examples/NAME.err, that is what it prints on
-standard error, with status 1."""
+"""examples.py [PROGRAM]: runs `PROGRAM sim` (./locks) on each script examples/NAME.txt. It has to print examples/NAME.out and nothing on
+standard error, with status 0, or 1 where the last line tells that an event was refused; where there is an examples/NAME.err, that is what
+it prints on standard error, with status 1. The last line is `N passed, M failed`, and the status 1 where one failed."""
 import pathlib, subprocess, sys
 
-top, bad = pathlib.Path(__file__).resolve().parent.parent, 0
-for script in sorted((top / "examples").glob("*.txt")):
+TOP = pathlib.Path(__file__).resolve().parent.parent
+
+
+def is_as_written(program, script):
+    """Whether the script prints and ends as what stands beside it says."""
     told = script.with_suffix(".err")
     printed = script.with_suffix(".out").read_bytes()
     last = (printed.splitlines() or [b""])[-1]
     ended = told.exists() or last.startswith(b"refused ")
     wanted = (printed, told.read_bytes() if told.exists() else b"", int(ended))
-    run = subprocess.run([top / "locks", "sim"], stdin=script.open("rb"), capture_output=True)
-    met = (run.stdout, run.stderr, run.returncode) == wanted
-    bad += not met
-    print(f"{script.name}: {'as written' if met else 'NOT as written'}", flush=True)
-sys.exit(bad > 0)
+    with script.open("rb") as lines:
+        run = subprocess.run([program, "sim"], stdin=lines, capture_output=True)
+    return (run.stdout, run.stderr, run.returncode) == wanted
+
+
+def main():
+    program = pathlib.Path(sys.argv[1] if len(sys.argv) > 1 else TOP / "locks").resolve()
+    scripts = sorted((TOP / "examples").glob("*.txt"))
+    bad = [script.name for script in scripts if not is_as_written(program, script)]
+    for name in bad:
+        print(f"{name}: NOT as written", flush=True)
+    print(f"{len(scripts) - len(bad)} passed, {len(bad)} failed", flush=True)
+    sys.exit(bool(bad))
+
+
+main()
