@@ -1,0 +1,113 @@
+#!/usr/bin/env python3
+"""sweep.py [PROGRAM]: a stop and a failure at every call and every send of the world scripts of examples/, run on PROGRAM (./locks).
+
+Each event that makes a node work (a tick, a datagram that it takes, a restart, a compaction) of each world script that sets no trap of
+its own is preceded by `arm NODE COUNT BYTES`, in a run for each COUNT 1, 2, .. until the event no longer stops its node, and for each
+number of unsynced BYTES 0, 1 and all; then by `fail NODE COUNT` in the same way. Where the node has gone down it is restarted, and the
+rest of the script follows, once with that event again in front of it and once without.
+
+What stands before the trap has to be printed as before, and no revival may end by a fault. The run goes on to the script's end or
+to a refusal 16 to 19, since a later line may name a datagram that was never sent. Whatever has run at a position, and whatever a
+request was answered, is the same at each node and each time. The last line is `N passed, M failed`, of scripts, and the status 1
+where one failed."""
+import concurrent.futures, itertools, os, pathlib, re, subprocess, sys
+
+TOP = pathlib.Path(__file__).resolve().parent.parent
+ALL = 1 << 48
+TRAPS = ("arm {node} {count} 0", "arm {node} {count} 1", f"arm {{node}} {{count}} {ALL}", "fail {node} {count}")
+DOWN = re.compile(r"(?:stopped \d+|fault \d+ 7 device)\n")
+END = re.compile(r"(?:done \d+|refused 1[6-9] \w+)\n\Z")
+
+
+def printed(program, lines):
+    run = subprocess.run([program, "sim"], input="".join(f"{line}\n" for line in lines), capture_output=True, text=True, timeout=60)
+    return run.stdout + run.stderr
+
+
+def events(text):
+    """The lines of a script, where a line of several ticks is as many lines."""
+    for line in text.splitlines():
+        ticks = re.fullmatch(r"tick (\d+) (\d+)", line)
+        yield from [f"tick {ticks[1]}"] * int(ticks[2]) if ticks else [line] * bool(line)
+
+
+def worker(line, bound):
+    """The node that works at the event, where one does that can be given a trap. The receivers of datagrams are told."""
+    verb, *words = line.split()
+    if verb == "deliver":
+        return bound.get(words[0])
+    return words[0] if verb in ("tick", "inject", "restart", "compact") else None
+
+
+def contradiction(output):
+    """A line that says something else than an earlier one of the same position or the same request, if any."""
+    known = {}
+    for line in output.splitlines():
+        words = line.split()
+        key = {"ran": (words[0], *words[2:3]), "answered": (words[0], *words[2:4])}.get(words[0])
+        said = {"ran": words[3:], "answered": words[4:]}.get(words[0])
+        if key and known.setdefault(key, said) != said:
+            return line
+    return None
+
+
+def fault(output, before):
+    """What is wrong with what a run printed, whose lines up to the trap print this."""
+    if not output.startswith(before):
+        return "another beginning"
+    if len(re.findall(r"(?m)^fault ", output)) > len(re.findall(r"(?m)^fault \d+ 7 device$", output)) or len(DOWN.findall(output)) > len(DOWN.findall(before)) + 1:
+        return "a fault that was not set"
+    if not END.search(output):
+        return "another end"
+    other = contradiction(output)
+    return f"two answers: {other}" if other else None
+
+
+def swept(program, lines, at, node):
+    """Each run of the event at the place: whether it stops or fails its node, and what is wrong with it, as a text."""
+    before = re.sub(r"done \d+\n\Z", "", printed(program, lines[:at]))
+    for trap in TRAPS:
+        for count in itertools.count(1):
+            head = [*lines[:at], trap.format(node=node, count=count), lines[at], f"restart {node}"]
+            outputs = [printed(program, head + rest) for rest in (lines[at + 1 :], lines[at:])]
+            if not DOWN.search(outputs[0], len(before)):
+                break
+            for output in outputs:
+                wrong = fault(output, before)
+                yield head[at], f"{head[at]} before line {at + 1}, {lines[at]}: {wrong}\n{output}" if wrong else None
+
+
+def sweep(program, lines):
+    """How many stops and how many failures of a script were tried, and what was wrong."""
+    output = printed(program, lines)
+    bound = {words[1]: words[3][1:] for words in map(str.split, output.splitlines()) if words[0] == "sent" and words[3][0] == "n"}
+    works = [(at, worker(line, bound)) for at, line in enumerate(lines)]
+    runs = [run for at, node in works if node for run in swept(program, lines, at, node)]
+    stops = sum(trap.startswith("arm") for trap, _ in runs)
+    return stops, len(runs) - stops, [wrong for _, wrong in runs if wrong]
+
+
+def scripts(program):
+    """The world scripts that set no trap and end without a refusal, as lists of events."""
+    for file in sorted((TOP / "examples").glob("*.txt")):
+        lines = [*events(file.read_text())]
+        is_world = lines and lines[0].startswith("genesis ") and not any(line.startswith(("arm ", "fail ")) for line in lines)
+        if is_world and re.search(r"done \d+\n\Z", printed(program, lines)):
+            yield file.name, lines
+
+
+def main():
+    program = pathlib.Path(sys.argv[1] if len(sys.argv) > 1 else TOP / "locks").resolve()
+    stops = failures = failed = 0
+    chosen = [*scripts(program)]
+    with concurrent.futures.ThreadPoolExecutor(os.cpu_count()) as pool:
+        for (name, _), (stopped, faulted, wrong) in zip(chosen, pool.map(lambda script: sweep(program, script[1]), chosen)):
+            stops, failures, failed = stops + stopped, failures + faulted, failed + bool(wrong)
+            for text in wrong:
+                print(f"{name}: {text}", flush=True)
+    print(f"{stops} stops and {failures} failures of {len(chosen)} scripts")
+    print(f"{len(chosen) - failed} passed, {failed} failed", flush=True)
+    sys.exit(failed > 0)
+
+
+main()
