@@ -36,6 +36,18 @@ class ClusterTest(unittest.TestCase):
             [sys.executable, SCRIPT, *known, *who, *words], stdout=subprocess.PIPE, stderr=subprocess.PIPE, text=True, **how
         )
 
+    def wait_until_caught(self, process):
+        """Waits until the process has a handler for SIGTERM, and then until it is surely in the midst of its request."""
+        with open(f"/proc/{process.pid}/status", encoding="ascii") as status:
+            while not self.caught(status) >> (signal.SIGTERM - 1) & 1:
+                time.sleep(0.02)
+        time.sleep(0.3)
+
+    def caught(self, status):
+        """The set of signals for which there is a handler."""
+        status.seek(0)
+        return next(int(line.split()[1], 16) for line in status if line.startswith("SigCgt"))
+
     def said(self, number, *words, **how):
         """The status, the output and what stands on standard error of such a run."""
         process = self.run_script(number, *words, **how)
@@ -138,7 +150,7 @@ class ClusterTest(unittest.TestCase):
         client = self.client(3)
         client.acquire("db")
         process = self.run_script(1, "hold", "db", "--", "true")
-        time.sleep(0.5)
+        self.wait_until_caught(process)
         process.send_signal(signal.SIGTERM)
         process.communicate(timeout=60)
         self.assertEqual(process.returncode, 128 + signal.SIGTERM)
@@ -151,7 +163,7 @@ class ClusterTest(unittest.TestCase):
         for it in stopped:
             it.send_signal(signal.SIGSTOP)
         process = self.run_script(1, "hold", "db", "--", "true")
-        time.sleep(0.5)
+        self.wait_until_caught(process)
         process.send_signal(signal.SIGTERM)
         for it in stopped:
             it.send_signal(signal.SIGCONT)
