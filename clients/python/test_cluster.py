@@ -172,5 +172,16 @@ class ClusterTest(unittest.TestCase):
         self.assertIsInstance(self.client(4).ask("db"), Free)
 
 
+@unittest.skipUnless(PROGRAM, "LOCKS_PROGRAM does not tell the program")
+class ExampleTest(unittest.TestCase):
+    def test_a_late_write_is_refused(self):
+        folder = os.path.join(HERE, "..", "..", "examples", "one_writer")
+        ran = subprocess.run(
+            [sys.executable, os.path.join(folder, "run.py"), PROGRAM], stdout=subprocess.PIPE, text=True, timeout=60
+        )
+        with open(os.path.join(folder, "run.out"), encoding="utf-8") as expected:
+            self.assertEqual((ran.returncode, ran.stdout), (0, expected.read()))
+
+
 if __name__ == "__main__":
     unittest.main()

@@ -1,0 +1,83 @@
+#!/usr/bin/env python3
+"""Two writers, one lock, and a page that looks at fences: the late write of a writer that was asleep does no harm.
+
+Usage: examples/one_writer/run.py [PROGRAM]
+
+Writer 1 holds the lock and is paused as by a machine that is overloaded (SIGSTOP). A lock has no time limit, so an operator, who
+takes it for dead, frees it: in the name of writer 1, with a number above all that it used. Writer 2 gets the lock, at a higher fence.
+Then writer 1 wakes up and writes, since it has seen nothing of all this.
+"""
+import os
+import signal
+import subprocess
+import sys
+import tempfile
+
+HERE = os.path.dirname(os.path.abspath(__file__))
+sys.path.insert(0, os.path.join(HERE, "..", "..", "bench"))
+import page  # noqa: E402
+from cluster import Cluster, built  # noqa: E402
+
+
+class Writer:
+    """A process of writer.py, whose lines are printed."""
+
+    def __init__(self, cluster, number, path):
+        words = [str(cluster.cluster), str(number), path, *map(str, cluster.ports.values())]
+        script = os.path.join(HERE, "writer.py")
+        self.process = subprocess.Popen(
+            [sys.executable, script, *words], stdin=subprocess.PIPE, stdout=subprocess.PIPE, text=True
+        )
+
+    def __enter__(self):
+        return self
+
+    def __exit__(self, *_):
+        self.process.kill()
+        self.process.communicate()
+
+    def says(self, lines):
+        """Waits for so many lines of it, and prints them."""
+        for _ in range(lines):
+            print(self.process.stdout.readline(), end="", flush=True)
+
+    def goes_on(self):
+        """Its work is done: it writes once more, and ends."""
+        self.process.stdin.write("\n")
+        self.process.stdin.flush()
+        print(self.process.stdout.read(), end="", flush=True)
+
+
+def free(cluster, number):
+    """Releases the lock in the name of whoever holds it."""
+    with cluster.client(number) as client:
+        client.release("page", client.ask("page").fence)
+
+
+def late_write(cluster, path):
+    """What happens, on a page that nobody has written."""
+    with Writer(cluster, 1, path) as one:
+        one.says(2)
+        one.process.send_signal(signal.SIGSTOP)
+        free(cluster, 1)
+        print("writer 1 is paused, and an operator frees its lock", flush=True)
+        with Writer(cluster, 2, path) as two:
+            two.says(2)
+            print("writer 1 wakes up", flush=True)
+            one.process.send_signal(signal.SIGCONT)
+            one.goes_on()
+            two.goes_on()
+
+
+def main():
+    program = built(*sys.argv[1:2])
+    with tempfile.TemporaryDirectory() as folder, Cluster(program, folder) as cluster:
+        path = os.path.join(folder, "page.sqlite")
+        page.make(path)
+        late_write(cluster, path)
+        fence, text = page.read(path)
+        print(f"the page holds {text!r}, of fence {fence}")
+
+
+if __name__ == "__main__":
+    main()
