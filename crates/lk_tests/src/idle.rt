@@ -1,10 +1,10 @@
 // A replica that keeps its disks, which have to be empty, and does nothing else.
-ghost use Rattle.std.specs.Prelude.{◌≡◌, [], Ok, IfOk};
-ghost use Rattle.lk_disk.specs.Memory.{disk_of};
+ghost use Rattle.std.specs.Prelude.{◌≡◌, [], Ok, IfOk, refl};
+ghost use Rattle.lk_disk.specs.Meters.{trapped};
 ghost use Rattle.lk_state.specs.Meanings.{meaning};
 ghost use Rattle.lk_state.specs.States.{SumsUp};
 
-use lk_disk::{MemoryDisk, Trap};
+use lk_disk::{MemoryDisk, Trap, Trapped};
 use lk_log::Header;
 use lk_node::Input;
 use lk_replica::{MemoryReplica, ReplicaFault, ReviveFault, Revived, Taken};
@@ -23,13 +23,14 @@ impl<M: Machine> MemoryReplica for Idle<M> {
 
     ghost Shows = { λ r genesis n x. SumsUp (meaning M.first M.next M.answer) genesis x.view.done r.whole };
 
-    ghost disks = { λ r. disk_of r.device };
+    ghost behaves = { record {
+      memory = λ r. r.device;
+      with_trap = λ t r. record r { device = record r.device { meter = trapped t r.device.meter } };
+      Takes = λ old bytes new came. (new ≡ old) × (came ≡ Ok ([], []));
+      Revives = λ device whose came. IfOk came (λ c. c.1 ≡ []);
+    } };
 
     ghost whole = { λ r. r.whole };
-
-    ghost Takes = { λ r o q came. (q ≡ r) × (came ≡ Ok ([], [])) };
-
-    ghost Revives = { λ device header came. IfOk came (λ c. c.1 ≡ []) };
 
     fn revive(
         alloc: Global,
@@ -64,7 +65,9 @@ impl<M: Machine> MemoryReplica for Idle<M> {
     }
 
     // It makes no call of its device, so no trap goes off.
-    fn trap(&mut self, _trap: Trap) {}
+    fn trap(&mut self, trap: Trap) {
+        self.device.trap(trap);
+    }
 
     fn into_disks(self) -> MemoryDisk {
         let Idle {
@@ -76,4 +79,10 @@ impl<M: Machine> MemoryReplica for Idle<M> {
     }
 
     ghost sums_up = { λ r genesis n x shown. shown };
+
+    ghost traps_alone = { λ t r. refl };
+
+    ghost shows_on = { λ t r genesis n x shown. shown };
+
+    ghost whole_stays = { λ t r. refl };
 }
