@@ -1,7 +1,8 @@
 #!/usr/bin/env python3
 """examples.py [PROGRAM]: runs `PROGRAM sim` (./locks) on each script examples/NAME.txt. It has to print examples/NAME.out and nothing on
 standard error, with status 0, or 1 where the last line tells that an event was refused; where there is an examples/NAME.err, that is what
-it prints on standard error, with status 1. The last line is `N passed, M failed`, and the status 1 where one failed."""
+it prints on standard error, with status 1. Each examples/NAME/run.py PROGRAM has to print examples/NAME/run.out, with status 0. The last
+line is `N passed, M failed`, and the status 1 where one failed."""
 import pathlib, subprocess, sys
 
 TOP = pathlib.Path(__file__).resolve().parent.parent
@@ -19,13 +20,20 @@ def is_as_written(program, script):
     return (run.stdout, run.stderr, run.returncode) == wanted
 
 
+def is_shown(program, script):
+    """Whether the script, which starts the program itself, prints and ends as what stands beside it says."""
+    run = subprocess.run([sys.executable, script, program], stdout=subprocess.PIPE, timeout=60)
+    return (run.stdout, run.returncode) == (script.with_suffix(".out").read_bytes(), 0)
+
+
 def main():
     program = pathlib.Path(sys.argv[1] if len(sys.argv) > 1 else TOP / "locks").resolve()
-    scripts = sorted((TOP / "examples").glob("*.txt"))
-    bad = [script.name for script in scripts if not is_as_written(program, script)]
-    for name in bad:
-        print(f"{name}: NOT as written", flush=True)
-    print(f"{len(scripts) - len(bad)} passed, {len(bad)} failed", flush=True)
+    scripts, shown = sorted((TOP / "examples").glob("*.txt")), sorted((TOP / "examples").glob("*/run.py"))
+    bad = [script for script in scripts if not is_as_written(program, script)]
+    bad += [script for script in shown if not is_shown(program, script)]
+    for script in bad:
+        print(f"{script.relative_to(TOP)}: NOT as written", flush=True)
+    print(f"{len(scripts) + len(shown) - len(bad)} passed, {len(bad)} failed", flush=True)
     sys.exit(bool(bad))
 
 
