@@ -3,45 +3,25 @@
 #![tactic(auto)]
 
 #[cfg(test)]
-mod acceptor;
-#[cfg(test)]
 mod answers;
+#[cfg(test)]
+mod asking;
 #[cfg(test)]
 mod digits;
 #[cfg(test)]
-mod disk;
-#[cfg(test)]
-mod failing;
+mod faltering;
 #[cfg(test)]
 mod files;
 #[cfg(test)]
 mod idle;
 #[cfg(test)]
-mod leader;
-#[cfg(test)]
-mod learner;
-#[cfg(test)]
-mod locks;
-#[cfg(test)]
-mod members;
-#[cfg(test)]
-mod node;
-#[cfg(test)]
-mod node_messages;
-#[cfg(test)]
-mod node_ticks;
+mod node_dialogues;
 #[cfg(test)]
 mod node_turns;
 #[cfg(test)]
-mod node_waiting;
-#[cfg(test)]
 mod reviving;
 #[cfg(test)]
-mod script;
-#[cfg(test)]
 mod second;
-#[cfg(test)]
-mod service;
 #[cfg(test)]
 mod serving;
 #[cfg(test)]
@@ -49,9 +29,7 @@ mod starving;
 #[cfg(test)]
 mod state;
 #[cfg(test)]
-mod store;
-#[cfg(test)]
-mod tour;
+mod streams;
 #[cfg(test)]
 mod turns;
 #[cfg(test)]
@@ -60,7 +38,3 @@ mod wire;
 mod words;
 #[cfg(test)]
 mod world;
-#[cfg(test)]
-mod world_lines;
-#[cfg(test)]
-mod world_mode;

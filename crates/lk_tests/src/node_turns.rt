@@ -120,36 +120,30 @@ fn party(who: For) -> Result<Party, Fail> {
     })
 }
 
-fn is_sent(alloc: Global, datagram: &Datagram, own: &str, sent: &Sent<'_>) -> Result<bool, Fail> {
-    let bytes = spelled(alloc, own, sent.1, sent.2)?;
+fn is_sent(alloc: Global, datagram: &Datagram, sent: &Sent<'_>) -> Result<bool, Fail> {
+    let bytes = spelled(alloc, "00000001", sent.1, sent.2)?;
     Ok(datagram.to == party(sent.0)? && datagram.bytes == bytes)
 }
 
 // Whether these are all that is sent.
-fn are_sent(
-    alloc: Global,
-    datagrams: &[Datagram],
-    own: &str,
-    sent: &[Sent<'_>],
-) -> Result<bool, Fail> {
+fn are_sent(alloc: Global, datagrams: &[Datagram], sent: &[Sent<'_>]) -> Result<bool, Fail> {
     for (datagram, sent) in datagrams.iter().zip(sent) {
-        if !is_sent(alloc, datagram, own, sent)? {
+        if !is_sent(alloc, datagram, sent)? {
             return Ok(false);
         }
     }
     Ok(datagrams.len() == sent.len())
 }
 
-/// The first of the turns in which the replica, whose node has this number as hex, sends anything else.
+/// The first of the turns in which the replica of node 1 sends anything else.
 pub fn first_astray(
     alloc: Global,
     replica: &mut Locks,
-    own: &str,
     turns: &[Turn<'_>],
 ) -> Result<Option<usize>, Fail> {
     for (row, turn) in turns.iter().enumerate() {
         let datagrams = hear(alloc, replica, turn.0)?;
-        if !are_sent(alloc, &datagrams, own, turn.1)? {
+        if !are_sent(alloc, &datagrams, turn.1)? {
             return Ok(Some(row));
         }
     }

@@ -1,9 +1,11 @@
+//! What a replica takes up, and answers behind failed calls and stops.
+
 use crate::digits::bytes_of;
 use crate::second::header;
 use lk_disk::{LogDisk, MemoryDisk, Side, Trap, Trapped};
 use lk_locks::LockTable;
-use lk_node::{Input, To};
-use lk_replica::{MemoryReplica, Post, Replica, ReplicaFault, ReviveFault, SendFault};
+use lk_node::Input;
+use lk_replica::{MemoryReplica, Replica, ReviveFault};
 use std::alloc::Global;
 use std::test::Fail;
 
@@ -34,6 +36,31 @@ const BELOW: &str = "4c4b0101 0000000000000005 00000001 0000000000000003 0000000
 const BELOW_NACK: &str =
     "4c4b0105 0000000000000005 00000002 0000000000000003 00000001 0000000000000001 00000001 0000000000000100";
 
+// The Base of node 2 in its first and its second generation, as it begins.
+const BEGUN: &str =
+    "00000072 01 0000000000000001 01 0000000000000005 00000002 01 03 00000001 1b59 00000002 1b5a 00000003 1b5b 0000000000000000 00000000 0000000000000000 0000002c 0000000000000000 01 03 00000001 1b59 00000002 1b5a 00000003 1b5b 00000003 0000000000000000 0000 0000 0000 0000";
+
+const SECOND_BEGUN: &str =
+    "00000072 01 0000000000000002 01 0000000000000005 00000002 01 03 00000001 1b59 00000002 1b5a 00000003 1b5b 0000000000000000 00000000 0000000000000000 0000002c 0000000000000000 01 03 00000001 1b59 00000002 1b5a 00000003 1b5b 00000003 0000000000000000 0000 0000 0000 0000";
+
+// All of a first Base but its last byte.
+const TORN: &str =
+    "00000072 01 0000000000000001 01 0000000000000005 00000002 01 03 00000001 1b59 00000002 1b5a 00000003 1b5b 0000000000000000 00000000 0000000000000000 0000002c 0000000000000000 01 03 00000001 1b59 00000002 1b5a 00000003 1b5b 00000003 0000000000000000 0000 0000 0000 00";
+
+// What follows the ballot in such a Base.
+const NOTHING_YET: &str =
+    "0000000000000000 00000000 0000000000000000 0000002c 0000000000000000 01 03 00000001 1b59 00000002 1b5a 00000003 1b5b 00000003 0000000000000000 0000 0000 0000 0000";
+
+// The Bases of another node, another cluster, and with another alpha and port, up to the ballot.
+const OF_NODE_3: &str =
+    "00000072 01 0000000000000001 01 0000000000000005 00000003 01 03 00000001 1b59 00000002 1b5a 00000003 1b5b";
+
+const OF_CLUSTER_6: &str =
+    "00000072 01 0000000000000001 01 0000000000000006 00000002 01 03 00000001 1b59 00000002 1b5a 00000003 1b5b";
+
+const WITH_PORT_7004: &str =
+    "00000072 01 0000000000000001 01 0000000000000005 00000002 01 03 00000001 1b59 00000002 1b5a 00000003 1b5c";
+
 // The Base of node 2, which has promised (1, 1), but for the position of its snapshot.
 const BASE: &str =
     "00000072 01 0000000000000001 01 0000000000000005 00000002 01 03 00000001 1b59 00000002 1b5a 00000003 1b5b 0000000000000001 00000001";
@@ -46,6 +73,10 @@ const AT_256: &str = "0000000000000100";
 
 const AT_255: &str = "00000000000000ff";
 
+const PROMISED: &str = "0000000d 02 0000000000000003 00000001";
+
+const VOTED: &str = "00000016 03 0000000000000001 0000000000000003 00000001 00";
+
 const VOTE_258: &str = "00000016 03 0000000000000102 0000000000000001 00000001 00";
 
 const VOTE_259: &str = "00000016 03 0000000000000103 0000000000000001 00000001 00";
@@ -56,13 +87,105 @@ const DECIDED_258: &str = "0000000a 04 0000000000000102 00";
 
 const DECIDED_259: &str = "0000000a 04 0000000000000103 00";
 
-// A device whose file A has these bytes, all synced.
-fn device_of(alloc: Global, texts: &[&str]) -> Result<MemoryDisk, Fail> {
-    let bytes = bytes_of(alloc, texts)?;
+/// What stands in the files A and B; the refusal, 0 for none; how many notes there are, and how long A and B are then.
+type Row<'a> = (&'a [&'a str], &'a [&'a str], (u8, usize, usize, usize));
+
+const FILES: [Row; 27] = [
+    (&[], &[], (0, 0, 118, 0)),
+    (&[BASE, AT_256, SNAPSHOT], &[], (0, 0, 118, 0)),
+    (&[BEGUN, PROMISED, VOTED], &[], (0, 0, 161, 0)),
+    // A snapshot at another position.
+    (&[BASE, AT_255, SNAPSHOT], &[], (9, 0, 118, 0)),
+    // What is decided is run up to a gap.
+    (
+        &[BASE, AT_256, SNAPSHOT, DECIDED_257, DECIDED_258],
+        &[],
+        (0, 2, 146, 0),
+    ),
+    (&[BASE, AT_256, SNAPSHOT, DECIDED_258], &[], (0, 0, 132, 0)),
+    // What lies too far above is damage.
+    (&[BASE, AT_256, SNAPSHOT, VOTE_258], &[], (0, 0, 144, 0)),
+    (&[BASE, AT_256, SNAPSHOT, VOTE_259], &[], (9, 0, 144, 0)),
+    (
+        &[BASE, AT_256, SNAPSHOT, VOTE_259, DECIDED_257],
+        &[],
+        (0, 1, 158, 0),
+    ),
+    (&[BASE, AT_256, SNAPSHOT, DECIDED_259], &[], (9, 0, 132, 0)),
+    // A rest is torn, or damage.
+    (&[BEGUN, "000000"], &[], (0, 0, 118, 0)),
+    (&[BEGUN, "00010000"], &[], (0, 0, 118, 0)),
+    (&[BEGUN, "00010001"], &[], (9, 0, 122, 0)),
+    (&[BEGUN, "00000000"], &[], (9, 0, 122, 0)),
+    (&[BEGUN, "00000001 09"], &[], (9, 0, 123, 0)),
+    // Two Bases of one generation, two in one file, and entries behind none.
+    (&[BEGUN], &[BEGUN], (9, 0, 118, 118)),
+    (&[BEGUN, SECOND_BEGUN], &[], (9, 0, 236, 0)),
+    (&[PROMISED], &[], (9, 0, 17, 0)),
+    (&[BEGUN], &[PROMISED], (9, 0, 118, 17)),
+    (&["00000000"], &[], (9, 0, 4, 0)),
+    // The greater generation is live, whatever stands in the other file.
+    (
+        &[BEGUN, "00010001"],
+        &[SECOND_BEGUN, PROMISED],
+        (0, 0, 122, 135),
+    ),
+    (&[TORN], &["0000"], (0, 0, 118, 2)),
+    // The store of another node, another cluster, other members; and one that is damaged besides.
+    (&[OF_NODE_3, NOTHING_YET], &[], (10, 0, 118, 0)),
+    (&[OF_CLUSTER_6, NOTHING_YET], &[], (10, 0, 118, 0)),
+    (&[WITH_PORT_7004, NOTHING_YET], &[], (10, 0, 118, 0)),
+    (&[OF_CLUSTER_6, NOTHING_YET, "000000"], &[], (10, 0, 121, 0)),
+    (
+        &[OF_CLUSTER_6, NOTHING_YET, "00000000"],
+        &[],
+        (9, 0, 122, 0),
+    ),
+];
+
+// A device whose files have these bytes, all synced.
+fn device_of(alloc: Global, a: &[&str], b: &[&str]) -> Result<MemoryDisk, Fail> {
+    let (a, b) = (bytes_of(alloc, a)?, bytes_of(alloc, b)?);
     let mut device = MemoryDisk::new(alloc);
-    device.append(Side::A, &bytes)?;
-    device.stop(bytes.len(), 0);
+    device.append(Side::A, &a)?;
+    device.append(Side::B, &b)?;
+    device.stop(a.len(), b.len());
     Ok(device)
+}
+
+// The number of the refusal of the device, 0 for none, how many notes there are, and the lengths behind it.
+fn outcome(alloc: Global, device: MemoryDisk) -> Result<(u8, usize, usize, usize), Fail> {
+    let revived: Result<_, ReviveFault<MemoryDisk>> = <OnDisks as MemoryReplica>::revive(
+        alloc,
+        device,
+        &header()?,
+    );
+    match revived {
+        Ok(revived) => {
+            let (a, b) = revived.replica.device().lengths();
+            Ok((0, revived.notes.len(), a, b))
+        }
+        Err(refused) => {
+            let (a, b) = refused.device.lengths();
+            Ok((refused.fault.number(), 0, a, b))
+        }
+    }
+}
+
+// The first of the rows whose files are taken up otherwise.
+fn first_mistaken(alloc: Global, rows: &[Row]) -> Result<Option<usize>, Fail> {
+    for (at, (a, b, end)) in rows.iter().enumerate() {
+        if outcome(alloc, device_of(alloc, a, b)?)? != *end {
+            return Ok(Some(at));
+        }
+    }
+    Ok(None)
+}
+
+#[test]
+fn files_are_taken_up_or_refused(rt: HostRuntime) -> Result<(), Fail> {
+    assert_eq!(rt; first_mistaken(rt.alloc(), &FILES)?, None);
+    Ok(())
 }
 
 fn revived(alloc: Global, device: MemoryDisk) -> Result<OnDisks, Fail> {
@@ -84,97 +207,64 @@ fn answers(alloc: Global, replica: &mut OnDisks, heard: &str, said: &str) -> Res
     Ok(taken.sent.len() == 1 && datagram.bytes == bytes_of(alloc, &[said])?)
 }
 
-// The replica that has sent its promise and its vote.
-fn voted(alloc: Global) -> Result<OnDisks, Fail> {
-    let mut replica = revived(alloc, MemoryDisk::new(alloc))?;
-    if !answers(alloc, &mut replica, PREPARE, PROMISE)? {
-        return Err("promise")?;
-    }
-    if !answers(alloc, &mut replica, ACCEPT, ACCEPTED)? {
-        return Err("accepted")?;
-    }
-    Ok(replica)
+// Whether it does so, and makes so many device calls.
+fn answers_in(
+    alloc: Global,
+    replica: &mut OnDisks,
+    calls: u64,
+    datagrams: (&str, &str),
+) -> Result<bool, Fail> {
+    let before = replica.device().calls();
+    let is_said = answers(alloc, replica, datagrams.0, datagrams.1)?;
+    Ok(is_said && replica.device().calls().wrapping_sub(before) == calls)
 }
 
-// The number of the refusal of these files, or how many notes there are.
-fn outcome(alloc: Global, texts: &[&str]) -> Result<(u8, usize), Fail> {
-    let device = device_of(alloc, texts)?;
-    let revived: Result<_, ReviveFault<MemoryDisk>> = <OnDisks as MemoryReplica>::revive(
-        alloc,
-        device,
-        &header()?,
-    );
-    match revived {
-        Ok(revived) => Ok((0, revived.notes.len())),
-        Err(refused) => Ok((refused.fault.number(), 0)),
+/// What is heard, what is said, and how many device calls that takes.
+const SAID: [(&str, &str, u64); 5] = [
+    (PREPARE, PROMISE, 2),
+    (PREPARE, PROMISE, 0),
+    (ACCEPT, ACCEPTED, 2),
+    (ACCEPT, ACCEPTED, 0),
+    (SMALLER, NACK, 0),
+];
+
+/// The first of the rows that is said otherwise, or takes another number of calls.
+fn first_unsaid(
+    alloc: Global,
+    replica: &mut OnDisks,
+    rows: &[(&str, &str, u64)],
+) -> Result<Option<usize>, Fail> {
+    for (at, (heard, said, calls)) in rows.iter().enumerate() {
+        if !answers_in(alloc, replica, *calls, (heard, said))? {
+            return Ok(Some(at));
+        }
     }
+    Ok(None)
 }
 
-#[test]
-fn what_was_sent_is_answered_again(rt: HostRuntime) -> Result<(), Fail> {
-    let alloc = rt.alloc();
-    let mut device = Replica::into_disks(voted(alloc)?);
+// The bytes of A where all that was said.
+fn written(alloc: Global, mut device: MemoryDisk) -> Result<Vec<u8>, Fail> {
     device.stop(0, 0);
-    let mut replica = revived(alloc, device)?;
-    assert!(&rt; answers(alloc, &mut replica, SMALLER, NACK)?);
-    assert!(&rt; answers(alloc, &mut replica, ACCEPT, ACCEPTED)?);
-    Ok(())
+    let mut bytes = vec![in alloc; 0; device.lengths().0]?;
+    device.read_into(Side::A, 0, &mut bytes)?;
+    Ok(bytes)
 }
 
 #[test]
-fn a_datagram_again_makes_no_device_call(rt: HostRuntime) -> Result<(), Fail> {
-    let alloc = rt.alloc();
-    let mut replica = voted(alloc)?;
-    let before = replica.device().calls();
-    assert!(&rt; answers(alloc, &mut replica, ACCEPT, ACCEPTED)?);
-    assert!(&rt; replica.device().calls() == before);
-    Ok(())
-}
-
-#[test]
-fn a_prepare_again_makes_no_device_call(rt: HostRuntime) -> Result<(), Fail> {
+fn what_is_said_is_written_once_in_these_bytes(rt: HostRuntime) -> Result<(), Fail> {
     let alloc = rt.alloc();
     let mut replica = revived(alloc, MemoryDisk::new(alloc))?;
-    assert!(&rt; answers(alloc, &mut replica, PREPARE, PROMISE)?);
-    let before = replica.device().calls();
-    assert!(&rt; answers(alloc, &mut replica, PREPARE, PROMISE)?);
-    assert!(&rt; replica.device().calls() == before);
+    assert_eq!(rt; first_unsaid(alloc, &mut replica, &SAID)?, None);
+    let bytes = written(alloc, Replica::into_disks(replica))?;
+    assert_eq!(rt; bytes, bytes_of(alloc, &[BEGUN, PROMISED, VOTED])?);
     Ok(())
 }
 
 #[test]
 fn a_prepare_from_the_snapshot_gets_a_nack(rt: HostRuntime) -> Result<(), Fail> {
     let alloc = rt.alloc();
-    let mut replica = revived(alloc, device_of(alloc, &[BASE, AT_256, SNAPSHOT])?)?;
-    let before = replica.device().calls();
-    assert!(&rt; answers(alloc, &mut replica, BELOW, BELOW_NACK)?);
-    assert!(&rt; replica.device().calls() == before);
-    Ok(())
-}
-
-#[test]
-fn a_snapshot_has_to_be_at_its_position(rt: HostRuntime) -> Result<(), Fail> {
-    let alloc = rt.alloc();
-    assert!(&rt; outcome(alloc, &[BASE, AT_256, SNAPSHOT])? == (0, 0));
-    assert!(&rt; outcome(alloc, &[BASE, AT_255, SNAPSHOT])? == (9, 0));
-    Ok(())
-}
-
-#[test]
-fn what_is_decided_is_run_up_to_a_gap(rt: HostRuntime) -> Result<(), Fail> {
-    let alloc = rt.alloc();
-    assert!(&rt; outcome(alloc, &[BASE, AT_256, SNAPSHOT, DECIDED_257, DECIDED_258])? == (0, 2));
-    assert!(&rt; outcome(alloc, &[BASE, AT_256, SNAPSHOT, DECIDED_258])? == (0, 0));
-    Ok(())
-}
-
-#[test]
-fn what_lies_too_far_above_is_damage(rt: HostRuntime) -> Result<(), Fail> {
-    let alloc = rt.alloc();
-    assert!(&rt; outcome(alloc, &[BASE, AT_256, SNAPSHOT, VOTE_258])? == (0, 0));
-    assert!(&rt; outcome(alloc, &[BASE, AT_256, SNAPSHOT, VOTE_259])? == (9, 0));
-    assert!(&rt; outcome(alloc, &[BASE, AT_256, SNAPSHOT, VOTE_259, DECIDED_257])? == (0, 1));
-    assert!(&rt; outcome(alloc, &[BASE, AT_256, SNAPSHOT, DECIDED_259])? == (9, 0));
+    let mut replica = revived(alloc, device_of(alloc, &[BASE, AT_256, SNAPSHOT], &[])?)?;
+    assert!(&rt; answers_in(alloc, &mut replica, 0, (BELOW, BELOW_NACK))?);
     Ok(())
 }
 
@@ -243,52 +333,55 @@ fn each_call_fails_in_turn_and_what_was_sent_is_covered(rt: HostRuntime) -> Resu
     Ok(())
 }
 
-// A post whose first send fails. It does not tell what was sent, but how much.
-#[derive(Clone, Copy)]
-struct Falters {
-    failures: u64,
-    sent: bool,
+/// How a revival ends one of whose readings fails.
+#[derive(Clone, Copy, PartialEq, Eq)]
+enum Unread {
+    /// By fault 7, with both disks as they were, and the next revival succeeds.
+    Retried,
+    /// It was not reached.
+    Unreached,
+    Wrong,
 }
 
-impl Post for Falters {
-    ghost use Rattle.std.specs.Prelude.{[]};
+// The device handed back is as it was, and is taken up.
+fn is_taken_up(alloc: Global, refused: ReviveFault<MemoryDisk>) -> Result<bool, Fail> {
+    let is_device = refused.fault.number() == 7;
+    let is_whole = refused.device.lengths() == (122, 135);
+    Ok(is_device && is_whole && outcome(alloc, refused.device)? == (0, 0, 122, 135))
+}
 
-    ghost sent = { λ p. [] };
+// The same where the reading of that number fails.
+fn unread(alloc: Global, count: u64) -> Result<Unread, Fail> {
+    let mut device = device_of(alloc, &[BEGUN, "00010001"], &[SECOND_BEGUN, PROMISED])?;
+    device.fail_read(count);
+    let revived: Result<_, ReviveFault<MemoryDisk>> = <OnDisks as MemoryReplica>::revive(
+        alloc,
+        device,
+        &header()?,
+    );
+    let Err(refused) = revived else {
+        return Ok(Unread::Unreached);
+    };
+    if is_taken_up(alloc, refused)? {
+        return Ok(Unread::Retried);
+    }
+    Ok(Unread::Wrong)
+}
 
-    ghost is_telling = { ⊥ };
-
-    ghost failures = { λ p. p.failures };
-
-    fn send(&mut self, _to: To, _bytes: &[u8]) -> Result<(), SendFault> {
-        if self.failures == 0 {
-            self.failures = 1;
-            return Err(SendFault);
+// The first reading whose failure is not told so, and how that ends.
+fn first_unread(alloc: Global) -> Result<(u64, Unread), Fail> {
+    for count in 1..100 {
+        let end = unread(alloc, count)?;
+        if end != Unread::Retried {
+            return Ok((count, end));
         }
-        self.sent = true;
-        Ok(())
     }
-}
-
-// Whether the replica takes the Prepare so, 15 where its answer is lost.
-fn outcome_by(alloc: Global, replica: &mut OnDisks, post: &mut Falters) -> Result<u8, Fail> {
-    let bytes = bytes_of(alloc, &[PREPARE])?;
-    match Replica::take(replica, Input::Datagram(&bytes), post) {
-        Ok(_) => Ok(0),
-        Err(fault) => Ok(fault.number()),
-    }
+    Ok((100, Unread::Wrong))
 }
 
 #[test]
-fn a_lost_answer_is_told_and_sent_again(rt: HostRuntime) -> Result<(), Fail> {
-    let alloc = rt.alloc();
-    let mut replica = revived(alloc, MemoryDisk::new(alloc))?;
-    let mut post = Falters {
-        failures: 0,
-        sent: false,
-    };
-    assert!(&rt; outcome_by(alloc, &mut replica, &mut post)? == 15);
-    assert!(&rt; !post.sent);
-    assert!(&rt; outcome_by(alloc, &mut replica, &mut post)? == 0);
-    assert!(&rt; post.sent);
+fn each_reading_fails_in_turn_and_the_next_revival_succeeds(rt: HostRuntime) -> Result<(), Fail> {
+    let (count, end) = first_unread(rt.alloc())?;
+    assert!(rt; count > 4 && end == Unread::Unreached);
     Ok(())
 }

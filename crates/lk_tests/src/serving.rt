@@ -1,12 +1,12 @@
+//! Nodes on sockets that answer, are stopped and taken up again, and are joined by another.
 use crate::digits::bytes_of;
 use lk_disk::{FileDisk, MemoryDisk};
 use lk_locks::LockTable;
 use lk_log::Header;
 use lk_replica::Replica;
-use lk_service::demo::demo;
 use lk_service::fault::ServiceFault;
 use lk_service::node_replica::NodeReplica;
-use lk_service::running::{NodePlan, revive, run_node};
+use lk_service::running::revive;
 use lk_service::server::{Server, node_turn};
 use lk_service::socket::{Datagrams, LocalSocket, local};
 use lk_types::{Genesis, Member, NodeNo, Port};
@@ -264,55 +264,5 @@ fn a_node_is_taken_up_from_its_files(rt: HostRuntime) -> Result<(), Fail> {
     assert!(rt; answers_on_files(&rt, rt.alloc(), port, folder)?);
     assert!(rt; answers_on_files(&rt, rt.alloc(), port, folder)?);
     fs::remove_dir_all(&rt, folder)?;
-    Ok(())
-}
-
-#[test]
-fn a_demonstration_prints_four_answers(rt: HostRuntime) {
-    let alloc = rt.alloc();
-    let mut out = Vec::new(alloc);
-    let mut err = Vec::new(alloc);
-    let status = demo::<LockTable, _, _, _>(&rt, alloc, &mut out, &mut err);
-    assert_eq!(rt; (status, err.len()), (0, 0));
-    assert_eq!(rt;
-        out.as_slice(),
-        b"granted 1\nbusy 1 1\nreleased\ngranted 2\n".as_slice()
-    );
-}
-
-// The status of a node at a port and in a folder, and what it tells on standard error.
-fn run_at<R: Files + Net>(
-    rt: &R,
-    alloc: Global,
-    port: Port,
-    folder: &str,
-) -> Result<(u8, Vec<u8>), Fail> {
-    let members = [Member {
-        node: NodeNo::of(1).ok_or("node")?,
-        port,
-    }];
-    let plan = NodePlan {
-        header: header(1, &Genesis::of(5, 2, &members)?)?,
-        port,
-        folder,
-    };
-    let mut err = Vec::new(alloc);
-    let status = run_node::<LockTable, _, _, _>(rt, alloc, &plan, &Discard, &mut err);
-    Ok((status, err))
-}
-
-#[test]
-fn a_node_in_a_missing_folder_cannot_open(rt: HostRuntime) -> Result<(), Fail> {
-    let free = port_of(&socket(&rt)?)?;
-    let (status, err) = run_at(&rt, rt.alloc(), free, "lk_tests_no_such_folder")?;
-    assert_eq!(rt; (status, err.as_slice()), (1, b"cannot open\n".as_slice()));
-    Ok(())
-}
-
-#[test]
-fn a_node_at_a_taken_port_cannot_open(rt: HostRuntime) -> Result<(), Fail> {
-    let taken = socket(&rt)?;
-    let (status, err) = run_at(&rt, rt.alloc(), port_of(&taken)?, ".")?;
-    assert_eq!(rt; (status, err.as_slice()), (1, b"cannot open\n".as_slice()));
     Ok(())
 }

@@ -1,26 +1,24 @@
-use crate::digits::add_hex;
-use crate::locks::long_text;
+//! Packed states by bytes, and each limit of theirs.
+use crate::digits::{add_hex, bytes_of};
 use bytes::BytesMut;
 use lk_locks::LockTable;
-use lk_state::{Seen, UnpackFault, Whole};
-use lk_types::{
-    Answer, ClientNo, Command, Genesis, Member, NodeNo, Op, Port, Request, RequestNumber,
-};
+use lk_state::{UnpackFault, Whole};
 use std::alloc::Global;
-use std::process::Abort;
 use std::test::Fail;
 
 type State = Whole<LockTable>;
 
-const FIRST: [u8; 39] = [
-    0, 0, 0, 0, 0, 0, 0, 0, 2, 1, 0, 0, 0, 1, 0x1b, 0x59, 1, 0, 0, 0, 1, 0x1b, 0x59, 0, 0, 0, 1, 0,
-    0, 0, 0, 0, 0, 0, 0, 0, 0, 0, 0,
-];
-
-const CHANGED: [u8; 80] = [
-    0, 0, 0, 0, 0, 0, 0, 2, 2, 4, 0, 0, 0, 1, 0x1b, 0x59, 0, 0, 0, 2, 0x1b, 0x5a, 0, 0, 0, 3, 0x1b,
-    0x5b, 0, 0, 0, 4, 0x1b, 0x5c, 3, 0, 0, 0, 2, 0x1b, 0x5a, 0, 0, 0, 3, 0x1b, 0x5b, 0, 0, 0, 4,
-    0x1b, 0x5c, 0, 0, 0, 4, 0, 0, 0, 0, 0, 0, 0, 2, 0, 1, 0, 9, 0, 0, 0, 0, 0, 0, 0, 2, 35, 0, 0,
+// The first state of node 1 at port 7001 with alpha 2, and one behind a join of node 4 and a leave of node 1.
+const STATES: [&[&str]; 2] = [
+    &[
+        "0000000000000000 02 01 00000001 1b59 01 00000001 1b59 00000001 0000000000000000",
+        "0000 0000",
+    ],
+    &[
+        "0000000000000002 02 04 00000001 1b59 00000002 1b5a 00000003 1b5b 00000004 1b5c",
+        "03 00000002 1b5a 00000003 1b5b 00000004 1b5c 00000004 0000000000000002",
+        "0001 0009 0000000000000002 23 0000",
+    ],
 ];
 
 // A state of two positions by the parts of its text, as hex where spaces are for reading alone: how many positions are
@@ -77,42 +75,6 @@ const LIMITS: [Limit; 33] = [
     ("a byte too many", 5, "0000", "0000 00"),
 ];
 
-// A set of 7 members.
-#[rattlefmt::skip]
-const SET: &str = "07 00000001 0001 00000002 0002 00000003 0003 00000004 0004 00000005 0005 00000006 0006 80000000 ffff";
-
-fn member(rt: &impl Abort, node: u32, port: u16) -> Member {
-    Member {
-        node: NodeNo::of(node).expect(rt, "a node"),
-        port: Port::of(port).expect(rt, "a port"),
-    }
-}
-
-fn number(rt: &impl Abort, number: u64) -> RequestNumber {
-    RequestNumber::of(number).expect(rt, "a number")
-}
-
-fn client(rt: &impl Abort) -> ClientNo {
-    ClientNo::of(9).expect(rt, "a client")
-}
-
-fn expect_run(rt: &impl Abort, state: &mut State, at: u64, op: Op, answer: Option<Answer>) {
-    assert!(rt; state.executed().get() < 1 << 48);
-    let command = Command::Request(Request {
-        client: client(rt),
-        number: number(rt, at),
-        op,
-    });
-    let ran = state.run(&command).expect(rt, "memory");
-    assert!(rt; ran.answer == answer);
-}
-
-fn expect_packed(rt: &impl Abort, alloc: Global, state: &State, bytes: &[u8]) {
-    let mut out = BytesMut::new(alloc);
-    state.pack(&mut out).expect(rt, "memory");
-    assert!(rt; &out[..] == bytes);
-}
-
 /// The bytes of all parts, where this one has its place.
 fn text_with(alloc: Global, place: usize, part: &str) -> Result<Vec<u8>, Fail> {
     let mut bytes = Vec::new(alloc);
@@ -121,34 +83,6 @@ fn text_with(alloc: Global, place: usize, part: &str) -> Result<Vec<u8>, Fail> {
         add_hex(alloc, &mut bytes, stands)?;
     }
     Ok(bytes)
-}
-
-fn add_sets(alloc: Global, text: &mut Vec<u8>, count: u8) -> Result<(), Fail> {
-    text.push(count)?;
-    for _ in 0..count {
-        add_hex(alloc, text, SET)?;
-    }
-    Ok(())
-}
-
-fn add_sessions(alloc: Global, text: &mut Vec<u8>, count: u16) -> Result<(), Fail> {
-    text.extend_from_slice(&count.to_be_bytes())?;
-    for index in 0..count {
-        text.extend_from_slice(&(index + 1).to_be_bytes())?;
-        add_hex(alloc, text, "0001000000000000 02 0100 0001000000000000")?;
-    }
-    Ok(())
-}
-
-/// A text of so many sets of 7 members, sessions of clients from 1 on, and names of 32 letters.
-fn long_state(alloc: Global, sets: u8, sessions: u16, names: u16) -> Result<Vec<u8>, Fail> {
-    let mut text = Vec::new(alloc);
-    add_hex(alloc, &mut text, "0001000000000000")?;
-    add_sets(alloc, &mut text, sets)?;
-    add_hex(alloc, &mut text, "80000000 0001000000000000")?;
-    add_sessions(alloc, &mut text, sessions)?;
-    text.extend_from_slice(&long_text(alloc, names)?)?;
-    Ok(text)
 }
 
 fn is_refused(alloc: Global, bytes: &[u8]) -> bool {
@@ -183,83 +117,24 @@ fn broken<'a>(alloc: Global, limits: &[Limit<'a>]) -> Result<Option<&'a str>, Fa
     Ok(None)
 }
 
-fn changed(rt: &impl Abort, alloc: Global) -> State {
-    let members = [
-        member(rt, 1, 7001),
-        member(rt, 2, 7002),
-        member(rt, 3, 7003),
-    ];
-    let genesis = Genesis::of(5, 2, &members).expect(rt, "a genesis");
-    let mut state = Whole::begin(alloc, &genesis);
-    let fourth = member(rt, 4, 7004);
-    expect_run(
-        rt,
-        &mut state,
-        1,
-        Op::Join(fourth.node, fourth.port),
-        Some(Answer::Joined),
-    );
-    expect_run(
-        rt,
-        &mut state,
-        2,
-        Op::Leave(members[0].node),
-        Some(Answer::Left),
-    );
-    state
-}
-
 #[test]
-fn packs_the_first_state(rt: HostRuntime) {
-    let genesis = Genesis::of(5, 2, &[member(&rt, 1, 7001)]).expect(&rt, "a genesis");
-    let state: State = Whole::begin(rt.alloc(), &genesis);
-    expect_packed(&rt, rt.alloc(), &state, &FIRST);
-}
-
-#[test]
-fn packs_a_changed_state(rt: HostRuntime) {
-    let state = changed(&rt, rt.alloc());
-    expect_packed(&rt, rt.alloc(), &state, &CHANGED);
-    let again: State = Whole::unpack(rt.alloc(), &CHANGED).expect(&rt, "a state");
-    expect_packed(&rt, rt.alloc(), &again, &CHANGED);
-}
-
-#[test]
-fn takes_and_refuses_at_each_limit(rt: HostRuntime) -> Result<(), Fail> {
+fn each_limit_is_the_last_that_is_taken(rt: HostRuntime) -> Result<(), Fail> {
     assert_eq!(rt; broken(rt.alloc(), &LIMITS)?, None);
     Ok(())
 }
 
-#[test]
-fn packs_the_longest_state(rt: HostRuntime) -> Result<(), Fail> {
-    let text = long_state(rt.alloc(), 16, 256, 512)?;
-    assert_eq!(rt; text.len(), 28105);
-    assert!(rt; is_taken(rt.alloc(), &text));
-    for (sets, sessions, names) in [(17, 256, 512), (16, 257, 512), (16, 256, 513)] {
-        let text = long_state(rt.alloc(), sets, sessions, names)?;
-        assert!(rt;
-            is_refused(rt.alloc(), &text),
-            "{sets} sets, {sessions} sessions, {names} names"
-        );
+/// The first of the texts that is not unpacked and packed again.
+fn first_lost(alloc: Global, texts: &[&[&str]]) -> Result<Option<usize>, Fail> {
+    for (at, text) in texts.iter().enumerate() {
+        if !is_taken(alloc, &bytes_of(alloc, text)?) {
+            return Ok(Some(at));
+        }
     }
-    Ok(())
+    Ok(None)
 }
 
 #[test]
-fn tells_what_it_has_seen(rt: HostRuntime) {
-    let mut state = changed(&rt, rt.alloc());
-    let client = client(&rt);
-    assert!(&rt; state.seen(client, number(&rt, 2)) == Seen::Same(Answer::Left));
-    assert!(&rt; state.seen(client, number(&rt, 1)) == Seen::Passed(number(&rt, 2)));
-    assert!(&rt; state.seen(client, number(&rt, 3)) == Seen::New);
-    let first = member(&rt, 1, 7001);
-    expect_run(&rt, &mut state, 2, Op::Leave(first.node), None);
-    expect_run(
-        &rt,
-        &mut state,
-        3,
-        Op::Leave(first.node),
-        Some(Answer::NotMember),
-    );
-    assert!(&rt; state.executed().get() == 4);
+fn states_have_these_bytes(rt: HostRuntime) -> Result<(), Fail> {
+    assert_eq!(rt; first_lost(rt.alloc(), &STATES)?, None);
+    Ok(())
 }

@@ -1,13 +1,13 @@
+//! What a turn logs, and a demonstration that nobody answers.
 ghost use Rattle.std.specs.Prelude.{[]};
 
 use lk_locks::LockTable;
 use lk_node::{Input, Note};
 use lk_replica::{Post, ReplicaFault, SendFault};
 use lk_service::demo::{Sockets, play};
-use lk_service::fault::ServiceFault;
 use lk_service::node_replica::NodeReplica;
 use lk_service::server::{Server, node_turn};
-use lk_service::socket::{Datagrams, local};
+use lk_service::socket::Datagrams;
 use lk_types::{Command, NodeNo, Position};
 use log::sink::{Discard, Memory};
 use std::alloc::Global;
@@ -22,11 +22,10 @@ enum End {
     Broken,
 }
 
-// Stands for a replica: it notes that it ran position 3, and keeps of each input whether it was a tick.
+// Stands for a replica: it notes that it ran position 3.
 #[derive(Drop)]
 struct Told {
     alloc: Global,
-    ticks: Vec<bool>,
     end: End,
     failed: bool,
 }
@@ -50,15 +49,8 @@ impl NodeReplica for Told {
 
     ghost failed = { λ t. t.failed };
 
-    fn take<P: Post>(&mut self, input: Input, _post: &mut P) -> Result<Vec<Note>, ReplicaFault> {
-        let is_tick = match input {
-            Input::Tick => true,
-            Input::Datagram(_) => false,
-        };
+    fn take<P: Post>(&mut self, _input: Input, _post: &mut P) -> Result<Vec<Note>, ReplicaFault> {
         self.failed = true;
-        if self.ticks.push(is_tick).is_err() {
-            return Err(ReplicaFault::NoMemory);
-        }
         let Ok(notes) = ran(self.alloc) else {
             return Err(ReplicaFault::NoMemory);
         };
@@ -71,11 +63,9 @@ impl NodeReplica for Told {
     }
 }
 
-// A socket to which so many datagrams come, and then nothing.
+// A socket to which nothing comes.
 #[derive(Drop)]
-struct Waiting {
-    datagrams: u32,
-}
+struct Waiting;
 
 impl Datagrams for Waiting {
     ghost sent = { λ _. [] };
@@ -87,8 +77,7 @@ impl Datagrams for Waiting {
     }
 
     fn receive(&mut self, _buffer: &mut [u8]) -> Option<(usize, SocketAddr)> {
-        self.datagrams = self.datagrams.checked_sub(1)?;
-        Some((0, local(1)))
+        None
     }
 
     fn port(&self) -> Option<u16> {
@@ -96,62 +85,19 @@ impl Datagrams for Waiting {
     }
 }
 
-fn server(alloc: Global, datagrams: u32, end: End) -> Server<Told, Waiting> {
+fn server(alloc: Global, end: End) -> Server<Told, Waiting> {
     let told = Told {
         alloc,
-        ticks: Vec::new(alloc),
         end,
         failed: false,
     };
-    Server::new(5, told, Waiting { datagrams })
-}
-
-// What the replica was given in so many turns: a `T` for each tick, a `d` for each datagram.
-fn inputs(alloc: Global, datagrams: u32, turns: u32) -> Result<Vec<u8>, Fail> {
-    let mut server = server(alloc, datagrams, End::Notes);
-    for _ in 0..turns {
-        node_turn(alloc, &mut server, &Discard)?;
-    }
-    let mut signs = Vec::new(alloc);
-    for is_tick in &server.into_replica().ticks {
-        signs.push(if *is_tick { b'T' } else { b'd' })?;
-    }
-    Ok(signs)
-}
-
-#[test]
-fn a_turn_takes_a_datagram_or_a_tick(rt: HostRuntime) -> Result<(), Fail> {
-    assert_eq!(rt; inputs(rt.alloc(), 2, 4)?.as_slice(), b"ddTT".as_slice());
-    Ok(())
-}
-
-#[test]
-fn each_64th_datagram_is_followed_by_a_tick(rt: HostRuntime) -> Result<(), Fail> {
-    let given = inputs(rt.alloc(), 200, 130)?;
-    assert_eq!(rt;
-        (given.len(), given.get(64), given.get(129)),
-        (132, Some(&b'T'), Some(&b'T'))
-    );
-    assert_eq!(rt; given.iter().filter(|sign| **sign == b'T').count(), 2);
-    Ok(())
-}
-
-#[test]
-fn a_turn_passes_over_lost_datagrams(rt: HostRuntime) {
-    let alloc = rt.alloc();
-    let mut lost = server(alloc, 1, End::Lost);
-    assert_eq!(rt; node_turn(alloc, &mut lost, &Discard), Ok(()));
-    let mut broken = server(alloc, 1, End::Broken);
-    assert_eq!(rt;
-        node_turn(alloc, &mut broken, &Discard),
-        Err(ServiceFault::Device)
-    );
+    Server::new(5, told, Waiting)
 }
 
 // What a turn logs whose replica ends so.
 fn logged(alloc: Global, end: End) -> Result<Vec<u8>, Fail> {
     let memory = Memory::new(alloc);
-    let mut server = server(alloc, 0, end);
+    let mut server = server(alloc, end);
     let _ = node_turn(alloc, &mut server, &memory);
     let mut text = Vec::new(alloc);
     for line in memory.into_lines().as_slice() {
@@ -176,10 +122,10 @@ fn notes_are_logged_also_where_datagrams_were_lost(rt: HostRuntime) -> Result<()
 fn a_demonstration_that_nobody_answers_ends(rt: HostRuntime) -> Result<(), Fail> {
     let mut out = Vec::new(rt.alloc());
     let sockets = Sockets {
-        first: Waiting { datagrams: 0 },
-        second: Waiting { datagrams: 0 },
-        third: Waiting { datagrams: 0 },
-        client: Waiting { datagrams: 0 },
+        first: Waiting,
+        second: Waiting,
+        third: Waiting,
+        client: Waiting,
     };
     let is_told = play::<LockTable, _, _>(rt.alloc(), sockets, &mut out)?;
     assert_eq!(rt;
