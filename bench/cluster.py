@@ -1,5 +1,7 @@
 """Nodes of `locks` as processes on this machine, each with a folder of its own, for the scripts beside this file."""
+import contextlib
 import os
+import random
 import signal
 import socket
 import subprocess
@@ -7,6 +9,7 @@ import sys
 
 HERE = os.path.dirname(os.path.dirname(os.path.abspath(__file__)))
 sys.path.insert(0, os.path.join(HERE, "clients", "python"))
+import locks_client  # noqa: E402
 from locks_client import Client, milliseconds  # noqa: E402
 
 
@@ -20,15 +23,14 @@ def built(program=None):
 
 
 def free_ports(count):
-    """So many ports of 127.0.0.1 that nothing is bound to now."""
-    sockets = [socket.socket(socket.AF_INET, socket.SOCK_DGRAM) for _ in range(count)]
-    try:
-        for it in sockets:
-            it.bind(("127.0.0.1", 0))
-        return [it.getsockname()[1] for it in sockets]
-    finally:
-        for it in sockets:
-            it.close()
+    """So many ports of 127.0.0.1 that nothing is bound to now, below those that the system gives to clients."""
+    found = {}
+    while len(found) < count:
+        port = random.randrange(10_000, 32_000)
+        with socket.socket(socket.AF_INET, socket.SOCK_DGRAM) as it, contextlib.suppress(OSError):
+            it.bind(("127.0.0.1", port))
+            found[port] = None
+    return list(found)
 
 
 class Cluster:
