@@ -36,5 +36,3 @@ mod turns;
 mod wire;
 #[cfg(test)]
 mod words;
-#[cfg(test)]
-mod world;
