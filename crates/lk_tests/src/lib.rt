@@ -13,8 +13,6 @@ mod faltering;
 #[cfg(test)]
 mod files;
 #[cfg(test)]
-mod idle;
-#[cfg(test)]
 mod node_dialogues;
 #[cfg(test)]
 mod node_turns;
