@@ -10,7 +10,7 @@ use Rattle.lk_locks.specs.Names.{IsName}
 use Rattle.lk_locks.specs.NameLaws.{name_reads}
 use Rattle.lk_locks.specs.Bodies.{lock_name, name_and_fence, body_tag, body_fields, spelling, IsBody, SpellsBody, read_name, read_name_and_fence, fields_of, body_of}
 use Rattle.lk_locks.specs.declared.body.Body.{Body}
-use Rattle.lk_locks.specs.declared.body.Body.TheVariants.{Acquire, Release, Ask, Check}
+use Rattle.lk_locks.specs.declared.body.Body.TheVariants.{Acquire, Release, Ask, Check, Share, Break}
 
 pub name_and_fence_reads : Reads read_name_and_fence name_and_fence (λ (p : List ℕ × ℕ). IsName p.0 × IsCount p.1)
 unfolding read_name_and_fence
@@ -23,7 +23,9 @@ fields_take =
     (kind_takes body_tag body_fields IsBody 2 (λ (p : List ℕ × ℕ). Release p.0 p.1) read_name_and_fence name_and_fence (λ (p : List ℕ × ℕ). IsName p.0 × IsCount p.1) name_and_fence_reads (λ x. refl) (λ x. refl) (λ x f. f) _
     (kind_takes body_tag body_fields IsBody 3 Ask read_name lock_name IsName name_reads (λ x. refl) (λ x. refl) (λ x f. f) _
     (kind_takes body_tag body_fields IsBody 4 (λ (p : List ℕ × ℕ). Check p.0 p.1) read_name_and_fence name_and_fence (λ (p : List ℕ × ℕ). IsName p.0 × IsCount p.1) name_and_fence_reads (λ x. refl) (λ x. refl) (λ x f. f) _
-    (no_kind_takes body_tag body_fields IsBody))))
+    (kind_takes body_tag body_fields IsBody 5 Share read_name lock_name IsName name_reads (λ x. refl) (λ x. refl) (λ x f. f) _
+    (kind_takes body_tag body_fields IsBody 6 (λ (p : List ℕ × ℕ). Break p.0 p.1) read_name_and_fence name_and_fence (λ (p : List ℕ × ℕ). IsName p.0 × IsCount p.1) name_and_fence_reads (λ x. refl) (λ x. refl) (λ x f. f) _
+    (no_kind_takes body_tag body_fields IsBody))))))
 
 fields_again : (body : Body) (rest : List ℕ) → IsBody body → fields_of (body_tag body) (body_fields body ++ rest) ≡ Some (body, rest)
 unfolding fields_of
@@ -31,6 +33,8 @@ fields_again (Acquire name) rest fits = rw (name_reads.again name rest fits) ref
 fields_again (Release name fence) rest fits = rw (name_and_fence_reads.again (name, fence) rest fits) refl
 fields_again (Ask name) rest fits = rw (name_reads.again name rest fits) refl
 fields_again (Check name fence) rest fits = rw (name_and_fence_reads.again (name, fence) rest fits) refl
+fields_again (Share name) rest fits = rw (name_reads.again name rest fits) refl
+fields_again (Break name fence) rest fits = rw (name_and_fence_reads.again (name, fence) rest fits) refl
 
 body_reads : Reads (tagged fields_of) spelling IsBody
 body_reads = tagged_reads body_tag body_fields IsBody fields_of fields_take fields_again

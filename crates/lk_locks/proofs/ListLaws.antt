@@ -1,22 +1,22 @@
 -- A list of commands: the lock table behind it, as a text and plain.
 use Rattle.std.proofs.Common.{◌≡◌, ℕ, true, false, cond, List, [], ◌∷◌, ◌++◌, Option, Some, None, fold, refl, ap, subst, sym, ◌∙◌}
 use Rattle.std.specs.List.{list_all, AllByRecursion}
-use Rattle.std.specs.FinMap as map
 use Rattle.std.proofs.lemmas.List.Sums.{fold-append}
 use Rattle.lk_types.specs.Ranges.{IsClient}
 use Rattle.lk_types.specs.Commands.{IsCommand}
 use Rattle.lk_types.specs.declared.command.Op.{Op}
-use Rattle.lk_types.specs.declared.command.Op.TheVariants.{Table as TableOp, Join, Leave}
+use Rattle.lk_types.specs.declared.command.Op.TheVariants.{Table as TableOp, Join, Leave, Raise}
 use Rattle.lk_members.specs.Counting.{Command, RequestValue, Noop, Request, is_older, counted, placed, counting}
 use Rattle.lk_members.proofs.Memberships.{added, counting-push}
 use Rattle.lk_state.specs.Meanings.{KeepsTexts}
 use Rattle.lk_state.specs.States.{next_text, text_of}
 use Rattle.lk_state.proofs.Wholes.{by_pushes, text_behind, text_of-push}
-use Rattle.lk_locks.specs.Plain.{Table, answer, next}
+use Rattle.lk_locks.specs.Plain.{Table, empty, next, raised}
 use Rattle.lk_locks.specs.Packed.{IsTable, IsText, text, table_in}
-use Rattle.lk_locks.specs.PackedLaws.{again, empty_is_table, empty_is_text}
-use Rattle.lk_locks.specs.NextLaws.{next_is_table, next_is_text, answer_is_answer}
-use Rattle.lk_locks.specs.Meaning.{table_meaning}
+use Rattle.lk_locks.specs.PackedLaws.{again, empty_are_names, empty_is_text}
+use Rattle.lk_locks.specs.NextLaws.{next_is_table, raised_is_table, next_is_text, answer_is_answer}
+use Rattle.lk_locks.specs.Meaning.{table_meaning, task_answer}
+use Rattle.lk_state.specs.Meanings.{Task}
 use Rattle.lk_locks.specs.Lists.{table_after, table_of}
 
 -- ---- one command more
@@ -33,8 +33,8 @@ table_added m (Some r) = refl
 pub table_of-push : (L : List Command) (c : Command) → table_of (L ++ c ∷ []) ≡ table_behind (table_of L) (counted L c)
 unfolding table_of
 table_of-push L c =
-    ap (fold (λ (m : Table) (r : RequestValue). table_after r.client r.op m) map.empty) (counting-push L c)
-    ∙ fold-append (λ (m : Table) (r : RequestValue). table_after r.client r.op m) map.empty (counting L) (added (counted L c))
+    ap (fold (λ (m : Table) (r : RequestValue). table_after r.client r.op m) empty) (counting-push L c)
+    ∙ fold-append (λ (m : Table) (r : RequestValue). table_after r.client r.op m) empty (counting L) (added (counted L c))
     ∙ table_added (table_of L) (counted L c)
 
 all-front : {X : Type 0} (P : X → Type 0) (xs : List X) (y : X) → AllByRecursion P (xs ++ y ∷ []) → AllByRecursion P xs × P y
@@ -61,6 +61,7 @@ op_keeps : (client : ℕ) (op : Op) (m : Table) → IsClient client → IsTable 
 op_keeps client (TableOp body) m is_client fits = (next_is_table client body m is_client fits, ap (λ (t : Table). text (next client body t)) (again m fits))
 op_keeps client (Join node port) m is_client fits = (fits, refl)
 op_keeps client (Leave node) m is_client fits = (fits, refl)
+op_keeps client Raise m is_client fits = (raised_is_table m fits, ap (λ (t : Table). text (raised t)) (again m fits))
 
 counted_keeps : (o : Option RequestValue) (m : Table) → IsOfClient o → IsTable m → IsTextOf (table_behind m o) (text_behind table_meaning (text m) o)
 counted_keeps None m is_client fits = (fits, refl)
@@ -72,7 +73,7 @@ TextIsPlain L = AllByRecursion IsCommand L → IsTextOf (table_of L) (text_of ta
 
 none_is_plain : TextIsPlain []
 unfolding table_of text_of counting placed
-none_is_plain all = (empty_is_table, refl)
+none_is_plain all = (empty_are_names false, refl)
 
 more_is_plain : (L : List Command) (c : Command) → TextIsPlain L → TextIsPlain (L ++ c ∷ [])
 more_is_plain L c so_far all =
@@ -98,8 +99,8 @@ pub text_of-text : (L : List Command) → AllByRecursion IsCommand L → text_of
 text_of-text L all = (is_plain L all).1
 
 -- what the machine answers behind a list is what its table answers
-pub answer-text_of : (L : List Command) → AllByRecursion IsCommand L → (client : ℕ) (body : List ℕ) → table_meaning.answer client body (text_of table_meaning L) ≡ answer client body (table_of L)
-answer-text_of L all client body = ap (answer client body) (ap table_in (text_of-text L all) ∙ again (table_of L) (table_of-is_table L all))
+pub answer-text_of : (L : List Command) → AllByRecursion IsCommand L → (client : ℕ) (task : Task) → table_meaning.answer client task (text_of table_meaning L) ≡ task_answer client task (table_of L)
+answer-text_of L all client task = ap (task_answer client task) (ap table_in (text_of-text L all) ∙ again (table_of L) (table_of-is_table L all))
 
 -- the table keeps to its texts, and its answers are in their ranges
 pub table_keeps_texts : KeepsTexts IsText table_meaning

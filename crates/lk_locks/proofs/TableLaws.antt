@@ -1,5 +1,5 @@
 -- Entries in rising order, one by one.
-use Rattle.std.proofs.Common.{◌≡◌, ℕ, ◌+◌, ◌-◌, ◌≤◌, leb, eqb, length, arith, Bool, true, false, ◌&&◌, List, [], ◌∷◌, ◌++◌, Option, Some, None, refl, sym, ap, subst, ◌∙◌, append_assoc, inl, inr}
+use Rattle.std.proofs.Common.{◌≡◌, ℕ, ◌+◌, ◌-◌, ◌≤◌, leb, ltb, eqb, cond, length, arith, Bool, true, false, ◌&&◌, List, [], ◌∷◌, ◌++◌, Option, Some, None, refl, sym, ap, subst, ◌∙◌, append_assoc, inl, inr}
 use Rattle.std.specs.declared.cmp.Ordering.{Ordering}
 use Rattle.std.specs.declared.cmp.Ordering.TheVariants.{Less, Equal, Greater}
 use Rattle.std.specs.List.{flat_map, AllByRecursion}
@@ -9,12 +9,12 @@ use Rattle.std.specs.FinMap as map
 use Rattle.std.proofs.lemmas.Bool.{eqb-true, le-leb}
 use Rattle.std.proofs.lemmas.List.{length-append, nil_from_length}
 use Rattle.std.specs.FinMap.Entries.{below_all}
-use Rattle.lk_locks.specs.Plain.{Table}
-use Rattle.lk_locks.specs.Packed.{Entry, entry, text, read_entry, read_size, read_entries, rise, DoNotRise}
+use Rattle.lk_locks.specs.Plain.{Names, Table}
+use Rattle.lk_locks.specs.Packed.{Entry, entry, entries, read_entry, read_size, read_entries, read_table, text, rise, DoNotRise}
 use Rattle.lk_locks.specs.declared.slot.Slot.{Slot}
 use Rattle.lk_wire.specs.Fields.{two}
 use Rattle.lk_wire.specs.FieldReading.{read_two}
-use Rattle.lk_wire.specs.Parser.{many, whole}
+use Rattle.lk_wire.specs.Parser.{◌>>=◌, many, made, whole}
 use Rattle.lk_wire.proofs.Spellings.{with_front}
 use Rattle.lk_locks.specs.PackedLaws.{decided, entries_rise, empty_entries}
 
@@ -84,7 +84,7 @@ rises_on es l e h =
     ]
 
 -- whether a name is below one more, by the last that stands
-pub below_is : (m : Table) (es : List Entry) (l : Entry) (name : List ℕ) (s : Slot) → map.entries m ≡ es ++ l ∷ [] → is_lt (slice_cmp nat_cmp l.0 name) ≡ rise (map.entries m ++ (name, s) ∷ [])
+pub below_is : (m : Names) (es : List Entry) (l : Entry) (name : List ℕ) (s : Slot) → map.entries m ≡ es ++ l ∷ [] → is_lt (slice_cmp nat_cmp l.0 name) ≡ rise (map.entries m ++ (name, s) ∷ [])
 below_is m es l name s e = rw e (sym (rises_on es l (name, s) (subst (λ (fs : List Entry). rise fs ≡ true) e (entries_rise m))))
 
 -- ---- a table with one more name, above all others
@@ -95,7 +95,7 @@ put_last (x ∷ es) name s below =
     let after : slice_cmp nat_cmp name x.0 ≡ Greater = nat_list_cmp_total.antisymm name x.0 ∙ ap ordering_reverse below.0 in
     rw after (ap (λ (t : List Entry). x ∷ t) (put_last es name s below.1))
 
-pub push_is : (m : Table) (name : List ℕ) (s : Slot) → rise (map.entries m ++ (name, s) ∷ []) ≡ true → map.entries (map.insert m name s) ≡ map.entries m ++ (name, s) ∷ []
+pub push_is : (m : Names) (name : List ℕ) (s : Slot) → rise (map.entries m ++ (name, s) ∷ []) ≡ true → map.entries (map.insert m name s) ≡ map.entries m ++ (name, s) ∷ []
 push_is m name s h = map.entries-insert nat_list_cmp_total m name s ∙ put_last (map.entries m) name s (rise_below (map.entries m) (name, s) h)
 
 -- ---- entries read one by one
@@ -111,9 +111,8 @@ falls front None total h e = subst DoNotRise e tt
 
 -- ---- a text written piece by piece
 
-pub begun : (m : Table) (old : List ℕ) (n : ℕ) (es : List Entry) → n ≡ map.len m → es ≡ map.entries m → (old ++ two n) ++ flat_map entry es ≡ old ++ text m
-unfolding text
-begun m old n es p q = append_assoc old (two n) (flat_map entry es) ∙ ap (λ (t : List ℕ). old ++ t) (rw (p, q, map.len-entries m) refl)
+pub begun : (raised : Bool) (m : Names) (old : List ℕ) (n : ℕ) (es : List Entry) → n ≡ map.len m → es ≡ map.entries m → (old ++ two n) ++ flat_map (entry raised) es ≡ old ++ entries raised (map.entries m)
+begun raised m old n es p q = append_assoc old (two n) (flat_map (entry raised) es) ∙ ap (λ (t : List ℕ). old ++ t) (rw (p, q, map.len-entries m) refl)
 
 -- ---- reading begins, goes on and ends
 
@@ -121,15 +120,54 @@ none_before : (read : Option (List Entry × List ℕ)) → with_front [] read �
 none_before (Some x) = refl
 none_before None = refl
 
-pub starts : (count : ℕ) (bytes : List ℕ) → with_front (map.entries {X = Slot} {R = slice_cmp nat_cmp} map.empty) (many read_entry (count - 0) bytes) ≡ many read_entry count bytes
-starts count bytes = let all : count - 0 ≡ count = omega arith in rw (all, empty_entries) (none_before (many read_entry count bytes))
+pub starts : (raised : Bool) (count : ℕ) (bytes : List ℕ) → with_front (map.entries {X = Slot} {R = slice_cmp nat_cmp} map.empty) (many (read_entry raised) (count - 0) bytes) ≡ many (read_entry raised) count bytes
+starts raised count bytes = let all : count - 0 ≡ count = omega arith in rw (all, empty_entries) (none_before (many (read_entry raised) count bytes))
 
-pub one_longer : (m n : Table) (e : Entry) (i : ℕ) → map.entries n ≡ map.entries m ++ e ∷ [] → map.len m ≡ i → map.len n ≡ i + 1
+pub one_longer : (m n : Names) (e : Entry) (i : ℕ) → map.entries n ≡ map.entries m ++ e ∷ [] → map.len m ≡ i → map.len n ≡ i + 1
 one_longer m n e i new size = omega (arith, map.len-entries n, map.len-entries m, ap length new, length-append (map.entries m) (e ∷ []), size)
 
-pub read_is : (m : Table) (bytes rest left : List ℕ) (count : ℕ) → read_two bytes ≡ Some (count, rest) → count ≤ 512 → many read_entry count rest ≡ Some (map.entries m, left) → eqb (length left) 0 ≡ true → whole read_entries bytes ≡ Some (map.entries m)
+pub read_is : (raised : Bool) (m : Names) (bytes rest left : List ℕ) (count : ℕ) → read_two bytes ≡ Some (count, rest) → count ≤ 512 → many (read_entry raised) count rest ≡ Some (map.entries m, left) → eqb (length left) 0 ≡ true → whole (read_entries raised) bytes ≡ Some (map.entries m)
 unfolding read_entries read_size
-read_is m bytes rest left count front le all empty =
+read_is raised m bytes rest left count front le all empty =
     let none : left ≡ [] = nil_from_length left (eqb-true _ _ empty) in
     let small : leb count 512 ≡ true = le-leb count 512 le in
     rw (front, small, all, entries_rise m, none) refl
+
+-- ---- the version, and then the names
+
+module _ {X Y : Type 0} (f : X → Y) where
+  abbrev remade : X × List ℕ → Option (Y × List ℕ)
+  remade a = Some (f a.0, a.1)
+
+  abbrev pub mapped : Option X → Option Y
+  mapped None = None
+  mapped (Some x) = Some (f x)
+
+  -- all of the bytes under another view
+  whole_made : (p : List ℕ → Option (X × List ℕ)) (bytes : List ℕ) → whole (made f p) bytes ≡ mapped (whole p bytes)
+  whole_made p bytes = by (p bytes)
+    where
+      by_end : (b : Bool) (x : X) → cond b None (Some (f x)) ≡ mapped (cond b None (Some x))
+      by_end true x = refl
+      by_end false x = refl
+
+      by : (o : Option (X × List ℕ)) → ((o >>= remade) >>= λ a. cond (ltb 0 (length a.1)) None (Some a.0)) ≡ mapped (o >>= λ a. cond (ltb 0 (length a.1)) None (Some a.0))
+      by None = refl
+      by (Some a) = by_end (ltb 0 (length a.1)) a.0
+
+pub raised_table : (bytes behind : List ℕ) (n : ℕ) (r : Option (List Entry)) → read_two bytes ≡ Some (n, behind) → n ≡ 65282 → whole (read_entries true) behind ≡ r → whole read_table bytes ≡ mapped (λ (es : List Entry). let v : Bool × List Entry = (true, es) in v) r
+unfolding read_table
+raised_table bytes behind n r front is e = rw (front, is) (whole_made (λ (es : List Entry). let v : Bool × List Entry = (true, es) in v) (read_entries true) behind ∙ ap (mapped (λ (es : List Entry). let v : Bool × List Entry = (true, es) in v)) e)
+
+pub plain_table : (bytes behind : List ℕ) (n : ℕ) (r : Option (List Entry)) → read_two bytes ≡ Some (n, behind) → eqb n 65282 ≡ false → whole (read_entries false) bytes ≡ r → whole read_table bytes ≡ mapped (λ (es : List Entry). let v : Bool × List Entry = (false, es) in v) r
+unfolding read_table
+plain_table bytes behind n r front other e = rw (front, other) (whole_made (λ (es : List Entry). let v : Bool × List Entry = (false, es) in v) (read_entries false) bytes ∙ ap (mapped (λ (es : List Entry). let v : Bool × List Entry = (false, es) in v)) e)
+
+-- a text written behind its mark, or without one
+pub marked : (t : Table) (old new : List ℕ) → t.raised ≡ true → new ≡ (old ++ two 65282) ++ entries t.raised (map.entries t.names) → new ≡ old ++ text t
+unfolding text
+marked t old new is e = e ∙ append_assoc old (two 65282) (entries t.raised (map.entries t.names)) ∙ rw is refl
+
+pub unmarked : (t : Table) (old new : List ℕ) → t.raised ≡ false → new ≡ old ++ entries t.raised (map.entries t.names) → new ≡ old ++ text t
+unfolding text
+unmarked t old new is e = e ∙ rw is refl

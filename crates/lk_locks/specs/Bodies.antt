@@ -1,12 +1,12 @@
 -- What a client may ask of the table, as bytes.
-use Rattle.std.specs.Prelude.{◌≡◌, ℕ, List, ◌∷◌, ◌++◌, length, Option}
+use Rattle.std.specs.Prelude.{◌≡◌, ℕ, Bool, true, List, ◌∷◌, ◌++◌, length, Option, Some, None, if◌then◌else◌}
 use Rattle.lk_types.specs.Ranges.{IsCount}
 use Rattle.lk_wire.specs.Fields.{eight}
 use Rattle.lk_wire.specs.FieldReading.{read_count}
 use Rattle.lk_wire.specs.Parser.{read_byte, sized, both, made, tested, tagged, kind, no_kind, whole}
 use Rattle.lk_locks.specs.Names.{IsName, is_name}
 use Rattle.lk_locks.specs.declared.body.Body.{Body}
-use Rattle.lk_locks.specs.declared.body.Body.TheVariants.{Acquire, Release, Ask, Check}
+use Rattle.lk_locks.specs.declared.body.Body.TheVariants.{Acquire, Release, Ask, Check, Share, Break}
 
 -- a name behind its length
 abbrev pub lock_name : List ℕ → List ℕ
@@ -21,12 +21,16 @@ body_tag (Acquire name) = 1
 body_tag (Release name fence) = 2
 body_tag (Ask name) = 3
 body_tag (Check name fence) = 4
+body_tag (Share name) = 5
+body_tag (Break name fence) = 6
 
 abbrev pub body_fields : Body → List ℕ
 body_fields (Acquire name) = lock_name name
 body_fields (Release name fence) = name_and_fence (name, fence)
 body_fields (Ask name) = lock_name name
 body_fields (Check name fence) = name_and_fence (name, fence)
+body_fields (Share name) = lock_name name
+body_fields (Break name fence) = name_and_fence (name, fence)
 
 -- the bytes of a body
 abbrev pub spelling : Body → List ℕ
@@ -38,6 +42,8 @@ IsBody (Acquire name) = IsName name
 IsBody (Release name fence) = IsName name × IsCount fence
 IsBody (Ask name) = IsName name
 IsBody (Check name fence) = IsName name × IsCount fence
+IsBody (Share name) = IsName name
+IsBody (Break name fence) = IsName name × IsCount fence
 
 -- the grammar: the bytes are those of the body
 abbrev pub SpellsBody : Body → List ℕ → Type 0
@@ -58,8 +64,34 @@ fields_of =
     (kind 2 (made (λ p. Release p.0 p.1) read_name_and_fence)
     (kind 3 (made Ask read_name)
     (kind 4 (made (λ p. Check p.0 p.1) read_name_and_fence)
-    no_kind)))
+    (kind 5 (made Share read_name)
+    (kind 6 (made (λ p. Break p.0 p.1) read_name_and_fence)
+    no_kind)))))
 
 -- the body that all of the bytes are, if they are one
 unfoldable pub body_of : List ℕ → Option Body
 body_of = whole (tagged fields_of)
+
+-- ---- what a body is about, and who knows it
+
+abbrev pub name_of : Body → List ℕ
+name_of (Acquire name) = name
+name_of (Release name fence) = name
+name_of (Ask name) = name
+name_of (Check name fence) = name
+name_of (Share name) = name
+name_of (Break name fence) = name
+
+-- only a table that was raised knows of shared names and of breaking
+abbrev pub is_known : Bool → Body → Bool
+is_known raised (Share name) = raised
+is_known raised (Break name fence) = raised
+is_known raised (Acquire name) = true
+is_known raised (Release name fence) = true
+is_known raised (Ask name) = true
+is_known raised (Check name fence) = true
+
+-- the body, where the table knows it
+abbrev pub known : Bool → Option Body → Option Body
+known raised None = None
+known raised (Some body) = if is_known raised body then Some body else None

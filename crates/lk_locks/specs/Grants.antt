@@ -1,54 +1,74 @@
--- The fences that a list of calls is granted.
-use Rattle.std.specs.Prelude.{ℕ, zero, suc, ◌+◌, Bool, false, List, [], ◌∷◌, ◌++◌, Option, Some, None, if◌then◌else◌}
+-- The fences at which a list of calls gives a name.
+use Rattle.std.specs.Prelude.{ℕ, zero, suc, ◌+◌, Bool, false, ◌==◌, List, [], ◌∷◌, ◌++◌, Option, Some, None, if◌then◌else◌}
 use Rattle.std.specs.Ordering.{nat_cmp, eq_by_cmp}
 use Rattle.std.specs.Cmp.Lexicographic.{slice_cmp}
-use Rattle.std.specs.FinMap as map
 use Rattle.std.specs.List.{flat_map}
 use Rattle.lk_types.specs.declared.answer.Answer.{Answer}
-use Rattle.lk_types.specs.declared.answer.Answer.TheVariants.{Granted}
+use Rattle.lk_types.specs.declared.answer.Answer.TheVariants.{Granted, Shared}
 use Rattle.lk_types.specs.declared.command.Op.{Op}
-use Rattle.lk_types.specs.declared.command.Op.TheVariants.{Table, Join, Leave}
+use Rattle.lk_types.specs.declared.command.Op.TheVariants.{Table, Join, Leave, Raise}
 use Rattle.lk_members.specs.Counting.{Command, RequestValue, counting}
-use Rattle.lk_locks.specs.Bodies.{body_of}
-use Rattle.lk_locks.specs.Plain.{Table as Locks, name_of, answer, next}
+use Rattle.lk_state.specs.Meanings.{Task, Body as BodyTask, Raising}
+use Rattle.lk_locks.specs.Bodies.{body_of, name_of}
+use Rattle.lk_locks.specs.Meaning.{next_by_task, task_answer}
+use Rattle.lk_locks.specs.Plain.{Table as Locks, empty}
 use Rattle.lk_locks.specs.declared.body.Body.{Body}
 
--- a client, and the bytes that it sends
+-- a client, and what it asks of the table
 abbrev pub Call : Type 0
-Call = ℕ × List ℕ
+Call = ℕ × Task
 
 -- whether a body asks about this name
 abbrev pub is_for : List ℕ → Option Body → Bool
 is_for name (Some body) = eq_by_cmp (slice_cmp nat_cmp) name (name_of body)
 is_for name None = false
 
--- the fence that an answer grants, if it grants one
+abbrev pub asks_for : List ℕ → Task → Bool
+asks_for name (BodyTask bytes) = is_for name (body_of bytes)
+asks_for name Raising = false
+
+-- the fence at which an answer gives a name, alone or together with others, if it gives one
 abbrev pub fences : Answer → List ℕ
 fences (Granted fence) = fence ∷ []
+fences (Shared fence) = fence ∷ []
 fences _ = []
 
--- the fences that the calls are granted for the name, in order, from this table on
-abbrev pub grants_from : List ℕ → Locks → List Call → List ℕ
-grants_from name m [] = []
-grants_from name m (call ∷ calls) = (if is_for name (body_of call.1) then fences (answer call.0 call.1 m) else []) ++ grants_from name (next call.0 call.1 m) calls
+-- the fences that the calls are answered for the name, in order, from this table on
+abbrev pub fences_from : List ℕ → Locks → List Call → List ℕ
+fences_from name t [] = []
+fences_from name t (call ∷ calls) = (if asks_for name call.1 then fences (task_answer call.0 call.1 t) else []) ++ fences_from name (next_by_task call.0 call.1 t) calls
 
--- the same from the table that knows no name
+-- those that differ from the one before, the first from this one
+abbrev pub once_behind : ℕ → List ℕ → List ℕ
+once_behind last [] = []
+once_behind last (f ∷ fs) = if f == last then once_behind last fs else f ∷ once_behind f fs
+
+-- equal neighbours taken once: 0 is no fence
+abbrev pub once : List ℕ → List ℕ
+once fs = once_behind 0 fs
+
+-- the fences at which the calls give the name: to share it with those who do takes no new one
 abbrev pub grants : List ℕ → List Call → List ℕ
-grants name calls = grants_from name map.empty calls
+grants name calls = once (fences_from name empty calls)
 
 -- what a request asks of the table, if it is of the table
 abbrev pub call_of : RequestValue → Op → List Call
-call_of request (Table body) = (request.client, body) ∷ []
+call_of request (Table body) = (request.client, BodyTask body) ∷ []
 call_of request (Join node port) = []
 call_of request (Leave node) = []
+call_of request Raise = (request.client, Raising) ∷ []
 
 -- what the entries of a list that count ask of the table, in order
 abbrev pub calls_of : List Command → List Call
 calls_of L = flat_map (λ request. call_of request request.op) (counting L)
 
--- the fences of the Granted answers of the entries that count for the name, in order
+-- the fences of the Granted and Shared answers of the entries that count for the name, in order
+abbrev pub fences_in : List ℕ → List Command → List ℕ
+fences_in name L = fences_from name empty (calls_of L)
+
+-- and of these equal neighbours once
 abbrev pub grants_in : List ℕ → List Command → List ℕ
-grants_in name L = grants name (calls_of L)
+grants_in name L = once (fences_in name L)
 
 -- so many numbers, from k on
 abbrev pub numbers_from : ℕ → ℕ → List ℕ

@@ -1,11 +1,14 @@
 pub mod Names
+pub mod Sharers
+pub mod Holders
 pub mod Slots
 pub mod Bodies
 pub mod Plain
-pub mod Grants
 pub mod Packed
+pub mod Meaning
+pub mod Grants
 pub mod NameLaws
+pub mod SharerLaws
 pub mod PackedLaws
 pub mod NextLaws
-pub mod Meaning
 pub mod Lists

@@ -1,75 +1,120 @@
 -- The packed text of a table.
-use Rattle.std.specs.Prelude.{◌≡◌, ℕ, ◌≤◌, Bool, false, nat_le, ◌==◌, List, ◌++◌, length, Option, Some, None, if◌then◌else◌}
+use Rattle.std.specs.Prelude.{◌≡◌, ℕ, ◌≤◌, Bool, true, false, nat_le, ◌==◌, List, [], ◌∷◌, ◌++◌, length, Option, Some, None, if◌then◌else◌, IsTrue}
 use Rattle.std.specs.List.{flat_map, AllByRecursion}
 use Rattle.std.specs.Ordering.{nat_cmp}
 use Rattle.std.specs.Cmp.Lexicographic.{slice_cmp}
 use Rattle.std.specs.FinMap as map
-use Rattle.lk_types.specs.Ranges.{IsClient, IsCount}
-use Rattle.lk_wire.specs.Fields.{two, eight}
-use Rattle.lk_wire.specs.FieldReading.{read_two, read_count}
-use Rattle.lk_wire.specs.Parser.{both, made, tested, counted, whole}
+use Rattle.lk_types.specs.Limits.{max_client, max_sharers}
+use Rattle.lk_types.specs.Ranges.{IsCount}
+use Rattle.lk_wire.specs.Fields.{one, two, eight}
+use Rattle.lk_wire.specs.FieldReading.{is_from_1_to, read_two, read_client, read_count}
+use Rattle.lk_wire.specs.Parser.{◌>>=◌, read_byte, both, made, tested, tagged, kind, bare, no_kind, counted, whole}
 use Rattle.lk_locks.specs.Names.{IsName}
 use Rattle.lk_locks.specs.Bodies.{lock_name, read_name}
-use Rattle.lk_locks.specs.Plain.{Table}
+use Rattle.lk_locks.specs.Holders.{IsHolders, is_kept}
+use Rattle.lk_locks.specs.Sharers.{are_clients_above}
+use Rattle.lk_locks.specs.Plain.{Table, Names, empty}
+use Rattle.lk_locks.specs.declared.slot.Holders.{Holders}
+use Rattle.lk_locks.specs.declared.slot.Holders.TheVariants.{Nobody, Alone, Together}
 use Rattle.lk_locks.specs.declared.slot.Slot.{Slot}
 
 -- a name and what stands at it
 abbrev pub Entry : Type 0
 Entry = List ℕ × Slot
 
--- 0 for nobody
-abbrev pub holder_number : Option ℕ → ℕ
-holder_number None = 0
-holder_number (Some client) = client
+-- in a table that was not raised: the holder, 0 for nobody
+abbrev pub holder_number : Holders → ℕ
+holder_number Nobody = 0
+holder_number (Alone client) = client
+holder_number (Together clients) = 0
 
--- the last fence, and then the holder
-abbrev pub slot : Slot → List ℕ
-slot s = eight s.fence ++ two (holder_number s.holder)
+-- in a raised one: the mode, and then who holds the name in it
+abbrev pub mode : Holders → ℕ
+mode Nobody = 0
+mode (Alone client) = 1
+mode (Together clients) = 2
 
-abbrev pub entry : Entry → List ℕ
-entry e = lock_name e.0 ++ slot e.1
+abbrev pub sharers : List ℕ → List ℕ
+sharers clients = one (length clients) ++ flat_map two clients
+
+abbrev pub in_mode : Holders → List ℕ
+in_mode Nobody = []
+in_mode (Alone client) = two client
+in_mode (Together clients) = sharers clients
+
+abbrev pub holders : Bool → Holders → List ℕ
+holders false h = two (holder_number h)
+holders true h = mode h ∷ in_mode h
+
+-- the last fence, and then who holds it
+abbrev pub slot : Bool → Slot → List ℕ
+slot raised s = eight s.fence ++ holders raised s.holders
+
+abbrev pub entry : Bool → Entry → List ℕ
+entry raised e = lock_name e.0 ++ slot raised e.1
 
 -- how many names, and then each with its slot
-abbrev pub packed_table : List Entry → List ℕ
-packed_table es = two (length es) ++ flat_map entry es
+abbrev pub entries : Bool → List Entry → List ℕ
+entries raised es = two (length es) ++ flat_map (entry raised) es
+
+-- ff02: no table has so many names, and so no text of a table that was not raised begins so
+abbrev pub raised_mark : ℕ
+raised_mark = 65282
+
+abbrev pub packed_table : Bool × List Entry → List ℕ
+packed_table (false, es) = entries false es
+packed_table (true, es) = two raised_mark ++ entries true es
 
 -- the names stand in rising order
 unfoldable pub text : Table → List ℕ
-text m = packed_table (map.entries m)
+text t = packed_table (t.raised, map.entries t.names)
 
 -- ---- which tables there are
 
-abbrev pub IsHolder : Option ℕ → Type 0
-IsHolder None = Unit {0}
-IsHolder (Some client) = IsClient client
+-- its parts are in their ranges, and a table of this version knows who holds it
+abbrev pub IsSlotIn : Bool → Slot → Type 0
+IsSlotIn raised s = IsCount s.fence × (IsHolders s.holders × IsTrue (is_kept raised s.holders))
 
 abbrev pub IsSlot : Slot → Type 0
-IsSlot s = IsCount s.fence × IsHolder s.holder
+IsSlot s = IsCount s.fence × IsHolders s.holders
 
-abbrev pub IsTableEntry : Entry → Type 0
-IsTableEntry e = IsName e.0 × IsSlot e.1
+abbrev pub IsTableEntry : Bool → Entry → Type 0
+IsTableEntry raised e = IsName e.0 × IsSlotIn raised e.1
 
--- at most 512 names, each part in its range
-unfoldable pub IsTable : Table → Type 0
-IsTable m = (map.len m ≤ 512) × AllByRecursion IsTableEntry (map.entries m)
+-- at most 512 names
+unfoldable pub AreNames : Bool → Names → Type 0
+AreNames raised m = (map.len m ≤ 512) × AllByRecursion (IsTableEntry raised) (map.entries m)
+
+abbrev pub IsTable : Table → Type 0
+IsTable t = AreNames t.raised t.names
 
 -- the bytes are the text of a table
 abbrev pub IsText : List ℕ → Type 0
-IsText bytes = (m : Table) × IsTable m × (bytes ≡ text m)
+IsText bytes = (t : Table) × IsTable t × (bytes ≡ text t)
 
 -- ---- the same, from the bytes to the table
 
-abbrev pub holder_of : ℕ → Option ℕ
-holder_of number = if number == 0 then None else Some number
+abbrev pub holder_of : ℕ → Holders
+holder_of number = if number == 0 then Nobody else Alone number
 
-unfoldable pub read_holder : List ℕ → Option (Option ℕ × List ℕ)
-read_holder = made holder_of (tested (λ n. nat_le n 256) read_two)
+unfoldable pub read_holder : List ℕ → Option (Holders × List ℕ)
+read_holder = made holder_of (tested (λ n. nat_le n max_client) read_two)
 
-unfoldable pub read_slot : List ℕ → Option (Slot × List ℕ)
-read_slot = made (λ s. record { fence = s.0; holder = s.1 }) (both read_count read_holder)
+unfoldable pub read_sharers : List ℕ → Option (List ℕ × List ℕ)
+read_sharers = tested (are_clients_above 0) (counted (tested (is_from_1_to max_sharers) read_byte) read_client)
 
-unfoldable pub read_entry : List ℕ → Option (Entry × List ℕ)
-read_entry = both read_name read_slot
+unfoldable pub holders_of : ℕ → List ℕ → Option (Holders × List ℕ)
+holders_of = kind 0 (bare Nobody) (kind 1 (made Alone read_client) (kind 2 (made Together read_sharers) no_kind))
+
+abbrev pub read_holders : Bool → List ℕ → Option (Holders × List ℕ)
+read_holders false = read_holder
+read_holders true = tagged holders_of
+
+unfoldable pub read_slot : Bool → List ℕ → Option (Slot × List ℕ)
+read_slot raised = made (λ s. record { fence = s.0; holders = s.1 }) (both read_count (read_holders raised))
+
+unfoldable pub read_entry : Bool → List ℕ → Option (Entry × List ℕ)
+read_entry raised = both read_name (read_slot raised)
 
 unfoldable pub read_size : List ℕ → Option (ℕ × List ℕ)
 read_size = tested (λ n. nat_le n 512) read_two
@@ -78,8 +123,16 @@ read_size = tested (λ n. nat_le n 512) read_two
 abbrev pub rise : List Entry → Bool
 rise es = map.is_sorted (slice_cmp nat_cmp) es
 
-unfoldable pub read_entries : List ℕ → Option (List Entry × List ℕ)
-read_entries = tested rise (counted read_size read_entry)
+unfoldable pub read_entries : Bool → List ℕ → Option (List Entry × List ℕ)
+read_entries raised = tested rise (counted read_size (read_entry raised))
+
+-- the version, and then the names
+abbrev pub read_by : Bool → List ℕ → List ℕ → Option ((Bool × List Entry) × List ℕ)
+read_by true behind bytes = made (λ es. (true, es)) (read_entries true) behind
+read_by false behind bytes = made (λ es. (false, es)) (read_entries false) bytes
+
+unfoldable pub read_table : List ℕ → Option ((Bool × List Entry) × List ℕ)
+read_table bytes = read_two bytes >>= λ n. read_by (n.0 == raised_mark) n.1 bytes
 
 -- nothing was read, or its names do not rise
 abbrev pub DoNotRise : Option (List Entry × List ℕ) → Type 0
@@ -87,10 +140,10 @@ DoNotRise None = Unit {0}
 DoNotRise (Some read) = rise read.0 ≡ false
 
 -- the table that some entries make
-abbrev pub table_of_entries : Option (List Entry) → Table
-table_of_entries (Some es) = map.from_sorted es
-table_of_entries None = map.empty
+abbrev pub table_of_entries : Option (Bool × List Entry) → Table
+table_of_entries (Some v) = record { raised = v.0; names = map.from_sorted v.1 }
+table_of_entries None = empty
 
 -- the table whose text the bytes are; any, where they are none
 unfoldable pub table_in : List ℕ → Table
-table_in bytes = table_of_entries (whole read_entries bytes)
+table_in bytes = table_of_entries (whole read_table bytes)

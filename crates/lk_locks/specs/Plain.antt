@@ -1,114 +1,168 @@
--- The plain table: a finite map from names to their last fence and their holder, and what each body is answered.
-use Rattle.std.specs.Prelude.{◌≡◌, ℕ, ◌+◌, ◌<◌, Bool, false, nat_lt, ◌&&◌, ◌==◌, List, Option, Some, None, is_some, Result, Ok, Err, if◌then◌else◌}
+-- The plain table: a finite map from names to their last fence and who holds them, and what each body is answered.
+use Rattle.std.specs.Prelude.{◌≡◌, ℕ, ◌+◌, ◌<◌, Bool, true, false, nat_lt, ◌&&◌, ◌==◌, List, [], ◌∷◌, length, Option, Some, None, Result, Ok, Err, if◌then◌else◌, refl}
+use Rattle.std.specs.Coded.{Coded, code_by, coded×, coded_bool, coded_ℕ, coded_list}
 use Rattle.std.specs.Ordering.{nat_cmp}
 use Rattle.std.specs.Cmp.Lexicographic.{slice_cmp}
 use Rattle.std.specs.FinMap as map
-use Rattle.lk_types.specs.Limits.{max_count, max_names}
+use Rattle.lk_types.specs.Limits.{max_count, max_names, max_sharers}
 use Rattle.lk_types.specs.declared.answer.Answer.{Answer}
-use Rattle.lk_types.specs.declared.answer.Answer.TheVariants.{Granted, Busy, Released, NotHeld, Free, Held, Valid, Stale, NoRoom, Bad, Spent}
-use Rattle.lk_locks.specs.Bodies.{body_of}
+use Rattle.lk_types.specs.declared.answer.Answer.TheVariants.{Granted, Busy, Released, NotHeld, Free, Held, Valid, Stale, NoRoom, Bad, Spent, Shared, HeldShared, Broken, Raised, AlreadyRaised}
+use Rattle.lk_locks.specs.Bodies.{body_of, name_of, known}
+use Rattle.lk_locks.specs.Holders.{is_held, left_by}
+use Rattle.lk_locks.specs.Sharers.{is_among, with_client, least}
+use Rattle.lk_locks.specs.Slots.{slot_code}
 use Rattle.lk_locks.specs.declared.body.Body.{Body}
-use Rattle.lk_locks.specs.declared.body.Body.TheVariants.{Acquire, Release, Ask, Check}
+use Rattle.lk_locks.specs.declared.body.Body.TheVariants.{Acquire, Release, Ask, Check, Share, Break}
+use Rattle.lk_locks.specs.declared.row.Row.{Row}
+use Rattle.lk_locks.specs.declared.slot.Holders.{Holders}
+use Rattle.lk_locks.specs.declared.slot.Holders.TheVariants.{Nobody, Alone, Together}
 use Rattle.lk_locks.specs.declared.slot.Slot.{Slot}
 
-abbrev pub Table : Type 0
-Table = map.FinMap (slice_cmp nat_cmp) Slot
+abbrev pub Names : Type 0
+Names = map.FinMap (slice_cmp nat_cmp) Slot
 
--- a row of the table: the answer, and what the name then has, where it changes
-pub record Row : Type 0 where
-  pub answer : Answer
-  pub change : Option Slot
+-- the names, and whether the table was raised: so it is of version 2, and else of version 1
+pub record Table : Type 0 where
+  pub raised : Bool
+  pub names : Names
+
+-- a table is stored as the pair of both
+abbrev pub table_code : Coded Table
+table_code = code_by (Bool × Names) (coded× coded_bool (map.code (coded_list coded_ℕ) slot_code)) (λ t. (t.raised, t.names)) (λ p. record { raised = p.0; names = p.1 }) (λ _. refl)
+
+abbrev pub empty : Table
+empty = record { raised = false; names = map.empty }
 
 abbrev pub unchanged : Answer → Row
 unchanged a = record { answer = a; change = None }
 
--- ---- Acquire
+-- ---- Acquire and Share
 
--- a name that stands, by its last fence and its holder: the fence at which it is granted, or why it is not
-abbrev pub granting_again : ℕ → Option ℕ → Result ℕ Answer
-granting_again fence (Some holder) = Err (Busy holder fence)
-granting_again fence None = if nat_lt fence max_count then Ok (fence + 1) else Err Spent
+-- the next fence of a name that nobody holds, or why there is none
+abbrev pub fence_after : ℕ → Result ℕ Answer
+fence_after fence = if nat_lt fence max_count then Ok (fence + 1) else Err Spent
 
--- any name, where so many names stand
-abbrev pub granting : Option Slot → ℕ → Result ℕ Answer
-granting None names = if nat_lt names max_names then Ok 1 else Err NoRoom
-granting (Some s) names = granting_again s.fence s.holder
+-- the fence of a new name, where so many stand
+abbrev pub first_fence : ℕ → Result ℕ Answer
+first_fence names = if nat_lt names max_names then Ok 1 else Err NoRoom
 
--- what is granted is held by the client from then on
-abbrev pub granted_to : ℕ → Result ℕ Answer → Row
-granted_to client (Ok fence) = record { answer = Granted fence; change = Some (record { fence = fence; holder = Some client }) }
-granted_to client (Err refusal) = unchanged refusal
+-- what is given is told so, and held so from then on
+abbrev pub given : (ℕ → Answer) → Holders → Result ℕ Answer → Row
+given told holders (Ok fence) = record { answer = told fence; change = Some (record { fence = fence; holders = holders }) }
+given told holders (Err refusal) = unchanged refusal
+
+abbrev pub acquired_at : ℕ → ℕ → Holders → Row
+acquired_at client fence Nobody = given Granted (Alone client) (fence_after fence)
+acquired_at client fence (Alone holder) = unchanged (Busy holder fence)
+acquired_at client fence (Together clients) = unchanged (Busy (least clients) fence)
 
 abbrev pub acquired : ℕ → Option Slot → ℕ → Row
-acquired client s names = granted_to client (granting s names)
+acquired client None names = given Granted (Alone client) (first_fence names)
+acquired client (Some s) names = acquired_at client s.fence s.holders
 
--- ---- Release
+-- to join those who share the name takes no new fence
+abbrev pub joined : ℕ → ℕ → List ℕ → Row
+joined client fence clients =
+    if is_among client clients then unchanged (Shared fence)
+    else if nat_lt (length clients) max_sharers then record { answer = Shared fence; change = Some (record { fence = fence; holders = Together (with_client client clients) }) }
+    else unchanged (Busy (least clients) fence)
 
-abbrev pub is_held_by : ℕ → Option ℕ → Bool
-is_held_by client None = false
-is_held_by client (Some holder) = holder == client
+abbrev pub shared_at : ℕ → ℕ → Holders → Row
+shared_at client fence Nobody = given Shared (Together (client ∷ [])) (fence_after fence)
+shared_at client fence (Alone holder) = unchanged (Busy holder fence)
+shared_at client fence (Together clients) = joined client fence clients
 
--- free from then on, and the fence stays
+abbrev pub shared : ℕ → Option Slot → ℕ → Row
+shared client None names = given Shared (Together (client ∷ [])) (first_fence names)
+shared client (Some s) names = shared_at client s.fence s.holders
+
+-- ---- Release and Break: the fence stays
+
+abbrev pub left_at : ℕ → Option Holders → Row
+left_at fence None = unchanged NotHeld
+left_at fence (Some holders) = record { answer = Released; change = Some (record { fence = fence; holders = holders }) }
+
 abbrev pub released : ℕ → ℕ → Option Slot → Row
 released client fence None = unchanged NotHeld
-released client fence (Some s) =
-    if is_held_by client s.holder && s.fence == fence then record { answer = Released; change = Some (record { fence = fence; holder = None }) }
-    else unchanged NotHeld
+released client fence (Some s) = if s.fence == fence then left_at fence (left_by client s.holders) else unchanged NotHeld
 
--- ---- Ask
+abbrev pub is_held_at : ℕ → Option Slot → Bool
+is_held_at fence None = false
+is_held_at fence (Some s) = is_held s.holders && s.fence == fence
 
-abbrev pub asked_again : ℕ → Option ℕ → Answer
-asked_again fence (Some holder) = Held holder fence
-asked_again fence None = Free fence
+abbrev pub broken : ℕ → Option Slot → Row
+broken fence s =
+    if is_held_at fence s then record { answer = Broken; change = Some (record { fence = fence; holders = Nobody }) }
+    else unchanged Stale
+
+-- ---- Ask and Check
+
+abbrev pub asked_at : ℕ → Holders → Answer
+asked_at fence Nobody = Free fence
+asked_at fence (Alone holder) = Held holder fence
+asked_at fence (Together clients) = HeldShared (length clients) fence
 
 abbrev pub asked : Option Slot → Answer
 asked None = Free 0
-asked (Some s) = asked_again s.fence s.holder
-
--- ---- Check
+asked (Some s) = asked_at s.fence s.holders
 
 abbrev pub checked : ℕ → Option Slot → Answer
-checked fence None = Stale
-checked fence (Some s) = if is_some s.holder && s.fence == fence then Valid else Stale
+checked fence s = if is_held_at fence s then Valid else Stale
 
 -- ---- all bodies
 
-abbrev pub row : ℕ → Body → Table → Row
-row client (Acquire name) m = acquired client (map.get m name) (map.len m)
-row client (Release name fence) m = released client fence (map.get m name)
-row client (Ask name) m = unchanged (asked (map.get m name))
-row client (Check name fence) m = unchanged (checked fence (map.get m name))
+-- by what the name has, and how many names stand
+abbrev pub row : ℕ → Body → Option Slot → ℕ → Row
+row client (Acquire name) s names = acquired client s names
+row client (Release name fence) s names = released client fence s
+row client (Ask name) s names = unchanged (asked s)
+row client (Check name fence) s names = unchanged (checked fence s)
+row client (Share name) s names = shared client s names
+row client (Break name fence) s names = broken fence s
 
-abbrev pub name_of : Body → List ℕ
-name_of (Acquire name) = name
-name_of (Release name fence) = name
-name_of (Ask name) = name
-name_of (Check name fence) = name
+abbrev pub row_in : ℕ → Body → Names → Row
+row_in client body m = row client body (map.get m (name_of body)) (map.len m)
 
-abbrev pub changed : List ℕ → Option Slot → Table → Table
+abbrev pub changed : List ℕ → Option Slot → Names → Names
 changed name None m = m
 changed name (Some s) m = map.insert m name s
 
-abbrev pub answer_to : ℕ → Option Body → Table → Answer
+abbrev pub answer_to : ℕ → Option Body → Names → Answer
 answer_to client None m = Bad
-answer_to client (Some body) m = (row client body m).answer
+answer_to client (Some body) m = (row_in client body m).answer
 
-abbrev pub next_by : ℕ → Option Body → Table → Table
+abbrev pub next_by : ℕ → Option Body → Names → Names
 next_by client None m = m
-next_by client (Some body) m = changed (name_of body) (row client body m).change m
+next_by client (Some body) m = changed (name_of body) (row_in client body m).change m
 
 -- what a client's bytes are answered
 abbrev pub answer : ℕ → List ℕ → Table → Answer
-answer client bytes m = answer_to client (body_of bytes) m
+answer client bytes t = answer_to client (known t.raised (body_of bytes)) t.names
 
 -- the table after a client's bytes
 abbrev pub next : ℕ → List ℕ → Table → Table
-next client bytes m = next_by client (body_of bytes) m
+next client bytes t = record { raised = t.raised; names = next_by client (known t.raised (body_of bytes)) t.names }
 
--- it acquires a name that is unknown, and there is room for it
-abbrev pub IsNewName : Option Body → Table → Type 0
-IsNewName (Some (Acquire name)) m = (map.get m name ≡ None) × (map.len m < max_names)
+-- ---- Raise
+
+abbrev pub raise_answer : Table → Answer
+raise_answer t = if t.raised then AlreadyRaised else Raised
+
+abbrev pub raised : Table → Table
+raised t = record { raised = true; names = t.names }
+
+-- ---- memory
+
+-- it is unknown, and there is room for it
+abbrev pub HasRoom : List ℕ → Names → Type 0
+HasRoom name m = (map.get m name ≡ None) × (map.len m < max_names)
+
+-- the body brings in a name
+abbrev pub IsNewName : Option Body → Names → Type 0
+IsNewName (Some (Acquire name)) m = HasRoom name m
 IsNewName (Some (Release name fence)) m = ⊥
 IsNewName (Some (Ask name)) m = ⊥
 IsNewName (Some (Check name fence)) m = ⊥
+IsNewName (Some (Share name)) m = HasRoom name m
+IsNewName (Some (Break name fence)) m = ⊥
 IsNewName None m = ⊥

@@ -1,7 +1,7 @@
 ghost use Rattle.std.specs.Prelude.{◌≡◌, ◌≤◌, ◌∷◌, ◌++◌, List, ℕ, length, Some, IfSome};
 ghost use Rattle.lk_wire.specs.Parser.{Finds};
 ghost use Rattle.lk_locks.specs.declared.body.Body.{Body};
-ghost use Rattle.lk_locks.specs.Bodies.{SpellsBody, lock_name, spelling, read_name, read_name_and_fence, fields_of, body_of};
+ghost use Rattle.lk_locks.specs.Bodies.{SpellsBody, lock_name, spelling, read_name, read_name_and_fence, fields_of, body_of, name_of, is_known};
 
 use crate::name::Name;
 use arrayvec::ArrayVec;
@@ -19,6 +19,10 @@ pub enum Body {
     Ask(Name),
     /// Whether the name is held at this fence.
     Check(Name, Fence),
+    /// To hold the name together with others.
+    Share(Name),
+    /// That the name be free again, whoever holds it at this fence.
+    Break(Name, Fence),
 }
 
 /// A name behind its length, from the front of the bytes.
@@ -58,6 +62,13 @@ fn read_fields(kind: u8, bytes: &[u8]) -> Option<(Body, &[u8])>
             };
             Some((Body::Check(name, fence), rest))
         }
+        5 => Some((Body::Share(name), rest)),
+        6 => {
+            let Some((fence, rest)) = read_fence(rest) else {
+                return None;
+            };
+            Some((Body::Break(name, fence), rest))
+        }
         _ => None,
     }
 }
@@ -89,8 +100,8 @@ fn spelled(kind: u8, name: &Name, rest: &[u8]) -> Payload
 }
 
 impl Body {
-    /// The body that the bytes are, or `None` where they are none: a first byte from 1 to 4, the name behind its
-    /// length, and for Release and Check the fence in eight bytes, the greatest first.
+    /// The body that the bytes are, or `None` where they are none: a first byte from 1 to 6, the name behind its
+    /// length, and for Release, Check and Break the fence in eight bytes, the greatest first.
     pub fn read(bytes: &[u8]) -> Option<Body>
         ensures value { result ≡ body_of bytes.now }
         ensures found { IfSome result (λ body. SpellsBody body bytes.now) }
@@ -109,6 +120,32 @@ impl Body {
             Body::Release(name, fence) => spelled(2, name, &fence.get().to_be_bytes()),
             Body::Ask(name) => spelled(3, name, &[]),
             Body::Check(name, fence) => spelled(4, name, &fence.get().to_be_bytes()),
+            Body::Share(name) => spelled(5, name, &[]),
+            Body::Break(name, fence) => spelled(6, name, &fence.get().to_be_bytes()),
+        }
+    }
+
+    /// The name that it is about.
+    pub fn name(&self) -> &Name
+        ensures { result.now ≡ name_of self.now }
+    {
+        match self {
+            Body::Acquire(name)
+            | Body::Release(name, _)
+            | Body::Ask(name)
+            | Body::Check(name, _)
+            | Body::Share(name)
+            | Body::Break(name, _) => name,
+        }
+    }
+
+    /// Whether a table of the first version, or of the second, knows it.
+    pub(crate) fn is_known(&self, raised: bool) -> bool
+        ensures { result ≡ is_known raised self.now }
+    {
+        match self {
+            Body::Share(_) | Body::Break(_, _) => raised,
+            _ => true,
         }
     }
 }

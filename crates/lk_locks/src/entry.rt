@@ -1,52 +1,144 @@
-//! A name and its slot as bytes, read and written.
-ghost use Rattle.std.specs.Prelude.{◌≡◌, ◌++◌, OnOk, OnErr};
-ghost use Rattle.lk_wire.specs.Parser.{Finds};
+//! A name and its slot as bytes, read and written: one way in a table that was raised, another in one that was not.
+ghost use Rattle.std.specs.Prelude.{◌≡◌, ◌<◌, ◌≤◌, [], ◌∷◌, ◌++◌, true, false, length, OnOk, OnErr, IfSome};
+ghost use Rattle.lk_types.specs.Limits.{max_sharers};
+ghost use Rattle.lk_wire.specs.Fields.{two};
+ghost use Rattle.lk_wire.specs.FieldReading.{read_client};
+ghost use Rattle.lk_wire.specs.Parser.{Finds, many, tagged};
 ghost use Rattle.lk_wire.specs.Fronts.{Keeps};
 ghost use Rattle.lk_locks.specs.Bodies.{lock_name};
-ghost use Rattle.lk_locks.specs.Packed.{slot, entry, read_holder, read_slot, read_entry};
+ghost use Rattle.lk_locks.specs.Holders.{is_kept};
+ghost use Rattle.lk_locks.specs.Packed.{holder_number, sharers, holders, slot, entry, read_holder, read_sharers, holders_of, read_holders, read_slot, read_entry};
 
 use crate::body::read_name;
 use crate::name::Name;
-use crate::slot::Slot;
+use crate::sharers::Sharers;
+use crate::slot::{Holders, Slot};
+use arrayvec::ArrayVec;
 use bytes::{BufMut, BytesMut};
 use lk_types::ClientNo;
-use lk_wire::fields::{put_fence, put_u8, put_u16, read_fence, read_u16};
+use lk_types::limits::MAX_SHARERS;
+use lk_wire::fields::{
+    put_client, put_fence, put_u8, put_u16, read_client, read_fence, read_u8, read_u16,
+};
 use std::alloc::AllocError;
 
 /// A client, or nobody where the number is 0.
 #[tactic(auto, unfolding(crate::specs::Packed::read_holder))]
-fn read_holder(bytes: &[u8]) -> Option<(Option<ClientNo>, &[u8])>
-    ensures { Finds (λ x. (x.0, x.1.now)) result (read_holder bytes.now) }
+fn read_holder(bytes: &[u8]) -> Option<(Holders, &[u8])>
+    ensures read { Finds (λ x. (x.0, x.1.now)) result (read_holder bytes.now) }
+    ensures kept { IfSome result (λ x. is_kept false x.0 ≡ true) }
 {
     let (number, rest) = read_u16(bytes)?;
     if number == 0 {
-        return Some((None, rest));
+        return Some((Holders::Nobody, rest));
     }
-    Some((Some(ClientNo::of(number)?), rest))
+    let Some(client) = ClientNo::of(number) else {
+        return None;
+    };
+    Some((Holders::Alone(client), rest))
+}
+
+fn push(clients: &mut ArrayVec<ClientNo, 8>, client: ClientNo)
+    requires { length clients.old.items < max_sharers }
+    ensures { clients.new.items ≡ clients.old.items ++ client ∷ [] }
+{
+    clients.push(client);
+}
+
+fn many_clients(count: u8, bytes: &[u8]) -> Option<(ArrayVec<ClientNo, 8>, &[u8])>
+    requires { count ≤ max_sharers }
+    ensures read { Finds (λ x. (x.0.items, x.1.now)) result (many read_client count bytes.now) }
+    ensures count { IfSome result (λ x. length x.0.items ≡ count) }
+{
+    let mut clients = ArrayVec::new();
+    let mut rest = bytes;
+    for _ in 0..count {
+        let Some(found) = read_client(rest) else {
+            return None;
+        };
+        push(&mut clients, found.0);
+        rest = found.1;
+    }
+    Some((clients, rest))
+}
+
+#[tactic(auto, unfolding(crate::specs::Packed::read_sharers))]
+fn read_sharers(bytes: &[u8]) -> Option<(Sharers, &[u8])>
+    ensures { Finds (λ x. (x.0, x.1.now)) result (read_sharers bytes.now) }
+{
+    let (count, rest) = read_u8(bytes)?;
+    if count < 1 || count > MAX_SHARERS {
+        return None;
+    }
+    let Some((clients, rest)) = many_clients(count, rest) else {
+        return None;
+    };
+    let Some(clients) = Sharers::of(clients) else {
+        return None;
+    };
+    Some((clients, rest))
+}
+
+/// Who holds a name, behind a byte that says in which mode.
+#[tactic(auto, unfolding(crate::specs::Packed::holders_of))]
+fn read_mode(bytes: &[u8]) -> Option<(Holders, &[u8])>
+    ensures read { Finds (λ x. (x.0, x.1.now)) result (tagged holders_of bytes.now) }
+    ensures kept { IfSome result (λ x. is_kept true x.0 ≡ true) }
+{
+    let (mode, rest) = read_u8(bytes)?;
+    match mode {
+        0 => Some((Holders::Nobody, rest)),
+        1 => {
+            let Some((client, rest)) = read_client(rest) else {
+                return None;
+            };
+            Some((Holders::Alone(client), rest))
+        }
+        2 => {
+            let Some((clients, rest)) = read_sharers(rest) else {
+                return None;
+            };
+            Some((Holders::Together(clients), rest))
+        }
+        _ => None,
+    }
+}
+
+fn read_holders(raised: bool, bytes: &[u8]) -> Option<(Holders, &[u8])>
+    ensures read { Finds (λ x. (x.0, x.1.now)) result (read_holders raised bytes.now) }
+    ensures kept { IfSome result (λ x. is_kept raised x.0 ≡ true) }
+{
+    if raised {
+        read_mode(bytes)
+    } else {
+        read_holder(bytes)
+    }
 }
 
 #[tactic(auto, unfolding(crate::specs::Packed::read_slot))]
-fn read_slot(bytes: &[u8]) -> Option<(Slot, &[u8])>
-    ensures { Finds (λ x. (x.0, x.1.now)) result (read_slot bytes.now) }
+fn read_slot(raised: bool, bytes: &[u8]) -> Option<(Slot, &[u8])>
+    ensures read { Finds (λ x. (x.0, x.1.now)) result (read_slot raised bytes.now) }
+    ensures kept { IfSome result (λ x. is_kept raised x.0.holders ≡ true) }
 {
     let Some((fence, rest)) = read_fence(bytes) else {
         return None;
     };
-    let Some((holder, rest)) = read_holder(rest) else {
+    let Some((holders, rest)) = read_holders(raised, rest) else {
         return None;
     };
-    Some((Slot { fence, holder }, rest))
+    Some((Slot { fence, holders }, rest))
 }
 
 /// A name and its slot from the front of the bytes.
 #[tactic(auto, unfolding(crate::specs::Packed::read_entry))]
-pub fn read_entry(bytes: &[u8]) -> Option<(Name, Slot, &[u8])>
-    ensures { Finds (λ x. ((x.0, x.1), x.2.now)) result (read_entry bytes.now) }
+pub fn read_entry(raised: bool, bytes: &[u8]) -> Option<(Name, Slot, &[u8])>
+    ensures read { Finds (λ x. ((x.0, x.1), x.2.now)) result (read_entry raised bytes.now) }
+    ensures kept { IfSome result (λ x. is_kept raised x.1.holders ≡ true) }
 {
     let Some((name, rest)) = read_name(bytes) else {
         return None;
     };
-    let Some((slot, rest)) = read_slot(rest) else {
+    let Some((slot, rest)) = read_slot(raised, rest) else {
         return None;
     };
     Some((name, slot, rest))
@@ -63,27 +155,86 @@ fn put_name(out: &mut BytesMut, name: &Name) -> Result<(), AllocError>
     Ok(())
 }
 
-#[tactic(auto, using(lk_wire::proofs::Spellings::keeps_same, lk_wire::proofs::Spellings::keeps_behind))]
-fn put_slot(out: &mut BytesMut, value: Slot) -> Result<(), AllocError>
-    ensures ok { OnOk result (out.new.items ≡ out.old.items ++ slot value) }
+/// The holder in two bytes, 0 for nobody.
+#[tactic(auto, using(lk_wire::proofs::Spellings::keeps_same))]
+fn put_holder(out: &mut BytesMut, value: &Holders) -> Result<(), AllocError>
+    ensures ok { OnOk result (out.new.items ≡ out.old.items ++ two (holder_number value.now)) }
     ensures err { OnErr result (Keeps out.old.items out.new.items) }
 {
-    let holder = match value.holder {
-        Some(client) => client.get(),
-        None => 0,
+    let number = match value {
+        Holders::Alone(client) => client.get(),
+        Holders::Nobody | Holders::Together(_) => 0,
     };
+    put_u16(out, number)?;
+    Ok(())
+}
+
+#[tactic(auto, using(lk_wire::proofs::Spellings::keeps_same, lk_wire::proofs::Spellings::keeps_behind))]
+fn put_sharers(out: &mut BytesMut, value: &Sharers) -> Result<(), AllocError>
+    ensures ok { OnOk result (out.new.items ≡ out.old.items ++ sharers value.now) }
+    ensures err { OnErr result (Keeps out.old.items out.new.items) }
+{
+    let clients = value.as_slice();
+    put_u8(out, clients.len() as u8)?;
+    for client in clients {
+        put_client(out, *client)?;
+    }
+    Ok(())
+}
+
+/// The mode, and then who holds the name in it.
+#[tactic(auto, using(lk_wire::proofs::Spellings::keeps_same, lk_wire::proofs::Spellings::keeps_behind))]
+fn put_mode(out: &mut BytesMut, value: &Holders) -> Result<(), AllocError>
+    ensures ok { OnOk result (out.new.items ≡ out.old.items ++ holders true value.now) }
+    ensures err { OnErr result (Keeps out.old.items out.new.items) }
+{
+    match value {
+        Holders::Nobody => put_u8(out, 0)?,
+        Holders::Alone(client) => {
+            put_u8(out, 1)?;
+            put_client(out, *client)?;
+        }
+        Holders::Together(clients) => {
+            put_u8(out, 2)?;
+            put_sharers(out, clients)?;
+        }
+    }
+    Ok(())
+}
+
+fn put_holders(out: &mut BytesMut, raised: bool, value: &Holders) -> Result<(), AllocError>
+    ensures ok { OnOk result (out.new.items ≡ out.old.items ++ holders raised value.now) }
+    ensures err { OnErr result (Keeps out.old.items out.new.items) }
+{
+    if raised {
+        put_mode(out, value)
+    } else {
+        put_holder(out, value)
+    }
+}
+
+#[tactic(auto, using(lk_wire::proofs::Spellings::keeps_same, lk_wire::proofs::Spellings::keeps_behind))]
+fn put_slot(out: &mut BytesMut, raised: bool, value: &Slot) -> Result<(), AllocError>
+    ensures ok { OnOk result (out.new.items ≡ out.old.items ++ slot raised value.now) }
+    ensures err { OnErr result (Keeps out.old.items out.new.items) }
+{
     put_fence(out, value.fence)?;
-    put_u16(out, holder)?;
+    put_holders(out, raised, &value.holders)?;
     Ok(())
 }
 
 /// Writes a name and its slot. Where memory is refused, a beginning of the two may stand behind what stood.
 #[tactic(auto, using(lk_wire::proofs::Spellings::keeps_same, lk_wire::proofs::Spellings::keeps_behind))]
-pub fn put_entry(out: &mut BytesMut, name: &Name, value: Slot) -> Result<(), AllocError>
-    ensures ok { OnOk result (out.new.items ≡ out.old.items ++ entry (name.now, value)) }
+pub fn put_entry(
+    out: &mut BytesMut,
+    raised: bool,
+    name: &Name,
+    value: &Slot,
+) -> Result<(), AllocError>
+    ensures ok { OnOk result (out.new.items ≡ out.old.items ++ entry raised (name.now, value.now)) }
     ensures err { OnErr result (Keeps out.old.items out.new.items) }
 {
     put_name(out, name)?;
-    put_slot(out, value)?;
+    put_slot(out, raised, value)?;
     Ok(())
 }

@@ -1,27 +1,32 @@
 //! Laws of the definitions alone.
-ghost use Rattle.std.specs.Prelude.{◌≡◌, ◌≤◌, ◌↔◌, ◌⊎◌, ◌∷◌, ◌++◌, List, [], ℕ, Some, length, IsTrue};
+ghost use Rattle.std.specs.Prelude.{◌≡◌, ◌≤◌, ◌↔◌, ◌⊎◌, ◌∷◌, ◌++◌, List, [], ℕ, Some, length, true, IsTrue};
 ghost use Rattle.std.specs.List.{AllByRecursion};
 ghost use Rattle.std.specs.FinMap as map;
-ghost use Rattle.lk_types.specs.declared.answer.Answer.TheVariants.{Granted, Valid, Stale};
+ghost use Rattle.lk_types.specs.declared.answer.Answer.TheVariants.{Valid, Stale};
 ghost use Rattle.lk_types.specs.declared.command.Op.TheVariants.{Table as TableOp};
 ghost use Rattle.lk_types.specs.Commands.{IsCommand};
 ghost use Rattle.lk_members.specs.Counting.{Command, RequestValue, Request, counted};
 ghost use Rattle.lk_state.specs.States.{text_of};
 ghost use Rattle.lk_locks.specs.declared.body.Body.{Body};
-ghost use Rattle.lk_locks.specs.declared.body.Body.TheVariants.{Acquire, Check};
-ghost use Rattle.lk_locks.specs.Bodies.{SpellsBody, body_of};
-ghost use Rattle.lk_locks.specs.Plain.{Table, name_of, answer};
+ghost use Rattle.lk_locks.specs.declared.body.Body.TheVariants.{Check, Break};
+ghost use Rattle.lk_locks.specs.declared.slot.Holders.{Holders};
+ghost use Rattle.lk_locks.specs.declared.slot.Holders.TheVariants.{Nobody};
+ghost use Rattle.lk_locks.specs.Bodies.{SpellsBody, body_of, name_of};
+ghost use Rattle.lk_locks.specs.Holders.{is_held};
+ghost use Rattle.lk_state.specs.Meanings.{Task};
+ghost use Rattle.lk_locks.specs.Plain.{Table, answer, next};
 ghost use Rattle.lk_locks.specs.Packed.{IsTable, IsText, text, table_in};
-ghost use Rattle.lk_locks.specs.Grants.{Call, is_for, grants, grants_in, numbers_from};
-ghost use Rattle.lk_locks.specs.Meaning.{table_meaning};
+ghost use Rattle.lk_locks.specs.Grants.{Call, is_for, fences, fences_in, grants, grants_in, numbers_from};
+ghost use Rattle.lk_locks.specs.Meaning.{table_meaning, task_answer};
 ghost use Rattle.lk_locks.specs.Lists.{table_of};
 
-/// Over any list of commands, the fences that a name is granted are 1, 2, 3 and so on.
+/// Over any list of commands, the fences at which a name is given, alone or to share, are 1, 2, 3 and so on. To share it
+/// with those who do takes no new one.
 pub fn fences_count_up()
     ensures { (name : List ℕ) (L : List Command) → grants_in name L ≡ numbers_from 1 (length (grants_in name L)) }
 {}
 
-/// Over any calls of clients, the fences that a name is granted are 1, 2, 3 and so on.
+/// Over any calls of clients, the fences at which a name is given are 1, 2, 3 and so on.
 pub fn fences_of_calls_count_up()
     ensures { (name : List ℕ) (calls : List Call) → grants name calls ≡ numbers_from 1 (length (grants name calls)) }
 {}
@@ -33,12 +38,12 @@ pub fn one_body()
 
 /// A table is the one of its text, so no two tables have one text.
 pub fn one_table()
-    ensures { (m : Table) → IsTable m → table_in (text m) ≡ m }
+    ensures { (t : Table) → IsTable t → table_in (text t) ≡ t }
 {}
 
-/// The text of a table has at most 22,018 bytes: 2, and for each of 512 names 43.
+/// The text of a table has at most 30,212 bytes: 4, and for each of 512 names 59.
 pub fn short_texts()
-    ensures { (bytes : List ℕ) → IsText bytes → length bytes ≤ 22018 }
+    ensures { (bytes : List ℕ) → IsText bytes → length bytes ≤ 30212 }
 {}
 
 /// The text that the table has as a machine, once a list was run, is that of the plain table behind the list.
@@ -48,7 +53,7 @@ pub fn texts_are_of_tables()
 
 /// What the machine answers behind a list is what the plain table behind the list answers.
 pub fn answers_are_plain()
-    ensures { (L : List Command) → AllByRecursion IsCommand L → (client : ℕ) (body : List ℕ) → table_meaning.answer client body (text_of table_meaning L) ≡ answer client body (table_of L) }
+    ensures { (L : List Command) → AllByRecursion IsCommand L → (client : ℕ) (task : Task) → table_meaning.answer client task (text_of table_meaning L) ≡ task_answer client task (table_of L) }
 {}
 
 /// A body is for a name exactly where that is the name in it.
@@ -56,12 +61,17 @@ pub fn bodies_are_for_their_names()
     ensures { (name : List ℕ) (body : Body) → IsTrue (is_for name (Some body)) ↔ (name_of body ≡ name) }
 {}
 
-/// An entry that counts and is granted a name adds its fence to those of the name.
-pub fn each_grant_is_listed()
-    ensures { (name : List ℕ) (L : List Command) (r : RequestValue) (body : List ℕ) (fence : ℕ) → counted L (Request r) ≡ Some r → r.op ≡ TableOp body → body_of body ≡ Some (Acquire name) → answer r.client body (table_of L) ≡ Granted fence → grants_in name (L ++ Request r ∷ []) ≡ grants_in name L ++ fence ∷ [] }
+/// An entry that counts and is given a name, alone or to share, adds its fence to those of the name.
+pub fn each_fence_is_listed()
+    ensures { (name : List ℕ) (L : List Command) (r : RequestValue) (bytes : List ℕ) (body : Body) (fence : ℕ) → counted L (Request r) ≡ Some r → r.op ≡ TableOp bytes → body_of bytes ≡ Some body → name_of body ≡ name → fences (answer r.client bytes (table_of L)) ≡ fence ∷ [] → fences_in name (L ++ Request r ∷ []) ≡ fences_in name L ++ fence ∷ [] }
 {}
 
-/// A Check is valid exactly where somebody holds the name at its fence, and else stale: also where the name is free.
+/// A Check is valid exactly where the name is held at its fence, alone or together, and else stale.
 pub fn checks_tell_who_holds()
-    ensures { (client : ℕ) (bytes name : List ℕ) (fence : ℕ) (m : Table) → body_of bytes ≡ Some (Check name fence) → ((answer client bytes m ≡ Valid) ↔ ((holder : ℕ) × (map.get m name ≡ Some (record { fence = fence; holder = Some holder })))) × ((answer client bytes m ≡ Valid) ⊎ (answer client bytes m ≡ Stale)) }
+    ensures { (client : ℕ) (bytes name : List ℕ) (fence : ℕ) (t : Table) → body_of bytes ≡ Some (Check name fence) → ((answer client bytes t ≡ Valid) ↔ ((holders : Holders) × (is_held holders ≡ true) × (map.get t.names name ≡ Some (record { fence = fence; holders = holders })))) × ((answer client bytes t ≡ Valid) ⊎ (answer client bytes t ≡ Stale)) }
+{}
+
+/// A Break at the fence at which a name is held frees it of all who hold it, and the fence stays.
+pub fn breaks_free_all()
+    ensures { (client : ℕ) (bytes name : List ℕ) (fence : ℕ) (t : Table) (holders : Holders) → t.raised ≡ true → body_of bytes ≡ Some (Break name fence) → is_held holders ≡ true → map.get t.names name ≡ Some (record { fence = fence; holders = holders }) → map.get (next client bytes t).names name ≡ Some (record { fence = fence; holders = Nobody }) }
 {}

@@ -6,10 +6,14 @@ mod entry;
 pub mod laws;
 mod machine;
 mod name;
+mod row;
+mod rows;
+mod sharers;
 mod slot;
 mod table;
 
 pub use body::Body;
 pub use name::Name;
-pub use slot::Slot;
+pub use sharers::Sharers;
+pub use slot::{Holders, Slot};
 pub use table::LockTable;

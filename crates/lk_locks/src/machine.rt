@@ -3,10 +3,11 @@ ghost use Rattle.std.specs.Prelude.{◌≡◌, ◌≤◌, ◌++◌, ℕ, List, l
 ghost use Rattle.std.specs.FinMap as map;
 ghost use Rattle.lk_types.specs.Limits.{max_names};
 ghost use Rattle.lk_wire.specs.Parser.{many, whole};
-ghost use Rattle.lk_locks.specs.Packed.{read_entry, read_entries, DoNotRise};
+ghost use Rattle.lk_locks.specs.Packed.{read_entry, read_entries, read_table, DoNotRise};
+ghost use Rattle.lk_locks.specs.PackedLaws.{parts_of};
 
 use crate::entry::read_entry;
-use crate::table::LockTable;
+use crate::table::{LockTable, RAISED_MARK};
 use bytes::BytesMut;
 use lk_state::{Machine, UnpackFault};
 use lk_types::limits::MAX_NAMES;
@@ -15,15 +16,21 @@ use lk_wire::fields::read_u16;
 use std::alloc::Global;
 
 /// The table of so many names with their slots, from the front of the bytes. The names have to rise.
-fn read_entries(alloc: Global, count: u16, bytes: &[u8]) -> Result<(LockTable, &[u8]), UnpackFault>
+fn read_entries(
+    alloc: Global,
+    raised: bool,
+    count: u16,
+    bytes: &[u8],
+) -> Result<(LockTable, &[u8]), UnpackFault>
     requires { count ≤ max_names }
-    ensures ok { IfOk result (λ x. many read_entry count bytes.now ≡ Some (map.entries x.0, x.1.now)) }
-    ensures not_packed { IsErrOf result UnpackFault.NotPacked → DoNotRise (many read_entry count bytes.now) }
+    ensures ok { IfOk result (λ x. many (read_entry raised) count bytes.now ≡ Some (map.entries x.0.names, x.1.now)) }
+    ensures version { IfOk result (λ x. x.0.raised ≡ raised) }
+    ensures not_packed { IsErrOf result UnpackFault.NotPacked → DoNotRise (many (read_entry raised) count bytes.now) }
 {
-    let mut table = LockTable::new(alloc);
+    let mut table = LockTable::new(alloc, raised);
     let mut rest = bytes;
     for _ in 0..count {
-        let Some((name, slot, after)) = read_entry(rest) else {
+        let Some((name, slot, after)) = read_entry(raised, rest) else {
             return Err(UnpackFault::NotPacked);
         };
         table.push(name, slot)?;
@@ -32,11 +39,12 @@ fn read_entries(alloc: Global, count: u16, bytes: &[u8]) -> Result<(LockTable, &
     Ok((table, rest))
 }
 
-/// The table that all of the bytes are.
+/// The names that all of the bytes are.
 #[tactic(auto, using(crate::proofs::TableLaws::read_is), unfolding(crate::specs::Packed::read_entries, crate::specs::Packed::read_size))]
-fn read_table(alloc: Global, bytes: &[u8]) -> Result<LockTable, UnpackFault>
-    ensures ok { IfOk result (λ t. whole read_entries bytes.now ≡ Some (map.entries t)) }
-    ensures not_packed { IsErrOf result UnpackFault.NotPacked → whole read_entries bytes.now ≡ None }
+fn read_names(alloc: Global, raised: bool, bytes: &[u8]) -> Result<LockTable, UnpackFault>
+    ensures ok { IfOk result (λ t. whole (read_entries raised) bytes.now ≡ Some (map.entries t.names)) }
+    ensures version { IfOk result (λ t. t.raised ≡ raised) }
+    ensures not_packed { IsErrOf result UnpackFault.NotPacked → whole (read_entries raised) bytes.now ≡ None }
 {
     let Some((count, rest)) = read_u16(bytes) else {
         return Err(UnpackFault::NotPacked);
@@ -44,18 +52,35 @@ fn read_table(alloc: Global, bytes: &[u8]) -> Result<LockTable, UnpackFault>
     if usize::from(count) > MAX_NAMES {
         return Err(UnpackFault::NotPacked);
     }
-    let (table, rest) = read_entries(alloc, count, rest)?;
+    let (table, rest) = read_entries(alloc, raised, count, rest)?;
     if !rest.is_empty() {
         return Err(UnpackFault::NotPacked);
     }
     Ok(table)
 }
 
+/// The table that all of the bytes are.
+#[tactic(auto, unfolding(crate::specs::Packed::read_table))]
+fn read_table(alloc: Global, bytes: &[u8]) -> Result<LockTable, UnpackFault>
+    ensures ok { IfOk result (λ t. whole read_table bytes.now ≡ Some (parts_of t)) }
+    ensures not_packed { IsErrOf result UnpackFault.NotPacked → whole read_table bytes.now ≡ None }
+{
+    let Some((mark, rest)) = read_u16(bytes) else {
+        return Err(UnpackFault::NotPacked);
+    };
+    if mark == RAISED_MARK {
+        return read_names(alloc, true, rest);
+    }
+    read_names(alloc, false, bytes)
+}
+
 impl Machine for LockTable {
-    ghost use Rattle.lk_locks.specs.Bodies.{body_of};
+    ghost use Rattle.std.specs.Prelude.{ℕ};
+    ghost use Rattle.lk_locks.specs.Bodies.{body_of, known};
     ghost use Rattle.lk_locks.specs.Plain.{IsNewName};
     ghost use Rattle.lk_locks.specs.Packed.{text as table_text, IsText as IsTableText};
     ghost use Rattle.lk_locks.specs.Meaning.{table_meaning};
+    ghost use Rattle.lk_state.specs.Meanings.{Body};
     ghost use Rattle.lk_locks.specs.PackedLaws.{empty_is_text, at_most_36000};
     ghost use Rattle.lk_locks.specs.NextLaws.{next_is_text, answer_is_answer};
 
@@ -71,21 +96,28 @@ impl Machine for LockTable {
 
     /// The table that knows no name.
     fn begin(alloc: Global) -> Self {
-        LockTable::new(alloc)
+        LockTable::new(alloc, false)
     }
 
     /// Answers what a client asks, and does it: `run`, seen by the packed texts.
     fn apply(&mut self, client: ClientNo, body: &[u8]) -> Result<Answer, NoMemory>
-        ensures ok { OnOk result (table_text self.new ≡ table_meaning.next client body.now (table_text self.old)) }
-        ensures answer { IfOk result (λ a. a ≡ table_meaning.answer client body.now (table_text self.old)) }
+        ensures ok { OnOk result (table_text self.new ≡ table_meaning.next client (Body body.now) (table_text self.old)) }
+        ensures answer { IfOk result (λ a. a ≡ table_meaning.answer client (Body body.now) (table_text self.old)) }
         ensures err { OnErr result (table_text self.new ≡ table_text self.old) }
-        ensures memory { OnErr result (IsNewName (body_of body.now) self.old) }
+        ensures memory { OnErr result (IsNewName (known self.old.raised (body_of body.now)) self.old.names) }
     {
         self.facts();
         self.run(client, body)
     }
 
-    /// Adds how many names stand, and then in rising order each name with its last fence and its holder.
+    /// Raises the table.
+    fn raise(&mut self) -> Answer {
+        self.facts();
+        self.raise_it()
+    }
+
+    /// Adds how many names stand, and then in rising order each name with its last fence and who holds it; behind a mark
+    /// where the table was raised.
     fn pack(&self, out: &mut BytesMut) -> Result<(), NoMemory> {
         let stood = out.len();
         if self.put(out).is_err() {

@@ -60,6 +60,14 @@ impl Name {
         self.bytes.as_slice()
     }
 
+    /// The same name. It takes no memory.
+    pub fn copy(&self) -> Name
+        ensures { result ≡ self.now }
+    {
+        let bytes = self.bytes.clone().unwrap();
+        Name { bytes }
+    }
+
     /// It is a name. It does nothing.
     pub(crate) fn facts(&self)
         ensures { IsName self.now }

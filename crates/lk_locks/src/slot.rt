@@ -1,15 +1,95 @@
 ghost use Rattle.std.specs.Prelude.{◌≡◌};
+ghost use Rattle.lk_locks.specs.Holders.{is_held, held_by, left_by, IsHolders};
+ghost use Rattle.lk_locks.specs.Sharers.{without};
 ghost use Rattle.lk_locks.specs.Packed.{IsSlot};
-ghost use Rattle.lk_locks.specs.Plain.{granting, asked, checked};
 
-use lk_types::limits::MAX_NAMES;
-use lk_types::{Answer, ClientNo, Fence, LastFence};
+use crate::sharers::Sharers;
+use lk_types::{ClientNo, Fence};
 
-/// The last fence of a name, and who holds it, if anyone does.
-#[derive(Clone, Copy, Debug, PartialEq, Eq)]
+/// Who holds a name: a set of clients with a mode.
+#[derive(Debug, PartialEq, Eq, Drop)]
+pub enum Holders {
+    Nobody,
+    /// That client, and no other may.
+    Alone(ClientNo),
+    /// These clients, and others may join them.
+    Together(Sharers),
+}
+
+/// The last fence of a name, and who holds it.
+#[derive(Debug, PartialEq, Eq, Drop)]
 pub struct Slot {
     pub fence: Fence,
-    pub holder: Option<ClientNo>,
+    pub holders: Holders,
+}
+
+/// Who still shares the name once the client has left.
+fn held_without(clients: &Sharers, client: ClientNo) -> Holders
+    ensures { result ≡ held_by (without client clients.now) }
+{
+    match clients.without(client) {
+        Some(left) => Holders::Together(left),
+        None => Holders::Nobody,
+    }
+}
+
+impl Holders {
+    /// Each part is in its range. It does nothing.
+    pub(crate) fn facts(&self)
+        ensures { IsHolders self.now }
+    {
+        match self {
+            Holders::Nobody => {}
+            Holders::Alone(client) => {
+                let _ = client.get();
+            }
+            Holders::Together(clients) => {
+                let _ = clients.as_slice();
+            }
+        }
+    }
+
+    /// The same holders.
+    pub fn copy(&self) -> Holders
+        ensures { result ≡ self.now }
+    {
+        match self {
+            Holders::Nobody => Holders::Nobody,
+            Holders::Alone(client) => Holders::Alone(*client),
+            Holders::Together(clients) => Holders::Together(clients.copy()),
+        }
+    }
+
+    /// Whether anyone holds the name.
+    pub fn is_held(&self) -> bool
+        ensures { result ≡ is_held self.now }
+    {
+        match self {
+            Holders::Nobody => false,
+            Holders::Alone(_) | Holders::Together(_) => true,
+        }
+    }
+
+    /// Who holds the name once the client has left, or `None` where it holds it not.
+    pub fn left_by(&self, client: ClientNo) -> Option<Holders>
+        ensures { result ≡ left_by client self.now }
+    {
+        match self {
+            Holders::Nobody => None,
+            Holders::Alone(holder) => {
+                if *holder != client {
+                    return None;
+                }
+                Some(Holders::Nobody)
+            }
+            Holders::Together(clients) => {
+                if !clients.has(client) {
+                    return None;
+                }
+                Some(held_without(clients, client))
+            }
+        }
+    }
 }
 
 impl Slot {
@@ -18,45 +98,16 @@ impl Slot {
         ensures { IsSlot self.now }
     {
         let _ = self.fence.get();
-        if let Some(holder) = self.holder {
-            let _ = holder.get();
+        self.holders.facts();
+    }
+
+    /// The same slot.
+    pub fn copy(&self) -> Slot
+        ensures { result ≡ self.now }
+    {
+        Slot {
+            fence: self.fence,
+            holders: self.holders.copy(),
         }
-    }
-}
-
-/// The fence at which a name is granted, or why it is not.
-pub fn grant(slot: Option<Slot>, names: usize) -> Result<Fence, Answer>
-    ensures { result ≡ granting slot names }
-{
-    match slot {
-        None if names >= MAX_NAMES => Err(Answer::NoRoom),
-        None => Ok(Fence::default()),
-        Some(slot) => match slot.holder {
-            Some(holder) => Err(Answer::Busy(holder, slot.fence)),
-            None => Fence::of(slot.fence.get() + 1).ok_or(Answer::Spent),
-        },
-    }
-}
-
-/// Who holds a name.
-pub fn ask(slot: Option<Slot>) -> Answer
-    ensures { result ≡ asked slot }
-{
-    match slot {
-        None => Answer::Free(LastFence::default()),
-        Some(slot) => match slot.holder {
-            Some(holder) => Answer::Held(holder, slot.fence),
-            None => Answer::Free(LastFence::of(slot.fence.get()).unwrap()),
-        },
-    }
-}
-
-/// Whether a name is held at that fence, by anyone.
-pub fn check(slot: Option<Slot>, fence: Fence) -> Answer
-    ensures { result ≡ checked fence slot }
-{
-    match slot {
-        Some(slot) if slot.holder.is_some() && slot.fence == fence => Answer::Valid,
-        _ => Answer::Stale,
     }
 }

@@ -1,29 +1,37 @@
-ghost use Rattle.std.specs.Prelude.{◌≡◌, ◌<◌, ◌≤◌, OnOk, OnErr, IfOk, IsErrOf, List, [], ◌∷◌, ◌++◌, ℕ, None, false};
+ghost use Rattle.std.specs.Prelude.{◌≡◌, ◌<◌, ◌≤◌, OnOk, OnErr, IfOk, IsErrOf, List, [], ◌∷◌, ◌++◌, ℕ, Some, None, true, false};
 ghost use Rattle.std.specs.Ordering.{nat_cmp};
 ghost use Rattle.std.specs.Cmp.Lexicographic.{slice_cmp};
 ghost use Rattle.std.specs.FinMap as map;
 ghost use Rattle.lk_types.specs.Limits.{max_names};
-ghost use Rattle.lk_locks.specs.Bodies.{body_of};
-ghost use Rattle.lk_locks.specs.Packed.{IsTable, rise, text};
+ghost use Rattle.lk_locks.specs.Bodies.{body_of, is_known, known};
+ghost use Rattle.lk_locks.specs.Holders.{is_kept};
+ghost use Rattle.lk_locks.specs.Packed.{IsTable, rise, entries, text};
 ghost use Rattle.lk_locks.specs.declared.slot.Slot.{Slot};
 ghost use Rattle.lk_wire.specs.Fronts.{Keeps};
-ghost use Rattle.lk_locks.specs.Plain.{acquired, released, changed, answer, next, IsNewName};
+ghost use Rattle.lk_locks.specs.Plain.{row_in, next_by, answer, next, raise_answer, raised, IsNewName};
 
 use crate::body::Body;
 use crate::entry::put_entry;
 use crate::name::Name;
-use crate::slot::{Slot, ask, check, grant};
+use crate::row::Row;
+use crate::rows::row;
+use crate::slot::Slot;
 use bytes::BytesMut;
 use lk_state::UnpackFault;
-use lk_types::{Answer, ClientNo, Fence, NoMemory};
+use lk_types::{Answer, ClientNo, NoMemory};
 use lk_wire::fields::put_u16;
 use std::alloc::{AllocError, Global};
 use std::collections::BTreeMap;
 use std::marker::Model;
 
-/// Up to max_names names, each with its last fence and its holder. A name never leaves.
+/// What a packed table that was raised begins with: no table has so many names.
+pub(crate) const RAISED_MARK: u16 = 0xff02;
+
+/// Up to max_names names, each with its last fence and who holds it. A name never leaves. A table that was raised knows
+/// of shared names and of breaking, and packs in another way.
 #[derive(Drop)]
 pub struct LockTable {
+    raised: bool,
     slots: BTreeMap<Name, Slot>,
 }
 
@@ -32,34 +40,33 @@ impl Model for LockTable {
     ghost use Rattle.std.specs.Ordering.{nat_cmp};
     ghost use Rattle.std.specs.Cmp.Lexicographic.{slice_cmp};
     ghost use Rattle.std.specs.FinMap as map;
-    ghost use Rattle.std.specs.Coded.{coded_ℕ, coded_list};
-    ghost use Rattle.lk_locks.specs.declared.slot.Slot.{Slot};
-    ghost use Rattle.lk_locks.specs.Slots.{slot_code};
+    ghost use Rattle.lk_locks.specs.Plain.{Table, table_code};
     ghost use Rattle.std.specs.BTreeMap.{IsOrdered};
     ghost use Rattle.lk_locks.specs.Packed.{IsTable};
 
-    ghost Value = { map.FinMap (slice_cmp nat_cmp) Slot };
+    ghost Value = { Table };
 
-    ghost coded = { map.code (coded_list coded_ℕ) slot_code };
+    ghost coded = { table_code };
 
-    ghost view = { λ t. map.from_entries t.slots.entries };
+    ghost view = { λ t. record { raised = t.raised; names = map.from_entries t.slots.entries } };
 
-    ghost invariant = { λ t. IsOrdered (slice_cmp nat_cmp) t.slots × IsTable (map.from_entries t.slots.entries) };
+    ghost invariant = { λ t. IsOrdered (slice_cmp nat_cmp) t.slots × IsTable (record { raised = t.raised; names = map.from_entries t.slots.entries }) };
 }
 
 impl LockTable {
-    /// The table that knows no name. It takes no memory yet.
-    pub fn new(alloc: Global) -> LockTable
-        ensures { result ≡ map.empty }
+    /// The table that knows no name, of the first version or of the second. It takes no memory yet.
+    pub fn new(alloc: Global, raised: bool) -> LockTable
+        ensures { result ≡ record { raised = raised; names = map.empty } }
     {
         LockTable {
+            raised,
             slots: BTreeMap::new(alloc),
         }
     }
 
     /// How many names stand.
     fn len(&self) -> usize
-        ensures len { result ≡ map.len self.now }
+        ensures len { result ≡ map.len self.now.names }
         ensures short { result ≤ max_names }
     {
         self.slots.len()
@@ -73,17 +80,21 @@ impl LockTable {
     }
 
     fn slot(&self, name: &Name) -> Option<Slot>
-        ensures { result ≡ map.get self.now name.now }
+        ensures { result ≡ map.get self.now.names name.now }
     {
-        self.slots.get(name).copied()
+        match self.slots.get(name) {
+            Some(slot) => Some(slot.copy()),
+            None => None,
+        }
     }
 
     /// Gives a name that slot. For a name that stands it takes no memory.
     fn set(&mut self, name: Name, slot: Slot) -> Result<(), NoMemory>
-        requires { map.get self.old name ≡ None → map.len self.old < max_names }
-        ensures ok { OnOk result (self.new ≡ map.insert self.old name slot) }
+        requires kept { is_kept self.old.raised slot.holders ≡ true }
+        requires room { map.get self.old.names name ≡ None → map.len self.old.names < max_names }
+        ensures ok { OnOk result (self.new ≡ record { raised = self.old.raised; names = map.insert self.old.names name slot }) }
         ensures err { OnErr result (self.new ≡ self.old) }
-        ensures absent { OnErr result (map.get self.old name ≡ None) }
+        ensures absent { OnErr result (map.get self.old.names name ≡ None) }
     {
         name.facts();
         slot.facts();
@@ -93,7 +104,7 @@ impl LockTable {
 
     /// Whether all names that stand are below this one.
     fn is_below(&self, name: &Name) -> bool
-        ensures { (s : Slot) → result ≡ rise (map.entries self.now ++ (name.now, s) ∷ []) }
+        ensures { (s : Slot) → result ≡ rise (map.entries self.now.names ++ (name.now, s) ∷ []) }
     {
         match self.slots.iter().next_back() {
             Some((last, _)) => last.cmp(name).is_lt(),
@@ -103,9 +114,11 @@ impl LockTable {
 
     /// Adds a name above all that stand, where there is room.
     pub(crate) fn push(&mut self, name: Name, slot: Slot) -> Result<(), UnpackFault>
-        requires { map.len self.old < max_names }
-        ensures ok { OnOk result (map.entries self.new ≡ map.entries self.old ++ (name, slot) ∷ []) }
-        ensures not_packed { IsErrOf result UnpackFault.NotPacked → rise (map.entries self.old ++ (name, slot) ∷ []) ≡ false }
+        requires room { map.len self.old.names < max_names }
+        requires kept { is_kept self.old.raised slot.holders ≡ true }
+        ensures ok { OnOk result (map.entries self.new.names ≡ map.entries self.old.names ++ (name, slot) ∷ []) }
+        ensures version { OnOk result (self.new.raised ≡ self.old.raised) }
+        ensures not_packed { IsErrOf result UnpackFault.NotPacked → rise (map.entries self.old.names ++ (name, slot) ∷ []) ≡ false }
     {
         if !self.is_below(&name) {
             return Err(UnpackFault::NotPacked);
@@ -117,48 +130,47 @@ impl LockTable {
     /// Writes how many names stand, and then each with its slot. Where memory is refused, a beginning of that may stand
     /// behind what stood.
     #[tactic(auto, using(lk_wire::proofs::Spellings::keeps_same, lk_wire::proofs::Spellings::keeps_behind))]
-    pub(crate) fn put(&self, out: &mut BytesMut) -> Result<(), AllocError>
-        ensures ok { OnOk result (out.new.items ≡ out.old.items ++ text self.now) }
+    fn put_names(&self, out: &mut BytesMut) -> Result<(), AllocError>
+        ensures ok { OnOk result (out.new.items ≡ out.old.items ++ entries self.now.raised (map.entries self.now.names)) }
         ensures err { OnErr result (Keeps out.old.items out.new.items) }
     {
         put_u16(out, self.len() as u16)?;
         for (name, slot) in self.slots.iter() {
-            put_entry(out, name, *slot)?;
+            put_entry(out, self.raised, name, slot)?;
         }
         Ok(())
     }
 
-    fn acquire(&mut self, client: ClientNo, name: Name) -> Result<Answer, NoMemory>
-        ensures answer { IfOk result (λ a. a ≡ (acquired client (map.get self.old name) (map.len self.old)).answer) }
-        ensures ok { OnOk result (self.new ≡ changed name (acquired client (map.get self.old name) (map.len self.old)).change self.old) }
-        ensures err { OnErr result (self.new ≡ self.old) }
-        ensures absent { OnErr result (map.get self.old name ≡ None) }
-        ensures room { OnErr result (map.len self.old < max_names) }
+    /// Writes the packed text. Where memory is refused, a beginning of it may stand behind what stood.
+    #[tactic(auto, using(lk_wire::proofs::Spellings::keeps_same, lk_wire::proofs::Spellings::keeps_behind))]
+    pub(crate) fn put(&self, out: &mut BytesMut) -> Result<(), AllocError>
+        ensures ok { OnOk result (out.new.items ≡ out.old.items ++ text self.now) }
+        ensures err { OnErr result (Keeps out.old.items out.new.items) }
     {
-        match grant(self.slot(&name), self.len()) {
-            Err(refusal) => Ok(refusal),
-            Ok(fence) => {
-                let holder = Some(client);
-                self.set(name, Slot { fence, holder })?;
-                Ok(Answer::Granted(fence))
-            }
+        if self.raised {
+            put_u16(out, RAISED_MARK)?;
+            self.put_names(out)?;
+            return Ok(());
         }
+        self.put_names(out)
     }
 
-    fn release(&mut self, client: ClientNo, name: Name, fence: Fence) -> Answer
-        ensures answer { result ≡ (released client fence (map.get self.old name)).answer }
-        ensures change { self.new ≡ changed name (released client fence (map.get self.old name)).change self.old }
+    /// Answers a body that the table knows, and does it.
+    fn serve(&mut self, client: ClientNo, body: Body) -> Result<Answer, NoMemory>
+        requires { is_known self.old.raised body ≡ true }
+        ensures answer { IfOk result (λ a. a ≡ (row_in client body self.old.names).answer) }
+        ensures ok { OnOk result (self.new ≡ record { raised = self.old.raised; names = next_by client (Some body) self.old.names }) }
+        ensures err { OnErr result (self.new ≡ self.old) }
+        ensures memory { OnErr result (IsNewName (Some body) self.old.names) }
     {
-        let held = Slot {
-            fence,
-            holder: Some(client),
-        };
-        if self.slot(&name) != Some(held) {
-            return Answer::NotHeld;
+        let _ = client.get();
+        self.facts();
+        let name = body.name();
+        let Row { answer, change } = row(client, &body, self.slot(name), self.len());
+        if let Some(slot) = change {
+            self.set(name.copy(), slot)?;
         }
-        let holder = None;
-        self.set(name, Slot { fence, holder }).unwrap();
-        Answer::Released
+        Ok(answer)
     }
 
     /// Answers what a client asks, and does it. It wants memory only for a name that is new. An `Err` changes nothing.
@@ -166,14 +178,23 @@ impl LockTable {
         ensures answer { IfOk result (λ a. a ≡ answer client body.now self.old) }
         ensures ok { OnOk result (self.new ≡ next client body.now self.old) }
         ensures err { OnErr result (self.new ≡ self.old) }
-        ensures memory { OnErr result (IsNewName (body_of body.now) self.old) }
+        ensures memory { OnErr result (IsNewName (known self.old.raised (body_of body.now)) self.old.names) }
     {
         match Body::read(body) {
-            None => Ok(Answer::Bad),
-            Some(Body::Acquire(name)) => self.acquire(client, name),
-            Some(Body::Release(name, fence)) => Ok(self.release(client, name, fence)),
-            Some(Body::Ask(name)) => Ok(ask(self.slot(&name))),
-            Some(Body::Check(name, fence)) => Ok(check(self.slot(&name), fence)),
+            Some(body) if body.is_known(self.raised) => self.serve(client, body),
+            _ => Ok(Answer::Bad),
         }
+    }
+
+    /// Raises the table: from then on it knows of shared names and of breaking. It takes no memory.
+    pub fn raise_it(&mut self) -> Answer
+        ensures answer { result ≡ raise_answer self.old }
+        ensures next { self.new ≡ raised self.old }
+    {
+        if self.raised {
+            return Answer::AlreadyRaised;
+        }
+        self.raised = true;
+        Answer::Raised
     }
 }

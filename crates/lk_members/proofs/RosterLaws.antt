@@ -7,7 +7,7 @@ use Rattle.lk_types.specs.Commands.{IsOp}
 use Rattle.lk_types.specs.Rosters.{IsMember}
 use Rattle.lk_types.specs.Geneses.{IsGenesis}
 use Rattle.lk_types.specs.declared.answer.Answer.TheVariants.{Used, Full, Joined, NotMember, Last, Left}
-use Rattle.lk_members.specs.Rosters.{Member, Genesis, Op, Table, Join, Leave, is_granted, is_member, is_nobody, others, greatest_node}
+use Rattle.lk_members.specs.Rosters.{Member, Genesis, Op, Table, Join, Leave, Raise, is_granted, is_member, is_nobody, others, greatest_node}
 use Rattle.lk_members.specs.Sets.{IsSet, newest}
 use Rattle.lk_members.specs.Windows.{RosterValue, IsRoster, sets_from, roster_after, newest_roster, moved, moved_unchanged, changed_by}
 use Rattle.lk_members.proofs.SetLaws.{IsRoster-moved, newest-at_most, AllByRecursion-push, AreMembers-push, nodes_below-push, AreMembers-others, nodes_below-others}
@@ -59,6 +59,7 @@ changed_fits (Join node port) v o r lt = by_number (nat_le node v.greatest) refl
             IsRoster-moved v (v.executed + 1) node (v.executed + 1) (newest v.sets ++ m ∷ []) r (omega (arith, lt))
             (((omega (arith, longer)), (omega (arith, longer, room)), AreMembers-push v.greatest (newest v.sets) m s.0 room (newest-at_most v r) above), AllByRecursion-push IsMember (newest v.sets) m s.1 (o.0, o.1))
             (nodes_below-push v.greatest (newest v.sets) m (newest-at_most v r) above) (omega (arith, above)) o.0 (omega (arith, lt))
+changed_fits Raise v o r lt = passed_fits v r lt
 changed_fits (Leave node) v o r lt = by_member (not (is_member node (newest v.sets)))
   where
     by_member : (t : Bool)

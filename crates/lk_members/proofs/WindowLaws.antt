@@ -7,7 +7,7 @@ use Rattle.std.proofs.lemmas.Bool.{and_from}
 use Rattle.std.proofs.lemmas.List.{take-append-le}
 use Rattle.std.proofs.lemmas.Option.{slice_get_within, get_or_from_slice_get}
 use Rattle.lk_members.specs.Counting.{Command, RequestValue, Request, counted, placed, counting}
-use Rattle.lk_members.specs.Rosters.{Member, Genesis, PlainRoster, Op, Answer, Table, Join, Leave, greatest_node, next_roster, roster_answer, is_granted, is_granted_change, members, roster_of, last_change}
+use Rattle.lk_members.specs.Rosters.{Member, Genesis, PlainRoster, Op, Answer, Table, Join, Leave, Raise, greatest_node, next_roster, roster_answer, is_granted, is_granted_change, members, roster_of, last_change}
 use Rattle.lk_members.specs.Sets.{newest, are_at_most}
 use Rattle.lk_members.specs.Windows.{RosterValue, sets_from, roster_after, newest_roster, moved, moved_unchanged, changed_by}
 use Rattle.lk_members.proofs.SetLaws.{at_most_greatest}
@@ -100,6 +100,7 @@ behind_no_grant : (r : PlainRoster) (op : Op) → is_granted (roster_answer r op
 behind_no_grant r (Table body) e = refl
 behind_no_grant r (Join node port) e = rw e refl
 behind_no_grant r (Leave node) e = rw e refl
+behind_no_grant r Raise e = refl
 
 no_grant : (r : PlainRoster) (o : Option RequestValue) → is_granted_change r o ≡ false → roster_behind r o ≡ r
 no_grant r None e = refl

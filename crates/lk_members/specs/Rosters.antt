@@ -2,7 +2,7 @@
 pub use Rattle.lk_types.specs.declared.member.Member.{Member}
 pub use Rattle.lk_types.specs.declared.genesis.Genesis.{Genesis}
 pub use Rattle.lk_types.specs.declared.command.Op.{Op}
-pub use Rattle.lk_types.specs.declared.command.Op.TheVariants.{Table, Join, Leave}
+pub use Rattle.lk_types.specs.declared.command.Op.TheVariants.{Table, Join, Leave, Raise}
 pub use Rattle.lk_types.specs.declared.answer.Answer.{Answer}
 pub use Rattle.lk_types.specs.declared.answer.Answer.TheVariants.{Joined, Used, Full, Left, NotMember, Last}
 use Rattle.std.specs.Prelude.{ℕ, ◌+◌, ◌-◌, max, Bool, true, false, not, ◌==◌, nat_le, if◌then◌else◌, Option, Some, None, List, [], ◌∷◌, ◌++◌, length, take, fold, filter}
@@ -50,12 +50,14 @@ abbrev pub IsChange : Op → Type 0
 IsChange (Table body) = ⊥
 IsChange (Join node port) = Unit {0}
 IsChange (Leave node) = Unit {0}
+IsChange Raise = ⊥
 
 -- what a join or a leave is answered
 abbrev pub roster_answer : PlainRoster → Op → Option Answer
 roster_answer r (Table body) = None
 roster_answer r (Join node port) = Some (join_answer r node)
 roster_answer r (Leave node) = Some (leave_answer r node)
+roster_answer r Raise = None
 
 abbrev pub is_granted : Option Answer → Bool
 is_granted (Some Joined) = true
@@ -73,6 +75,7 @@ next_roster r (Leave node) =
     if is_granted (roster_answer r (Leave node))
     then record { members = others node r.members; greatest = r.greatest }
     else r
+next_roster r Raise = r
 
 -- the roster behind the requests that count, in order
 unfoldable pub roster_of : Genesis → List Command → PlainRoster

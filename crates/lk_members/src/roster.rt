@@ -260,7 +260,7 @@ impl Roster {
         match op {
             Op::Join(node, port) => self.join(*node, *port),
             Op::Leave(node) => self.leave(*node),
-            Op::Table(_) => unreachable!(),
+            Op::Table(_) | Op::Raise => unreachable!(),
         }
     }
 }

@@ -4,7 +4,7 @@ use Rattle.std.specs.List.{flat_map, AllByRecursion}
 use Rattle.std.proofs.Math.Nat.{suc-mul}
 use Rattle.std.proofs.lemmas.List.Concat.{flat_map-cons}
 use Rattle.lk_types.specs.declared.answer.Answer.{Answer}
-use Rattle.lk_types.specs.declared.answer.Answer.TheVariants.{Granted, Busy, Free, Held}
+use Rattle.lk_types.specs.declared.answer.Answer.TheVariants.{Granted, Busy, Free, Held, Shared, HeldShared}
 use Rattle.lk_types.specs.declared.member.Member.{Member}
 use Rattle.lk_types.specs.Rosters.{IsMember}
 use Rattle.lk_wire.specs.Fields.{one, two, four, eight, member, answer}
@@ -32,6 +32,8 @@ length-answer (Granted fence) = omega (arith, length-eight fence)
 length-answer (Busy holder fence) = omega (arith, length-append (two holder) (eight fence), length-two holder, length-eight fence)
 length-answer (Free fence) = omega (arith, length-eight fence)
 length-answer (Held holder fence) = omega (arith, length-append (two holder) (eight fence), length-two holder, length-eight fence)
+length-answer (Shared fence) = omega (arith, length-eight fence)
+length-answer (HeldShared count fence) = omega (arith, length-append (one count) (eight fence), length-eight fence)
 length-answer _ = omega arith
 
 length-member : (m : Member) → length (member m) ≡ 6

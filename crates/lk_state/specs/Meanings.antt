@@ -4,17 +4,22 @@ use Rattle.lk_types.specs.Ranges.{IsClient}
 use Rattle.lk_types.specs.Answers.{IsAnswer}
 use Rattle.lk_types.specs.declared.answer.Answer.{Answer}
 
--- the text of a machine that has run nothing, the text behind a body of a client, and what the client is answered
+-- what a request asks of the machine: that it run the body, or that it be raised
+pub data Task : Type 0 where
+  Body : List ℕ → Task
+  Raising : Task
+
+-- the text of a machine that has run nothing, the text behind a task of a client, and what the client is answered
 pub record Meaning : Type 0 where
   pub first : List ℕ
-  pub next : ℕ → List ℕ → List ℕ → List ℕ
-  pub answer : ℕ → List ℕ → List ℕ → Answer
+  pub next : ℕ → Task → List ℕ → List ℕ
+  pub answer : ℕ → Task → List ℕ → Answer
 
-abbrev pub meaning : List ℕ → (ℕ → List ℕ → List ℕ → List ℕ) → (ℕ → List ℕ → List ℕ → Answer) → Meaning
+abbrev pub meaning : List ℕ → (ℕ → Task → List ℕ → List ℕ) → (ℕ → Task → List ℕ → Answer) → Meaning
 meaning first next answer = record { first = first; next = next; answer = answer }
 
 -- it begins as a text, a text stays one, and what is answered is in its range
 pub record KeepsTexts (IsText : List ℕ → Type 0) (m : Meaning) : Type 0 where
   pub first : IsText m.first
-  pub next : (client : ℕ) (body before : List ℕ) → IsClient client → IsText before → IsText (m.next client body before)
-  pub answer : (client : ℕ) (body before : List ℕ) → IsClient client → IsText before → IsAnswer (m.answer client body before)
+  pub next : (client : ℕ) (task : Task) (before : List ℕ) → IsClient client → IsText before → IsText (m.next client task before)
+  pub answer : (client : ℕ) (task : Task) (before : List ℕ) → IsClient client → IsText before → IsAnswer (m.answer client task before)

@@ -3,7 +3,7 @@ use Rattle.std.specs.Prelude.{ℕ, Bool, true, false, ◌==◌, nat_lt, if◌the
 use Rattle.std.specs.Option.{option_map}
 use Rattle.lk_types.specs.declared.answer.Answer.{Answer}
 use Rattle.lk_members.specs.Counting.{Command, RequestValue, Noop, Request}
-use Rattle.lk_members.specs.Rosters.{Op, Table, Join, Leave}
+use Rattle.lk_members.specs.Rosters.{Op, Table, Join, Leave, Raise}
 use Rattle.lk_members.specs.Windows.{newest_roster, moved_unchanged, changed_by}
 use Rattle.lk_state.specs.Meanings.{Meaning}
 use Rattle.lk_state.specs.Sessions.{Session, session_of, is_new, with_session}
@@ -42,6 +42,7 @@ abbrev pub is_table : Op → Bool
 is_table (Table body) = true
 is_table (Join node port) = false
 is_table (Leave node) = false
+is_table Raise = false
 
 -- only a body that the machine runs may need memory
 abbrev pub is_body : Option RequestValue → Bool

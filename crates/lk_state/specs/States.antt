@@ -4,22 +4,24 @@ use Rattle.std.specs.List.{filter_map}
 use Rattle.std.specs.Option.{option_map}
 use Rattle.lk_types.specs.declared.answer.Answer.{Answer}
 use Rattle.lk_members.specs.Counting.{Command, RequestValue, Placed, placed, counted, counting}
-use Rattle.lk_members.specs.Rosters.{Genesis, PlainRoster, Op, Table, Join, Leave, join_answer, leave_answer, roster_of}
+use Rattle.lk_members.specs.Rosters.{Genesis, PlainRoster, Op, Table, Join, Leave, Raise, join_answer, leave_answer, roster_of}
 use Rattle.lk_members.specs.Windows.{RosterValue, roster_after}
-use Rattle.lk_state.specs.Meanings.{Meaning}
+use Rattle.lk_state.specs.Meanings.{Meaning, Body, Raising}
 use Rattle.lk_state.specs.Sessions.{Session, with_session}
 
 -- the machine's text behind an op: joins and leaves are none of its own
 abbrev pub next_text : Meaning → List ℕ → ℕ → Op → List ℕ
-next_text m text client (Table body) = m.next client body text
+next_text m text client (Table body) = m.next client (Body body) text
 next_text m text client (Join node port) = text
 next_text m text client (Leave node) = text
+next_text m text client Raise = m.next client Raising text
 
 -- what an op is answered by a roster and a machine
 abbrev pub op_answer : Meaning → PlainRoster → List ℕ → ℕ → Op → Answer
-op_answer m roster text client (Table body) = m.answer client body text
+op_answer m roster text client (Table body) = m.answer client (Body body) text
 op_answer m roster text client (Join node port) = join_answer roster node
 op_answer m roster text client (Leave node) = leave_answer roster node
+op_answer m roster text client Raise = m.answer client Raising text
 
 -- the machine's text behind the requests that count, in order
 unfoldable pub text_of : Meaning → List Command → List ℕ

@@ -4,6 +4,7 @@ ghost use Rattle.lk_types.specs.declared.answer.Answer.{Answer as AnswerValue};
 ghost use Rattle.lk_types.specs.Ranges.{IsClient};
 ghost use Rattle.lk_types.specs.Answers.{IsAnswer};
 ghost use Rattle.lk_state.specs.Faults.{unpack_number};
+ghost use Rattle.lk_state.specs.Meanings.{Task, Body, Raising};
 
 use bytes::BytesMut;
 use lk_types::{Answer, ClientNo, NoMemory};
@@ -72,11 +73,11 @@ pub trait Machine: Sized + Drop {
     // the text of a machine that has run nothing
     ghost first: { List ℕ };
 
-    // the text behind a body of a client, by the text before it
-    ghost next: { ℕ → List ℕ → List ℕ → List ℕ };
+    // the text behind a task of a client, by the text before it
+    ghost next: { ℕ → Task → List ℕ → List ℕ };
 
-    // what the client is answered, by the text before its body
-    ghost answer: { ℕ → List ℕ → List ℕ → AnswerValue };
+    // what the client is answered, by the text before its task
+    ghost answer: { ℕ → Task → List ℕ → AnswerValue };
 
     /// A machine that has run nothing. It takes no memory.
     fn begin(alloc: Global) -> Self
@@ -84,9 +85,14 @@ pub trait Machine: Sized + Drop {
 
     /// Runs the body of a client's request and answers it.
     fn apply(&mut self, client: ClientNo, body: &[u8]) -> Result<Answer, NoMemory>
-        ensures ok { OnOk result (text self.new ≡ next client body.now (text self.old)) }
-        ensures answer { IfOk result (λ a. a ≡ answer client body.now (text self.old)) }
+        ensures ok { OnOk result (text self.new ≡ next client (Body body.now) (text self.old)) }
+        ensures answer { IfOk result (λ a. a ≡ answer client (Body body.now) (text self.old)) }
         ensures err { OnErr result (text self.new ≡ text self.old) };
+
+    /// Raises the machine, and answers whether it was raised before. Who asks does not matter. It takes no memory.
+    fn raise(&mut self) -> Answer
+        ensures next { (client : ℕ) → text self.new ≡ next client Raising (text self.old) }
+        ensures answer { (client : ℕ) → result ≡ answer client Raising (text self.old) };
 
     /// Adds the packed text, or nothing where memory is refused.
     fn pack(&self, out: &mut BytesMut) -> Result<(), NoMemory>
@@ -104,10 +110,10 @@ pub trait Machine: Sized + Drop {
     ghost first_is_text: { IsText first };
 
     // a text stays one
-    ghost next_is_text: { (client : ℕ) (body before : List ℕ) → IsClient client → IsText before → IsText (next client body before) };
+    ghost next_is_text: { (client : ℕ) (task : Task) (before : List ℕ) → IsClient client → IsText before → IsText (next client task before) };
 
     // what a client is answered is in its range
-    ghost answer_is_answer: { (client : ℕ) (body before : List ℕ) → IsClient client → IsText before → IsAnswer (answer client body before) };
+    ghost answer_is_answer: { (client : ℕ) (task : Task) (before : List ℕ) → IsClient client → IsText before → IsAnswer (answer client task before) };
 
     // no text is long
     ghost short: { (bytes : List ℕ) → IsText bytes → length bytes ≤ max_machine };

@@ -178,6 +178,12 @@ impl<M: Machine> Whole<M> {
                 self.roster.facts();
                 Ok(answer)
             }
+            Op::Raise => {
+                let answer = self.machine.raise();
+                self.roster.pass();
+                self.roster.facts();
+                Ok(answer)
+            }
             Op::Join(..) | Op::Leave(_) => {
                 let answer = self.roster.change(op);
                 self.roster.facts();

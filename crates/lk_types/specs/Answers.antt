@@ -1,7 +1,7 @@
 -- The ranges of what an answer holds, and its text.
-use Rattle.lk_types.specs.Ranges.{IsClient, IsCount, IsTotal}
+use Rattle.lk_types.specs.Ranges.{IsClient, IsCount, IsTotal, IsSharerCount}
 use Rattle.lk_types.specs.declared.answer.Answer.{Answer}
-use Rattle.lk_types.specs.declared.answer.Answer.TheVariants.{Granted, Busy, Released, NotHeld, Free, Held, Valid, Stale, NoRoom, Bad, Spent, Joined, Used, Full, Left, NotMember, Last}
+use Rattle.lk_types.specs.declared.answer.Answer.TheVariants.{Granted, Busy, Released, NotHeld, Free, Held, Valid, Stale, NoRoom, Bad, Spent, Shared, HeldShared, Broken, Joined, Used, Full, Left, NotMember, Last, Raised, AlreadyRaised}
 
 abbrev pub IsAnswer : Answer → Type 0
 IsAnswer (Granted fence) = IsCount fence
@@ -15,9 +15,14 @@ IsAnswer Stale = Unit {0}
 IsAnswer NoRoom = Unit {0}
 IsAnswer Bad = Unit {0}
 IsAnswer Spent = Unit {0}
+IsAnswer (Shared fence) = IsCount fence
+IsAnswer (HeldShared count fence) = IsSharerCount count × IsCount fence
+IsAnswer Broken = Unit {0}
 IsAnswer Joined = Unit {0}
 IsAnswer Used = Unit {0}
 IsAnswer Full = Unit {0}
 IsAnswer Left = Unit {0}
 IsAnswer NotMember = Unit {0}
 IsAnswer Last = Unit {0}
+IsAnswer Raised = Unit {0}
+IsAnswer AlreadyRaised = Unit {0}

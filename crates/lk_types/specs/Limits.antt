@@ -33,6 +33,10 @@ max_payload = 64
 abbrev pub max_names : ℕ
 max_names = 512
 
+-- clients that share a name
+abbrev pub max_sharers : ℕ
+max_sharers = 8
+
 -- bytes of a name
 abbrev pub max_name : ℕ
 max_name = 32

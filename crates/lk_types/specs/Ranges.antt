@@ -1,6 +1,6 @@
 -- The ranges of the numbers.
 use Rattle.std.specs.Prelude.{ℕ, ◌≤◌}
-use Rattle.lk_types.specs.Limits.{max_count, max_node, max_client, max_port, max_alpha}
+use Rattle.lk_types.specs.Limits.{max_count, max_node, max_client, max_port, max_alpha, max_sharers}
 
 -- a node's number: 1 to 2^31
 abbrev pub IsNode : ℕ → Type 0
@@ -21,6 +21,10 @@ IsCount n = (1 ≤ n) × (n ≤ max_count)
 -- so many positions, or the last fence of a name that may be unknown: 0 to 2^48
 abbrev pub IsTotal : ℕ → Type 0
 IsTotal n = n ≤ max_count
+
+-- how many clients share a name that is held so: 1 to 8
+abbrev pub IsSharerCount : ℕ → Type 0
+IsSharerCount n = (1 ≤ n) × (n ≤ max_sharers)
 
 -- how many positions ahead the members are known: 1 to 16
 abbrev pub IsAlpha : ℕ → Type 0

@@ -3,6 +3,7 @@ ghost use Rattle.lk_types.specs.Answers.{IsAnswer};
 use crate::client::ClientNo;
 use crate::fence::Fence;
 use crate::last_fence::LastFence;
+use crate::sharer_count::SharerCount;
 use std::fmt;
 
 /// What a counting request is answered.
@@ -30,6 +31,12 @@ pub enum Answer {
     Bad,
     /// The name's fences are used up.
     Spent,
+    /// The client shares the name, at this fence.
+    Shared(Fence),
+    /// So many clients share the name, at that fence.
+    HeldShared(SharerCount, Fence),
+    /// The name is free again, whoever held it.
+    Broken,
     /// The node becomes a member.
     Joined,
     /// The node's number is not above every number that was ever a member.
@@ -42,6 +49,10 @@ pub enum Answer {
     NotMember,
     /// The node is the only member.
     Last,
+    /// The machine knows more from now on.
+    Raised,
+    /// The machine was raised before.
+    AlreadyRaised,
 }
 
 impl Answer {
@@ -64,12 +75,17 @@ impl Answer {
             Answer::NoRoom => "no room",
             Answer::Bad => "bad",
             Answer::Spent => "spent",
+            Answer::Shared(_) => "shared",
+            Answer::HeldShared(_, _) => "held shared",
+            Answer::Broken => "broken",
             Answer::Joined => "joined",
             Answer::Used => "used",
             Answer::Full => "full",
             Answer::Left => "left",
             Answer::NotMember => "not a member",
             Answer::Last => "last",
+            Answer::Raised => "raised",
+            Answer::AlreadyRaised => "already raised",
         }
     }
 }
@@ -78,11 +94,12 @@ impl fmt::Display for Answer {
     fn fmt<W: fmt::Write>(&self, f: &mut fmt::Formatter<W>) -> fmt::Result {
         let word = self.word();
         match self {
-            Answer::Granted(fence) => write!(f, "{word} {}", fence.get()),
+            Answer::Granted(fence) | Answer::Shared(fence) => write!(f, "{word} {}", fence.get()),
             Answer::Busy(holder, fence) | Answer::Held(holder, fence) => {
                 write!(f, "{word} {} {}", holder.get(), fence.get())
             }
             Answer::Free(fence) => write!(f, "{word} {}", fence.get()),
+            Answer::HeldShared(count, fence) => write!(f, "{word} {} {}", count.get(), fence.get()),
             Answer::Released
             | Answer::NotHeld
             | Answer::Valid
@@ -90,12 +107,15 @@ impl fmt::Display for Answer {
             | Answer::NoRoom
             | Answer::Bad
             | Answer::Spent
+            | Answer::Broken
             | Answer::Joined
             | Answer::Used
             | Answer::Full
             | Answer::Left
             | Answer::NotMember
-            | Answer::Last => f.write_str(word),
+            | Answer::Last
+            | Answer::Raised
+            | Answer::AlreadyRaised => f.write_str(word),
         }
     }
 }

@@ -68,6 +68,8 @@ pub enum Op {
     Join(NodeNo, Port),
     /// That a node is a member no longer.
     Leave(NodeNo),
+    /// That the machine know more from then on: what its second version knows.
+    Raise,
 }
 
 /// A client's request. The number makes it count once.
@@ -95,6 +97,7 @@ impl Op {
             Op::Table(payload) => Op::Table(payload.copy()),
             Op::Join(node, port) => Op::Join(*node, *port),
             Op::Leave(node) => Op::Leave(*node),
+            Op::Raise => Op::Raise,
         }
     }
 
@@ -113,6 +116,7 @@ impl Op {
             Op::Leave(node) => {
                 let _ = node.get();
             }
+            Op::Raise => {}
         }
     }
 }

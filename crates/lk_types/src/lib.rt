@@ -19,6 +19,7 @@ mod port;
 mod position;
 mod request_number;
 mod round;
+mod sharer_count;
 mod vote;
 
 pub use answer::Answer;
@@ -37,4 +38,5 @@ pub use port::Port;
 pub use position::Position;
 pub use request_number::RequestNumber;
 pub use round::Round;
+pub use sharer_count::SharerCount;
 pub use vote::Vote;

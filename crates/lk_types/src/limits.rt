@@ -16,6 +16,8 @@ pub const MAX_MEMBERS: usize = 7;
 pub const MAX_PAYLOAD: usize = 64;
 /// Names in a table.
 pub const MAX_NAMES: usize = 512;
+/// Clients that hold a name at once, where they share it: their numbers stand in a table of fixed size.
+pub const MAX_SHARERS: u8 = 8;
 /// Bytes of a name: with its length, a fence and the op it fits a payload.
 pub const MAX_NAME: usize = 32;
 /// Votes, or decided commands, that stand above a snapshot: an acceptor takes a vote at most twice alpha ahead.

@@ -1,7 +1,7 @@
 -- Each field reads what its spelling is.
 use Rattle.std.proofs.Common.{◌≡◌, ℕ, ◌^◌, ◌<◌, ◌≤◌, ◌⊎◌, Bool, true, false, leb, eqb, ◌&&◌, ◌||◌, lit<, inl, inr, List, [], ◌++◌, length, Option, Some, refl, arith}
 use Rattle.std.proofs.lemmas.Bool.Decides.{nat_tests}
-use Rattle.lk_types.specs.Ranges.{IsNode, IsClient, IsPort, IsCount, IsTotal}
+use Rattle.lk_types.specs.Ranges.{IsNode, IsClient, IsPort, IsCount, IsTotal, IsSharerCount}
 use Rattle.lk_types.specs.Payloads.{IsPayload}
 use Rattle.lk_types.specs.BallotValue.{BallotValue}
 use Rattle.lk_types.specs.Ballots.{IsReal, IsMark, zero_ballot}
@@ -10,17 +10,17 @@ use Rattle.lk_types.specs.Rosters.{IsMember}
 use Rattle.lk_types.specs.Votes.{IsVote}
 use Rattle.lk_types.specs.Answers.{IsAnswer}
 use Rattle.lk_types.specs.declared.answer.Answer.{Answer}
-use Rattle.lk_types.specs.declared.answer.Answer.TheVariants.{Granted, Busy, Released, NotHeld, Free, Held, Valid, Stale, NoRoom, Bad, Spent, Joined, Used, Full, Left, NotMember, Last}
+use Rattle.lk_types.specs.declared.answer.Answer.TheVariants.{Granted, Busy, Released, NotHeld, Free, Held, Valid, Stale, NoRoom, Bad, Spent, Shared, HeldShared, Broken, Joined, Used, Full, Left, NotMember, Last, Raised, AlreadyRaised}
 use Rattle.lk_types.specs.declared.command.Op.{Op}
-use Rattle.lk_types.specs.declared.command.Op.TheVariants.{Table, Join, Leave}
+use Rattle.lk_types.specs.declared.command.Op.TheVariants.{Table, Join, Leave, Raise}
 use Rattle.lk_types.specs.declared.command.Request.{Request as RequestValue}
 use Rattle.lk_types.specs.declared.command.Command.{Command}
 use Rattle.lk_types.specs.declared.command.Command.TheVariants.{Noop, Request}
 use Rattle.lk_types.specs.declared.member.Member.{Member}
 use Rattle.lk_types.specs.declared.vote.Vote.{Vote}
 use Rattle.lk_wire.specs.Fields.{one, two, four, eight, ballot, member, payload, op_tag, op_fields, op, request, command_tag, command_fields, command, vote, pair, answer_tag, answer_fields, answer}
-use Rattle.lk_wire.specs.Parser.{read_byte, sized, tested, kind, bare}
-use Rattle.lk_wire.specs.FieldReading.{is_from_1_to, read_two, read_four, read_eight, read_node, read_client, read_port, read_count, read_total, read_ballot, is_mark, read_mark, read_member, read_payload, op_of, read_op, read_request, command_of, read_command, read_vote, read_pair, bare_answer, read_held, answer_of, read_answer}
+use Rattle.lk_wire.specs.Parser.{read_byte, sized, tested, tagged, kind, bare, no_kind}
+use Rattle.lk_wire.specs.FieldReading.{is_from_1_to, read_two, read_four, read_eight, read_node, read_client, read_port, read_count, read_total, read_ballot, is_mark, read_mark, read_member, read_payload, read_version, op_of, read_op, read_request, command_of, read_command, read_vote, read_pair, bare_answer, read_held, read_sharer_count, read_sharing, answer_of, read_answer}
 use Rattle.lk_wire.proofs.Codec.{Reads, fitting, both_reads, made_reads, tested_reads, byte_reads}
 use Rattle.lk_wire.proofs.NumberLaws.{two_reads, four_reads, eight_reads, sized_reads}
 use Rattle.lk_wire.proofs.KindLaws.{TakesKinds, no_kind_takes, bare_takes, kind_takes, tagged_reads}
@@ -126,19 +126,27 @@ payload_reads = fitting read_payload payload (λ bytes. (length bytes < 256) × 
     (λ bytes f. is_in 64 (length bytes) f.1) (λ bytes f. (omega (arith, f.1), passes 64 (length bytes) f.0 f.1))
     (tested_reads (λ bytes. is_from_1_to 64 (length bytes)) (sized read_byte) payload (λ bytes. length bytes < 256) (sized_reads read_byte one (λ n. n < 256) byte_reads))
 
+version_reads : Reads read_version (λ (v : Unit {0}). one 2) (λ (v : Unit {0}). Unit {0})
+unfolding read_version
+version_reads = tagged_reads (λ (v : Unit {0}). 2) (λ (v : Unit {0}). []) (λ (v : Unit {0}). Unit {0}) (kind 2 (bare tt) no_kind)
+    (bare_takes (λ (v : Unit {0}). 2) (λ (v : Unit {0}). []) (λ (v : Unit {0}). Unit {0}) 2 tt refl refl tt _ (no_kind_takes (λ (v : Unit {0}). 2) (λ (v : Unit {0}). []) (λ (v : Unit {0}). Unit {0})))
+    (λ v rest fits. refl)
+
 op_takes : TakesKinds op_tag op_fields IsOp op_of
 unfolding op_of
 op_takes =
     kind_takes op_tag op_fields IsOp 0 Table read_payload payload IsPayload payload_reads (λ y. refl) (λ y. refl) (λ y f. f) _
     (kind_takes op_tag op_fields IsOp 1 (λ (m : Member). Join m.node m.port) read_member member IsMember member_reads (λ y. refl) (λ y. refl) (λ y f. f) _
     (kind_takes op_tag op_fields IsOp 2 Leave read_node four IsNode node_reads (λ y. refl) (λ y. refl) (λ y f. f) _
-    (no_kind_takes op_tag op_fields IsOp)))
+    (kind_takes op_tag op_fields IsOp 3 (λ (v : Unit {0}). Raise) read_version (λ (v : Unit {0}). one 2) (λ (v : Unit {0}). Unit {0}) version_reads (λ y. refl) (λ y. refl) (λ y f. f) _
+    (no_kind_takes op_tag op_fields IsOp))))
 
 op_again : (o : Op) (rest : List ℕ) → IsOp o → op_of (op_tag o) (op_fields o ++ rest) ≡ Some (o, rest)
 unfolding op_of
 op_again (Table bytes) rest fits = rw (payload_reads.again bytes rest fits) refl
 op_again (Join node port) rest fits = rw (member_reads.again (record { node = node; port = port }) rest fits) refl
 op_again (Leave node) rest fits = rw (node_reads.again node rest fits) refl
+op_again Raise rest fits = rw (version_reads.again tt rest tt) refl
 
 pub op_reads : Reads read_op op IsOp
 op_reads = tagged_reads op_tag op_fields IsOp op_of op_takes op_again
@@ -187,6 +195,19 @@ holder h = two h.0 ++ eight h.1
 held_reads : Reads read_held holder IsHolder
 held_reads = both_reads read_client two IsClient read_count eight IsCount client_reads count_reads
 
+sharer_count_reads : Reads read_sharer_count one IsSharerCount
+unfolding read_sharer_count
+sharer_count_reads = ranged_reads 8 256 (omega arith) read_byte one byte_reads
+
+abbrev IsSharing : ℕ × ℕ → Type 0
+IsSharing h = IsSharerCount h.0 × IsCount h.1
+
+abbrev sharing : ℕ × ℕ → List ℕ
+sharing h = one h.0 ++ eight h.1
+
+sharing_reads : Reads read_sharing sharing IsSharing
+sharing_reads = both_reads read_sharer_count one IsSharerCount read_count eight IsCount sharer_count_reads count_reads
+
 one_more : (k : ℕ) (a : Answer) → answer_tag a ≡ k → answer_fields a ≡ [] → IsAnswer a → (q : ℕ → List ℕ → Option (Answer × List ℕ)) → TakesKinds answer_tag answer_fields IsAnswer q → TakesKinds answer_tag answer_fields IsAnswer (kind k (bare a) q)
 one_more = bare_takes answer_tag answer_fields IsAnswer
 
@@ -200,13 +221,16 @@ bare_answer_takes =
     (one_more 9 NoRoom refl refl tt _
     (one_more 10 Bad refl refl tt _
     (one_more 11 Spent refl refl tt _
+    (one_more 14 Broken refl refl tt _
     (one_more 32 Joined refl refl tt _
     (one_more 33 Used refl refl tt _
     (one_more 34 Full refl refl tt _
     (one_more 35 Left refl refl tt _
     (one_more 36 NotMember refl refl tt _
     (one_more 37 Last refl refl tt _
-    (no_kind_takes answer_tag answer_fields IsAnswer)))))))))))))
+    (one_more 38 Raised refl refl tt _
+    (one_more 39 AlreadyRaised refl refl tt _
+    (no_kind_takes answer_tag answer_fields IsAnswer))))))))))))))))
 
 answer_takes : TakesKinds answer_tag answer_fields IsAnswer answer_of
 unfolding answer_of
@@ -215,7 +239,9 @@ answer_takes =
     (kind_takes answer_tag answer_fields IsAnswer 2 (λ (h : ℕ × ℕ). Busy h.0 h.1) read_held holder IsHolder held_reads (λ y. refl) (λ y. refl) (λ y f. f) _
     (kind_takes answer_tag answer_fields IsAnswer 5 Free read_total eight IsTotal total_reads (λ y. refl) (λ y. refl) (λ y f. f) _
     (kind_takes answer_tag answer_fields IsAnswer 6 (λ (h : ℕ × ℕ). Held h.0 h.1) read_held holder IsHolder held_reads (λ y. refl) (λ y. refl) (λ y f. f) _
-    bare_answer_takes)))
+    (kind_takes answer_tag answer_fields IsAnswer 12 Shared read_count eight IsCount count_reads (λ y. refl) (λ y. refl) (λ y f. f) _
+    (kind_takes answer_tag answer_fields IsAnswer 13 (λ (h : ℕ × ℕ). HeldShared h.0 h.1) read_sharing sharing IsSharing sharing_reads (λ y. refl) (λ y. refl) (λ y f. f) _
+    bare_answer_takes)))))
 
 answer_again : (a : Answer) (rest : List ℕ) → IsAnswer a → answer_of (answer_tag a) (answer_fields a ++ rest) ≡ Some (a, rest)
 unfolding answer_of bare_answer
@@ -230,12 +256,17 @@ answer_again Stale rest fits = refl
 answer_again NoRoom rest fits = refl
 answer_again Bad rest fits = refl
 answer_again Spent rest fits = refl
+answer_again (Shared fence) rest fits = rw (count_reads.again fence rest fits) refl
+answer_again (HeldShared count fence) rest fits = rw (sharing_reads.again (count, fence) rest fits) refl
+answer_again Broken rest fits = refl
 answer_again Joined rest fits = refl
 answer_again Used rest fits = refl
 answer_again Full rest fits = refl
 answer_again Left rest fits = refl
 answer_again NotMember rest fits = refl
 answer_again Last rest fits = refl
+answer_again Raised rest fits = refl
+answer_again AlreadyRaised rest fits = refl
 
 pub answer_reads : Reads read_answer answer IsAnswer
 answer_reads = tagged_reads answer_tag answer_fields IsAnswer answer_of answer_takes answer_again

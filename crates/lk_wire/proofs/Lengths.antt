@@ -10,7 +10,7 @@ use Rattle.lk_types.specs.Votes.{IsVote}
 use Rattle.lk_types.specs.declared.answer.Answer.{Answer}
 use Rattle.lk_types.specs.declared.answer.Answer.TheVariants as answers
 use Rattle.lk_types.specs.declared.command.Op.{Op}
-use Rattle.lk_types.specs.declared.command.Op.TheVariants.{Table, Join, Leave}
+use Rattle.lk_types.specs.declared.command.Op.TheVariants.{Table, Join, Leave, Raise}
 use Rattle.lk_types.specs.declared.command.Request.{Request as RequestValue}
 use Rattle.lk_types.specs.declared.command.Command.{Command}
 use Rattle.lk_types.specs.declared.command.Command.TheVariants.{Noop, Request}
@@ -47,6 +47,7 @@ op_is_short : (o : Op) → IsOp o → length (op o) ≤ 66
 op_is_short (Table bytes) f = omega (arith, f)
 op_is_short (Join node port) f = simp (length-append, length-two, length-four) (omega arith)
 op_is_short (Leave node) f = simp length-four (omega arith)
+op_is_short Raise f = omega arith
 
 pub request_is_short : (r : RequestValue) → IsRequest r → length (request r) ≤ 76
 request_is_short r f = simp (length-append, length-two, length-eight) (omega (arith, op_is_short r.op f.2))
@@ -65,6 +66,8 @@ pub answer_is_short : (a : Answer) → length (answer a) ≤ 11
 answer_is_short (answers.Granted fence) = simp length-eight (omega arith)
 answer_is_short (answers.Busy client fence) = simp (length-append, length-two, length-eight) (omega arith)
 answer_is_short (answers.Free fence) = simp length-eight (omega arith)
+answer_is_short (answers.Shared fence) = simp length-eight (omega arith)
+answer_is_short (answers.HeldShared count fence) = simp (length-append, length-eight) (omega arith)
 answer_is_short (answers.Held client fence) = simp (length-append, length-two, length-eight) (omega arith)
 answer_is_short _ = omega arith
 

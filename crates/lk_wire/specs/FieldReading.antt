@@ -1,12 +1,12 @@
 -- Reading each field.
 use Rattle.std.specs.Prelude.{ℕ, Bool, List, length, Option, nat_le, ◌&&◌, ◌||◌, ◌==◌}
 use Rattle.std.specs.Int.{w16, w32, w64}
-use Rattle.lk_types.specs.Limits.{max_count, max_node, max_client, max_port, max_payload}
+use Rattle.lk_types.specs.Limits.{max_count, max_node, max_client, max_port, max_payload, max_sharers}
 use Rattle.lk_types.specs.BallotValue.{BallotValue}
 use Rattle.lk_types.specs.declared.answer.Answer.{Answer}
-use Rattle.lk_types.specs.declared.answer.Answer.TheVariants.{Granted, Busy, Released, NotHeld, Free, Held, Valid, Stale, NoRoom, Bad, Spent, Joined, Used, Full, Left, NotMember, Last}
+use Rattle.lk_types.specs.declared.answer.Answer.TheVariants.{Granted, Busy, Released, NotHeld, Free, Held, Valid, Stale, NoRoom, Bad, Spent, Shared, HeldShared, Broken, Joined, Used, Full, Left, NotMember, Last, Raised, AlreadyRaised}
 use Rattle.lk_types.specs.declared.command.Op.{Op}
-use Rattle.lk_types.specs.declared.command.Op.TheVariants.{Table, Join, Leave}
+use Rattle.lk_types.specs.declared.command.Op.TheVariants.{Table, Join, Leave, Raise}
 use Rattle.lk_types.specs.declared.command.Request.{Request as RequestValue}
 use Rattle.lk_types.specs.declared.command.Command.{Command}
 use Rattle.lk_types.specs.declared.command.Command.TheVariants.{Noop, Request}
@@ -57,12 +57,17 @@ read_member = made (λ m. record { node = m.0; port = m.1 }) (both read_node rea
 unfoldable pub read_payload : List ℕ → Option (List ℕ × List ℕ)
 read_payload = tested (λ bytes. is_from_1_to max_payload (length bytes)) (sized read_byte)
 
+-- the version that a machine is raised to: 2
+unfoldable pub read_version : List ℕ → Option (Unit {0} × List ℕ)
+read_version = tagged (kind 2 (bare tt) no_kind)
+
 unfoldable pub op_of : ℕ → List ℕ → Option (Op × List ℕ)
 op_of =
     kind 0 (made Table read_payload)
     (kind 1 (made (λ m. Join m.node m.port) read_member)
     (kind 2 (made Leave read_node)
-    no_kind))
+    (kind 3 (made (λ _. Raise) read_version)
+    no_kind)))
 
 abbrev pub read_op : List ℕ → Option (Op × List ℕ)
 read_op = tagged op_of
@@ -92,17 +97,28 @@ bare_answer =
     (kind 9 (bare NoRoom)
     (kind 10 (bare Bad)
     (kind 11 (bare Spent)
+    (kind 14 (bare Broken)
     (kind 32 (bare Joined)
     (kind 33 (bare Used)
     (kind 34 (bare Full)
     (kind 35 (bare Left)
     (kind 36 (bare NotMember)
     (kind 37 (bare Last)
-    no_kind))))))))))))
+    (kind 38 (bare Raised)
+    (kind 39 (bare AlreadyRaised)
+    no_kind)))))))))))))))
 
 -- the answers that name a holder and its fence
 abbrev pub read_held : List ℕ → Option ((ℕ × ℕ) × List ℕ)
 read_held = both read_client read_count
+
+-- how many share a name
+unfoldable pub read_sharer_count : List ℕ → Option (ℕ × List ℕ)
+read_sharer_count = tested (is_from_1_to max_sharers) read_byte
+
+-- the answer that tells how many share a name, and its fence
+abbrev pub read_sharing : List ℕ → Option ((ℕ × ℕ) × List ℕ)
+read_sharing = both read_sharer_count read_count
 
 unfoldable pub answer_of : ℕ → List ℕ → Option (Answer × List ℕ)
 answer_of =
@@ -110,7 +126,9 @@ answer_of =
     (kind 2 (made (λ h. Busy h.0 h.1) read_held)
     (kind 5 (made Free read_total)
     (kind 6 (made (λ h. Held h.0 h.1) read_held)
-    bare_answer)))
+    (kind 12 (made Shared read_count)
+    (kind 13 (made (λ h. HeldShared h.0 h.1) read_sharing)
+    bare_answer)))))
 
 abbrev pub read_answer : List ℕ → Option (Answer × List ℕ)
 read_answer = tagged answer_of

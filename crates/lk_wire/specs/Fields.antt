@@ -3,9 +3,9 @@ use Rattle.std.specs.Prelude.{ℕ, List, [], ◌∷◌, ◌++◌, length}
 use Rattle.std.specs.Int.{w16, w32, w64, to_be_bytes}
 use Rattle.lk_types.specs.BallotValue.{BallotValue}
 use Rattle.lk_types.specs.declared.answer.Answer.{Answer}
-use Rattle.lk_types.specs.declared.answer.Answer.TheVariants.{Granted, Busy, Released, NotHeld, Free, Held, Valid, Stale, NoRoom, Bad, Spent, Joined, Used, Full, Left, NotMember, Last}
+use Rattle.lk_types.specs.declared.answer.Answer.TheVariants.{Granted, Busy, Released, NotHeld, Free, Held, Valid, Stale, NoRoom, Bad, Spent, Shared, HeldShared, Broken, Joined, Used, Full, Left, NotMember, Last, Raised, AlreadyRaised}
 use Rattle.lk_types.specs.declared.command.Op.{Op}
-use Rattle.lk_types.specs.declared.command.Op.TheVariants.{Table, Join, Leave}
+use Rattle.lk_types.specs.declared.command.Op.TheVariants.{Table, Join, Leave, Raise}
 use Rattle.lk_types.specs.declared.command.Request.{Request as RequestValue}
 use Rattle.lk_types.specs.declared.command.Command.{Command}
 use Rattle.lk_types.specs.declared.command.Command.TheVariants.{Noop, Request}
@@ -43,11 +43,14 @@ abbrev pub op_tag : Op → ℕ
 op_tag (Table bytes) = 0
 op_tag (Join node port) = 1
 op_tag (Leave node) = 2
+op_tag Raise = 3
 
+-- behind a Raise stands the version that the machine is raised to, which is 2
 abbrev pub op_fields : Op → List ℕ
 op_fields (Table bytes) = payload bytes
 op_fields (Join node port) = member (record { node = node; port = port })
 op_fields (Leave node) = four node
+op_fields Raise = one 2
 
 abbrev pub op : Op → List ℕ
 op o = op_tag o ∷ op_fields o
@@ -85,18 +88,25 @@ answer_tag Stale = 8
 answer_tag NoRoom = 9
 answer_tag Bad = 10
 answer_tag Spent = 11
+answer_tag (Shared fence) = 12
+answer_tag (HeldShared count fence) = 13
+answer_tag Broken = 14
 answer_tag Joined = 32
 answer_tag Used = 33
 answer_tag Full = 34
 answer_tag Left = 35
 answer_tag NotMember = 36
 answer_tag Last = 37
+answer_tag Raised = 38
+answer_tag AlreadyRaised = 39
 
 abbrev pub answer_fields : Answer → List ℕ
 answer_fields (Granted fence) = eight fence
 answer_fields (Busy holder fence) = two holder ++ eight fence
 answer_fields (Free fence) = eight fence
 answer_fields (Held holder fence) = two holder ++ eight fence
+answer_fields (Shared fence) = eight fence
+answer_fields (HeldShared count fence) = one count ++ eight fence
 answer_fields Released = []
 answer_fields NotHeld = []
 answer_fields Valid = []
@@ -104,12 +114,15 @@ answer_fields Stale = []
 answer_fields NoRoom = []
 answer_fields Bad = []
 answer_fields Spent = []
+answer_fields Broken = []
 answer_fields Joined = []
 answer_fields Used = []
 answer_fields Full = []
 answer_fields Left = []
 answer_fields NotMember = []
 answer_fields Last = []
+answer_fields Raised = []
+answer_fields AlreadyRaised = []
 
 abbrev pub answer : Answer → List ℕ
 answer a = answer_tag a ∷ answer_fields a

@@ -1,11 +1,11 @@
 -- What a client asks, in words.
-use Rattle.std.specs.Prelude.{◌≡◌, ◌≤◌, ℕ, List, [], ◌∷◌, ◌++◌, length, Ok}
+use Rattle.std.specs.Prelude.{◌≡◌, ◌≤◌, ℕ, List, [], ◌∷◌, ◌++◌, length, Ok, codes}
 use Rattle.std.specs.Fmt.{decimal}
 use Rattle.hex.specs.Hex.{decode_of}
 use Rattle.lk_types.specs.Ranges.{IsNode, IsPort, IsTotal}
 use Rattle.lk_types.specs.Payloads.{IsPayload}
 use Rattle.lk_types.specs.declared.command.Op.{Op}
-use Rattle.lk_types.specs.declared.command.Op.TheVariants.{Table, Join, Leave}
+use Rattle.lk_types.specs.declared.command.Op.TheVariants.{Table, Join, Leave, Raise}
 use Rattle.lk_wire.specs.Fields.{eight}
 use Rattle.lk_words.specs.Words.{HasNoSpace}
 use Rattle.lk_words.specs.Verbs.{word_of}
@@ -38,6 +38,10 @@ AsksToJoin words o = (node : ℕ) × (port : ℕ) × (words ≡ decimal node ++ 
 abbrev pub AsksToLeave : List ℕ → Op → Type 0
 AsksToLeave words o = (node : ℕ) × (words ≡ decimal node) × IsNode node × (o ≡ Leave node)
 
+-- the version to which the machine is raised: there is one
+abbrev pub AsksToRaise : List ℕ → Op → Type 0
+AsksToRaise words o = (words ≡ codes "2") × (o ≡ Raise)
+
 -- hex digits in either case, two a byte, ask for the body that they spell
 abbrev pub AsksInHex : List ℕ → Op → Type 0
 AsksInHex digits o = (bytes : List ℕ) × (decode_of digits ≡ Ok bytes) × IsPayload bytes × (o ≡ Table bytes)
@@ -48,8 +52,11 @@ Asks verb.Acquire = AsksOfName 1
 Asks verb.Release = AsksOfFence 2
 Asks verb.Ask = AsksOfName 3
 Asks verb.Check = AsksOfFence 4
+Asks verb.Share = AsksOfName 5
+Asks verb.Break = AsksOfFence 6
 Asks verb.Join = AsksToJoin
 Asks verb.Leave = AsksToLeave
+Asks verb.Raise = AsksToRaise
 Asks verb.Raw = AsksInHex
 
 -- the text is that of an operation: a verb, a space, and words of that verb

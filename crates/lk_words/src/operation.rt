@@ -4,7 +4,7 @@ ghost use Rattle.std.specs.Prelude.{◌≡◌, ◌≤◌, ℕ, List, [], length,
 ghost use Rattle.std.specs.Fmt.{decimal};
 ghost use Rattle.lk_types.specs.Ranges.{IsNode, IsPort};
 ghost use Rattle.lk_types.specs.declared.command.Op.{Op as Operation};
-ghost use Rattle.lk_words.specs.Operations.{IsNameWord, body, AsksOfName, AsksOfFence, AsksToJoin, AsksToLeave, AsksInHex, Asks, SpellsOp};
+ghost use Rattle.lk_words.specs.Operations.{IsNameWord, body, AsksOfName, AsksOfFence, AsksToJoin, AsksToLeave, AsksToRaise, AsksInHex, Asks, SpellsOp};
 
 use crate::number::read_number;
 use crate::verb::Verb;
@@ -102,6 +102,17 @@ fn to_leave(words: &[u8]) -> Option<Op>
     }
 }
 
+/// The version to which the machine is raised.
+fn to_raise(words: &[u8]) -> Option<Op>
+    ensures some { IfSome result (AsksToRaise words.now) }
+    ensures none { IsNone result → (o : Operation) → AsksToRaise words.now o → ⊥ }
+{
+    match words {
+        b"2" => Some(Op::Raise),
+        _ => None,
+    }
+}
+
 /// The body that hex digits spell.
 fn in_hex(digits: &[u8]) -> Option<Op>
     ensures some { IfSome result (AsksInHex digits.now) }
@@ -126,14 +137,18 @@ fn asked(verb: Verb, words: &[u8]) -> Option<Op>
         Verb::Release => of_fence(2, words),
         Verb::Ask => of_name(3, words),
         Verb::Check => of_fence(4, words),
+        Verb::Share => of_name(5, words),
+        Verb::Break => of_fence(6, words),
         Verb::Join => to_join(words),
         Verb::Leave => to_leave(words),
+        Verb::Raise => to_raise(words),
         Verb::Raw => in_hex(words),
     }
 }
 
 /// What a client asks by words that are parted by one space: `acquire NAME`, `release NAME FENCE`, `ask NAME`,
-/// `check NAME FENCE`, `join NODE PORT`, `leave NODE` or `raw HEX`, or `None` where they are none of these.
+/// `check NAME FENCE`, `share NAME`, `break NAME FENCE`, `join NODE PORT`, `leave NODE`, `raise 2` or `raw HEX`, or `None`
+/// where they are none of these.
 ///
 /// A name has 1 to 54 bytes, none of them a space, and goes into the body as it stands: the lock table judges it. A fence
 /// is 0 to 2^48. Numbers are decimal without leading zeros, and the bytes of a raw body are 1 to 64.

@@ -9,8 +9,11 @@ pub enum Verb {
     Release,
     Ask,
     Check,
+    Share,
+    Break,
     Join,
     Leave,
+    Raise,
     Raw,
 }
 
@@ -25,8 +28,11 @@ impl Verb {
             b"release" => Some(Verb::Release),
             b"ask" => Some(Verb::Ask),
             b"check" => Some(Verb::Check),
+            b"share" => Some(Verb::Share),
+            b"break" => Some(Verb::Break),
             b"join" => Some(Verb::Join),
             b"leave" => Some(Verb::Leave),
+            b"raise" => Some(Verb::Raise),
             b"raw" => Some(Verb::Raw),
             _ => None,
         }

@@ -1,9 +1,9 @@
 ghost use Rattle.std.specs.Prelude.{◌≡◌, ◌<◌};
 ghost use Rattle.lk_wire.specs.Parser.{Finds, read_byte};
-ghost use Rattle.lk_wire.specs.FieldReading.{read_two, read_four, read_eight, read_node, read_client, read_port, read_count, read_total};
+ghost use Rattle.lk_wire.specs.FieldReading.{read_two, read_four, read_eight, read_node, read_client, read_port, read_count, read_total, read_sharer_count};
 
 use lk_types::{
-    ClientNo, Executed, Fence, LastFence, NodeNo, Port, Position, RequestNumber, Round,
+    ClientNo, Executed, Fence, LastFence, NodeNo, Port, Position, RequestNumber, Round, SharerCount,
 };
 
 pub fn read_u8(bytes: &[u8]) -> Option<(u8, &[u8])>
@@ -120,4 +120,12 @@ pub fn read_executed(bytes: &[u8]) -> Option<(Executed, &[u8])>
 {
     let (number, rest) = read_u64(bytes)?;
     Some((Executed::of(number)?, rest))
+}
+
+#[tactic(auto, unfolding(crate::specs::FieldReading::read_sharer_count))]
+pub fn read_sharer_count(bytes: &[u8]) -> Option<(SharerCount, &[u8])>
+    ensures { Finds (λ x. (x.0, x.1.now)) result (read_sharer_count bytes.now) }
+{
+    let (number, rest) = read_u8(bytes)?;
+    Some((SharerCount::of(number)?, rest))
 }

@@ -189,6 +189,10 @@ pub fn put_op(out: &mut BytesMut, value: &Op) -> Result<(), AllocError>
             put_u8(out, 2)?;
             put_node(out, *node)?;
         }
+        Op::Raise => {
+            put_u8(out, 3)?;
+            put_u8(out, 2)?;
+        }
     }
     Ok(())
 }
@@ -252,12 +256,17 @@ fn tag_of(value: &Answer) -> u8
         Answer::NoRoom => 9,
         Answer::Bad => 10,
         Answer::Spent => 11,
+        Answer::Shared(_) => 12,
+        Answer::HeldShared(_, _) => 13,
+        Answer::Broken => 14,
         Answer::Joined => 32,
         Answer::Used => 33,
         Answer::Full => 34,
         Answer::Left => 35,
         Answer::NotMember => 36,
         Answer::Last => 37,
+        Answer::Raised => 38,
+        Answer::AlreadyRaised => 39,
     }
 }
 
@@ -267,12 +276,16 @@ fn put_answer_fields(out: &mut BytesMut, value: &Answer) -> Result<(), AllocErro
     ensures room { UsesRoom result out.old.spare out.new.spare held_room }
 {
     match value {
-        Answer::Granted(fence) => put_fence(out, *fence)?,
+        Answer::Granted(fence) | Answer::Shared(fence) => put_fence(out, *fence)?,
         Answer::Busy(holder, fence) | Answer::Held(holder, fence) => {
             put_client(out, *holder)?;
             put_fence(out, *fence)?;
         }
         Answer::Free(fence) => put_last_fence(out, *fence)?,
+        Answer::HeldShared(count, fence) => {
+            put_u8(out, count.get())?;
+            put_fence(out, *fence)?;
+        }
         Answer::Released
         | Answer::NotHeld
         | Answer::Valid
@@ -280,12 +293,15 @@ fn put_answer_fields(out: &mut BytesMut, value: &Answer) -> Result<(), AllocErro
         | Answer::NoRoom
         | Answer::Bad
         | Answer::Spent
+        | Answer::Broken
         | Answer::Joined
         | Answer::Used
         | Answer::Full
         | Answer::Left
         | Answer::NotMember
-        | Answer::Last => {}
+        | Answer::Last
+        | Answer::Raised
+        | Answer::AlreadyRaised => {}
     }
     Ok(())
 }

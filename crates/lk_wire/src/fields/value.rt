@@ -1,13 +1,14 @@
 ghost use Rattle.std.specs.Prelude.{◌≡◌};
 ghost use Rattle.lk_wire.specs.Parser.{Finds};
-ghost use Rattle.lk_wire.specs.FieldReading.{read_ballot, read_mark, read_member, read_payload, read_op, read_request, read_command, read_vote, bare_answer, read_held, read_answer};
+ghost use Rattle.lk_wire.specs.FieldReading.{read_ballot, read_mark, read_member, read_payload, read_op, read_request, read_command, read_vote, bare_answer, read_held, read_sharing, read_answer};
 
 use crate::fields::number::{
     read_client, read_fence, read_last_fence, read_node, read_number, read_port, read_position,
-    read_round, read_u8, read_u32, read_u64,
+    read_round, read_sharer_count, read_u8, read_u32, read_u64,
 };
 use lk_types::{
-    Answer, Ballot, ClientNo, Command, Fence, Member, Op, Payload, RealBallot, Request, Vote,
+    Answer, Ballot, ClientNo, Command, Fence, Member, Op, Payload, RealBallot, Request,
+    SharerCount, Vote,
 };
 
 #[tactic(auto, unfolding(crate::specs::FieldReading::read_ballot))]
@@ -61,7 +62,7 @@ pub fn read_payload(bytes: &[u8]) -> Option<(Payload, &[u8])>
     Some((Payload::of(text)?, rest))
 }
 
-#[tactic(auto, unfolding(crate::specs::FieldReading::op_of))]
+#[tactic(auto, unfolding(crate::specs::FieldReading::op_of, crate::specs::FieldReading::read_version))]
 pub fn read_op(bytes: &[u8]) -> Option<(Op, &[u8])>
     ensures { Finds (λ x. (x.0, x.1.now)) result (read_op bytes.now) }
 {
@@ -84,6 +85,13 @@ pub fn read_op(bytes: &[u8]) -> Option<(Op, &[u8])>
                 return None;
             };
             Some((Op::Leave(node), rest))
+        }
+        3 => {
+            let (version, rest) = read_u8(rest)?;
+            if version != 2 {
+                return None;
+            }
+            Some((Op::Raise, rest))
         }
         _ => None,
     }
@@ -157,12 +165,15 @@ fn bare_answer<'a>(tag: u8, rest: &'a [u8]) -> Option<(Answer, &'a [u8])>
         9 => Answer::NoRoom,
         10 => Answer::Bad,
         11 => Answer::Spent,
+        14 => Answer::Broken,
         32 => Answer::Joined,
         33 => Answer::Used,
         34 => Answer::Full,
         35 => Answer::Left,
         36 => Answer::NotMember,
         37 => Answer::Last,
+        38 => Answer::Raised,
+        39 => Answer::AlreadyRaised,
         _ => return None,
     };
     Some((answer, rest))
@@ -179,6 +190,19 @@ fn read_held(bytes: &[u8]) -> Option<(ClientNo, Fence, &[u8])>
         return None;
     };
     Some((holder, fence, rest))
+}
+
+/// How many share a name, and its fence.
+fn read_sharing(bytes: &[u8]) -> Option<(SharerCount, Fence, &[u8])>
+    ensures { Finds (λ x. ((x.0, x.1), x.2.now)) result (read_sharing bytes.now) }
+{
+    let Some((count, rest)) = read_sharer_count(bytes) else {
+        return None;
+    };
+    let Some((fence, rest)) = read_fence(rest) else {
+        return None;
+    };
+    Some((count, fence, rest))
 }
 
 #[tactic(auto, unfolding(crate::specs::FieldReading::answer_of))]
@@ -210,6 +234,18 @@ pub fn read_answer(bytes: &[u8]) -> Option<(Answer, &[u8])>
                 return None;
             };
             Some((Answer::Held(holder, fence), rest))
+        }
+        12 => {
+            let Some((fence, rest)) = read_fence(rest) else {
+                return None;
+            };
+            Some((Answer::Shared(fence), rest))
+        }
+        13 => {
+            let Some((count, fence, rest)) = read_sharing(rest) else {
+                return None;
+            };
+            Some((Answer::HeldShared(count, fence), rest))
         }
         _ => bare_answer(tag, rest),
     }

@@ -9,6 +9,9 @@ returns-in-Release-clause-none c = λ none o asks. c.of_fence.ensures.none none 
 pub returns-in-Check-clause-none : goal.returns-in-Check-clause-none
 returns-in-Check-clause-none c = λ none o asks. c.of_fence-in-Check.ensures.none none o (subst (λ (v : Verb). Asks v c.args.words.now o) c.in-Check.is asks)
 
+pub returns-in-Break-clause-none : goal.returns-in-Break-clause-none
+returns-in-Break-clause-none c = λ none o asks. c.of_fence-in-Break.ensures.none none o (subst (λ (v : Verb). Asks v c.args.words.now o) c.in-Break.is asks)
+
 pub returns-in-Join-clause-none : goal.returns-in-Join-clause-none
 returns-in-Join-clause-none c = λ none o asks. c.to_join.ensures.none none o (subst (λ (v : Verb). Asks v c.args.words.now o) c.in-Join.is asks)
 

@@ -2,7 +2,7 @@ use Rattle.std.proofs.Common.{refl}
 use Rattle.lk_words.specs.Words.{HasNoSpace}
 use Rattle.lk_words.specs.Verbs.{word_of}
 use Rattle.lk_words.specs.declared.verb.Verb.{Verb}
-use Rattle.lk_words.specs.declared.verb.Verb.TheVariants.{Acquire, Release, Ask, Check, Join, Leave, Raw}
+use Rattle.lk_words.specs.declared.verb.Verb.TheVariants.{Acquire, Release, Ask, Check, Share, Break, Join, Leave, Raise, Raw}
 use Rattle.lk_words.proofs.Splits.{one_way}
 use Rattle.lk_words.proofs.operation.read_operation.Goals as goal
 
@@ -11,8 +11,11 @@ one_verb Acquire = refl
 one_verb Release = refl
 one_verb Ask = refl
 one_verb Check = refl
+one_verb Share = refl
+one_verb Break = refl
 one_verb Join = refl
 one_verb Leave = refl
+one_verb Raise = refl
 one_verb Raw = refl
 
 pub returns-in_err-verb-clause-none : goal.returns-in_err-verb-clause-none

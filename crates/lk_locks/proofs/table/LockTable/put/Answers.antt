@@ -1,20 +1,19 @@
-use Rattle.std.proofs.Common.{◌≡◌, ◌++◌, ap, sym, refl, List, ℕ, ◌∙◌}
-use Rattle.std.specs.List.{flat_map}
-use Rattle.std.specs.Cmp.Lexicographic.{nat_list_cmp_total}
+-- The mark stands in front where the table was raised.
+use Rattle.std.proofs.Common.{◌≡◌, ◌∙◌, ◌++◌, ℕ, true, false, List, ap, sym}
 use Rattle.std.specs.FinMap as map
-use Rattle.lk_wire.specs.Fields.{two}
-use Rattle.lk_wire.proofs.Spellings.{keeps_same, keeps_behind}
-use Rattle.lk_locks.specs.Packed.{entry}
-use Rattle.lk_locks.proofs.Maps.{entries_are}
-use Rattle.lk_locks.proofs.TableLaws.{begun}
+use Rattle.std.proofs.lemmas.Result.{on_ok_weaker}
+use Rattle.lk_locks.specs.Packed.{entries}
+use Rattle.lk_locks.specs.Plain.{Table}
+use Rattle.lk_locks.proofs.TableLaws.{marked, unmarked}
 use Rattle.lk_locks.proofs.table.LockTable.put.Goals as goal
 
-pub loop-name-init : goal.loop-name-init
-loop-name-init c =
-    let listed : c.into_iter-name-iterator.result ≡ map.entries c.args.self.now =
-    c.into_iter-name-iterator.ensures.into_iter_gives ∙ c.iter-name-items.ensures.rest ∙ sym (entries_are nat_list_cmp_total c.self.inside.slots.entries c.self.invariant.0) ∙ ap map.entries c.self.view_is in
-    let wrote = c.in_ok-put_u16.ensures.ok in
-    record {
-      so_far = ap (λ (t : List ℕ). t ++ flat_map entry c.into_iter-name-iterator.result) wrote ∙ begun c.args.self.now c.args.out.now.items c.len.result c.into_iter-name-iterator.result c.len.ensures.len listed;
-      keeps = keeps_behind c.args.out.now.items c.put_u16.new.out.items c.put_u16.new.out.items (two c.len.result) wrote (keeps_same _ _ refl);
-    }
+pub returns-then-self-clause-ok : goal.returns-then-self-clause-ok
+returns-then-self-clause-ok c =
+    let raised : c.args.self.now.raised ≡ true = ap (λ (t : Table). t.raised) (sym c.self.view_is) ∙ c.if-self.true in
+    marked c.args.self.now c.args.out.now.items c.put_names.new.out.items raised
+    (c.in_ok-put_names.ensures.ok ∙ ap (λ (l : List ℕ). l ++ entries c.args.self.now.raised (map.entries c.args.self.now.names)) c.in_ok-put_u16.ensures.ok)
+
+pub returns-clause-ok : goal.returns-clause-ok
+returns-clause-ok c =
+    let plain : c.args.self.now.raised ≡ false = ap (λ (t : Table). t.raised) (sym c.self.view_is) ∙ c.if-self.false in
+    on_ok_weaker c.put_names-2.result (λ e. unmarked c.args.self.now c.args.out.now.items c.put_names-2.new.out.items plain e) c.put_names-2.ensures.ok

@@ -1,5 +1,0 @@
-use Rattle.lk_locks.proofs.Tables as law
-use Rattle.lk_locks.proofs.laws.each_grant_is_listed.Goals as goal
-
-pub returns : goal.returns
-returns c = law.each_grant_is_listed

@@ -1,0 +1,171 @@
+//! What each body comes to, by what its name has and how many names stand.
+ghost use Rattle.std.specs.Prelude.{◌≡◌, Some, [], ◌∷◌};
+ghost use Rattle.lk_types.specs.declared.answer.Answer.TheVariants.{Shared};
+ghost use Rattle.lk_locks.specs.declared.slot.Holders.TheVariants.{Together};
+ghost use Rattle.lk_locks.specs.Plain.{unchanged, fence_after, first_fence, given, acquired, joined, shared, released, is_held_at, broken, asked, checked, row};
+
+use crate::body::Body;
+use crate::row::Row;
+use crate::sharers::Sharers;
+use crate::slot::{Holders, Slot};
+use lk_types::limits::MAX_NAMES;
+use lk_types::{Answer, ClientNo, Fence, LastFence};
+
+fn unchanged(answer: Answer) -> Row
+    ensures { result ≡ unchanged answer }
+{
+    let change = None;
+    Row { answer, change }
+}
+
+fn changed(answer: Answer, fence: Fence, holders: Holders) -> Row
+    ensures { result ≡ record { answer = answer; change = Some (record { fence = fence; holders = holders }) } }
+{
+    let change = Some(Slot { fence, holders });
+    Row { answer, change }
+}
+
+/// The next fence of a name that nobody holds, or why there is none.
+fn fence_after(fence: Fence) -> Result<Fence, Answer>
+    ensures { result ≡ fence_after fence }
+{
+    Fence::of(fence.get() + 1).ok_or(Answer::Spent)
+}
+
+/// The fence of a new name, where so many stand.
+fn first_fence(names: usize) -> Result<Fence, Answer>
+    ensures { result ≡ first_fence names }
+{
+    if names >= MAX_NAMES {
+        return Err(Answer::NoRoom);
+    }
+    Ok(Fence::default())
+}
+
+fn acquire(client: ClientNo, slot: Option<Slot>, names: usize) -> Row
+    ensures { result ≡ acquired client slot names }
+{
+    let given = match slot {
+        None => first_fence(names),
+        Some(Slot { fence, holders }) => match holders {
+            Holders::Nobody => fence_after(fence),
+            Holders::Alone(holder) => Err(Answer::Busy(holder, fence)),
+            Holders::Together(clients) => Err(Answer::Busy(clients.least(), fence)),
+        },
+    };
+    match given {
+        Ok(fence) => changed(Answer::Granted(fence), fence, Holders::Alone(client)),
+        Err(refusal) => unchanged(refusal),
+    }
+}
+
+/// What it comes to that a client shares a name that others share.
+fn join(client: ClientNo, fence: Fence, clients: Sharers) -> Row
+    ensures { result ≡ joined client fence clients }
+{
+    if clients.has(client) {
+        return unchanged(Answer::Shared(fence));
+    }
+    if clients.is_full() {
+        return unchanged(Answer::Busy(clients.least(), fence));
+    }
+    let holders = Holders::Together(clients.with(client));
+    changed(Answer::Shared(fence), fence, holders)
+}
+
+/// What it comes to that a client shares a name that nobody holds.
+fn begin(client: ClientNo, fence: Result<Fence, Answer>) -> Row
+    ensures { result ≡ given Shared (Together (client ∷ [])) fence }
+{
+    match fence {
+        Ok(fence) => changed(
+            Answer::Shared(fence),
+            fence,
+            Holders::Together(Sharers::one(client)),
+        ),
+        Err(refusal) => unchanged(refusal),
+    }
+}
+
+fn share(client: ClientNo, slot: Option<Slot>, names: usize) -> Row
+    ensures { result ≡ shared client slot names }
+{
+    match slot {
+        None => begin(client, first_fence(names)),
+        Some(Slot { fence, holders }) => match holders {
+            Holders::Nobody => begin(client, fence_after(fence)),
+            Holders::Alone(holder) => unchanged(Answer::Busy(holder, fence)),
+            Holders::Together(clients) => join(client, fence, clients),
+        },
+    }
+}
+
+fn release(client: ClientNo, fence: Fence, slot: Option<Slot>) -> Row
+    ensures { result ≡ released client fence slot }
+{
+    let Some(slot) = slot else {
+        return unchanged(Answer::NotHeld);
+    };
+    if slot.fence != fence {
+        return unchanged(Answer::NotHeld);
+    }
+    match slot.holders.left_by(client) {
+        Some(holders) => changed(Answer::Released, fence, holders),
+        None => unchanged(Answer::NotHeld),
+    }
+}
+
+fn is_held_at(fence: Fence, slot: &Option<Slot>) -> bool
+    ensures { result ≡ is_held_at fence slot.now }
+{
+    match slot {
+        Some(slot) => slot.holders.is_held() && slot.fence == fence,
+        None => false,
+    }
+}
+
+fn break_up(fence: Fence, slot: Option<Slot>) -> Row
+    ensures { result ≡ broken fence slot }
+{
+    if !is_held_at(fence, &slot) {
+        return unchanged(Answer::Stale);
+    }
+    changed(Answer::Broken, fence, Holders::Nobody)
+}
+
+fn ask(slot: Option<Slot>) -> Answer
+    ensures { result ≡ asked slot }
+{
+    let Some(Slot { fence, holders }) = slot else {
+        return Answer::Free(LastFence::default());
+    };
+    match holders {
+        Holders::Nobody => Answer::Free(LastFence::of(fence.get()).unwrap()),
+        Holders::Alone(holder) => Answer::Held(holder, fence),
+        Holders::Together(clients) => Answer::HeldShared(clients.count(), fence),
+    }
+}
+
+fn check(fence: Fence, slot: Option<Slot>) -> Answer
+    ensures { result ≡ checked fence slot }
+{
+    if is_held_at(fence, &slot) {
+        Answer::Valid
+    } else {
+        Answer::Stale
+    }
+}
+
+/// What a body comes to.
+pub fn row(client: ClientNo, body: &Body, slot: Option<Slot>, names: usize) -> Row
+    ensures { result ≡ row client body.now slot names }
+{
+    match body {
+        Body::Acquire(_) => acquire(client, slot, names),
+        Body::Release(_, fence) => release(client, *fence, slot),
+        Body::Ask(_) => unchanged(ask(slot)),
+        Body::Check(_, fence) => unchanged(check(*fence, slot)),
+        Body::Share(_) => share(client, slot, names),
+        Body::Break(_, fence) => break_up(*fence, slot),
+    }
+}
