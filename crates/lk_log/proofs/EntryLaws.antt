@@ -11,7 +11,7 @@ use Rattle.lk_types.specs.Votes.{IsVote}
 use Rattle.lk_types.specs.declared.command.Command.{Command}
 use Rattle.lk_types.specs.declared.command.Command.TheVariants.{Noop, Request}
 use Rattle.lk_types.specs.declared.command.Op.{Op}
-use Rattle.lk_types.specs.declared.command.Op.TheVariants.{Table, Join, Leave}
+use Rattle.lk_types.specs.declared.command.Op.TheVariants.{Table, Join, Leave, Raise}
 use Rattle.lk_types.specs.declared.entry.Entry.{Entry}
 use Rattle.lk_types.specs.declared.entry.Entry.TheVariants.{Promise, Vote, Decided}
 use Rattle.lk_types.specs.declared.member.Member.{Member}
@@ -206,6 +206,7 @@ unfolding four two
 len_op (Table bytes) f = omega (arith, f.1)
 len_op (Join node port) f = lit≤ tt
 len_op (Leave node) f = lit≤ tt
+len_op Raise f = lit≤ tt
 
 pub len_command : (c : Command) → IsCommand c → length (command c) ≤ 77
 unfolding eight four two

@@ -30,7 +30,7 @@ fn node_command<'a>(alloc: Global) -> Result<Command<'a>, AllocError> {
 /// `locks ask`.
 fn ask_command<'a>(alloc: Global) -> Result<Command<'a>, AllocError> {
     let op = Arg::new(alloc, "op").required(true).num_args(1..).help(
-        "acquire NAME, release NAME FENCE, ask NAME, check NAME FENCE, join NODE PORT, leave NODE or raw HEX",
+        "acquire NAME, release NAME FENCE, ask NAME, check NAME FENCE, share NAME, break NAME FENCE, join NODE PORT, leave NODE, raise 2 or raw HEX",
     );
     Command::new(alloc, "ask")
         .about("asks a node once, and prints what it is answered")

@@ -5,7 +5,7 @@ use Rattle.lk_types.specs.BallotValue.{BallotValue}
 use Rattle.lk_types.specs.declared.member.Member.{Member}
 use Rattle.lk_types.specs.declared.vote.Vote.{Vote}
 use Rattle.lk_members.specs.Counting.{Command, RequestValue, Noop, Request}
-use Rattle.lk_members.specs.Rosters.{Op, Table, Join, Leave}
+use Rattle.lk_members.specs.Rosters.{Op, Table, Join, Leave, Raise}
 use Rattle.lk_leader.specs.Proposing.{AreMembersAt}
 use Rattle.lk_leader.specs.Terms.{TermValue, ProposalValue, proposal_at}
 use Rattle.lk_node.specs.Counting.{IsForProposal}
@@ -31,6 +31,7 @@ same_op : (a b : Op) → (a ≡ b) ⊎ (a ≡ b → ⊥)
 same_op (Table x) (Table y) = elim (same_list x y) [ inl same ↦ inl (ap Table same) | inr differ ↦ inr (λ e. differ (cc e)) ]
 same_op (Table x) (Join n p) = inr (λ e. cc e)
 same_op (Table x) (Leave n) = inr (λ e. cc e)
+same_op (Table x) Raise = inr (λ e. cc e)
 same_op (Join n p) (Table y) = inr (λ e. cc e)
 same_op (Join n p) (Join k q) =
     elim (same_number n k) [
@@ -41,9 +42,15 @@ same_op (Join n p) (Join k q) =
       | inr differ ↦ inr (λ e. differ (cc e))
     ]
 same_op (Join n p) (Leave k) = inr (λ e. cc e)
+same_op (Join n p) Raise = inr (λ e. cc e)
 same_op (Leave n) (Table y) = inr (λ e. cc e)
 same_op (Leave n) (Join k q) = inr (λ e. cc e)
 same_op (Leave n) (Leave k) = elim (same_number n k) [ inl same ↦ inl (ap Leave same) | inr differ ↦ inr (λ e. differ (cc e)) ]
+same_op (Leave n) Raise = inr (λ e. cc e)
+same_op Raise (Table y) = inr (λ e. cc e)
+same_op Raise (Join k q) = inr (λ e. cc e)
+same_op Raise (Leave k) = inr (λ e. cc e)
+same_op Raise Raise = inl refl
 
 same_request : (r q : RequestValue) → (r ≡ q) ⊎ (r ≡ q → ⊥)
 same_request r q =

@@ -4,7 +4,7 @@ use Rattle.std.specs.Fmt.{decimal}
 use Rattle.hex.specs.Hex.{encode_lower}
 use Rattle.lk_types.specs.declared.answer.Answer.{Answer as AnswerValue}
 use Rattle.lk_types.specs.declared.command.Op.{Op}
-use Rattle.lk_types.specs.declared.command.Op.TheVariants.{Table, Join, Leave}
+use Rattle.lk_types.specs.declared.command.Op.TheVariants.{Table, Join, Leave, Raise}
 use Rattle.lk_wire.specs.declared.message.NodeMessage.{NodeMessage}
 use Rattle.lk_wire.specs.declared.message.NodeMessage.TheVariants.{Answer, Passed}
 use Rattle.lk_wire.specs.declared.message.Content.{Content}
@@ -41,6 +41,7 @@ abbrev pub is_for_table : Op → Bool
 is_for_table (Table body) = true
 is_for_table (Join node port) = false
 is_for_table (Leave node) = false
+is_for_table Raise = true
 
 -- what a datagram to node 1 of the cluster prints, and the list behind it
 pub data Prints (cluster : ℕ) (L : List Command) (bytes : List ℕ) : List ℕ → List Command → Type 0 where

@@ -3,7 +3,7 @@
 ghost use Rattle.std.specs.Prelude.{◌≡◌, ◌+◌, ◌<◌, ◌≤◌, ◌++◌, ◌∷◌, [], List, ℕ, Some, None, true, false, OnOk, IfOk, IfSome, IsNone, IsErrOf};
 ghost use Rattle.lk_types.specs.Limits.{max_count};
 ghost use Rattle.lk_members.specs.Counting.{Command as CommandValue};
-ghost use Rattle.lk_script.specs.TableMode.{from_client, is_request_to};
+ghost use Rattle.lk_script.specs.TableMode.{from_client, is_request_to, is_for_table};
 
 use crate::buffers::Buffers;
 use crate::fault::LineFault;
@@ -22,6 +22,16 @@ fn request_to(cluster: u64, message: &Message) -> Option<&Request>
     match &message.content {
         Content::Request(request) if message.cluster == cluster => Some(request),
         _ => None,
+    }
+}
+
+/// Whether an op asks something of the lock table, and not of the members.
+fn is_for_table(op: &Op) -> bool
+    ensures { result ≡ is_for_table op.now }
+{
+    match op {
+        Op::Table(_) | Op::Raise => true,
+        Op::Join(..) | Op::Leave(_) => false,
     }
 }
 
@@ -101,9 +111,9 @@ impl Server {
         ensures cluster { self.new.cluster ≡ self.old.cluster }
         ensures paces { executed_of self.new ≤ executed_of self.old + 1 }
     {
-        let Op::Table(_) = &request.op else {
+        if !is_for_table(&request.op) {
             return buffers.print("not here");
-        };
+        }
         let reply = self.reply(request)?;
         let message = Message {
             cluster: self.cluster,

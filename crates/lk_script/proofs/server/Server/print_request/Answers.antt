@@ -1,4 +1,4 @@
-use Rattle.std.proofs.Common.{rules, ◌≡◌, ◌∙◌, sym, ap, subst, List, ℕ}
+use Rattle.std.proofs.Common.{◌≡◌, ◌∙◌, sym, ap, subst, List, ℕ}
 use Rattle.hex.specs.Hex.{encode_lower}
 use Rattle.lk_wire.specs.Grammar.{spelling}
 use Rattle.lk_wire.specs.declared.message.Message.{Message}
@@ -6,12 +6,12 @@ use Rattle.lk_wire.specs.declared.message.Content.TheVariants.{Node}
 use Rattle.lk_script.specs.Replies.{with_request}
 use Rattle.lk_script.specs.TableMode.{from_node, Prints}
 use Rattle.lk_script.specs.TableMode.Prints.{not_here, replied}
-use Rattle.lk_script.proofs.PrintLemmas.{is_change, on_ok}
+use Rattle.lk_script.proofs.PrintLemmas.{on_ok}
 use Rattle.lk_script.proofs.server.Server.print_request.Goals as goal
 
-pub returns-in_default-clause-ok : goal.returns-in_default-clause-ok
-returns-in_default-clause-ok c = on_ok c.print.result _ _ c.print.ensures.ok
-    (λ text bytes L spells sums. (L, rw text (not_here c.args.request.now spells (is_change c.args.request.now.op c.in_default.not-Table)), sums))
+pub returns-then-not-is_for_table-clause-ok : goal.returns-then-not-is_for_table-clause-ok
+returns-then-not-is_for_table-clause-ok c = on_ok c.print.result _ _ c.print.ensures.ok
+    (λ text bytes L spells sums. (L, rw text (not_here c.args.request.now spells (sym c.is_for_table.ensures ∙ c.if-not-is_for_table.true)), sums))
 
 pub returns-clause-ok : goal.returns-clause-ok
 returns-clause-ok c = on_ok c.print_message.result _ _ c.print_message.ensures.ok
@@ -22,6 +22,6 @@ returns-clause-ok c = on_ok c.print_message.result _ _ c.print_message.ensures.o
     text ∙ ap encode_lower (ap (λ (k : ℕ). spelling (sent k c.default.result)) c.reply.ensures.cluster ∙ ap (λ (n : ℕ). spelling (sent c.args.self.now.cluster n)) c.default.ensures) in (
       with_request L c.args.request.now,
       subst (λ (t : List ℕ). Prints c.args.self.now.cluster L bytes t (with_request L c.args.request.now)) (sym is)
-          (replied c.args.request.now c.in_ok-reply.reply spells (rw c.in-Table.is (search rules)) done.0),
+          (replied c.args.request.now c.in_ok-reply.reply spells (sym c.is_for_table.ensures ∙ c.if-not-is_for_table.false) done.0),
       done.1,
     ))
