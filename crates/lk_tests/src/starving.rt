@@ -45,6 +45,10 @@ impl Machine for Starved {
         Err(NoMemory)
     }
 
+    fn raise(&mut self) -> Answer {
+        self.table.raise()
+    }
+
     fn pack(&self, out: &mut BytesMut) -> Result<(), NoMemory> {
         self.table.pack(out)
     }

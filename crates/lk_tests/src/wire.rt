@@ -10,7 +10,7 @@ type Row<'a> = (&'a str, &'a str);
 
 // A datagram of each kind, and one of each answer.
 #[rattlefmt::skip]
-const DATAGRAMS: [Row; 29] = [
+const DATAGRAMS: [Row; 34] = [
     ("4c4b0101 0000000000000005 00000001 0000000000000003 00000001 0000000000000064", "Message { cluster: 5, content: Node(NodeNo { value: 1 }, Prepare(RealBallot { ballot: Ballot { round: 3, node: 1 } }, Position { value: 100 })) }"),
     ("4c4b0102 0000000000000005 00000002 0000000000000003 00000001 0000000000000003 02 0000000000000004 0000000000000001 00000001 00 0000000000000006 0000000000000002 00000003 01 0007 0000000000000001 00 04 01026462", "Message { cluster: 5, content: Node(NodeNo { value: 2 }, Promise(Promise { ballot: RealBallot { ballot: Ballot { round: 3, node: 1 } }, first: Position { value: 3 }, votes: [Vote { position: Position { value: 4 }, ballot: RealBallot { ballot: Ballot { round: 1, node: 1 } }, command: Noop }, Vote { position: Position { value: 6 }, ballot: RealBallot { ballot: Ballot { round: 2, node: 3 } }, command: Request(Request { client: ClientNo { value: 7 }, number: RequestNumber { value: 1 }, op: Table(Payload { bytes: [1, 2, 100, 98] }) }) }] })) }"),
     ("4c4b0103 0000000000000005 00000001 0000000000000003 00000001 0000000000000006 01 0009 0000000000000002 01 00000004 1b5c", "Message { cluster: 5, content: Node(NodeNo { value: 1 }, Accept(Vote { position: Position { value: 6 }, ballot: RealBallot { ballot: Ballot { round: 3, node: 1 } }, command: Request(Request { client: ClientNo { value: 9 }, number: RequestNumber { value: 2 }, op: Join(NodeNo { value: 4 }, Port { value: 7004 }) }) })) }"),
@@ -34,19 +34,24 @@ const DATAGRAMS: [Row; 29] = [
     ("4c4b010a 0000000000000005 00000001 0007 0000000000000001 09", "Message { cluster: 5, content: Node(NodeNo { value: 1 }, Answer(Answered { client: ClientNo { value: 7 }, number: RequestNumber { value: 1 }, answer: NoRoom })) }"),
     ("4c4b010a 0000000000000005 00000001 0007 0000000000000001 0a", "Message { cluster: 5, content: Node(NodeNo { value: 1 }, Answer(Answered { client: ClientNo { value: 7 }, number: RequestNumber { value: 1 }, answer: Bad })) }"),
     ("4c4b010a 0000000000000005 00000001 0007 0000000000000001 0b", "Message { cluster: 5, content: Node(NodeNo { value: 1 }, Answer(Answered { client: ClientNo { value: 7 }, number: RequestNumber { value: 1 }, answer: Spent })) }"),
+    ("4c4b010a 0000000000000005 00000001 0007 0000000000000001 0c 0000000000000001", "Message { cluster: 5, content: Node(NodeNo { value: 1 }, Answer(Answered { client: ClientNo { value: 7 }, number: RequestNumber { value: 1 }, answer: Shared(Fence { value: 1 }) })) }"),
+    ("4c4b010a 0000000000000005 00000001 0007 0000000000000001 0d 08 0000000000000001", "Message { cluster: 5, content: Node(NodeNo { value: 1 }, Answer(Answered { client: ClientNo { value: 7 }, number: RequestNumber { value: 1 }, answer: HeldShared(SharerCount { value: 8 }, Fence { value: 1 }) })) }"),
+    ("4c4b010a 0000000000000005 00000001 0007 0000000000000001 0e", "Message { cluster: 5, content: Node(NodeNo { value: 1 }, Answer(Answered { client: ClientNo { value: 7 }, number: RequestNumber { value: 1 }, answer: Broken })) }"),
     ("4c4b010a 0000000000000005 00000001 0007 0000000000000001 20", "Message { cluster: 5, content: Node(NodeNo { value: 1 }, Answer(Answered { client: ClientNo { value: 7 }, number: RequestNumber { value: 1 }, answer: Joined })) }"),
     ("4c4b010a 0000000000000005 00000001 0007 0000000000000001 21", "Message { cluster: 5, content: Node(NodeNo { value: 1 }, Answer(Answered { client: ClientNo { value: 7 }, number: RequestNumber { value: 1 }, answer: Used })) }"),
     ("4c4b010a 0000000000000005 00000001 0007 0000000000000001 22", "Message { cluster: 5, content: Node(NodeNo { value: 1 }, Answer(Answered { client: ClientNo { value: 7 }, number: RequestNumber { value: 1 }, answer: Full })) }"),
     ("4c4b010a 0000000000000005 00000001 0007 0000000000000001 23", "Message { cluster: 5, content: Node(NodeNo { value: 1 }, Answer(Answered { client: ClientNo { value: 7 }, number: RequestNumber { value: 1 }, answer: Left })) }"),
     ("4c4b010a 0000000000000005 00000001 0007 0000000000000001 24", "Message { cluster: 5, content: Node(NodeNo { value: 1 }, Answer(Answered { client: ClientNo { value: 7 }, number: RequestNumber { value: 1 }, answer: NotMember })) }"),
     ("4c4b010a 0000000000000005 00000001 0007 0000000000000001 25", "Message { cluster: 5, content: Node(NodeNo { value: 1 }, Answer(Answered { client: ClientNo { value: 7 }, number: RequestNumber { value: 1 }, answer: Last })) }"),
+    ("4c4b010a 0000000000000005 00000001 0007 0000000000000001 26", "Message { cluster: 5, content: Node(NodeNo { value: 1 }, Answer(Answered { client: ClientNo { value: 7 }, number: RequestNumber { value: 1 }, answer: Raised })) }"),
+    ("4c4b010a 0000000000000005 00000001 0007 0000000000000001 27", "Message { cluster: 5, content: Node(NodeNo { value: 1 }, Answer(Answered { client: ClientNo { value: 7 }, number: RequestNumber { value: 1 }, answer: AlreadyRaised })) }"),
 ];
 
 // What stands in front, the last that is taken, the first that is not, what stands behind.
 type Limit<'a> = (&'a str, &'a str, &'a str, &'a str);
 
 #[rattlefmt::skip]
-const LIMITS: [Limit; 48] = [
+const LIMITS: [Limit; 52] = [
     ("4c4b01", "01", "00", "0000000000000005 00000001 0000000000000003 00000001 0000000000000064"),
     ("4c4b01", "0d", "0e", "0000000000000005 00000001 0000000000000003 00000001 0000000000000064"),
     ("4c4b0101 0000000000000005", "00000001", "00000000", "0000000000000003 00000001 0000000000000064"),
@@ -82,11 +87,15 @@ const LIMITS: [Limit; 48] = [
     ("4c4b0109 0000000000000005 00000000 0007", "0000000000000001", "0000000000000000", "00 01 61"),
     ("4c4b0109 0000000000000005 00000000 0007", "0001000000000000", "0001000000000001", "00 01 61"),
     ("4c4b0109 0000000000000005 00000000 0007 0000000000000001", "02", "03", "00000001"),
+    ("4c4b0109 0000000000000005 00000000 0007 0000000000000001 03", "02", "03", ""),
     ("4c4b0109 0000000000000005 00000000 0007 0000000000000001", "00 01 61", "00 00", ""),
     ("4c4b0109 0000000000000005 00000000 0007 0000000000000001 01 00000004", "0001", "0000", ""),
     ("4c4b010a 0000000000000005 00000001 0007 0000000000000001", "0b", "0c", ""),
+    ("4c4b010a 0000000000000005 00000001 0007 0000000000000001", "0e", "0f", ""),
+    ("4c4b010a 0000000000000005 00000001 0007 0000000000000001 0d", "01", "00", "0000000000000001"),
+    ("4c4b010a 0000000000000005 00000001 0007 0000000000000001 0d", "08", "09", "0000000000000001"),
     ("4c4b010a 0000000000000005 00000001 0007 0000000000000001", "20", "1f", ""),
-    ("4c4b010a 0000000000000005 00000001 0007 0000000000000001", "25", "26", ""),
+    ("4c4b010a 0000000000000005 00000001 0007 0000000000000001", "27", "28", ""),
     ("4c4b010a 0000000000000005 00000001 0007 0000000000000001", "01", "00", "0000000000000001"),
     ("4c4b010a 0000000000000005 00000001 0007 0000000000000001 01", "0000000000000001", "0000000000000000", ""),
     ("4c4b010a 0000000000000005 00000001 0007 0000000000000001 01", "0001000000000000", "0001000000000001", ""),

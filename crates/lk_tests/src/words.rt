@@ -6,7 +6,7 @@ use std::alloc::Global;
 use std::test::Fail;
 
 // Words, and the body in hex that they ask for.
-const BODIES: [(&[u8], &str); 13] = [
+const BODIES: [(&[u8], &str); 15] = [
     (b"acquire db", "01 02 6462"),
     (b"acquire a/b.c-9", "01 07 612f622e632d39"),
     (b"acquire A\r\t\xff", "01 04 410d09ff"),
@@ -15,6 +15,8 @@ const BODIES: [(&[u8], &str); 13] = [
     (b"release db 281474976710656", "02 02 6462 0001000000000000"),
     (b"ask db", "03 02 6462"),
     (b"check db 258", "04 02 6462 0000000000000102"),
+    (b"share db", "05 02 6462"),
+    (b"break db 258", "06 02 6462 0000000000000102"),
     (b"raw 00", "00"),
     (b"raw aBCd", "abcd"),
     (b"raw 0100", "0100"),
@@ -52,5 +54,6 @@ fn nodes_join_and_leave_by_words(rt: HostRuntime) -> Result<(), Fail> {
     let port = Port::of(7004).ok_or("port")?;
     assert_eq!(rt; read_operation(b"join 4 7004"), Some(Op::Join(node, port)));
     assert_eq!(rt; read_operation(b"leave 4"), Some(Op::Leave(node)));
+    assert_eq!(rt; read_operation(b"raise 2"), Some(Op::Raise));
     Ok(())
 }
