@@ -47,7 +47,7 @@ impl Server {
     ghost use Rattle.lk_wire.specs.Grammar.{Spells};
     ghost use Rattle.lk_state.specs.Sessions.{session_of, is_new};
     ghost use Rattle.lk_script.specs.Replies.{with_request};
-    ghost use Rattle.lk_script.specs.TableMode.{is_for_table, Replies, Prints};
+    ghost use Rattle.lk_script.specs.TableMode.{Replies, Prints};
     ghost use Rattle.lk_script.specs.HexLines.{SpellsBytes};
     ghost use Rattle.lk_script.specs.Servers.{HasServed, executed_of};
 
