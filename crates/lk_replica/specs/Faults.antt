@@ -1,5 +1,5 @@
 -- The numbers of a replica's refusals, and those that its store tells.
-use Rattle.std.specs.Prelude.{◌≡◌, ℕ, ◌==◌, List, Result, Ok, Err, MatchBool, MatchResult, if◌then◌else◌}
+use Rattle.std.specs.Prelude.{◌≡◌, ℕ, ◌==◌, ◌⊎◌, List, Result, Ok, Err, MatchBool, MatchResult, if◌then◌else◌}
 use Rattle.lk_disk.specs.Disk.{one_more}
 use Rattle.lk_disk.specs.Meters.{Passes, Breaks}
 use Rattle.lk_disk.specs.declared.meter.Meter.{Meter}
@@ -49,6 +49,20 @@ fault_of store.Failed = fault.Failed
 abbrev pub unpack_fault : UnpackFault → ReplicaFault
 unpack_fault unpack.NotPacked = fault.Damaged
 unpack_fault unpack.NoMemory = fault.NoMemory
+
+-- a call that takes an input, or writes a snapshot, refuses so: damage and a foreign store are told by a revival alone
+abbrev pub IsOfCalls : ReplicaFault → Type 0
+IsOfCalls fault.Device = Unit {0}
+IsOfCalls fault.NoMemory = Unit {0}
+IsOfCalls fault.Damaged = ⊥
+IsOfCalls fault.WrongStore = ⊥
+IsOfCalls fault.Failed = Unit {0}
+IsOfCalls fault.Halted = Unit {0}
+IsOfCalls (fault.Send notes) = Unit {0}
+
+-- so by their numbers
+abbrev pub IsNumberOfCalls : ℕ → Type 0
+IsNumberOfCalls number = (number ≡ 7) ⊎ (number ≡ 8) ⊎ (number ≡ 11) ⊎ (number ≡ 14) ⊎ (number ≡ 15)
 
 -- where a datagram was not sent, the notes of the call have this
 abbrev pub IfSend : (List Note → Type 0) → ReplicaFault → Type 0

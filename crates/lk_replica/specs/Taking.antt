@@ -11,7 +11,7 @@ use Rattle.lk_node.specs.Calls.{heard_by}
 use Rattle.lk_node.specs.Histories.{Datagram}
 use Rattle.lk_node.specs.Letters.{LetterValue, batch_of}
 use Rattle.lk_replica.specs.Compacting.{RebasesWhereDue, CallsWhereDue}
-use Rattle.lk_replica.specs.Faults.{failures_by, RefusedAfter}
+use Rattle.lk_replica.specs.Faults.{failures_by, RefusedAfter, IsNumberOfCalls}
 use Rattle.lk_replica.specs.ReplicaValue.{ReplicaValue}
 use Rattle.lk_node.specs.NodeValue.{NodeValue}
 use Rattle.lk_node.specs.Outboxes.{OutboxValue}
@@ -62,4 +62,4 @@ pub record IsTakenAs (m : Meaning) (old : ReplicaValue) (bytes : Option (List �
 -- what a call came to
 abbrev pub ComesTo : Meaning → ReplicaValue → Option (List ℕ) → ReplicaValue → Result (List Note × List Datagram) ℕ → Type 0
 ComesTo m old bytes new (Ok told) = IsTakenAs m old bytes new told.0 told.1
-ComesTo m old bytes new (Err number) = IsRefused old new number
+ComesTo m old bytes new (Err number) = IsRefused old new number × IsNumberOfCalls number

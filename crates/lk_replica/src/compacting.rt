@@ -20,7 +20,7 @@ ghost use Rattle.lk_node.specs.Keeping.{Stands};
 ghost use Rattle.lk_node.specs.Leavings.{DisksFit, AllCover};
 ghost use Rattle.lk_node.specs.Packing.{standing_of, standing_here};
 ghost use Rattle.lk_replica.specs.Compacting.{AllStandAt, IsDue, IsSameStore, RebasesWhereDue, CallsWhereDue};
-ghost use Rattle.lk_replica.specs.Faults.{fault_number, CountsFailure, RefusedAfter, PassesOr, IfSend};
+ghost use Rattle.lk_replica.specs.Faults.{fault_number, CountsFailure, RefusedAfter, PassesOr, IfSend, IsOfCalls};
 
 use crate::fault::ReplicaFault;
 use crate::replica::Replica;
@@ -50,6 +50,8 @@ pub fn write_base<M: Machine, D: LogDisk + Drop>(
     ensures runs { NothingToRun node.old → OnOk result (NothingToRun node.new) }
     ensures alive { OnOk result (store.new.failed ≡ false) }
     ensures only { IfErr result (IfSend (λ notes. ⊥)) }
+    ensures told { IfErr result IsOfCalls }
+    ensures awake { IsErrOf result ReplicaFault.Halted → ⊥ }
     ensures failed_before { store.old.failed ≡ false → store.old.generation < max_count → IsErrOf result ReplicaFault.Failed → ⊥ }
     ensures cause { CountsFailure store.old.failures store.new.failures result }
     ensures metered { D.is_metered → D.is_honest → PassesOr store.old.meter store.new.meter rebase_calls result }
@@ -74,6 +76,8 @@ fn is_due<M: Machine, D: LogDisk + Drop>(
     ensures generation { store.new.generation ≡ store.old.generation }
     ensures alive { OnOk result (store.new.failed ≡ false) }
     ensures only { IfErr result (IfSend (λ notes. ⊥)) }
+    ensures told { IfErr result IsOfCalls }
+    ensures awake { IsErrOf result ReplicaFault.Halted → ⊥ }
     ensures failed_before { store.old.failed ≡ false → IsErrOf result ReplicaFault.Failed → ⊥ }
     ensures cause { CountsFailure store.old.failures store.new.failures result }
     ensures metered { D.is_metered → PassesOr store.old.meter store.new.meter 0 result }
@@ -100,6 +104,8 @@ pub fn rebase_where_due<M: Machine, D: LogDisk + Drop>(
     ensures runs { NothingToRun node.old → OnOk result (NothingToRun node.new) }
     ensures alive { OnOk result (store.new.failed ≡ false) }
     ensures only { IfErr result (IfSend (λ notes. ⊥)) }
+    ensures told { IfErr result IsOfCalls }
+    ensures awake { IsErrOf result ReplicaFault.Halted → ⊥ }
     ensures failed_before { store.old.failed ≡ false → store.old.generation < max_count → IsErrOf result ReplicaFault.Failed → ⊥ }
     ensures cause { CountsFailure store.old.failures store.new.failures result }
     ensures metered { D.is_metered → D.is_honest → MatchResult result

@@ -22,7 +22,7 @@ ghost use Rattle.lk_node.specs.Letters.{LetterValue, batch_of};
 ghost use Rattle.lk_replica.specs.Posts.{AreOf, SendsSome, more_by};
 ghost use Rattle.lk_node.specs.Steps.{Steps};
 ghost use Rattle.lk_replica.specs.Taking.{Puts, CallsOfStep, IsTaken};
-ghost use Rattle.lk_replica.specs.Faults.{fault_number, CountsFailure, RefusedAfter, IfSend};
+ghost use Rattle.lk_replica.specs.Faults.{fault_number, CountsFailure, RefusedAfter, IfSend, IsOfCalls};
 ghost use Rattle.lk_replica.specs.Rooms.{max_step, max_behind};
 
 use crate::compacting::rebase_where_due;
@@ -91,6 +91,11 @@ impl<M: Machine, D: LogDisk + Drop> Replica<M, D> {
         ensures runs_on { IfErr result (IfSend (λ notes. NothingToRun self.new.node)) }
         ensures sends_on { IfErr result (IfSend (λ notes. self.new.failed ≡ false)) }
         ensures broken { IfErr result (λ e. (fault_number e ≡ 15 → ⊥) → self.new.failed ≡ true) }
+        // Nothing is sent then.
+        ensures silent { P.is_telling → IfErr result (λ e. (fault_number e ≡ 15 → ⊥) → P.sent post.new ≡ P.sent post.old) }
+        // Nothing but 7, 8, 11, 14 and 15 comes, and 14 where the node has halted.
+        ensures told { IfErr result IsOfCalls }
+        ensures halts { IsErrOf result ReplicaFault.Halted → self.new.node.halted ≡ true }
         // After any exit neither file is longer than it was, or else than half of what a file may hold, and a step.
         ensures room { D.is_honest → StaysWithin max_behind (disks self.old.store) (disks self.new.store) }
         // `Device` comes exactly where a call of the device has failed, and `Send` exactly where some of the post's did.
@@ -189,6 +194,8 @@ fn write<M: Machine, D: LogDisk + Drop>(
     ensures metered { D.is_metered → MatchResult result (λ o. Passes store.old.meter store.new.meter (put_calls o.entries o.sync)) (λ e. RefusedAfter (fault_number e) store.old.meter store.new.meter) }
     ensures runs { NothingToRun node.old → OnOk result (NothingToRun node.new) }
     ensures only { IfErr result (IfSend (λ notes. ⊥)) }
+    ensures told { IfErr result IsOfCalls }
+    ensures halts { IsErrOf result ReplicaFault.Halted → node.new.halted ≡ true }
     ensures alive { OnOk result (store.new.failed ≡ false) }
     ensures failed_before { store.old.failed ≡ false → IsErrOf result ReplicaFault.Failed → ⊥ }
     ensures cause { CountsFailure store.old.failures store.new.failures result }
@@ -222,6 +229,8 @@ fn write_behind<M: Machine, D: LogDisk + Drop>(
     ensures runs { NothingToRun node.old → OnOk result (NothingToRun node.new) }
     ensures alive { OnOk result (store.new.failed ≡ false) }
     ensures only { IfErr result (IfSend (λ notes. ⊥)) }
+    ensures told { IfErr result IsOfCalls }
+    ensures halts { IsErrOf result ReplicaFault.Halted → node.new.halted ≡ true }
     ensures failed_before { store.old.failed ≡ false → store.old.generation < max_count → IsErrOf result ReplicaFault.Failed → ⊥ }
     ensures cause { CountsFailure store.old.failures store.new.failures result }
     ensures room { D.is_honest → StaysWithin max_behind (disks store.old) (disks store.new) }
