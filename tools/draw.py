@@ -113,6 +113,8 @@ class Picture:
             self.mark("edge", self.x["n" + words[1]], y)
         if words[0] == "deliver":
             self.arrive(words[1], y)
+        if words[0] == "compact":
+            self.text(self.x["n" + words[1]] + 12, y, "compacts", "name")
         if words[0] == "inject" and "n" + words[1] in self.x:
             x = self.x["n" + words[1]]
             self.arrow(x - 60, y, x, y, "line")

@@ -9,6 +9,7 @@ mod NoSend
 mod Thinning
 mod OnDevices
 mod Calling
+mod Compactions
 mod Going
 pub mod Replicas
 mod Rerunning

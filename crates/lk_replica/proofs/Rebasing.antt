@@ -205,12 +205,14 @@ module _ (m : Meaning) (h : History) (n : ℕ) (node : NodeValue) (old new : Sto
 -- each image then stands for the snapshot
 module _ (m : Meaning) (genesis : Genesis) (n : ℕ) (node : NodeValue) (old new : StoreValue) (x : Holding) (shown : Stands m node old genesis n x)
     (may : MayBegin (standing_of node)) (within : node.acceptor.state.snapshot_position ≤ executed node.learner) where
-  pub all_stand : Holds new (Base (next_base old (standing_of node)) ∷ []) [] → AllStandAt m genesis n (disks new) (executed node.learner)
+  pub all_stand : Holds new (Base (next_base old (standing_of node)) ∷ []) [] → AllStandAt m genesis n (disks new) (executed node.learner) x.view.done
   all_stand holds image left =
       let live = synced_live new (Base (next_base old (standing_of node)) ∷ []) holds image left in (
         standing_of node,
         record { entries = Base (next_base old (standing_of node)) ∷ []; found = inl live; header = base_header m genesis n node old new x shown may within; stands = base_stands m genesis n node old new x shown may within },
         refl,
+        sym (executed_is m genesis x.view.done node.learner.whole shown.held.follows.sums),
+        ap packed shown.held.follows.sums,
       )
 
 -- ---- a store that stays as it was

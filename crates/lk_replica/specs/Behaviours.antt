@@ -18,6 +18,10 @@ Taking R = R → Option (List ℕ) → R → Result (List Note × List Datagram)
 abbrev pub Reviving : Type 0 → Type 1
 Reviving R = Memory → HeaderValue → Result (R × List Note) (ℕ × Memory) → Type 0
 
+-- a replica was told to compact and became another: it did, or there is the number of a fault
+abbrev pub Compacting : Type 0 → Type 1
+Compacting R = R → R → Result (Unit {0}) ℕ → Type 0
+
 -- what a kind of replica shows, and does in its calls
 pub record Behaviour (R : Type 0) : Type 1 where
   -- its device, two disks in memory
@@ -30,6 +34,8 @@ pub record Behaviour (R : Type 0) : Type 1 where
   -- A revival on this device, for a node of this header, makes this replica and gives these notes, or refuses with the fault of this
   -- number and leaves that device.
   pub Revives : Reviving R
+  -- The first replica becomes the second by one call of `compact`, which is done, or refuses with the fault of this number.
+  pub Compacts : Compacting R
 
 -- a trap is one of the device, and nothing else of it changes
 abbrev pub TrapsAlone : {R : Type 0} → Behaviour R → Type 0

@@ -15,14 +15,14 @@ use Rattle.lk_learner.specs.Learners.{executed}
 use Rattle.lk_node.specs.NodeValue.{NodeValue}
 use Rattle.lk_node.specs.Packing.{standing_of, standing_here}
 use Rattle.lk_state.specs.Meanings.{Meaning}
-use Rattle.lk_node.specs.Histories.{Genesis}
+use Rattle.lk_node.specs.Histories.{Genesis, Command}
 use Rattle.lk_node.specs.Leavings.{header_of, StandsAs}
 use Rattle.lk_node.specs.Served.{text}
 
--- each image that a stop may leave of these disks stands for a snapshot at this position
-abbrev pub AllStandAt : Meaning → Genesis → ℕ → (Side → Disk) → ℕ → Type 0
-AllStandAt m genesis n disks position = (image : Image) → MayLeaveBoth disks image
-    → (s : StandingValue) × StandsAs (header_of genesis n) (text m genesis []) image s × (s.position ≡ position)
+-- each image that a stop may leave of these disks stands for a snapshot at this position, the packed text of this list, which is as long
+abbrev pub AllStandAt : Meaning → Genesis → ℕ → (Side → Disk) → ℕ → List Command → Type 0
+AllStandAt m genesis n disks position done = (image : Image) → MayLeaveBoth disks image
+    → (s : StandingValue) × StandsAs (header_of genesis n) (text m genesis []) image s × (s.position ≡ position) × (length done ≡ s.position) × (s.snapshot ≡ text m genesis done)
 
 -- the live file has grown to half of what a file may hold, or 256 positions are executed above the snapshot
 abbrev pub IsDue : NodeValue → StoreValue → Type 0

@@ -5,4 +5,5 @@ pub mod ReplicaValue
 pub mod Posts
 pub mod Behaviours
 pub mod Compacting
+pub mod Compacted
 pub mod Rooms

@@ -1,5 +1,5 @@
 // Writing all that a node holds as the Base of the other file.
-ghost use Rattle.std.specs.Prelude.{◌≡◌, ℕ, ◌≤◌, ◌<◌, length, List, [], ◌∷◌, false, ◌↔◌, IsTrue, OnOk, IfOk, IfErr, IsErrOf, MatchResult};
+ghost use Rattle.std.specs.Prelude.{◌≡◌, ℕ, ◌≤◌, ◌<◌, length, List, [], ◌∷◌, false, true, ◌↔◌, IsTrue, OnOk, IfOk, IfErr, IsErrOf, MatchResult};
 ghost use Rattle.lk_types.specs.Limits.{max_base, max_count};
 ghost use Rattle.lk_disk.specs.Disk.{contents};
 ghost use Rattle.lk_disk.specs.Meters.{Passes};
@@ -20,6 +20,7 @@ ghost use Rattle.lk_node.specs.Keeping.{Stands};
 ghost use Rattle.lk_node.specs.Leavings.{DisksFit, AllCover};
 ghost use Rattle.lk_node.specs.Packing.{standing_of, standing_here};
 ghost use Rattle.lk_replica.specs.Compacting.{AllStandAt, IsDue, IsSameStore, RebasesWhereDue, CallsWhereDue};
+ghost use Rattle.lk_replica.specs.Compacted.{IsStoreFault};
 ghost use Rattle.lk_replica.specs.Faults.{fault_number, CountsFailure, RefusedAfter, PassesOr, IfSend, IsOfCalls};
 
 use crate::fault::ReplicaFault;
@@ -42,7 +43,7 @@ pub fn write_base<M: Machine, D: LogDisk + Drop>(
     ensures covers { D.is_honest → (genesis : Genesis) (n : ℕ) (held : Holding) (x : NodeMessage) → Stands (meaning M.first M.next M.answer) node.old store.old genesis n held
         → AllCover (meaning M.first M.next M.answer) genesis n (disks store.old) x → AllCover (meaning M.first M.next M.answer) genesis n (disks store.new) x }
     ensures stands { D.is_honest → (genesis : Genesis) (n : ℕ) (held : Holding) → Stands (meaning M.first M.next M.answer) node.old store.old genesis n held
-        → OnOk result (AllStandAt (meaning M.first M.next M.answer) genesis n (disks store.new) (executed node.new.learner)) }
+        → OnOk result (AllStandAt (meaning M.first M.next M.answer) genesis n (disks store.new) (executed node.new.learner) held.view.done) }
     ensures shows { D.is_honest → (genesis : Genesis) (n : ℕ) (held : Holding) → Stands (meaning M.first M.next M.answer) node.old store.old genesis n held
         → OnOk result ((x : Holding) × Stands (meaning M.first M.next M.answer) node.new store.new genesis n x) }
     ensures becomes { OnOk result (node.new ≡ standing_here node.old) }
@@ -52,6 +53,7 @@ pub fn write_base<M: Machine, D: LogDisk + Drop>(
     ensures only { IfErr result (IfSend (λ notes. ⊥)) }
     ensures told { IfErr result IsOfCalls }
     ensures awake { IsErrOf result ReplicaFault.Halted → ⊥ }
+    ensures of_store { IfErr result (λ e. IsStoreFault (fault_number e)) }
     ensures failed_before { store.old.failed ≡ false → store.old.generation < max_count → IsErrOf result ReplicaFault.Failed → ⊥ }
     ensures cause { CountsFailure store.old.failures store.new.failures result }
     ensures metered { D.is_metered → D.is_honest → PassesOr store.old.meter store.new.meter rebase_calls result }
@@ -138,11 +140,18 @@ impl<M: Machine, D: LogDisk + Drop> Replica<M, D> {
             → AllCover (meaning M.first M.next M.answer) genesis n (disks self.old.store) x → AllCover (meaning M.first M.next M.answer) genesis n (disks self.new.store) x }
         // At Ok each image stands for a snapshot of all that is executed.
         ensures stands { D.is_honest → (genesis : Genesis) (n : ℕ) (held : Holding) → Stands (meaning M.first M.next M.answer) self.old.node self.old.store genesis n held
-            → OnOk result (AllStandAt (meaning M.first M.next M.answer) genesis n (disks self.new.store) (executed self.new.node.learner)) }
+            → OnOk result (AllStandAt (meaning M.first M.next M.answer) genesis n (disks self.new.store) (executed self.new.node.learner) held.view.done) }
         ensures becomes { OnOk result (self.new.node ≡ standing_here self.old.node) }
+        ensures writes { D.is_honest → (ks ls : List Stored) → Holds self.old.store ks ls → OnOk result (Holds self.new.store (Base (next_base self.old.store (standing_of self.old.node)) ∷ []) []) }
         // After any exit neither file is longer than it was, or else than a Base.
         ensures room { D.is_honest → StaysWithin max_base (disks self.old.store) (disks self.new.store) }
         ensures alive { OnOk result (self.new.failed ≡ false) }
+        ensures store_alive { OnOk result (self.new.store.failed ≡ false) }
+        ensures of_store { IfErr result (λ e. IsStoreFault (fault_number e)) }
+        // Nothing but an earlier refusal, its own or its store's, makes it answer `Failed`, or that no further generation is left.
+        ensures failed { self.old.failed ≡ true → IsErrOf result ReplicaFault.Failed }
+        ensures failed_before { self.old.failed ≡ false → self.old.store.failed ≡ false → self.old.store.generation < max_count → IsErrOf result ReplicaFault.Failed → ⊥ }
+        ensures stays_failed { self.old.failed ≡ true → self.new ≡ self.old }
         // `Device` comes exactly where a call of the device has failed.
         ensures cause { CountsFailure self.old.store.failures self.new.store.failures result }
         ensures metered { D.is_metered → D.is_honest → PassesOr self.old.store.meter self.new.store.meter rebase_calls result }

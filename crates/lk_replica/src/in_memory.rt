@@ -4,6 +4,7 @@ ghost use Rattle.lk_disk.specs.Meters.{trapped};
 ghost use Rattle.lk_log.specs.StoreValue.{device_of};
 ghost use Rattle.lk_state.specs.Meanings.{meaning};
 ghost use Rattle.lk_node.specs.Keeping.{Stands};
+ghost use Rattle.lk_replica.specs.Compacted.{CompactsTo};
 ghost use Rattle.lk_replica.specs.Revivals.{RevivesTo};
 ghost use Rattle.lk_replica.specs.Taking.{ComesTo};
 
@@ -44,6 +45,7 @@ impl<M: Machine> MemoryReplica for Replica<M, MemoryDisk> {
       with_trap = λ t r. record r { store = record r.store { meter = trapped t r.store.meter } };
       Takes = λ old bytes new came. ComesTo (meaning M.first M.next M.answer) old bytes new came;
       Revives = λ device whose came. RevivesTo (meaning M.first M.next M.answer) M.IsText device whose came;
+      Compacts = λ old new came. CompactsTo (meaning M.first M.next M.answer) old new came;
     } };
 
     ghost whole = { λ r. r.node.learner.whole };
@@ -66,6 +68,10 @@ impl<M: Machine> MemoryReplica for Replica<M, MemoryDisk> {
         }
     }
 
+    fn compact(&mut self) -> Result<(), ReplicaFault> {
+        Replica::compact(self)
+    }
+
     fn device(&self) -> &MemoryDisk {
         Replica::device(self)
     }
@@ -79,6 +85,8 @@ impl<M: Machine> MemoryReplica for Replica<M, MemoryDisk> {
     }
 
     ghost sums_up = { λ r genesis n x shown. shown.held.follows.sums };
+
+    ghost packed = { λ old new genesis n x shown done. done.stands genesis n x shown };
 
     ghost traps_alone = { λ t r. refl };
 

@@ -1,8 +1,9 @@
-ghost use Rattle.std.specs.Prelude.{◌≡◌, ℕ, [], Contains, Ok, Err, IfOk, IfErr, OnErr};
+ghost use Rattle.std.specs.Prelude.{◌≡◌, ℕ, [], Contains, Ok, Err, IfOk, IfErr, OnOk, OnErr};
 ghost use Rattle.lk_types.specs.Limits.{max_base};
 ghost use Rattle.lk_disk.specs.Memory.{disk_of};
 ghost use Rattle.lk_disk.specs.Meters.{Passes};
 ghost use Rattle.lk_disk.specs.declared.trap.Trap.{Trap as TrapValue};
+ghost use Rattle.lk_log.specs.Causes.{rebase_calls};
 ghost use Rattle.lk_log.specs.Rooms.{StaysWithin};
 ghost use Rattle.lk_log.specs.Values.{HeaderValue};
 ghost use Rattle.lk_state.specs.Meanings.{Meaning};
@@ -14,6 +15,7 @@ ghost use Rattle.lk_node.specs.Holdings.{Holding};
 ghost use Rattle.lk_node.specs.Leavings.{header_of, DisksFit, AllCover};
 ghost use Rattle.lk_node.specs.Calls.{heard_by, InputFits, NodeFits, Goes};
 ghost use Rattle.lk_replica.specs.Behaviours.{Behaviour, TrapsAlone, disks_by};
+ghost use Rattle.lk_replica.specs.Compacting.{AllStandAt};
 ghost use Rattle.lk_replica.specs.Faults.{fault_number, RefusedAfter};
 ghost use Rattle.lk_replica.specs.Rooms.{max_behind};
 
@@ -107,6 +109,30 @@ pub trait MemoryReplica: Sized + Drop {
         ensures exact { IfOk result (λ t. behaves.Takes self.old (heard_by input.entry) self.new (Ok (t.notes.items, t.sent.items))) }
         ensures refused { IfErr result (λ e. behaves.Takes self.old (heard_by input.entry) self.new (Err (fault_number e))) };
 
+    /// Writes a snapshot of all that is executed, in the place of the commands and the votes up to there. It notes and sends nothing.
+    ///
+    /// It refuses with `Device` (7) and `NoMemory` (8), and after an earlier refusal, or where no further generation is left,
+    /// with `Failed` (11).
+    fn compact(&mut self) -> Result<(), ReplicaFault>
+        ensures goes { (h : History) (n : ℕ) → NodeFits meaning h n (Shows self.old h.genesis n) (disks_by behaves self.old)
+            → OnOk result (Goes meaning h n (Shows self.new h.genesis n) (disks_by behaves self.new) [] []) }
+        // After any exit each image that a stop may leave fits, and covers what every image covered.
+        ensures ends { (h : History) (n : ℕ) → NodeFits meaning h n (Shows self.old h.genesis n) (disks_by behaves self.old)
+            → DisksFit meaning h n (disks_by behaves self.new) }
+        ensures covers { (genesis : Genesis) (n : ℕ) (held : Holding) (x : NodeMessage) → Shows self.old genesis n held
+            → AllCover meaning genesis n (disks_by behaves self.old) x → AllCover meaning genesis n (disks_by behaves self.new) x }
+        // At Ok each image stands for a snapshot of all that is executed.
+        ensures stands { (genesis : Genesis) (n : ℕ) (held : Holding) → Shows self.old genesis n held
+            → OnOk result (AllStandAt meaning genesis n (disks_by behaves self.new) (whole self.new).roster.executed held.view.done) }
+        // After any exit neither file is longer than it was, or else than a Base.
+        ensures room { StaysWithin max_base (disks_by behaves self.old) (disks_by behaves self.new) }
+        // At Ok its device has made the changing calls of a rebase, and all have passed. After a refusal one has failed, where that is
+        // 7, and else all have passed.
+        ensures calls { OnOk result (Passes (behaves.memory self.old).meter (behaves.memory self.new).meter rebase_calls) }
+        ensures calls_err { IfErr result (λ e. RefusedAfter (fault_number e) (behaves.memory self.old).meter (behaves.memory self.new).meter) }
+        ensures exact { OnOk result (behaves.Compacts self.old self.new (Ok tt)) }
+        ensures refused { IfErr result (λ e. behaves.Compacts self.old self.new (Err (fault_number e))) };
+
     /// Its device.
     fn device(&self) -> &MemoryDisk
         ensures is { result.now ≡ behaves.memory self.now };
@@ -121,6 +147,10 @@ pub trait MemoryReplica: Sized + Drop {
 
     // What it has executed sums up the commands that it holds as executed.
     ghost sums_up: { (r : Self) (genesis : Genesis) (n : ℕ) (x : Holding) → Shows r genesis n x → SumsUp meaning genesis x.view.done (whole r) };
+
+    // Where it was compacted, each image that a stop may leave of its disks stands for the packed text of all that it has executed.
+    ghost packed: { (old new : Self) (genesis : Genesis) (n : ℕ) (x : Holding) → Shows old genesis n x → behaves.Compacts old new (Ok tt)
+        → AllStandAt meaning genesis n (disks_by behaves new) (whole new).roster.executed x.view.done };
 
     // A trap is one of its device, and of that nothing is seen.
     ghost traps_alone: { TrapsAlone behaves };

@@ -41,6 +41,10 @@ abbrev pub AsksForTicks : List ℕ → Order → Type 0
 AsksForTicks words o = ((n : ℕ) × IsNodeWord n words × (o ≡ Ticks n 1))
     ⊎ ((n : ℕ) × (times : ℕ) × (word : List ℕ) × NodeLeads n word words × IsWord 1 10000 times word × (o ≡ Ticks n times))
 
+-- `N`
+abbrev pub AsksToCompact : List ℕ → Order → Type 0
+AsksToCompact words o = (n : ℕ) × IsNodeWord n words × (o ≡ Once (event.Compact n))
+
 -- `K`
 abbrev pub AsksToDeliver : List ℕ → Order → Type 0
 AsksToDeliver words o = (k : ℕ) × IsWord 1 max_count k words × (o ≡ Once (event.Deliver k))
@@ -83,6 +87,7 @@ abbrev pub word_of : EventVerb → List ℕ
 word_of verb.Start = codes "start"
 word_of verb.Restart = codes "restart"
 word_of verb.Tick = codes "tick"
+word_of verb.Compact = codes "compact"
 word_of verb.Deliver = codes "deliver"
 word_of verb.Client = codes "client"
 word_of verb.Inject = codes "inject"
@@ -94,6 +99,7 @@ abbrev pub Asks : EventVerb → List ℕ → Order → Type 0
 Asks verb.Start = AsksToStart
 Asks verb.Restart = AsksToRestart
 Asks verb.Tick = AsksForTicks
+Asks verb.Compact = AsksToCompact
 Asks verb.Deliver = AsksToDeliver
 Asks verb.Client = AsksOfClient
 Asks verb.Inject = AsksToInject

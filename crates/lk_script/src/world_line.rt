@@ -6,7 +6,7 @@ ghost use Rattle.lk_types.specs.Limits.{max_node};
 ghost use Rattle.lk_members.specs.Counting.{RequestValue};
 ghost use Rattle.lk_script.specs.declared.order.Order.TheVariants as order;
 ghost use Rattle.lk_script.specs.declared.order.Order.{Order as OrderValue};
-ghost use Rattle.lk_script.specs.WorldLines.{AsksToStart, AsksToRestart, AsksForTicks, AsksToDeliver, SpellsRequest, AsksOfClient, AsksToInject, AsksToStop, AsksToFail, AsksToArm, Asks, SpellsOrder};
+ghost use Rattle.lk_script.specs.WorldLines.{AsksToStart, AsksToRestart, AsksForTicks, AsksToCompact, AsksToDeliver, SpellsRequest, AsksOfClient, AsksToInject, AsksToStop, AsksToFail, AsksToArm, Asks, SpellsOrder};
 
 use crate::event_verb::EventVerb;
 use crate::fault::LineFault;
@@ -64,6 +64,15 @@ fn to_tick(words: &[u8]) -> Option<Order>
     let (number, times) = ticks(words)?;
     let node = NodeNo::of(number as u32).unwrap();
     Some(Order::Ticks(node, times as u16))
+}
+
+fn to_compact(words: &[u8]) -> Option<Order>
+    ensures some { IfSome result (AsksToCompact words.now) }
+    ensures none { IsNone result → (o : OrderValue) → AsksToCompact words.now o → ⊥ }
+{
+    let number = number_of(words, 1, LAST_NODE)?;
+    let node = NodeNo::of(number as u32).unwrap();
+    Some(Order::Once(Event::Compact(node)))
 }
 
 fn to_deliver(words: &[u8]) -> Option<Order>
@@ -175,6 +184,7 @@ fn asked(alloc: Global, verb: EventVerb, words: &[u8]) -> Result<Order, LineFaul
         EventVerb::Start => understood(to_start(words)),
         EventVerb::Restart => understood(to_restart(words)),
         EventVerb::Tick => understood(to_tick(words)),
+        EventVerb::Compact => understood(to_compact(words)),
         EventVerb::Deliver => understood(to_deliver(words)),
         EventVerb::Client => understood(to_ask(words)),
         EventVerb::Inject => to_inject(alloc, words),

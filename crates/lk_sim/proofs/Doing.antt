@@ -14,8 +14,8 @@ use Rattle.lk_sim.specs.Traces.{asked_in, happened, Tells, asked_note}
 use Rattle.lk_sim.specs.Scenes.{Scene}
 use Rattle.lk_sim.specs.Seats.{At, SeatFits, SeatGoes, stopped_on, fallen_on, rested_on, device_in}
 use Rattle.lk_replica.specs.Behaviours.{Behaviour, TrapsAlone, disks_by}
-use Rattle.lk_sim.specs.Events.{AreOwn, Adds, Breaks, StaysDown, Falls, Comes, stop_among, after_sends, end_by, end_at, IsGiven, IsBack, ComesUp, IsHalted, LeftBy, LeftByRevival}
-use Rattle.lk_sim.specs.Outcomes.{HasFallen, HasTaken, HasRevived, HasAdded, HasSettled, HasGivenUp, Rests}
+use Rattle.lk_sim.specs.Events.{AreOwn, Adds, Breaks, StaysDown, FailsToPack, Falls, Comes, stop_among, after_sends, end_by, end_at, IsGiven, IsBack, ComesUp, IsPacked, IsCompacted, IsHalted, LeftBy, LeftByRevival, LeftByPacking}
+use Rattle.lk_sim.specs.Outcomes.{HasFallen, HasTaken, HasRevived, HasPacked, HasAdded, HasSettled, HasGivenUp, Rests}
 use Rattle.lk_sim.specs.Worlds.{Holds}
 use Rattle.lk_sim.specs.declared.end.End.{End}
 use Rattle.lk_sim.specs.declared.seat.Seat.{Seat}
@@ -161,6 +161,44 @@ module _ {R : Type 0} (b : Behaviour R) (old new : Scene R) where
             (record { genesis = k.adds.genesis; sent = k.adds.sent; trace = k.adds.trace }) k.tells k.ended cases;
       }
 
+  packs : (t next : Seat R) (r : R) (mine told : List Note) (batch : List Datagram) (how : Option End) (stop : Option ℕ)
+      → next.number ≡ t.number → Rests b stop t next → Adds old new (([] ++ mine) ++ told) batch → Tells batch told → new.ended ≡ how
+      → HasPacked b r t mine batch how stop ⊎ HasFallen (FailsToPack b r) t mine batch how stop → IsPacked b old new r next ⊎ Falls (FailsToPack b r) old new next []
+  packs t next r mine told batch how stop on rests a tells ended cases = elim cases [
+    | inl k ↦ inl (record {
+      replica = k.replica;
+      compacts = k.compacts;
+      passes = k.passes;
+      up = ap (λ (z : Seat R). z.life) (subst (λ z. Rests b z t next) k.no_stop rests) ∙ k.up;
+      adds = record {
+        genesis = a.genesis;
+        sent = a.sent ∙ ap (λ l. old.sent ++ l) k.no_batch;
+        trace = a.trace ∙ ap (λ l. old.trace ++ l) (ap (λ l. mine ++ l) (nothing_told batch told k.no_batch tells) ∙ append-nil mine ∙ k.no_notes);
+      };
+      ended = ended ∙ k.ended;
+    })
+    | inr f ↦ inr (falls (FailsToPack b r) t next [] mine told batch how stop a tells ended on rests f)
+  ]
+
+  -- a node that was told to compact
+  pub compacted : (Shows : R → Genesis → ℕ → Holding → Type 0) (m : Meaning) (i n : ℕ) (s t : Seat R) (r : R) (mine : List Note) (batch : List Datagram) (how : Option End) (stop : Option ℕ)
+      → At old.seats i s → s.number ≡ n → s.life ≡ Up r → t.number ≡ s.number
+      → HasSettled Shows b m (record old { seats = set old.seats i t }) i new [] mine batch how stop
+      → HasPacked b r t mine batch how stop ⊎ HasFallen (FailsToPack b r) t mine batch how stop → IsCompacted b old new n
+  compacted Shows m i n s t r mine batch how stop at is up number k cases =
+      let same : k.seat ≡ t = at_same (set old.seats i t) i k.seat t k.at (at_set_here old.seats i t at.0) in
+      let on : k.next.number ≡ t.number = k.number ∙ ap (λ (z : Seat R). z.number) same in
+      record {
+        seat = s;
+        number = is;
+        replica = r;
+        up = up;
+        next = k.next;
+        turns = record { place = i; at = at; number = on ∙ number; seats = k.seats ∙ set_twice old.seats i t k.next };
+        comes_to = packs t k.next r mine k.told batch how stop on (subst (λ z. Rests b stop z k.next) same k.rests)
+            (record { genesis = k.adds.genesis; sent = k.adds.sent; trace = k.adds.trace }) k.tells k.ended cases;
+      }
+
   -- a node that was given up
   pub given_up : (Left : Life R → Memory → Type 0) (Shows : R → Genesis → ℕ → Holding → Type 0) (m : Meaning) (i n : ℕ) (s t : Seat R) → At old.seats i s → s.number ≡ n → t.number ≡ s.number
       → StopsOn b (Left s.life) t.life → HasGivenUp Shows b m (record old { seats = set old.seats i t }) i new → IsHalted Left old new n
@@ -203,6 +241,15 @@ module _ {R : Type 0} (b : Behaviour R) where
     | inr f ↦ (f.left, (d, Err (f.number, f.left), down, f.ends.0, refl), ap (λ (z : Life R). stopped_on 0 0 (device_in b z)) f.down)
   ]
 
+-- so of one that was told to compact
+module _ {R : Type 0} (b : Behaviour R) where
+  pub packed_left : (r : R) (life : Life R) (t : Seat R) (mine : List Note) (batch : List Datagram) (how : Option End) (stop : Option ℕ)
+      → life ≡ Up r → HasPacked b r t mine batch how stop ⊎ HasFallen (FailsToPack b r) t mine batch how stop → StopsOn b (LeftByPacking b life) t.life
+  packed_left r life t mine batch how stop up cases = elim cases [
+    | inl k ↦ (b.memory k.replica, (r, k.replica, Ok tt, up, k.compacts, refl), ap (λ (z : Life R). stopped_on 0 0 (device_in b z)) k.up)
+    | inr f ↦ (f.left, (r, f.ends.0, Err f.number, up, f.ends.1, f.ends.3), ap (λ (z : Life R). stopped_on 0 0 (device_in b z)) f.down)
+  ]
+
 -- a node is up, or was ended with nothing added
 pub record Ends {R : Type 0} (t : Seat R) (mine : List Note) (batch : List Datagram) : Type 0 where
   pub device : Memory
@@ -220,6 +267,13 @@ taken_cases b r o t mine batch how stop cases = elim cases [
 pub revived_cases : {R : Type 0} (b : Behaviour R) (d : Memory) (whose : HeaderValue) (t : Seat R) (mine : List Note) (batch : List Datagram) (how : Option End) (stop : Option ℕ)
     → HasRevived b d whose t mine batch how stop ⊎ HasFallen (StaysDown b d whose) t mine batch how stop → ((q : R) × (t.life ≡ Up q)) ⊎ Ends t mine batch
 revived_cases b d whose t mine batch how stop cases = elim cases [
+  | inl k ↦ inl (k.replica, k.up)
+  | inr f ↦ inr (record { device = fallen_on f.left; down = f.down; no_notes = f.no_notes; no_batch = f.no_batch })
+]
+
+pub packed_cases : {R : Type 0} (b : Behaviour R) (r : R) (t : Seat R) (mine : List Note) (batch : List Datagram) (how : Option End) (stop : Option ℕ)
+    → HasPacked b r t mine batch how stop ⊎ HasFallen (FailsToPack b r) t mine batch how stop → ((q : R) × (t.life ≡ Up q)) ⊎ Ends t mine batch
+packed_cases b r t mine batch how stop cases = elim cases [
   | inl k ↦ inl (k.replica, k.up)
   | inr f ↦ inr (record { device = fallen_on f.left; down = f.down; no_notes = f.no_notes; no_batch = f.no_batch })
 ]

@@ -12,5 +12,6 @@ mod Given
 mod Hearing
 mod Keeping
 mod Doing
+mod Snapshots
 mod Running
 mod Stopping

@@ -61,6 +61,7 @@ module _ {R : Type 0} (b : Behaviour R) where
   brings_grows old new (event.Start n) k = come_grows old new k.seat empty k.comes
   brings_grows old new (event.Restart n) k = come_grows old new k.next k.device k.comes
   brings_grows old new (event.Tick n) k = given_grows old new n None [] k
+  brings_grows old new (event.Compact n) k = elim k.comes_to [ inl p ↦ ([], p.adds.sent) | inr f ↦ ([], f.adds.sent) ]
   brings_grows old new (event.Client n r) k = (k.datagram ∷ [], k.adds.sent)
   brings_grows old new (event.Deliver i) k = given_grows old new k.node (Some k.datagram.bytes) [] k.given
   brings_grows old new (event.Inject n bytes) k = given_grows old new n (Some bytes.items) (asked_note k.request) k.given
@@ -75,6 +76,7 @@ module _ {R : Type 0} (b : Behaviour R) where
   wants_grow old new (event.Start m) k = nothing_more old new k
   wants_grow old new (event.Restart m) k = ([], k.adds.sent)
   wants_grow old new (event.Tick m) k = ([], k.adds.sent)
+  wants_grow old new (event.Compact m) k = ([], k.adds.sent)
   wants_grow old new (event.Client m r) k = nothing_more old new k
   wants_grow old new (event.Deliver i) k = elim k [ inl same ↦ nothing_more old new same | inr h ↦ ([], h.4.adds.sent) ]
   wants_grow old new (event.Inject m bytes) k = elim k [ inl same ↦ nothing_more old new same | inr h ↦ ([], h.adds.sent) ]

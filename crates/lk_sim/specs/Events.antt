@@ -4,6 +4,7 @@ use Rattle.lk_disk.specs.Memory.{Memory, empty}
 use Rattle.lk_disk.specs.Meters.{Passes, stopping}
 use Rattle.lk_disk.specs.declared.trap.Trap.{Trap}
 use Rattle.lk_disk.specs.declared.trap.Trap.TheVariants.{Off, Fail, Arm}
+use Rattle.lk_log.specs.Causes.{rebase_calls}
 use Rattle.lk_log.specs.Values.{HeaderValue}
 use Rattle.lk_wire.specs.Grammar.{Spells}
 use Rattle.lk_wire.specs.declared.message.Content.TheVariants as content
@@ -54,6 +55,10 @@ Breaks {R = R} b r o number left = (q : R) × b.Takes r o q (Err number) × Refu
 -- a revival was refused with the fault of this number, and left this device
 abbrev pub StaysDown : {R : Type 0} → Behaviour R → Memory → HeaderValue → ℕ → Memory → Type 0
 StaysDown b device header number left = b.Revives device header (Err (number, left)) × RefusedAfter number device.meter left.meter
+
+-- a compaction was refused with the fault of this number, and left this device
+abbrev pub FailsToPack : {R : Type 0} → Behaviour R → R → ℕ → Memory → Type 0
+FailsToPack {R = R} b r number left = (q : R) × b.Compacts r q (Err number) × RefusedAfter number (b.memory r).meter left.meter × (left ≡ b.memory q)
 
 -- a fault is not for want of memory
 pub record IsNoWant (number : ℕ) (left : Memory) : Type 0 where
@@ -211,6 +216,27 @@ pub record IsBack {R : Type 0} (b : Behaviour R) (old new : Scene R) (n : ℕ) :
   pub turns : Turns old.seats new.seats seat next
   pub comes : ComesUp b old new next device
 
+-- ---- a node is told to compact
+
+-- it goes on, on a snapshot of all that it has executed: all calls of its device have passed, and nothing was noted or sent
+pub record IsPacked {R : Type 0} (b : Behaviour R) (old new : Scene R) (r : R) (t : Seat R) : Type 0 where
+  pub replica : R
+  pub compacts : b.Compacts r replica (Ok tt)
+  pub passes : Passes (b.memory r).meter (b.memory replica).meter rebase_calls
+  pub up : t.life ≡ Up replica
+  pub adds : Adds old new [] []
+  pub ended : new.ended ≡ None
+
+-- a node that was up compacted
+pub record IsCompacted {R : Type 0} (b : Behaviour R) (old new : Scene R) (n : ℕ) : Type 0 where
+  pub seat : Seat R
+  pub number : seat.number ≡ n
+  pub replica : R
+  pub up : seat.life ≡ Up replica
+  pub next : Seat R
+  pub turns : Turns old.seats new.seats seat next
+  pub comes_to : IsPacked b old new replica next ⊎ Falls (FailsToPack b replica) old new next []
+
 -- ---- a node goes down, or its device will fail
 
 pub record GoesDown {R : Type 0} (b : Behaviour R) (old new : Scene R) (n x y : ℕ) : Type 0 where
@@ -240,6 +266,7 @@ abbrev pub Brings : {R : Type 0} → Behaviour R → Scene R → Event → Scene
 Brings b old (event.Start n) new = IsBegun b old new n
 Brings b old (event.Restart n) new = IsBack b old new n
 Brings b old (event.Tick n) new = IsGiven b old new n None []
+Brings b old (event.Compact n) new = IsCompacted b old new n
 Brings b old (event.Client n r) new = IsAsked old new n r
 Brings b old (event.Deliver k) new = IsDelivered b old new k
 Brings b old (event.Inject n bytes) new = IsInjected b old new n bytes.items
@@ -267,6 +294,10 @@ abbrev pub LeftByRevival : {R : Type 0} → Behaviour R → HeaderValue → Life
 LeftByRevival {R = R} b header life left =
     (d : Memory) × (came : Result (R × List Note) (ℕ × Memory)) × (life ≡ Down d) × b.Revives d header came × IsOf b came left
 
+-- a compaction, whatever it came to, left this device
+abbrev pub LeftByPacking : {R : Type 0} → Behaviour R → Life R → Memory → Type 0
+LeftByPacking {R = R} b life left = (r q : R) × (came : Result (Unit {0}) ℕ) × (life ≡ Up r) × b.Compacts r q came × (left ≡ b.memory q)
+
 -- the node has stopped, with none of the unsynced bytes of the disks that its call had left
 pub record IsHalted {R : Type 0} (Left : Life R → Memory → Type 0) (old new : Scene R) (n : ℕ) : Type 0 where
   pub seat : Seat R
@@ -285,6 +316,7 @@ abbrev pub Wants : {R : Type 0} → Behaviour R → Scene R → Event → Scene 
 Wants b old (event.Start n) new = new ≡ old
 Wants b old (event.Restart n) new = IsHalted (LeftByRevival b (header_of old.genesis n)) old new n
 Wants b old (event.Tick n) new = IsHalted (LeftBy b None) old new n
+Wants b old (event.Compact n) new = IsHalted (LeftByPacking b) old new n
 Wants b old (event.Client n r) new = new ≡ old
 Wants b old (event.Deliver k) new =
     (new ≡ old) ⊎ ((n : ℕ) × (d : Datagram) × (datagram_at old.sent k ≡ Some d) × (d.to ≡ party.Node n) × IsHalted (LeftBy b (Some d.bytes)) old new n)

@@ -9,5 +9,6 @@ pub mod Events
 pub mod Outcomes
 pub mod Orders
 pub mod Kept
+pub mod Packed
 pub mod Worlds
 pub mod Runs

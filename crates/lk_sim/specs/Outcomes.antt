@@ -2,6 +2,7 @@
 use Rattle.std.specs.Prelude.{◌≡◌, ℕ, List, [], ◌++◌, Option, Some, None, Ok, set}
 use Rattle.lk_disk.specs.Memory.{Memory}
 use Rattle.lk_disk.specs.Meters.{Passes, stopping}
+use Rattle.lk_log.specs.Causes.{rebase_calls}
 use Rattle.lk_log.specs.Values.{HeaderValue}
 use Rattle.lk_state.specs.Meanings.{Meaning}
 use Rattle.lk_history.specs.Nodes.{View}
@@ -65,6 +66,17 @@ pub record HasRevived {R : Type 0} (b : Behaviour R) (device : Memory) (header :
   pub revives : b.Revives device header (Ok (replica, mine))
   pub calls : ℕ
   pub passes : Passes device.meter (b.memory replica).meter calls
+  pub no_batch : batch ≡ []
+  pub ended : how ≡ None
+  pub no_stop : stop ≡ None
+
+-- it compacted, and noted and sent nothing
+pub record HasPacked {R : Type 0} (b : Behaviour R) (r : R) (s : Seat R) (mine : List Note) (batch : List Datagram) (how : Option End) (stop : Option ℕ) : Type 0 where
+  pub replica : R
+  pub compacts : b.Compacts r replica (Ok tt)
+  pub passes : Passes (b.memory r).meter (b.memory replica).meter rebase_calls
+  pub up : s.life ≡ Up replica
+  pub no_notes : mine ≡ []
   pub no_batch : batch ≡ []
   pub ended : how ≡ None
   pub no_stop : stop ≡ None

@@ -89,6 +89,7 @@ abbrev pub MayNot : {R : Type 0} → Scene R → Event → Refused → Type 0
 MayNot w (event.Start n) e = NoStart w.seats n e
 MayNot w (event.Restart n) e = NoRestart w.seats n e
 MayNot w (event.Tick n) e = NoTurn w.seats w.sent n e
+MayNot w (event.Compact n) e = NoneUp w.seats n e
 MayNot w (event.Client n r) e = NoClient w.seats w.sent n e
 MayNot w (event.Deliver k) e = NoDelivery w.seats w.sent (datagram_at w.sent k) e
 MayNot w (event.Inject n bytes) e = NoInjection w.seats w.sent n bytes.items e
@@ -110,6 +111,7 @@ abbrev pub May : {R : Type 0} → Scene R → Event → Type 0
 May w (event.Start n) = HasNo w.seats n × (length w.seats < 16)
 May w (event.Restart n) = IsDown w.seats n
 May w (event.Tick n) = MayTurn w n
+May w (event.Compact n) = IsUp w.seats n
 May w (event.Client n r) = IsStarted w.seats n × HasRoom w.sent
 May w (event.Deliver k) = MayDeliver w k
 May w (event.Inject n bytes) = MayTurn w n × (IsForged bytes.items → ⊥)

@@ -9,6 +9,8 @@ pub enum Event {
     Restart(NodeNo),
     /// Some time passes at a node.
     Tick(NodeNo),
+    /// A node that is up writes a snapshot of all that it has executed, in the place of the commands up to there.
+    Compact(NodeNo),
     /// A client asks: its datagram joins the list, bound for the node.
     Client(NodeNo, Request),
     /// The node to which the datagram of this place was bound takes it. Places count from 1.

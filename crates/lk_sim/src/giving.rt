@@ -77,9 +77,9 @@ pub fn add<R: MemoryReplica>(
     Ok(())
 }
 
-// Keeps what a call of the node at this place came to, and makes an armed stop to which it has come; where memory is refused, the
-// node is stopped.
-fn settle<R: MemoryReplica>(
+/// Keeps what a call of the node at this place came to, and makes an armed stop to which it has come; where memory is refused,
+/// the node is stopped.
+pub fn settle<R: MemoryReplica>(
     parts: &mut Parts<R>,
     i: usize,
     asked: Option<Request>,

@@ -10,6 +10,7 @@ use crate::delivery::{deliver, inject, tick};
 use crate::end::RunEnd;
 use crate::event::Event;
 use crate::lives::{arm, fail_at, halt, restart, start};
+use crate::packing::compact;
 use crate::parts::Parts;
 use crate::refused::Refused;
 use lk_replica::MemoryReplica;
@@ -25,6 +26,7 @@ pub fn happen<R: MemoryReplica>(parts: &mut Parts<R>, event: &Event) -> Result<(
         Event::Start(number) => start(parts, *number),
         Event::Restart(number) => restart(parts, *number),
         Event::Tick(number) => tick(parts, *number),
+        Event::Compact(number) => compact(parts, *number),
         Event::Client(number, request) => client(parts, *number, request),
         Event::Deliver(k) => deliver(parts, *k),
         Event::Inject(number, bytes) => inject(parts, *number, bytes),

@@ -9,6 +9,7 @@ mod finding;
 mod giving;
 mod happening;
 mod lives;
+mod packing;
 mod parts;
 mod refused;
 mod seat;

@@ -56,8 +56,8 @@ fn vacate<R: Drop>(alloc: Global, seat: &mut Seat<R>) -> Life<R>
     mem::replace(&mut seat.life, Life::Down(MemoryDisk::new(alloc)))
 }
 
-// The device of the node, which is left with empty disks.
-fn take_device<R: MemoryReplica>(alloc: Global, seat: &mut Seat<R>) -> MemoryDisk
+/// The device of the node, which is left with empty disks.
+pub fn take_device<R: MemoryReplica>(alloc: Global, seat: &mut Seat<R>) -> MemoryDisk
     ensures number { seat.new.number ≡ seat.old.number }
     ensures is { result ≡ device_in R.behaves seat.old.life }
     ensures fits { (h : History) (w : View) → SeatFits R.Shows (disks_by R.behaves) R.meaning h w seat.old → DisksFit R.meaning h seat.old.number (disk_of result) }
@@ -102,9 +102,9 @@ fn is_wanting(fault: &ReplicaFault, device: &MemoryDisk) -> bool
         )
 }
 
-// A fault leaves the node down, on the disks as they are; want of memory stops it. Either way the trap is gone, and the
-// device forgets that it was starved. Where the fault is that of an armed stop, that is told, and still to be made.
-fn fall<R: MemoryReplica>(
+/// A fault leaves the node down, on the disks as they are; want of memory stops it. Either way the trap is gone, and the
+/// device forgets that it was starved. Where the fault is that of an armed stop, that is told, and still to be made.
+pub fn fall<R: MemoryReplica>(
     alloc: Global,
     seat: &mut Seat<R>,
     mut device: MemoryDisk,

@@ -41,6 +41,7 @@ impl<R: MemoryReplica> World<R> {
     ghost use Rattle.lk_disk.specs.declared.device.Side.TheVariants.{A, B};
     ghost use Rattle.lk_sim.specs.Kept.{disks_of, CoversAll, IsKeptBy};
     ghost use Rattle.lk_sim.specs.Orders.{InOrder};
+    ghost use Rattle.lk_sim.specs.Packed.{LeavesPacked};
     ghost use Rattle.lk_sim.specs.Runs.{Runs};
     ghost use Rattle.lk_sim.specs.Seats.{At, HasNo};
     ghost use Rattle.lk_sim.specs.States.{SumsUpChosen};
@@ -81,6 +82,8 @@ impl<R: MemoryReplica> World<R> {
         ensures kept { (L : List Command) (i : ℕ) (v : Command) → Chosen self.new.genesis self.new.sent L → command_at L i ≡ Some v → IsKeptBy (disks_by R.behaves) R.meaning self.new.genesis self.new.seats self.new.sent L i v }
         // What was answered before a request was asked counts in front of it.
         ensures order { InOrder self.new.genesis self.new.sent self.new.trace }
+        // Where a node compacted, whatever a stop may leave of its disks has a snapshot of all that it has executed.
+        ensures packed { OnOk result (LeavesPacked R.whole (disks_by R.behaves) R.meaning event self.new) }
     {
         let result = happen(&mut self.parts, &event);
         self.facts();

@@ -1,4 +1,4 @@
-use Rattle.std.proofs.Common.{◌≡◌, List, [], ◌∷◌, refl, sym, ap, subst}
+use Rattle.std.proofs.Common.{◌≡◌, List, [], ◌∷◌, refl, sym, ap, subst, inl, inr}
 use Rattle.lk_log.specs.StoreValue.{disks}
 use Rattle.lk_log.specs.Stores.{plain, Holds, MayBegin, next_base, KeepsOrIs}
 use Rattle.lk_log.specs.Values.{StandingValue}
@@ -17,6 +17,7 @@ use Rattle.lk_replica.proofs.compacting.write_base.Goals as goal
 use Rattle.lk_disk.specs.Meters.{start}
 use Rattle.lk_replica.specs.declared.fault.ReplicaFault.TheVariants as fault
 use Rattle.lk_replica.proofs.Calling.{refused_by}
+use Rattle.lk_replica.proofs.Compactions.{rebase_refused, refused_as}
 
 pub returns-in_err-rebase-clause-ends : goal.returns-in_err-rebase-clause-ends
 returns-in_err-rebase-clause-ends g c honest h n f =
@@ -72,7 +73,7 @@ returns-clause-stands g c honest genesis n held shown =
     let is = c.in_ok-standing.ensures.value in
     let may = subst MayBegin is c.in_ok-standing.ensures.may in
     let holds = subst (λ (s : StandingValue). Holds c.rebase.new.self (Base (next_base c.args.store.now s) ∷ []) []) is (c.in_ok-rebase.ensures.base honest shown.keeps.entries (plain shown.keeps.loose) shown.keeps.holds) in
-    subst (λ (k : NodeValue). AllStandAt m genesis n (disks c.rebase.new.self) (executed k.learner)) (sym c.stand_here.ensures)
+    subst (λ (k : NodeValue). AllStandAt m genesis n (disks c.rebase.new.self) (executed k.learner) held.view.done) (sym c.stand_here.ensures)
     (all_stand m genesis n c.args.node.now c.args.store.now c.rebase.new.self held shown may c.standing.ensures.near.snapshot holds)
 
 pub returns-clause-runs : goal.returns-clause-runs
@@ -100,3 +101,11 @@ returns-in_err-standing-clause-room g c honest = within_same 49152 (disks c.args
 
 pub returns-in_err-standing-clause-metered : goal.returns-in_err-standing-clause-metered
 returns-in_err-standing-clause-metered g c metered honest = refused_by _ _ _ _ fault.NoMemory c.from_residual.ensures.1 (0, start)
+
+pub returns-in_err-standing-clause-of_store : goal.returns-in_err-standing-clause-of_store
+returns-in_err-standing-clause-of_store g c = refused_as _ fault.NoMemory c.from_residual.ensures.1 (inr (inl refl))
+
+pub returns-in_err-rebase-clause-of_store : goal.returns-in_err-rebase-clause-of_store
+returns-in_err-rebase-clause-of_store g c =
+    refused_as _ _ c.from_residual-in_err-rebase.ensures.1
+    (rebase_refused c.args.store.now _ c.in_err-rebase.ensures.refuses (λ last. (c.in_err-rebase.ensures.last last).1) c.in_err-rebase.ensures.only)

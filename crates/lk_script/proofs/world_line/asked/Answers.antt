@@ -12,6 +12,9 @@ returns-in-Restart-clause-not_understood c = λ bad o asks. c.to_restart.ensures
 pub returns-in-Tick-clause-not_understood : goal.returns-in-Tick-clause-not_understood
 returns-in-Tick-clause-not_understood c = λ bad o asks. c.to_tick.ensures.none (c.understood-in-Tick.ensures.not_understood bad) o (subst (λ (v : EventVerb). Asks v c.args.words.now o) c.in-Tick.is asks)
 
+pub returns-in-Compact-clause-not_understood : goal.returns-in-Compact-clause-not_understood
+returns-in-Compact-clause-not_understood c = λ bad o asks. c.to_compact.ensures.none (c.understood-in-Compact.ensures.not_understood bad) o (subst (λ (v : EventVerb). Asks v c.args.words.now o) c.in-Compact.is asks)
+
 pub returns-in-Deliver-clause-not_understood : goal.returns-in-Deliver-clause-not_understood
 returns-in-Deliver-clause-not_understood c = λ bad o asks. c.to_deliver.ensures.none (c.understood-in-Deliver.ensures.not_understood bad) o (subst (λ (v : EventVerb). Asks v c.args.words.now o) c.in-Deliver.is asks)
 

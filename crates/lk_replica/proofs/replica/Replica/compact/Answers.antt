@@ -1,5 +1,8 @@
-use Rattle.std.proofs.Common.{◌≡◌, false, [], refl, sym, ap, subst}
+use Rattle.std.proofs.Common.{◌≡◌, false, [], ◌∷◌, refl, sym, ap, subst}
 use Rattle.lk_log.specs.StoreValue.{disks}
+use Rattle.lk_log.specs.Stores.{Holds, next_base}
+use Rattle.lk_log.specs.declared.stored.Stored.TheVariants.{Base}
+use Rattle.lk_node.specs.Packing.{standing_of}
 use Rattle.lk_state.specs.Meanings.{Meaning, meaning}
 use Rattle.lk_node.specs.Calls.{NodeFits}
 use Rattle.lk_node.specs.Keeping.{Stands}
@@ -56,3 +59,8 @@ returns-clause-room g c honest = subst (λ (r : ReplicaValue). StaysWithin 49152
 
 pub returns-then-self-clause-metered : goal.returns-then-self-clause-metered
 returns-then-self-clause-metered g c metered honest = (0, start)
+
+pub returns-clause-writes : goal.returns-clause-writes
+returns-clause-writes g c honest ks ls held =
+    subst (λ (r : ReplicaValue). Holds c.write_base.new.store (Base (next_base r.store (standing_of r.node)) ∷ []) []) c.self.view_is
+    (c.in_ok-write_base.ensures.writes honest ks ls (subst (λ (r : ReplicaValue). Holds r.store ks ls) (sym c.self.view_is) held))

@@ -1,0 +1,33 @@
+-- What a call of a replica has done that was told to compact.
+use Rattle.std.specs.Prelude.{◌≡◌, ℕ, ◌⊎◌, false, Result, Ok, Err}
+use Rattle.lk_disk.specs.Memory.{disk_of}
+use Rattle.lk_disk.specs.Meters.{Passes}
+use Rattle.lk_log.specs.Causes.{rebase_calls}
+use Rattle.lk_log.specs.StoreValue.{device_of}
+use Rattle.lk_learner.specs.Learners.{executed}
+use Rattle.lk_node.specs.Histories.{Genesis}
+use Rattle.lk_node.specs.Holdings.{Holding}
+use Rattle.lk_node.specs.Keeping.{Stands}
+use Rattle.lk_replica.specs.Compacting.{AllStandAt, Rebases}
+use Rattle.lk_replica.specs.ReplicaValue.{ReplicaValue}
+use Rattle.lk_replica.specs.Taking.{IsRefused}
+use Rattle.lk_state.specs.Meanings.{Meaning}
+
+-- the replica has written its Base, in the calls that a rebase takes, and goes on: whatever a stop may leave of its disks stands for the
+-- packed text of all that it has executed
+pub record IsCompacted (m : Meaning) (old new : ReplicaValue) : Type 0 where
+  pub rebases : Rebases old.node old.store new.node new.store
+  pub stands : (genesis : Genesis) (n : ℕ) (x : Holding) → Stands m old.node old.store genesis n x
+      → AllStandAt m genesis n (disk_of (device_of new.store)) (executed new.node.learner) x.view.done
+  pub calls : Passes old.store.meter new.store.meter rebase_calls
+  pub alive : new.failed ≡ false
+  pub store_alive : new.store.failed ≡ false
+
+-- the device has failed, memory was wanting, or it has failed before
+abbrev pub IsStoreFault : ℕ → Type 0
+IsStoreFault number = (number ≡ 7) ⊎ (number ≡ 8) ⊎ (number ≡ 11)
+
+-- what the call came to
+abbrev pub CompactsTo : Meaning → ReplicaValue → ReplicaValue → Result (Unit {0}) ℕ → Type 0
+CompactsTo m old new (Ok done) = IsCompacted m old new
+CompactsTo m old new (Err number) = IsRefused old new number × IsStoreFault number
