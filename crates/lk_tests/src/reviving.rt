@@ -351,7 +351,7 @@ fn is_taken_up(alloc: Global, refused: ReviveFault<MemoryDisk>) -> Result<bool, 
 }
 
 // The same where the reading of that number fails.
-fn unread(alloc: Global, count: u64) -> Result<Unread, Fail> {
+fn failed_reading(alloc: Global, count: u64) -> Result<Unread, Fail> {
     let mut device = device_of(alloc, &[BEGUN, "00010001"], &[SECOND_BEGUN, PROMISED])?;
     device.fail_read(count);
     let revived: Result<_, ReviveFault<MemoryDisk>> = <OnDisks as MemoryReplica>::revive(
@@ -371,7 +371,7 @@ fn unread(alloc: Global, count: u64) -> Result<Unread, Fail> {
 // The first reading whose failure is not told so, and how that ends.
 fn first_unread(alloc: Global) -> Result<(u64, Unread), Fail> {
     for count in 1..100 {
-        let end = unread(alloc, count)?;
+        let end = failed_reading(alloc, count)?;
         if end != Unread::Retried {
             return Ok((count, end));
         }
