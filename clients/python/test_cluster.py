@@ -10,7 +10,21 @@ import unittest
 HERE = os.path.dirname(os.path.abspath(__file__))
 sys.path[:0] = [HERE, os.path.join(HERE, "..", "..", "bench")]
 from cluster import Cluster, free_ports  # noqa: E402
-from locks_client import Busy, Client, Free, Held, NoAnswer, NotHeld, NotMember, OtherAnswer, Passed, Used, milliseconds  # noqa: E402
+from locks_client import (  # noqa: E402
+    Bad,
+    Busy,
+    Client,
+    Free,
+    Held,
+    HeldShared,
+    NoAnswer,
+    NotHeld,
+    NotMember,
+    OtherAnswer,
+    Passed,
+    Used,
+    milliseconds,
+)
 
 PROGRAM = os.environ.get("LOCKS_PROGRAM")
 SCRIPT = os.path.join(HERE, "locks_client.py")
@@ -102,6 +116,21 @@ class ClusterTest(unittest.TestCase):
         self.assertIsNone(client.leave(4))
         with self.assertRaises(NotMember):
             client.leave(9)
+
+    def test_a_raised_table_is_shared_and_broken(self):
+        one, two, three = self.client(1), self.client(2), self.client(3)
+        with self.assertRaises(Bad):
+            one.share("db")
+        self.assertTrue(one.raise_table())
+        self.assertFalse(two.raise_table())
+        with one.lock("db", shared=True) as fence:
+            self.assertEqual((fence, two.share("db")), (1, 1))
+            self.assertEqual(three.ask("db"), HeldShared(2, 1))
+            with self.assertRaises(Busy):
+                three.acquire("db")
+        self.assertTrue(three.break_lock("db", 1))
+        self.assertFalse(three.break_lock("db", 1))
+        self.assertEqual(three.acquire("db"), 2)
 
     def test_nobody_answers(self):
         for node in list(self.cluster.ports):

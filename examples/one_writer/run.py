@@ -4,8 +4,8 @@
 Usage: examples/one_writer/run.py [PROGRAM]
 
 Writer 1 holds the lock and is paused as by a machine that is overloaded (SIGSTOP). A lock has no time limit, so an operator, who
-takes it for dead, frees it: in the name of writer 1, with a number above all that it used. Writer 2 gets the lock, at a higher fence.
-Then writer 1 wakes up and writes, since it has seen nothing of all this.
+takes it for dead, breaks it; the table is raised for that. Writer 2 gets the lock, at a higher fence. Then writer 1 wakes up and
+writes, since it has seen nothing of all this.
 """
 import os
 import signal
@@ -48,10 +48,11 @@ class Writer:
         print(self.process.stdout.read(), end="", flush=True)
 
 
-def free(cluster, number):
-    """Releases the lock in the name of whoever holds it."""
-    with cluster.client(number) as client:
-        client.release("page", client.ask("page").fence)
+def break_lock(cluster):
+    """Frees the lock of whoever holds it: an operator, with a client number of its own."""
+    with cluster.client(9) as operator:
+        operator.raise_table()
+        operator.break_lock("page", operator.ask("page").fence)
 
 
 def late_write(cluster, path):
@@ -59,8 +60,8 @@ def late_write(cluster, path):
     with Writer(cluster, 1, path) as one:
         one.says(2)
         one.process.send_signal(signal.SIGSTOP)
-        free(cluster, 1)
-        print("writer 1 is paused, and an operator frees its lock", flush=True)
+        break_lock(cluster)
+        print("writer 1 is paused, and an operator breaks its lock", flush=True)
         with Writer(cluster, 2, path) as two:
             two.says(2)
             print("writer 1 wakes up", flush=True)

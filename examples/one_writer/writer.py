@@ -7,7 +7,7 @@ import sys
 
 sys.path.insert(0, os.path.join(os.path.dirname(os.path.abspath(__file__)), "..", "..", "clients", "python"))
 import page  # noqa: E402
-from locks_client import Client, NotHeld, Passed, milliseconds  # noqa: E402
+from locks_client import Client, NotHeld, milliseconds  # noqa: E402
 
 
 def tell(number, path, fence, text):
@@ -27,8 +27,8 @@ def main():
                 tell(number, path, fence, f"first of {number}")
                 sys.stdin.readline()
                 tell(number, path, fence, f"second of {number}")
-        except (NotHeld, Passed):
-            print(f"writer {number} learns that the lock was taken from it", flush=True)
+        except NotHeld:
+            print(f"writer {number} learns that its lock was broken", flush=True)
 
 
 if __name__ == "__main__":

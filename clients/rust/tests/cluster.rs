@@ -165,6 +165,28 @@ fn members_join_and_leave() {
 }
 
 #[test]
+fn a_raised_table_is_shared_and_broken() {
+    let Some(cluster) = Cluster::start() else {
+        return;
+    };
+    let (mut one, mut two) = (cluster.client(1), cluster.client(2));
+    assert!(matches!(one.share("db"), Err(Error::Bad)));
+    assert!(one.raise_table().unwrap());
+    assert!(!two.raise_table().unwrap());
+    assert_eq!(one.share("db").unwrap(), 1);
+    assert_eq!(two.share_within("db", Duration::ZERO).unwrap(), 1);
+    let both = Standing::HeldShared {
+        holders: 2,
+        fence: 1,
+    };
+    assert_eq!(two.ask("db").unwrap(), both);
+    assert!(matches!(two.acquire("db"), Err(Error::Busy { .. })));
+    assert!(two.break_lock("db", 1).unwrap());
+    assert!(!two.break_lock("db", 1).unwrap());
+    assert_eq!(two.acquire("db").unwrap(), 2);
+}
+
+#[test]
 fn a_number_that_was_used_is_noticed() {
     let Some(cluster) = Cluster::start() else {
         return;
