@@ -12,13 +12,14 @@ STYLE = """
 .paper{fill:#fff} .band{fill:#f3f5f8} text{font:13px sans-serif;fill:#1c2733}
 .script{font:12px monospace;fill:#44505c} .name{font-weight:bold}
 .lane{stroke:#7d8b99;stroke-width:3} .down{stroke:#c2cad2;stroke-width:1.5;stroke-dasharray:2 5} .line{fill:none;stroke:#2b6cb0;stroke-width:1.4}
-.again{stroke-dasharray:6 4} .lost{stroke:#c0392b;stroke-width:1.4} .cross{stroke:#c0392b;stroke-width:2.2;fill:none} .point{fill:#2b6cb0}
-.promise{fill:#b7791f} .vote{fill:#6b46c1} .counted{fill:#2f855a} .ran{fill:#2f855a} .answered{fill:none;stroke:#2f855a;stroke-width:2.5}
+.line.again{stroke-dasharray:6 4} .lost{stroke:#c0392b;stroke-width:1.4} .cross{stroke:#c0392b;stroke-width:2.2;fill:none} .point{fill:#2b6cb0}
+.promise{fill:#b7791f} .vote{fill:#6b46c1} .promise.again{fill:none;stroke:#b7791f;stroke-width:1.6} .vote.again{fill:none;stroke:#6b46c1;stroke-width:1.6}
+.unsynced{fill:none;stroke:#44505c;stroke-width:1.6} .counted{fill:#2f855a} .ran{fill:#2f855a} .answered{fill:none;stroke:#2f855a;stroke-width:2.5}
 .edge{stroke:#44505c;stroke-width:3}
 @media (prefers-color-scheme: dark) {
 .paper{fill:#14191f} .band{fill:#1b222a} text{fill:#e6ebf0} .script{fill:#aab6c2}
 .lane{stroke:#74828f} .down{stroke:#46525e} .line{stroke:#63b3ed} .point{fill:#63b3ed} .lost,.cross{stroke:#fc8181}
-.promise{fill:#f6ad55} .vote{fill:#b794f4} .counted,.ran{fill:#68d391} .answered{stroke:#68d391} .edge{stroke:#cbd5de}
+.promise{fill:#f6ad55} .vote{fill:#b794f4} .promise.again{stroke:#f6ad55} .vote.again{stroke:#b794f4} .unsynced{stroke:#aab6c2} .counted,.ran{fill:#68d391} .answered{stroke:#68d391} .edge{stroke:#cbd5de}
 }
 """
 
@@ -29,19 +30,37 @@ def printed(program, lines):
 
 
 def events(program, script):
-    """Each line of the script that is not empty, with the lines that it printed; the last may be a refused one."""
+    """Each line of the script that is not empty, with the lines that it printed and how many calls of the device it made; the last
+    line may be a refused one."""
     told, before, lines = [], 0, script.splitlines()
     for end, line in enumerate(lines, 1):
         if not line:
             continue
         output, status = printed(program, lines[:end])
         if status and not (output and output[-1].startswith("refused ")):
-            return told + [(line, ["not understood"])]
-        told.append((line, output[before:-1] if not status else output[before:]))
+            return told + [(line, ["not understood"], 0)]
+        shown = output[before:-1] if not status else output[before:]
+        told.append((line, shown, calls(program, lines[:end - 1], line, output)))
         if status:
             break
         before = len(output) - 1
     return told
+
+
+def calls(program, lines, line, output):
+    """How many appends, syncs and cuts a tick or a delivery makes, told up to 2: found by letting the first fail, and then the second."""
+    words = line.split()
+    sent = {said.split()[1]: said.split()[3] for said in output if said.startswith("sent ")}
+    node = {"tick": "n" + words[1] if len(words) > 1 else "", "deliver": sent.get(words[-1], "")}.get(words[0], "")
+    fell = lambda run: any(said.startswith(("fault ", "stopped ")) for said in run)
+    plain = [said for said in printed(program, lines)[0] if not said.startswith("done ")]
+    if node[:1] != "n" or fell(output[len(plain):]):
+        return 0
+    for count in (1, 2):
+        run, _ = printed(program, [*lines, f"fail {node[1:]} {count}", line])
+        if not fell(run[len(plain):]):
+            return count - 1
+    return 2
 
 
 def is_refused(output):
@@ -50,8 +69,8 @@ def is_refused(output):
 
 def lanes(told):
     """Clients, then nodes, each in rising order, by their names in the lines `sent`, and the nodes that are started."""
-    names = {word for _, output in told for line in output for word in line.split()[2:4] if line.startswith("sent ")}
-    names |= {"n" + line.split()[1] for line, _ in told if line.startswith("start ")}
+    names = {word for _, output, _ in told for line in output for word in line.split()[2:4] if line.startswith("sent ")}
+    names |= {"n" + line.split()[1] for line, _, _ in told if line.startswith("start ")}
     return sorted(names, key=lambda name: (name[0], int(name[1:])))
 
 
@@ -66,8 +85,8 @@ class Picture:
         step = min(260, (WIDTH - LEFT - RIGHT) / max(1, len(self.names) - 1))
         self.x = {name: round(LEFT + place * step) for place, name in enumerate(self.names)}
         self.under, self.lines, self.grounds, self.lanes, self.texts, self.marks = [], [], [], [], [], []
-        self.sent, self.came, self.up, self.y, self.ground = {}, set(), {}, HEAD, "paper"
-        self.delivered = {line.split()[1] for line, output in told if line.startswith("deliver ") and not is_refused(output)}
+        self.sent, self.came, self.up, self.loops, self.y, self.ground = {}, set(), {}, [], HEAD, "paper"
+        self.delivered = {line.split()[1] for line, output, _ in told if line.startswith("deliver ") and not is_refused(output)}
 
     def text(self, x, y, words, kind="label", anchor="start"):
         """Words on a ground of their own, so that no line goes through them."""
@@ -82,18 +101,22 @@ class Picture:
     def mark(self, kind, x, y):
         shapes = {
             "promise": f'<path class="promise" d="M{x} {y - 7}l7 7l-7 7l-7 -7z"/>',
+            "promise again": f'<path class="promise again" d="M{x} {y - 7}l7 7l-7 7l-7 -7z"/>',
             "vote": f'<path class="vote" d="M{x - 6} {y - 6}h12v12h-12z"/>',
+            "vote again": f'<path class="vote again" d="M{x - 6} {y - 6}h12v12h-12z"/>',
+            "unsynced": f'<path class="unsynced" d="M{x - 5} {y - 5}v9h10v-9"/>',
             "counted": f'<circle class="counted" cx="{x}" cy="{y}" r="6"/>',
             "ran": f'<path class="ran" d="M{x - 6} {y - 6}l12 6l-12 6z"/>',
             "answered": f'<circle class="answered" cx="{x}" cy="{y}" r="5"/>',
             "edge": f'<path class="edge" d="M{x - 9} {y}h18"/>',
             "cross": f'<path class="cross" d="M{x - 5} {y - 5}l10 10m0 -10l-10 10"/>',
+            "end": f'<path class="cross" d="M{x} {y - 6}v12"/>',
         }
         self.marks.append(shapes[kind])
 
-    def event(self, line, output):
+    def event(self, line, output, calls):
         """Draws the event at the line where it stands, and each line that it printed a line lower."""
-        top, words = self.y, line.split(" ")
+        top, words, self.calls = self.y, line.split(" "), calls
         shown = [said.split() for said in output if not said.startswith("asked ")]
         refused = is_refused(output)
         self.ground = "paper" if self.ground == "band" else "band"
@@ -102,6 +125,8 @@ class Picture:
         self.text(8, top, line if len(line) < 27 else line[:24] + "..", "script")
         if not refused:
             self.before(top, words)
+            if calls == 1:
+                self.unsynced(top, words)
         for place, said in enumerate(shown, 1):
             self.said(top + PITCH * place, said)
         if words[0] == "stop" and not refused:
@@ -119,6 +144,11 @@ class Picture:
             x = self.x["n" + words[1]]
             self.arrow(x - 60, y, x, y, "line")
 
+    def unsynced(self, y, words):
+        """Marks a write that is not synced, on the side that no arrow comes from."""
+        frm, to = (self.sent[words[1]][:2] if words[0] == "deliver" else ("n" + words[1],) * 2)
+        self.mark("unsynced", self.x[to] + (-10 if self.x[frm] > self.x[to] else 10), y)
+
     def ends(self, name, y):
         self.path(f"M{self.x[name]} {self.up.pop(name)}V{y}", "lane")
         self.mark("edge", self.x[name], y)
@@ -133,7 +163,10 @@ class Picture:
         kind = "line again" if number in self.came else "line"
         self.came.add(number)
         if frm == to:
-            x, wide = self.x[to], 22 + min(40, (y - at) // 10)
+            over = {level for name, low, high, level in self.loops if name == to and low < y and at < high}
+            level = min(level for level in range(len(over) + 1) if level not in over)
+            self.loops.append((to, at, y, level))
+            x, wide = self.x[to], 26 + 20 * level
             self.path(f"M{x} {at}C{x - wide} {at + 4} {x - wide} {y - 2} {x - 6} {y}", kind)
             self.marks.append(f'<path class="point" d="M{x - 2} {y}l-9 -4v8z"/>')
         else:
@@ -161,22 +194,26 @@ class Picture:
         self.sent[number] = (frm, to, y)
         x, side = self.x[frm], -1 if self.x[to] < self.x[frm] else 1
         if kind in ("promise", "accepted"):
-            self.mark("promise" if kind == "promise" else "vote", x, y)
+            self.mark(("promise" if kind == "promise" else "vote") + ("" if self.calls == 2 else " again"), x, y)
         lost = to[0] == "n" and number not in self.delivered
         if lost:
             self.path(f"M{x} {y}h{side * 15}", "lost")
-            self.mark("cross", x + side * 15, y)
+            self.mark("end", x + side * 15, y)
         words = f"{number} {kind} to {to[1:]}" if lost else f"{number} {kind}"
         self.text(x + side * (26 if lost else 12), y, words, "label", "start" if side > 0 else "end")
         if to[0] == "c":
             self.arrow(x, y, self.x[to], y, "line")
 
     def legend(self):
-        """Two rows under the picture: each mark, and each kind of line, with what it means."""
+        """Three rows under the picture: each mark, and each kind of line, with what it means."""
         self.ground, y = "paper", self.y + 24
         self.under.append(f'<path class="down" d="M0 {y - 20}H{WIDTH}"/>')
-        for x, kind, words in ((20, "promise", "promise, synced first"), (205, "vote", "vote, synced first"), (365, "counted", "a majority has voted"),
-                               (545, "ran", "executed at its position"), (745, "answered", "answer to a client"), (900, "cross", "fault")):
+        for x, kind, words in ((20, "promise", "promise, synced first"), (220, "promise again", "promise, synced before: nothing is written"), (570, "unsynced", "written, not synced")):
+            self.mark(kind, x, y)
+            self.text(x + 14, y, words)
+        y += 26
+        for x, kind, words in ((20, "vote", "vote, synced first"), (205, "vote again", "synced before"), (345, "counted", "a majority has voted"),
+                               (515, "ran", "executed at its position"), (715, "answered", "answer to a client"), (890, "cross", "fault, stop")):
             self.mark(kind, x, y)
             self.text(x + 14, y, words)
         y += 26
@@ -187,13 +224,13 @@ class Picture:
             else:
                 self.path(f"M{x} {y}h{15 if kind == 'lost' else 36}", kind)
             if kind == "lost":
-                self.mark("cross", x + 15, y)
+                self.mark("end", x + 15, y)
             self.text(x + (28 if kind == "lost" else 48), y, words)
         self.y = y + 20
 
     def finish(self):
-        for line, output in self.told[1:]:
-            self.event(line, output)
+        for line, output, calls in self.told[1:]:
+            self.event(line, output, calls)
         self.ground, end = "paper", self.y - 4
         for name in self.names:
             x = self.x[name]
@@ -229,6 +266,8 @@ def check(program):
 
 
 def main(words):
+    if words[:1] in (["--help"], ["-h"]):
+        sys.exit(print(__doc__))
     if not 1 <= len(words) <= 2:
         sys.exit(__doc__)
     program = [words[1] if len(words) == 2 else str(TOP / "locks")]
