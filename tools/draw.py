@@ -212,8 +212,8 @@ class Picture:
             self.mark(kind, x, y)
             self.text(x + 14, y, words)
         y += 26
-        for x, kind, words in ((20, "vote", "vote, synced first"), (205, "vote again", "synced before"), (345, "counted", "a majority has voted"),
-                               (515, "ran", "executed at its position"), (715, "answered", "answer to a client"), (890, "cross", "fault, stop")):
+        for x, kind, words in ((20, "vote", "vote, synced first"), (205, "vote again", "vote kept already"), (370, "counted", "a majority has voted"),
+                               (530, "ran", "executed at its position"), (700, "answered", "answer to a client"), (865, "cross", "fault, armed stop")):
             self.mark(kind, x, y)
             self.text(x + 14, y, words)
         y += 26
