@@ -212,8 +212,8 @@ class Picture:
             self.mark(kind, x, y)
             self.text(x + 14, y, words)
         y += 26
-        for x, kind, words in ((20, "vote", "vote, synced first"), (205, "vote again", "vote kept already"), (370, "counted", "a majority has voted"),
-                               (530, "ran", "executed at its position"), (700, "answered", "answer to a client"), (865, "cross", "fault, armed stop")):
+        for x, kind, words in ((20, "vote", "vote, synced first"), (190, "vote again", "vote kept already"), (335, "counted", "a majority has voted"),
+                               (505, "ran", "executed at its position"), (700, "answered", "answer to a client"), (862, "cross", "fault, armed stop")):
             self.mark(kind, x, y)
             self.text(x + 14, y, words)
         y += 26
