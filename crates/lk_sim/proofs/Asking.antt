@@ -64,8 +64,10 @@ module _ {R : Type 0} (Shows : R → Genesis → ℕ → Holding → Type 0) (di
         shown = u.shown;
         fits = still_holding genesis sent more (asked_in trace) (asked_in (trace ++ notes)) among m t.number u.holding (subst (λ v. ViewFits genesis (sent ++ more) t.number v) (sym u.view) (fits.views t.number)) u.fits;
         left = images t.number (disks q) u.left;
+        room = u.room;
       };
       down = λ d is. images t.number (disk_of d) (f.down d is);
+      room = f.room;
     }
 
     no_answer : {n client number : ℕ} {a : Answer} → note.Asked r ≡ note.Answered n client number a → ⊥

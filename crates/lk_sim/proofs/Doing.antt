@@ -1,5 +1,5 @@
 -- What an event has done, by what its calls came to.
-use Rattle.std.proofs.Common.{◌≡◌, ℕ, ◌⊎◌, List, [], ◌++◌, length, set, Option, Some, None, Result, Ok, Err, refl, ap, sym, ◌∙◌, subst, subst₂, inl, inr, append_assoc, append-nil}
+use Rattle.std.proofs.Common.{◌≡◌, ℕ, ◌⊎◌, List, [], ◌++◌, length, set, Option, Some, None, Ok, Err, refl, ap, sym, ◌∙◌, subst, subst₂, inl, inr, append_assoc, append-nil}
 use Rattle.std.proofs.lemmas.List.{get_or_default}
 use Rattle.lk_disk.specs.Memory.{Memory}
 use Rattle.lk_disk.specs.Meters.{stopping}

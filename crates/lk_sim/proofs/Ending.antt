@@ -32,7 +32,7 @@ stopped_fit m h n old new kept f image may = f image (λ s. side s (kept s).0 (k
 -- a node that is down fits whatever view stands for its number
 pub any_view : {R : Type 0} (Shows : R → Genesis → ℕ → Holding → Type 0) (disks : R → Side → Disk) (m : Meaning) (h : History) (v x : View) (s : Seat R) (d : Memory) → s.life ≡ Down d
     → SeatFits Shows disks m h v s → SeatFits Shows disks m h x s
-any_view Shows disks m h v x s d down f = record { up = λ q is. absurd (cc (down, is)); down = f.down }
+any_view Shows disks m h v x s d down f = record { up = λ q is. absurd (cc (down, is)); down = f.down; room = f.room }
 
 -- a node is replaced by one of the same number that fits to the same view
 module _ {R : Type 0} (Shows : R → Genesis → ℕ → Holding → Type 0) (disks : R → Side → Disk) (m : Meaning) (genesis : Genesis) (seats : List (Seat R)) (sent : List Datagram) (trace : List Note)
@@ -96,6 +96,8 @@ goes_fits Shows disks m genesis sent asked s notes batch g = record {
         shown = g.goes.shown;
         fits = g.goes.fits;
         left = subst (λ l. DisksFit m (record { genesis = genesis; sent = l; asked = asked }) s.number (disks g.replica)) (append-nil sent) (g.goes.left 0);
+        room = g.room;
       });
   down = λ d is. absurd (cc (g.up, is));
+  room = λ d is. absurd (cc (g.up, is));
 }

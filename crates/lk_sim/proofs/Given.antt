@@ -13,11 +13,13 @@ use Rattle.lk_node.specs.Leavings.{header_of, DisksFit}
 use Rattle.lk_node.specs.Calls.{NodeFits, Goes}
 use Rattle.lk_node.specs.declared.note.Note.{Note}
 use Rattle.lk_sim.specs.Traces.{asked_in, happened, Tells, asked_note}
+use Rattle.lk_sim.specs.Rooms.{AreShort}
 use Rattle.lk_sim.specs.Seats.{UpFits, SeatFits, SeatGoes, At}
 use Rattle.lk_sim.specs.Worlds.{Holds}
 use Rattle.lk_sim.specs.declared.seat.Seat.{Seat}
 use Rattle.lk_sim.specs.declared.seat.Life.TheVariants.{Up, Down}
 use Rattle.lk_sim.proofs.Growth.{disks_move, same_disks}
+use Rattle.lk_sim.proofs.Shortness.{same_short}
 use Rattle.lk_sim.proofs.Asking.{injected_holds}
 use Rattle.lk_sim.proofs.Sending.{goes_on}
 use Rattle.lk_sim.proofs.Ending.{ends}
@@ -38,10 +40,11 @@ module _ {R : Type 0} (Shows : R → Genesis → ℕ → Holding → Type 0) (di
   node_fits n r lawful u = record { lawful = lawful; holding = u.holding; shown = u.shown; fits = u.fits; left = u.left }
 
   -- down, on these disks
-  pub down_fits : (new : Seat R) (d : Memory) → new.life ≡ Down d → DisksFit m h new.number (disk_of d) → SeatFits Shows disks m h w new
-  down_fits new d down f = record {
+  pub down_fits : (new : Seat R) (d : Memory) → new.life ≡ Down d → DisksFit m h new.number (disk_of d) → AreShort (disk_of d) → SeatFits Shows disks m h w new
+  down_fits new d down f short = record {
     up = λ q is. absurd (cc (down, is));
     down = λ e is. let same : d ≡ e = cc (down, is) in subst (λ z. DisksFit m h new.number (disk_of z)) same f;
+    room = λ e is. let same : d ≡ e = cc (down, is) in subst (λ (z : Memory). AreShort (disk_of z)) same short;
   }
 
   -- a trap was set
@@ -50,12 +53,13 @@ module _ {R : Type 0} (Shows : R → Genesis → ℕ → Holding → Type 0) (di
     up = λ p is. let e : q ≡ p = cc (now, is) in
         subst (λ k. UpFits Shows disks m h w k p) (sym number) (subst (λ z. UpFits Shows disks m h w s.number z) e (on s.number (f.up r old)));
     down = λ d is. absurd (cc (now, is));
+    room = λ d is. absurd (cc (now, is));
   }
 
   pub trapped_down : (s new : Seat R) (d e : Memory) → s.life ≡ Down d → new.life ≡ Down e → new.number ≡ s.number
       → ((k : Side) → disk_of e k ≡ disk_of d k) → SeatFits Shows disks m h w s → SeatFits Shows disks m h w new
   trapped_down s new d e old now number same f =
-      down_fits new e now (subst (λ k. DisksFit m h k (disk_of e)) (sym number) (same_disks m h s.number (disk_of d) (disk_of e) same (f.down d old)))
+      down_fits new e now (subst (λ k. DisksFit m h k (disk_of e)) (sym number) (same_disks m h s.number (disk_of d) (disk_of e) same (f.down d old))) (same_short (disk_of d) (disk_of e) same (f.room d old))
 
 -- a request that was just asked, if there is one, keeps all
 pub asked_maybe : {R : Type 0} (Shows : R → Genesis → ℕ → Holding → Type 0) (disks : R → Side → Disk) (m : Meaning) (genesis : Genesis) (seats : List (Seat R)) (sent : List Datagram) (trace : List Note)
@@ -74,11 +78,11 @@ module _ {R : Type 0} (Shows : R → Genesis → ℕ → Holding → Type 0) (di
       → Holds Shows disks m genesis (set seats i new) sent trace
   went_off asked v d down f =
       went_down (down_fits Shows disks m (happened genesis sent trace) (w.views s.number) new d down
-      (disks_move m genesis sent sent asked (asked_in trace) new.number (disk_of d) (λ x c. c) (λ x c. c) (f.down d down)))
+      (disks_move m genesis sent sent asked (asked_in trace) new.number (disk_of d) (λ x c. c) (λ x c. c) (f.down d down)) (f.room d down))
 
   -- it went on
   pub went_on : (notes told : List Note) (batch : List Datagram) → SeatGoes Shows disks m (happened genesis sent trace) new notes batch → Tells batch told
       → Holds Shows disks m genesis (set seats i new) (sent ++ batch) (trace ++ (notes ++ told))
   went_on notes told batch f tells =
       goes_on Shows disks m genesis seats sent trace w i s new at f.replica number f.up notes told batch
-      (subst (λ k. Goes m (happened genesis sent trace) k (Shows f.replica genesis k) (disks f.replica) notes batch) number f.goes) tells
+      (subst (λ k. Goes m (happened genesis sent trace) k (Shows f.replica genesis k) (disks f.replica) notes batch) number f.goes) tells f.room

@@ -13,6 +13,7 @@ use Rattle.lk_node.specs.Leavings.{view_of, DisksFit}
 use Rattle.lk_node.specs.declared.note.Note.{Note}
 use Rattle.lk_sim.specs.Traces.{happened}
 use Rattle.lk_sim.specs.Kept.{disks_of, CoversAll, IsKeptBy}
+use Rattle.lk_sim.specs.Rooms.{AreShort}
 use Rattle.lk_sim.specs.Seats.{At, SeatFits}
 use Rattle.lk_sim.specs.Worlds.{Holds}
 use Rattle.lk_sim.specs.declared.seat.Life.{Life}
@@ -27,6 +28,13 @@ module _ {R : Type 0} (Shows : R → Genesis → ℕ → Holding → Type 0) (di
 
   fit_at : (k : ℕ) (s : Seat R) → At seats k s → DisksFit m (happened genesis sent trace) s.number (disks_of disks s.life)
   fit_at k s at = its_disks_fit s s.life refl (w.seated k s at)
+
+  its_files_are_short : (s : Seat R) (life : Life R) → s.life ≡ life → SeatFits Shows disks m (happened genesis sent trace) (w.views s.number) s → AreShort (disks_of disks life)
+  its_files_are_short s (Up r) is f = (f.up r is).room
+  its_files_are_short s (Down d) is f = f.room d is
+
+  pub room : (k : ℕ) (s : Seat R) → At seats k s → AreShort (disks_of disks s.life)
+  room k s at = its_files_are_short s s.life refl (w.seated k s at)
 
   pub covered : (k : ℕ) (s : Seat R) → At seats k s → CoversAll disks m genesis sent s
   covered k s at image may = let i = fit_at k s at image may in (i.standing, i.stands, i.covers)

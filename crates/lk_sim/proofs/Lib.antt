@@ -1,6 +1,7 @@
 mod Lists
 mod Told
 mod Growth
+mod Shortness
 mod Bearing
 mod Ordering
 mod Explaining

@@ -25,6 +25,7 @@ use Rattle.lk_node.specs.Leavings.{DisksFit}
 use Rattle.lk_node.specs.Calls.{Goes}
 use Rattle.lk_node.specs.declared.note.Note.{Note}
 use Rattle.lk_sim.specs.Traces.{asked_in, happened, told_by, told_in, Tells}
+use Rattle.lk_sim.specs.Rooms.{AreShort}
 use Rattle.lk_sim.specs.Seats.{UpFits, SeatFits, At}
 use Rattle.lk_sim.specs.Worlds.{Holds}
 use Rattle.lk_sim.specs.declared.seat.Seat.{Seat}
@@ -58,7 +59,7 @@ no_request genesis n x r cluster bytes said asked = none (ap (λ k. k.content) (
 module _ {R : Type 0} (Shows : R → Genesis → ℕ → Holding → Type 0) (disks : R → Side → Disk) (m : Meaning) (genesis : Genesis) (seats : List (Seat R)) (sent : List Datagram) (trace : List Note)
     (w : Holds Shows disks m genesis seats sent trace)
     (i : ℕ) (s new : Seat R) (at : At seats i s) (r : R) (number : new.number ≡ s.number) (up : new.life ≡ Up r)
-    (mine told : List Note) (batch : List Datagram) (g : Goes m (happened genesis sent trace) s.number (Shows r genesis s.number) (disks r) mine batch) (tells : Tells batch told) where
+    (mine told : List Note) (batch : List Datagram) (g : Goes m (happened genesis sent trace) s.number (Shows r genesis s.number) (disks r) mine batch) (tells : Tells batch told) (short : AreShort (disks r)) where
   abbrev notes : List Note
   notes = mine ++ told
 
@@ -102,6 +103,7 @@ module _ {R : Type 0} (Shows : R → Genesis → ℕ → Holding → Type 0) (di
     fits = still_holding genesis sent batch (asked_in trace) (asked_in (trace ++ notes)) among m n g.holding (subst (λ v. ViewFits genesis (sent ++ batch) n v) here (after_fits.views n)) g.fits;
     left = disks_move m genesis (sent ++ batch) (sent ++ batch) (asked_in trace) (asked_in (trace ++ notes)) n (disks r) (λ x c. c) (λ x c. c)
         (subst (λ b. DisksFit m (later (happened genesis sent trace) b) n (disks r)) (take-length batch) (g.left (length batch)));
+    room = short;
   }
 
   others : (k : ℕ) → (k ≡ n → ⊥) → (d : Side → Disk) → DisksFit m (happened genesis sent trace) k d → DisksFit m since k d
@@ -119,8 +121,10 @@ module _ {R : Type 0} (Shows : R → Genesis → ℕ → Holding → Type 0) (di
           fits = still_holding genesis sent batch (asked_in trace) (asked_in (trace ++ notes)) among m t.number u.holding
               (subst (λ v. ViewFits genesis (sent ++ batch) t.number v) (same ∙ sym u.view) (after_fits.views t.number)) u.fits;
           left = others t.number ne (disks q) u.left;
+          room = u.room;
         };
     down = λ d is. others t.number ne (disk_of d) (f.down d is);
+    room = f.room;
   }
 
   seated : (k : ℕ) (t : Seat R) → At (set seats i new) k t → SeatFits Shows disks m since (now.views t.number) t
@@ -134,6 +138,7 @@ module _ {R : Type 0} (Shows : R → Genesis → ℕ → Holding → Type 0) (di
         up = λ q is. let same : r ≡ q = cc (up, is) in
             subst (λ z. UpFits Shows disks m since (now.views new.number) new.number z) same (subst (λ k. UpFits Shows disks m since (now.views k) k r) (sym number) own);
         down = λ d is. absurd (cc (up, is));
+        room = λ d is. absurd (cc (up, is));
       }
 
   apart : (j k : ℕ) (t u : Seat R) → At (set seats i new) j t → At (set seats i new) k u → t.number ≡ u.number → j ≡ k

@@ -1,5 +1,5 @@
 -- What a compaction has left on disk.
-use Rattle.std.proofs.Common.{◌≡◌, ℕ, List, Result, Ok, Err, None, OnOk, ap, sym, ◌∙◌, subst, subst₂, inl, inr, append-nil, []}
+use Rattle.std.proofs.Common.{◌≡◌, ℕ, Result, Ok, Err, OnOk, sym, ◌∙◌, subst, subst₂, inl, inr, append-nil, []}
 use Rattle.lk_log.specs.Images.{MayLeaveBoth}
 use Rattle.lk_state.specs.Meanings.{Meaning}
 use Rattle.lk_state.specs.States.{WholeValue}

@@ -18,6 +18,8 @@ use Rattle.lk_node.specs.Leavings.{header_of, DisksFit}
 use Rattle.lk_node.specs.declared.note.Note.{Note}
 use Rattle.lk_node.specs.declared.note.Note.TheVariants as note
 use Rattle.lk_sim.specs.Traces.{happened}
+use Rattle.lk_sim.specs.Rooms.{AreShort}
+use Rattle.lk_sim.proofs.Shortness.{empty_short}
 use Rattle.lk_sim.specs.Seats.{SeatFits, At}
 use Rattle.lk_sim.specs.Worlds.{Holds}
 use Rattle.lk_sim.specs.declared.seat.Seat.{Seat}
@@ -71,6 +73,7 @@ module _ {R : Type 0} (Shows : R → Genesis → ℕ → Holding → Type 0) (di
     up = λ q is. absurd (cc (down, is));
     down = λ d is. let same : device ≡ d = cc (down, is) in
         subst (λ z. DisksFit m (happened genesis sent trace) new.number (disk_of z)) same (empty_fits m (happened genesis sent trace) new.number (disk_of device) left silent);
+    room = λ d is. let same : device ≡ d = cc (down, is) in subst (λ (z : Memory). AreShort (disk_of z)) same (empty_short (disk_of device) left);
   }
 
   pub starts : Holds Shows disks m genesis (seats ++ new ∷ []) sent trace

@@ -1,5 +1,5 @@
 -- A node that stops in the middle of what it sends.
-use Rattle.std.proofs.Common.{◌≡◌, ℕ, ◌-◌, ◌≤◌, ◌<◌, List, ◌++◌, length, take, drop, Option, Some, None, Contains, refl, ap, sym, ◌∙◌, subst, inl, inr, arith}
+use Rattle.std.proofs.Common.{◌≡◌, ℕ, ◌-◌, List, length, take, drop, Option, Some, None, Contains, refl, ap, sym, ◌∙◌, subst, inl, inr, arith}
 use Rattle.std.proofs.lemmas.Bool.{cases_lt}
 use Rattle.std.proofs.lemmas.List.{take-take, take_all, length-take, take-append-drop}
 use Rattle.std.proofs.lemmas.List.Elements.{Contains-append_left}
@@ -19,11 +19,13 @@ use Rattle.lk_node.specs.declared.note.Note.{Note}
 use Rattle.lk_replica.specs.Behaviours.{Behaviour, TrapsAlone, disks_by}
 use Rattle.lk_sim.specs.Events.{SentUpTo, counting}
 use Rattle.lk_sim.specs.Outcomes.{Rests}
+use Rattle.lk_sim.specs.Rooms.{AreShort}
 use Rattle.lk_sim.specs.Seats.{UpFits, stopped_on, fallen_on, rested_on, device_in}
 use Rattle.lk_sim.specs.declared.seat.Seat.{Seat}
 use Rattle.lk_sim.specs.declared.seat.Life.{Life}
 use Rattle.lk_sim.specs.declared.seat.Life.TheVariants.{Down}
 use Rattle.lk_sim.proofs.Growth.{same_disks}
+use Rattle.lk_sim.proofs.Shortness.{same_short}
 
 in_front : {X : Type 0} (k : ℕ) (xs : List X) (x : X) → Contains (take k xs) x → Contains xs x
 in_front k xs x c = subst (λ l. Contains l x) (take-append-drop k xs) (Contains-append_left (take k xs) (drop k xs) x c)
@@ -85,7 +87,18 @@ module _ {R : Type 0} (b : Behaviour R) (alone : TrapsAlone b) (Shows : R → Ge
     shown = shows_on t r h.genesis n u.holding u.shown;
     fits = u.fits;
     left = same_disks m h n (disks_by b r) (disks_by b (b.with_trap t r)) (trapped_disks t r) u.left;
+    room = same_short (disks_by b r) (disks_by b (b.with_trap t r)) (trapped_disks t r) u.room;
   }
+
+  counted_short : (t : Trap) (sends : ℕ) (r : R) → AreShort (disks_by b r) → AreShort (disks_by b (counting b t sends r))
+  counted_short Off sends r short = short
+  counted_short (Fail count) sends r short = short
+  counted_short (Arm count bytes) sends r short = same_short (disks_by b r) (disks_by b (b.with_trap (Arm (count - sends) bytes) r)) (trapped_disks (Arm (count - sends) bytes) r) short
+
+  -- sends lengthen no file
+  pub sent_short : (stop : Option ℕ) (r q : R) (all sent : List Datagram) → SentUpTo b stop r q all sent → AreShort (disks_by b r) → AreShort (disks_by b q)
+  sent_short None r q all sent up short = subst (λ z. AreShort (disks_by b z)) (sym up.1) (counted_short (b.memory r).meter.trap (length all) r short)
+  sent_short (Some bytes) r q all sent up short = subst (λ z. AreShort (disks_by b z)) (sym up.2) short
 
 -- a device of which a stop leaves no unsynced byte forgets its trap
 module _ {R : Type 0} (b : Behaviour R) (alone : TrapsAlone b) where

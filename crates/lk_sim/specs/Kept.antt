@@ -1,5 +1,5 @@
 -- What the disks of a majority keep of a chosen list.
-use Rattle.std.specs.Prelude.{◌≡◌, ℕ, ◌≤◌, ◌⊎◌, List, [], length, Some, Contains}
+use Rattle.std.specs.Prelude.{◌≡◌, ℕ, ◌≤◌, ◌⊎◌, List, [], length, Contains}
 use Rattle.lk_types.specs.declared.vote.Vote.{Vote}
 use Rattle.lk_disk.specs.Disk.{Disk}
 use Rattle.lk_disk.specs.Memory.{disk_of}
@@ -10,7 +10,7 @@ use Rattle.lk_members.specs.Rosters.{members}
 use Rattle.lk_members.specs.Majorities.{IsMajority}
 use Rattle.lk_state.specs.Meanings.{Meaning}
 use Rattle.lk_history.specs.Acceptors.{CoversSent}
-use Rattle.lk_history.specs.Chosen.{command_at, Chosen, IsBeginning}
+use Rattle.lk_history.specs.Chosen.{Chosen, IsBeginning}
 use Rattle.lk_node.specs.Histories.{Genesis, Datagram, Command}
 use Rattle.lk_node.specs.Leavings.{header_of, acceptor_of, StandsAs}
 use Rattle.lk_node.specs.Served.{text}

@@ -1,5 +1,6 @@
 pub mod Seats
 pub mod Scenes
+pub mod Rooms
 pub mod Traces
 pub mod Heard
 pub mod Explained

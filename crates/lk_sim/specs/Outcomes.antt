@@ -16,7 +16,6 @@ use Rattle.lk_sim.specs.Seats.{SeatFits, At, stopped_on, fallen_on, device_in}
 use Rattle.lk_sim.specs.Traces.{Tells}
 use Rattle.lk_sim.specs.declared.end.End.{End}
 use Rattle.lk_sim.specs.declared.seat.Seat.{Seat}
-use Rattle.lk_sim.specs.declared.seat.Life.{Life}
 use Rattle.lk_sim.specs.declared.seat.Life.TheVariants.{Up, Down}
 
 -- a fault of that kind ended the node: it is down on the disks that it left, its trap is gone, and it noted and sent nothing. An

@@ -14,6 +14,7 @@ use Rattle.lk_node.specs.declared.note.Note.{Note}
 use Rattle.lk_node.specs.Holdings.{Holding, HoldingFits}
 use Rattle.lk_node.specs.Leavings.{DisksFit}
 use Rattle.lk_replica.specs.Behaviours.{Behaviour}
+use Rattle.lk_sim.specs.Rooms.{AreShort}
 use Rattle.lk_sim.specs.declared.seat.Seat.{Seat}
 use Rattle.lk_sim.specs.declared.seat.Life.{Life}
 use Rattle.lk_sim.specs.declared.seat.Life.TheVariants.{Up, Down}
@@ -67,24 +68,27 @@ IsTrapped {R = R} b s t trap =
 
 -- ---- how a node fits to what has happened
 
--- a replica that is up holds this view and what fits, and so does whatever a stop may leave of it
+-- a replica that is up holds this view and what fits, and so does whatever a stop may leave of it; its files are short
 pub record UpFits {R : Type 0} (Shows : R → Genesis → ℕ → Holding → Type 0) (disks : R → Side → Disk) (m : Meaning) (h : History) (w : View) (n : ℕ) (r : R) : Type 0 where
   pub holding : Holding
   pub view : holding.view ≡ w
   pub shown : Shows r h.genesis n holding
   pub fits : HoldingFits m h n holding
   pub left : DisksFit m h n (disks r)
+  pub room : AreShort (disks r)
 
 -- a node is up so, or its disks fit
 pub record SeatFits {R : Type 0} (Shows : R → Genesis → ℕ → Holding → Type 0) (disks : R → Side → Disk) (m : Meaning) (h : History) (w : View) (s : Seat R) : Type 0 where
   pub up : (r : R) → s.life ≡ Up r → UpFits Shows disks m h w s.number r
   pub down : (d : Memory) → s.life ≡ Down d → DisksFit m h s.number (disk_of d)
+  pub room : (d : Memory) → s.life ≡ Down d → AreShort (disk_of d)
 
 -- a node has come up, or went on
 pub record SeatGoes {R : Type 0} (Shows : R → Genesis → ℕ → Holding → Type 0) (disks : R → Side → Disk) (m : Meaning) (h : History) (s : Seat R) (notes : List Note) (batch : List Datagram) : Type 0 where
   pub replica : R
   pub up : s.life ≡ Up replica
   pub goes : Goes m h s.number (Shows replica h.genesis s.number) (disks replica) notes batch
+  pub room : AreShort (disks replica)
 
 -- ---- where a node is
 

@@ -10,6 +10,7 @@ ghost use Rattle.lk_node.specs.Calls.{heard_by, InputFits};
 ghost use Rattle.lk_replica.specs.Behaviours.{disks_by};
 ghost use Rattle.lk_replica.specs.Faults.{fault_number};
 ghost use Rattle.lk_sim.specs.Events.{Breaks, StaysDown, IsNoWant, LeftBy, LeftByRevival, SentUpTo, end_by, end_at};
+ghost use Rattle.lk_sim.specs.Rooms.{AreShort};
 ghost use Rattle.lk_sim.specs.Seats.{SeatFits, SeatGoes, IsTrapped, device_in, stopped_on};
 ghost use Rattle.lk_sim.specs.Kept.{disks_of};
 ghost use Rattle.lk_sim.specs.Outcomes.{HasFallen, HasHalted, HasTaken, HasRevived, IsThis, Rests};
@@ -61,6 +62,7 @@ pub fn take_device<R: MemoryReplica>(alloc: Global, seat: &mut Seat<R>) -> Memor
     ensures number { seat.new.number ≡ seat.old.number }
     ensures is { result ≡ device_in R.behaves seat.old.life }
     ensures fits { (h : History) (w : View) → SeatFits R.Shows (disks_by R.behaves) R.meaning h w seat.old → DisksFit R.meaning h seat.old.number (disk_of result) }
+    ensures room { (h : History) (w : View) → SeatFits R.Shows (disks_by R.behaves) R.meaning h w seat.old → AreShort (disk_of result) }
 {
     match vacate(alloc, seat) {
         Life::Up(replica) => replica.into_disks(),
@@ -111,7 +113,7 @@ pub fn fall<R: MemoryReplica>(
     fault: ReplicaFault,
 ) -> Result<Outcome, NoMemory>
     ensures number { seat.new.number ≡ seat.old.number }
-    ensures fits { (h : History) (w : View) → DisksFit R.meaning h seat.old.number (disk_of device) → SeatFits R.Shows (disks_by R.behaves) R.meaning h w seat.new }
+    ensures fits { (h : History) (w : View) → DisksFit R.meaning h seat.old.number (disk_of device) → AreShort (disk_of device) → SeatFits R.Shows (disks_by R.behaves) R.meaning h w seat.new }
     ensures fallen { IfOk result (λ o. HasFallen (IsThis (fault_number fault) device) seat.new o.notes.items o.sent.items o.ended o.stop) }
     ensures halted { OnErr result (seat.new.life ≡ Down (stopped_on 0 0 device)) }
 {

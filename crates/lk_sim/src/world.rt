@@ -42,6 +42,7 @@ impl<R: MemoryReplica> World<R> {
     ghost use Rattle.lk_sim.specs.Kept.{disks_of, CoversAll, IsKeptBy};
     ghost use Rattle.lk_sim.specs.Orders.{InOrder};
     ghost use Rattle.lk_sim.specs.Packed.{LeavesPacked};
+    ghost use Rattle.lk_sim.specs.Rooms.{AreShort};
     ghost use Rattle.lk_sim.specs.Runs.{Runs};
     ghost use Rattle.lk_sim.specs.Seats.{At, HasNo};
     ghost use Rattle.lk_sim.specs.States.{SumsUpChosen};
@@ -82,6 +83,8 @@ impl<R: MemoryReplica> World<R> {
         ensures kept { (L : List Command) (i : ℕ) (v : Command) → Chosen self.new.genesis self.new.sent L → command_at L i ≡ Some v → IsKeptBy (disks_by R.behaves) R.meaning self.new.genesis self.new.seats self.new.sent L i v }
         // What was answered before a request was asked counts in front of it.
         ensures order { InOrder self.new.genesis self.new.sent self.new.trace }
+        // Neither file of a node is ever longer than 262,144 bytes.
+        ensures room { (k : ℕ) (s : SeatValue R) → At self.new.seats k s → AreShort (disks_of (disks_by R.behaves) s.life) }
         // Where a node compacted, whatever a stop may leave of its disks has a snapshot of all that it has executed.
         ensures packed { OnOk result (LeavesPacked R.whole (disks_by R.behaves) R.meaning event self.new) }
     {
@@ -104,6 +107,8 @@ impl<R: MemoryReplica> World<R> {
         ensures kept { (L : List Command) (i : ℕ) (v : Command) → Chosen self.new.genesis self.new.sent L → command_at L i ≡ Some v → IsKeptBy (disks_by R.behaves) R.meaning self.new.genesis self.new.seats self.new.sent L i v }
         // What was answered before a request was asked counts in front of it.
         ensures order { InOrder self.new.genesis self.new.sent self.new.trace }
+        // Neither file of a node is ever longer than 262,144 bytes.
+        ensures room { (k : ℕ) (s : SeatValue R) → At self.new.seats k s → AreShort (disks_of (disks_by R.behaves) s.life) }
     {
         let how = happen_all(&mut self.parts, events);
         self.facts();
@@ -153,6 +158,8 @@ impl<R: MemoryReplica> World<R> {
         ensures kept { (L : List Command) (i : ℕ) (v : Command) → Chosen self.now.genesis self.now.sent L → command_at L i ≡ Some v → IsKeptBy (disks_by R.behaves) R.meaning self.now.genesis self.now.seats self.now.sent L i v }
         // What was answered before a request was asked counts in front of it.
         ensures order { InOrder self.now.genesis self.now.sent self.now.trace }
+        // Neither file of a node is ever longer than 262,144 bytes.
+        ensures room { (k : ℕ) (s : SeatValue R) → At self.now.seats k s → AreShort (disks_of (disks_by R.behaves) s.life) }
     {
         let _ = &self.parts;
     }

@@ -1,4 +1,4 @@
-use Rattle.std.proofs.Common.{◌≡◌, ℕ, List, sym, subst}
+use Rattle.std.proofs.Common.{◌≡◌, ℕ, List, subst}
 use Rattle.std.specs.Prelude.{IfErr, Some}
 use Rattle.lk_sim.specs.Events.{IsRefusedAt, LeftBy}
 use Rattle.lk_sim.specs.Refusals.{NoInjection}

@@ -1,4 +1,4 @@
-use Rattle.std.proofs.Common.{rules, ◌≡◌, ◌∙◌, refl, ap}
+use Rattle.std.proofs.Common.{◌∙◌, refl, ap}
 use Rattle.lk_disk.specs.declared.device.Side.TheVariants.{A, B}
 use Rattle.lk_disk.specs.Memory.{Memory, disk_of}
 use Rattle.lk_disk.specs.Meters.{trapped}
@@ -7,19 +7,24 @@ use Rattle.lk_sim.specs.declared.seat.Life.TheVariants.{Down}
 use Rattle.lk_sim.proofs.Ending.{stopped_fit}
 use Rattle.lk_sim.proofs.Growth.{same_disks}
 use Rattle.lk_sim.proofs.Given.{down_fits}
+use Rattle.lk_sim.proofs.Shortness.{same_short, kept_short}
 use Rattle.lk_sim.proofs.seat.fall.Goals as goal
 
 pub returns-then-is_wanting-clause-fits : goal.returns-then-is_wanting-clause-fits
-returns-then-is_wanting-clause-fits g c h w f =
+returns-then-is_wanting-clause-fits g c h w f short =
     down_fits _ _ _ h w _ c.trap.new.self refl
     (stopped_fit _ h c.args.seat.now.number (disk_of c.args.device) (disk_of c.trap.new.self)
     (elim [ A ↦ (0, ap (λ (d : Memory). d.a) c.trap.ensures ∙ ap (λ (d : Memory). d.a) c.stop.ensures.after) | B ↦ (0, ap (λ (d : Memory). d.b) c.trap.ensures ∙ ap (λ (d : Memory). d.b) c.stop.ensures.after) ]) f)
+    (kept_short (disk_of c.args.device) (disk_of c.trap.new.self)
+    (elim [ A ↦ (0, ap (λ (d : Memory). d.a) c.trap.ensures ∙ ap (λ (d : Memory). d.a) c.stop.ensures.after) | B ↦ (0, ap (λ (d : Memory). d.b) c.trap.ensures ∙ ap (λ (d : Memory). d.b) c.stop.ensures.after) ]) short)
 
 pub returns-clause-fits : goal.returns-clause-fits
-returns-clause-fits g c h w f =
+returns-clause-fits g c h w f short =
     down_fits _ _ _ h w _ c.trap-2.new.self refl
     (same_disks _ h c.args.seat.now.number (disk_of c.args.device) (disk_of c.trap-2.new.self)
     (elim [ A ↦ ap (λ (z : Memory). z.a) c.trap-2.ensures | B ↦ ap (λ (z : Memory). z.b) c.trap-2.ensures ]) f)
+    (same_short (disk_of c.args.device) (disk_of c.trap-2.new.self)
+    (elim [ A ↦ ap (λ (z : Memory). z.a) c.trap-2.ensures | B ↦ ap (λ (z : Memory). z.b) c.trap-2.ensures ]) short)
 
 pub returns-then-is_wanting-clause-halted : goal.returns-then-is_wanting-clause-halted
 returns-then-is_wanting-clause-halted g c = ap Down (c.trap.ensures ∙ ap (λ (d : Memory). record d { meter = trapped Off d.meter }) c.stop.ensures.after)

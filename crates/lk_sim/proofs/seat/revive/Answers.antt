@@ -1,7 +1,9 @@
 use Rattle.std.proofs.Common.{◌≡◌, refl, sym, subst}
 use Rattle.lk_disk.specs.Memory.{disk_of}
 use Rattle.lk_node.specs.Leavings.{header_of, DisksFit}
+use Rattle.lk_replica.specs.Behaviours.{disks_by}
 use Rattle.lk_sim.proofs.Given.{same_header}
+use Rattle.lk_sim.proofs.Shortness.{based_short}
 use Rattle.lk_sim.proofs.seat.revive.Goals as goal
 
 pub returns-in-Ok-clause-goes : goal.returns-in-Ok-clause-goes
@@ -14,6 +16,7 @@ returns-in-Ok-clause-goes g c h w same lawful f q up =
       replica = c.in-Ok.revived.replica;
       up = refl;
       goes = rw c.new-in-Ok.ensures.items (c.in-Ok.ensures.up h n whose lawful left);
+      room = based_short (disk_of c.take_device-device.result) (disks_by g.R.MemoryReplica.behaves c.in-Ok.revived.replica) c.in-Ok.ensures.room (c.take_device-device.ensures.room h w f);
     }
 
 pub returns-in-Err-clause-falls : goal.returns-in-Err-clause-falls
@@ -23,3 +26,4 @@ returns-in-Err-clause-falls g c h w same lawful f d down =
     let left : DisksFit g.R.MemoryReplica.meaning h n (disk_of c.take_device-device.result) =
     subst (λ k. DisksFit g.R.MemoryReplica.meaning h k (disk_of c.take_device-device.result)) (sym c.take_device-device.ensures.number) (c.take_device-device.ensures.fits h w f) in
     c.fall.ensures.fits h w (c.in-Err.ensures.down h n whose lawful left)
+    (based_short (disk_of c.take_device-device.result) (disk_of c.in-Err.refused.device) c.in-Err.ensures.room_err (c.take_device-device.ensures.room h w f))

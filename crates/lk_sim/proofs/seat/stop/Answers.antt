@@ -8,6 +8,7 @@ use Rattle.lk_sim.specs.Seats.{stopped_on}
 use Rattle.lk_sim.specs.declared.seat.Life.TheVariants.{Down}
 use Rattle.lk_sim.proofs.Ending.{stopped_fit}
 use Rattle.lk_sim.proofs.Given.{down_fits}
+use Rattle.lk_sim.proofs.Shortness.{kept_short}
 use Rattle.lk_sim.proofs.seat.stop.Goals as goal
 
 pub returns-clause-fits : goal.returns-clause-fits
@@ -20,6 +21,12 @@ returns-clause-fits g c h w f =
       | B ↦ (c.args.y, ap (λ (d : Memory). d.b) c.trap.ensures ∙ ap (λ (d : Memory). d.b) c.stop.ensures.after)
     ])
     (c.take_device-device.ensures.fits h w f)))
+    (kept_short (disk_of c.take_device-device.result) (disk_of c.trap.new.self)
+    (elim [
+      | A ↦ (c.args.x, ap (λ (d : Memory). d.a) c.trap.ensures ∙ ap (λ (d : Memory). d.a) c.stop.ensures.after)
+      | B ↦ (c.args.y, ap (λ (d : Memory). d.b) c.trap.ensures ∙ ap (λ (d : Memory). d.b) c.stop.ensures.after)
+    ])
+    (c.take_device-device.ensures.room h w f))
 
 pub returns-clause-stopped : goal.returns-clause-stopped
 returns-clause-stopped g c =

@@ -1,5 +1,5 @@
 use Rattle.lk_sim.proofs.Explaining.{explains, agree, states, ordered}
-use Rattle.lk_sim.proofs.Keeping.{covered, kept}
+use Rattle.lk_sim.proofs.Keeping.{room, covered, kept}
 use Rattle.lk_sim.proofs.world.World.facts.Goals as goal
 
 pub returns-clause-explained : goal.returns-clause-explained
@@ -35,3 +35,8 @@ pub returns-clause-order : goal.returns-clause-order
 returns-clause-order g c =
     let p = c.self.inside.parts in
     rw (← c.self.view_is) (ordered _ _ _ p.genesis p.seats.items p.sent.items p.trace.items c.self.invariant)
+
+pub returns-clause-room : goal.returns-clause-room
+returns-clause-room g c =
+    let p = c.self.inside.parts in
+    rw (← c.self.view_is) (room _ _ _ p.genesis p.seats.items p.sent.items p.trace.items c.self.invariant)
