@@ -1,0 +1,12 @@
+mod Locking
+mod Effects
+mod Quorums
+mod Explaining
+mod Rising
+mod Executing
+mod Telling
+mod Keeping
+mod Doing
+mod Fixed
+mod Once
+mod Clauses
