@@ -19,6 +19,7 @@ use Rattle.lk_node.specs.Served.{text}
 use Rattle.lk_replica.specs.ReplicaValue.{ReplicaValue}
 use Rattle.lk_sim.specs.Kept.{disks_of, EveryStanding, CoversAll, KeepsCommand, IsKeptBy}
 use Rattle.lk_sim.specs.Packed.{StandsPacked}
+use Rattle.lk_sim.specs.Rooms as lengths
 use Rattle.lk_sim.specs.Scenes.{Scene}
 use Rattle.lk_sim.specs.Seats.{At}
 use Rattle.lk_sim.specs.States.{IsPackedList, KeepsPacked, SumsUpChosen}
@@ -27,7 +28,7 @@ use Rattle.lk_sim.specs.declared.seat.Life.{Life}
 use Rattle.lk_sim.specs.declared.seat.Life.TheVariants.{Up, Down}
 use Rattle.lk_promise.specs.Promise as promise
 use Rattle.lk_promise.specs.Plain.{IsSnapshot}
-use Rattle.lk_promise.specs.Promise.{device_in, MayRemainOf, Remembers, EachImage, HasSnapshot, IsCovered, IsRemembered, Says, Begins}
+use Rattle.lk_promise.specs.Promise.{device_in, IsShort, MayRemainOf, Remembers, EachImage, HasSnapshot, IsCovered, IsRemembered, Says, Begins}
 use Rattle.lk_promise.proofs.Executing.{is_snapshot}
 use Rattle.lk_promise.proofs.Explaining.{all_fit}
 use Rattle.lk_promise.proofs.Quorums.{at_is, members_are, has_sent, is_chosen, chosen_is, stands_in, stood, begins}
@@ -73,6 +74,15 @@ pub covered : (genesis : Genesis) (seats : List (Seat ReplicaValue)) (sent : Lis
 covered genesis seats sent all s here =
     each_image genesis s (λ x. CoversSent genesis sent s.number (acceptor_of x)) (λ x. (m : NodeMessage) → Says genesis sent s.number m → IsCovered x m)
     (λ x c m says. is_covered x m (c m (has_sent genesis sent s.number m says))) (all here.0 s (here.1, here.2))
+
+-- ---- how long the files are
+
+shorts : (life : Life ReplicaValue) → lengths.AreShort (disks_of disks_in life) → IsShort (device_in life).a × IsShort (device_in life).b
+shorts (Up r) are = (are A, are B)
+shorts (Down d) are = (are A, are B)
+
+pub short : (seats : List (Seat ReplicaValue)) → ((k : ℕ) (s : Seat ReplicaValue) → At seats k s → lengths.AreShort (disks_of disks_in s.life)) → promise.AreShort seats
+short seats all s here = shorts s.life (all here.0 s (here.1, here.2))
 
 -- ---- snapshots
 

@@ -258,6 +258,16 @@ pub record IsKeptBy (genesis : Genesis) (seats : List (Seat ReplicaValue)) (sent
 abbrev pub AreKept : Genesis → List (Seat ReplicaValue) → List Datagram → Type 0
 AreKept genesis seats sent = (L : List Command) (i : ℕ) (v : Command) → IsChosen genesis sent L → at L i ≡ Some v → IsKeptBy genesis seats sent L i v
 
+-- ---- how long the files of a node are
+
+-- 262,144 bytes at most, synced or not
+abbrev pub IsShort : Disk → Type 0
+IsShort disk = length (disk.synced ++ disk.unsynced) ≤ 262144
+
+-- so with both files of each node, up or down
+abbrev pub AreShort : List (Seat ReplicaValue) → Type 0
+AreShort seats = (s : Seat ReplicaValue) → Contains seats s → IsShort (device_in s.life).a × IsShort (device_in s.life).b
+
 -- ---- what an event does of which the promise speaks
 
 -- the request that a line of the trace tells of

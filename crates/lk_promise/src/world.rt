@@ -1,5 +1,5 @@
 // A world of replicas of the lock table.
-ghost use Rattle.lk_promise.specs.Promise.{Agree, AreCovered, AreKept, AreTold, Compacts, HaveExecuted, HaveSnapshots, IsDone, IsExplained, IsOrdered, IsRefused, IsRun};
+ghost use Rattle.lk_promise.specs.Promise.{Agree, AreCovered, AreKept, AreShort, AreTold, Compacts, HaveExecuted, HaveSnapshots, IsDone, IsExplained, IsOrdered, IsRefused, IsRun};
 ghost use Rattle.std.specs.Prelude.{OnOk, IfErr};
 
 use lk_disk::MemoryDisk;
@@ -28,6 +28,8 @@ pub fn apply(world: &mut World<Replicas>, event: Event) -> Result<(), Refused>
     ensures covered { AreCovered world.new.genesis world.new.seats world.new.sent }
     // Whatever a stop may leave of a node has a snapshot of a chosen list.
     ensures snapshots { HaveSnapshots world.new.genesis world.new.seats world.new.sent }
+    // No file of a node is ever longer than 262,144 bytes.
+    ensures room { AreShort world.new.seats }
     // An event that is done has done what is said of it.
     ensures does { OnOk result (IsDone world.old event world.new) }
     // A node that was told to compact has a snapshot of all that it has executed.
@@ -56,6 +58,8 @@ pub fn run(world: &mut World<Replicas>, events: &[Event]) -> RunEnd
     ensures covered { AreCovered world.new.genesis world.new.seats world.new.sent }
     // Whatever a stop may leave of a node has a snapshot of a chosen list.
     ensures snapshots { HaveSnapshots world.new.genesis world.new.seats world.new.sent }
+    // No file of a node is ever longer than 262,144 bytes.
+    ensures room { AreShort world.new.seats }
     // Each event has done what is said of it, up to the first that is refused.
     ensures runs { IsRun world.old events.now result world.new }
 {

@@ -1,6 +1,6 @@
 use Rattle.lk_promise.proofs.Quorums.{agreed}
 use Rattle.lk_promise.proofs.Telling.{told}
-use Rattle.lk_promise.proofs.Keeping.{kept, covered}
+use Rattle.lk_promise.proofs.Keeping.{kept, covered, short}
 use Rattle.lk_promise.proofs.Clauses.{explained, ordered, executed, snapshots, compacts, on_ok, if_err, done, not_done}
 use Rattle.lk_promise.proofs.world.apply.Goals as goal
 
@@ -21,6 +21,9 @@ returns-clause-kept c = kept c.apply.new.self.genesis c.apply.new.self.seats c.a
 
 pub returns-clause-covered : goal.returns-clause-covered
 returns-clause-covered c = covered c.apply.new.self.genesis c.apply.new.self.seats c.apply.new.self.sent c.apply.ensures.covered
+
+pub returns-clause-room : goal.returns-clause-room
+returns-clause-room c = short c.apply.new.self.seats c.apply.ensures.room
 
 pub returns-clause-executed : goal.returns-clause-executed
 returns-clause-executed c = executed c.apply.new.self.genesis c.apply.new.self.seats c.apply.new.self.sent c.apply.ensures.states

@@ -1,6 +1,6 @@
 use Rattle.lk_promise.proofs.Quorums.{agreed}
 use Rattle.lk_promise.proofs.Telling.{told}
-use Rattle.lk_promise.proofs.Keeping.{kept, covered}
+use Rattle.lk_promise.proofs.Keeping.{kept, covered, short}
 use Rattle.lk_promise.proofs.Clauses.{explained, ordered, executed, snapshots, ran}
 use Rattle.lk_promise.proofs.world.run.Goals as goal
 
@@ -21,6 +21,9 @@ returns-clause-kept c = kept c.run.new.self.genesis c.run.new.self.seats c.run.n
 
 pub returns-clause-covered : goal.returns-clause-covered
 returns-clause-covered c = covered c.run.new.self.genesis c.run.new.self.seats c.run.new.self.sent c.run.ensures.covered
+
+pub returns-clause-room : goal.returns-clause-room
+returns-clause-room c = short c.run.new.self.seats c.run.ensures.room
 
 pub returns-clause-executed : goal.returns-clause-executed
 returns-clause-executed c = executed c.run.new.self.genesis c.run.new.self.seats c.run.new.self.sent c.run.ensures.states
