@@ -1,6 +1,8 @@
 -- Why a command of the service ended early.
 use Rattle.lk_log.specs.declared.fault.StoreFault.{StoreFault}
 use Rattle.lk_log.specs.declared.fault.StoreFault.TheVariants as store
+use Rattle.lk_state.specs.declared.machine.UnpackFault.{UnpackFault}
+use Rattle.lk_state.specs.declared.machine.UnpackFault.TheVariants as unpack
 use Rattle.lk_service.specs.declared.fault.ServiceFault.{ServiceFault}
 use Rattle.lk_replica.specs.declared.fault.ReplicaFault.{ReplicaFault}
 use Rattle.lk_replica.specs.declared.fault.ReplicaFault.TheVariants as replica
@@ -23,3 +25,8 @@ replica_fault replica.WrongStore = WrongStore
 replica_fault replica.Failed = Failed
 replica_fault replica.Halted = Halted
 replica_fault (replica.Send notes) = Send
+
+-- the fault that a text which was not unpacked is
+abbrev pub unpack_fault : UnpackFault → ServiceFault
+unpack_fault unpack.NotPacked = Damaged
+unpack_fault unpack.NoMemory = NoMemory

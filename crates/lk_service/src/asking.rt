@@ -88,17 +88,26 @@ pub fn exchange<S: Datagrams>(
     Ok(None)
 }
 
-/// Writes what was replied: an answer's text, `passed LAST`, or `no answer`. Whether it was an answer or a Passed.
-pub fn write_reply<W: Write>(reply: Option<&Reply>, out: &mut W) -> io::Result<bool> {
+/// Writes an answer's text or `passed LAST` in a line. Whether the reply is one of these.
+fn write_told<W: Write>(reply: &Reply, out: &mut W) -> io::Result<bool> {
     match reply {
-        Some(Reply::Answer(answer)) => writeln!(out, "{answer}")?,
-        Some(Reply::Passed(last)) => writeln!(out, "passed {}", last.get())?,
-        Some(Reply::Elsewhere(_)) | None => {
-            writeln!(out, "no answer")?;
-            return Ok(false);
-        }
+        Reply::Answer(answer) => writeln!(out, "{answer}")?,
+        Reply::Passed(last) => writeln!(out, "passed {}", last.get())?,
+        Reply::Elsewhere(_) => return Ok(false),
     }
     Ok(true)
+}
+
+/// Writes what was replied: an answer's text, `passed LAST`, or `no answer`. Whether it was an answer or a Passed.
+pub fn write_reply<W: Write>(reply: Option<&Reply>, out: &mut W) -> io::Result<bool> {
+    let is_told = match reply {
+        Some(reply) => write_told(reply, out)?,
+        None => false,
+    };
+    if !is_told {
+        out.write_all(b"no answer\n")?;
+    }
+    Ok(is_told)
 }
 
 /// Asks, and prints what is replied. The status is 0; 1 where nothing was, which is printed as `no answer`, and where a

@@ -23,6 +23,8 @@ use std::net::Net;
 const CLUSTER: u64 = 1;
 /// How many positions ahead its members are known.
 const ALPHA: u8 = 2;
+/// How many nodes it has.
+const NODES: usize = 3;
 /// What the clients ask in turn: the client, its number, and the words.
 const STORY: [(u16, u64, &[u8]); 4] = [
     (1, 1, b"acquire db"),
@@ -37,12 +39,10 @@ const IDLE_TURNS: u32 = 10_000;
 /// The turns between two idle ones, at most.
 const TURNS: u64 = 1 << 48;
 
-/// The sockets of three nodes, and that of their clients.
+/// The sockets of the nodes, and that of their clients.
 #[derive(Drop)]
 pub struct Sockets<S: Datagrams + Drop> {
-    pub first: S,
-    pub second: S,
-    pub third: S,
+    pub nodes: Vec<S>,
     pub client: S,
 }
 
@@ -52,9 +52,7 @@ type DemoServer<M, S> = Server<Replica<M, MemoryDisk>, S>;
 /// The nodes, and the socket of their clients.
 #[derive(Drop)]
 struct Cluster<M: Machine, S: Datagrams + Drop> {
-    first: DemoServer<M, S>,
-    second: DemoServer<M, S>,
-    third: DemoServer<M, S>,
+    nodes: Vec<DemoServer<M, S>>,
     client: S,
     // where requests are sent first
     port: Port,
@@ -69,25 +67,43 @@ fn member_at<S: Datagrams>(node: u32, socket: &S) -> Option<Member> {
     }
 }
 
-/// The members that serve on these sockets.
-fn members_at<S: Datagrams>(first: &S, second: &S, third: &S) -> Option<[Member; 3]> {
-    Some([
-        member_at(1, first)?,
-        member_at(2, second)?,
-        member_at(3, third)?,
-    ])
+/// How a cluster begins whose members, numbered from 1, serve on these sockets.
+fn genesis_at<S: Datagrams>(alloc: Global, sockets: &[S]) -> Result<Genesis, ServiceFault> {
+    let mut members = Vec::new(alloc);
+    let mut node = 0u32;
+    for socket in sockets {
+        node = node.saturating_add(1);
+        let Some(member) = member_at(node, socket) else {
+            return Err(ServiceFault::CannotOpen);
+        };
+        members.push(member)?;
+    }
+    Genesis::of(CLUSTER, ALPHA, &members).map_err(|_| ServiceFault::CannotOpen)
 }
 
 /// The server of a member.
 fn start<M: Machine, S: Datagrams + Drop>(
     alloc: Global,
-    member: Member,
+    node: NodeNo,
     genesis: &Genesis,
     socket: S,
 ) -> Result<DemoServer<M, S>, ServiceFault> {
-    let header = Header::new(member.node, genesis.copy());
+    let header = Header::new(node, genesis.copy());
     let disk = MemoryDisk::new(alloc);
     revive::<M, _, _, _>(alloc, &header, disk, socket, &Discard)
+}
+
+/// The servers of the members, in order, on these sockets.
+fn start_all<M: Machine, S: Datagrams + Drop>(
+    alloc: Global,
+    genesis: &Genesis,
+    sockets: Vec<S>,
+) -> Result<Vec<DemoServer<M, S>>, ServiceFault> {
+    let mut nodes = Vec::new(alloc);
+    for (member, socket) in genesis.members.as_slice().iter().zip(sockets) {
+        nodes.push(start(alloc, member.node, genesis, socket)?)?;
+    }
+    Ok(nodes)
 }
 
 /// The question that a row of the story asks at a port.
@@ -107,40 +123,32 @@ fn question_of(row: (u16, u64, &[u8]), port: Port) -> Option<Question> {
 impl<M: Machine, S: Datagrams + Drop> Cluster<M, S> {
     /// A new cluster on these sockets.
     fn begin(alloc: Global, sockets: Sockets<S>) -> Result<Cluster<M, S>, ServiceFault> {
-        let Sockets {
-            first,
-            second,
-            third,
-            client,
-        } = sockets;
-        let Some(members) = members_at(&first, &second, &third) else {
-            return Err(ServiceFault::CannotOpen);
-        };
-        let Ok(genesis) = Genesis::of(CLUSTER, ALPHA, &members) else {
-            return Err(ServiceFault::CannotOpen);
-        };
+        let Sockets { nodes, client } = sockets;
+        let genesis = genesis_at(alloc, &nodes)?;
+        let port = genesis.members.as_slice()[0].port;
+        let nodes = start_all(alloc, &genesis, nodes)?;
         Ok(Cluster {
-            first: start(alloc, members[0], &genesis, first)?,
-            second: start(alloc, members[1], &genesis, second)?,
-            third: start(alloc, members[2], &genesis, third)?,
+            nodes,
             client,
-            port: members[0].port,
+            port,
         })
     }
 
     /// Each node takes the next datagram that waits for it. Whether one waited for any.
     fn serve(&mut self, alloc: Global) -> Result<bool, ServiceFault> {
-        let first = self.first.serve_next(alloc, &Discard)?;
-        let second = self.second.serve_next(alloc, &Discard)?;
-        let third = self.third.serve_next(alloc, &Discard)?;
-        Ok(first || second || third)
+        let mut was_served = false;
+        for node in &mut self.nodes {
+            was_served |= node.serve_next(alloc, &Discard)?;
+        }
+        Ok(was_served)
     }
 
     /// Some time passes at each node.
     fn tick(&mut self) -> Result<(), ServiceFault> {
-        self.first.tick(&Discard)?;
-        self.second.tick(&Discard)?;
-        self.third.tick(&Discard)
+        for node in &mut self.nodes {
+            node.tick(&Discard)?;
+        }
+        Ok(())
     }
 
     /// What the clients hear next. An Elsewhere is followed.
@@ -203,7 +211,7 @@ impl<M: Machine, S: Datagrams + Drop> Cluster<M, S> {
     }
 }
 
-/// Runs three nodes on disks in memory, and prints what their clients are replied, who ask in turn. The sockets' receives are
+/// Runs nodes on disks in memory, and prints what their clients are replied, who ask in turn. The sockets' receives are
 /// not to wait. Whether each request was replied to: where one was not, the last line is `no answer`.
 pub fn play<M: Machine, S: Datagrams + Drop, W: Write>(
     alloc: Global,
@@ -219,19 +227,28 @@ pub fn play<M: Machine, S: Datagrams + Drop, W: Write>(
     Ok(true)
 }
 
+/// Sockets of so many free ports of 127.0.0.1.
+fn free_sockets<R: Net>(
+    rt: &R,
+    alloc: Global,
+    count: usize,
+) -> Result<Vec<LocalSocket>, ServiceFault> {
+    let mut sockets = Vec::new(alloc);
+    for _ in 0..count {
+        sockets.push(LocalSocket::without_waiting(rt, 0)?)?;
+    }
+    Ok(sockets)
+}
+
 /// Plays on four free ports of 127.0.0.1.
 fn play_on_ports<M: Machine, R: Net, W: Write>(
     rt: &R,
     alloc: Global,
     out: &mut W,
 ) -> Result<bool, ServiceFault> {
-    let sockets = Sockets {
-        first: LocalSocket::without_waiting(rt, 0)?,
-        second: LocalSocket::without_waiting(rt, 0)?,
-        third: LocalSocket::without_waiting(rt, 0)?,
-        client: LocalSocket::without_waiting(rt, 0)?,
-    };
-    let is_told = play::<M, _, W>(alloc, sockets, out)?;
+    let client = LocalSocket::without_waiting(rt, 0)?;
+    let nodes = free_sockets(rt, alloc, NODES)?;
+    let is_told = play::<M, _, W>(alloc, Sockets { nodes, client }, out)?;
     if out.flush().is_err() {
         return Err(ServiceFault::Write);
     }

@@ -5,39 +5,31 @@ ghost use Rattle.std.specs.Prelude.{◌≡◌};
 use lk_disk::CannotOpen;
 use lk_log::StoreFault;
 use lk_replica::ReplicaFault;
-use std::alloc::AllocError;
+use lk_state::UnpackFault;
+use lk_types::NoMemory;
+use std::alloc::{AllocError, AllocFailed};
 use std::io::Write;
-use thiserror::Error;
 
 /// Why a command ended early. Its text is the last line of standard error.
-#[derive(Clone, Copy, Debug, PartialEq, Eq, Error)]
+#[derive(Clone, Copy, Debug, PartialEq, Eq)]
 pub enum ServiceFault {
     /// A folder, a file or a socket did not open.
-    #[error("cannot open")]
     CannotOpen,
     /// Fault 7: the files failed.
-    #[error("fault 7")]
     Device,
     /// Fault 8: memory was refused.
-    #[error("fault 8")]
     NoMemory,
     /// Fault 9: the store is damaged.
-    #[error("fault 9")]
     Damaged,
     /// Fault 10: the store is another node's or another cluster's.
-    #[error("fault 10")]
     WrongStore,
     /// Fault 11: the store has failed before.
-    #[error("fault 11")]
     Failed,
     /// Fault 14: the node was refused memory.
-    #[error("fault 14")]
     Halted,
     /// Fault 15: a datagram was not sent. A server passes over it.
-    #[error("fault 15")]
     Send,
     /// Fault 24: the output could not be written.
-    #[error("fault 24")]
     Write,
 }
 
@@ -59,11 +51,26 @@ impl ServiceFault {
         }
     }
 
+    /// Its line.
+    pub fn text(self) -> &'static str {
+        match self {
+            ServiceFault::CannotOpen => "cannot open\n",
+            ServiceFault::Device => "fault 7\n",
+            ServiceFault::NoMemory => "fault 8\n",
+            ServiceFault::Damaged => "fault 9\n",
+            ServiceFault::WrongStore => "fault 10\n",
+            ServiceFault::Failed => "fault 11\n",
+            ServiceFault::Halted => "fault 14\n",
+            ServiceFault::Send => "fault 15\n",
+            ServiceFault::Write => "fault 24\n",
+        }
+    }
+
     /// Tells it in a line of standard error. The status is 1.
     pub fn tell<E: Write>(self, err: &mut E) -> u8
         ensures { result ≡ 1 }
     {
-        let _ = writeln!(err, "{self}");
+        let _ = err.write_all(self.text().as_bytes());
         1
     }
 }
@@ -88,6 +95,16 @@ impl From<AllocError> for ServiceFault {
     }
 }
 
+impl<T: Drop> From<AllocFailed<T>> for ServiceFault {
+    ghost use Rattle.lk_service.specs.declared.fault.ServiceFault.TheVariants.{NoMemory as memory};
+
+    ghost from_gives = { λ _ e. e ≡ memory };
+
+    fn from(_: AllocFailed<T>) -> ServiceFault {
+        ServiceFault::NoMemory
+    }
+}
+
 impl From<StoreFault> for ServiceFault {
     ghost use Rattle.lk_service.specs.Faults.{fault_of};
 
@@ -100,6 +117,29 @@ impl From<StoreFault> for ServiceFault {
             StoreFault::Damaged => ServiceFault::Damaged,
             StoreFault::WrongStore => ServiceFault::WrongStore,
             StoreFault::Failed => ServiceFault::Failed,
+        }
+    }
+}
+
+impl From<NoMemory> for ServiceFault {
+    ghost use Rattle.lk_service.specs.declared.fault.ServiceFault.TheVariants.{NoMemory as memory};
+
+    ghost from_gives = { λ _ e. e ≡ memory };
+
+    fn from(_: NoMemory) -> ServiceFault {
+        ServiceFault::NoMemory
+    }
+}
+
+impl From<UnpackFault> for ServiceFault {
+    ghost use Rattle.lk_service.specs.Faults.{unpack_fault};
+
+    ghost from_gives = { λ f e. e ≡ unpack_fault f };
+
+    fn from(fault: UnpackFault) -> ServiceFault {
+        match fault {
+            UnpackFault::NotPacked => ServiceFault::Damaged,
+            UnpackFault::NoMemory => ServiceFault::NoMemory,
         }
     }
 }

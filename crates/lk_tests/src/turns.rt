@@ -121,10 +121,9 @@ fn notes_are_logged_also_where_datagrams_were_lost(rt: HostRuntime) -> Result<()
 #[test]
 fn a_demonstration_that_nobody_answers_ends(rt: HostRuntime) -> Result<(), Fail> {
     let mut out = Vec::new(rt.alloc());
+    let nodes = Vec::from_array(rt.alloc(), [Waiting, Waiting, Waiting])?;
     let sockets = Sockets {
-        first: Waiting,
-        second: Waiting,
-        third: Waiting,
+        nodes,
         client: Waiting,
     };
     let is_told = play::<LockTable, _, _>(rt.alloc(), sockets, &mut out)?;
