@@ -10,7 +10,7 @@ use Rattle.lk_wire.specs.Values.{are_votes_above}
 use Rattle.lk_log.specs.Entries.{IsBase, IsStored, are_pairs_above}
 use Rattle.lk_log.specs.EveryImage.{AllMean, EveryFound, NarrowsOrBeganSome}
 use Rattle.lk_log.specs.Files.{IsFile}
-use Rattle.lk_log.specs.Images.{Image, MayLeaveBoth, has_base, is_misplaced, generation, Means, IsLive, IsEmpty, SameMeaning, seen}
+use Rattle.lk_log.specs.Images.{Image, MayLeaveBoth, has_base, is_misplaced, generation, Means, IsLive, IsEmpty, IsDamaged, SameMeaning, seen}
 use Rattle.lk_log.specs.Standings.{HasHeader, StandsFor, with_plain, with_all, of_base}
 use Rattle.lk_log.specs.StoreValue.{StoreValue, pick, disks}
 use Rattle.lk_log.specs.Stores.{plain, Holds, KeepsAtLeast, KeepsOrIs, first_base, Found, NarrowsOrBegins, Opens}
@@ -18,7 +18,7 @@ use Rattle.lk_log.specs.Values.{HeaderValue, StandingValue, BaseValue}
 use Rattle.lk_log.specs.declared.stored.Stored.{Stored}
 use Rattle.lk_log.specs.declared.stored.Stored.TheVariants.{Base, Plain}
 use Rattle.lk_log.specs.declared.verdict.Verdict.{Verdict}
-use Rattle.lk_log.specs.declared.verdict.Verdict.TheVariants.{Live, Empty}
+use Rattle.lk_log.specs.declared.verdict.Verdict.TheVariants.{Live, Empty, Damaged}
 use Rattle.lk_log.proofs.ImageLaws as images
 use Rattle.lk_log.proofs.OneStanding as one
 use Rattle.lk_log.proofs.Settle.{whole_left}
@@ -123,6 +123,19 @@ no_live_empty s e = cc e
 -- no image is live and empty
 pub not_both : (image : Image) (es : List Stored) → IsLive image es → IsEmpty image → ⊥
 not_both image es l e = no_live_empty l.side (images.one_verdict image (Live l.side) Empty l.entries e.0 l.means e.1)
+
+no_live_damaged : (s : Side) → Live s ≡ Damaged → ⊥
+no_live_damaged s e = cc e
+
+no_empty_damaged : Empty ≡ Damaged → ⊥
+no_empty_damaged e = cc e
+
+-- nothing is found in a damaged image
+pub found_sound : (image : Image) (whose : HeaderValue) (text : List ℕ) (es : List Stored) → Found image whose text es → IsDamaged image → ⊥
+found_sound image whose text es found d = elim found [
+  | inl l ↦ no_live_damaged l.side (images.one_verdict image (Live l.side) Damaged l.entries d.0 l.means d.1)
+  | inr begun ↦ no_empty_damaged (images.one_verdict image Empty Damaged begun.0.0 d.0 begun.0.1 d.1)
+]
 
 -- what is found in an image that is live is its entries
 pub found_live : (image : Image) (whose : HeaderValue) (text : List ℕ) (es ks : List Stored) → IsLive image ks → Found image whose text es → es ≡ ks

@@ -266,6 +266,8 @@ pub fn look<D: LogDisk>(
     ensures wrong { IsErrOf result StoreFault.WrongStore → ⊥ }
     ensures failed { IsErrOf result StoreFault.Failed → ⊥ }
     ensures cause { IsCounted (D.failures device.old) (D.failures device.new) result }
+    // Of a metered device: no changing call.
+    ensures metered { D.is_metered → D.is_honest → IsMetered (D.meter device.old) (D.meter device.new) 0 result }
 {
     let Some((_, file)) = find(alloc, device)? else {
         return Ok(None);
