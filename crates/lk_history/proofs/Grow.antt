@@ -1,6 +1,6 @@
 -- What was chosen stays chosen, and a chosen list goes on.
-use Rattle.std.proofs.Common.{◌≡◌, ℕ, zero, suc, ◌+◌, ◌-◌, ◌<◌, ◌≤◌, ◌⊎◌, List, [], ◌∷◌, ◌++◌, length, Some, slice_get, refl, ap, sym, ◌∙◌, subst, subst₂, inl, inr, arith}
-use Rattle.std.proofs.lemmas.List.{take-append-le}
+use Rattle.std.proofs.Common.{◌≡◌, ℕ, zero, suc, ◌+◌, ◌-◌, ◌<◌, ◌≤◌, ◌⊎◌, List, [], ◌∷◌, ◌++◌, length, take, Some, slice_get, refl, ap, sym, ◌∙◌, subst, subst₂, inl, inr, arith}
+use Rattle.std.proofs.lemmas.List.{take-append-le, take-take, length-take}
 use Rattle.std.proofs.lemmas.List.Elements.{Contains-append_left}
 use Rattle.lk_members.specs.Rosters.{Member, Genesis, roster_of, members}
 use Rattle.lk_history.specs.Ballots.{BallotValue}
@@ -87,3 +87,26 @@ chosen_push genesis sent sound L v chosen c i u at =
         let same = at_same_place genesis sent sound (suc (length L)) c.under L c.chosen chosen c.reaches reaches ∙ sym (members_front genesis L (v ∷ []) (suc (length L)) reaches) in
         let here = subst₂ (λ set w. IsAcceptedIn genesis sent set c.ballot (suc (length L)) w) same r.1 c.accepted in
         subst (λ j. IsAcceptedIn genesis sent (members genesis (L ++ v ∷ []) j) c.ballot j u) (sym r.0) here
+
+-- ---- a beginning of a chosen list is chosen
+
+got_before : (L : List Command) (k j : ℕ) (v : Command) → slice_get (take k L) j ≡ Some v → slice_get L j ≡ Some v
+got_before L zero j v at = absurd cc
+got_before [] (suc k) j v at = at
+got_before (x ∷ L) (suc k) zero v at = at
+got_before (x ∷ L) (suc k) (suc j) v at = got_before L k j v at
+
+command_before : (L : List Command) (k i : ℕ) (v : Command) → command_at (take k L) i ≡ Some v → command_at L i ≡ Some v
+command_before L k zero v at = absurd cc
+command_before L k (suc i) v at = got_before L k i v at
+
+members_before : (genesis : Genesis) (L : List Command) (k i : ℕ) → i ≤ k → members genesis L i ≡ members genesis (take k L) i
+unfolding members
+members_before genesis L k i within = ap (λ (P : List Command). (roster_of genesis P).members) (sym (take-take (i - genesis.alpha) k L (omega (arith, within))))
+
+pub chosen_take : (genesis : Genesis) (sent : List Datagram) (L : List Command) (k : ℕ) → Chosen genesis sent L → Chosen genesis sent (take k L)
+unfolding Chosen
+chosen_take genesis sent L k chosen i v at =
+    let c = chosen i v (command_before L k i v at) in
+    let within : i ≤ k = omega (arith, command_within (take k L) i v at, length-take k L) in
+    (c.0, subst (λ set. IsAcceptedIn genesis sent set c.0 i v) (members_before genesis L k i within) c.1)

@@ -1,12 +1,13 @@
 -- Slices of the texts of chosen lists of one length are slices of one text.
-use Rattle.std.proofs.Common.{◌≡◌, ℕ, List, [], ◌∷◌, ◌++◌, length, take, drop, refl, ap, ap₂, sym, ◌∙◌, subst, inl, inr, arith, append-nil, length-append, take_all}
+use Rattle.std.proofs.Common.{◌≡◌, ℕ, List, [], ◌∷◌, ◌++◌, length, take, drop, refl, ap, ap₂, sym, ◌∙◌, subst, inl, inr, ◌≤◌, arith, append-nil, length-append, take_all}
+use Rattle.std.proofs.lemmas.List.{length-take}
 use Rattle.std.proofs.Math.Seq.{take-add}
 use Rattle.lk_history.specs.Datagrams.{Genesis, Datagram}
 use Rattle.lk_history.specs.Chosen.{Command, Chosen, IsBeginning}
 use Rattle.lk_history.specs.Soundness.{Sound}
 use Rattle.lk_history.specs.Snapshots.{IsSlice}
 use Rattle.lk_history.proofs.Agree.{chosen_agree}
-use Rattle.lk_history.proofs.Grow.{still_chosen}
+use Rattle.lk_history.proofs.Grow.{still_chosen, chosen_take}
 
 same_length : (L K : List Command) → IsBeginning L K → length L ≡ length K → L ≡ K
 same_length L K b e = sym (append-nil L) ∙ ap (λ r. L ++ r) (sym (none b.0 (omega (arith, ap length (sym b.1) ∙ length-append L b.0)))) ∙ b.1
@@ -44,3 +45,9 @@ pub still_slice : (genesis : Genesis) (sent new : List Datagram) (text : List Co
     → IsSlice genesis (sent ++ new) text position total offset bytes
 still_slice genesis sent new text position total offset bytes p =
     record { under = p.under; chosen = still_chosen genesis sent new p.under p.chosen; position_is = p.position_is; total_is = p.total_is; slice = p.slice }
+
+-- what is sent of the text of a beginning
+pub beginning_slice : (genesis : Genesis) (sent : List Datagram) (text : List Command → List ℕ) (L : List Command) (position offset : ℕ) (bytes : List ℕ) → Chosen genesis sent L
+    → position ≤ length L → bytes ≡ take (length bytes) (drop offset (text (take position L))) → IsSlice genesis sent text position (length (text (take position L))) offset bytes
+beginning_slice genesis sent text L position offset bytes chosen within slice =
+    record { under = take position L; chosen = chosen_take genesis sent L position chosen; position_is = omega (arith, within, length-take position L); total_is = refl; slice = slice }

@@ -1,5 +1,5 @@
 //! Why chosen lists agree: laws over the definitions alone. Each is what a function without a body ensures.
-ghost use Rattle.std.specs.Prelude.{◌≡◌, ◌<◌, ◌≤◌, ◌+◌, ◌==◌, nat_lt, nat_le, not, filter, ◌⊎◌, ℕ, suc, List, [], ◌∷◌, ◌++◌, length, Some, None, Contains};
+ghost use Rattle.std.specs.Prelude.{◌≡◌, ◌<◌, ◌≤◌, ◌+◌, ◌==◌, nat_lt, nat_le, not, filter, ◌⊎◌, ℕ, suc, List, [], ◌∷◌, ◌++◌, length, take, drop, Some, None, Contains};
 ghost use Rattle.lk_types.specs.Limits.{max_count};
 ghost use Rattle.lk_wire.specs.Grammar.{Spells};
 ghost use Rattle.lk_wire.specs.Values.{PromiseValue};
@@ -33,7 +33,7 @@ pub fn one_command_a_position()
 {}
 
 /// A chosen list stays chosen whatever is sent later. With the command that is chosen at its next position it is chosen
-/// too, and each of its commands is chosen at its position.
+/// too, and each of its commands is chosen at its position. A beginning of it is chosen.
 pub fn chosen_lists_grow()
     ensures later { (genesis : Genesis) (sent new : List Datagram) (L : List Command)
         → Chosen genesis sent L → Chosen genesis (sent ++ new) L }
@@ -41,6 +41,8 @@ pub fn chosen_lists_grow()
         → Chosen genesis sent L → ChosenAt genesis sent (suc (length L)) v → Chosen genesis sent (L ++ v ∷ []) }
     ensures each { (genesis : Genesis) (sent : List Datagram) (L : List Command) (i : ℕ) (v : Command)
         → Chosen genesis sent L → command_at L i ≡ Some v → ChosenAt genesis sent i v }
+    ensures beginning { (genesis : Genesis) (sent : List Datagram) (L : List Command) (k : ℕ)
+        → Chosen genesis sent L → Chosen genesis sent (take k L) }
 {}
 
 /// A majority of the members that a chosen list names for a position has accepted its command there, and keeps it: each
@@ -134,6 +136,7 @@ pub fn votes_may_be_kept_in_a_list()
 {}
 
 /// Slices of snapshots of one position, from whichever nodes, join to one text, which when whole is that of a chosen list.
+/// Such is what is sent of the text of a chosen list's beginning.
 pub fn slices_join()
     ensures join { (genesis : Genesis) (sent : List Datagram) (text : List Command → List ℕ) (position total : ℕ) (gathered bytes : List ℕ)
         → Sound genesis sent → IsSlice genesis sent text position total 0 gathered → IsSlice genesis sent text position total (length gathered) bytes
@@ -143,6 +146,9 @@ pub fn slices_join()
         → (L : List Command) × Chosen genesis sent L × (length L ≡ position) × (bytes ≡ text L) }
     ensures later { (genesis : Genesis) (sent new : List Datagram) (text : List Command → List ℕ) (position total offset : ℕ) (bytes : List ℕ)
         → IsSlice genesis sent text position total offset bytes → IsSlice genesis (sent ++ new) text position total offset bytes }
+    ensures beginning { (genesis : Genesis) (sent : List Datagram) (text : List Command → List ℕ) (L : List Command) (position offset : ℕ) (bytes : List ℕ)
+        → Chosen genesis sent L → position ≤ length L → bytes ≡ take (length bytes) (drop offset (text (take position L)))
+        → IsSlice genesis sent text position (length (text (take position L))) offset bytes }
 {}
 
 /// In every world that comes about chosen lists agree, and a majority keeps each command of a chosen list.

@@ -1,5 +1,5 @@
 use Rattle.lk_history.proofs.Agree.{entry_chosen}
-use Rattle.lk_history.proofs.Grow.{still_chosen, chosen_push}
+use Rattle.lk_history.proofs.Grow.{still_chosen, chosen_push, chosen_take}
 use Rattle.lk_history.proofs.laws.chosen_lists_grow.Goals as goal
 
 pub returns-clause-later : goal.returns-clause-later
@@ -10,3 +10,6 @@ returns-clause-longer c genesis sent L v sound = chosen_push genesis sent sound 
 
 pub returns-clause-each : goal.returns-clause-each
 returns-clause-each c genesis sent L i v chosen = entry_chosen genesis sent L chosen i v
+
+pub returns-clause-beginning : goal.returns-clause-beginning
+returns-clause-beginning c = chosen_take

@@ -1,4 +1,4 @@
-use Rattle.lk_history.proofs.Slices.{slices_join, whole_slice, still_slice}
+use Rattle.lk_history.proofs.Slices.{slices_join, whole_slice, still_slice, beginning_slice}
 use Rattle.lk_history.proofs.laws.slices_join.Goals as goal
 
 pub returns-clause-join : goal.returns-clause-join
@@ -9,3 +9,6 @@ returns-clause-whole c = whole_slice
 
 pub returns-clause-later : goal.returns-clause-later
 returns-clause-later c = still_slice
+
+pub returns-clause-beginning : goal.returns-clause-beginning
+returns-clause-beginning c = beginning_slice
