@@ -1,20 +1,22 @@
 -- A learner goes on following the list, runs nothing but what is chosen at the next position, and serves what is chosen.
-use Rattle.std.proofs.Common.{◌≡◌, ◌∙◌, ℕ, zero, suc, ◌+◌, ◌-◌, ◌<◌, Some, List, [], ◌∷◌, ◌++◌, length, take, drop, Contains, drop_of_length-le, refl, ap, sym, subst, inl, inr, arith, length-append}
+use Rattle.std.proofs.Common.{Bool, true, false, cond, ltb, filter, ◌⊎◌, ◌≡◌, ◌∙◌, ℕ, zero, suc, ◌+◌, ◌-◌, ◌<◌, Some, List, [], ◌∷◌, ◌++◌, length, take, drop, Contains, drop_of_length-le, take_all, refl, ap, sym, subst, inl, inr, arith, length-append}
 use Rattle.std.specs.Prelude.{slice_get}
-use Rattle.std.proofs.lemmas.List.{drop-append-le}
+use Rattle.std.proofs.lemmas.List.{drop-append-le, take-append-le}
 use Rattle.std.proofs.lemmas.List.Elements.{Contains-append_left, Contains-push, Contains-push_cases}
 use Rattle.lk_history.specs.Datagrams.{Genesis, Datagram}
 use Rattle.lk_history.specs.Chosen.{command_at, Chosen, ChosenAt, AreChosenFrom}
 use Rattle.lk_history.specs.Soundness.{Sound}
 use Rattle.lk_history.specs.Nodes.{View, Stems}
-use Rattle.lk_history.specs.Changes.{with_done, Changes, learns, executes}
-use Rattle.lk_history.proofs.Histories.{entry_chosen, chosen_push}
+use Rattle.lk_history.specs.Changes.{AreAmong, with_done, Changes, learns, executes}
+use Rattle.lk_history.proofs.Histories.{entry_chosen, chosen_push, cons_cases, contains_more, filter_from, filter_passes_at}
 use Rattle.lk_members.specs.Windows.{roster_after}
 use Rattle.lk_state.specs.Meanings.{Meaning}
+use Rattle.lk_state.specs.Packed.{packed}
 use Rattle.lk_state.specs.States.{SumsUp, whole_after}
 use Rattle.lk_state.specs.Runs.{ran}
 use Rattle.lk_state.proofs.Wholes.{ran-whole_after}
 use Rattle.lk_learner.specs.Learners.{Command, Pair, WholeValue, LearnerValue, executed, begun, keeping, IsNext, advanced, IsServed, news_from, standing_here}
+use Rattle.lk_learner.specs.Installing.{pairs_above, installed}
 use Rattle.lk_learner.specs.Following.{Follows}
 use Rattle.lk_learner.proofs.PairLaws.{with_has, with_others, with_only, without_from}
 
@@ -42,6 +44,21 @@ got_last : {X : Type 0} (xs : List X) (x : X) → slice_get (xs ++ x ∷ []) (le
 got_last [] x = refl
 got_last (y ∷ xs) x = got_last xs x
 
+filter_has : {X : Type 0} (p : X → Bool) (xs : List X) (x : X) → Contains xs x → p x ≡ true → Contains (filter p xs) x
+filter_has p [] x h pass = absurd (omega (arith, h.1))
+filter_has {X} p (y ∷ ys) x h pass = here (p y) refl (cons_cases y ys x h) (λ c. filter_has p ys x c pass)
+  where
+    here : (t : Bool) → p y ≡ t → (y ≡ x) ⊎ Contains ys x → (Contains ys x → Contains (filter p ys) x) → Contains (cond t (y ∷ filter p ys) (filter p ys)) x
+    here true e (inl same) again = (0, omega arith, same)
+    here true e (inr rest) again = contains_more y (filter p ys) x (again rest)
+    here false e (inl same) again = absurd (let both : true ≡ false = sym pass ∙ ap p (sym same) ∙ e in cc both)
+    here false e (inr rest) again = again rest
+
+-- of those above a position no others are among those above it
+above_among : (i : ℕ) (ps qs : List Pair) → AreAmong ps qs → AreAmong (pairs_above i ps) (pairs_above i qs)
+above_among i ps qs f p c =
+    filter_has (λ (q : Pair). ltb i q.0) qs p (f p (filter_from (λ (q : Pair). ltb i q.0) ps p c)) (filter_passes_at (λ (q : Pair). ltb i q.0) ps p c)
+
 -- ---- what is learned is a change that is allowed
 
 pub learning_changes : (genesis : Genesis) (sent : List Datagram) (n : ℕ) (w : View) (i : ℕ) (v : Command) → ChosenAt genesis sent i v → Changes genesis sent n w (with_done w w.done (w.pairs ++ (i, v) ∷ []))
@@ -55,6 +72,12 @@ module _ (m : Meaning) (genesis : Genesis) where
   pub executed_is : (done : List Command) (w : WholeValue) → SumsUp m genesis done w → w.roster.executed ≡ length done
   executed_is done w sums = ap (λ (x : WholeValue). x.roster.executed) sums ∙ state_executed done
 
+  -- the packed text of a state is that of the list, taken up to where the state has executed it
+  pub packed_is : (done : List Command) (w : WholeValue) → SumsUp m genesis done w → packed w ≡ packed (whole_after m genesis (take w.roster.executed done))
+  packed_is done w sums =
+      let e = executed_is done w sums in
+      ap packed sums ∙ ap (λ (L : List Command). packed (whole_after m genesis L)) (sym (take_all w.roster.executed done (omega (arith, e))))
+
   -- ---- it goes on following
 
   pub begun_follows : (done : List Command) (w : WholeValue) → SumsUp m genesis done w → Follows m genesis done [] (begun w)
@@ -63,6 +86,7 @@ module _ (m : Meaning) (genesis : Genesis) where
       record {
         sums = sums;
         within = omega (arith, e);
+        text = packed_is done w sums;
         served = sym (drop_of_length-le done (omega (arith, e)));
         known = λ p h. h;
         kept = λ p h. h;
@@ -75,6 +99,7 @@ module _ (m : Meaning) (genesis : Genesis) where
       record {
         sums = f.sums;
         within = omega (arith, e);
+        text = packed_is done l.whole f.sums;
         served = sym (drop_of_length-le done (omega (arith, e)));
         known = f.known;
         kept = f.kept;
@@ -84,6 +109,7 @@ module _ (m : Meaning) (genesis : Genesis) where
   keeping_follows done pairs l p f = record {
     sums = f.sums;
     within = f.within;
+    text = f.text;
     served = f.served;
     known = λ q h. elim (with_only p l.pairs q h) [
       | inl is ↦ subst (λ (x : Pair). Contains (pairs ++ p ∷ []) x) is (Contains-push pairs p)
@@ -100,10 +126,25 @@ module _ (m : Meaning) (genesis : Genesis) where
   advanced_follows done pairs l v f = record {
     sums = ap (ran m v) f.sums ∙ ran-whole_after m genesis done v;
     within = omega (arith, f.within, length-append done (v ∷ []));
+    text = f.text ∙ ap (λ (L : List Command). packed (whole_after m genesis L)) (sym (take-append-le l.snapshot_position done (v ∷ []) f.within));
     served = ap (λ (xs : List Command). xs ++ v ∷ []) f.served ∙ sym (drop-append-le l.snapshot_position done (v ∷ []) f.within);
     known = λ p h. h;
     kept = λ p h. h;
   }
+
+  -- with the state of another list installed it follows that list
+  pub installed_follows : (done L : List Command) (pairs : List Pair) (l : LearnerValue) (w : WholeValue) → Follows m genesis done pairs l → SumsUp m genesis L w
+      → Follows m genesis L (pairs_above w.roster.executed pairs) (installed w l)
+  installed_follows done L pairs l w f sums =
+      let e = executed_is L w sums in
+      record {
+        sums = sums;
+        within = omega (arith, e);
+        text = packed_is L w sums;
+        served = sym (drop_of_length-le L (omega (arith, e)));
+        known = above_among w.roster.executed l.pairs pairs f.known;
+        kept = above_among w.roster.executed pairs l.pairs f.kept;
+      }
 
   -- ---- what it runs
 

@@ -8,11 +8,13 @@ use Rattle.lk_members.specs.Counting.{RequestValue}
 use Rattle.lk_members.specs.Rosters.{PlainRoster, next_roster}
 use Rattle.lk_members.specs.Windows.{RosterValue, moved, newest_roster, changed_by}
 use Rattle.lk_state.specs.Meanings.{Meaning}
+use Rattle.lk_state.specs.Packed.{packed}
 use Rattle.lk_state.specs.Runs.{ran, served_by, counted_now}
 use Rattle.lk_state.specs.declared.whole.Ran.{Ran}
 use Rattle.lk_learner.specs.Pairs.{without}
 use Rattle.lk_learner.specs.Learners.{Command, Pair, WholeValue, LearnerValue, IsLearner, executed, alpha, IsWanted, keeping, advanced, IsServed, news_from}
-use Rattle.lk_learner.proofs.PairLaws.{kept_with, kept_without}
+use Rattle.lk_learner.specs.Installing.{pairs_above, installed}
+use Rattle.lk_learner.proofs.PairLaws.{kept_with, kept_without, kept_above}
 
 -- ---- one position on
 
@@ -36,11 +38,23 @@ advanced_fits m v l f =
     record {
       window = rw moves.1 f.window;
       reaches = omega (arith, moves.0, longer, f.reaches);
+      some = f.some;
+      room = f.room;
       kept = rw (moves.0, moves.1) (kept_without (executed l) (alpha l) l.pairs f.kept);
     }
 
 pub keeping_fits : (i : ℕ) (v : Command) (l : LearnerValue) → IsLearner l → IsWanted l i → IsLearner (keeping (i, v) l)
-keeping_fits i v l f w = record { window = f.window; reaches = f.reaches; kept = kept_with (executed l) (alpha l) (i, v) l.pairs f.kept w.above w.near w.new }
+keeping_fits i v l f w = record { window = f.window; reaches = f.reaches; some = f.some; room = f.room; kept = kept_with (executed l) (alpha l) (i, v) l.pairs f.kept w.above w.near w.new }
+
+-- a state that reaches farther, with as many sets
+pub installed_fits : (w : WholeValue) (l : LearnerValue) → IsLearner l → executed l ≤ w.roster.executed → length w.roster.sets ≡ alpha l → 1 ≤ length (packed w) → length (packed w) ≤ 42087 → IsLearner (installed w l)
+installed_fits w l f above sets some room = record {
+  window = rw sets f.window;
+  reaches = omega arith;
+  some = some;
+  room = omega (arith, room);
+  kept = rw sets (kept_above (executed l) w.roster.executed (alpha l) l.pairs above f.kept);
+}
 
 -- ---- what is served
 
@@ -70,5 +84,5 @@ ran_is r i a p q = λ k. Some (record { position = p k; answer = q k })
 
 pub stepped : (m : Meaning) (v : Command) (l : LearnerValue) (w : WholeValue) (served : List Command) (pairs : List Pair)
     → w ≡ ran m v l.whole → served ≡ l.served ++ v ∷ [] → pairs ≡ without (executed l + 1) l.pairs
-    → record { whole = w; snapshot_position = l.snapshot_position; served = served; pairs = pairs; gathered = l.gathered } ≡ advanced m v l
-stepped m v l w served pairs a b c = λ k. record { whole = a k; snapshot_position = l.snapshot_position; served = b k; pairs = c k; gathered = l.gathered }
+    → record { whole = w; snapshot_position = l.snapshot_position; snapshot = l.snapshot; served = served; pairs = pairs; gathered = l.gathered } ≡ advanced m v l
+stepped m v l w served pairs a b c = λ k. record { whole = a k; snapshot_position = l.snapshot_position; snapshot = l.snapshot; served = b k; pairs = c k; gathered = l.gathered }

@@ -1,4 +1,5 @@
 mod PairLaws
 mod LearnerLaws
 mod FollowLaws
+mod PartLaws
 pub mod Learnerships

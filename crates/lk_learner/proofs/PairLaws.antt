@@ -1,5 +1,5 @@
 -- Pairs whose positions rise: where one is put, what is left without one, and how many there are.
-use Rattle.std.proofs.Common.{get_or, ◌≡◌, ◌⊎◌, ◌∙◌, ℕ, zero, suc, ◌+◌, ◌-◌, ◌*◌, ◌<◌, ◌≤◌, true, false, not, eqb, nat_lt, Some, List, [], ◌∷◌, length, Contains, refl, ap, sym, subst, inl, inr, arith}
+use Rattle.std.proofs.Common.{get_or, ◌≡◌, ◌⊎◌, ◌∙◌, ℕ, zero, suc, ◌+◌, ◌-◌, ◌*◌, ◌<◌, ◌≤◌, true, false, not, eqb, nat_lt, Some, filter, List, [], ◌∷◌, length, Contains, refl, ap, sym, subst, inl, inr, arith}
 use Rattle.std.specs.Prelude.{slice_get, insert, remove}
 use Rattle.std.specs.List.{prefix_len}
 use Rattle.std.specs.List.Sorted.{IsNonDecreasingBy, IsPartitionPoint}
@@ -183,6 +183,35 @@ kept_without e a (p ∷ ps) k =
 -- what is left was there
 pub without_from : (i : ℕ) (ps : List Pair) (p : Pair) → Contains (without i ps) p → Contains ps p
 without_from i ps p h = filter_from (λ (q : Pair). not (eqb q.0 i)) ps p h
+
+-- ---- those above a position
+
+abbrev above_of : ℕ → List Pair → List Pair
+above_of i = filter (λ (p : Pair). nat_lt i p.0)
+
+-- of pairs that rise from there on all are above
+all_above : (low i : ℕ) (ps : List Pair) → i ≤ low → are_pairs_above low ps ≡ true → are_pairs_above low (above_of i ps) ≡ true
+all_above low i [] le e = refl
+all_above low i (p ∷ ps) le e =
+    let b = rising_parts low p ps e in
+    let is : nat_lt i p.0 ≡ true = lt-ltb i p.0 (omega (arith, le, b.0)) in
+    rw is (rising_from low p (above_of i ps) b.0 (all_above p.0 i ps (omega (arith, le, b.0)) b.1))
+
+above_rise : (low i : ℕ) (ps : List Pair) → are_pairs_above low ps ≡ true → are_pairs_above i (above_of i ps) ≡ true
+above_rise low i [] e = refl
+above_rise low i (p ∷ ps) e =
+    let b = rising_parts low p ps e in
+    elim (cases_Bool (nat_lt i p.0)) [
+      | inl is ↦ (let lt = ltb-true i p.0 is in rw is (rising_from i p (above_of i ps) lt (all_above p.0 i ps (omega (arith, lt)) b.1)))
+      | inr other ↦ rw other (above_rise p.0 i ps b.1)
+    ]
+
+-- where more is executed those above it are kept
+pub kept_above : (e i a : ℕ) (ps : List Pair) → e ≤ i → AreKept e a ps → AreKept i a (above_of i ps)
+kept_above e i a ps le k = record {
+  rising = above_rise e i ps k.rising;
+  near = λ p h. let n = k.near p (filter_from (λ (q : Pair). nat_lt i q.0) ps p h) in omega (arith, n, le);
+}
 
 -- ---- the first one, as code finds it
 

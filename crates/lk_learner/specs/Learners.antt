@@ -2,10 +2,11 @@
 pub use Rattle.lk_state.specs.States.{WholeValue}
 pub use Rattle.lk_learner.specs.Pairs.{Command, Pair}
 use Rattle.std.specs.Prelude.{◌≡◌, ℕ, ◌+◌, ◌-◌, ◌*◌, ◌<◌, ◌≤◌, Option, Some, None, List, [], ◌∷◌, ◌++◌, length, take, drop, Contains}
-use Rattle.lk_types.specs.Limits.{max_commands}
+use Rattle.lk_types.specs.Limits.{max_commands, max_base}
 use Rattle.lk_types.specs.Ranges.{IsAlpha}
 use Rattle.lk_wire.specs.Values.{DecidedValue, WantValue}
 use Rattle.lk_state.specs.Meanings.{Meaning}
+use Rattle.lk_state.specs.Packed.{packed}
 use Rattle.lk_state.specs.Runs.{ran}
 use Rattle.lk_learner.specs.Pairs.{AreKept, with_pair, without}
 
@@ -15,11 +16,12 @@ pub record GatheredValue : Type 0 where
   pub total : ℕ
   pub bytes : List ℕ
 
--- the state behind the executed list, the position of the snapshot from which it was begun, the commands that were
--- executed since then, the pairs of later positions, and the snapshot that is gathered, if any
+-- the state behind the executed list, the position of the snapshot from which it was begun and the snapshot's packed text,
+-- the commands that were executed since then, the pairs of later positions, and the snapshot that is gathered, if any
 pub record LearnerValue : Type 0 where
   pub whole : WholeValue
   pub snapshot_position : ℕ
+  pub snapshot : List ℕ
   pub served : List Command
   pub pairs : List Pair
   pub gathered : Option GatheredValue
@@ -36,11 +38,13 @@ alpha l = length l.whole.roster.sets
 pub record IsLearner (l : LearnerValue) : Type 0 where
   pub window : IsAlpha (alpha l)
   pub reaches : executed l ≡ l.snapshot_position + length l.served
+  pub some : 1 ≤ length l.snapshot
+  pub room : length l.snapshot ≤ max_base
   pub kept : AreKept (executed l) (alpha l) l.pairs
 
 -- it stands on this state, and knows nothing more
 abbrev pub begun : WholeValue → LearnerValue
-begun w = record { whole = w; snapshot_position = w.roster.executed; served = []; pairs = []; gathered = None }
+begun w = record { whole = w; snapshot_position = w.roster.executed; snapshot = packed w; served = []; pairs = []; gathered = None }
 
 -- a pair of the position is to be kept: it is one of the next, up to twice alpha, and no other of it is kept
 pub record IsWanted (l : LearnerValue) (i : ℕ) : Type 0 where
@@ -50,7 +54,7 @@ pub record IsWanted (l : LearnerValue) (i : ℕ) : Type 0 where
 
 -- with this pair
 abbrev pub keeping : Pair → LearnerValue → LearnerValue
-keeping p l = record { whole = l.whole; snapshot_position = l.snapshot_position; served = l.served; pairs = with_pair p l.pairs; gathered = l.gathered }
+keeping p l = record { whole = l.whole; snapshot_position = l.snapshot_position; snapshot = l.snapshot; served = l.served; pairs = with_pair p l.pairs; gathered = l.gathered }
 
 -- the command of the next position is kept
 abbrev pub IsNext : LearnerValue → Command → Type 0
@@ -61,6 +65,7 @@ abbrev pub advanced : Meaning → Command → LearnerValue → LearnerValue
 advanced m v l = record {
   whole = ran m v l.whole;
   snapshot_position = l.snapshot_position;
+  snapshot = l.snapshot;
   served = l.served ++ v ∷ [];
   pairs = without (executed l + 1) l.pairs;
   gathered = l.gathered;
@@ -68,7 +73,7 @@ advanced m v l = record {
 
 -- a snapshot of its state takes the place of the commands that it has executed
 abbrev pub standing_here : LearnerValue → LearnerValue
-standing_here l = record { whole = l.whole; snapshot_position = executed l; served = []; pairs = l.pairs; gathered = l.gathered }
+standing_here l = record { whole = l.whole; snapshot_position = executed l; snapshot = packed l.whole; served = []; pairs = l.pairs; gathered = l.gathered }
 
 -- the position is executed, and above the snapshot
 abbrev pub IsServed : LearnerValue → ℕ → Type 0

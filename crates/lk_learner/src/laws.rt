@@ -1,8 +1,10 @@
 //! What follows of a learner's steps: laws over the definitions alone. Each is what a function without a body ensures.
-ghost use Rattle.std.specs.Prelude.{◌≡◌, ◌+◌, ◌-◌, ◌*◌, ◌<◌, ◌≤◌, ℕ, suc, List, [], ◌∷◌, ◌++◌, length, Contains, Some, slice_get};
+ghost use Rattle.std.specs.Prelude.{◌≡◌, ◌+◌, ◌-◌, ◌*◌, ◌<◌, ◌≤◌, ℕ, suc, List, [], ◌∷◌, ◌++◌, length, take, drop, Contains, Option, Some, slice_get};
 ghost use Rattle.lk_history.specs.Datagrams.{Genesis, Datagram, Decided};
 ghost use Rattle.lk_history.specs.Chosen.{command_at, Chosen, ChosenAt};
 ghost use Rattle.lk_history.specs.Soundness.{Sound};
+ghost use Rattle.lk_history.specs.Snapshots.{IsSlice};
+ghost use Rattle.lk_wire.specs.Values.{PartValue};
 ghost use Rattle.lk_history.specs.Nodes.{View, Stems, MaySend};
 ghost use Rattle.lk_history.specs.Changes.{with_done, Changes};
 ghost use Rattle.lk_state.specs.Meanings.{Meaning};
@@ -10,6 +12,10 @@ ghost use Rattle.lk_state.specs.States.{SumsUp};
 ghost use Rattle.lk_learner.specs.Pairs.{AreKept, without};
 ghost use Rattle.lk_learner.specs.Learners.{Command, Pair, WholeValue, LearnerValue, executed, begun, keeping, IsNext, advanced, IsServed, news_from};
 ghost use Rattle.lk_learner.specs.Following.{Follows};
+ghost use Rattle.lk_learner.specs.Learners.{GatheredValue};
+ghost use Rattle.lk_learner.specs.Gathering.{heard};
+ghost use Rattle.lk_learner.specs.Installing.{pairs_above, installed};
+ghost use Rattle.lk_learner.specs.Parts.{AreParts};
 
 /// Kept pairs are of the next positions, up to twice alpha, one each: so they are few. Where the next one goes there is one less.
 pub fn kept_pairs_are_near_and_few()
@@ -19,13 +25,16 @@ pub fn kept_pairs_are_near_and_few()
     ensures fewer { (e alpha : ℕ) (pairs : List Pair) (v : Command) → AreKept e alpha pairs → Contains pairs (e + 1, v) → suc (length (without (e + 1) pairs)) ≡ length pairs }
 {}
 
-/// A learner goes on following the list: as it is made, with a pair more, and with a command more that it has run.
+/// A learner goes on following the list: as it is made, with a pair more, and with a command more that it has run. With the state
+/// of another list installed it follows that one.
 pub fn a_learner_follows_its_list()
     ensures begins { (m : Meaning) (genesis : Genesis) (done : List Command) (w : WholeValue) → SumsUp m genesis done w → Follows m genesis done [] (begun w) }
     ensures keeps { (m : Meaning) (genesis : Genesis) (done : List Command) (pairs : List Pair) (l : LearnerValue) (p : Pair)
         → Follows m genesis done pairs l → Follows m genesis done (pairs ++ p ∷ []) (keeping p l) }
     ensures runs { (m : Meaning) (genesis : Genesis) (done : List Command) (pairs : List Pair) (l : LearnerValue) (v : Command)
         → Follows m genesis done pairs l → Follows m genesis (done ++ v ∷ []) (advanced m v l).pairs (advanced m v l) }
+    ensures installs { (m : Meaning) (genesis : Genesis) (done L : List Command) (pairs : List Pair) (l : LearnerValue) (w : WholeValue)
+        → Follows m genesis done pairs l → SumsUp m genesis L w → Follows m genesis L (pairs_above w.roster.executed pairs) (installed w l) }
 {}
 
 /// What a learner runs next is chosen at the position behind its list, so the list with it is chosen: never is a pair run
@@ -51,4 +60,18 @@ pub fn what_is_served_is_chosen()
         → IsServed l first → MaySend genesis sent w (Decided (news_from first l)) }
     ensures there { (m : Meaning) (genesis : Genesis) (done : List Command) (pairs : List Pair) (l : LearnerValue) (i : ℕ) (v : Command) → Follows m genesis done pairs l
         → l.snapshot_position < i → slice_get l.served (i - (l.snapshot_position + 1)) ≡ Some v → command_at done i ≡ Some v }
+{}
+
+/// Each part that is served of a text is a slice of it, and tells its length.
+pub fn parts_that_are_served_are_slices()
+    ensures { (position start k : ℕ) (text : List ℕ) (parts : List PartValue) (p : PartValue) → AreParts position text start parts → slice_get parts k ≡ Some p
+        → (p.position ≡ position) × (p.total ≡ length text) × (p.bytes ≡ take (length p.bytes) (drop p.offset text)) }
+{}
+
+/// What is gathered of parts that are slices of the texts of chosen lists, from whichever nodes, is the beginning of such a text.
+pub fn what_is_gathered_begins_a_text()
+    ensures { (genesis : Genesis) (sent : List Datagram) (text : List Command → List ℕ) (e : ℕ) (p : PartValue) (old : Option GatheredValue) (g : GatheredValue) → Sound genesis sent
+        → IsSlice genesis sent text p.position p.total p.offset p.bytes
+        → ((k : GatheredValue) → old ≡ Some k → IsSlice genesis sent text k.position k.total 0 k.bytes)
+        → heard e old p ≡ Some g → IsSlice genesis sent text g.position g.total 0 g.bytes }
 {}

@@ -1,6 +1,7 @@
 ghost use Rattle.std.specs.Prelude.{◌≡◌, IfOk};
-ghost use Rattle.lk_types.specs.Limits.{max_count};
+ghost use Rattle.lk_types.specs.Limits.{max_base, max_count};
 
+use crate::gathered::Gathered;
 use crate::pair::{Pair, is_kept, place_of};
 use arrayvec::ArrayVec;
 use bytes::BytesMut;
@@ -12,25 +13,27 @@ use std::alloc::Global;
 use std::marker::Model;
 
 /// What a node has learned of the list: the state behind the commands that it has executed, these commands as far as
-/// its snapshot has not taken their place, and decided commands of later positions.
+/// its snapshot has not taken their place, the snapshot's packed text, decided commands of later positions, and what it has
+/// gathered of another node's snapshot.
 #[derive(Drop)]
 pub struct Learner<M: Machine> {
-    alloc: Global,
-    whole: Whole<M>,
-    snapshot_position: Executed,
-    served: Vec<Command>,
-    pairs: ArrayVec<Pair, MAX_VOTES>,
+    pub(crate) alloc: Global,
+    pub(crate) whole: Whole<M>,
+    pub(crate) snapshot_position: Executed,
+    pub(crate) snapshot: Vec<u8>,
+    pub(crate) served: Vec<Command>,
+    pub(crate) pairs: ArrayVec<Pair, MAX_VOTES>,
+    pub(crate) gathered: Option<Gathered>,
 }
 
 impl<M: Machine> Model for Learner<M> {
-    ghost use Rattle.std.specs.Prelude.{None};
     ghost use Rattle.lk_learner.specs.Learners.{LearnerValue, IsLearner};
 
     ghost Value = { LearnerValue };
 
-    ghost view = { λ l. record { whole = l.whole; snapshot_position = l.snapshot_position; served = l.served.items; pairs = l.pairs.items; gathered = None } };
+    ghost view = { λ l. record { whole = l.whole; snapshot_position = l.snapshot_position; snapshot = l.snapshot.items; served = l.served.items; pairs = l.pairs.items; gathered = l.gathered } };
 
-    ghost invariant = { λ l. IsLearner (record { whole = l.whole; snapshot_position = l.snapshot_position; served = l.served.items; pairs = l.pairs.items; gathered = None }) };
+    ghost invariant = { λ l. IsLearner (record { whole = l.whole; snapshot_position = l.snapshot_position; snapshot = l.snapshot.items; served = l.served.items; pairs = l.pairs.items; gathered = l.gathered }) };
 }
 
 impl<M: Machine> Learner<M> {
@@ -42,20 +45,24 @@ impl<M: Machine> Learner<M> {
     ghost use Rattle.lk_state.specs.Meanings.{meaning};
     ghost use Rattle.lk_state.specs.States.{SumsUp, reply_of};
     ghost use Rattle.lk_state.specs.Runs.{run_answer};
-    ghost use Rattle.lk_learner.specs.Learners.{IsLearner, executed, alpha, begun, IsWanted, keeping, IsNext, advanced, standing_here, IsServed, news_from, wanted};
+    ghost use Rattle.lk_learner.specs.Learners.{IsLearner, executed, alpha, begun, IsWanted, keeping, IsNext, advanced, standing_here, IsServed, news_from, gathered_bytes, wanted};
 
-    /// A learner that stands on this state, as a snapshot leaves it. It takes no memory.
-    pub fn new(alloc: Global, whole: Whole<M>) -> Learner<M>
+    /// A learner that stands on this state, as a snapshot of this packed text leaves it. It takes no memory.
+    pub fn new(alloc: Global, whole: Whole<M>, snapshot: Vec<u8>) -> Learner<M>
+        requires text { snapshot.items ≡ packed whole }
         ensures { result ≡ begun whole }
     {
         let snapshot_position = whole.executed();
         let _ = whole.roster().alpha();
+        whole.facts();
         Learner {
             alloc,
             whole,
             snapshot_position,
+            snapshot,
             served: Vec::new(alloc),
             pairs: ArrayVec::new(),
+            gathered: None,
         }
     }
 
@@ -159,11 +166,14 @@ impl<M: Machine> Learner<M> {
         Ok(text)
     }
 
-    /// A snapshot of the state takes the place of the executed commands. It takes no memory.
-    pub fn stand_here(&mut self)
+    /// A snapshot of the state, of which this is the packed text, takes the place of the executed commands. It takes no memory.
+    pub fn stand_here(&mut self, snapshot: Vec<u8>)
+        requires text { snapshot.items ≡ packed self.old.whole }
         ensures { self.new ≡ standing_here self.old }
     {
+        self.whole.facts();
         self.snapshot_position = self.whole.executed();
+        self.snapshot = snapshot;
         self.served = Vec::new(self.alloc);
     }
 
@@ -173,7 +183,18 @@ impl<M: Machine> Learner<M> {
         ensures { MatchOption result (executed self.now ≡ max_count) (λ w. w ≡ wanted self.now) }
     {
         let first = Position::of(self.whole.executed().get() + 1)?;
-        Want::of(first, 0)
+        Want::of(first, self.gathered_bytes())
+    }
+
+    /// How many bytes of a snapshot are gathered, at most 49,152.
+    fn gathered_bytes(&self) -> u32
+        ensures value { result ≡ gathered_bytes self.now.gathered }
+        ensures room { result ≤ max_base }
+    {
+        match &self.gathered {
+            Some(gathered) => gathered.length(),
+            None => 0,
+        }
     }
 
     /// The place among the commands since the snapshot at which that of the position stands, or would stand.

@@ -1,10 +1,16 @@
 //! The learner's part of a node: the decided commands that it has heard of, their execution in order, and what it serves
-//! to a node that lies behind. No disk, no socket, no bytes; `execute_next` and `serve` take memory.
+//! to a node that lies behind: commands, or its snapshot in parts, which the other gathers and installs. No disk, no socket;
+//! `execute_next`, `serve`, `parts`, `part` and `install` take memory.
 #![tactic(auto)]
 
+mod gathered;
+mod gathering;
 pub mod laws;
 mod learner;
 mod pair;
+mod parts;
+mod snapshot;
 
+pub use gathered::Gathered;
 pub use learner::Learner;
 pub use pair::Pair;

@@ -49,7 +49,7 @@ returns-clause-next g c = λ v h.
     let grown : c.push.new.self.items ≡ c.reserve.new.self.items ++ c.pair.inside.command ∷ [] = rw c.unwrap.ensures at c.push.ensures.items in
     let command : c.pair.inside.command ≡ v = ap (λ (p : Pair). p.1) (c.pair.view_is ∙ out) in
     let pushed : c.push.new.self.items ≡ c.self.inside.served.items ++ v ∷ [] = grown ∙ ap (λ (l : List Command). l ++ c.pair.inside.command ∷ []) c.reserve.ensures.items ∙ ap (λ (u : Command). c.self.inside.served.items ++ u ∷ []) command in
-    let old : LearnerValue = record { whole = c.self.inside.whole; snapshot_position = c.self.inside.snapshot_position; served = c.self.inside.served.items; pairs = ps; gathered = None } in
+    let old : LearnerValue = record { whole = c.self.inside.whole; snapshot_position = c.self.inside.snapshot_position; snapshot = c.self.inside.snapshot.items; served = c.self.inside.served.items; pairs = ps; gathered = c.self.inside.gathered } in
     stepped m v old c.run.new.self c.push.new.self.items c.remove-pair.new.self.items ran_so pushed removed ∙ ap (advanced m v) c.self.view_is
 
 pub invariant_of-self-2 : goal.invariant_of-self-2
@@ -70,7 +70,7 @@ invariant_of-self-2 g c =
     let grown : c.push.new.self.items ≡ c.reserve.new.self.items ++ c.pair.inside.command ∷ [] = rw c.unwrap.ensures at c.push.ensures.items in
     let command : c.pair.inside.command ≡ v = ap (λ (p : Pair). p.1) (c.pair.view_is ∙ out) in
     let pushed : c.push.new.self.items ≡ c.self.inside.served.items ++ v ∷ [] = grown ∙ ap (λ (l : List Command). l ++ c.pair.inside.command ∷ []) c.reserve.ensures.items ∙ ap (λ (u : Command). c.self.inside.served.items ++ u ∷ []) command in
-    let old : LearnerValue = record { whole = c.self.inside.whole; snapshot_position = c.self.inside.snapshot_position; served = c.self.inside.served.items; pairs = ps; gathered = None } in
+    let old : LearnerValue = record { whole = c.self.inside.whole; snapshot_position = c.self.inside.snapshot_position; snapshot = c.self.inside.snapshot.items; served = c.self.inside.served.items; pairs = ps; gathered = c.self.inside.gathered } in
     let step = stepped m v old c.run.new.self c.push.new.self.items c.remove-pair.new.self.items ran_so pushed removed in
     subst IsLearner (sym step) (advanced_fits m v old c.self.invariant)
 

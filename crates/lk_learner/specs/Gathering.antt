@@ -1,0 +1,41 @@
+-- Snapshots of other nodes, gathered part by part.
+use Rattle.std.specs.Prelude.{◌≤◌, ℕ, Bool, true, ◌==◌, ◌&&◌, if◌then◌else◌, nat_lt, List, [], ◌++◌, length, Option, Some, None}
+use Rattle.lk_types.specs.Limits.{max_base}
+use Rattle.lk_wire.specs.Values.{PartValue}
+use Rattle.lk_learner.specs.Learners.{GatheredValue}
+
+-- which there are: at most one text is gathered, and no more of it than there is
+pub record IsGathered (g : GatheredValue) : Type 0 where
+  pub room : g.total ≤ max_base
+  pub within : length g.bytes ≤ g.total
+
+-- the bytes of the part, where it is the first one
+abbrev pub first_bytes : PartValue → List ℕ
+first_bytes p = if p.offset == 0 then p.bytes else []
+
+-- what is gathered from this part on: nothing yet, where the part is not the first one
+abbrev pub begun_by : PartValue → GatheredValue
+begun_by p = record { position = p.position; total = p.total; bytes = first_bytes p }
+
+-- the part is one of the same snapshot: its total agrees, and it goes on what stands there
+abbrev pub goes_on : GatheredValue → PartValue → Bool
+goes_on g p = (p.position == g.position) && ((p.total == g.total) && (p.offset == length g.bytes))
+
+-- what is gathered with this part: it is added where it goes on what stands there
+abbrev pub joined : GatheredValue → PartValue → GatheredValue
+joined g p = if goes_on g p then record { position = g.position; total = g.total; bytes = g.bytes ++ p.bytes } else g
+
+-- the part is of a snapshot above that which is gathered, if any is
+abbrev pub begins : Option GatheredValue → PartValue → Bool
+begins None p = true
+begins (Some g) p = nat_lt g.position p.position
+
+-- the part is added to what is gathered, if anything is
+abbrev pub joined_any : Option GatheredValue → PartValue → Option GatheredValue
+joined_any None p = None
+joined_any (Some g) p = Some (joined g p)
+
+-- what is gathered once a part was heard, where so many positions are executed: a part of a position that is executed is
+-- dropped, one of a greater position than that which is gathered begins anew, and any other goes on what stands there or is dropped
+abbrev pub heard : ℕ → Option GatheredValue → PartValue → Option GatheredValue
+heard executed g p = if nat_lt executed p.position then (if begins g p then Some (begun_by p) else joined_any g p) else g

@@ -1,0 +1,130 @@
+ghost use Rattle.std.specs.Prelude.{◌≡◌, ◌≤◌, ◌↔◌, IsTrue, IfSome, IfOk, OnOk, OnErr, Ok, None, length};
+ghost use Rattle.lk_types.specs.Limits.{max_base};
+ghost use Rattle.lk_state.specs.States.{WholeValue};
+ghost use Rattle.lk_learner.specs.Unpacking.{Unpacks};
+ghost use Rattle.lk_learner.specs.Gathering.{first_bytes, begun_by, goes_on, joined};
+
+use lk_state::{Machine, UnpackFault, Whole};
+use lk_types::{NoMemory, Position};
+use lk_wire::Part;
+use std::alloc::Global;
+use std::marker::Model;
+
+/// The beginning of a snapshot's text, as far as its parts were heard.
+#[derive(Debug, Drop)]
+pub struct Gathered {
+    position: Position,
+    total: u32,
+    bytes: Vec<u8>,
+}
+
+impl Model for Gathered {
+    ghost use Rattle.lk_learner.specs.Learners.{GatheredValue};
+    ghost use Rattle.lk_learner.specs.Gathering.{IsGathered};
+
+    ghost Value = { GatheredValue };
+
+    ghost view = { λ g. record { position = g.position; total = g.total; bytes = g.bytes.items } };
+
+    ghost invariant = { λ g. IsGathered (record { position = g.position; total = g.total; bytes = g.bytes.items }) };
+}
+
+/// The bytes of the part, where it is the first one.
+fn first_bytes(alloc: Global, part: &Part) -> Result<Vec<u8>, NoMemory>
+    ensures { IfOk result (λ bytes. bytes.items ≡ first_bytes part.now) }
+{
+    if part.offset() != 0 {
+        return Ok(Vec::new(alloc));
+    }
+    Ok(part.bytes().to_vec(alloc)?)
+}
+
+impl Gathered {
+    /// What is gathered from this part on: nothing yet, where the part is not the first one.
+    pub(crate) fn begun_by(alloc: Global, part: &Part) -> Result<Gathered, NoMemory>
+        ensures { IfOk result (λ g. g ≡ begun_by part.now) }
+    {
+        part.facts();
+        let bytes = first_bytes(alloc, part)?;
+        Ok(Gathered {
+            position: part.position(),
+            total: part.total(),
+            bytes,
+        })
+    }
+
+    /// The position of the snapshot.
+    pub fn position(&self) -> Position
+        ensures { result ≡ self.now.position }
+    {
+        self.position
+    }
+
+    /// The bytes so far.
+    pub fn bytes(&self) -> &[u8]
+        ensures { result.now ≡ self.now.bytes }
+    {
+        &self.bytes
+    }
+
+    /// How many bytes are there, at most 49,152.
+    pub fn length(&self) -> u32
+        ensures value { result ≡ length self.now.bytes }
+        ensures room { result ≤ max_base }
+    {
+        self.bytes.len() as u32
+    }
+
+    /// Whether these are all bytes of the snapshot.
+    pub fn is_whole(&self) -> bool
+        ensures { IsTrue result ↔ (length self.now.bytes ≡ self.now.total) }
+    {
+        self.length() == self.total
+    }
+
+    /// Whether the part is one of the same snapshot that goes on what stands there.
+    fn goes_on(&self, part: &Part) -> bool
+        ensures { result ≡ goes_on self.now part.now }
+    {
+        part.position() == self.position
+            && part.total() == self.total
+            && part.offset() == self.length()
+    }
+
+    /// The part is added where it goes on what stands there. Memory is wanted for its bytes; a refused call changes nothing.
+    pub(crate) fn join(&mut self, part: &Part) -> Result<(), NoMemory>
+        ensures ok { OnOk result (self.new ≡ joined self.old part.now) }
+        ensures err { OnErr result (self.new ≡ self.old) }
+    {
+        part.facts();
+        if !self.goes_on(part) {
+            return Ok(());
+        }
+        self.bytes.extend_from_slice(part.bytes())?;
+        Ok(())
+    }
+
+    /// The state whose packed text is gathered, where it is one at its position and of this alpha. Any other text is of no use.
+    /// Memory is wanted for the state.
+    pub fn state<M: Machine>(&self, alloc: Global, alpha: u8) -> Result<Option<Whole<M>>, NoMemory>
+        ensures some { IfOk result (λ found. IfSome found (λ w. Unpacks M.IsText alpha self.now.position self.now.bytes w)) }
+        ensures none { result ≡ Ok None → (w : WholeValue) → Unpacks M.IsText alpha self.now.position self.now.bytes w → ⊥ }
+    {
+        let whole: Whole<M> = match Whole::unpack(alloc, &self.bytes) {
+            Ok(whole) => whole,
+            Err(UnpackFault::NotPacked) => return Ok(None),
+            Err(UnpackFault::NoMemory) => return Err(NoMemory),
+        };
+        if whole.executed().get() != self.position.get() || whole.roster().alpha() != alpha {
+            return Ok(None);
+        }
+        Ok(Some(whole))
+    }
+
+    /// The bytes.
+    pub fn into_bytes(self) -> Vec<u8>
+        ensures { result.items ≡ self.bytes }
+    {
+        self.bytes
+    }
+}

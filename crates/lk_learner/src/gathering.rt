@@ -1,0 +1,53 @@
+ghost use Rattle.std.specs.Prelude.{◌≡◌, OnOk, OnErr};
+ghost use Rattle.lk_learner.specs.Gathering.{begins, joined_any, heard};
+
+use crate::gathered::Gathered;
+use lk_types::{Executed, NoMemory};
+use lk_wire::Part;
+use std::alloc::Global;
+
+// Whether the part is of a snapshot above that which is gathered, if any is.
+fn begins(gathered: &Option<Gathered>, part: &Part) -> bool
+    ensures { result ≡ begins gathered.now part.now }
+{
+    match gathered {
+        Some(gathered) => gathered.position() < part.position(),
+        None => true,
+    }
+}
+
+// The part is added to what is gathered, where it goes on what stands there. A refused call changes nothing.
+fn join(gathered: &mut Option<Gathered>, part: &Part) -> Result<(), NoMemory>
+    ensures ok { OnOk result (gathered.new ≡ joined_any gathered.old part.now) }
+    ensures err { OnErr result (gathered.new ≡ gathered.old) }
+{
+    let Some(gathered) = gathered else {
+        return Ok(());
+    };
+    gathered.join(part)?;
+    Ok(())
+}
+
+/// A part of a snapshot was heard, where so many positions are executed. Where its position is one of these it is dropped.
+/// Where it is greater than that of what is gathered, gathering begins anew with it. Any other part is added where it is of the
+/// same snapshot and goes on what is gathered, and else dropped. So at most one text is gathered. Memory is wanted for the
+/// bytes; a refused call changes nothing.
+pub fn gather(
+    alloc: Global,
+    executed: Executed,
+    gathered: &mut Option<Gathered>,
+    part: &Part,
+) -> Result<(), NoMemory>
+    ensures ok { OnOk result (gathered.new ≡ heard executed gathered.old part.now) }
+    ensures err { OnErr result (gathered.new ≡ gathered.old) }
+{
+    if part.position().get() <= executed.get() {
+        return Ok(());
+    }
+    if begins(gathered, part) {
+        *gathered = Some(Gathered::begun_by(alloc, part)?);
+        return Ok(());
+    }
+    join(gathered, part)?;
+    Ok(())
+}

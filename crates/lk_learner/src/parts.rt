@@ -1,0 +1,83 @@
+ghost use Rattle.std.specs.Prelude.{◌≡◌, ◌<◌, ◌≤◌, ◌+◌, length, take, drop, IfOk};
+ghost use Rattle.lk_types.specs.Limits.{max_base, max_part};
+ghost use Rattle.lk_learner.specs.Parts.{start_of, part_of, AreParts};
+
+use lk_types::limits::MAX_PART;
+use lk_types::{NoMemory, Position};
+use lk_wire::Part;
+use std::alloc::Global;
+
+// The most parts that one wish is answered by.
+const MAX_PARTS: usize = 8;
+
+// The bytes of the part of the text there.
+fn piece_of(text: &[u8], offset: usize) -> &[u8]
+    requires within { offset < length text.now }
+    requires room { length text.now ≤ max_base }
+    ensures bytes { result.now ≡ take max_part (drop offset text.now) }
+    ensures some { 1 ≤ length result.now }
+    ensures few { length result.now ≤ max_part }
+    ensures inside { offset + length result.now ≤ length text.now }
+{
+    let end = text.len().min(offset + MAX_PART);
+    &text[offset..end]
+}
+
+// The part of the text there.
+fn part_of(alloc: Global, position: Position, text: &[u8], offset: usize) -> Result<Part, NoMemory>
+    requires within { offset < length text.now }
+    requires room { length text.now ≤ max_base }
+    ensures { IfOk result (λ part. part ≡ part_of position text.now offset) }
+{
+    let bytes = piece_of(text, offset).to_vec(alloc)?;
+    let part = Part::of(position, text.len() as u32, offset as u32, bytes);
+    Ok(part.unwrap())
+}
+
+// From where on a text is served that is wished from the offset on.
+fn start_of(offset: u32, text: &[u8]) -> usize
+    requires { 1 ≤ length text.now }
+    ensures value { result ≡ start_of offset text.now }
+    ensures within { result < length text.now }
+{
+    let offset = offset as usize;
+    if offset < text.len() { offset } else { 0 }
+}
+
+// The parts of the text from there on, up to 8.
+fn parts_behind(
+    alloc: Global,
+    position: Position,
+    text: &[u8],
+    start: usize,
+) -> Result<Vec<Part>, NoMemory>
+    requires within { start < length text.now }
+    requires room { length text.now ≤ max_base }
+    ensures { IfOk result (λ parts. AreParts position text.now start parts.items) }
+{
+    let mut parts = Vec::new(alloc);
+    'parts: for index in 0..MAX_PARTS {
+        let offset = start + index * MAX_PART;
+        if offset >= text.len() {
+            return Ok(parts);
+        }
+        parts.push(part_of(alloc, position, text, offset)?)?;
+    }
+    Ok(parts)
+}
+
+/// What is served of a snapshot's packed text to a node that wants it from the offset on: the text from there on, or from its
+/// start where the offset is not below its length, in up to 8 parts of 1,024 bytes each, but for the last of the text. Memory is
+/// wanted for the bytes.
+pub fn parts_from(
+    alloc: Global,
+    position: Position,
+    text: &[u8],
+    offset: u32,
+) -> Result<Vec<Part>, NoMemory>
+    requires some { 1 ≤ length text.now }
+    requires room { length text.now ≤ max_base }
+    ensures { IfOk result (λ parts. AreParts position text.now (start_of offset text.now) parts.items) }
+{
+    parts_behind(alloc, position, text, start_of(offset, text))
+}

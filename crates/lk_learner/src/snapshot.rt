@@ -1,0 +1,116 @@
+// What a learner does with snapshots: its own, which it serves in parts, and those of others, which it gathers and installs.
+ghost use Rattle.std.specs.Prelude.{◌≡◌, ◌<◌, ◌≤◌, ◌↔◌, length, Ok, None, [], IsTrue, IfSome, IfOk, OnOk, OnErr};
+ghost use Rattle.lk_state.specs.Packed.{packed};
+ghost use Rattle.lk_learner.specs.Learners.{WholeValue, GatheredValue, executed, alpha};
+ghost use Rattle.lk_learner.specs.Parts.{start_of, AreParts};
+ghost use Rattle.lk_learner.specs.Installing.{hearing, HasWhole, MayInstall, pairs_above, installed, Installs};
+
+use crate::gathering::gather;
+use crate::learner::Learner;
+use crate::pair::Pair;
+use crate::parts::parts_from;
+use arrayvec::ArrayVec;
+use lk_state::{Machine, Whole};
+use lk_types::limits::MAX_VOTES;
+use lk_types::{Executed, NoMemory, Position};
+use lk_wire::Part;
+
+// Forgets the pairs up to a position.
+fn forget_to(pairs: &mut ArrayVec<Pair, MAX_VOTES>, position: Executed)
+    ensures { pairs.new.items ≡ pairs_above position pairs.old.items }
+{
+    pairs.retain(|pair| pair.position.get() > position.get());
+}
+
+impl<M: Machine> Learner<M> {
+    /// What is served to a node that wants commands from the position on, where the snapshot has taken its place: the
+    /// snapshot's text from the offset on, or from its start where the offset is not below its length, in up to 8 parts of
+    /// 1,024 bytes each, but for the last of the text. None where the position is above the snapshot. Memory is wanted for
+    /// the bytes.
+    pub fn parts(&self, first: Position, offset: u32) -> Result<Vec<Part>, NoMemory>
+        ensures some { first ≤ self.now.snapshot_position → IfOk result (λ parts. AreParts self.now.snapshot_position self.now.snapshot (start_of offset self.now.snapshot) parts.items) }
+        ensures none { self.now.snapshot_position < first → IfOk result (λ parts. parts.items ≡ []) }
+        ensures memory { OnErr result (first ≤ self.now.snapshot_position) }
+    {
+        match Position::of(self.snapshot_position.get()) {
+            Some(position) if first <= position => {
+                parts_from(self.alloc, position, &self.snapshot, offset)
+            }
+            _ => Ok(Vec::new(self.alloc)),
+        }
+    }
+
+    /// A part of another node's snapshot was heard. Where its position is executed already it is dropped. Where it is greater
+    /// than that of what is gathered, gathering begins anew with it; any other part is added where it is of the same snapshot
+    /// and goes on what is gathered, and else dropped. Memory is wanted for its bytes; a refused call changes nothing.
+    pub fn part(&mut self, part: &Part) -> Result<(), NoMemory>
+        ensures ok { OnOk result (self.new ≡ hearing part.now self.old) }
+        ensures err { OnErr result (self.new ≡ self.old) }
+    {
+        let executed = self.whole.executed();
+        gather(self.alloc, executed, &mut self.gathered, part)?;
+        Ok(())
+    }
+
+    // Whether a whole text is gathered.
+    fn has_whole(&self) -> bool
+        ensures { IsTrue result ↔ ((g : GatheredValue) × HasWhole self.now g) }
+    {
+        match &self.gathered {
+            Some(gathered) => gathered.is_whole(),
+            None => false,
+        }
+    }
+
+    // The state whose text is gathered, where it is above what is executed.
+    fn gathered_state(&self) -> Result<Option<Whole<M>>, NoMemory>
+        ensures some { (g : GatheredValue) → HasWhole self.now g → IfOk result (λ found. IfSome found (λ w. MayInstall M.IsText self.now w)) }
+        ensures none { result ≡ Ok None → (w : WholeValue) → MayInstall M.IsText self.now w → ⊥ }
+    {
+        let Some(gathered) = &self.gathered else {
+            return Ok(None);
+        };
+        if gathered.position().get() <= self.whole.executed().get() {
+            return Ok(None);
+        }
+        gathered.state(self.alloc, self.whole.roster().alpha())
+    }
+
+    // It stands on this state, as a snapshot of this packed text leaves it.
+    fn stand_on(&mut self, whole: Whole<M>, snapshot: Vec<u8>)
+        requires text { snapshot.items ≡ packed whole }
+        requires above { executed self.old ≤ whole.roster.executed }
+        requires sets { length whole.roster.sets ≡ alpha self.old }
+        ensures { self.new ≡ installed whole self.old }
+    {
+        whole.facts();
+        forget_to(&mut self.pairs, whole.executed());
+        self.snapshot_position = whole.executed();
+        self.whole = whole;
+        self.snapshot = snapshot;
+        self.served = Vec::new(self.alloc);
+        self.gathered = None;
+    }
+
+    /// Where a whole text is gathered, its state is installed: it takes the place of what was executed, and pairs up to its
+    /// position are forgotten. It must be the text of a state at its position, above what is executed, with as many sets of
+    /// members ahead; any other whole text is thrown away. Whether a state was installed. Memory is wanted for the state; a
+    /// refused call changes nothing.
+    pub fn install(&mut self) -> Result<bool, NoMemory>
+        ensures exact { IfOk result (λ went. Installs M.IsText went self.old self.new) }
+        ensures err { OnErr result (self.new ≡ self.old) }
+    {
+        if !self.has_whole() {
+            return Ok(false);
+        }
+        let state = self.gathered_state()?;
+        let Some(gathered) = self.gathered.take() else {
+            return Ok(false);
+        };
+        let Some(whole) = state else {
+            return Ok(false);
+        };
+        self.stand_on(whole, gathered.into_bytes());
+        Ok(true)
+    }
+}
