@@ -53,14 +53,19 @@ optional_notes : (o : Option Entry) → (with_optional o nothing).notes ≡ []
 optional_notes None = refl
 optional_notes (Some e) = refl
 
+no_rebase : (o : Option Entry) → (with_optional o nothing).rebase ≡ true → ⊥
+no_rebase None e = cc e
+no_rebase (Some x) e = cc e
+
 pub moves_goes_on : (m : Meaning) (Heard : History → Type 0) (node : NodeValue) (a : AcceptorValue) (o : Option Entry) → a.state ≡ with_written o node.acceptor.state
-    → ((e : Entry) → o ≡ Some e → IsDecided e → ⊥) → ((h : History) (n : ℕ) → IsLawful h → Heard h → Moves h n node.acceptor.state a.state o)
+    → ((e : Entry) → o ≡ Some e → IsDecided e → ⊥) → ((h : History) (n : ℕ) → IsLawful m h → Heard h → Moves h n node.acceptor.state a.state o)
     → GoesOn m Heard node (with_acceptor node a) nothing (with_optional o nothing)
 moves_goes_on m Heard node a o written binding moves = record {
   binds = λ first b. record {
     header = b.header;
     written = written ∙ ap (with_written o) b.written ∙ one o first.acceptor.state;
     unsynced = all_decided o binding;
+    still = λ e. absurd (no_rebase o e);
     tells = λ l c. absurd (none l (subst (λ ls. Contains ls l) (optional_entries o) c));
   };
   serves = λ h n loose s heard.
@@ -133,9 +138,9 @@ unmoved h n a new o same none = record {
 }
 
 -- a promise
-promised_moves : (h : History) (n : ℕ) (a : AcceptorValue) (b : BallotValue) (first : ℕ) (r : Response) (new : AcceptorValue) → IsLawful h → IsAtMost a.state.promised b → Promises a b first r new
+promised_moves : (m : Meaning) (h : History) (n : ℕ) (a : AcceptorValue) (b : BallotValue) (first : ℕ) (r : Response) (new : AcceptorValue) → IsLawful m h → IsAtMost a.state.promised b → Promises a b first r new
     → Moves h n a.state new.state r.entry
-promised_moves h n a b first r new lawful most p = record {
+promised_moves m h n a b first r new lawful most p = record {
   changes = λ w is f. subst (λ (s : AcceptorState). ViewFits h.genesis h.sent n (view_with w s)) (ap (λ (s : AcceptorState). with_promise s b) is ∙ sym (state_of a (with_promise a.state b) new p.state))
       (change_fits h.genesis h.sent lawful.sound n w (view_with w (with_promise w.acceptor b)) f (promises b (subst (λ (s : AcceptorState). IsAtMost s.promised b) (sym is) most)));
   rests = λ x is. elim p.entry [
@@ -145,9 +150,9 @@ promised_moves h n a b first r new lawful most p = record {
 }
 
 -- a vote for what was proposed
-voted_moves : (h : History) (n : ℕ) (a : AcceptorValue) (x : Vote) (r : Response) (new : AcceptorValue) → IsLawful h → WasSent h.genesis h.sent (kinds.Accept x) → IsOrdered a.state
+voted_moves : (m : Meaning) (h : History) (n : ℕ) (a : AcceptorValue) (x : Vote) (r : Response) (new : AcceptorValue) → IsLawful m h → WasSent h.genesis h.sent (kinds.Accept x) → IsOrdered a.state
     → IsAtMost a.state.promised x.ballot → ((v : Vote) → Contains a.state.votes v → Agrees v x) → Votes a x r new → Moves h n a.state new.state r.entry
-voted_moves h n a x r new lawful was ordered most agree p = record {
+voted_moves m h n a x r new lawful was ordered most agree p = record {
   changes = λ w is f. subst (λ (s : AcceptorState). ViewFits h.genesis h.sent n (view_with w s)) (sym (state_of a (with_vote a.state x) new p.state))
       (change_fits h.genesis h.sent lawful.sound n w (view_with w (with_vote a.state x)) f
       (accepts x (with_vote a.state x) (subst (λ (s : AcceptorState). IsAtMost s.promised x.ballot) (sym is) most) was
@@ -158,15 +163,15 @@ voted_moves h n a x r new lawful was ordered most agree p = record {
   ];
 }
 
-prepare_moves : (h : History) (n : ℕ) (a : AcceptorValue) (e : ℕ) (b : BallotValue) (first : ℕ) (r : Response) (new : AcceptorValue) → IsLawful h → AnswersPrepare a e b first r new
+prepare_moves : (m : Meaning) (h : History) (n : ℕ) (a : AcceptorValue) (e : ℕ) (b : BallotValue) (first : ℕ) (r : Response) (new : AcceptorValue) → IsLawful m h → AnswersPrepare a e b first r new
     → Moves h n a.state new.state r.entry
-prepare_moves h n a e b first r new lawful (inl granted) = promised_moves h n a b first r new lawful granted.0.ballot granted.1
-prepare_moves h n a e b first r new lawful (inr refused) = unmoved h n a new r.entry refused.1.state refused.1.entry
+prepare_moves m h n a e b first r new lawful (inl granted) = promised_moves m h n a b first r new lawful granted.0.ballot granted.1
+prepare_moves m h n a e b first r new lawful (inr refused) = unmoved h n a new r.entry refused.1.state refused.1.entry
 
-accept_moves : (h : History) (n : ℕ) (a : AcceptorValue) (e : ℕ) (x : Vote) (r : Response) (new : AcceptorValue) → IsLawful h → WasSent h.genesis h.sent (kinds.Accept x) → IsOrdered a.state → AnswersAccept a e x r new
+accept_moves : (m : Meaning) (h : History) (n : ℕ) (a : AcceptorValue) (e : ℕ) (x : Vote) (r : Response) (new : AcceptorValue) → IsLawful m h → WasSent h.genesis h.sent (kinds.Accept x) → IsOrdered a.state → AnswersAccept a e x r new
     → Moves h n a.state new.state r.entry
-accept_moves h n a e x r new lawful was ordered (inl granted) = voted_moves h n a x r new lawful was ordered granted.0.ballot granted.0.agree granted.1
-accept_moves h n a e x r new lawful was ordered (inr refused) = unmoved h n a new r.entry refused.1.state refused.1.entry
+accept_moves m h n a e x r new lawful was ordered (inl granted) = voted_moves m h n a x r new lawful was ordered granted.0.ballot granted.0.agree granted.1
+accept_moves m h n a e x r new lawful was ordered (inr refused) = unmoved h n a new r.entry refused.1.state refused.1.entry
 
 -- their entries are promises and votes
 prepare_binding : (a : AcceptorValue) (e : ℕ) (b : BallotValue) (first : ℕ) (r : Response) (new : AcceptorValue) → AnswersPrepare a e b first r new → (x : Entry) → r.entry ≡ Some x → IsDecided x → ⊥
@@ -212,7 +217,7 @@ replied_alike m Heard reply node out = by_test (is_granted reply)
 responds_goes_on : (m : Meaning) (Heard : History → Type 0) (old new : NodeValue) (from : ℕ) (Answer : Response → AcceptorValue → Type 0) (out : OutboxValue) (k : Responds old from Answer new out)
     → k.acceptor.state ≡ with_written k.response.entry old.acceptor.state
     → ((e : Entry) → k.response.entry ≡ Some e → IsDecided e → ⊥)
-    → ((h : History) (n : ℕ) → IsLawful h → Heard h → Moves h n old.acceptor.state k.acceptor.state k.response.entry)
+    → ((h : History) (n : ℕ) → IsLawful m h → Heard h → Moves h n old.acceptor.state k.acceptor.state k.response.entry)
     → Covers k.acceptor.state k.response.reply
     → ((genesis : Genesis) (sent : List Datagram) (w : View) → w.acceptor ≡ k.acceptor.state → MaySend genesis sent w k.response.reply)
     → ((h : History) (L : List Command) → BearsOutMessage m h L k.response.reply)
@@ -222,7 +227,7 @@ responds_goes_on m Heard old new from Answer out k written binding moves covers 
     (then_goes_on m Heard old (with_acceptor old k.acceptor) (replied k.response.reply (with_acceptor old k.acceptor)) nothing (with_optional k.response.entry nothing) (reply_to old from k.response)
     (moves_goes_on m Heard old k.acceptor k.response.entry written binding moves)
     (then_goes_on m Heard (with_acceptor old k.acceptor) (with_acceptor old k.acceptor) (replied k.response.reply (with_acceptor old k.acceptor)) (with_optional k.response.entry nothing) (reply_to old from k.response) (reply_to old from k.response)
-    (says m Heard (with_acceptor old k.acceptor) (with_optional k.response.entry nothing) (to_node old from) k.response.reply k.fits covers
+    (says m Heard (with_acceptor old k.acceptor) (with_optional k.response.entry nothing) (to_node old from) k.response.reply k.fits covers (λ e. absurd (no_rebase k.response.entry e))
     (λ h n loose s heard. (may h.genesis h.sent s.holding.view s.held.acceptor, record { under = s.holding.view.done; chosen = s.fits.view.stems.done; bears = bears h s.holding.view.done })))
     (replied_alike m Heard k.response.reply (with_acceptor old k.acceptor) (reply_to old from k.response))))
 
@@ -232,7 +237,7 @@ prepare_goes_on m old new from e b first out k =
     responds_goes_on m (λ h. Unit {0}) old new from (AnswersPrepare old.acceptor e b first) out k
     (prepare_written old.acceptor e b first k.response k.acceptor k.answers)
     (prepare_binding old.acceptor e b first k.response k.acceptor k.answers)
-    (λ h n lawful heard. prepare_moves h n old.acceptor e b first k.response k.acceptor lawful k.answers)
+    (λ h n lawful heard. prepare_moves m h n old.acceptor e b first k.response k.acceptor lawful k.answers)
     (prepare_covered old.acceptor e b first k.response k.acceptor k.answers)
     (λ genesis sent w is. prepare_may genesis sent w old.acceptor e b first k.response k.acceptor k.answers is)
     (prepare_bears old.acceptor e b first k.response k.acceptor k.answers m)
@@ -243,7 +248,7 @@ accept_goes_on m old new from e x out ordered k =
     responds_goes_on m (λ h. HasSent h.genesis h.sent from (kinds.Accept x)) old new from (AnswersAccept old.acceptor e x) out k
     (accept_written old.acceptor e x k.response k.acceptor ordered k.answers)
     (accept_binding old.acceptor e x k.response k.acceptor k.answers)
-    (λ h n lawful heard. accept_moves h n old.acceptor e x k.response k.acceptor lawful (record { sender = from; has_sent = heard }) ordered k.answers)
+    (λ h n lawful heard. accept_moves m h n old.acceptor e x k.response k.acceptor lawful (record { sender = from; has_sent = heard }) ordered k.answers)
     (accept_covered old.acceptor e x k.response k.acceptor ordered k.answers)
     (λ genesis sent w is. accept_may genesis sent w old.acceptor e x k.response k.acceptor ordered k.answers is)
     (accept_bears old.acceptor e x k.response k.acceptor k.answers m)

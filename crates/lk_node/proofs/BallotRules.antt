@@ -50,6 +50,7 @@ begins_goes_on m Heard node b own below = record {
     header = k.header;
     written = own_written node.acceptor.state b below ∙ ap (written_by (entry.Promise b)) k.written;
     unsynced = λ e. absurd (cc e);
+    still = λ e. absurd (cc e);
     tells = λ l c. absurd (omega (arith, c.1));
   };
   serves = λ h n loose s heard. record {
@@ -89,7 +90,7 @@ pub asks_goes_on : (m : Meaning) (Heard : History → Type 0) (node : NodeValue)
 asks_goes_on m Heard node b first nodes own below fits =
     then_goes_on m Heard node (beginning b node) (beginning b node) nothing (with_entry (entry.Promise b) nothing) (telling (beginning b node) nodes (kinds.Prepare b first) (with_entry (entry.Promise b) nothing))
     (begins_goes_on m Heard node b own below)
-    (says_all m Heard (beginning b node) (with_entry (entry.Promise b) nothing) nodes (kinds.Prepare b first) fits (inr refl)
+    (says_all m Heard (beginning b node) (with_entry (entry.Promise b) nothing) nodes (kinds.Prepare b first) fits (inr refl) (λ e. tt)
     (λ o h n loose s heard. (subst (λ (a : AcceptorState). IsAtMost b a.promised) (sym s.held.acceptor) (inr refl), record { under = s.holding.view.done; chosen = s.fits.view.stems.done; bears = tt })))
 
 pub starts_goes_on : (m : Meaning) (Heard : History → Type 0) (old new : NodeValue) (b : BallotValue) (out : OutboxValue) → b.node ≡ old.header.node → IsBelow old.acceptor.state.promised b → Begins b old new out

@@ -34,7 +34,9 @@ binds_alike first old new out like b = record {
   header = like.header ∙ b.header;
   written = ap (λ (a : AcceptorValue). a.state) like.acceptor ∙ b.written;
   unsynced = b.unsynced;
-  tells = λ l c. subst (λ (w : HeaderValue). Tells w new.acceptor.state l) (sym like.header) (subst (λ (a : AcceptorValue). Tells old.header a.state l) (sym like.acceptor) (b.tells l c));
+  still = λ e. ap (λ (a : AcceptorValue). a.state) like.acceptor ∙ b.still e;
+  tells = λ l c. subst (λ (w : HeaderValue). Tells w new.acceptor.state out.rebase l) (sym like.header)
+      (subst (λ (a : AcceptorValue). Tells old.header a.state out.rebase l) (sym like.acceptor) (b.tells l c));
 }
 
 -- the leader stays too
@@ -147,7 +149,8 @@ change_goes_on m Heard old new out header state f = record {
     header = header ∙ b.header;
     written = state ∙ b.written;
     unsynced = b.unsynced;
-    tells = λ l c. subst (λ (w : HeaderValue). Tells w new.acceptor.state l) (sym header) (subst (λ (a : AcceptorState). Tells old.header a l) (sym state) (b.tells l c));
+    still = λ e. state ∙ b.still e;
+    tells = λ l c. subst (λ (w : HeaderValue). Tells w new.acceptor.state out.rebase l) (sym header) (subst (λ (a : AcceptorState). Tells old.header a out.rebase l) (sym state) (b.tells l c));
   };
   serves = λ h n loose s heard.
       let u = f h n loose s heard in

@@ -242,7 +242,7 @@ chosen_alone h i v chosen (suc k) u at = absurd (nothing k at)
     nothing (suc j) e = cc e
 
 abbrev lettered : OutboxValue → List LetterValue → OutboxValue
-lettered out ls = record { entries = out.entries; sync = out.sync; notes = out.notes; letters = ls }
+lettered out ls = record { rebase = out.rebase; entries = out.entries; sync = out.sync; notes = out.notes; letters = ls }
 
 news_go_on : (m : Meaning) (i : ℕ) (v : Command) (was node : NodeValue) (out : OutboxValue) (nodes : List ℕ) → node.header ≡ was.header → IsMessage (saying was.header (news_of (i, v)))
     → GoesOn m (Chooses i v) node node out (with_letters (map (letter_to was (news_of (i, v))) nodes) out)
@@ -254,7 +254,7 @@ news_go_on m i v was node out (k ∷ nodes) same fits =
     subst (λ (ls : List LetterValue). GoesOn m (Chooses i v) node node out (lettered out ls)) (append_assoc out.letters (one ∷ []) (map (letter_to was (news_of (i, v))) nodes))
     (then_goes_on m (Chooses i v) node node node out sent (with_letters (map (letter_to was (news_of (i, v))) nodes) sent)
     (subst (λ (bs : List ℕ). GoesOn m (Chooses i v) node node out (with_letter (record { to = to_node was k; bytes = bs }) out)) bytes
-    (says m (Chooses i v) node out (to_node was k) (news_of (i, v)) (subst (λ (w : HeaderValue). IsMessage (saying w (news_of (i, v)))) (sym same) fits) tt
+    (says m (Chooses i v) node out (to_node was k) (news_of (i, v)) (subst (λ (w : HeaderValue). IsMessage (saying w (news_of (i, v)))) (sym same) fits) tt (λ e. tt)
     (λ h n loose s heard. (chosen_alone h i v heard, record { under = s.holding.view.done; chosen = s.fits.view.stems.done; bears = tt }))))
     (news_go_on m i v was node sent nodes same fits))
 

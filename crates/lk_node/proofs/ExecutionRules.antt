@@ -274,12 +274,12 @@ tells_client m Heard node out s number le at fits = by_test (nat_lt number s.num
 
     by_test : (below : Bool) → nat_lt number s.number ≡ below → IsMessage (saying node.header (message below))
         → GoesOn m Heard node node out (with_letter (record { to = to.Client s.client; bytes = spelling (saying node.header (message below)) }) out)
-    by_test true e f = says m Heard node out (to.Client s.client) (message true) f tt (λ h n loose k heard.
+    by_test true e f = says m Heard node out (to.Client s.client) (message true) f tt (λ e. tt) (λ h n loose k heard.
         let w : View = k.holding.view in
         (tt, record { under = w.done; chosen = k.fits.view.stems.done; bears = (s.answer, session_is_reply m h.genesis w.done w.pairs node.learner s.client s k.held.follows at) }))
     by_test false e f =
         let same : s.number ≡ number = (let ge = ltb-false number s.number e in omega (arith, le, ge)) in
-        says m Heard node out (to.Client s.client) (message false) f tt (λ h n loose k heard.
+        says m Heard node out (to.Client s.client) (message false) f tt (λ e. tt) (λ h n loose k heard.
         let w : View = k.holding.view in (
           tt,
           record {

@@ -93,33 +93,33 @@ optional_few (Some e) = omega arith
 none_written : (out : OutboxValue) → out.entries ≡ [] → length out.entries ≤ 16
 none_written out e = omega (arith, ap length e)
 
-heard_few : (m : Meaning) (old : NodeValue) (from : ℕ) (x : NodeMessage) (new : NodeValue) (out : OutboxValue) → ((d : DecidedValue) → x ≡ kinds.Decided d → length d.commands ≤ 16)
-    → HearsNode m old from x new out → length out.entries ≤ 16
-heard_few m old from (kinds.Prepare b first) new out short r = omega (arith, optional_few r.response.entry, ap (λ (o : OutboxValue). length o.entries) r.comes_to)
-heard_few m old from (kinds.Accept x) new out short r = omega (arith, optional_few r.response.entry, ap (λ (o : OutboxValue). length o.entries) r.comes_to)
-heard_few m old from (kinds.Promise p) new out short h = none_written out (ap (λ (o : OutboxValue). o.entries) h.1)
-heard_few m old from (kinds.Accepted x) new out short h = elim h [
+heard_few : (m : Meaning) (IsText : List ℕ → Type 0) (old : NodeValue) (from : ℕ) (x : NodeMessage) (new : NodeValue) (out : OutboxValue) → ((d : DecidedValue) → x ≡ kinds.Decided d → length d.commands ≤ 16)
+    → HearsNode m IsText old from x new out → length out.entries ≤ 16
+heard_few m IsText old from (kinds.Prepare b first) new out short r = omega (arith, optional_few r.response.entry, ap (λ (o : OutboxValue). length o.entries) r.comes_to)
+heard_few m IsText old from (kinds.Accept x) new out short r = omega (arith, optional_few r.response.entry, ap (λ (o : OutboxValue). length o.entries) r.comes_to)
+heard_few m IsText old from (kinds.Promise p) new out short h = none_written out (ap (λ (o : OutboxValue). o.entries) h.1)
+heard_few m IsText old from (kinds.Accepted x) new out short h = elim h [
   | inl k ↦ (let c = k.2 in omega (arith, learned_few _ _ c.learned _ c.written c.learns, ap length (ran_same m c.learned c.written new c.ran c.runs.0), ap (λ (o : OutboxValue). length o.entries) c.comes_to))
   | inr k ↦ none_written out (ap (λ (o : OutboxValue). o.entries) k.1)
 ]
-heard_few m old from (kinds.Decided d) new out short h = omega (arith, short d refl, pairs_few m d.first d.commands old nothing (length d.commands) new out h)
-heard_few m old from (kinds.Nack k) new out short h = none_written out (elim h.1 [
+heard_few m IsText old from (kinds.Decided d) new out short h = omega (arith, short d refl, pairs_few m d.first d.commands old nothing (length d.commands) new out h)
+heard_few m IsText old from (kinds.Nack k) new out short h = none_written out (elim h.1 [
   | inl a ↦ elim a.1 [ inl s ↦ ap (λ (o : OutboxValue). o.entries) s.1.1 | inr s ↦ ap (λ (o : OutboxValue). o.entries) s.1 ]
   | inr (inl a) ↦ elim a.1 [ inl s ↦ ap (λ (o : OutboxValue). o.entries) s.1.1 | inr s ↦ ap (λ (o : OutboxValue). o.entries) s.1 ]
   | inr (inr a) ↦ ap (λ (o : OutboxValue). o.entries) a.1
 ])
-heard_few m old from (kinds.Want w) new out short h = none_written out (elim h.1 [ inl s ↦ ap (λ (o : OutboxValue). o.entries) s.1.1 | inr s ↦ ap (λ (o : OutboxValue). o.entries) s.1 ])
-heard_few m old from (kinds.Lead b executed) new out short h = none_written out (elim h [
+heard_few m IsText old from (kinds.Want w) new out short h = none_written out (elim h.1 [ inl s ↦ ap (λ (o : OutboxValue). o.entries) s.1.1 | inr s ↦ ap (λ (o : OutboxValue). o.entries) s.1 ])
+heard_few m IsText old from (kinds.Lead b executed) new out short h = none_written out (elim h [
   | inl a ↦ ap (λ (o : OutboxValue). o.entries) a.2.1
   | inr a ↦ elim a.2 [
     | inl c ↦ elim c.1 [ inl s ↦ ap (λ (o : OutboxValue). o.entries) s.1.1 | inr s ↦ ap (λ (o : OutboxValue). o.entries) s.1 ]
     | inr c ↦ ap (λ (o : OutboxValue). o.entries) c.1
   ]
 ])
-heard_few m old from (kinds.Part p) new out short h = none_written out (ap (λ (o : OutboxValue). o.entries) h.1)
-heard_few m old from (kinds.Answer a) new out short h = none_written out (ap (λ (o : OutboxValue). o.entries) h.1)
-heard_few m old from (kinds.Elsewhere e) new out short h = none_written out (ap (λ (o : OutboxValue). o.entries) h.1)
-heard_few m old from (kinds.Passed p) new out short h = none_written out (ap (λ (o : OutboxValue). o.entries) h.1)
+heard_few m IsText old from (kinds.Part p) new out short h = none_written out (ap (λ (o : OutboxValue). o.entries) h.1)
+heard_few m IsText old from (kinds.Answer a) new out short h = none_written out (ap (λ (o : OutboxValue). o.entries) h.1)
+heard_few m IsText old from (kinds.Elsewhere e) new out short h = none_written out (ap (λ (o : OutboxValue). o.entries) h.1)
+heard_few m IsText old from (kinds.Passed p) new out short h = none_written out (ap (λ (o : OutboxValue). o.entries) h.1)
 
 asked_few : (old : NodeValue) (r : RequestValue) (new : NodeValue) (out : OutboxValue) → HearsRequest old r new out → out.entries ≡ []
 asked_few old r new out = at (seen_as (session_of r.client old.learner.whole.sessions) r.number)
@@ -159,15 +159,15 @@ ticked_few old new out t = elim t [
 -- ---- a step
 
 -- a step writes at most 16 entries: that many decided commands, or one vote or promise
-pub few_entries : (m : Meaning) (old : NodeValue) (i : Input) (new : NodeValue) (out : OutboxValue) → Steps m old i new out → length out.entries ≤ 16
-few_entries m old input.Tick new out t = ticked_few old new out t
-few_entries m old (input.Datagram bytes) new out t =
+pub few_entries : (m : Meaning) (IsText : List ℕ → Type 0) (old : NodeValue) (i : Input) (new : NodeValue) (out : OutboxValue) → Steps m IsText old i new out → length out.entries ≤ 16
+few_entries m IsText old input.Tick new out t = ticked_few old new out t
+few_entries m IsText old (input.Datagram bytes) new out t =
     let heard : length t.first.entries ≤ 16 = elim t.takes [
       | inl h ↦ by_content h.0.content h.1.0.1 h.3
       | inr h ↦ none_written t.first (ap (λ (o : OutboxValue). o.entries) h.1.1)
     ] in
     omega (arith, heard, ap length (proposed_same t.proposes.0 t.mid new t.first out t.proposes.1))
   where
-    by_content : (c : Content) → IsContent c → Hears m old c t.mid t.first → length t.first.entries ≤ 16
+    by_content : (c : Content) → IsContent c → Hears m IsText old c t.mid t.first → length t.first.entries ≤ 16
     by_content (content.Request r) fits h = none_written t.first (asked_few old r t.mid t.first h)
-    by_content (content.Node from x) fits h = heard_few m old from x t.mid t.first (λ d e. few_commands d.first d.commands (subst (λ z. IsNodeMessage z) e fits.1).2) h
+    by_content (content.Node from x) fits h = heard_few m IsText old from x t.mid t.first (λ d e. few_commands d.first d.commands (subst (λ z. IsNodeMessage z) e fits.1).2) h

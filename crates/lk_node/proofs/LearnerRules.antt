@@ -54,6 +54,7 @@ writes_decided m Heard node out i v kept chosen = record {
     header = b.header;
     written = b.written ∙ sym (pushed out.entries (entry.Decided i v) first.acceptor.state);
     unsynced = λ e. all_push TellsDecided out.entries (entry.Decided i v) (b.unsynced (unsynced_before out.sync e)) tt;
+    still = b.still;
     tells = b.tells;
   };
   serves = λ h n loose s heard. record {

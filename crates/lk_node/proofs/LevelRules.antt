@@ -33,7 +33,7 @@ pub alone_goes_on : (m : Meaning) (Heard : History → Type 0) (node : NodeValue
     → GoesOn m Heard node node nothing out
 alone_goes_on m Heard node to message out k covers may =
     subst (GoesOn m Heard node node nothing) (sym k.1)
-    (says m Heard node nothing to message k.0 covers (λ h n loose s heard.
+    (says m Heard node nothing to message k.0 covers (λ e. absurd (cc e)) (λ h n loose s heard.
     ((may h n loose s).0, record { under = s.holding.view.done; chosen = s.fits.view.stems.done; bears = (may h n loose s).1 })))
 
 -- ---- what a ballot that is seen changes

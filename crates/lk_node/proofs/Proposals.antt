@@ -135,7 +135,7 @@ roster_sums : (m : Meaning) (genesis : Genesis) (done : List Command) (w : Whole
 unfolding whole_after
 roster_sums m genesis done w sums = ap (λ (k : WholeValue). k.roster) sums
 
-module _ (m : Meaning) (h : History) (n : ℕ) (old : NodeValue) (x : Holding) (held : IsHeld m old h.genesis x) (fits : HoldingFits m h n x) (lawful : IsLawful h) (t : Term) (is : x.view.term ≡ Some t) where
+module _ (m : Meaning) (h : History) (n : ℕ) (old : NodeValue) (x : Holding) (held : IsHeld m old h.genesis x) (fits : HoldingFits m h n x) (lawful : IsLawful m h) (t : Term) (is : x.view.term ≡ Some t) where
   -- what was reported in the term, or waits, was asked
   was_asked : (v : Command) → ((y : Vote) × IsReported t.reports y × (y.command ≡ v)) ⊎ (((q : RequestValue) × Contains old.leader.waiting q × (v ≡ Request q)) ⊎ (v ≡ Noop)) → WasAsked h v
   was_asked v (inl reported) =
@@ -179,7 +179,7 @@ proposal_goes_on m old x p out promised fits =
           (proposes_asked roster.executed (length roster.sets) t k old.leader.waiting roster p.proposes.set x.position x.command lead.2 p.proposes.value))
     ])))
     (says_all m (λ h. Unit {0}) (having_proposed old x p) out (nodes_of p.proposes.set) (kinds.Accept x) fits
-    (subst (λ (b : BallotValue). IsAtMost b old.acceptor.state.promised) (sym p.ballot) (promised k p.current))
+    (subst (λ (b : BallotValue). IsAtMost b old.acceptor.state.promised) (sym p.ballot) (promised k p.current)) (λ e. tt)
     (λ o h n loose s heard. accept_may m h n loose (having_proposed old x p) o s (proposed roster x.position x.command k) q x refl
     (Contains-append_right (in_window roster.executed (length roster.sets) k.proposals) (q ∷ []) q (0, omega arith, refl))
     (ap (λ (b : BallotValue). record { position = x.position; ballot = b; command = x.command }) p.ballot)))

@@ -22,7 +22,7 @@ use Rattle.lk_node.specs.NodeValue.{NodeValue}
 use Rattle.lk_node.specs.Outboxes.{OutboxValue, nothing, with_letter, with_note}
 use Rattle.lk_node.specs.Saying.{saying}
 use Rattle.lk_node.specs.Served.{IsServed, IsOfNode, IsBorneOut}
-use Rattle.lk_node.specs.Serving.{Tells, Binds, Serves, GoesOn}
+use Rattle.lk_node.specs.Serving.{IsLight, Tells, Binds, Serves, GoesOn}
 use Rattle.lk_node.specs.Steps.{WasHeard}
 use Rattle.lk_node.specs.declared.note.Note.{Note}
 use Rattle.lk_node.specs.declared.to.To.{To}
@@ -58,16 +58,17 @@ letter node to message = record { to = to; bytes = spelling (saying node.header 
 
 -- a letter of a message that the node may send, and that its acceptor covers
 pub says : (m : Meaning) (Heard : History → Type 0) (node : NodeValue) (out : OutboxValue) (to : To) (message : NodeMessage) → IsMessage (saying node.header message) → Covers node.acceptor.state message
-    → ((h : History) (n : ℕ) (loose : List Entry) (s : Serves m h n loose node out) → Heard h → MaySend h.genesis h.sent s.holding.view message × IsServed m h message)
+    → (out.rebase ≡ true → IsLight message) → ((h : History) (n : ℕ) (loose : List Entry) (s : Serves m h n loose node out) → Heard h → MaySend h.genesis h.sent s.holding.view message × IsServed m h message)
     → GoesOn m Heard node node out (with_letter (letter node to message) out)
-says m Heard node out to message fits covers may = record {
+says m Heard node out to message fits covers light may = record {
   binds = λ first b. record {
     header = b.header;
     written = b.written;
     unsynced = b.unsynced;
+    still = b.still;
     tells = λ l c. elim (Contains-append_cases out.letters (letter node to message ∷ []) l c) [
       | inl before ↦ b.tells l before
-      | inr now ↦ subst (Tells node.header node.acceptor.state) (only (letter node to message) l now) (record { message = message; fits = fits; bytes = refl; covers = covers })
+      | inr now ↦ subst (Tells node.header node.acceptor.state out.rebase) (only (letter node to message) l now) (record { message = message; fits = fits; bytes = refl; covers = covers; light = light })
     ];
   };
   serves = λ h n loose s heard. record {
@@ -117,7 +118,7 @@ bytes_go_on m old new out msg bytes spelled same f =
 pub notes : (m : Meaning) (Heard : History → Type 0) (node : NodeValue) (out : OutboxValue) (x : Note) → IsOfNode x
     → ((h : History) (n : ℕ) (loose : List Entry) (s : Serves m h n loose node out) → Heard h → IsBorneOut m h x) → GoesOn m Heard node node out (with_note x out)
 notes m Heard node out x own bears = record {
-  binds = λ first b. record { header = b.header; written = b.written; unsynced = b.unsynced; tells = b.tells };
+  binds = λ first b. record { header = b.header; written = b.written; unsynced = b.unsynced; still = b.still; tells = b.tells };
   serves = λ h n loose s heard. record {
     lawful = s.lawful;
     whose = s.whose;

@@ -113,24 +113,24 @@ pairs_settle m first commands old before _ _ _ (one_more v so_far at takes) none
 
 -- ---- a whole step
 
-node_settles : (m : Meaning) (from : ℕ) (x : NodeMessage) (old new : NodeValue) (out : OutboxValue) → HearsNode m old from x new out → Settles old new
-node_settles m from (kinds.Prepare b first) old new out k = responds_settles old new from _ out k
-node_settles m from (kinds.Accept x) old new out k = responds_settles (with_round x.ballot old) new from _ out k
-node_settles m from (kinds.Promise p) old new out k = promise_settles old new from p out k
-node_settles m from (kinds.Accepted x) old new out k = accepted_settles m from x old new out k
-node_settles m from (kinds.Decided d) old new out k = pairs_settle m d.first d.commands old _ _ new out k
-node_settles m from (kinds.Nack n) old new out k = stays_as old (seeing n.promised (seeing n.ballot old)) new (seeing_learner n.promised (seeing n.ballot old) ∙ seeing_learner n.ballot old) k.0
-node_settles m from (kinds.Want w) old new out k = stays_as old old new refl k.0
-node_settles m from (kinds.Lead b executed) old new out k = lead_settles old new from b executed out k
-node_settles m from _ old new out k = stays_as old old new refl k.0
+node_settles : (m : Meaning) (IsText : List ℕ → Type 0) (from : ℕ) (x : NodeMessage) (old new : NodeValue) (out : OutboxValue) → HearsNode m IsText old from x new out → Settles old new
+node_settles m IsText from (kinds.Prepare b first) old new out k = responds_settles old new from _ out k
+node_settles m IsText from (kinds.Accept x) old new out k = responds_settles (with_round x.ballot old) new from _ out k
+node_settles m IsText from (kinds.Promise p) old new out k = promise_settles old new from p out k
+node_settles m IsText from (kinds.Accepted x) old new out k = accepted_settles m from x old new out k
+node_settles m IsText from (kinds.Decided d) old new out k = pairs_settle m d.first d.commands old _ _ new out k
+node_settles m IsText from (kinds.Nack n) old new out k = stays_as old (seeing n.promised (seeing n.ballot old)) new (seeing_learner n.promised (seeing n.ballot old) ∙ seeing_learner n.ballot old) k.0
+node_settles m IsText from (kinds.Want w) old new out k = stays_as old old new refl k.0
+node_settles m IsText from (kinds.Lead b executed) old new out k = lead_settles old new from b executed out k
+node_settles m IsText from _ old new out k = stays_as old old new refl k.0
 
-content_settles : (m : Meaning) (x : Content) (old new : NodeValue) (out : OutboxValue) → Hears m old x new out → Settles old new
-content_settles m (content.Request r) old new out k = taken_settles (seen_as (session_of r.client old.learner.whole.sessions) r.number) old new r out k
-content_settles m (content.Node from x) old new out k = node_settles m from x old new out k
+content_settles : (m : Meaning) (IsText : List ℕ → Type 0) (x : Content) (old new : NodeValue) (out : OutboxValue) → Hears m IsText old x new out → Settles old new
+content_settles m IsText (content.Request r) old new out k = taken_settles (seen_as (session_of r.client old.learner.whole.sessions) r.number) old new r out k
+content_settles m IsText (content.Node from x) old new out k = node_settles m IsText from x old new out k
 
-bytes_settle : (m : Meaning) (bytes : List ℕ) (old new : NodeValue) (out : OutboxValue) → TakesBytes m old bytes new out → Settles old new
-bytes_settle m bytes old new out (inl heard) = content_settles m heard.0.content old new out heard.3
-bytes_settle m bytes old new out (inr foreign) = stays_as old old new refl foreign.1.0
+bytes_settle : (m : Meaning) (IsText : List ℕ → Type 0) (bytes : List ℕ) (old new : NodeValue) (out : OutboxValue) → TakesBytes m IsText old bytes new out → Settles old new
+bytes_settle m IsText bytes old new out (inl heard) = content_settles m IsText heard.0.content old new out heard.3
+bytes_settle m IsText bytes old new out (inr foreign) = stays_as old old new refl foreign.1.0
 
 due_settles : (old new : NodeValue) (out : OutboxValue) → BeginsWhereDue old new out → Settles old new
 due_settles old new out (inl begins) = stays_as old _ new refl begins.1.becomes
@@ -142,7 +142,7 @@ tick_settles old new out (inl reminds) =
     stays old new (proposed_learner proposes.0 old new reminds.2.offered reminds.2.proposed proposes.1)
 tick_settles old new out (inr waits) = due_settles (ticked old) new out waits.1
 
-pub step_settles : (m : Meaning) (old : NodeValue) (i : Input) (new : NodeValue) (out : OutboxValue) → Steps m old i new out → NothingToRun old → NothingToRun new
-step_settles m old input.Tick new out k none = tick_settles old new out k none
-step_settles m old (input.Datagram bytes) new out k none =
-    stays k.mid new (proposed_learner k.proposes.0 k.mid new k.first out k.proposes.1) (bytes_settle m bytes.now old k.mid k.first k.takes none)
+pub step_settles : (m : Meaning) (IsText : List ℕ → Type 0) (old : NodeValue) (i : Input) (new : NodeValue) (out : OutboxValue) → Steps m IsText old i new out → NothingToRun old → NothingToRun new
+step_settles m IsText old input.Tick new out k none = tick_settles old new out k none
+step_settles m IsText old (input.Datagram bytes) new out k none =
+    stays k.mid new (proposed_learner k.proposes.0 k.mid new k.first out k.proposes.1) (bytes_settle m IsText bytes.now old k.mid k.first k.takes none)

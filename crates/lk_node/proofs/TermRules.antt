@@ -46,7 +46,7 @@ pub some_value : (a b : TermValue) → Some a ≡ Some b → a ≡ b
 some_value a b e = cc e
 
 -- a term of the same ballot that has all proposals of the one before, and for which the leader stands
-pub term_followed : (m : Meaning) (h : History) (n : ℕ) (old : NodeValue) (x : Holding) (t u : Term) (k : TermValue) → IsHeld m old h.genesis x → HoldingFits m h n x → IsLawful h → x.view.term ≡ Some t
+pub term_followed : (m : Meaning) (h : History) (n : ℕ) (old : NodeValue) (x : Holding) (t u : Term) (k : TermValue) → IsHeld m old h.genesis x → HoldingFits m h n x → IsLawful m h → x.view.term ≡ Some t
     → Changes h.genesis h.sent n x.view (changes.with_term x.view (Some u)) → StandsFor old.learner.whole.roster.executed (length old.learner.whole.roster.sets) u k → u.ballot ≡ t.ballot
     → ((p : Pair) → Contains t.proposals p → Contains u.proposals p) → ((i : ℕ) (v : Command) → Contains u.proposals (i, v) → WasAsked h v)
     → IsFollowed m h n x.view (with_leader old (with_term k old.leader))

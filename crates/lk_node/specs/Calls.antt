@@ -37,7 +37,7 @@ pub record MayGo (m : Meaning) (h : History) (n : ℕ) (w : View) (d : Datagram)
 -- The node fits: the history is lawful, what it holds fits, and so does whatever a stop may leave. `Shows` tells what the
 -- replica holds.
 pub record NodeFits (m : Meaning) (h : History) (n : ℕ) (Shows : Holding → Type 0) (disks : Side → Disk) : Type 0 where
-  pub lawful : IsLawful h
+  pub lawful : IsLawful m h
   pub holding : Holding
   pub shown : Shows holding
   pub fits : HoldingFits m h n holding

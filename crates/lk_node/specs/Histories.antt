@@ -6,9 +6,15 @@ pub use Rattle.lk_types.specs.declared.command.Command.TheVariants.{Noop, Reques
 pub use Rattle.lk_history.specs.Datagrams.{Datagram}
 use Rattle.std.specs.Prelude.{ℕ, List, ◌++◌, Contains}
 use Rattle.lk_wire.specs.Grammar.{Spells}
+use Rattle.lk_wire.specs.Values.{PartValue}
 use Rattle.lk_wire.specs.declared.message.Content.TheVariants as content
+use Rattle.lk_wire.specs.declared.message.NodeMessage.TheVariants.{Part}
 use Rattle.lk_history.specs.Datagrams.{NodeMessage, Vote, Accept, said_by, HasSent, WasSent}
+use Rattle.lk_history.specs.Snapshots.{IsSlice}
 use Rattle.lk_history.specs.Soundness.{Sound}
+use Rattle.lk_state.specs.Meanings.{Meaning}
+use Rattle.lk_state.specs.Packed.{packed}
+use Rattle.lk_state.specs.States.{whole_after}
 
 -- how the cluster began, all datagrams that were ever sent, and all requests that were ever asked
 pub record History : Type 0 where
@@ -25,10 +31,16 @@ abbrev pub WasAsked : History → Command → Type 0
 WasAsked h Noop = Unit {0}
 WasAsked h (Request r) = Contains h.asked r
 
--- all that was ever sent is sound, and what was proposed was asked
-pub record IsLawful (h : History) : Type 0 where
+-- the packed text of the state that a list leaves
+abbrev pub text : Meaning → Genesis → List Command → List ℕ
+text m genesis L = packed (whole_after m genesis L)
+
+-- all that was ever sent is sound, what was proposed was asked, and each part of a snapshot is a slice of a chosen list's text
+pub record IsLawful (m : Meaning) (h : History) : Type 0 where
   pub sound : Sound h.genesis h.sent
   pub asked : (x : Vote) → WasSent h.genesis h.sent (Accept x) → WasAsked h x.command
+  pub parts : (n : ℕ) (p : PartValue) → HasSent h.genesis h.sent n (Part p)
+      → IsSlice h.genesis h.sent (text m h.genesis) p.position p.total p.offset p.bytes
 
 -- bytes that may be heard: what they say for a node that node has sent, and what they ask was asked
 pub record IsHeard (h : History) (bytes : List ℕ) : Type 0 where

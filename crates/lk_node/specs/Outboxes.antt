@@ -5,19 +5,21 @@ use Rattle.lk_types.specs.declared.entry.Entry.TheVariants.{Promise, Vote, Decid
 use Rattle.lk_node.specs.Letters.{LetterValue}
 use Rattle.lk_node.specs.declared.note.Note.{Note}
 
--- entries to write, whether they are synced before anything is sent, what is noted, and what is sent, in order
+-- whether the store is rebased on what the node then holds, in place of putting the entries, the entries to write, whether they
+-- are synced before anything is sent, what is noted, and what is sent, in order
 pub record OutboxValue : Type 0 where
+  pub rebase : Bool
   pub entries : List Entry
   pub sync : Bool
   pub notes : List Note
   pub letters : List LetterValue
 
 abbrev pub nothing : OutboxValue
-nothing = record { entries = []; sync = false; notes = []; letters = [] }
+nothing = record { rebase = false; entries = []; sync = false; notes = []; letters = [] }
 
 -- with one more letter
 abbrev pub with_letter : LetterValue → OutboxValue → OutboxValue
-with_letter l o = record { entries = o.entries; sync = o.sync; notes = o.notes; letters = o.letters ++ l ∷ [] }
+with_letter l o = record { rebase = o.rebase; entries = o.entries; sync = o.sync; notes = o.notes; letters = o.letters ++ l ∷ [] }
 
 -- the entry is synced before anything is sent: a promise and a vote are
 abbrev pub is_synced : Entry → Bool
@@ -27,7 +29,7 @@ is_synced (Decided i c) = false
 
 -- with one more entry
 abbrev pub with_entry : Entry → OutboxValue → OutboxValue
-with_entry e o = record { entries = o.entries ++ e ∷ []; sync = o.sync || is_synced e; notes = o.notes; letters = o.letters }
+with_entry e o = record { rebase = o.rebase; entries = o.entries ++ e ∷ []; sync = o.sync || is_synced e; notes = o.notes; letters = o.letters }
 
 -- with the entry, if there is one
 abbrev pub with_optional : Option Entry → OutboxValue → OutboxValue
@@ -36,4 +38,4 @@ with_optional (Some e) o = with_entry e o
 
 -- with one more note
 abbrev pub with_note : Note → OutboxValue → OutboxValue
-with_note x o = record { entries = o.entries; sync = o.sync; notes = o.notes ++ x ∷ []; letters = o.letters }
+with_note x o = record { rebase = o.rebase; entries = o.entries; sync = o.sync; notes = o.notes ++ x ∷ []; letters = o.letters }

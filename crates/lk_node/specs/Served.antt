@@ -1,4 +1,5 @@
 -- What the notes of a node and the datagrams to clients rest on: a chosen list that bears them out.
+pub use Rattle.lk_node.specs.Histories.{text}
 use Rattle.std.specs.Prelude.{◌≡◌, ℕ, ◌+◌, ◌≤◌, ◌<◌, List, length, take, drop, Some, Contains}
 use Rattle.lk_types.specs.declared.answer.Answer.{Answer}
 use Rattle.lk_wire.specs.Values.{PartValue}
@@ -6,16 +7,11 @@ use Rattle.lk_wire.specs.declared.message.NodeMessage.{NodeMessage}
 use Rattle.lk_wire.specs.declared.message.NodeMessage.TheVariants as kinds
 use Rattle.lk_members.specs.Rosters.{members}
 use Rattle.lk_state.specs.Meanings.{Meaning}
-use Rattle.lk_state.specs.States.{whole_after, reply}
-use Rattle.lk_state.specs.Packed.{packed}
+use Rattle.lk_state.specs.States.{reply}
 use Rattle.lk_history.specs.Chosen.{command_at, Chosen, ChosenAt}
 use Rattle.lk_node.specs.Histories.{History, Genesis, Command}
 use Rattle.lk_node.specs.declared.note.Note.{Note}
 use Rattle.lk_node.specs.declared.note.Note.TheVariants as note
-
--- the packed text of the state that a list leaves
-abbrev pub text : Meaning → Genesis → List Command → List ℕ
-text m genesis L = packed (whole_after m genesis L)
 
 -- the list bears out the note
 abbrev pub BearsOut : Meaning → History → List Command → Note → Type 0

@@ -1,9 +1,10 @@
 -- What a part of a step does, as far as safety goes.
-use Rattle.std.specs.Prelude.{◌≡◌, ℕ, false, List, [], ◌∷◌, Contains}
+use Rattle.std.specs.Prelude.{◌≡◌, ℕ, Bool, true, false, List, [], ◌∷◌, Contains}
 use Rattle.std.specs.List.{AllByRecursion}
 use Rattle.lk_types.specs.declared.entry.Entry.{Entry}
 use Rattle.lk_wire.specs.Grammar.{spelling, IsMessage}
 use Rattle.lk_wire.specs.declared.message.NodeMessage.{NodeMessage}
+use Rattle.lk_wire.specs.declared.message.NodeMessage.TheVariants as kinds
 use Rattle.lk_log.specs.Values.{HeaderValue}
 use Rattle.lk_state.specs.Meanings.{Meaning}
 use Rattle.lk_history.specs.Acceptors.{AcceptorState, Covers}
@@ -21,12 +22,19 @@ use Rattle.lk_node.specs.Saying.{saying}
 use Rattle.lk_node.specs.Served.{IsBorneOut, IsOfNode}
 use Rattle.lk_node.specs.declared.note.Note.{Note}
 
--- the letter spells a message of a node of this header, which what its acceptor holds covers
-pub record Tells (whose : HeaderValue) (acceptor : AcceptorState) (l : LetterValue) : Type 0 where
+-- the message is no promise and no vote: what it may be sent by, a rebase leaves
+abbrev pub IsLight : NodeMessage → Type 0
+IsLight (kinds.Promise p) = ⊥
+IsLight (kinds.Accepted x) = ⊥
+IsLight _ = Unit {0}
+
+-- the letter spells a message of a node of this header, which what its acceptor holds covers, and a light one where the step rebases
+pub record Tells (whose : HeaderValue) (acceptor : AcceptorState) (rebase : Bool) (l : LetterValue) : Type 0 where
   pub message : NodeMessage
   pub fits : IsMessage (saying whose message)
   pub bytes : l.bytes ≡ spelling (saying whose message)
   pub covers : Covers acceptor message
+  pub light : rebase ≡ true → IsLight message
 
 -- what the acceptor holds once these entries are written
 abbrev pub with_entries : List Entry → AcceptorState → AcceptorState
@@ -34,17 +42,18 @@ with_entries [] s = s
 with_entries (e ∷ es) s = with_entries es (with_entry e s)
 
 -- Whatever has happened: since the node was this first one, the entries tell what its acceptor now holds, none but decided
--- commands are unsynced, and the acceptor covers what the letters tell.
+-- commands are unsynced, and the acceptor covers what the letters tell. Where the step rebases the acceptor is as it was.
 pub record Binds (first now : NodeValue) (out : OutboxValue) : Type 0 where
   pub header : now.header ≡ first.header
   pub written : now.acceptor.state ≡ with_entries out.entries first.acceptor.state
   pub unsynced : out.sync ≡ false → AllByRecursion IsDecided out.entries
-  pub tells : (l : LetterValue) → Contains out.letters l → Tells now.header now.acceptor.state l
+  pub still : out.rebase ≡ true → now.acceptor.state ≡ first.acceptor.state
+  pub tells : (l : LetterValue) → Contains out.letters l → Tells now.header now.acceptor.state out.rebase l
 
 -- In this history: the node holds what fits to it, and by that it may send the letters; what it writes rests on what was
 -- sent, and a chosen list bears out each note. It knows what it writes unsynced, and what was unsynced before.
 pub record Serves (m : Meaning) (h : History) (n : ℕ) (loose : List Entry) (now : NodeValue) (out : OutboxValue) : Type 0 where
-  pub lawful : IsLawful h
+  pub lawful : IsLawful m h
   pub whose : now.header ≡ header_of h.genesis n
   pub holding : Holding
   pub held : IsHeld m now h.genesis holding

@@ -32,41 +32,41 @@ WasHeard h (content.Node from m) = HasSent h.genesis h.sent from m
 abbrev pub StandsStill : NodeValue → NodeValue → OutboxValue → Type 0
 StandsStill old new out = (new ≡ old) × (out ≡ nothing)
 
--- what the node does with a message of another node, or of itself
-abbrev pub HearsNode : Meaning → NodeValue → ℕ → NodeMessage → NodeValue → OutboxValue → Type 0
-HearsNode m old from (kinds.Prepare b first) new out = Responds old from (AnswersPrepare old.acceptor old.learner.whole.roster.executed b first) new out
-HearsNode m old from (kinds.Accept x) new out = Responds (with_round x.ballot old) from (AnswersAccept old.acceptor old.learner.whole.roster.executed x) new out
-HearsNode m old from (kinds.Promise p) new out = HearsPromise old from p new out
-HearsNode m old from (kinds.Accepted x) new out = HearsAccepted m from x old new out
-HearsNode m old from (kinds.Decided d) new out = TakesPairs m d.first d.commands old nothing (length d.commands) new out
-HearsNode m old from (kinds.Nack k) new out = HearsNack old from k new out
-HearsNode m old from (kinds.Want w) new out = HearsWant old from w new out
-HearsNode m old from (kinds.Lead b executed) new out = HearsLead old from b executed new out
-HearsNode m old from _ new out = StandsStill old new out
+-- what the node does with a message of another node, or of itself. `IsText` tells which texts are those of a machine
+abbrev pub HearsNode : Meaning → (List ℕ → Type 0) → NodeValue → ℕ → NodeMessage → NodeValue → OutboxValue → Type 0
+HearsNode m IsText old from (kinds.Prepare b first) new out = Responds old from (AnswersPrepare old.acceptor old.learner.whole.roster.executed b first) new out
+HearsNode m IsText old from (kinds.Accept x) new out = Responds (with_round x.ballot old) from (AnswersAccept old.acceptor old.learner.whole.roster.executed x) new out
+HearsNode m IsText old from (kinds.Promise p) new out = HearsPromise old from p new out
+HearsNode m IsText old from (kinds.Accepted x) new out = HearsAccepted m from x old new out
+HearsNode m IsText old from (kinds.Decided d) new out = TakesPairs m d.first d.commands old nothing (length d.commands) new out
+HearsNode m IsText old from (kinds.Nack k) new out = HearsNack old from k new out
+HearsNode m IsText old from (kinds.Want w) new out = HearsWant old from w new out
+HearsNode m IsText old from (kinds.Lead b executed) new out = HearsLead old from b executed new out
+HearsNode m IsText old from _ new out = StandsStill old new out
 
 -- what it does with a message of its cluster
-abbrev pub Hears : Meaning → NodeValue → Content → NodeValue → OutboxValue → Type 0
-Hears m old (content.Request r) new out = HearsRequest old r new out
-Hears m old (content.Node from x) new out = HearsNode m old from x new out
+abbrev pub Hears : Meaning → (List ℕ → Type 0) → NodeValue → Content → NodeValue → OutboxValue → Type 0
+Hears m IsText old (content.Request r) new out = HearsRequest old r new out
+Hears m IsText old (content.Node from x) new out = HearsNode m IsText old from x new out
 
 -- no message of the cluster is spelled so
 abbrev pub IsForeign : NodeValue → List ℕ → Type 0
 IsForeign node bytes = (m : Message) → Spells m bytes → m.cluster ≡ node.header.cluster → ⊥
 
 -- what it does with any bytes: those of its cluster's messages are heard, and nothing comes of all others
-abbrev pub TakesBytes : Meaning → NodeValue → List ℕ → NodeValue → OutboxValue → Type 0
-TakesBytes m old bytes new out =
-    ((x : Message) × Spells x bytes × (x.cluster ≡ old.header.cluster) × Hears m old x.content new out)
+abbrev pub TakesBytes : Meaning → (List ℕ → Type 0) → NodeValue → List ℕ → NodeValue → OutboxValue → Type 0
+TakesBytes m IsText old bytes new out =
+    ((x : Message) × Spells x bytes × (x.cluster ≡ old.header.cluster) × Hears m IsText old x.content new out)
     ⊎ (IsForeign old bytes × StandsStill old new out)
 
 -- and behind that it proposes all that is open
-pub record TakesDatagram (m : Meaning) (old : NodeValue) (bytes : List ℕ) (new : NodeValue) (out : OutboxValue) : Type 0 where
+pub record TakesDatagram (m : Meaning) (IsText : List ℕ → Type 0) (old : NodeValue) (bytes : List ℕ) (new : NodeValue) (out : OutboxValue) : Type 0 where
   pub mid : NodeValue
   pub first : OutboxValue
-  pub takes : TakesBytes m old bytes mid first
+  pub takes : TakesBytes m IsText old bytes mid first
   pub proposes : ProposesOpen mid new first out
 
 -- what a step is
-abbrev pub Steps : Meaning → NodeValue → Input → NodeValue → OutboxValue → Type 0
-Steps m old input.Tick new out = Ticks old new out
-Steps m old (input.Datagram bytes) new out = TakesDatagram m old bytes.now new out
+abbrev pub Steps : Meaning → (List ℕ → Type 0) → NodeValue → Input → NodeValue → OutboxValue → Type 0
+Steps m IsText old input.Tick new out = Ticks old new out
+Steps m IsText old (input.Datagram bytes) new out = TakesDatagram m IsText old bytes.now new out

@@ -22,7 +22,7 @@ letter_to node message k = record { to = to_node node k; bytes = spelling (sayin
 
 -- with these letters more
 abbrev pub with_letters : List LetterValue → OutboxValue → OutboxValue
-with_letters ls o = record { entries = o.entries; sync = o.sync; notes = o.notes; letters = o.letters ++ ls }
+with_letters ls o = record { rebase = o.rebase; entries = o.entries; sync = o.sync; notes = o.notes; letters = o.letters ++ ls }
 
 -- it tells each of these so
 abbrev pub telling : NodeValue → List ℕ → NodeMessage → OutboxValue → OutboxValue

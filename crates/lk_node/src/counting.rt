@@ -55,6 +55,7 @@ impl<M: Machine> Node<M> {
         let mut out = Outbox::new(self.alloc);
         self.tell_all(&others, news, &mut out)?;
         let Outbox {
+            rebase: _,
             entries: _,
             sync: _,
             notes: _,

@@ -9,9 +9,11 @@ use std::alloc::Global;
 use std::marker::Model;
 
 /// What a step comes to: entries to write, and whether they are synced before anything is sent, what is noted, and
-/// what is sent, in order.
+/// what is sent, in order. Where it says so the store is rebased on what the node then holds, before anything is sent, and the
+/// entries are not put.
 #[derive(Debug, Drop)]
 pub struct Outbox {
+    pub rebase: bool,
     pub entries: Vec<Entry>,
     pub sync: bool,
     pub notes: Vec<Note>,
@@ -23,7 +25,7 @@ impl Model for Outbox {
 
     ghost Value = { OutboxValue };
 
-    ghost view = { λ o. record { entries = o.entries.items; sync = o.sync; notes = o.notes.items; letters = o.letters.items } };
+    ghost view = { λ o. record { rebase = o.rebase; entries = o.entries.items; sync = o.sync; notes = o.notes.items; letters = o.letters.items } };
 }
 
 impl Outbox {
@@ -32,6 +34,7 @@ impl Outbox {
         ensures { result ≡ nothing }
     {
         Outbox {
+            rebase: false,
             entries: Vec::new(alloc),
             sync: false,
             notes: Vec::new(alloc),

@@ -3,6 +3,7 @@ ghost use Rattle.std.specs.Prelude.{◌≡◌, ◌+◌, ◌≤◌, ◌↔◌, Is
 ghost use Rattle.lk_acceptor.specs.VoteLists.{votes_above};
 ghost use Rattle.lk_learner.specs.Learners.{executed};
 ghost use Rattle.lk_log.specs.Stores.{MayBegin};
+ghost use Rattle.lk_state.specs.Packed.{packed};
 ghost use Rattle.lk_node.specs.Nearness.{AreNear};
 ghost use Rattle.lk_node.specs.Packing.{standing_of, standing_here};
 
@@ -68,12 +69,14 @@ impl<M: Machine> Node<M> {
         self.learner.whole().executed().get() >= snapshot + 256
     }
 
-    /// That snapshot takes the place of the votes and of the executed commands up to there. It takes no memory.
-    pub fn stand_here(&mut self)
+    /// That snapshot, of which this is the text, takes the place of the votes and of the executed commands up to there. It takes
+    /// no memory.
+    pub fn stand_here(&mut self, snapshot: Vec<u8>)
+        requires text { snapshot.items ≡ packed self.old.learner.whole }
         ensures { self.new ≡ standing_here self.old }
     {
         let executed = self.learner.whole().executed();
         self.acceptor.forget(executed);
-        self.learner.stand_here();
+        self.learner.stand_here(snapshot);
     }
 }

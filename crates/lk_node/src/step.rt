@@ -21,7 +21,7 @@ impl<M: Machine> Node<M> {
     #[tactic(auto, using(crate::proofs::Serving::rests_here))]
     // Does with a node's message what is to be done.
     fn hear_node(&mut self, from: NodeNo, message: &NodeMessage) -> Result<Outbox, NoMemory>
-        ensures exact { IfOk result (λ o. HearsNode (meaning M.first M.next M.answer) self.old from message.now self.new o) }
+        ensures exact { IfOk result (λ o. HearsNode (meaning M.first M.next M.answer) M.IsText self.old from message.now self.new o) }
         ensures goes_on { IfOk result (λ o. GoesOn (meaning M.first M.next M.answer) (λ h. HasSent h.genesis h.sent from message.now) self.old self.new nothing o) }
     {
         match message {
@@ -40,7 +40,7 @@ impl<M: Machine> Node<M> {
     #[tactic(auto, using(crate::proofs::Serving::rests_here))]
     // Does with a message of the cluster what is to be done.
     fn hear(&mut self, content: &Content) -> Result<Outbox, NoMemory>
-        ensures exact { IfOk result (λ o. Hears (meaning M.first M.next M.answer) self.old content.now self.new o) }
+        ensures exact { IfOk result (λ o. Hears (meaning M.first M.next M.answer) M.IsText self.old content.now self.new o) }
         ensures goes_on { IfOk result (λ o. GoesOn (meaning M.first M.next M.answer) (λ h. WasHeard h content.now) self.old self.new nothing o) }
     {
         match content {
@@ -52,7 +52,7 @@ impl<M: Machine> Node<M> {
     #[tactic(auto, using(crate::proofs::Serving::rests_here, crate::proofs::Serving::bytes_go_on))]
     // Does with any bytes what is to be done.
     fn take_bytes(&mut self, bytes: &[u8]) -> Result<Outbox, NoMemory>
-        ensures exact { IfOk result (λ o. TakesBytes (meaning M.first M.next M.answer) self.old bytes.now self.new o) }
+        ensures exact { IfOk result (λ o. TakesBytes (meaning M.first M.next M.answer) M.IsText self.old bytes.now self.new o) }
         ensures goes_on { IfOk result (λ o. GoesOn (meaning M.first M.next M.answer) (λ h. IsHeard h bytes.now) self.old self.new nothing o) }
     {
         let message = match read(self.alloc, bytes) {
@@ -69,7 +69,7 @@ impl<M: Machine> Node<M> {
 
     // Does with any bytes what is to be done, and then proposes what can be.
     fn take_datagram(&mut self, bytes: &[u8]) -> Result<Outbox, NoMemory>
-        ensures exact { IfOk result (λ o. TakesDatagram (meaning M.first M.next M.answer) self.old bytes.now self.new o) }
+        ensures exact { IfOk result (λ o. TakesDatagram (meaning M.first M.next M.answer) M.IsText self.old bytes.now self.new o) }
         ensures done { OnOk result (NothingOpen self.new) }
         ensures goes_on { IfOk result (λ o. GoesOn (meaning M.first M.next M.answer) (λ h. IsHeard h bytes.now) self.old self.new nothing o) }
     {
@@ -80,7 +80,7 @@ impl<M: Machine> Node<M> {
 
     #[tactic(auto, using(crate::proofs::Serving::rests_here))]
     fn serve(&mut self, input: Input) -> Result<Outbox, NoMemory>
-        ensures exact { IfOk result (λ o. Steps (meaning M.first M.next M.answer) self.old input.entry self.new o) }
+        ensures exact { IfOk result (λ o. Steps (meaning M.first M.next M.answer) M.IsText self.old input.entry self.new o) }
         ensures goes_on { IfOk result (λ o. GoesOn (meaning M.first M.next M.answer) (λ h. InputFits h input.entry) self.old self.new nothing o) }
     {
         match input {
@@ -94,7 +94,7 @@ impl<M: Machine> Node<M> {
     ///
     /// It refuses with `Halted` where memory is refused; after that each later call answers `Halted`.
     pub fn step(&mut self, input: Input) -> Result<Outbox, Halted>
-        ensures steps { IfOk result (λ o. Steps (meaning M.first M.next M.answer) self.old input.entry self.new o) }
+        ensures steps { IfOk result (λ o. Steps (meaning M.first M.next M.answer) M.IsText self.old input.entry self.new o) }
         ensures goes_on { IfOk result (λ o. GoesOn (meaning M.first M.next M.answer) (λ h. InputFits h input.entry) self.old self.new nothing o) }
         ensures runs { NothingToRun self.old → OnOk result (NothingToRun self.new) }
         ensures halts { OnErr result (self.new.halted ≡ true) }
