@@ -101,3 +101,7 @@ one_front IsText bytes rest r s w read p =
     let packs : (RosterValue × List Session) × List ℕ = ((w.roster, w.sessions), w.text) in
     let same = some_is found packs (sym read ∙ front_of IsText bytes w p) in
     ap (λ (f : (RosterValue × List Session) × List ℕ). let x : WholeValue = record { roster = f.0.0; sessions = f.0.1; text = f.1 } in x) same
+
+-- so bytes pack at most one state
+pub one_packed : (IsText : List ℕ → Type 0) (bytes : List ℕ) (v w : WholeValue) → Packs IsText v bytes → Packs IsText w bytes → v ≡ w
+one_packed IsText bytes v w first second = one_front IsText bytes v.text v.roster v.sessions w (front_of IsText bytes v first) second

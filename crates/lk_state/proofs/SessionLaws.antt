@@ -187,6 +187,10 @@ do_rise-with_session s (t ∷ l) h =
           ]
     ]
 
+rises_above : (low : ℕ) (l : List Session) → are_sessions_above low l ≡ true → do_rise l ≡ true
+rises_above low [] h = refl
+rises_above low (s ∷ l) h = (and_parts (nat_lt low s.client) (are_sessions_above s.client l) h).1
+
 -- each of rising sessions is its client's
 pub each_is_its_clients : (l : List Session) (s : Session) → do_rise l ≡ true → Contains l s → session_of s.client l ≡ Some s
 each_is_its_clients [] s h (k, lt, is) = absurd (omega arith)
@@ -199,7 +203,7 @@ each_is_its_clients (t ∷ l) s h (suc k, lt, is) =
     let lower : t.client < s.client = subst (λ (x : Session). t.client < x.client) is (above t.client l h k s here) in
     let other : eqb t.client s.client ≡ false = ne_eqb t.client s.client (λ e. omega arith) in
     rw other (each_is_its_clients l s (rises_above t.client l h) (k, here, is))
-  where
-    rises_above : (low : ℕ) (l : List Session) → are_sessions_above low l ≡ true → do_rise l ≡ true
-    rises_above low [] h = refl
-    rises_above low (s ∷ l) h = (and_parts (nat_lt low s.client) (are_sessions_above s.client l) h).1
+
+-- so each session that may be kept is
+pub kept_is_its_clients : (l : List Session) (s : Session) → AreSessions l → Contains l s → session_of s.client l ≡ Some s
+kept_is_its_clients l s are c = each_is_its_clients l s (rises_above 0 l are.1) c
