@@ -228,9 +228,8 @@ impl<M: Machine> Learner<M> {
     }
 
     /// What is sent to a node that asks for the commands from `first` on: up to 16 of them, through the last that is
-    /// executed. `None` where `first` is not executed, or the snapshot has taken its place: no snapshot is served yet, so
-    /// the offset, in bytes of one, is not looked at.
-    pub fn serve(&self, first: Position, _offset: u32) -> Result<Option<Decided>, NoMemory>
+    /// executed. `None` where `first` is not executed, or the snapshot has taken its place: see `parts`.
+    pub fn serve(&self, first: Position) -> Result<Option<Decided>, NoMemory>
         ensures some { IsServed self.now first → IfOk result (λ d. d ≡ Some (news_from first self.now)) }
         ensures none { (IsServed self.now first → ⊥) → result ≡ Ok None }
         ensures memory { OnErr result (IsServed self.now first) }

@@ -52,7 +52,7 @@ alike_goes_on m Heard old new out like leads = record {
       follows = subst (λ (l : LearnerValue). Follows m h.genesis s.holding.view.done s.holding.view.pairs l) (sym like.learner) s.held.follows;
       leads = subst₂ (λ (l : LearnerValue) (k : LeaderValue). LeadsOn l k s.holding.view) (sym like.learner) (sym leads) s.held.leads;
       waiting = s.held.waiting ∙ ap (λ (k : LeaderValue). k.waiting) (sym leads);
-      gathered = s.held.gathered;
+      gathered = s.held.gathered ∙ ap (λ (l : LearnerValue). l.gathered) (sym like.learner);
     };
     fits = s.fits;
     rests = s.rests;
@@ -76,7 +76,7 @@ leaves_goes_on m Heard old new out like leads = record {
       follows = subst (λ (l : LearnerValue). Follows m h.genesis s.holding.view.done s.holding.view.pairs l) (sym like.learner) s.held.follows;
       leads = λ k at. absurd (no_term k (sym (ap (λ (l : LeaderValue). l.term) leads) ∙ at));
       waiting = sym (ap (λ (k : LeaderValue). k.waiting) leads);
-      gathered = s.held.gathered;
+      gathered = s.held.gathered ∙ ap (λ (l : LearnerValue). l.gathered) (sym like.learner);
     };
     fits = record {
       view = s.fits.view;

@@ -15,6 +15,7 @@ use Rattle.lk_log.specs.Values.{HeaderValue}
 use Rattle.lk_learner.specs.Learners.{Command, Pair}
 use Rattle.lk_acceptor.specs.declared.response.Response.{Response}
 use Rattle.lk_history.specs.Ballots.{BallotValue}
+use Rattle.lk_node.specs.CatchingUp.{Feeds}
 use Rattle.lk_node.specs.Executing.{with_told, SettlesAny, waiting_number, Executes, Runs, goes_on, stays}
 use Rattle.lk_node.specs.Learning.{Learns}
 use Rattle.lk_node.specs.DecidedPairs.{TakesPairs, none_yet, one_more}
@@ -93,6 +94,11 @@ optional_few (Some e) = omega arith
 none_written : (out : OutboxValue) → out.entries ≡ [] → length out.entries ≤ 16
 none_written out e = omega (arith, ap length e)
 
+fed_same : (node : NodeValue) (other first offset : ℕ) (out : OutboxValue) → Feeds node other first offset out → out.entries ≡ []
+fed_same node other first offset out (inl served) = ap (λ (o : OutboxValue). o.entries) served.1.1
+fed_same node other first offset out (inr (inl parts)) = ap (λ (o : OutboxValue). o.entries) parts.1.comes_to
+fed_same node other first offset out (inr (inr none)) = ap (λ (o : OutboxValue). o.entries) none.1
+
 heard_few : (m : Meaning) (IsText : List ℕ → Type 0) (old : NodeValue) (from : ℕ) (x : NodeMessage) (new : NodeValue) (out : OutboxValue) → ((d : DecidedValue) → x ≡ kinds.Decided d → length d.commands ≤ 16)
     → HearsNode m IsText old from x new out → length out.entries ≤ 16
 heard_few m IsText old from (kinds.Prepare b first) new out short r = omega (arith, optional_few r.response.entry, ap (λ (o : OutboxValue). length o.entries) r.comes_to)
@@ -105,10 +111,10 @@ heard_few m IsText old from (kinds.Accepted x) new out short h = elim h [
 heard_few m IsText old from (kinds.Decided d) new out short h = omega (arith, short d refl, pairs_few m d.first d.commands old nothing (length d.commands) new out h)
 heard_few m IsText old from (kinds.Nack k) new out short h = none_written out (elim h.1 [
   | inl a ↦ elim a.1 [ inl s ↦ ap (λ (o : OutboxValue). o.entries) s.1.1 | inr s ↦ ap (λ (o : OutboxValue). o.entries) s.1 ]
-  | inr (inl a) ↦ elim a.1 [ inl s ↦ ap (λ (o : OutboxValue). o.entries) s.1.1 | inr s ↦ ap (λ (o : OutboxValue). o.entries) s.1 ]
+  | inr (inl a) ↦ fed_same old from (k.executed + 1) 0 out a.1
   | inr (inr a) ↦ ap (λ (o : OutboxValue). o.entries) a.1
 ])
-heard_few m IsText old from (kinds.Want w) new out short h = none_written out (elim h.1 [ inl s ↦ ap (λ (o : OutboxValue). o.entries) s.1.1 | inr s ↦ ap (λ (o : OutboxValue). o.entries) s.1 ])
+heard_few m IsText old from (kinds.Want w) new out short h = none_written out (fed_same old from w.first w.offset out h.1)
 heard_few m IsText old from (kinds.Lead b executed) new out short h = none_written out (elim h [
   | inl a ↦ ap (λ (o : OutboxValue). o.entries) a.2.1
   | inr a ↦ elim a.2 [

@@ -25,7 +25,7 @@ no_letters : (xs : List LetterValue) → xs ++ [] ≡ xs
 no_letters [] = refl
 no_letters (x ∷ xs) = ap (λ (ls : List LetterValue). x ∷ ls) (no_letters xs)
 
-abbrev lettered : OutboxValue → List LetterValue → OutboxValue
+abbrev pub lettered : OutboxValue → List LetterValue → OutboxValue
 lettered out ls = record { rebase = out.rebase; entries = out.entries; sync = out.sync; notes = out.notes; letters = ls }
 
 -- letters to several nodes of a message that the node may send, and that its acceptor covers

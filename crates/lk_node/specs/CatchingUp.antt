@@ -1,27 +1,43 @@
 -- What a node does for one that has executed less, and asks of one that has executed more.
-use Rattle.std.specs.Prelude.{◌≡◌, ◌⊎◌, ℕ, ◌+◌, ◌<◌, ◌≤◌, true, false, Some}
+use Rattle.std.specs.Prelude.{◌≡◌, ◌⊎◌, ℕ, ◌+◌, ◌<◌, ◌≤◌, true, false, Some, List, map, Contains}
 use Rattle.lk_types.specs.BallotValue.{BallotValue}
 use Rattle.lk_types.specs.Ballots.{is_below}
 use Rattle.lk_types.specs.Limits.{max_count}
-use Rattle.lk_wire.specs.Values.{WantValue}
+use Rattle.lk_wire.specs.Grammar.{IsMessage}
+use Rattle.lk_wire.specs.Values.{WantValue, PartValue}
 use Rattle.lk_wire.specs.declared.message.Nack.{Nack}
 use Rattle.lk_wire.specs.declared.message.NodeMessage.TheVariants as kinds
 use Rattle.lk_learner.specs.Learners.{executed, IsServed, news_from, wanted}
+use Rattle.lk_learner.specs.Parts.{start_of, AreParts}
 use Rattle.lk_node.specs.NodeValue.{NodeValue}
 use Rattle.lk_node.specs.Outboxes.{OutboxValue, nothing}
 use Rattle.lk_node.specs.Replying.{SaysAlone}
-use Rattle.lk_node.specs.Saying.{to_node}
+use Rattle.lk_node.specs.Saying.{saying, to_node}
+use Rattle.lk_node.specs.Telling.{letter_to, with_letters}
 use Rattle.lk_node.specs.Yielding.{seeing}
 
--- the other node is sent what is served from the position on, where anything is
-abbrev pub Feeds : NodeValue → ℕ → ℕ → OutboxValue → Type 0
-Feeds node other first out =
-    (IsServed node.learner first × SaysAlone node (to_node node other) (kinds.Decided (news_from first node.learner)) out)
-    ⊎ ((IsServed node.learner first → ⊥) × (out ≡ nothing))
+-- the other node is sent these parts of a snapshot, in order
+abbrev pub sending_parts : NodeValue → ℕ → List PartValue → OutboxValue → OutboxValue
+sending_parts node other parts out = with_letters (map (λ p. letter_to node (kinds.Part p) other) parts) out
 
--- a node wants commands from a position on
+-- so it is sent the snapshot's text from the offset on, or from its start where the offset is not below its length
+pub record FeedsParts (node : NodeValue) (other offset : ℕ) (out : OutboxValue) : Type 0 where
+  pub parts : List PartValue
+  pub are : AreParts node.learner.snapshot_position node.learner.snapshot (start_of offset node.learner.snapshot) parts
+  pub fits : (p : PartValue) → Contains parts p → IsMessage (saying node.header (kinds.Part p))
+  pub comes_to : out ≡ sending_parts node other parts nothing
+
+-- the other node is sent what is served from the position on: commands where it is above the snapshot and executed, the snapshot
+-- from the offset on where the snapshot has taken its place, and nothing where it is not executed
+abbrev pub Feeds : NodeValue → ℕ → ℕ → ℕ → OutboxValue → Type 0
+Feeds node other first offset out =
+    (IsServed node.learner first × SaysAlone node (to_node node other) (kinds.Decided (news_from first node.learner)) out)
+    ⊎ ((first ≤ node.learner.snapshot_position) × FeedsParts node other offset out)
+    ⊎ ((executed node.learner < first) × (out ≡ nothing))
+
+-- a node wants commands from a position on, or a snapshot from an offset on
 abbrev pub HearsWant : NodeValue → ℕ → WantValue → NodeValue → OutboxValue → Type 0
-HearsWant old from want new out = (new ≡ old) × Feeds old from want.first out
+HearsWant old from want new out = (new ≡ old) × Feeds old from want.first want.offset out
 
 -- the other node is asked for what stands behind the executed positions, where these are not all 2^48
 abbrev pub AsksOn : NodeValue → ℕ → OutboxValue → Type 0
@@ -35,7 +51,7 @@ AsksOn node other out =
 abbrev pub Levels : NodeValue → ℕ → ℕ → OutboxValue → Type 0
 Levels node other theirs out =
     ((executed node.learner < theirs) × AsksOn node other out)
-    ⊎ ((theirs < executed node.learner) × Feeds node other (theirs + 1) out)
+    ⊎ ((theirs < executed node.learner) × Feeds node other (theirs + 1) 0 out)
     ⊎ ((theirs ≡ executed node.learner) × (out ≡ nothing))
 
 -- both ballots are seen

@@ -3,24 +3,19 @@ use Rattle.std.specs.Prelude.{◌≡◌, ℕ, List, Contains, Option, Some}
 use Rattle.lk_state.specs.Meanings.{Meaning}
 use Rattle.lk_history.specs.Nodes.{Term, View, ViewFits}
 use Rattle.lk_history.specs.Snapshots.{IsSlice}
+use Rattle.lk_learner.specs.Learners.{GatheredValue}
 use Rattle.lk_node.specs.Histories.{History, Command, RequestValue, WasAsked}
 use Rattle.lk_node.specs.Served.{text}
-
--- the bytes so far of a snapshot of another node
-pub record Gathered : Type 0 where
-  pub position : ℕ
-  pub total : ℕ
-  pub bytes : List ℕ
 
 -- a view, the requests that wait for the node to propose them, and a snapshot that is gathered
 pub record Holding : Type 0 where
   pub view : View
   pub waiting : List RequestValue
-  pub gathered : Option Gathered
+  pub gathered : Option GatheredValue
 
 -- all of it fits to what happened
 pub record HoldingFits (m : Meaning) (h : History) (n : ℕ) (x : Holding) : Type 0 where
   pub view : ViewFits h.genesis h.sent n x.view
   pub waiting : (r : RequestValue) → Contains x.waiting r → Contains h.asked r
   pub proposals : (t : Term) → x.view.term ≡ Some t → (i : ℕ) (v : Command) → Contains t.proposals (i, v) → WasAsked h v
-  pub gathered : (g : Gathered) → x.gathered ≡ Some g → IsSlice h.genesis h.sent (text m h.genesis) g.position g.total 0 g.bytes
+  pub gathered : (g : GatheredValue) → x.gathered ≡ Some g → IsSlice h.genesis h.sent (text m h.genesis) g.position g.total 0 g.bytes

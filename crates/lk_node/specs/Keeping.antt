@@ -1,5 +1,5 @@
 -- What ties what a replica holds in memory to its store.
-use Rattle.std.specs.Prelude.{◌≡◌, ◌⊎◌, ℕ, List, length, Some, None, Contains}
+use Rattle.std.specs.Prelude.{◌≡◌, ◌⊎◌, ℕ, List, length, Some, Contains}
 use Rattle.std.specs.List.{AllByRecursion}
 use Rattle.lk_types.specs.declared.entry.Entry.{Entry}
 use Rattle.lk_types.specs.declared.entry.Entry.TheVariants.{Promise, Vote, Decided}
@@ -49,13 +49,13 @@ abbrev pub LeadsOn : LearnerValue → LeaderValue → View → Type 0
 LeadsOn l leader w = (k : TermValue) → leader.term ≡ Some k → (t : Term) × (w.term ≡ Some t) × LeadsTerm l.whole.roster.executed (length l.whole.roster.sets) t k
 
 -- what a node holds: what its acceptor does, the commands that its state sums up, those that are decided and wait for an
--- earlier one, a term for which its leader stands, and the requests that wait
+-- earlier one, a term for which its leader stands, the requests that wait, and the snapshot that is gathered
 pub record IsHeld (m : Meaning) (node : NodeValue) (genesis : Genesis) (x : Holding) : Type 0 where
   pub acceptor : x.view.acceptor ≡ node.acceptor.state
   pub follows : Follows m genesis x.view.done x.view.pairs node.learner
   pub leads : LeadsOn node.learner node.leader x.view
   pub waiting : x.waiting ≡ node.leader.waiting
-  pub gathered : x.gathered ≡ None
+  pub gathered : x.gathered ≡ node.learner.gathered
 
 -- the replica, by its parts, is that of the node in the cluster that began so, and holds this
 pub record Stands (m : Meaning) (node : NodeValue) (store : StoreValue) (genesis : Genesis) (n : ℕ) (x : Holding) : Type 0 where

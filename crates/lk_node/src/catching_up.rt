@@ -1,26 +1,50 @@
 // What a node does for one that has executed less, and asks of one that has executed more.
-ghost use Rattle.std.specs.Prelude.{◌≡◌, IfOk};
+ghost use Rattle.std.specs.Prelude.{◌≡◌, ◌<◌, ◌≤◌, Contains, IfOk, OnOk};
+ghost use Rattle.lk_wire.specs.Grammar.{IsMessage};
+ghost use Rattle.lk_wire.specs.Values.{PartValue};
 ghost use Rattle.lk_wire.specs.declared.message.NodeMessage.TheVariants as kinds;
 ghost use Rattle.lk_state.specs.Meanings.{meaning};
-ghost use Rattle.lk_node.specs.CatchingUp.{Feeds, HearsWant, AsksOn, Levels, HearsNack, following, AsksWhereMore, refusal, HearsLead};
+ghost use Rattle.lk_node.specs.CatchingUp.{sending_parts, FeedsParts, Feeds, HearsWant, AsksOn, Levels, HearsNack, following, AsksWhereMore, refusal, HearsLead};
 ghost use Rattle.lk_node.specs.Outboxes.{nothing};
 ghost use Rattle.lk_node.specs.Replying.{SaysAlone};
-ghost use Rattle.lk_node.specs.Saying.{to_node};
+ghost use Rattle.lk_node.specs.Saying.{saying, to_node};
 ghost use Rattle.lk_node.specs.Serving.{GoesOn};
 
 use crate::node::Node;
 use crate::outbox::Outbox;
 use lk_state::Machine;
 use lk_types::{Executed, NoMemory, NodeNo, Position, RealBallot};
-use lk_wire::{Nack, NodeMessage, Want};
+use lk_wire::{Nack, NodeMessage, Part, Want};
 
 impl<M: Machine> Node<M> {
+    // The other node is sent these parts, in order.
+    fn tell_parts(&self, other: NodeNo, parts: Vec<Part>) -> Result<Outbox, NoMemory>
+        ensures said { IfOk result (λ o. o ≡ sending_parts self.now other parts.items nothing) }
+        ensures fits { OnOk result ((p : PartValue) → Contains parts.items p → IsMessage (saying self.now.header (kinds.Part p))) }
+    {
+        let mut out = Outbox::new(self.alloc);
+        'parts: for part in parts {
+            self.tell(other, NodeMessage::Part(part), &mut out)?;
+        }
+        Ok(out)
+    }
+
+    // The other node is sent the snapshot from the offset on, where the snapshot has taken the position's place.
+    fn feed_parts(&self, other: NodeNo, first: Position, offset: u32) -> Result<Outbox, NoMemory>
+        ensures some { first ≤ self.now.learner.snapshot_position → IfOk result (λ o. FeedsParts self.now other offset o) }
+        ensures none { self.now.learner.snapshot_position < first → IfOk result (λ o. o ≡ nothing) }
+    {
+        let parts = self.learner.parts(first, offset)?;
+        let out = self.tell_parts(other, parts)?;
+        Ok(out)
+    }
+
     // The other node is sent what is served from the position on, where anything is.
     fn feed(&self, other: NodeNo, first: Position, offset: u32) -> Result<Outbox, NoMemory>
-        ensures { IfOk result (λ o. Feeds self.now other first o) }
+        ensures { IfOk result (λ o. Feeds self.now other first offset o) }
     {
-        let Some(decided) = self.learner.serve(first, offset)? else {
-            return Ok(Outbox::new(self.alloc));
+        let Some(decided) = self.learner.serve(first)? else {
+            return self.feed_parts(other, first, offset);
         };
         let out = self.tell_alone(other, NodeMessage::Decided(decided))?;
         Ok(out)
@@ -51,7 +75,7 @@ impl<M: Machine> Node<M> {
         }
     }
 
-    // A node wants commands.
+    // A node wants commands, or a snapshot.
     pub(crate) fn hear_want(&mut self, from: NodeNo, want: &Want) -> Result<Outbox, NoMemory>
         ensures exact { IfOk result (λ o. HearsWant self.old from want.now self.new o) }
         ensures goes_on { IfOk result (λ o. GoesOn (meaning M.first M.next M.answer) (λ h. Unit {0}) self.old self.new nothing o) }
