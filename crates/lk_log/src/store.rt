@@ -109,6 +109,7 @@ impl<D: LogDisk + Drop> Store<D> {
         // After any exit neither file is longer than it was, or else than a Base; at Ok the live one is no longer than a Base.
         ensures room { D.is_honest → StaysWithin max_base (disks self.old) (disks self.new) }
         ensures short { D.is_honest → OnOk result (length (contents self.new.live_disk) ≤ max_base) }
+        ensures generation { OnOk result (self.new.generation ≡ self.old.generation + 1) }
         ensures header { self.new.header ≡ self.old.header }
         ensures err { self.old.generation < max_count → OnErr result (self.new.failed ≡ true) }
         ensures alive { OnOk result (self.new.failed ≡ false) }

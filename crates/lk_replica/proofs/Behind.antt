@@ -1,5 +1,6 @@
 -- What a call leaves that steps, rebases in place of putting what the step writes, and then sends.
-use Rattle.std.proofs.Common.{◌≡◌, ℕ, ◌≤◌, List, [], ◌∷◌, take, Contains, sym, subst}
+use Rattle.std.proofs.Common.{◌≡◌, ℕ, ◌≤◌, true, List, [], ◌∷◌, take, Contains, sym, ◌∙◌, subst}
+use Rattle.lk_wire.specs.Grammar.{Spells}
 use Rattle.lk_wire.specs.declared.message.NodeMessage.{NodeMessage}
 use Rattle.lk_wire.specs.declared.message.NodeMessage.TheVariants as kinds
 use Rattle.lk_log.specs.StoreValue.{StoreValue, disks}
@@ -10,27 +11,28 @@ use Rattle.lk_log.proofs.StoreLaws.{one_standing}
 use Rattle.lk_state.specs.Meanings.{Meaning}
 use Rattle.lk_history.specs.Acceptors.{Covers, CoversSent}
 use Rattle.lk_history.specs.Changes.{with_acceptor}
+use Rattle.lk_history.specs.Datagrams.{said_by}
 use Rattle.lk_history.specs.Nodes.{View, MaySend}
 use Rattle.lk_history.proofs.Histories.{still_stems, covers_both}
 use Rattle.lk_acceptor.specs.States.{without_votes_to}
 use Rattle.lk_acceptor.proofs.Acceptors.{takes_snapshot}
 use Rattle.lk_learner.specs.Learners.{executed}
-use Rattle.lk_node.specs.Calls.{MayGo, Goes}
+use Rattle.lk_node.specs.Calls.{InputFits, MayGo, NodeFits, Goes}
 use Rattle.lk_node.specs.Entries.{EntriesFit}
-use Rattle.lk_node.specs.Histories.{History, Datagram, later, IsLawful}
+use Rattle.lk_node.specs.Histories.{History, Genesis, Datagram, later, IsLawful}
 use Rattle.lk_node.specs.Holdings.{Holding, HoldingFits}
-use Rattle.lk_node.specs.Keeping.{Stands}
-use Rattle.lk_node.specs.Leavings.{acceptor_of, view_of}
+use Rattle.lk_node.specs.Keeping.{Keeps, Stands}
+use Rattle.lk_node.specs.Leavings.{header_of, acceptor_of, view_of}
 use Rattle.lk_node.specs.Letters.{LetterValue, batch_of}
 use Rattle.lk_node.specs.NodeValue.{NodeValue}
-use Rattle.lk_node.specs.Outboxes.{OutboxValue}
+use Rattle.lk_node.specs.Outboxes.{OutboxValue, nothing}
 use Rattle.lk_node.specs.Packing.{standing_of, standing_here}
 use Rattle.lk_node.specs.Served.{IsOfNode, IsBorneOut}
-use Rattle.lk_node.specs.Serving.{Tells}
+use Rattle.lk_node.specs.Serving.{IsLight, Tells, Serves, GoesOn}
+use Rattle.lk_node.specs.declared.input.Input.{Input}
 use Rattle.lk_node.specs.declared.note.Note.{Note}
-use Rattle.lk_replica.specs.Compacting.{IsLight}
 use Rattle.lk_replica.specs.Posts.{AreOf}
-use Rattle.lk_replica.proofs.Going.{batch_covered}
+use Rattle.lk_replica.proofs.Going.{said_covered, said_light, batch_covered, bound, serves}
 use Rattle.lk_replica.proofs.Images.{fit_disks}
 use Rattle.lk_replica.proofs.Rebasing.{snapshot_covers, base_stands, here, rebase_stands, base_fits, here_fits}
 use Rattle.lk_replica.proofs.Thinning.{batch_among}
@@ -52,8 +54,8 @@ light_may h w i (kinds.Lead b k) light may = may
 
 -- The node stands on the store as it was before the step, since the step has left its acceptor and what is unsynced known.
 module _ (m : Meaning) (h : History) (n : ℕ) (node : NodeValue) (old new : StoreValue) (x : Holding) (shown : Stands m node old h.genesis n x)
-    (may : MayBegin (standing_of node)) (within : node.acceptor.state.snapshot_position ≤ executed node.learner) (lawful : IsLawful h) (fits : HoldingFits m h n x)
-    (out : OutboxValue) (tells : (l : LetterValue) → Contains out.letters l → Tells node.header node.acceptor.state l)
+    (may : MayBegin (standing_of node)) (within : node.acceptor.state.snapshot_position ≤ executed node.learner) (lawful : IsLawful m h) (fits : HoldingFits m h n x)
+    (out : OutboxValue) (tells : (l : LetterValue) → Contains out.letters l → Tells node.header node.acceptor.state out.rebase l)
     (goes : (d : Datagram) → Contains (batch_of n out.letters) d → MayGo m h n x.view d) (light : (d : Datagram) (c : Contains (batch_of n out.letters) d) → IsLight (goes d c).message)
     (noted : (k : Note) → Contains out.notes k → IsOfNode k × IsBorneOut m h k) (holds : Holds new (Base (next_base old (standing_of node)) ∷ []) [])
     (sent : List LetterValue) (among : AreOf sent out.letters) where
@@ -61,12 +63,12 @@ module _ (m : Meaning) (h : History) (n : ℕ) (node : NodeValue) (old new : Sto
   base = base_fits m h n node old new x shown may within lawful fits
 
   same : standing_of node ≡ base.standing
-  same = one_standing (Base (next_base old (standing_of node)) ∷ []) (standing_of node) base.standing (base_stands m h.genesis n node old new x shown may within) base.stands
+  same = one_standing (Base (next_base old (standing_of node)) ∷ []) (standing_of node) base.standing (base_stands m h.genesis n node old new shown.keeps may within) base.stands
 
   sent_covered : (k : ℕ) → CoversSent h.genesis (take k (batch_of n sent)) n (acceptor_of (standing_of node))
   sent_covered k y c =
       snapshot_covers node.acceptor.state (without_votes_to node.acceptor.state (executed node.learner)) (executed node.learner) (takes_snapshot node.acceptor.state (executed node.learner) within) y
-      (batch_covered h.genesis n node sent shown.whose (λ l d. tells l (among l d)) k y c)
+      (batch_covered h.genesis n node out.rebase sent shown.whose (λ l d. tells l (among l d)) k y c)
 
   sent_fit : (k : ℕ) → EntriesFit m (later h (take k (batch_of n sent))) n (Base (next_base old (standing_of node)) ∷ [])
   sent_fit k = record {
@@ -93,3 +95,54 @@ module _ (m : Meaning) (h : History) (n : ℕ) (node : NodeValue) (old new : Sto
     noted = noted;
     left = λ k. fit_disks m (later h (take k (batch_of n sent))) n new (Base (next_base old (standing_of node)) ∷ []) [] holds tt (sent_fit k);
   }
+
+-- ---- the call
+
+-- The step has left the acceptor, and so the store keeps it as before.
+module _ (m : Meaning) (Heard : History → Type 0) (genesis : Genesis) (n : ℕ) (node stepped : NodeValue) (old : StoreValue) (whose : node.header ≡ header_of genesis n)
+    (k : Keeps (header_of genesis n) old node.acceptor.state) (out : OutboxValue) (g : GoesOn m Heard node stepped nothing out) (is : out.rebase ≡ true) where
+  abbrev pub still_keeps : Keeps (header_of genesis n) old stepped.acceptor.state
+  still_keeps = record {
+    entries = k.entries;
+    loose = k.loose;
+    holds = k.holds;
+    decided = k.decided;
+    header = k.header;
+    standing = k.standing;
+    stands = k.stands;
+    remembers = k.remembers ∙ sym ((bound m Heard node stepped out g).still is);
+  }
+
+  -- whatever is sent, the acceptor covers
+  pub sent_is_covered : (x : NodeMessage) (d : Datagram) → Contains (batch_of n out.letters) d → Spells (said_by genesis n x) d.bytes → Covers stepped.acceptor.state x
+  sent_is_covered x d c said =
+      let b = bound m Heard node stepped out g in
+      said_covered genesis n stepped out.rebase out.letters (b.header ∙ whose) b.tells x d c n said
+
+module _ (m : Meaning) (h : History) (n : ℕ) (node stepped : NodeValue) (old : StoreValue) (i : Input) (out : OutboxValue)
+    (f : NodeFits m h n (Stands m node old h.genesis n) (disks old)) (heard : InputFits h i) (g : GoesOn m (λ k. InputFits k i) node stepped nothing out) (is : out.rebase ≡ true) where
+  abbrev served : Serves m h n f.shown.keeps.loose stepped out
+  served = serves m h n node stepped old old i out f heard g
+
+  -- it fits on the store as it was
+  abbrev pub stepped_fits : NodeFits m h n (Stands m stepped old h.genesis n) (disks old)
+  stepped_fits = record {
+    lawful = f.lawful;
+    holding = served.holding;
+    shown = record {
+      whose = served.whose;
+      keeps = still_keeps m (λ k. InputFits k i) h.genesis n node stepped old f.shown.whose f.shown.keeps out g is;
+      known = served.known;
+      held = served.held;
+    };
+    fits = served.fits;
+    left = f.left;
+  }
+
+  -- where its Base was written, these letters of it are sent
+  pub installed_goes : (new : StoreValue) → MayBegin (standing_of stepped) → stepped.acceptor.state.snapshot_position ≤ executed stepped.learner → Holds new (Base (next_base old (standing_of stepped)) ∷ []) []
+      → (sent : List LetterValue) → AreOf sent out.letters → Goes m h n (Stands m (standing_here stepped) new h.genesis n) (disks new) out.notes (batch_of n sent)
+  installed_goes new may within holds sent among =
+      let b = bound m (λ k. InputFits k i) node stepped out g in
+      rebased_goes m h n stepped old new served.holding stepped_fits.shown may within f.lawful served.fits out b.tells served.may
+      (λ d c. let k = served.may d c in said_light h.genesis n stepped out.rebase out.letters served.whose b.tells is k.message d c n k.spelled) served.noted holds sent among

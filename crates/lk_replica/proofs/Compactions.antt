@@ -85,7 +85,7 @@ refused m old new (Err e) cause calls failed before stays of_store = (
   record {
     failures = cause;
     calls = calls;
-    earlier = λ number alive store_alive further. before alive store_alive further (ap Err (failed_alone e number));
+    earlier = λ number alive store_alive further. before alive store_alive (omega (arith, further)) (ap Err (failed_alone e number));
     once = λ ended. (ap fault_number (same_error e fault.Failed (failed ended)), stays ended);
   },
   of_store,

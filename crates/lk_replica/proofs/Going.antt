@@ -17,8 +17,7 @@ use Rattle.lk_history.specs.Acceptors.{AcceptorState, Covers, CoversSent}
 use Rattle.lk_history.specs.Datagrams.{said_by}
 use Rattle.lk_history.specs.Nodes.{View, ViewFits}
 use Rattle.lk_history.proofs.Histories.{said_alike, still_stems, still_was, still_chosen_at, covers_both, entry_chosen}
-use Rattle.lk_acceptor.specs.States.{IsOrdered}
-use Rattle.lk_node.specs.Calls.{InputFits, MayGo, NodeFits, Goes}
+use Rattle.lk_node.specs.Calls.{InputFits, NodeFits, Goes}
 use Rattle.lk_node.specs.Entries.{EntriesFit, Rests}
 use Rattle.lk_node.specs.Histories.{History, Genesis, Datagram, later}
 use Rattle.lk_node.specs.Holdings.{Holding}
@@ -28,12 +27,10 @@ use Rattle.lk_node.specs.Letters.{LetterValue, datagram_of, batch_of}
 use Rattle.lk_replica.specs.Posts.{AreOf}
 use Rattle.lk_node.specs.NodeValue.{NodeValue}
 use Rattle.lk_node.specs.Outboxes.{OutboxValue, nothing}
-use Rattle.lk_node.specs.Serving.{with_entries, Tells, Binds, Serves, GoesOn}
+use Rattle.lk_node.specs.Serving.{IsLight, with_entries, Tells, Binds, Serves, GoesOn}
 use Rattle.lk_node.specs.declared.input.Input.{Input}
-use Rattle.lk_node.specs.declared.note.Note.{Note}
 use Rattle.lk_replica.proofs.Images.{held_fit, fit_disks, cover_disks, put_fits, put_covers}
 use Rattle.lk_node.proofs.Nodes.{take_contains, map_contains}
-use Rattle.lk_replica.proofs.Ordered.{standing_ordered}
 use Rattle.lk_node.proofs.Nodes.{letter_spelled}
 use Rattle.lk_replica.proofs.Standings.{entries_are, decided_leave, entries_behind}
 use Rattle.lk_replica.proofs.Thinning.{batch_among}
@@ -104,16 +101,25 @@ still_rests h more (Decided i c) r = still_chosen_at h.genesis h.sent more i c r
 letter_of : (n : ℕ) (letters : List LetterValue) (d : Datagram) → Contains (batch_of n letters) d → (l : LetterValue) × Contains letters l × (datagram_of n l ≡ d)
 letter_of n letters d c = map_contains (datagram_of n) letters d c
 
-module _ (genesis : Genesis) (n : ℕ) (new : NodeValue) (letters : List LetterValue) (is : new.header ≡ header_of genesis n)
-    (tells : (l : LetterValue) → Contains letters l → Tells new.header new.acceptor.state l) where
+module _ (genesis : Genesis) (n : ℕ) (new : NodeValue) (rebase : Bool) (letters : List LetterValue) (is : new.header ≡ header_of genesis n)
+    (tells : (l : LetterValue) → Contains letters l → Tells new.header new.acceptor.state rebase l) where
+  -- what a datagram of the batch says, a letter tells
+  letter_says : (x : NodeMessage) (d : Datagram) → Contains (batch_of n letters) d → (k : ℕ) → Spells (said_by genesis k x) d.bytes → (l : LetterValue) × (c : Contains letters l) × ((tells l c).message ≡ x)
+  letter_says x d c k said =
+      let l = letter_of n letters d c in
+      let t = tells l.0 l.1 in (
+        l.0,
+        l.1,
+        (said_alike genesis n k t.message x d.bytes (subst (λ (e : Datagram). Spells (said_by genesis n t.message) e.bytes) l.2 (letter_spelled genesis n new.header t.message l.0.bytes is t.fits t.bytes)) said).1,
+      )
+
   -- whatever a letter says, the acceptor covers
   pub said_covered : (x : NodeMessage) (d : Datagram) → Contains (batch_of n letters) d → (k : ℕ) → Spells (said_by genesis k x) d.bytes → Covers new.acceptor.state x
-  said_covered x d c k said =
-      let l = letter_of n letters d c in
-      let t = tells l.0 l.1 in
-      subst (Covers new.acceptor.state)
-      (said_alike genesis n k t.message x d.bytes (subst (λ (e : Datagram). Spells (said_by genesis n t.message) e.bytes) l.2 (letter_spelled genesis n new.header t.message l.0.bytes is t.fits t.bytes)) said).1
-      t.covers
+  said_covered x d c k said = let l = letter_says x d c k said in subst (Covers new.acceptor.state) l.2 (tells l.0 l.1).covers
+
+  -- and it is light where the step rebases
+  pub said_light : rebase ≡ true → (x : NodeMessage) (d : Datagram) → Contains (batch_of n letters) d → (k : ℕ) → Spells (said_by genesis k x) d.bytes → IsLight x
+  said_light rebases x d c k said = let l = letter_says x d c k said in subst IsLight l.2 ((tells l.0 l.1).light rebases)
 
   pub batch_covered : (k : ℕ) → CoversSent genesis (take k (batch_of n letters)) n new.acceptor.state
   batch_covered k x sent = said_covered x sent.datagram (take_contains k (batch_of n letters) sent.datagram sent.listed) n sent.spelled
@@ -121,7 +127,7 @@ module _ (genesis : Genesis) (n : ℕ) (new : NodeValue) (letters : List LetterV
 -- ---- the call
 
 pub bound : (m : Meaning) (Heard : History → Type 0) (node new : NodeValue) (out : OutboxValue) → GoesOn m Heard node new nothing out → Binds node new out
-bound m Heard node new out g = g.binds node (record { header = refl; written = refl; unsynced = λ e. tt; tells = λ l c. absurd (omega (arith, c.1)) })
+bound m Heard node new out g = g.binds node (record { header = refl; written = refl; unsynced = λ e. tt; still = λ e. refl; tells = λ l c. absurd (omega (arith, c.1)) })
 
 module _ (m : Meaning) (h : History) (n : ℕ) (node new : NodeValue) (old store : StoreValue) (i : Input) (out : OutboxValue)
     (f : NodeFits m h n (Stands m node old h.genesis n) (disks old)) (heard : InputFits h i) (g : GoesOn m (λ k. InputFits k i) node new nothing out) where
@@ -151,7 +157,7 @@ module _ (m : Meaning) (h : History) (n : ℕ) (node new : NodeValue) (old store
 
   -- these letters of it are sent
   module _ (k : KeepsToo (header_of h.genesis n) store new.acceptor.state loose out.entries out.sync) (left : DisksFit m h n (disks store)) (sent : List LetterValue) (among : AreOf sent out.letters) where
-    tells : (l : LetterValue) → Contains sent l → Tells new.header new.acceptor.state l
+    tells : (l : LetterValue) → Contains sent l → Tells new.header new.acceptor.state out.rebase l
     tells l c = (bound m (λ k. InputFits k i) node new out g).tells l (among l c)
 
     known : AllByRecursion (IsKnown serves.holding.view) k.keeps.loose
@@ -172,7 +178,7 @@ module _ (m : Meaning) (h : History) (n : ℕ) (node new : NodeValue) (old store
       position = entries.position;
       snapshot = entries.snapshot;
       covers = covers_both h.genesis h.sent (take j (batch_of n sent)) n (acceptor_of entries.standing) entries.covers
-          (subst (CoversSent h.genesis (take j (batch_of n sent)) n) (sym remembers) (batch_covered h.genesis n new sent serves.whose tells j));
+          (subst (CoversSent h.genesis (take j (batch_of n sent)) n) (sym remembers) (batch_covered h.genesis n new out.rebase sent serves.whose tells j));
       stems = still_stems h.genesis h.sent (take j (batch_of n sent)) (view_of entries.standing entries.under) entries.stems;
     }
 
@@ -206,7 +212,7 @@ module _ (m : Meaning) (genesis : Genesis) (n : ℕ) (held : Holding) (node new 
   step_syncs k x d c said =
       let b = bound m Heard node new out g in
       cover_disks m genesis n store k.entries k.loose x k.holds
-      (k.header, (k.standing, k.stands, subst (λ (a : AcceptorState). Covers a x) (sym k.remembers) (said_covered genesis n new out.letters (b.header ∙ shown.whose) b.tells x d c n said)))
+      (k.header, (k.standing, k.stands, subst (λ (a : AcceptorState). Covers a x) (sym k.remembers) (said_covered genesis n new out.rebase out.letters (b.header ∙ shown.whose) b.tells x d c n said)))
 
   pub step_covers : KeepsAtLeast store shown.keeps.entries (plain shown.keeps.loose ++ plain out.entries) → (x : NodeMessage) → AllCover m genesis n (disks old) x → AllCover m genesis n (disks store) x
   step_covers keeps x c = put_covers m genesis n old store shown.keeps.entries shown.keeps.loose out.entries x shown.keeps.holds keeps c

@@ -1,9 +1,7 @@
 -- What a rebase leaves of a node and its store: the new Base covers what the old entries covered, and fits as they did.
-use Rattle.std.proofs.Common.{◌≡◌, ℕ, zero, suc, ◌≤◌, ◌⊎◌, inl, inr, Bool, true, false, cond, List, [], ◌∷◌, ◌++◌, map, take, length, Contains, refl, sym, ◌∙◌, ap, subst, subst₂, arith}
-use Rattle.std.specs.List.{AllByRecursion}
+use Rattle.std.proofs.Common.{◌≡◌, ℕ, ◌≤◌, inl, inr, Bool, true, false, cond, List, [], ◌∷◌, map, length, Contains, refl, sym, ◌∙◌, ap, subst, subst₂, arith}
 use Rattle.lk_types.specs.BallotValue.{BallotValue}
-use Rattle.lk_types.specs.Ballots.{IsBelow, IsAtMost, is_below}
-use Rattle.lk_types.specs.declared.entry.Entry.{Entry}
+use Rattle.lk_types.specs.Ballots.{IsAtMost, is_below}
 use Rattle.lk_types.specs.declared.vote.Vote.{Vote}
 use Rattle.lk_types.proofs.Values.{below_by_test}
 use Rattle.lk_wire.specs.declared.message.NodeMessage.{NodeMessage}
@@ -12,7 +10,7 @@ use Rattle.lk_log.specs.Standings.{greater, greatest_of, ballot_of, of_base, Has
 use Rattle.lk_disk.specs.Disk.{Disk}
 use Rattle.lk_log.specs.StoreValue.{StoreValue, pick, disks}
 use Rattle.lk_log.specs.Stores.{plain, HoldsOn, Holds, MayBegin, next_base, KeepsOrIs}
-use Rattle.lk_log.specs.Values.{StandingValue, BaseValue}
+use Rattle.lk_log.specs.Values.{BaseValue}
 use Rattle.lk_log.specs.declared.stored.Stored.{Stored}
 use Rattle.lk_log.specs.declared.stored.Stored.TheVariants.{Base}
 use Rattle.lk_log.specs.Rooms.{StaysWithin}
@@ -20,10 +18,8 @@ use Rattle.lk_log.proofs.Room.{within_same}
 use Rattle.lk_log.proofs.StoreLaws.{rising_stands, one_standing, one_header, of_every, synced_live, rebase_every}
 use Rattle.lk_state.specs.Meanings.{Meaning}
 use Rattle.lk_state.specs.Packed.{packed}
-use Rattle.lk_state.specs.States.{WholeValue}
 use Rattle.lk_history.specs.Acceptors.{AcceptorState, Covers, AreProposed, TakesSnapshot}
 use Rattle.lk_history.specs.Changes.{with_acceptor, packs}
-use Rattle.lk_history.specs.Nodes.{View}
 use Rattle.lk_history.proofs.Histories.{at_most_below, below_self, change_fits}
 use Rattle.lk_acceptor.specs.States.{IsOrdered, without_votes_to}
 use Rattle.lk_acceptor.proofs.Acceptors.{takes_snapshot}
@@ -31,10 +27,10 @@ use Rattle.lk_learner.specs.Learners.{executed}
 use Rattle.lk_learner.proofs.Learnerships.{executed_is, here_follows}
 use Rattle.lk_node.specs.Calls.{NodeFits, Goes}
 use Rattle.lk_node.specs.Entries.{EntriesFit}
-use Rattle.lk_node.specs.Histories.{History, Genesis, Datagram, later, IsLawful}
+use Rattle.lk_node.specs.Histories.{History, Genesis, IsLawful}
 use Rattle.lk_node.specs.Holdings.{Holding, HoldingFits}
-use Rattle.lk_node.specs.Keeping.{IsKnown, Keeps, IsHeld, Stands}
-use Rattle.lk_node.specs.Leavings.{header_of, acceptor_of, view_of, DisksFit, AllCover}
+use Rattle.lk_node.specs.Keeping.{IsKnown, Keeps, Stands}
+use Rattle.lk_node.specs.Leavings.{header_of, acceptor_of, DisksFit, AllCover}
 use Rattle.lk_node.specs.NodeValue.{NodeValue}
 use Rattle.lk_node.specs.Packing.{standing_of, standing_here}
 use Rattle.lk_node.specs.Served.{text}
@@ -42,7 +38,7 @@ use Rattle.lk_node.proofs.Nodes.{contains_more}
 use Rattle.lk_replica.specs.Compacting.{AllStandAt, IsSameStore}
 use Rattle.lk_replica.proofs.Adding.{adds}
 use Rattle.lk_replica.proofs.Going.{known_rests}
-use Rattle.lk_replica.proofs.Images.{EntriesCover, fit_entries, entries_fit, cover_entries, entries_cover, none_asked, cover_more}
+use Rattle.lk_replica.proofs.Images.{EntriesCover, fit_entries, entries_fit, cover_entries, entries_cover, cover_disks, none_asked, cover_more}
 use Rattle.lk_replica.proofs.Ordered.{standing_ordered}
 use Rattle.lk_replica.proofs.Revivals.{nothing_later}
 
@@ -89,7 +85,7 @@ snapshot_covers old new i t (kinds.Lead b k) c = c
 
 -- ---- the new Base
 
-module _ (m : Meaning) (genesis : Genesis) (n : ℕ) (node : NodeValue) (old new : StoreValue) (x : Holding) (shown : Stands m node old genesis n x)
+module _ (m : Meaning) (genesis : Genesis) (n : ℕ) (node : NodeValue) (old new : StoreValue) (keeps : Keeps (header_of genesis n) old node.acceptor.state)
     (may : MayBegin (standing_of node)) (within : node.acceptor.state.snapshot_position ≤ executed node.learner) where
   abbrev base : BaseValue
   base = next_base old (standing_of node)
@@ -98,13 +94,13 @@ module _ (m : Meaning) (genesis : Genesis) (n : ℕ) (node : NodeValue) (old new
   takes = takes_snapshot node.acceptor.state (executed node.learner) within
 
   ordered : (v : Vote) → Contains node.acceptor.state.votes v → IsAtMost v.ballot node.acceptor.state.promised
-  ordered = (subst IsOrdered shown.keeps.remembers (standing_ordered shown.keeps.entries shown.keeps.standing shown.keeps.stands)).promised
+  ordered = (subst IsOrdered keeps.remembers (standing_ordered keeps.entries keeps.standing keeps.stands)).promised
 
   pub base_stands : StandsFor (Base base ∷ []) (standing_of node)
   base_stands = subst (StandsFor (Base base ∷ [])) (base_is base (λ v c. ordered v (takes.only v c))) (rising_stands base may.votes_rise may.pairs_rise)
 
   base_header : base.header ≡ header_of genesis n
-  base_header = one_header shown.keeps.entries old.header (header_of genesis n) shown.keeps.holds.header_is shown.keeps.header
+  base_header = one_header keeps.entries old.header (header_of genesis n) keeps.holds.header_is keeps.header
 
   -- ---- whatever has happened
 
@@ -112,30 +108,36 @@ module _ (m : Meaning) (genesis : Genesis) (n : ℕ) (node : NodeValue) (old new
   base_covers y c = (base_header, (standing_of node, base_stands, snapshot_covers node.acceptor.state (without_votes_to node.acceptor.state (executed node.learner)) (executed node.learner) takes y c))
 
   -- after any exit of a rebase every image covers what every image covered
-  pub rebase_covers : KeepsOrIs (disks new) shown.keeps.entries (plain shown.keeps.loose) base → (y : NodeMessage) → AllCover m genesis n (disks old) y → AllCover m genesis n (disks new) y
-  rebase_covers keeps y c =
+  pub rebase_covers : KeepsOrIs (disks new) keeps.entries (plain keeps.loose) base → (y : NodeMessage) → AllCover m genesis n (disks old) y → AllCover m genesis n (disks new) y
+  rebase_covers left y c =
       let every = cover_entries m genesis n (disks old) y c in
-      let ks : EntriesCover genesis n y shown.keeps.entries = of_every (EntriesCover genesis n y) old shown.keeps.entries (plain shown.keeps.loose) (header_of genesis n) (text m genesis []) shown.keeps.holds every in
-      let same : acceptor_of ks.1.0 ≡ node.acceptor.state = ap acceptor_of (one_standing shown.keeps.entries ks.1.0 shown.keeps.standing ks.1.1 shown.keeps.stands) ∙ shown.keeps.remembers in
+      let ks : EntriesCover genesis n y keeps.entries = of_every (EntriesCover genesis n y) old keeps.entries (plain keeps.loose) (header_of genesis n) (text m genesis []) keeps.holds every in
+      let same : acceptor_of ks.1.0 ≡ node.acceptor.state = ap acceptor_of (one_standing keeps.entries ks.1.0 keeps.standing ks.1.1 keeps.stands) ∙ keeps.remembers in
       entries_cover m genesis n (disks new) y
-      (rebase_every (EntriesCover genesis n y) (λ e. Unit {0}) old new shown.keeps.entries (plain shown.keeps.loose) shown.keeps.loose base (header_of genesis n) (text m genesis []) shown.keeps.holds refl keeps
-      (cover_more genesis n y) (none_asked shown.keeps.loose) (base_covers y (subst (λ (a : AcceptorState). Covers a y) same ks.1.2)) every)
+      (rebase_every (EntriesCover genesis n y) (λ e. Unit {0}) old new keeps.entries (plain keeps.loose) keeps.loose base (header_of genesis n) (text m genesis []) keeps.holds refl left
+      (cover_more genesis n y) (none_asked keeps.loose) (base_covers y (subst (λ (a : AcceptorState). Covers a y) same ks.1.2)) every)
 
+  -- where it was made every image covers what the node does
+  pub rebase_syncs : Holds new (Base base ∷ []) [] → (y : NodeMessage) → Covers node.acceptor.state y → AllCover m genesis n (disks new) y
+  rebase_syncs holds y c = cover_disks m genesis n new (Base base ∷ []) [] y holds (base_covers y c)
+
+module _ (m : Meaning) (genesis : Genesis) (n : ℕ) (node : NodeValue) (old new : StoreValue) (x : Holding) (shown : Stands m node old genesis n x)
+    (may : MayBegin (standing_of node)) (within : node.acceptor.state.snapshot_position ≤ executed node.learner) where
   -- what the node then holds
   abbrev pub here : Holding
   here = record { view = with_acceptor x.view (without_votes_to x.view.acceptor (executed node.learner)); waiting = x.waiting; gathered = x.gathered }
 
-  pub rebase_stands : Holds new (Base base ∷ []) [] → Stands m (standing_here node) new genesis n here
+  pub rebase_stands : Holds new (Base (next_base old (standing_of node)) ∷ []) [] → Stands m (standing_here node) new genesis n here
   rebase_stands holds = record {
     whose = shown.whose;
     keeps = record {
-      entries = Base base ∷ [];
+      entries = Base (next_base old (standing_of node)) ∷ [];
       loose = [];
       holds = holds;
       decided = tt;
-      header = base_header;
+      header = base_header m genesis n node old new shown.keeps may within;
       standing = standing_of node;
-      stands = base_stands;
+      stands = base_stands m genesis n node old new shown.keeps may within;
       remembers = refl;
     };
     known = tt;
@@ -151,7 +153,7 @@ module _ (m : Meaning) (genesis : Genesis) (n : ℕ) (node : NodeValue) (old new
 -- ---- in a history
 
 module _ (m : Meaning) (h : History) (n : ℕ) (node : NodeValue) (old new : StoreValue) (x : Holding) (shown : Stands m node old h.genesis n x)
-    (may : MayBegin (standing_of node)) (within : node.acceptor.state.snapshot_position ≤ executed node.learner) (lawful : IsLawful h) (fits : HoldingFits m h n x) where
+    (may : MayBegin (standing_of node)) (within : node.acceptor.state.snapshot_position ≤ executed node.learner) (lawful : IsLawful m h) (fits : HoldingFits m h n x) where
   far : executed node.learner ≡ length x.view.done
   far = executed_is m h.genesis x.view.done node.learner.whole shown.held.follows.sums
 
@@ -159,15 +161,15 @@ module _ (m : Meaning) (h : History) (n : ℕ) (node : NodeValue) (old new : Sto
   pub base_fits : EntriesFit m h n (Base (next_base old (standing_of node)) ∷ [])
   base_fits = record {
     standing = standing_of node;
-    header = base_header m h.genesis n node old new x shown may within;
-    stands = base_stands m h.genesis n node old new x shown may within;
+    header = base_header m h.genesis n node old new shown.keeps may within;
+    stands = base_stands m h.genesis n node old new shown.keeps may within;
     under = x.view.done;
     position = sym far;
     snapshot = ap packed shown.held.follows.sums;
-    covers = λ y sent. snapshot_covers node.acceptor.state (without_votes_to node.acceptor.state (executed node.learner)) (executed node.learner) (takes m h.genesis n node old new x shown may within) y
+    covers = λ y sent. snapshot_covers node.acceptor.state (without_votes_to node.acceptor.state (executed node.learner)) (executed node.learner) (takes m h.genesis n node old new shown.keeps may within) y
         (subst (λ (a : AcceptorState). Covers a y) shown.held.acceptor (fits.view.covers y sent));
     stems = record {
-      votes = λ v c. subst (AreProposed h.genesis h.sent) shown.held.acceptor fits.view.stems.votes v ((takes m h.genesis n node old new x shown may within).only v c);
+      votes = λ v c. subst (AreProposed h.genesis h.sent) shown.held.acceptor fits.view.stems.votes v ((takes m h.genesis n node old new shown.keeps may within).only v c);
       done = fits.view.stems.done;
       snapshot = omega (arith, far);
       pairs = λ i v c. fits.view.stems.pairs i v (shown.held.follows.known (i, v) c);
@@ -209,7 +211,7 @@ module _ (m : Meaning) (genesis : Genesis) (n : ℕ) (node : NodeValue) (old new
   all_stand holds image left =
       let live = synced_live new (Base (next_base old (standing_of node)) ∷ []) holds image left in (
         standing_of node,
-        record { entries = Base (next_base old (standing_of node)) ∷ []; found = inl live; header = base_header m genesis n node old new x shown may within; stands = base_stands m genesis n node old new x shown may within },
+        record { entries = Base (next_base old (standing_of node)) ∷ []; found = inl live; header = base_header m genesis n node old new shown.keeps may within; stands = base_stands m genesis n node old new shown.keeps may within },
         refl,
         sym (executed_is m genesis x.view.done node.learner.whole shown.held.follows.sums),
         ap packed shown.held.follows.sums,
@@ -258,5 +260,5 @@ module _ (m : Meaning) (old new : StoreValue) (same : IsSameStore old new) where
   same_node_fits node h n f = record { lawful = f.lawful; holding = f.holding; shown = same_stands node h.genesis n f.holding f.shown; fits = f.fits; left = same_fit h n f.left }
 
 -- a node that went on with nothing noted and nothing sent fits again
-pub goes_fits : (m : Meaning) (h : History) (n : ℕ) (node : NodeValue) (store : StoreValue) → IsLawful h → DisksFit m h n (disks store) → Goes m h n (Stands m node store h.genesis n) (disks store) [] [] → NodeFits m h n (Stands m node store h.genesis n) (disks store)
+pub goes_fits : (m : Meaning) (h : History) (n : ℕ) (node : NodeValue) (store : StoreValue) → IsLawful m h → DisksFit m h n (disks store) → Goes m h n (Stands m node store h.genesis n) (disks store) [] [] → NodeFits m h n (Stands m node store h.genesis n) (disks store)
 goes_fits m h n node store lawful left g = record { lawful = lawful; holding = g.holding; shown = g.shown; fits = g.fits; left = left }

@@ -3,6 +3,7 @@ use Rattle.std.proofs.Common.{◌≡◌, ℕ, zero, suc, ◌+◌, ◌*◌, ◌<�
 use Rattle.std.proofs.lemmas.Bool.{cases_Bool, and_parts, ltb-true, lt-ltb, eq-eqb, eqb-true, eqb-false}
 use Rattle.std.proofs.lemmas.List.Elements.{Contains-append_cases}
 use Rattle.lk_state.specs.Meanings.{Meaning}
+use Rattle.lk_state.specs.Packed.{packed}
 use Rattle.lk_state.specs.States.{WholeValue}
 use Rattle.lk_state.specs.Runs.{ran}
 use Rattle.lk_learner.specs.Learners.{Command, Pair, LearnerValue, IsLearner, executed, alpha, begun, IsNext, IsWanted, keeping, advanced}
@@ -81,6 +82,7 @@ pub record Comes (m : Meaning) (node : ℕ) (w : WholeValue) (pairs : List Pair)
   pub rising : are_pairs_above (executed l) all ≡ true
   pub quiet : (v : Command) → IsNext l v → ⊥
   pub snapshot : l.snapshot_position ≡ w.roster.executed
+  pub text : l.snapshot ≡ packed w
   pub gathered : l.gathered ≡ None
   pub sets : length l.whole.roster.sets ≡ length w.roster.sets
   pub state : all_ran m (run_from (executed l) all) l.whole ≡ all_ran m (run_from w.roster.executed pairs) w
@@ -96,6 +98,7 @@ module _ (m : Meaning) (node : ℕ) (w : WholeValue) (pairs : List Pair) where
     rising = rising;
     quiet = λ v h. omega (arith, h.1);
     snapshot = refl;
+    text = refl;
     gathered = refl;
     sets = refl;
     state = refl;
@@ -116,6 +119,7 @@ module _ (m : Meaning) (node : ℕ) (w : WholeValue) (pairs : List Pair) where
         rising = c.rising;
         quiet = none_next p l c.quiet other;
         snapshot = c.snapshot;
+        text = c.text;
         gathered = c.gathered;
         sets = c.sets;
         state = c.state;
@@ -157,6 +161,7 @@ module _ (m : Meaning) (node : ℕ) (w : WholeValue) (pairs : List Pair) where
           rising = rw moves.0 (subst (λ (i : ℕ). are_pairs_above i rest ≡ true) is rise.1);
           quiet = λ v h. let k = subst (λ (qs : List Pair). Contains qs (executed (advanced m p.1 (keeping p l)) + 1, v)) empties h in omega (arith, k.1);
           snapshot = c.snapshot;
+          text = c.text;
           gathered = c.gathered;
           sets = moves.1 ∙ c.sets;
           state = rw moves.0 (ap (λ (us : List Command). all_ran m us l.whole) (sym runs) ∙ c.state);
@@ -192,7 +197,7 @@ module _ (m : Meaning) (node : ℕ) (w : WholeValue) (pairs : List Pair) where
           let state : l.whole ≡ all_ran m (run_from w.roster.executed pairs) w = sym (ap (λ (us : List Command). all_ran m us l.whole) (stops [] c)) ∙ c.state in
           let served : l.served ≡ run_from w.roster.executed pairs = sym (ap (λ (us : List Command). l.served ++ us) (stops [] c) ∙ append-nil l.served) ∙ c.served in
           let left : l.pairs ≡ drop (length (run_from w.roster.executed pairs)) pairs = sym (ap (λ (us : List Command). drop (length us) (l.pairs ++ [])) (stops [] c) ∙ append-nil l.pairs) ∙ c.left in
-          λ i. record { whole = state i; snapshot_position = c.snapshot i; served = served i; pairs = left i; gathered = c.gathered i }
+          λ i. record { whole = state i; snapshot_position = c.snapshot i; snapshot = c.text i; served = served i; pairs = left i; gathered = c.gathered i }
 
       pub comes_near : IsLearner l → (p : Pair) → Contains pairs p → p.0 ≤ reached w.roster.executed pairs + 2 * length w.roster.sets
       comes_near fits p h = elim (c.passed p h) [

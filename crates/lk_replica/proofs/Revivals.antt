@@ -17,6 +17,7 @@ use Rattle.lk_log.specs.declared.fault.StoreFault.{StoreFault}
 use Rattle.lk_log.specs.declared.fault.StoreFault.TheVariants as store
 use Rattle.lk_log.proofs.StoreLaws.{one_standing, opens_found, opens_holds}
 use Rattle.lk_state.specs.Meanings.{Meaning, KeepsTexts}
+use Rattle.lk_state.specs.Packed.{packed}
 use Rattle.lk_state.specs.States.{WholeValue, whole_after}
 use Rattle.lk_state.proofs.Wholes.{ran-whole_after, states_fit}
 use Rattle.lk_history.specs.Acceptors.{CoversSent}
@@ -90,6 +91,10 @@ got_behind : (L : List Command) (v : Command) (vs : List Command) → slice_get 
 got_behind [] v vs = refl
 got_behind (u ∷ L) v vs = got_behind L v vs
 
+before_all : (L vs : List Command) → take (length L) (L ++ vs) ≡ L
+before_all [] vs = refl
+before_all (u ∷ L) vs = ap (λ (l : List Command). u ∷ l) (before_all L vs)
+
 behind_all : (L vs : List Command) → drop (length L) (L ++ vs) ≡ vs
 behind_all [] vs = refl
 behind_all (u ∷ L) vs = behind_all L vs
@@ -109,7 +114,7 @@ module _ (m : Meaning) (genesis : Genesis) where
   sums_behind L [] = ap (whole_after m genesis) (sym (append-nil L))
   sums_behind L (v ∷ vs) = ap (all_ran m vs) (ran-whole_after m genesis L v) ∙ sums_behind (L ++ v ∷ []) vs ∙ ap (whole_after m genesis) (append_assoc L (v ∷ []) vs)
 
-module _ (m : Meaning) (h : History) (lawful : IsLawful h) where
+module _ (m : Meaning) (h : History) (lawful : IsLawful m h) where
   -- pairs that are chosen, run in order, make a longer chosen list
   run_chosen : (L : List Command) (ps : List Pair) → Chosen h.genesis h.sent L → ((i : ℕ) (v : Command) → Contains ps (i, v) → ChosenAt h.genesis h.sent i v) → Chosen h.genesis h.sent (L ++ run_from (length L) ps)
   run_chosen L [] chosen at = subst (Chosen h.genesis h.sent) (sym (append-nil L)) chosen
@@ -146,6 +151,7 @@ follows_again m genesis under w ps sums =
     record {
       sums = ap (all_ran m vs) sums ∙ sums_behind m genesis under vs;
       within = omega (arith, e, n);
+      text = ap packed sums ∙ ap (λ (L : List Command). packed (whole_after m genesis L)) (sym (ap (λ (i : ℕ). take i (under ++ vs)) e ∙ before_all under vs));
       served = sym (ap (λ (i : ℕ). drop i (under ++ vs)) e ∙ behind_all under vs);
       known = λ p h. h;
       kept = λ p h. h;
@@ -155,7 +161,7 @@ follows_again m genesis under w ps sums =
 
 -- what its entries stand for, the disks of each image that was there fit, so does what the node holds
 module _ (m : Meaning) (IsText : List ℕ → Type 0) (keeps : KeepsTexts IsText m) (h : History) (n : ℕ) (old : Side → Disk) (store : StoreValue) (s : StandingValue) (node : NodeValue) (notes : List Note)
-    (lawful : IsLawful h) (fits : IsGenesis h.genesis) (o : Opens (seen old) (header_of h.genesis n) (text m h.genesis []) store s) (r : Restores m IsText (header_of h.genesis n) s node notes) (before : DisksFit m h n old) (named : store.header ≡ header_of h.genesis n) where
+    (lawful : IsLawful m h) (fits : IsGenesis h.genesis) (o : Opens (seen old) (header_of h.genesis n) (text m h.genesis []) store s) (r : Restores m IsText (header_of h.genesis n) s node notes) (before : DisksFit m h n old) (named : store.header ≡ header_of h.genesis n) where
   entries : EntriesFit m h n o.entries
   entries = opens_found (EntriesFit m h n) old (header_of h.genesis n) (text m h.genesis []) store s o (fit_entries m h n old before)
 

@@ -1,7 +1,5 @@
 -- What a call of a replica has done that rebases its store.
 use Rattle.std.specs.Prelude.{◌≡◌, ℕ, ◌+◌, ◌≤◌, ◌⊎◌, List, [], ◌∷◌, length}
-use Rattle.lk_wire.specs.declared.message.NodeMessage.{NodeMessage}
-use Rattle.lk_wire.specs.declared.message.NodeMessage.TheVariants as kinds
 use Rattle.lk_disk.specs.Disk.{Disk, contents}
 use Rattle.lk_disk.specs.declared.device.Side.{Side}
 use Rattle.lk_log.specs.Causes.{rebase_calls}
@@ -50,9 +48,3 @@ pub record RebasesWhereDue (node : NodeValue) (store : StoreValue) (new : NodeVa
 pub record CallsWhereDue (node : NodeValue) (store : StoreValue) (k : ℕ) : Type 0 where
   pub due : IsDue node store → k ≡ rebase_calls
   pub rests : (IsDue node store → ⊥) → k ≡ 0
-
--- the message is no promise and no vote: what it may be sent by, a rebase leaves
-abbrev pub IsLight : NodeMessage → Type 0
-IsLight (kinds.Promise p) = ⊥
-IsLight (kinds.Accepted x) = ⊥
-IsLight _ = Unit {0}

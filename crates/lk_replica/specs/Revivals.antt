@@ -1,5 +1,5 @@
 -- What a revival makes of what a store stands for.
-use Rattle.std.specs.Prelude.{◌≡◌, ℕ, ◌⊎◌, ◌+◌, ◌-◌, ◌*◌, ◌≤◌, ◌==◌, if◌then◌else◌, false, None, Result, Ok, Err, List, [], ◌∷◌, length, drop, Contains}
+use Rattle.std.specs.Prelude.{◌≡◌, ℕ, ◌⊎◌, ◌+◌, ◌*◌, ◌≤◌, ◌==◌, if◌then◌else◌, false, None, Result, Ok, Err, List, [], ◌∷◌, length, drop, Contains}
 use Rattle.lk_types.specs.declared.vote.Vote.{Vote}
 use Rattle.lk_disk.specs.Disk.{Disk}
 use Rattle.lk_disk.specs.Memory.{Memory, disk_of}
@@ -10,11 +10,12 @@ use Rattle.lk_log.specs.Images.{IsDamaged, seen}
 use Rattle.lk_log.specs.Stores.{IsWrong, Opens, OpensBy}
 use Rattle.lk_log.specs.Values.{HeaderValue, StandingValue}
 use Rattle.lk_state.specs.Meanings.{Meaning}
-use Rattle.lk_state.specs.Packed.{Packs}
+use Rattle.lk_state.specs.Packed.{Packs, packed}
 use Rattle.lk_state.specs.Runs.{ran}
 use Rattle.lk_state.specs.States.{WholeValue}
 use Rattle.lk_leader.specs.Terms.{idle}
 use Rattle.lk_learner.specs.Learners.{Pair, LearnerValue}
+pub use Rattle.lk_learner.specs.Unpacking.{Unpacks}
 use Rattle.lk_node.specs.Histories.{Genesis, Command}
 use Rattle.lk_node.specs.Leavings.{header_of, acceptor_of, StandsAs}
 use Rattle.lk_node.specs.NodeValue.{NodeValue}
@@ -44,6 +45,7 @@ abbrev pub relearned : Meaning → WholeValue → List Pair → LearnerValue
 relearned m w pairs = record {
   whole = all_ran m (run_from w.roster.executed pairs) w;
   snapshot_position = w.roster.executed;
+  snapshot = packed w;
   served = run_from w.roster.executed pairs;
   pairs = drop (length (run_from w.roster.executed pairs)) pairs;
   gathered = None;
@@ -52,12 +54,6 @@ relearned m w pairs = record {
 -- how many positions are executed once it has
 abbrev pub reached : ℕ → List Pair → ℕ
 reached e pairs = e + length (run_from e pairs)
-
--- the snapshot is the packed text of a state at its position, of this alpha
-pub record Unpacks (IsText : List ℕ → Type 0) (alpha position : ℕ) (snapshot : List ℕ) (w : WholeValue) : Type 0 where
-  pub packs : Packs IsText w snapshot
-  pub executed : w.roster.executed ≡ position
-  pub sets : length w.roster.sets ≡ alpha
 
 -- the standing may be revived: its snapshot unpacks, and no vote or pair lies more than twice alpha above what is then executed
 pub record MayRevive (IsText : List ℕ → Type 0) (whose : HeaderValue) (s : StandingValue) (w : WholeValue) : Type 0 where

@@ -1,23 +1,24 @@
 // Writing all that a node holds as the Base of the other file.
-ghost use Rattle.std.specs.Prelude.{◌≡◌, ℕ, ◌≤◌, ◌<◌, length, List, [], ◌∷◌, false, true, ◌↔◌, IsTrue, OnOk, IfOk, IfErr, IsErrOf, MatchResult};
+ghost use Rattle.std.specs.Prelude.{◌≡◌, ℕ, ◌+◌, ◌≤◌, ◌<◌, length, List, [], ◌∷◌, false, true, ◌↔◌, IsTrue, OnOk, IfOk, IfErr, IsErrOf, MatchResult};
 ghost use Rattle.lk_types.specs.Limits.{max_base, max_count};
 ghost use Rattle.lk_disk.specs.Disk.{contents};
 ghost use Rattle.lk_disk.specs.Meters.{Passes};
 ghost use Rattle.lk_log.specs.Causes.{rebase_calls};
 ghost use Rattle.lk_log.specs.Rooms.{StaysWithin};
 ghost use Rattle.lk_log.specs.StoreValue.{disks};
-ghost use Rattle.lk_log.specs.Stores.{Holds, next_base};
+ghost use Rattle.lk_log.specs.Stores.{Holds, MayBegin, next_base};
 ghost use Rattle.lk_log.specs.declared.stored.Stored.{Stored};
 ghost use Rattle.lk_log.specs.declared.stored.Stored.TheVariants.{Base};
 ghost use Rattle.lk_state.specs.Meanings.{meaning};
+ghost use Rattle.lk_history.specs.Acceptors.{Covers};
 ghost use Rattle.lk_history.specs.Datagrams.{NodeMessage};
 ghost use Rattle.lk_learner.specs.Learners.{executed};
 ghost use Rattle.lk_node.specs.Calls.{NodeFits, Goes};
 ghost use Rattle.lk_node.specs.Executing.{NothingToRun};
 ghost use Rattle.lk_node.specs.Histories.{History, Genesis};
 ghost use Rattle.lk_node.specs.Holdings.{Holding};
-ghost use Rattle.lk_node.specs.Keeping.{Stands};
-ghost use Rattle.lk_node.specs.Leavings.{DisksFit, AllCover};
+ghost use Rattle.lk_node.specs.Keeping.{Keeps, Stands};
+ghost use Rattle.lk_node.specs.Leavings.{header_of, DisksFit, AllCover};
 ghost use Rattle.lk_node.specs.Packing.{standing_of, standing_here};
 ghost use Rattle.lk_replica.specs.Compacting.{AllStandAt, IsDue, IsSameStore, RebasesWhereDue, CallsWhereDue};
 ghost use Rattle.lk_replica.specs.Compacted.{IsStoreFault};
@@ -40,14 +41,20 @@ pub fn write_base<M: Machine, D: LogDisk + Drop>(
         → OnOk result (Goes (meaning M.first M.next M.answer) h n (Stands (meaning M.first M.next M.answer) node.new store.new h.genesis n) (disks store.new) [] []) }
     ensures ends { D.is_honest → (h : History) (n : ℕ) → NodeFits (meaning M.first M.next M.answer) h n (Stands (meaning M.first M.next M.answer) node.old store.old h.genesis n) (disks store.old)
         → DisksFit (meaning M.first M.next M.answer) h n (disks store.new) }
-    ensures covers { D.is_honest → (genesis : Genesis) (n : ℕ) (held : Holding) (x : NodeMessage) → Stands (meaning M.first M.next M.answer) node.old store.old genesis n held
+    ensures covers { D.is_honest → (genesis : Genesis) (n : ℕ) (x : NodeMessage) → Keeps (header_of genesis n) store.old node.old.acceptor.state
         → AllCover (meaning M.first M.next M.answer) genesis n (disks store.old) x → AllCover (meaning M.first M.next M.answer) genesis n (disks store.new) x }
+    // At Ok every image covers what the node does.
+    ensures syncs { D.is_honest → (genesis : Genesis) (n : ℕ) (x : NodeMessage) → Keeps (header_of genesis n) store.old node.old.acceptor.state → Covers node.old.acceptor.state x
+        → OnOk result (AllCover (meaning M.first M.next M.answer) genesis n (disks store.new) x) }
     ensures stands { D.is_honest → (genesis : Genesis) (n : ℕ) (held : Holding) → Stands (meaning M.first M.next M.answer) node.old store.old genesis n held
         → OnOk result (AllStandAt (meaning M.first M.next M.answer) genesis n (disks store.new) (executed node.new.learner) held.view.done) }
     ensures shows { D.is_honest → (genesis : Genesis) (n : ℕ) (held : Holding) → Stands (meaning M.first M.next M.answer) node.old store.old genesis n held
         → OnOk result ((x : Holding) × Stands (meaning M.first M.next M.answer) node.new store.new genesis n x) }
     ensures becomes { OnOk result (node.new ≡ standing_here node.old) }
     ensures writes { D.is_honest → (ks ls : List Stored) → Holds store.old ks ls → OnOk result (Holds store.new (Base (next_base store.old (standing_of node.old)) ∷ []) []) }
+    ensures begins { OnOk result (MayBegin (standing_of node.old)) }
+    ensures within { node.old.acceptor.state.snapshot_position ≤ executed node.old.learner }
+    ensures generation { OnOk result (store.new.generation ≡ store.old.generation + 1) }
     ensures runs { NothingToRun node.old → OnOk result (NothingToRun node.new) }
     ensures alive { OnOk result (store.new.failed ≡ false) }
     ensures only { IfErr result (IfSend (λ notes. ⊥)) }
@@ -63,7 +70,7 @@ pub fn write_base<M: Machine, D: LogDisk + Drop>(
 {
     let standing = node.standing()?;
     store.rebase(&standing)?;
-    node.stand_here();
+    node.stand_here(standing.snapshot);
     Ok(())
 }
 
@@ -103,6 +110,7 @@ pub fn rebase_where_due<M: Machine, D: LogDisk + Drop>(
     ensures shows { D.is_honest → (genesis : Genesis) (n : ℕ) (held : Holding) → Stands (meaning M.first M.next M.answer) node.old store.old genesis n held
         → OnOk result ((x : Holding) × Stands (meaning M.first M.next M.answer) node.new store.new genesis n x) }
     ensures exact { D.is_honest → OnOk result (RebasesWhereDue node.old store.old node.new store.new) }
+    ensures further { OnOk result (store.new.generation ≤ store.old.generation + 1) }
     ensures runs { NothingToRun node.old → OnOk result (NothingToRun node.new) }
     ensures alive { OnOk result (store.new.failed ≡ false) }
     ensures only { IfErr result (IfSend (λ notes. ⊥)) }

@@ -43,7 +43,7 @@ impl<M: Machine> MemoryReplica for Replica<M, MemoryDisk> {
     ghost behaves = { record {
       memory = λ r. device_of r.store;
       with_trap = λ t r. record r { store = record r.store { meter = trapped t r.store.meter } };
-      Takes = λ old bytes new came. ComesTo (meaning M.first M.next M.answer) old bytes new came;
+      Takes = λ old bytes new came. ComesTo (meaning M.first M.next M.answer) M.IsText old bytes new came;
       Revives = λ device whose came. RevivesTo (meaning M.first M.next M.answer) M.IsText device whose came;
       Compacts = λ old new came. CompactsTo (meaning M.first M.next M.answer) old new came;
     } };

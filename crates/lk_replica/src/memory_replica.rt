@@ -72,9 +72,9 @@ pub trait MemoryReplica: Sized + Drop {
         device: MemoryDisk,
         header: &Header,
     ) -> Result<Revived<Self>, ReviveFault<MemoryDisk>>
-        ensures up { (h : History) (n : ℕ) → header.now ≡ header_of h.genesis n → IsLawful h → DisksFit meaning h n (disk_of device)
+        ensures up { (h : History) (n : ℕ) → header.now ≡ header_of h.genesis n → IsLawful meaning h → DisksFit meaning h n (disk_of device)
             → IfOk result (λ r. Goes meaning h n (Shows r.replica h.genesis n) (disks_by behaves r.replica) r.notes.items []) }
-        ensures down { (h : History) (n : ℕ) → header.now ≡ header_of h.genesis n → IsLawful h → DisksFit meaning h n (disk_of device)
+        ensures down { (h : History) (n : ℕ) → header.now ≡ header_of h.genesis n → IsLawful meaning h → DisksFit meaning h n (disk_of device)
             → IfErr result (λ e. DisksFit meaning h n (disk_of e.device)) }
         // Whatever every image covered, every image covers.
         ensures covers { (genesis : Genesis) (n : ℕ) (x : NodeMessage) → header.now ≡ header_of genesis n → AllCover meaning genesis n (disk_of device) x

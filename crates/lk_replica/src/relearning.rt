@@ -5,6 +5,7 @@ ghost use Rattle.lk_learner.specs.Pairs.{are_pairs_above};
 ghost use Rattle.lk_replica.specs.Revivals.{run_from, notes_of, relearned, reached};
 ghost use Rattle.lk_node.specs.declared.note.Note.TheVariants as note;
 ghost use Rattle.lk_state.specs.Meanings.{meaning};
+ghost use Rattle.lk_state.specs.Packed.{packed};
 
 use crate::fault::ReplicaFault;
 use lk_learner::Learner;
@@ -55,13 +56,16 @@ fn learn<M: Machine>(
     Ok(())
 }
 
-// The learner that stands on this state and has learned of these pairs, and the notes of what it ran.
+// The learner that stands on this state, by a snapshot of this packed text, and has learned of these pairs, and the notes of
+// what it ran.
 pub fn relearn<M: Machine>(
     alloc: Global,
     node: NodeNo,
     whole: Whole<M>,
+    snapshot: Vec<u8>,
     pairs: &[(Position, Command)],
 ) -> Result<(Learner<M>, Vec<Note>), ReplicaFault>
+    requires text { snapshot.items ≡ packed whole }
     requires rising { IsTrue (are_pairs_above whole.roster.executed pairs.now) }
     ensures learner { IfOk result (λ r. r.0 ≡ relearned (meaning M.first M.next M.answer) whole pairs.now) }
     ensures notes { IfOk result (λ r. r.1.items ≡ notes_of node whole.roster.executed (run_from whole.roster.executed pairs.now)) }
@@ -72,7 +76,7 @@ pub fn relearn<M: Machine>(
     ensures damaged { IsErrOf result ReplicaFault.Damaged → ((p : Pair) → Contains pairs.now p → p.0 ≤ reached whole.roster.executed pairs.now + 2 * length whole.roster.sets) → ⊥ }
     ensures only { IfErr result (λ e. (e ≡ ReplicaFault.Damaged) ⊎ (e ≡ ReplicaFault.NoMemory)) }
 {
-    let mut learner = Learner::new(alloc, whole);
+    let mut learner = Learner::new(alloc, whole, snapshot);
     let mut notes = Vec::new(alloc);
     'pairs: for pair in pairs {
         learn(&mut learner, &mut notes, node, pair)?;

@@ -4,7 +4,6 @@ ghost use Rattle.lk_types.specs.Limits.{max_count};
 ghost use Rattle.lk_disk.specs.Disk.{contents};
 ghost use Rattle.lk_disk.specs.declared.device.Side.{Side};
 ghost use Rattle.lk_disk.specs.Meters.{Passes, trapped};
-ghost use Rattle.lk_log.specs.Causes.{put_calls};
 ghost use Rattle.lk_log.specs.Rooms.{StaysWithin};
 ghost use Rattle.lk_log.specs.StoreValue.{StoreValue, disks};
 ghost use Rattle.lk_node.specs.NodeValue.{NodeValue};
@@ -21,11 +20,11 @@ ghost use Rattle.lk_node.specs.Leavings.{DisksFit, AllCover};
 ghost use Rattle.lk_node.specs.Letters.{LetterValue, batch_of};
 ghost use Rattle.lk_replica.specs.Posts.{AreOf, SendsSome, more_by};
 ghost use Rattle.lk_node.specs.Steps.{Steps};
-ghost use Rattle.lk_replica.specs.Taking.{Puts, CallsOfStep, IsTaken};
+ghost use Rattle.lk_replica.specs.Taking.{Writes, write_calls, CallsOfStep, IsTaken};
 ghost use Rattle.lk_replica.specs.Faults.{fault_number, CountsFailure, RefusedAfter, IfSend, IsOfCalls};
-ghost use Rattle.lk_replica.specs.Rooms.{max_step, max_behind};
+ghost use Rattle.lk_replica.specs.Rooms.{max_behind};
 
-use crate::compacting::rebase_where_due;
+use crate::compacting::{rebase_where_due, write_base};
 use crate::delivering::deliver;
 use crate::fault::ReplicaFault;
 use crate::post::{Post, SendFault};
@@ -82,10 +81,10 @@ impl<M: Machine, D: LogDisk + Drop> Replica<M, D> {
             × ((d : DatagramValue) → Contains (batch_of n sent) d → Spells (said_by genesis n x) d.bytes → AllCover (meaning M.first M.next M.answer) genesis n (disks self.new.store) x) }
         ensures covers { D.is_honest → (genesis : Genesis) (n : ℕ) (held : Holding) (x : NodeMessage) → Stands (meaning M.first M.next M.answer) self.old.node self.old.store genesis n held
             → AllCover (meaning M.first M.next M.answer) genesis n (disks self.old.store) x → AllCover (meaning M.first M.next M.answer) genesis n (disks self.new.store) x }
-        // At Ok it has put the outbox of its step, given its notes and sent its letters in order, and nothing else. Under
+        // At Ok it has written the outbox of its step, given its notes and sent its letters in order, and nothing else. Under
         // `Send` the letters whose send failed are lost.
-        ensures exact { D.is_honest → P.is_telling → IfOk result (λ notes. IsTaken (meaning M.first M.next M.answer) D.is_metered self.old input.entry self.new notes.items (λ letters. P.sent post.new ≡ P.sent post.old ++ letters)) }
-        ensures exact_send { D.is_honest → P.is_telling → IfErr result (IfSend (λ notes. IsTaken (meaning M.first M.next M.answer) D.is_metered self.old input.entry self.new notes (λ letters. SendsSome letters (P.sent post.old) (P.sent post.new) (P.failures post.old) (P.failures post.new)))) }
+        ensures exact { D.is_honest → P.is_telling → IfOk result (λ notes. IsTaken (meaning M.first M.next M.answer) M.IsText D.is_metered self.old input.entry self.new notes.items (λ letters. P.sent post.new ≡ P.sent post.old ++ letters)) }
+        ensures exact_send { D.is_honest → P.is_telling → IfErr result (IfSend (λ notes. IsTaken (meaning M.first M.next M.answer) M.IsText D.is_metered self.old input.entry self.new notes (λ letters. SendsSome letters (P.sent post.old) (P.sent post.new) (P.failures post.old) (P.failures post.new)))) }
         // What it can execute it has executed.
         ensures runs { OnOk result (NothingToRun self.new.node) }
         ensures runs_on { IfErr result (IfSend (λ notes. NothingToRun self.new.node)) }
@@ -103,8 +102,9 @@ impl<M: Machine, D: LogDisk + Drop> Replica<M, D> {
         ensures cause_send { IfErr result (IfSend (λ notes. (lost : ℕ) × (lost ≢ 0) × (P.failures post.new ≡ more_by lost (P.failures post.old)))) }
         ensures metered { D.is_metered → D.is_honest → IfErr result (λ e. RefusedAfter (fault_number e) self.old.store.meter self.new.store.meter) }
         ensures failed { self.old.failed ≡ true → IsErrOf result ReplicaFault.Failed }
-        // Nothing but an earlier refusal, its own or its store's, makes it answer `Failed`, or a rebase behind the last generation.
-        ensures failed_before { self.old.failed ≡ false → self.old.store.failed ≡ false → self.old.store.generation < max_count → IsErrOf result ReplicaFault.Failed → ⊥ }
+        // Nothing but an earlier refusal, its own or its store's, makes it answer `Failed`, or a rebase behind the last generation:
+        // a call makes two at most.
+        ensures failed_before { self.old.failed ≡ false → self.old.store.failed ≡ false → self.old.store.generation + 1 < max_count → IsErrOf result ReplicaFault.Failed → ⊥ }
         ensures store_alive { OnOk result (self.new.store.failed ≡ false) }
         ensures store_sends_on { IfErr result (IfSend (λ notes. self.new.store.failed ≡ false)) }
         ensures stays_failed { self.old.failed ≡ true → self.new ≡ self.old }
@@ -117,6 +117,7 @@ impl<M: Machine, D: LogDisk + Drop> Replica<M, D> {
         let outbox = write_behind(&mut self.node, &mut self.store, input)?;
         self.failed = false;
         let Outbox {
+            rebase: _,
             entries: _,
             sync: _,
             notes,
@@ -175,7 +176,8 @@ impl<M: Machine, D: Trapped + Drop> Replica<M, D> {
 }
 
 #[tactic(auto, using(crate::proofs::NoSend::store_never_sends))]
-// Steps, and writes what the step tells to write, synced where it says so. Nothing is sent.
+// Steps, and writes what the step tells to write, synced where it says so; or, where it says that, the node's Base in place of
+// it. Nothing is sent.
 fn write<M: Machine, D: LogDisk + Drop>(
     node: &mut Node<M>,
     store: &mut Store<D>,
@@ -189,21 +191,22 @@ fn write<M: Machine, D: LogDisk + Drop>(
         → IfOk result (λ o. (d : DatagramValue) → Contains (batch_of n o.letters) d → Spells (said_by genesis n x) d.bytes → AllCover (meaning M.first M.next M.answer) genesis n (disks store.new) x) }
     ensures covers { D.is_honest → (genesis : Genesis) (n : ℕ) (held : Holding) (x : NodeMessage) → Stands (meaning M.first M.next M.answer) node.old store.old genesis n held
         → AllCover (meaning M.first M.next M.answer) genesis n (disks store.old) x → AllCover (meaning M.first M.next M.answer) genesis n (disks store.new) x }
-    ensures steps { IfOk result (λ o. Steps (meaning M.first M.next M.answer) node.old input.entry node.new o) }
-    ensures puts { D.is_honest → IfOk result (λ o. Puts store.old o store.new) }
-    ensures metered { D.is_metered → MatchResult result (λ o. Passes store.old.meter store.new.meter (put_calls o.entries o.sync)) (λ e. RefusedAfter (fault_number e) store.old.meter store.new.meter) }
+    ensures exact { D.is_honest → IfOk result (λ o. (stepped : NodeValue) × Steps (meaning M.first M.next M.answer) M.IsText node.old input.entry stepped o × Writes stepped store.old o node.new store.new) }
+    ensures metered { D.is_metered → D.is_honest → MatchResult result (λ o. Passes store.old.meter store.new.meter (write_calls o)) (λ e. RefusedAfter (fault_number e) store.old.meter store.new.meter) }
     ensures runs { NothingToRun node.old → OnOk result (NothingToRun node.new) }
     ensures only { IfErr result (IfSend (λ notes. ⊥)) }
     ensures told { IfErr result IsOfCalls }
     ensures halts { IsErrOf result ReplicaFault.Halted → node.new.halted ≡ true }
     ensures alive { OnOk result (store.new.failed ≡ false) }
-    ensures failed_before { store.old.failed ≡ false → IsErrOf result ReplicaFault.Failed → ⊥ }
+    ensures failed_before { store.old.failed ≡ false → store.old.generation < max_count → IsErrOf result ReplicaFault.Failed → ⊥ }
     ensures cause { CountsFailure store.old.failures store.new.failures result }
-    ensures grows { D.is_honest → length (contents store.new.live_disk) ≤ length (contents store.old.live_disk) + max_step }
-    ensures beside { D.is_honest → store.new.other_disk ≡ store.old.other_disk }
-    ensures live { store.new.live ≡ store.old.live }
+    ensures room { D.is_honest → length (contents store.old.live_disk) < 131072 → StaysWithin max_behind (disks store.old) (disks store.new) }
 {
     let outbox = node.step(input)?;
+    if outbox.rebase {
+        write_base(node, store)?;
+        return Ok(outbox);
+    }
     store.put(&outbox.entries, outbox.sync)?;
     Ok(outbox)
 }
@@ -223,7 +226,7 @@ fn write_behind<M: Machine, D: LogDisk + Drop>(
     ensures covers { D.is_honest → (genesis : Genesis) (n : ℕ) (held : Holding) (x : NodeMessage) → Stands (meaning M.first M.next M.answer) node.old store.old genesis n held
         → AllCover (meaning M.first M.next M.answer) genesis n (disks store.old) x → AllCover (meaning M.first M.next M.answer) genesis n (disks store.new) x }
     ensures exact { D.is_honest → IfOk result (λ o. (mid : NodeValue) × (between : StoreValue) × RebasesWhereDue node.old store.old mid between
-        × Steps (meaning M.first M.next M.answer) mid input.entry node.new o × Puts between o store.new) }
+        × (stepped : NodeValue) × Steps (meaning M.first M.next M.answer) M.IsText mid input.entry stepped o × Writes stepped between o node.new store.new) }
     ensures calls { D.is_metered → D.is_honest → IfOk result (λ o. CallsOfStep node.old store.old o store.new) }
     ensures metered { D.is_metered → D.is_honest → IfErr result (λ e. RefusedAfter (fault_number e) store.old.meter store.new.meter) }
     ensures runs { NothingToRun node.old → OnOk result (NothingToRun node.new) }
@@ -231,7 +234,7 @@ fn write_behind<M: Machine, D: LogDisk + Drop>(
     ensures only { IfErr result (IfSend (λ notes. ⊥)) }
     ensures told { IfErr result IsOfCalls }
     ensures halts { IsErrOf result ReplicaFault.Halted → node.new.halted ≡ true }
-    ensures failed_before { store.old.failed ≡ false → store.old.generation < max_count → IsErrOf result ReplicaFault.Failed → ⊥ }
+    ensures failed_before { store.old.failed ≡ false → store.old.generation + 1 < max_count → IsErrOf result ReplicaFault.Failed → ⊥ }
     ensures cause { CountsFailure store.old.failures store.new.failures result }
     ensures room { D.is_honest → StaysWithin max_behind (disks store.old) (disks store.new) }
 {

@@ -94,7 +94,7 @@ fn restored<M: Machine>(
     } = standing;
     let alpha = header.genesis().alpha;
     let whole: Whole<M> = unpacked(alloc, alpha, position, &snapshot)?;
-    let (learner, notes) = relearn(alloc, header.node(), whole, &pairs)?;
+    let (learner, notes) = relearn(alloc, header.node(), whole, snapshot, &pairs)?;
     if !are_near(&votes, learner.whole().executed(), alpha) {
         return Err(ReplicaFault::Damaged);
     }
@@ -113,9 +113,9 @@ impl<M: Machine, D: LogDisk + Drop> Replica<M, D> {
         device: D,
         header: &Header,
     ) -> Result<Revived<Replica<M, D>>, ReviveFault<D>>
-        ensures up { D.is_honest → (h : History) (n : ℕ) → header.now ≡ header_of h.genesis n → IsLawful h → DisksFit (meaning M.first M.next M.answer) h n (D.disk device)
+        ensures up { D.is_honest → (h : History) (n : ℕ) → header.now ≡ header_of h.genesis n → IsLawful (meaning M.first M.next M.answer) h → DisksFit (meaning M.first M.next M.answer) h n (D.disk device)
             → IfOk result (λ r. Goes (meaning M.first M.next M.answer) h n (Stands (meaning M.first M.next M.answer) r.replica.node r.replica.store h.genesis n) (disks r.replica.store) r.notes.items []) }
-        ensures down { D.is_honest → (h : History) (n : ℕ) → header.now ≡ header_of h.genesis n → IsLawful h → DisksFit (meaning M.first M.next M.answer) h n (D.disk device)
+        ensures down { D.is_honest → (h : History) (n : ℕ) → header.now ≡ header_of h.genesis n → IsLawful (meaning M.first M.next M.answer) h → DisksFit (meaning M.first M.next M.answer) h n (D.disk device)
             → IfErr result (λ e. DisksFit (meaning M.first M.next M.answer) h n (D.disk e.device)) }
         // Whatever every image covered, every image covers.
         ensures covers { D.is_honest → (genesis : TheGenesis) (n : ℕ) (x : NodeMessage) → header.now ≡ header_of genesis n → AllCover (meaning M.first M.next M.answer) genesis n (D.disk device) x

@@ -1,5 +1,5 @@
 -- The list of a world explains it, and chosen lists agree in it.
-use Rattle.std.proofs.Common.{◌≡◌, ℕ, suc, ◌+◌, ◌⊎◌, List, [], ◌∷◌, Some, Contains, ap, ◌∙◌, inl, inr, arith}
+use Rattle.std.proofs.Common.{◌≡◌, ℕ, suc, ◌+◌, ◌⊎◌, List, [], ◌∷◌, Some, Contains, ap, ◌∙◌, subst, inl, inr, arith}
 use Rattle.std.proofs.lemmas.Option.{slice_get-get_or}
 use Rattle.std.proofs.lemmas.List.Elements.{Contains-append_cases}
 use Rattle.lk_disk.specs.Disk.{Disk}
@@ -9,10 +9,11 @@ use Rattle.lk_wire.specs.declared.message.NodeMessage.TheVariants as kinds
 use Rattle.lk_state.specs.Meanings.{Meaning}
 use Rattle.lk_state.specs.States.{WholeValue, SumsUp}
 use Rattle.lk_history.specs.Chosen.{command_at, Chosen, ChosenAt, IsBeginning}
+use Rattle.lk_history.specs.Snapshots.{IsSlice}
 use Rattle.lk_history.specs.Soundness.{Sound}
-use Rattle.lk_history.proofs.Histories.{entry_chosen, one_chosen, chosen_agree, chosen_was_accepted}
+use Rattle.lk_history.proofs.Histories.{entry_chosen, one_chosen, chosen_agree, chosen_was_accepted, beginning_slice}
 use Rattle.lk_history.proofs.Histories.{only, contains_more}
-use Rattle.lk_node.specs.Histories.{Genesis, Datagram, Command, Request, RequestValue, WasAsked, IsLawful}
+use Rattle.lk_node.specs.Histories.{Genesis, Datagram, Command, Request, RequestValue, WasAsked, IsLawful, text}
 use Rattle.lk_node.specs.Holdings.{Holding}
 use Rattle.lk_node.specs.Leavings.{DisksFit}
 use Rattle.lk_node.specs.declared.note.Note.{Note}
@@ -48,8 +49,15 @@ module _ {R : Type 0} (Shows : R → Genesis → ℕ → Holding → Type 0) (di
   abbrev sound : Sound genesis sent
   sound = w.world.sound
 
-  pub lawful : IsLawful (happened genesis sent trace)
-  lawful = record { sound = sound; asked = w.proposed }
+  pub lawful : IsLawful m (happened genesis sent trace)
+  lawful = record {
+    sound = sound;
+    asked = w.proposed;
+    parts = λ n p s.
+        let b = w.messages n (kinds.Part p) s in
+        subst (λ (total : ℕ). IsSlice genesis sent (text m genesis) p.position total p.offset p.bytes) b.total
+        (beginning_slice genesis sent (text m genesis) w.list p.position p.offset p.bytes w.chosen b.reaches b.slice);
+  }
 
   pub agree : (L K : List Command) → Chosen genesis sent L → Chosen genesis sent K → IsBeginning L K ⊎ IsBeginning K L
   agree L K l k = chosen_agree genesis sent sound L K l k

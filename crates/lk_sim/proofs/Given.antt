@@ -36,7 +36,7 @@ same_header x a g n cluster alpha members e c l m same =
     e ∙ rw (c, l, m) (ap (λ (z : Genesis). header_of z n) (sym same))
 
 module _ {R : Type 0} (Shows : R → Genesis → ℕ → Holding → Type 0) (disks : R → Side → Disk) (m : Meaning) (h : History) (w : View) where
-  pub node_fits : (n : ℕ) (r : R) → IsLawful h → UpFits Shows disks m h w n r → NodeFits m h n (Shows r h.genesis n) (disks r)
+  pub node_fits : (n : ℕ) (r : R) → IsLawful m h → UpFits Shows disks m h w n r → NodeFits m h n (Shows r h.genesis n) (disks r)
   node_fits n r lawful u = record { lawful = lawful; holding = u.holding; shown = u.shown; fits = u.fits; left = u.left }
 
   -- down, on these disks

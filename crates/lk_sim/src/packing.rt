@@ -24,9 +24,9 @@ use std::alloc::Global;
 fn pack<R: MemoryReplica>(alloc: Global, seat: &mut Seat<R>) -> Result<Outcome, NoMemory>
     requires up { (r : R) × (seat.old.life ≡ Up r) }
     ensures number { seat.new.number ≡ seat.old.number }
-    ensures goes { (h : History) (w : View) → IsLawful h → SeatFits R.Shows (disks_by R.behaves) R.meaning h w seat.old
+    ensures goes { (h : History) (w : View) → IsLawful R.meaning h → SeatFits R.Shows (disks_by R.behaves) R.meaning h w seat.old
         → IfOk result (λ o. (q : R) → seat.new.life ≡ Up q → SeatGoes R.Shows (disks_by R.behaves) R.meaning h seat.new o.notes.items o.sent.items) }
-    ensures falls { (h : History) (w : View) → IsLawful h → SeatFits R.Shows (disks_by R.behaves) R.meaning h w seat.old
+    ensures falls { (h : History) (w : View) → IsLawful R.meaning h → SeatFits R.Shows (disks_by R.behaves) R.meaning h w seat.old
         → (d : Memory) → seat.new.life ≡ Down d → SeatFits R.Shows (disks_by R.behaves) R.meaning h w seat.new }
     ensures exact { (r : R) → seat.old.life ≡ Up r
         → IfOk result (λ o. HasPacked R.behaves r seat.new o.notes.items o.sent.items o.ended o.stop ⊎ HasFallen (FailsToPack R.behaves r) seat.new o.notes.items o.sent.items o.ended o.stop) }

@@ -179,9 +179,9 @@ pub fn step<R: MemoryReplica>(
 ) -> Result<Outcome, NoMemory>
     requires up { (r : R) × (seat.old.life ≡ Up r) }
     ensures number { seat.new.number ≡ seat.old.number }
-    ensures goes { (h : History) (w : View) → IsLawful h → SeatFits R.Shows (disks_by R.behaves) R.meaning h w seat.old → InputFits h input.entry
+    ensures goes { (h : History) (w : View) → IsLawful R.meaning h → SeatFits R.Shows (disks_by R.behaves) R.meaning h w seat.old → InputFits h input.entry
         → IfOk result (λ o. (q : R) → seat.new.life ≡ Up q → SeatGoes R.Shows (disks_by R.behaves) R.meaning h seat.new o.notes.items o.sent.items) }
-    ensures falls { (h : History) (w : View) → IsLawful h → SeatFits R.Shows (disks_by R.behaves) R.meaning h w seat.old → InputFits h input.entry
+    ensures falls { (h : History) (w : View) → IsLawful R.meaning h → SeatFits R.Shows (disks_by R.behaves) R.meaning h w seat.old → InputFits h input.entry
         → (d : Memory) → seat.new.life ≡ Down d → SeatFits R.Shows (disks_by R.behaves) R.meaning h w seat.new }
     ensures exact { (r : R) → seat.old.life ≡ Up r
         → IfOk result (λ o. HasTaken R.behaves r (heard_by input.entry) seat.new o.notes.items o.sent.items o.ended o.stop ⊎ HasFallen (Breaks R.behaves r (heard_by input.entry)) seat.new o.notes.items o.sent.items o.ended o.stop) }
@@ -216,9 +216,9 @@ pub fn revive<R: MemoryReplica>(
     genesis: &Genesis,
 ) -> Result<Outcome, NoMemory>
     ensures number { seat.new.number ≡ seat.old.number }
-    ensures goes { (h : History) (w : View) → h.genesis ≡ genesis.now → IsLawful h → SeatFits R.Shows (disks_by R.behaves) R.meaning h w seat.old
+    ensures goes { (h : History) (w : View) → h.genesis ≡ genesis.now → IsLawful R.meaning h → SeatFits R.Shows (disks_by R.behaves) R.meaning h w seat.old
         → IfOk result (λ o. (q : R) → seat.new.life ≡ Up q → SeatGoes R.Shows (disks_by R.behaves) R.meaning h seat.new o.notes.items o.sent.items) }
-    ensures falls { (h : History) (w : View) → h.genesis ≡ genesis.now → IsLawful h → SeatFits R.Shows (disks_by R.behaves) R.meaning h w seat.old
+    ensures falls { (h : History) (w : View) → h.genesis ≡ genesis.now → IsLawful R.meaning h → SeatFits R.Shows (disks_by R.behaves) R.meaning h w seat.old
         → (d : Memory) → seat.new.life ≡ Down d → SeatFits R.Shows (disks_by R.behaves) R.meaning h w seat.new }
     ensures exact { (d : Memory) → seat.old.life ≡ Down d
         → IfOk result (λ o. HasRevived R.behaves d (header_of genesis.now seat.old.number) seat.new o.notes.items o.sent.items o.ended o.stop ⊎ HasFallen (StaysDown R.behaves d (header_of genesis.now seat.old.number)) seat.new o.notes.items o.sent.items o.ended o.stop) }

@@ -1,13 +1,10 @@
-use Rattle.std.proofs.Common.{◌≡◌, ◌≤◌, ◌∙◌, ◌+◌, length, arith, rules, true, false, [], ◌∷◌, refl, sym, ap, subst}
+use Rattle.std.proofs.Common.{◌≡◌, ◌∙◌, ◌+◌, arith, rules, true, false, [], ◌∷◌, refl, sym, subst}
 use Rattle.lk_log.specs.Stores.{Holds, next_base}
 use Rattle.lk_log.specs.Values.{BaseValue}
 use Rattle.lk_log.specs.declared.stored.Stored.TheVariants.{Base}
 use Rattle.lk_node.specs.Packing.{standing_of}
 use Rattle.lk_log.specs.StoreValue.{disks}
 use Rattle.lk_state.specs.Meanings.{Meaning, meaning}
-use Rattle.lk_learner.specs.Learners.{Command, IsNext}
-use Rattle.lk_node.specs.NodeValue.{NodeValue}
-use Rattle.lk_replica.specs.Compacting.{RebasesWhereDue}
 use Rattle.lk_replica.proofs.Rebasing.{same_holds, same_stands, same_fit, same_cover, same_node_fits, same_room, goes_fits}
 use Rattle.lk_log.proofs.Room.{within_first}
 use Rattle.lk_replica.proofs.compacting.rebase_where_due.Goals as goal
@@ -59,7 +56,7 @@ returns-in_err-write_base-clause-ends g c honest h n f =
 pub returns-in_err-write_base-clause-covers : goal.returns-in_err-write_base-clause-covers
 returns-in_err-write_base-clause-covers g c honest genesis n held x shown every =
     let m : Meaning = meaning g.M.Machine.first g.M.Machine.next g.M.Machine.answer in
-    c.write_base.ensures.covers honest genesis n held x (same_stands m c.args.store.now c.is_due.new.store (c.is_due.ensures.same honest) c.args.node.now genesis n held shown) (same_cover m c.args.store.now c.is_due.new.store (c.is_due.ensures.same honest) genesis n x every)
+    c.write_base.ensures.covers honest genesis n x (same_stands m c.args.store.now c.is_due.new.store (c.is_due.ensures.same honest) c.args.node.now genesis n held shown).keeps (same_cover m c.args.store.now c.is_due.new.store (c.is_due.ensures.same honest) genesis n x every)
 
 pub returns-clause-ends : goal.returns-clause-ends
 returns-clause-ends g c honest h n f =
@@ -69,7 +66,7 @@ returns-clause-ends g c honest h n f =
 pub returns-clause-covers : goal.returns-clause-covers
 returns-clause-covers g c honest genesis n held x shown every =
     let m : Meaning = meaning g.M.Machine.first g.M.Machine.next g.M.Machine.answer in
-    c.write_base.ensures.covers honest genesis n held x (same_stands m c.args.store.now c.is_due.new.store (c.is_due.ensures.same honest) c.args.node.now genesis n held shown) (same_cover m c.args.store.now c.is_due.new.store (c.is_due.ensures.same honest) genesis n x every)
+    c.write_base.ensures.covers honest genesis n x (same_stands m c.args.store.now c.is_due.new.store (c.is_due.ensures.same honest) c.args.node.now genesis n held shown).keeps (same_cover m c.args.store.now c.is_due.new.store (c.is_due.ensures.same honest) genesis n x every)
 
 pub returns-clause-goes : goal.returns-clause-goes
 returns-clause-goes g c honest h n f =

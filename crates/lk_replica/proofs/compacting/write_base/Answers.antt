@@ -1,18 +1,16 @@
-use Rattle.std.proofs.Common.{◌≡◌, List, [], ◌∷◌, refl, sym, ap, subst, inl, inr}
+use Rattle.std.proofs.Common.{[], ◌∷◌, refl, sym, subst, inl, inr}
 use Rattle.lk_log.specs.StoreValue.{disks}
 use Rattle.lk_log.specs.Stores.{plain, Holds, MayBegin, next_base, KeepsOrIs}
 use Rattle.lk_log.specs.Values.{StandingValue}
-use Rattle.lk_log.specs.declared.stored.Stored.{Stored}
 use Rattle.lk_log.specs.declared.stored.Stored.TheVariants.{Base}
 use Rattle.lk_state.specs.Meanings.{Meaning, meaning}
-use Rattle.lk_learner.specs.Learners.{LearnerValue, Command, IsNext, executed}
+use Rattle.lk_learner.specs.Learners.{Command, IsNext, executed}
 use Rattle.lk_node.specs.Calls.{Goes}
 use Rattle.lk_node.specs.Keeping.{Stands}
 use Rattle.lk_node.specs.NodeValue.{NodeValue}
-use Rattle.lk_node.specs.Packing.{standing_of, standing_here}
 use Rattle.lk_replica.specs.Compacting.{AllStandAt}
 use Rattle.lk_log.proofs.Room.{within_same}
-use Rattle.lk_replica.proofs.Rebasing.{here, rebase_covers, rebase_stands, rebase_fits, rebase_goes, all_stand}
+use Rattle.lk_replica.proofs.Rebasing.{here, rebase_covers, rebase_syncs, rebase_stands, rebase_fits, rebase_goes, all_stand}
 use Rattle.lk_replica.proofs.compacting.write_base.Goals as goal
 use Rattle.lk_disk.specs.Meters.{start}
 use Rattle.lk_replica.specs.declared.fault.ReplicaFault.TheVariants as fault
@@ -29,13 +27,13 @@ returns-in_err-rebase-clause-ends g c honest h n f =
     (c.rebase.ensures.any honest f.shown.keeps.entries (plain f.shown.keeps.loose) f.shown.keeps.holds)) f.left
 
 pub returns-in_err-rebase-clause-covers : goal.returns-in_err-rebase-clause-covers
-returns-in_err-rebase-clause-covers g c honest genesis n held x shown every =
+returns-in_err-rebase-clause-covers g c honest genesis n x keeps every =
     let m : Meaning = meaning g.M.Machine.first g.M.Machine.next g.M.Machine.answer in
     let is = c.in_ok-standing.ensures.value in
     let may = subst MayBegin is c.in_ok-standing.ensures.may in
-    rebase_covers m genesis n c.args.node.now c.args.store.now c.rebase.new.self held shown may c.standing.ensures.near.snapshot
-    (subst (λ (s : StandingValue). KeepsOrIs (disks c.rebase.new.self) shown.keeps.entries (plain shown.keeps.loose) (next_base c.args.store.now s)) is
-    (c.rebase.ensures.any honest shown.keeps.entries (plain shown.keeps.loose) shown.keeps.holds)) x every
+    rebase_covers m genesis n c.args.node.now c.args.store.now c.rebase.new.self keeps may c.standing.ensures.near.snapshot
+    (subst (λ (s : StandingValue). KeepsOrIs (disks c.rebase.new.self) keeps.entries (plain keeps.loose) (next_base c.args.store.now s)) is
+    (c.rebase.ensures.any honest keeps.entries (plain keeps.loose) keeps.holds)) x every
 
 pub returns-clause-ends : goal.returns-clause-ends
 returns-clause-ends g c honest h n f =
@@ -47,13 +45,24 @@ returns-clause-ends g c honest h n f =
     (c.rebase.ensures.any honest f.shown.keeps.entries (plain f.shown.keeps.loose) f.shown.keeps.holds)) f.left
 
 pub returns-clause-covers : goal.returns-clause-covers
-returns-clause-covers g c honest genesis n held x shown every =
+returns-clause-covers g c honest genesis n x keeps every =
     let m : Meaning = meaning g.M.Machine.first g.M.Machine.next g.M.Machine.answer in
     let is = c.in_ok-standing.ensures.value in
     let may = subst MayBegin is c.in_ok-standing.ensures.may in
-    rebase_covers m genesis n c.args.node.now c.args.store.now c.rebase.new.self held shown may c.standing.ensures.near.snapshot
-    (subst (λ (s : StandingValue). KeepsOrIs (disks c.rebase.new.self) shown.keeps.entries (plain shown.keeps.loose) (next_base c.args.store.now s)) is
-    (c.rebase.ensures.any honest shown.keeps.entries (plain shown.keeps.loose) shown.keeps.holds)) x every
+    rebase_covers m genesis n c.args.node.now c.args.store.now c.rebase.new.self keeps may c.standing.ensures.near.snapshot
+    (subst (λ (s : StandingValue). KeepsOrIs (disks c.rebase.new.self) keeps.entries (plain keeps.loose) (next_base c.args.store.now s)) is
+    (c.rebase.ensures.any honest keeps.entries (plain keeps.loose) keeps.holds)) x every
+
+pub returns-clause-syncs : goal.returns-clause-syncs
+returns-clause-syncs g c honest genesis n x keeps covers =
+    let m : Meaning = meaning g.M.Machine.first g.M.Machine.next g.M.Machine.answer in
+    let is = c.in_ok-standing.ensures.value in
+    let may = subst MayBegin is c.in_ok-standing.ensures.may in
+    rebase_syncs m genesis n c.args.node.now c.args.store.now c.rebase.new.self keeps may c.standing.ensures.near.snapshot
+    (subst (λ (s : StandingValue). Holds c.rebase.new.self (Base (next_base c.args.store.now s) ∷ []) []) is (c.in_ok-rebase.ensures.base honest keeps.entries (plain keeps.loose) keeps.holds)) x covers
+
+pub returns-clause-begins : goal.returns-clause-begins
+returns-clause-begins g c = subst MayBegin c.in_ok-standing.ensures.value c.in_ok-standing.ensures.may
 
 pub returns-clause-goes : goal.returns-clause-goes
 returns-clause-goes g c honest h n f =

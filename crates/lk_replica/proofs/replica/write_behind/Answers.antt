@@ -1,5 +1,5 @@
 use Rattle.lk_log.specs.StoreValue.{disks}
-use Rattle.lk_log.proofs.Room.{refused_room, behind_room}
+use Rattle.lk_log.proofs.Room.{within_first, refused_room}
 use Rattle.lk_replica.proofs.replica.write_behind.Goals as goal
 use Rattle.lk_disk.proofs.Devices.{passes_on}
 use Rattle.lk_replica.proofs.Calling.{refused_by, refused_on}
@@ -41,7 +41,7 @@ returns-clause-syncs g c honest genesis n held x shown =
 
 pub returns-clause-exact : goal.returns-clause-exact
 returns-clause-exact g c honest =
-    (c.rebase_where_due.new.node, c.rebase_where_due.new.store, c.in_ok-rebase_where_due.ensures.exact honest, c.in_ok-outbox.ensures.steps, c.in_ok-outbox.ensures.puts honest)
+    let e = c.in_ok-outbox.ensures.exact honest in (c.rebase_where_due.new.node, c.rebase_where_due.new.store, c.in_ok-rebase_where_due.ensures.exact honest, e.0, e.1, e.2)
 
 pub returns-clause-runs : goal.returns-clause-runs
 returns-clause-runs g c none =
@@ -52,19 +52,21 @@ returns-in_err-rebase_where_due-clause-room g c honest = refused_room (disks c.a
 
 pub returns-in_err-outbox-clause-room : goal.returns-in_err-outbox-clause-room
 returns-in_err-outbox-clause-room g c honest =
-    behind_room (disks c.args.store.now) c.rebase_where_due.new.store c.write.new.store (c.rebase_where_due.ensures.room honest) (c.in_ok-rebase_where_due.ensures.small honest) c.write.ensures.live (c.write.ensures.grows honest) (c.write.ensures.beside honest)
+    within_first 132704 (disks c.args.store.now) (disks c.rebase_where_due.new.store) (disks c.write.new.store) (refused_room (disks c.args.store.now) (disks c.rebase_where_due.new.store) (c.rebase_where_due.ensures.room honest))
+    (c.write.ensures.room honest (c.in_ok-rebase_where_due.ensures.small honest))
 
 pub returns-clause-room : goal.returns-clause-room
 returns-clause-room g c honest =
-    behind_room (disks c.args.store.now) c.rebase_where_due.new.store c.write.new.store (c.rebase_where_due.ensures.room honest) (c.in_ok-rebase_where_due.ensures.small honest) c.write.ensures.live (c.write.ensures.grows honest) (c.write.ensures.beside honest)
+    within_first 132704 (disks c.args.store.now) (disks c.rebase_where_due.new.store) (disks c.write.new.store) (refused_room (disks c.args.store.now) (disks c.rebase_where_due.new.store) (c.rebase_where_due.ensures.room honest))
+    (c.write.ensures.room honest (c.in_ok-rebase_where_due.ensures.small honest))
 
 -- ---- which calls were made
 
 pub returns-in_err-outbox-clause-metered : goal.returns-in_err-outbox-clause-metered
 returns-in_err-outbox-clause-metered g c metered honest =
     let d = c.in_ok-rebase_where_due.ensures.metered metered honest in
-    refused_by _ _ _ _ _ c.from_residual-in_err-outbox.ensures.1 (refused_on d.0 d.2 _ _ (c.in_err-outbox.ensures.metered metered))
+    refused_by _ _ _ _ _ c.from_residual-in_err-outbox.ensures.1 (refused_on d.0 d.2 _ _ (c.in_err-outbox.ensures.metered metered honest))
 
 pub returns-clause-calls : goal.returns-clause-calls
 returns-clause-calls g c metered honest =
-    let d = c.in_ok-rebase_where_due.ensures.metered metered honest in (d.0, d.1, passes_on d.0 d.2 _ (c.in_ok-outbox.ensures.metered metered))
+    let d = c.in_ok-rebase_where_due.ensures.metered metered honest in (d.0, d.1, passes_on d.0 d.2 _ (c.in_ok-outbox.ensures.metered metered honest))

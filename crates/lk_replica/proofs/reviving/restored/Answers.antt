@@ -1,4 +1,4 @@
-use Rattle.std.proofs.Common.{◌≡◌, ℕ, ◌+◌, ◌*◌, true, nat_le, length, List, ◌∙◌, ap, sym, subst, rules, arith}
+use Rattle.std.proofs.Common.{◌≡◌, ℕ, ◌+◌, ◌*◌, true, nat_le, List, ◌∙◌, ap, sym, subst, rules, arith}
 use Rattle.lk_acceptor.specs.States.{IsOrdered}
 use Rattle.lk_learner.specs.Learners.{Command, LearnerValue, IsNext, executed}
 use Rattle.lk_node.specs.NodeValue.{NodeValue}

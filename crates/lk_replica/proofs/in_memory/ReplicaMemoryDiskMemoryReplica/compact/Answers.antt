@@ -1,4 +1,4 @@
-use Rattle.std.proofs.Common.{◌≡◌, [], Result, Ok, Err, OnOk}
+use Rattle.std.proofs.Common.{[], Result, Ok, Err, OnOk}
 use Rattle.lk_log.specs.Causes.{rebase_calls}
 use Rattle.lk_log.specs.Rooms.{StaysWithin}
 use Rattle.lk_log.specs.StoreValue.{disks, device_of}

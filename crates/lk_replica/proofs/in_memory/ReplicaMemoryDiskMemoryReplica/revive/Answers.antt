@@ -1,7 +1,6 @@
 use Rattle.std.proofs.Common.{[], Result, Ok, Err, IfOk, MatchResult}
 use Rattle.lk_log.specs.Rooms.{StaysWithin}
 use Rattle.lk_disk.specs.Memory.{disk_of}
-use Rattle.lk_disk.specs.Meters.{Passes}
 use Rattle.lk_state.specs.Meanings.{Meaning, meaning}
 use Rattle.lk_node.specs.Calls.{Goes}
 use Rattle.lk_node.specs.Keeping.{Stands}

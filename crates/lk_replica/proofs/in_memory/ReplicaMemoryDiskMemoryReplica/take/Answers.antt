@@ -1,5 +1,5 @@
 use Rattle.std.proofs.Common.{◌≡◌, ◌∙◌, List, ◌++◌, Result, Ok, Err, OnErr, Contains, ap, sym, subst}
-use Rattle.lk_log.specs.StoreValue.{disks, device_of}
+use Rattle.lk_log.specs.StoreValue.{device_of}
 use Rattle.lk_log.specs.Values.{HeaderValue}
 use Rattle.lk_disk.specs.Memory.{disk_of}
 use Rattle.lk_state.specs.Meanings.{Meaning, meaning}

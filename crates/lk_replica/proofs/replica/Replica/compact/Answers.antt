@@ -1,4 +1,4 @@
-use Rattle.std.proofs.Common.{◌≡◌, false, [], ◌∷◌, refl, sym, ap, subst}
+use Rattle.std.proofs.Common.{[], ◌∷◌, refl, sym, subst}
 use Rattle.lk_log.specs.StoreValue.{disks}
 use Rattle.lk_log.specs.Stores.{Holds, next_base}
 use Rattle.lk_log.specs.declared.stored.Stored.TheVariants.{Base}
@@ -21,7 +21,7 @@ returns-in_err-write_base-clause-ends g c honest h n f =
 pub returns-in_err-write_base-clause-covers : goal.returns-in_err-write_base-clause-covers
 returns-in_err-write_base-clause-covers g c honest genesis n held x shown every =
     let m : Meaning = meaning g.M.Machine.first g.M.Machine.next g.M.Machine.answer in
-    c.write_base.ensures.covers honest genesis n held x (subst (λ (r : ReplicaValue). Stands m r.node r.store genesis n held) (sym c.self.view_is) shown)
+    c.write_base.ensures.covers honest genesis n x (subst (λ (r : ReplicaValue). Stands m r.node r.store genesis n held) (sym c.self.view_is) shown).keeps
     (subst (λ (r : ReplicaValue). AllCover m genesis n (disks r.store) x) (sym c.self.view_is) every)
 
 pub returns-clause-ends : goal.returns-clause-ends
@@ -32,7 +32,7 @@ returns-clause-ends g c honest h n f =
 pub returns-clause-covers : goal.returns-clause-covers
 returns-clause-covers g c honest genesis n held x shown every =
     let m : Meaning = meaning g.M.Machine.first g.M.Machine.next g.M.Machine.answer in
-    c.write_base.ensures.covers honest genesis n held x (subst (λ (r : ReplicaValue). Stands m r.node r.store genesis n held) (sym c.self.view_is) shown)
+    c.write_base.ensures.covers honest genesis n x (subst (λ (r : ReplicaValue). Stands m r.node r.store genesis n held) (sym c.self.view_is) shown).keeps
     (subst (λ (r : ReplicaValue). AllCover m genesis n (disks r.store) x) (sym c.self.view_is) every)
 
 pub returns-clause-goes : goal.returns-clause-goes
