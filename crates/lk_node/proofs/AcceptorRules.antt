@@ -1,5 +1,5 @@
 -- What a node answers as an acceptor it may send, and its acceptor then covers it; what it writes rests on what was sent.
-use Rattle.std.proofs.Common.{◌≡◌, ℕ, ◌⊎◌, inl, inr, Bool, true, false, cond, List, [], ◌∷◌, ◌++◌, Option, Some, None, Contains, refl, sym, ◌∙◌, ap, subst, subst₂, arith, Result, Ok, Err}
+use Rattle.std.proofs.Common.{◌≡◌, ℕ, inl, inr, Bool, true, false, cond, List, [], ◌∷◌, Option, Some, None, Contains, refl, sym, ◌∙◌, ap, subst, subst₂, arith, Result, Ok, Err}
 use Rattle.std.specs.Prelude.{IfOk, OnOk}
 use Rattle.std.specs.List.{AllByRecursion}
 use Rattle.lk_types.specs.BallotValue.{BallotValue}
@@ -12,7 +12,7 @@ use Rattle.lk_wire.specs.declared.message.NodeMessage.{NodeMessage}
 use Rattle.lk_wire.specs.declared.message.NodeMessage.TheVariants as kinds
 use Rattle.lk_state.specs.Meanings.{Meaning}
 use Rattle.lk_history.specs.Acceptors.{AcceptorState, Covers, TakesVote}
-use Rattle.lk_history.specs.Changes.{Changes, promises, accepts, with_acceptor as view_with, with_promise}
+use Rattle.lk_history.specs.Changes.{promises, accepts, with_acceptor as view_with, with_promise}
 use Rattle.lk_history.specs.Chosen.{Command}
 use Rattle.lk_history.specs.Datagrams.{HasSent, WasSent}
 use Rattle.lk_history.specs.Nodes.{View, ViewFits, MaySend}
@@ -25,17 +25,16 @@ use Rattle.lk_acceptor.proofs.Acceptors.{prepare_may, accept_may, prepare_covere
 use Rattle.lk_node.specs.Answering.{with_acceptor, is_granted, replied, reply_to, Responds}
 use Rattle.lk_node.specs.Entries.{Rests}
 use Rattle.lk_node.specs.Histories.{History, Genesis, Datagram, IsLawful}
-use Rattle.lk_node.specs.Holdings.{Holding, HoldingFits}
 use Rattle.lk_node.specs.Keeping.{IsDecided, IsKnown}
 use Rattle.lk_node.specs.Letters.{LetterValue, batch_of}
 use Rattle.lk_node.specs.NodeValue.{NodeValue}
-use Rattle.lk_node.specs.Outboxes.{OutboxValue, nothing, with_entry, with_optional, with_letter}
+use Rattle.lk_node.specs.Outboxes.{OutboxValue, nothing, with_optional}
 use Rattle.lk_node.specs.Saying.{saying, to_node}
 use Rattle.lk_node.specs.Served.{BearsOutMessage}
-use Rattle.lk_node.specs.Serving.{with_entries, Binds, Serves, GoesOn}
+use Rattle.lk_node.specs.Serving.{with_entries, GoesOn}
 use Rattle.lk_node.specs.declared.note.Note.{Note}
 use Rattle.lk_node.specs.Yielding.{yielded}
-use Rattle.lk_node.proofs.Changing.{IsAlike, alike_goes_on, yielded_goes_on}
+use Rattle.lk_node.proofs.Changing.{alike_goes_on, yielded_goes_on}
 use Rattle.lk_node.proofs.Serving.{then_goes_on, says}
 
 -- ---- the acceptor changes, and what becomes of it is written

@@ -1,17 +1,15 @@
 -- A ballot that a node begins: it goes on, and may ask for promises.
-use Rattle.std.proofs.Common.{◌≡◌, ℕ, ◌+◌, inl, inr, true, false, List, [], ◌∷◌, Option, Some, None, Contains, refl, sym, ◌∙◌, ap, subst, arith}
-use Rattle.std.specs.List.{AllByRecursion}
+use Rattle.std.proofs.Common.{◌≡◌, ℕ, ◌+◌, inl, inr, List, [], Some, Contains, refl, sym, ◌∙◌, ap, subst, arith}
 use Rattle.lk_types.specs.BallotValue.{BallotValue}
 use Rattle.lk_types.specs.Ballots.{IsBelow, IsAtMost}
-use Rattle.lk_types.specs.declared.entry.Entry.{Entry}
 use Rattle.lk_types.specs.declared.entry.Entry.TheVariants as entry
 use Rattle.lk_wire.specs.Grammar.{IsMessage}
 use Rattle.lk_wire.specs.declared.message.NodeMessage.TheVariants as kinds
 use Rattle.lk_log.specs.Values.{HeaderValue}
 use Rattle.lk_state.specs.Meanings.{Meaning}
 use Rattle.lk_history.specs.Acceptors.{AcceptorState}
-use Rattle.lk_history.specs.Changes.{Changes, begins, with_acceptor as view_with, with_term as view_in, with_promise}
-use Rattle.lk_history.specs.Nodes.{View, Term, Pair, new_term}
+use Rattle.lk_history.specs.Changes.{begins, with_acceptor as view_with, with_term as view_in, with_promise}
+use Rattle.lk_history.specs.Nodes.{Term, Pair, new_term}
 use Rattle.lk_history.proofs.Histories.{change_fits}
 use Rattle.lk_acceptor.specs.States.{with_entry as written_by}
 use Rattle.lk_acceptor.proofs.Acceptors.{own_written}
@@ -20,16 +18,14 @@ use Rattle.lk_leader.proofs.Leaderships.{begun_stands}
 use Rattle.lk_leader.specs.Standing.{StandsFor}
 use Rattle.lk_learner.specs.Learners.{executed}
 use Rattle.lk_node.specs.Beginning.{beginning, Begins}
-use Rattle.lk_node.specs.Histories.{History, Datagram, Command, WasAsked}
-use Rattle.lk_node.specs.Letters.{LetterValue}
+use Rattle.lk_node.specs.Histories.{History}
 use Rattle.lk_node.specs.NodeValue.{NodeValue}
 use Rattle.lk_node.specs.Outboxes.{OutboxValue, nothing, with_entry}
 use Rattle.lk_node.specs.Saying.{saying}
 use Rattle.lk_node.specs.Serving.{GoesOn}
 use Rattle.lk_node.specs.Telling.{telling}
-use Rattle.lk_node.specs.declared.note.Note.{Note}
 use Rattle.lk_node.specs.Waiting.{ticked}
-use Rattle.lk_node.proofs.Changing.{IsAlike, alike_goes_on}
+use Rattle.lk_node.proofs.Changing.{alike_goes_on}
 use Rattle.lk_node.proofs.ManyLetters.{says_all}
 use Rattle.lk_node.proofs.Serving.{then_goes_on}
 

@@ -1,10 +1,10 @@
 -- A step writes few entries.
 use Rattle.std.proofs.lemmas.Bool.Decides.{nat_tests}
-use Rattle.std.proofs.Common.{true, ◌≡◌, ℕ, ◌+◌, ◌≤◌, ◌⊎◌, List, [], ◌∷◌, ◌++◌, length, Option, Some, None, refl, ap, sym, ◌∙◌, subst, inl, inr, arith, length-append}
+use Rattle.std.proofs.Common.{true, ◌≡◌, ℕ, ◌+◌, ◌≤◌, List, [], ◌∷◌, length, Option, Some, None, refl, ap, ◌∙◌, subst, inl, inr, arith, length-append}
 use Rattle.lk_types.specs.declared.entry.Entry.{Entry}
 use Rattle.lk_types.specs.declared.vote.Vote.{Vote}
 use Rattle.lk_wire.specs.Grammar.{IsContent, IsNodeMessage}
-use Rattle.lk_wire.specs.Values.{DecidedValue, are_commands_from}
+use Rattle.lk_wire.specs.Values.{DecidedValue, PartValue, are_commands_from}
 use Rattle.lk_wire.specs.declared.message.Content.{Content}
 use Rattle.lk_wire.specs.declared.message.Content.TheVariants as content
 use Rattle.lk_wire.specs.declared.message.NodeMessage.{NodeMessage}
@@ -13,15 +13,15 @@ use Rattle.lk_state.specs.Meanings.{Meaning}
 use Rattle.lk_state.specs.declared.session.Session.{Session}
 use Rattle.lk_log.specs.Values.{HeaderValue}
 use Rattle.lk_learner.specs.Learners.{Command, Pair}
-use Rattle.lk_acceptor.specs.declared.response.Response.{Response}
 use Rattle.lk_history.specs.Ballots.{BallotValue}
 use Rattle.lk_node.specs.CatchingUp.{Feeds}
-use Rattle.lk_node.specs.Executing.{with_told, SettlesAny, waiting_number, Executes, Runs, goes_on, stays}
+use Rattle.lk_node.specs.Executing.{with_told, SettlesAny, waiting_number, while_named, Runs, goes_on, stays}
+use Rattle.lk_node.specs.Installing.{SettlesFirst, none_yet as none_settled, one_more as one_settled, HearsPart}
 use Rattle.lk_node.specs.Learning.{Learns}
 use Rattle.lk_node.specs.DecidedPairs.{TakesPairs, none_yet, one_more}
 use Rattle.lk_node.specs.Leading.{ProposesAll}
 use Rattle.lk_node.specs.Reminding.{OffersFirst, OffersAhead, OffersAgain, Ticks, none_yet as none_offered, one_more as one_offered}
-use Rattle.lk_node.specs.Outboxes.{OutboxValue, nothing, with_entry, with_optional}
+use Rattle.lk_node.specs.Outboxes.{OutboxValue, nothing, with_rebase, with_entry, with_optional}
 use Rattle.lk_node.specs.NodeValue.{NodeValue}
 use Rattle.lk_node.specs.Steps.{Steps, HearsNode, Hears}
 use Rattle.lk_node.specs.Asking.{HearsRequest, PointsTo, TakesNew, TakesAs, leader_in}
@@ -94,6 +94,17 @@ optional_few (Some e) = omega arith
 none_written : (out : OutboxValue) → out.entries ≡ [] → length out.entries ≤ 16
 none_written out e = omega (arith, ap length e)
 
+all_settled_same : (ss : List Session) (old : NodeValue) (before : OutboxValue) (k : ℕ) (new : NodeValue) (behind : OutboxValue) → SettlesFirst ss old before k new behind → behind.entries ≡ before.entries
+all_settled_same ss old before k new behind none_settled = refl
+all_settled_same ss old before k new behind (one_settled {k = j} {mid = mid} {between = between} s so_far at one) =
+    settled_same (Some s) mid new between behind one ∙ all_settled_same ss old before j mid between so_far
+
+part_same : (m : Meaning) (IsText : List ℕ → Type 0) (old : NodeValue) (p : PartValue) (new : NodeValue) (out : OutboxValue) → HearsPart m IsText old p new out → out.entries ≡ []
+part_same m IsText old p new out (inl k) =
+    let t = k.2 in
+    ran_same m (while_named t.told) t.said new out t.runs.0 ∙ all_settled_same k.0.learner.whole.sessions k.0 (with_rebase nothing) (length k.0.learner.whole.sessions) t.told t.said t.settles
+part_same m IsText old p new out (inr k) = ap (λ (o : OutboxValue). o.entries) k.1
+
 fed_same : (node : NodeValue) (other first offset : ℕ) (out : OutboxValue) → Feeds node other first offset out → out.entries ≡ []
 fed_same node other first offset out (inl served) = ap (λ (o : OutboxValue). o.entries) served.1.1
 fed_same node other first offset out (inr (inl parts)) = ap (λ (o : OutboxValue). o.entries) parts.1.comes_to
@@ -122,7 +133,7 @@ heard_few m IsText old from (kinds.Lead b executed) new out short h = none_writt
     | inr c ↦ ap (λ (o : OutboxValue). o.entries) c.1
   ]
 ])
-heard_few m IsText old from (kinds.Part p) new out short h = none_written out (ap (λ (o : OutboxValue). o.entries) h.1)
+heard_few m IsText old from (kinds.Part p) new out short h = none_written out (part_same m IsText old p new out h)
 heard_few m IsText old from (kinds.Answer a) new out short h = none_written out (ap (λ (o : OutboxValue). o.entries) h.1)
 heard_few m IsText old from (kinds.Elsewhere e) new out short h = none_written out (ap (λ (o : OutboxValue). o.entries) h.1)
 heard_few m IsText old from (kinds.Passed p) new out short h = none_written out (ap (λ (o : OutboxValue). o.entries) h.1)

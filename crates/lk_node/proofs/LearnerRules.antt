@@ -161,5 +161,5 @@ within_range d k fits less =
     omega (arith, last, less)
 
 -- the element that a loop reads
-pub element : (vs ws : List Command) (k : ℕ) (v : Command) → vs ≡ ws → k < length vs → v ≡ get_or vs k v → slice_get ws k ≡ Some v
-element vs ws k v same less is = ap (λ (l : List Command). slice_get l k) (sym same) ∙ slice_get-get_or vs k v less ∙ ap Some (sym is)
+pub element : {X : Type 0} (vs ws : List X) (k : ℕ) (v : X) → vs ≡ ws → k < length vs → v ≡ get_or vs k v → slice_get ws k ≡ Some v
+element vs ws k v same less is = ap (λ l. slice_get l k) (sym same) ∙ slice_get-get_or vs k v less ∙ ap Some (sym is)

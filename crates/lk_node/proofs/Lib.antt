@@ -13,6 +13,8 @@ mod Deciding
 mod CountingRules
 mod BallotRules
 mod NearRules
+mod InstallRules
+mod TakingUp
 mod Reminders
 mod Settling
 mod FewEntries

@@ -1,9 +1,7 @@
 -- An acceptor and a learner of one node stay near each other.
-use Rattle.std.proofs.Common.{◌≡◌, ℕ, ◌+◌, ◌*◌, ◌≤◌, ◌⊎◌, inl, inr, Bool, true, false, List, [], ◌∷◌, ltb, ◌&&◌, length, Contains, Option, Some, None, refl, sym, ◌∙◌, ap, subst, arith}
+use Rattle.std.proofs.Common.{◌≡◌, ℕ, ◌+◌, ◌*◌, ◌≤◌, inl, inr, Bool, true, false, List, [], ◌∷◌, ltb, ◌&&◌, length, Contains, Option, Some, None, refl, sym, ◌∙◌, ap, subst, arith}
 use Rattle.lk_types.specs.BallotValue.{BallotValue}
-use Rattle.lk_types.specs.Ballots.{IsBelow, IsAtMost}
 use Rattle.lk_types.specs.declared.vote.Vote.{Vote}
-use Rattle.lk_wire.specs.Values.{are_votes_above}
 use Rattle.lk_log.specs.Entries.{are_pairs_above}
 use Rattle.lk_history.specs.Acceptors.{AcceptorState}
 use Rattle.lk_history.specs.Changes.{with_promise}
@@ -12,11 +10,11 @@ use Rattle.lk_state.specs.Meanings.{Meaning}
 use Rattle.lk_state.specs.Packed.{packed}
 use Rattle.lk_acceptor.specs.AcceptorValue.{AcceptorValue}
 use Rattle.lk_acceptor.specs.Answers.{AnswersPrepare, AnswersAccept}
-use Rattle.lk_acceptor.specs.States.{IsAcceptor, with_vote, without_votes_to, with_state}
+use Rattle.lk_acceptor.specs.States.{IsAcceptor, without_votes_to, with_state}
 use Rattle.lk_acceptor.specs.VoteLists.{votes_above}
 use Rattle.lk_acceptor.specs.declared.response.Response.{Response}
 use Rattle.lk_acceptor.proofs.Acceptors.{rising_count, above_rises, from_with, takes_snapshot}
-use Rattle.lk_learner.specs.Learners.{Command, Pair, LearnerValue, IsLearner, executed, alpha, keeping, IsNext, advanced, standing_here}
+use Rattle.lk_learner.specs.Learners.{Command, Pair, LearnerValue, IsLearner, executed, alpha, keeping, advanced, standing_here}
 use Rattle.lk_learner.specs.Pairs as pairs
 use Rattle.lk_learner.proofs.Learnerships.{ran_moves, kept_few}
 use Rattle.lk_node.specs.Executing.{RunsNext}

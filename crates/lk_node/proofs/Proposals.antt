@@ -1,5 +1,5 @@
 -- What a node proposes its term may propose, and it may tell it; and there is an end of it.
-use Rattle.std.proofs.Common.{◌≡◌, ℕ, zero, suc, ◌+◌, ◌<◌, ◌≤◌, ◌⊎◌, inl, inr, Bool, true, false, cond, eqb, ◌==◌, ◌&&◌, ◌||◌, ltb, leb, List, [], ◌∷◌, ◌++◌, length, filter, Option, Some, None, Contains, refl, sym, ◌∙◌, ap, subst, subst₂, arith, eqb-true, nat_le, nat_lt}
+use Rattle.std.proofs.Common.{◌≡◌, ℕ, zero, suc, ◌+◌, ◌<◌, ◌≤◌, ◌⊎◌, inl, inr, Bool, true, false, cond, eqb, ◌==◌, ◌&&◌, ◌||◌, List, [], ◌∷◌, ◌++◌, length, Option, Some, None, Contains, refl, sym, ◌∙◌, ap, subst, subst₂, arith, eqb-true, nat_le, nat_lt}
 use Rattle.std.specs.List.{list_any}
 use Rattle.std.specs.Option.{option_map}
 use Rattle.std.proofs.lemmas.Bool.{cases_eq}
@@ -25,7 +25,6 @@ use Rattle.lk_history.specs.Nodes.{Pair, Term, MaySend}
 use Rattle.lk_history.specs.Soundness.{IsReported}
 use Rattle.lk_acceptor.specs.AcceptorValue.{AcceptorValue}
 use Rattle.lk_leader.specs.Proposing.{AreMembersAt, LeaderProposes, proposed}
-use Rattle.lk_leader.specs.Standing.{StandsFor}
 use Rattle.lk_leader.specs.Terms.{ProposalValue, TermValue, LeaderValue, RequestValue, with_term, proposal_at, in_window}
 use Rattle.lk_leader.proofs.Leaderships.{proposes_allowed, proposes_asked, proposed_stands}
 use Rattle.lk_node.specs.Histories.{History, IsLawful, WasAsked}

@@ -1,6 +1,5 @@
 -- How the parts of a step go on with one another.
-use Rattle.std.proofs.Common.{◌≡◌, ℕ, ◌⊎◌, inl, inr, true, false, List, [], ◌∷◌, ◌++◌, Option, Some, None, Contains, refl, sym, ◌∙◌, ap, subst, arith}
-use Rattle.std.specs.List.{AllByRecursion}
+use Rattle.std.proofs.Common.{◌≡◌, ℕ, inl, inr, true, List, [], ◌∷◌, ◌++◌, Contains, refl, ◌∙◌, ap, subst}
 use Rattle.std.proofs.lemmas.List.Elements.{Contains-append_cases}
 use Rattle.lk_types.specs.declared.entry.Entry.{Entry}
 use Rattle.lk_wire.specs.Grammar.{Spells, spelling, IsMessage}
@@ -8,25 +7,24 @@ use Rattle.lk_wire.specs.declared.message.Content.{Content}
 use Rattle.lk_wire.specs.declared.message.Content.TheVariants as content
 use Rattle.lk_wire.specs.declared.message.Message.{Message}
 use Rattle.lk_wire.specs.declared.message.NodeMessage.{NodeMessage}
-use Rattle.lk_history.specs.declared.party.Party.TheVariants as party
 use Rattle.lk_log.specs.Values.{HeaderValue}
 use Rattle.lk_state.specs.Meanings.{Meaning}
-use Rattle.lk_history.specs.Acceptors.{AcceptorState, Covers}
+use Rattle.lk_history.specs.Acceptors.{Covers}
 use Rattle.lk_history.specs.Datagrams.{said_by}
-use Rattle.lk_history.specs.Nodes.{View, MaySend}
+use Rattle.lk_history.specs.Nodes.{MaySend}
 use Rattle.lk_node.specs.Calls.{MayGo}
-use Rattle.lk_node.specs.Histories.{History, Genesis, Datagram, IsHeard}
+use Rattle.lk_node.specs.Histories.{History, Genesis, IsHeard}
 use Rattle.lk_node.specs.Leavings.{header_of}
 use Rattle.lk_node.specs.Letters.{LetterValue, datagram_of, batch_of}
 use Rattle.lk_node.specs.NodeValue.{NodeValue}
 use Rattle.lk_node.specs.Outboxes.{OutboxValue, nothing, with_letter, with_note}
 use Rattle.lk_node.specs.Saying.{saying}
 use Rattle.lk_node.specs.Served.{IsServed, IsOfNode, IsBorneOut}
-use Rattle.lk_node.specs.Serving.{IsLight, Tells, Binds, Serves, GoesOn}
+use Rattle.lk_node.specs.Serving.{IsLight, Tells, Serves, GoesOn}
 use Rattle.lk_node.specs.Steps.{WasHeard}
 use Rattle.lk_node.specs.declared.note.Note.{Note}
 use Rattle.lk_node.specs.declared.to.To.{To}
-use Rattle.lk_node.proofs.Lists.{only, map_contains}
+use Rattle.lk_node.proofs.Lists.{only}
 
 -- nothing is done
 pub rests_here : (m : Meaning) (Heard : History → Type 0) (node : NodeValue) (out : OutboxValue) → GoesOn m Heard node node out out

@@ -4,7 +4,7 @@ use Rattle.lk_types.specs.BallotValue.{BallotValue}
 use Rattle.lk_types.specs.declared.command.Request.{Request as RequestValue}
 use Rattle.lk_types.specs.declared.member.Member.{Member}
 use Rattle.lk_types.specs.declared.vote.Vote.{Vote}
-use Rattle.lk_wire.specs.Values.{PromiseValue}
+use Rattle.lk_wire.specs.Values.{PromiseValue, PartValue}
 use Rattle.lk_wire.specs.declared.message.Content.{Content}
 use Rattle.lk_wire.specs.declared.message.Content.TheVariants as content
 use Rattle.lk_wire.specs.declared.message.NodeMessage.{NodeMessage}
@@ -17,6 +17,7 @@ use Rattle.lk_state.specs.declared.whole.Seen.TheVariants as seen
 use Rattle.lk_acceptor.specs.AcceptorValue.{AcceptorValue}
 use Rattle.lk_acceptor.specs.declared.response.Response.{Response}
 use Rattle.lk_leader.specs.Terms.{TermValue}
+use Rattle.lk_learner.specs.Installing.{with_gathered, hearing, Installs}
 use Rattle.lk_learner.specs.Learners.{Command, LearnerValue, IsNext}
 use Rattle.lk_node.specs.Answering.{is_granted, with_acceptor, replied, Responds}
 use Rattle.lk_node.specs.Asking.{leader_in, PointsTo, TakesNew, TakesAs}
@@ -24,6 +25,7 @@ use Rattle.lk_node.specs.CatchingUp.{following, HearsLead}
 use Rattle.lk_node.specs.Counting.{IsOnlyHeard, HearsAccepted}
 use Rattle.lk_node.specs.DecidedPairs.{TakesPairs, none_yet, one_more}
 use Rattle.lk_node.specs.Executing.{NothingToRun}
+use Rattle.lk_node.specs.Installing.{HearsPart}
 use Rattle.lk_node.specs.Leading.{HearsPromise, having_proposed, ProposesAll}
 use Rattle.lk_node.specs.NodeValue.{NodeValue}
 use Rattle.lk_node.specs.Outboxes.{OutboxValue}
@@ -111,6 +113,19 @@ pairs_settle : (m : Meaning) (first : ℕ) (commands : List Command) (old : Node
 pairs_settle m first commands old before _ _ _ none_yet none = none
 pairs_settle m first commands old before _ _ _ (one_more v so_far at takes) none = takes.runs.1
 
+-- a part is gathered and no state installed, or all that can be is executed behind that
+part_settles : (m : Meaning) (IsText : List ℕ → Type 0) (p : PartValue) (old new : NodeValue) (out : OutboxValue) → HearsPart m IsText old p new out → Settles old new
+part_settles m IsText p old new out (inl k) none = k.2.runs.1
+part_settles m IsText p old new out (inr k) none = by_install k.0.1
+  where
+    left : (l : LearnerValue) → k.0.0 ≡ l → ((v : Command) → IsNext l v → ⊥) → NothingToRun new
+    left l is nothing = subst (λ (x : LearnerValue). (v : Command) → IsNext x v → ⊥) (sym (ap (λ (node : NodeValue). node.learner) k.0.2 ∙ is)) nothing
+
+    by_install : Installs IsText false (hearing p old.learner) k.0.0 → NothingToRun new
+    by_install (inl went) = absurd (cc went.0)
+    by_install (inr (inl thrown)) = left (with_gathered None (hearing p old.learner)) thrown.3 none
+    by_install (inr (inr kept)) = left (hearing p old.learner) kept.2 none
+
 -- ---- a whole step
 
 node_settles : (m : Meaning) (IsText : List ℕ → Type 0) (from : ℕ) (x : NodeMessage) (old new : NodeValue) (out : OutboxValue) → HearsNode m IsText old from x new out → Settles old new
@@ -122,6 +137,7 @@ node_settles m IsText from (kinds.Decided d) old new out k = pairs_settle m d.fi
 node_settles m IsText from (kinds.Nack n) old new out k = stays_as old (seeing n.promised (seeing n.ballot old)) new (seeing_learner n.promised (seeing n.ballot old) ∙ seeing_learner n.ballot old) k.0
 node_settles m IsText from (kinds.Want w) old new out k = stays_as old old new refl k.0
 node_settles m IsText from (kinds.Lead b executed) old new out k = lead_settles old new from b executed out k
+node_settles m IsText from (kinds.Part p) old new out k = part_settles m IsText p old new out k
 node_settles m IsText from _ old new out k = stays_as old old new refl k.0
 
 content_settles : (m : Meaning) (IsText : List ℕ → Type 0) (x : Content) (old new : NodeValue) (out : OutboxValue) → Hears m IsText old x new out → Settles old new

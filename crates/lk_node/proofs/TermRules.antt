@@ -1,5 +1,5 @@
 -- A term goes on in a history: what its node holds behind a promise that was heard, a proposal, or the ballot's beginning.
-use Rattle.std.proofs.Common.{◌≡◌, ℕ, ◌⊎◌, inl, inr, Bool, true, false, List, [], ◌∷◌, ◌++◌, length, Option, Some, None, Contains, refl, sym, ◌∙◌, ap, subst, subst₂, arith}
+use Rattle.std.proofs.Common.{◌≡◌, ℕ, ◌⊎◌, inl, inr, true, false, List, length, Option, Some, None, Contains, refl, sym, ◌∙◌, ap, subst, subst₂}
 use Rattle.std.proofs.lemmas.Bool.{cases_Bool, cases_eq}
 use Rattle.lk_types.specs.BallotValue.{BallotValue}
 use Rattle.lk_types.specs.Ballots.{IsAtMost}
@@ -15,7 +15,7 @@ use Rattle.lk_members.specs.Windows.{RosterValue}
 use Rattle.lk_history.specs.Changes as changes
 use Rattle.lk_history.specs.Changes.{Changes, hears}
 use Rattle.lk_history.specs.Datagrams.{HasSent}
-use Rattle.lk_history.specs.Nodes.{Pair, Term, View, ViewFits}
+use Rattle.lk_history.specs.Nodes.{Pair, Term, View}
 use Rattle.lk_history.proofs.Histories.{change_fits}
 use Rattle.lk_acceptor.specs.AcceptorValue.{AcceptorValue}
 use Rattle.lk_leader.specs.Standing.{StandsFor}
@@ -28,8 +28,8 @@ use Rattle.lk_node.specs.Leading.{with_leader, report_of, KeepsPromise, DropsPro
 use Rattle.lk_node.specs.NodeValue.{NodeValue}
 use Rattle.lk_node.specs.Outboxes.{OutboxValue, nothing}
 use Rattle.lk_node.specs.Promised.{HasPromised}
-use Rattle.lk_node.specs.Serving.{Serves, GoesOn}
-use Rattle.lk_node.proofs.Changing.{Grows, IsFollowed, change_goes_on}
+use Rattle.lk_node.specs.Serving.{GoesOn}
+use Rattle.lk_node.proofs.Changing.{IsFollowed, change_goes_on}
 use Rattle.lk_node.proofs.Serving.{rests_here}
 
 -- ---- the view's term changes

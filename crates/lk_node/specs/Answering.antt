@@ -1,6 +1,5 @@
 -- What a node answers as an acceptor.
-use Rattle.std.specs.Prelude.{◌≡◌, ℕ, Bool, true, false, List, [], ◌∷◌, Option, Some, None, if◌then◌else◌}
-use Rattle.lk_types.specs.declared.entry.Entry.{Entry}
+use Rattle.std.specs.Prelude.{◌≡◌, ℕ, Bool, true, false, if◌then◌else◌}
 use Rattle.lk_wire.specs.Grammar.{spelling, IsMessage}
 use Rattle.lk_wire.specs.declared.message.NodeMessage.{NodeMessage}
 use Rattle.lk_wire.specs.declared.message.NodeMessage.TheVariants as kinds

@@ -18,6 +18,7 @@ pub mod Answering
 pub mod Steps
 pub mod Learning
 pub mod Executing
+pub mod Installing
 pub mod Telling
 pub mod Promised
 pub mod Nearness

@@ -17,6 +17,10 @@ pub record OutboxValue : Type 0 where
 abbrev pub nothing : OutboxValue
 nothing = record { rebase = false; entries = []; sync = false; notes = []; letters = [] }
 
+-- with the store rebased
+abbrev pub with_rebase : OutboxValue → OutboxValue
+with_rebase o = record { rebase = true; entries = o.entries; sync = o.sync; notes = o.notes; letters = o.letters }
+
 -- with one more letter
 abbrev pub with_letter : LetterValue → OutboxValue → OutboxValue
 with_letter l o = record { rebase = o.rebase; entries = o.entries; sync = o.sync; notes = o.notes; letters = o.letters ++ l ∷ [] }

@@ -1,6 +1,6 @@
 -- What the notes of a node and the datagrams to clients rest on: a chosen list that bears them out.
 pub use Rattle.lk_node.specs.Histories.{text}
-use Rattle.std.specs.Prelude.{◌≡◌, ℕ, ◌+◌, ◌≤◌, ◌<◌, List, length, take, drop, Some, Contains}
+use Rattle.std.specs.Prelude.{◌≡◌, ◌+◌, ◌≤◌, ◌<◌, List, length, take, drop, Some, Contains}
 use Rattle.lk_types.specs.declared.answer.Answer.{Answer}
 use Rattle.lk_wire.specs.Values.{PartValue}
 use Rattle.lk_wire.specs.declared.message.NodeMessage.{NodeMessage}

@@ -16,6 +16,7 @@ use Rattle.lk_node.specs.Histories.{History}
 use Rattle.lk_node.specs.Leading.{HearsPromise, ProposesOpen}
 use Rattle.lk_node.specs.Counting.{HearsAccepted}
 use Rattle.lk_node.specs.DecidedPairs.{TakesPairs}
+use Rattle.lk_node.specs.Installing.{HearsPart}
 use Rattle.lk_node.specs.NodeValue.{NodeValue}
 use Rattle.lk_node.specs.Outboxes.{OutboxValue, nothing}
 use Rattle.lk_node.specs.Yielding.{with_round}
@@ -41,6 +42,7 @@ HearsNode m IsText old from (kinds.Accepted x) new out = HearsAccepted m from x 
 HearsNode m IsText old from (kinds.Decided d) new out = TakesPairs m d.first d.commands old nothing (length d.commands) new out
 HearsNode m IsText old from (kinds.Nack k) new out = HearsNack old from k new out
 HearsNode m IsText old from (kinds.Want w) new out = HearsWant old from w new out
+HearsNode m IsText old from (kinds.Part p) new out = HearsPart m IsText old p new out
 HearsNode m IsText old from (kinds.Lead b executed) new out = HearsLead old from b executed new out
 HearsNode m IsText old from _ new out = StandsStill old new out
 

@@ -10,6 +10,7 @@ mod clock;
 mod counting;
 mod executing;
 mod input;
+mod installing;
 mod leading;
 mod learning;
 mod letter;

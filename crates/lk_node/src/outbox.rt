@@ -1,5 +1,5 @@
 ghost use Rattle.std.specs.Prelude.{◌≡◌, OnOk};
-ghost use Rattle.lk_node.specs.Outboxes.{nothing, is_synced, with_entry, with_note};
+ghost use Rattle.lk_node.specs.Outboxes.{nothing, is_synced, with_rebase, with_entry, with_note};
 ghost use Rattle.lk_node.specs.Telling.{with_letters};
 
 use crate::letter::Letter;
@@ -51,6 +51,13 @@ impl Outbox {
         }
         self.entries.push(entry)?;
         Ok(())
+    }
+
+    // The store is rebased.
+    pub(crate) fn rebase_store(&mut self)
+        ensures { self.new ≡ with_rebase self.old }
+    {
+        self.rebase = true;
     }
 
     // One more note.

@@ -32,6 +32,7 @@ impl<M: Machine> Node<M> {
             NodeMessage::Decided(decided) => self.hear_decided(decided),
             NodeMessage::Nack(nack) => self.hear_nack(from, nack),
             NodeMessage::Want(want) => self.hear_want(from, want),
+            NodeMessage::Part(part) => self.hear_part(part),
             NodeMessage::Lead(ballot, executed) => self.hear_lead(from, *ballot, *executed),
             _ => Ok(Outbox::new(self.alloc)),
         }

@@ -1,5 +1,4 @@
 -- What was proposed so far, and so many positions are left.
-use Rattle.std.proofs.Common.{ℕ}
 use Rattle.lk_state.specs.Meanings.{meaning}
 use Rattle.lk_node.specs.Serving.{GoesOn}
 use Rattle.lk_node.proofs.Proposals.{Continues, left_open}

@@ -1,5 +1,5 @@
 -- The nodes so far, and so many numbers at most are left.
-use Rattle.std.proofs.Common.{ℕ, ◌-◌, ◌≤◌}
+use Rattle.std.proofs.Common.{◌-◌, ◌≤◌}
 use Rattle.lk_members.specs.Ports.{is_named}
 use Rattle.lk_node.proofs.ManyLetters.{Completes}
 use Rattle.lk_node.proofs.node.Node.window_nodes.Given as goal

@@ -1,0 +1,66 @@
+-- A node that takes up an installed state goes on.
+use Rattle.std.proofs.Common.{◌≡◌, ◌∙◌, ℕ, List, length, Some, slice_get, refl, sym, ap, subst, arith}
+use Rattle.std.proofs.lemmas.Option.{slice_get_within, get_or_from_slice_get}
+use Rattle.lk_state.specs.Meanings.{Meaning}
+use Rattle.lk_state.specs.Sessions.{AreSessions, session_of}
+use Rattle.lk_state.specs.declared.session.Session.{Session}
+use Rattle.lk_state.proofs.Wholes.{kept_is_its_clients}
+use Rattle.lk_learner.specs.Learners.{LearnerValue}
+use Rattle.lk_node.specs.Executing.{while_named}
+use Rattle.lk_node.specs.Histories.{History}
+use Rattle.lk_node.specs.Installing.{SettlesFirst, none_yet, one_more, SettlesAll}
+use Rattle.lk_node.specs.NodeValue.{NodeValue}
+use Rattle.lk_node.specs.Outboxes.{OutboxValue, nothing, with_rebase}
+use Rattle.lk_node.specs.Serving.{GoesOn}
+use Rattle.lk_node.proofs.ExecutionRules.{settles_goes_on, named_goes_on}
+use Rattle.lk_node.proofs.Serving.{rests_here, then_goes_on}
+
+-- in front of all that is sent, the store may be rebased
+rebases_goes_on : (m : Meaning) (Heard : History → Type 0) (node : NodeValue) → GoesOn m Heard node node nothing (with_rebase nothing)
+rebases_goes_on m Heard node = record {
+  binds = λ first b. record {
+    header = b.header;
+    written = b.written;
+    unsynced = b.unsynced;
+    still = λ e. b.written;
+    tells = λ l c. absurd (omega (arith, c.1));
+  };
+  serves = λ h n loose s heard. record {
+    lawful = s.lawful;
+    whose = s.whose;
+    holding = s.holding;
+    held = s.held;
+    fits = s.fits;
+    rests = s.rests;
+    known = s.known;
+    news = s.news;
+    may = s.may;
+    noted = s.noted;
+  };
+}
+
+settled_learner : (ss : List Session) (old : NodeValue) (before : OutboxValue) (k : ℕ) (new : NodeValue) (behind : OutboxValue) → SettlesFirst ss old before k new behind → new.learner ≡ old.learner
+settled_learner ss old before k new behind none_yet = refl
+settled_learner ss old before k new behind (one_more {k = j} {mid = mid} {between = between} s so_far at one) =
+    ap (λ (node : NodeValue). node.learner) one.becomes ∙ settled_learner ss old before j mid between so_far
+
+-- each is its client's last
+is_kept : (ss : List Session) (k : ℕ) (s : Session) → AreSessions ss → slice_get ss k ≡ Some s → session_of s.client ss ≡ Some s
+is_kept ss k s are at = kept_is_its_clients ss s are (k, slice_get_within ss k s at, get_or_from_slice_get ss k s s at)
+
+sessions_go_on : (m : Meaning) (Heard : History → Type 0) (ss : List Session) (old : NodeValue) (before : OutboxValue) (k : ℕ) (new : NodeValue) (behind : OutboxValue) → AreSessions ss → old.learner.whole.sessions ≡ ss
+    → SettlesFirst ss old before k new behind → GoesOn m Heard old new before behind
+sessions_go_on m Heard ss old before k new behind are same none_yet = rests_here m Heard old before
+sessions_go_on m Heard ss old before k new behind are same (one_more {k = j} {mid = mid} {between = between} s so_far at one) =
+    let stays : mid.learner ≡ old.learner = settled_learner ss old before j mid between so_far in
+    let here : mid.learner.whole.sessions ≡ ss = ap (λ (l : LearnerValue). l.whole.sessions) stays ∙ same in
+    then_goes_on m Heard old mid new before between behind (sessions_go_on m Heard ss old before j mid between are same so_far)
+    (settles_goes_on m Heard s mid between new behind (subst (λ (l : List Session). session_of s.client l ≡ Some s) (sym here) (is_kept ss j s are at)) one)
+
+pub takes_up_goes_on : (m : Meaning) (Heard : History → Type 0) (old told new : NodeValue) (said behind : OutboxValue) → AreSessions old.learner.whole.sessions
+    → SettlesAll old.learner.whole.sessions old (with_rebase nothing) told said → GoesOn m Heard (while_named told) new said behind → GoesOn m Heard old new nothing behind
+takes_up_goes_on m Heard old told new said behind are settles runs =
+    let ss : List Session = old.learner.whole.sessions in
+    then_goes_on m Heard old old new nothing (with_rebase nothing) behind (rebases_goes_on m Heard old)
+    (then_goes_on m Heard old told new (with_rebase nothing) said behind (sessions_go_on m Heard ss old (with_rebase nothing) (length ss) told said are refl settles)
+    (then_goes_on m Heard told (while_named told) new said said behind (named_goes_on m Heard told said) runs))

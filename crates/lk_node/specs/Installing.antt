@@ -1,0 +1,39 @@
+-- What a node does with a part of another node's snapshot.
+use Rattle.std.specs.Prelude.{◌≡◌, ◌⊎◌, ℕ, ◌+◌, Bool, true, false, Some, List, length, slice_get}
+use Rattle.lk_wire.specs.Values.{PartValue}
+use Rattle.lk_state.specs.Meanings.{Meaning}
+use Rattle.lk_state.specs.declared.session.Session.{Session}
+use Rattle.lk_learner.specs.Installing.{hearing, Installs}
+use Rattle.lk_learner.specs.Learners.{LearnerValue}
+use Rattle.lk_node.specs.Executing.{Settles, while_named, RunsAll}
+use Rattle.lk_node.specs.Learning.{with_learner}
+use Rattle.lk_node.specs.NodeValue.{NodeValue}
+use Rattle.lk_node.specs.Outboxes.{OutboxValue, nothing, with_rebase}
+
+-- the learner gathers the part, and where with it a whole text is gathered that is installed, or else thrown away
+abbrev pub Gathers : (List ℕ → Type 0) → Bool → PartValue → NodeValue → NodeValue → Type 0
+Gathers IsText went p old new = (l : LearnerValue) × Installs IsText went (hearing p old.learner) l × (new ≡ with_learner old l)
+
+-- so many of the sessions are settled, one behind another
+pub data SettlesFirst (ss : List Session) (old : NodeValue) (before : OutboxValue) : ℕ → NodeValue → OutboxValue → Type 0 where
+  none_yet : SettlesFirst ss old before 0 old before
+  one_more : {k : ℕ} {mid new : NodeValue} {between behind : OutboxValue} (s : Session) → SettlesFirst ss old before k mid between → slice_get ss k ≡ Some s → Settles s mid between new behind
+      → SettlesFirst ss old before (k + 1) new behind
+
+-- all of them, in their order
+abbrev pub SettlesAll : List Session → NodeValue → OutboxValue → NodeValue → OutboxValue → Type 0
+SettlesAll ss old before new behind = SettlesFirst ss old before (length ss) new behind
+
+-- The learner stands on an installed state: the store is to be rebased, waiting requests are answered from the state in rising
+-- order of clients, the term ends where no set of its window names the node, and all that can be is executed.
+pub record TakesUp (m : Meaning) (old new : NodeValue) (out : OutboxValue) : Type 0 where
+  pub told : NodeValue
+  pub said : OutboxValue
+  pub settles : SettlesAll old.learner.whole.sessions old (with_rebase nothing) told said
+  pub runs : RunsAll m (while_named told) said new out
+
+-- a part is heard: where by that a state is installed the node takes it up, and else nothing comes of it
+abbrev pub HearsPart : Meaning → (List ℕ → Type 0) → NodeValue → PartValue → NodeValue → OutboxValue → Type 0
+HearsPart m IsText old p new out =
+    ((mid : NodeValue) × Gathers IsText true p old mid × TakesUp m mid new out)
+    ⊎ (Gathers IsText false p old new × (out ≡ nothing))

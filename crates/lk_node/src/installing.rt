@@ -1,0 +1,64 @@
+// What a node does with a part of another node's snapshot.
+ghost use Rattle.std.specs.Prelude.{◌≡◌, ℕ, IfOk, OnOk};
+ghost use Rattle.lk_wire.specs.declared.message.NodeMessage.TheVariants as kinds;
+ghost use Rattle.lk_history.specs.Datagrams.{HasSent};
+ghost use Rattle.lk_state.specs.Meanings.{meaning};
+ghost use Rattle.lk_node.specs.Installing.{Gathers, SettlesAll, TakesUp, HearsPart};
+ghost use Rattle.lk_node.specs.Outboxes.{nothing};
+ghost use Rattle.lk_node.specs.Serving.{GoesOn};
+
+use crate::node::Node;
+use crate::outbox::Outbox;
+use lk_state::Machine;
+use lk_types::NoMemory;
+use lk_wire::Part;
+
+impl<M: Machine> Node<M> {
+    // The part is gathered, and what is whole by that is installed where it is a state's. Whether it was.
+    fn gather(&mut self, part: &Part) -> Result<bool, NoMemory>
+        ensures { IfOk result (λ went. Gathers M.IsText went part.now self.old self.new) }
+    {
+        self.learner.part(part)?;
+        let went = self.learner.install()?;
+        Ok(went)
+    }
+
+    // The sessions of the learner's state are settled, in rising order of clients.
+    fn settle_sessions(&mut self, out: &mut Outbox) -> Result<(), NoMemory>
+        ensures { OnOk result (SettlesAll self.old.learner.whole.sessions self.old out.old self.new out.new) }
+    {
+        let count = self.learner.whole().sessions().len();
+        'sessions: for index in 0..count {
+            let session = self.learner.whole().sessions()[index];
+            self.settle(session, out)?;
+        }
+        Ok(())
+    }
+
+    // The learner stands on an installed state: waiting requests are answered from it, and what can be is executed.
+    fn take_up(&mut self) -> Result<Outbox, NoMemory>
+        ensures exact { IfOk result (λ o. TakesUp (meaning M.first M.next M.answer) self.old self.new o) }
+        ensures goes_on { IfOk result (λ o. GoesOn (meaning M.first M.next M.answer) (λ h. Unit {0}) self.old self.new nothing o) }
+    {
+        self.learner.whole().facts();
+        let mut out = Outbox::new(self.alloc);
+        out.rebase_store();
+        self.settle_sessions(&mut out)?;
+        self.leave_outside();
+        self.execute(&mut out)?;
+        Ok(out)
+    }
+
+    // A part of another node's snapshot was heard.
+    pub(crate) fn hear_part(&mut self, part: &Part) -> Result<Outbox, NoMemory>
+        ensures exact { IfOk result (λ o. HearsPart (meaning M.first M.next M.answer) M.IsText self.old part.now self.new o) }
+        ensures goes_on { (from : ℕ) → IfOk result (λ o. GoesOn (meaning M.first M.next M.answer) (λ h. HasSent h.genesis h.sent from (kinds.Part part.now)) self.old self.new nothing o) }
+    {
+        self.header.genesis().facts();
+        if !self.gather(part)? {
+            return Ok(Outbox::new(self.alloc));
+        }
+        let out = self.take_up()?;
+        Ok(out)
+    }
+}
