@@ -3,6 +3,9 @@
 use clap::{Arg, ArgAction, Command};
 use std::alloc::{AllocError, Global};
 
+/// The version of the package, and the format of the stores that it writes.
+const VERSION: &str = "0.1.0, stores of format 1";
+
 /// A word that has to be given behind `--NAME`.
 fn named<'a>(alloc: Global, name: &'a str, help: &'a str) -> Arg<'a> {
     Arg::new(alloc, name)
@@ -58,6 +61,7 @@ pub fn program<'a>(alloc: Global) -> Result<Command<'a>, AllocError> {
     let demo = Command::new(alloc, "demo").about("shows three nodes and two clients");
     Command::new(alloc, "locks")
         .about("a replicated service of named locks with fencing numbers")
+        .version(VERSION)
         .subcommand_required(true)
         .subcommand(sim)?
         .subcommand(node_command(alloc)?)?

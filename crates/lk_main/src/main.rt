@@ -6,7 +6,7 @@ mod plans;
 mod words;
 
 use std::alloc::Global;
-use std::fs::Files;
+use std::fs::{File, Files};
 use std::io::{BufReader, BufWriter, Write};
 use std::net::Net;
 use std::process::ExitCode;
@@ -16,7 +16,7 @@ use words::{run_words, tell_start};
 
 /// Runs the command line that the program was given, on its streams. It fails where nothing could be run: memory was
 /// refused, or a word is no text.
-fn run<R: Env + Input + Print + Eprint + Files + Net + Alloc<A = Global>, E: Write>(
+fn run<R: Env + Input + Print + Eprint + Files<File = File> + Net + Alloc<A = Global>, E: Write>(
     rt: &R,
     err: &mut E,
 ) -> io::Result<u8> {

@@ -13,15 +13,15 @@ use lk_script::ending::{end, tell};
 use lk_script::fault::ScriptFault;
 use lk_script::script::run_to_end;
 use lk_service::asking::ask;
+use lk_service::causes::open_socket;
 use lk_service::demo::demo;
 use lk_service::dump::dump;
 use lk_service::fault::ServiceFault;
 use lk_service::running::run_node;
-use lk_service::socket::LocalSocket;
 use log::sink::{Console, Discard};
 use log::{Level, Logged};
 use std::alloc::Global;
-use std::fs::Files;
+use std::fs::{File, Files};
 use std::io;
 use std::io::{BufRead, Write};
 use std::net::Net;
@@ -38,7 +38,7 @@ fn refuse_words<E: Write>(err: &mut E) -> u8
 }
 
 /// Runs a node.
-fn run_node_words<R: Files + Net + Eprint, E: Write>(
+fn run_node_words<R: Files<File = File> + Net + Eprint, E: Write>(
     rt: &R,
     alloc: Global,
     matches: &ArgMatches<'_>,
@@ -71,14 +71,14 @@ fn ask_words<R: Net, W: Write, E: Write>(
         Ok(None) => return refuse_words(err),
         Err(_) => return ServiceFault::NoMemory.tell(err),
     };
-    match LocalSocket::bind(rt, 0) {
+    match open_socket(rt, 0, err) {
         Ok(mut socket) => ask(alloc, &mut socket, &question, out, err),
         Err(fault) => fault.tell(err),
     }
 }
 
 /// Runs the subcommand that was named.
-fn run_matches<H: Files + Net + Eprint, R: BufRead, W: Write, E: Write>(
+fn run_matches<H: Files<File = File> + Net + Eprint, R: BufRead, W: Write, E: Write>(
     rt: &H,
     alloc: Global,
     matches: &ArgMatches<'_>,
@@ -121,7 +121,7 @@ fn refuse<W: Write, E: Write>(error: &Error, out: &mut W, err: &mut E) -> u8
 
 /// Reads the command line, whose first word is the program's name, and runs it. The status is 0, 1 where a fault was told
 /// in the last line of standard error, where nothing answered and where no store stands, or 2 where the line is none.
-pub fn run_words<'a, H: Files + Net + Eprint, R: BufRead, W: Write, E: Write>(
+pub fn run_words<'a, H: Files<File = File> + Net + Eprint, R: BufRead, W: Write, E: Write>(
     rt: &H,
     alloc: Global,
     words: &'a [&'a str],

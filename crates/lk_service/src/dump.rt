@@ -3,22 +3,33 @@
 ghost use Rattle.std.specs.Prelude.{◌≤◌};
 
 use crate::fault::ServiceFault;
-use lk_disk::{FileDisk, LogDisk};
+use crate::folder::look_at_device;
+use lk_disk::LogDisk;
 use lk_log::{Standing, look};
+use lk_types::Ballot;
 use std::alloc::Global;
 use std::fs::Files;
 use std::io;
 use std::io::Write;
 
+/// Writes a line of a name and a number.
+fn write_number<W: Write>(name: &str, number: u64, out: &mut W) -> io::Result<()> {
+    writeln!(out, "{name} {number}")
+}
+
+/// Writes the line of the promised ballot: its round and its node.
+fn write_promised<W: Write>(promised: Ballot, out: &mut W) -> io::Result<()> {
+    writeln!(out, "promised {} {}", promised.round(), promised.node())
+}
+
 /// Writes a line each for the generation of the live file, the promised ballot (`0 0` where there is none), the position
 /// of the snapshot, and how many votes and decided commands stand above it.
 fn write_standing<W: Write>(generation: u64, standing: &Standing, out: &mut W) -> io::Result<()> {
-    let promised = standing.promised;
-    writeln!(out, "generation {generation}")?;
-    writeln!(out, "promised {} {}", promised.round(), promised.node())?;
-    writeln!(out, "snapshot {}", standing.position.get())?;
-    writeln!(out, "votes {}", standing.votes.len())?;
-    writeln!(out, "decided {}", standing.pairs.len())
+    write_number("generation", generation, out)?;
+    write_promised(standing.promised, out)?;
+    write_number("snapshot", standing.position.get(), out)?;
+    write_number("votes", standing.votes.len() as u64, out)?;
+    write_number("decided", standing.pairs.len() as u64, out)
 }
 
 /// Writes what a look found, or `no store`. Whether there is a store.
@@ -29,7 +40,7 @@ fn write_found<W: Write>(found: Option<(u64, Standing)>, out: &mut W) -> io::Res
             Ok(true)
         }
         None => {
-            writeln!(out, "no store")?;
+            out.write_all(b"no store\n")?;
             Ok(false)
         }
     }
@@ -54,13 +65,14 @@ pub fn dump_device<D: LogDisk, W: Write>(
 }
 
 /// The same of the files of a folder, none of which is made.
-fn dump_folder<R: Files, W: Write>(
+fn dump_folder<R: Files, W: Write, E: Write>(
     rt: &R,
     alloc: Global,
     folder: &str,
     out: &mut W,
+    err: &mut E,
 ) -> Result<bool, ServiceFault> {
-    let mut device = FileDisk::look_at(rt, alloc, folder)?;
+    let mut device = look_at_device(rt, alloc, folder, err)?;
     dump_device(alloc, &mut device, out)
 }
 
@@ -75,7 +87,7 @@ pub fn dump<R: Files, W: Write, E: Write>(
 ) -> u8
     ensures { result ≤ 1 }
 {
-    match dump_folder(rt, alloc, folder, out) {
+    match dump_folder(rt, alloc, folder, out, err) {
         Ok(true) => 0,
         Ok(false) => 1,
         Err(fault) => fault.tell(err),

@@ -3,10 +3,12 @@
 
 pub mod addresses;
 pub mod asking;
+pub mod causes;
 pub mod command_words;
 pub mod demo;
 pub mod dump;
 pub mod fault;
+pub mod folder;
 mod hearing;
 pub mod node_replica;
 pub mod notes;

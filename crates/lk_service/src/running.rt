@@ -1,19 +1,22 @@
 //! A node over the files of a folder and a socket.
 
-ghost use Rattle.std.specs.Prelude.{◌≤◌};
+ghost use Rattle.std.specs.Prelude.{◌≡◌, ◌≤◌};
+ghost use Rattle.lk_members.specs.Ports.{port_in};
 
+use crate::causes::open_socket;
 use crate::fault::ServiceFault;
+use crate::folder::{FolderLock, open_device};
 use crate::notes::log_notes;
 use crate::server::{Server, node_turn};
-use crate::socket::{Datagrams, LocalSocket};
-use lk_disk::{FileDisk, LogDisk};
+use crate::socket::Datagrams;
+use lk_disk::LogDisk;
 use lk_log::Header;
 use lk_replica::Replica;
 use lk_state::Machine;
-use lk_types::Port;
+use lk_types::{Member, NodeNo, Port};
 use log::Log;
 use std::alloc::Global;
-use std::fs::Files;
+use std::fs::{File, Files};
 use std::io::Write;
 use std::net::Net;
 
@@ -46,15 +49,17 @@ pub fn revive<M: Machine, D: LogDisk + Drop, S: Datagrams + Drop, L: Log>(
     }
 }
 
-/// Serves for 2^48 turns.
-fn serve<M: Machine, R: Files + Net, L: Log>(
+/// Serves for 2^48 turns, from a folder that is locked meanwhile.
+fn serve<M: Machine, R: Files<File = File> + Net, L: Log, E: Write>(
     rt: &R,
     alloc: Global,
     plan: &NodePlan<'_>,
     log: &L,
+    err: &mut E,
 ) -> Result<(), ServiceFault> {
-    let socket = LocalSocket::bind(rt, plan.port.get())?;
-    let device = FileDisk::open(rt, alloc, plan.folder)?;
+    let socket = open_socket(rt, plan.port.get(), err)?;
+    let _lock = FolderLock::take(rt, alloc, plan.folder, err)?;
+    let device = open_device(rt, alloc, plan.folder, err)?;
     let mut server = revive::<M, _, _, L>(alloc, &plan.header, device, socket, log)?;
     for _ in 0..TURNS {
         node_turn(alloc, &mut server, log)?;
@@ -62,8 +67,40 @@ fn serve<M: Machine, R: Files + Net, L: Log>(
     Ok(())
 }
 
-/// Runs a node. The status is 0 after 2^48 turns, and 1 where a fault is told on standard error.
-pub fn run_node<M: Machine, R: Files + Net, L: Log, E: Write>(
+/// The port at which the members have the node, where they do.
+fn named_port(members: &[Member], node: NodeNo) -> Option<Port>
+    ensures { result ≡ port_in node members.now }
+{
+    for member in members {
+        if member.node == node {
+            return Some(member.port);
+        }
+    }
+    None
+}
+
+/// Warns in a line that the node listens at another port than the one that the genesis names.
+fn write_warning<E: Write>(plan: &NodePlan<'_>, named: Port, err: &mut E) {
+    let (node, named, own) = (plan.header.node().get(), named.get(), plan.port.get());
+    let _ = writeln!(
+        err,
+        "warning: the genesis names node {node} at port {named}, and it listens at port {own}"
+    );
+}
+
+/// Warns where the genesis names the node at another port than that at which it listens: it would send and not hear, where
+/// no relay stands between.
+fn warn_of_port<E: Write>(plan: &NodePlan<'_>, err: &mut E) {
+    let members = plan.header.genesis().members.as_slice();
+    match named_port(members, plan.header.node()) {
+        Some(named) if named != plan.port => write_warning(plan, named, err),
+        _ => {}
+    }
+}
+
+/// Runs a node. The status is 0 after 2^48 turns, and 1 where a fault is told on standard error: `CannotOpen` also where another
+/// process serves from the folder.
+pub fn run_node<M: Machine, R: Files<File = File> + Net, L: Log, E: Write>(
     rt: &R,
     alloc: Global,
     plan: &NodePlan<'_>,
@@ -72,7 +109,8 @@ pub fn run_node<M: Machine, R: Files + Net, L: Log, E: Write>(
 ) -> u8
     ensures { result ≤ 1 }
 {
-    match serve::<M, R, L>(rt, alloc, plan, log) {
+    warn_of_port(plan, err);
+    match serve::<M, R, L, E>(rt, alloc, plan, log, err) {
         Ok(()) => 0,
         Err(fault) => fault.tell(err),
     }

@@ -6,6 +6,7 @@ ghost use Rattle.std.specs.declared.net.socket_addr.SocketAddr.{SocketAddr as Ad
 
 use crate::fault::ServiceFault;
 use lk_replica::SendFault;
+use std::io;
 use std::net::{Ipv4Addr, Net, SocketAddr, UdpSocket};
 use std::time::Duration;
 
@@ -49,18 +50,16 @@ pub struct LocalSocket {
 }
 
 impl LocalSocket {
-    /// The socket of a port, or of any free one where the port is 0. It refuses with `CannotOpen`.
-    pub fn bind<R: Net>(rt: &R, port: u16) -> Result<LocalSocket, ServiceFault> {
-        let Ok(socket) = UdpSocket::bind(rt, local(port)) else {
-            return Err(ServiceFault::CannotOpen);
-        };
-        if socket
-            .set_read_timeout(Some(Duration::from_millis(WAIT)))
-            .is_err()
-        {
-            return Err(ServiceFault::CannotOpen);
-        }
+    /// The socket of a port, or of any free one where the port is 0. It refuses with the system's own error.
+    pub fn open<R: Net>(rt: &R, port: u16) -> io::Result<LocalSocket> {
+        let socket = UdpSocket::bind(rt, local(port))?;
+        socket.set_read_timeout(Some(Duration::from_millis(WAIT)))?;
         Ok(LocalSocket { socket })
+    }
+
+    /// The same, which refuses with `CannotOpen`.
+    pub fn bind<R: Net>(rt: &R, port: u16) -> Result<LocalSocket, ServiceFault> {
+        LocalSocket::open(rt, port).map_err(|_| ServiceFault::CannotOpen)
     }
 
     /// The same, but its receives do not wait.

@@ -1,0 +1,64 @@
+//! Why something does not open, for whoever runs the program.
+
+use crate::fault::ServiceFault;
+use crate::socket::{LocalSocket, local};
+use std::alloc::Global;
+use std::fmt::Display;
+use std::fs::{Files, OpenOptions};
+use std::io::Write;
+use std::net::Net;
+use std::path::Path;
+
+/// Tells in a line what does not open, and why: `NAME: TEXT`.
+pub fn tell_cause<N: Display + Drop, T: Display + Drop, E: Write>(
+    name: N,
+    text: T,
+    err: &mut E,
+) -> ServiceFault {
+    let _ = writeln!(err, "{name}: {text}");
+    ServiceFault::CannotOpen
+}
+
+/// The socket of a port, or of any free one where the port is 0. It refuses with `CannotOpen`, and a line tells why.
+pub fn open_socket<R: Net, E: Write>(
+    rt: &R,
+    port: u16,
+    err: &mut E,
+) -> Result<LocalSocket, ServiceFault> {
+    match LocalSocket::open(rt, port) {
+        Ok(socket) => Ok(socket),
+        Err(error) => Err(tell_cause(local(port), error, err)),
+    }
+}
+
+/// A file of a folder. It refuses with `CannotOpen`, and a line tells why.
+pub fn open_file<R: Files, E: Write>(
+    rt: &R,
+    alloc: Global,
+    how: &OpenOptions,
+    folder: &str,
+    name: &str,
+    err: &mut E,
+) -> Result<R::File, ServiceFault> {
+    let path = Path::new(folder).join(alloc, name)?;
+    match how.open(rt, path.as_path()) {
+        Ok(file) => Ok(file),
+        Err(error) => Err(tell_cause(path.as_path().display(), error, err)),
+    }
+}
+
+/// Tells in a line why the files of a folder do not open, by the first of them that does not.
+pub fn tell_closed<R: Files, E: Write>(
+    rt: &R,
+    alloc: Global,
+    how: &OpenOptions,
+    folder: &str,
+    err: &mut E,
+) -> ServiceFault {
+    for name in ["a", "b"] {
+        if let Err(fault) = open_file(rt, alloc, how, folder, name, err) {
+            return fault;
+        }
+    }
+    ServiceFault::CannotOpen
+}
