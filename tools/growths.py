@@ -1,0 +1,108 @@
+#!/usr/bin/env python3
+"""growths.py PROGRAM [SCRIPT ..]: each request for memory refused in turn, while PROGRAM runs a script.
+
+PROGRAM is one that the gate has built; tools/refusing.c, built by `cc` and loaded in front of its C library, refuses its N-th request for
+memory, N = 1, 2, .. until none is refused. The scripts are those of examples/ and a table whose names are all taken, or those given.
+
+Each run may end in three ways: as the script ends where nothing is refused; by fault 25, behind all that the lines in front of the one that
+wanted memory print; and in world mode by `refused 22 WorldMemory`, behind the same. Which line wanted memory is known from how many
+requests a run of the lines up to it makes. The last line is `N passed, M failed`, of scripts, and the status 1 where one failed."""
+import concurrent.futures, os, pathlib, re, subprocess, sys, tempfile
+
+TOP = pathlib.Path(__file__).resolve().parent.parent
+NO_MEMORY = b"refused 22 WorldMemory\n"
+
+
+class Refuser:
+    """Runs a program, one of whose requests for memory may be refused."""
+
+    def __init__(self, program, folder):
+        self.program, self.library = program, f"{folder}/refusing.so"
+        subprocess.run(["cc", "-O2", "-shared", "-fPIC", "-o", self.library, TOP / "tools/refusing.c", "-ldl"], check=True)
+
+    def run(self, lines, at=0):
+        """What comes of the lines, as status, output and standard error, and how many requests for memory there were."""
+        environment = {**os.environ, "LD_PRELOAD": self.library, "REFUSE_AT": str(at)}
+        run = subprocess.run([self.program, "sim"], input=b"".join(lines), capture_output=True, env=environment, timeout=60)
+        err, told, requests = run.stderr.rpartition(b"requests ")
+        if not told or not int(requests):
+            sys.exit(f"{self.program}: none of its requests for memory can be refused: {run.stderr[-300:]}")
+        return (run.returncode, run.stdout, err), int(requests)
+
+
+def events(text):
+    """The lines of a script, where a line of several ticks is as many lines."""
+    for line in text.splitlines(keepends=True):
+        ticks = re.fullmatch(rb"(tick \d+) (\d+)\n", line)
+        yield from [ticks[1] + b"\n"] * int(ticks[2]) if ticks else [line]
+
+
+def full_table():
+    """A client takes all names that a table holds, one too many, gives the first one back and takes it again."""
+
+    def request(number, body):
+        op = bytes([0, len(body)]) + body
+        return (bytes.fromhex("4c4b0109") + (5).to_bytes(8) + bytes(4) + (1).to_bytes(2) + number.to_bytes(8) + op).hex().encode() + b"\n"
+
+    names = [b"\4n%03d" % name for name in range(513)]
+    yield b"table 5\n"
+    yield from (request(number, b"\1" + name) for number, name in enumerate(names, 1))
+    yield request(514, b"\2" + names[0] + (1).to_bytes(8))
+    yield request(515, b"\1" + names[0])
+
+
+def scripts(files):
+    """The names of the scripts, and their lines."""
+    for file in files or sorted((TOP / "examples").glob("*.txt")):
+        yield pathlib.Path(file).name, [*events(pathlib.Path(file).read_bytes())]
+    if not files:
+        yield "a table whose names are all taken", [*full_table()]
+
+
+def beginnings(refuser, lines):
+    """What the first so many lines print, and how many requests for memory they and the end of the run make."""
+    for count in range(len(lines) + 1):
+        (_, output, _), requests = refuser.run(lines[:count])
+        yield re.sub(rb"(?m)^done \d+\n\Z", b"", output), requests
+
+
+def is_good(ended, whole, fronts):
+    """Whether a run ended as it may, where the lines that did not want memory have printed one of the fronts."""
+    status, output, err = ended
+    is_fault = err == b"fault 25\n" and output in fronts
+    is_refusal = not err and output.endswith(NO_MEMORY) and output.removesuffix(NO_MEMORY) in fronts
+    return ended == whole or status == 1 and (is_fault or is_refusal)
+
+
+def sweep(refuser, lines):
+    """How many requests for memory a script makes, and the ends of runs that are not as they may be, as texts."""
+    whole, most = refuser.run(lines)
+    known = [*beginnings(refuser, lines)]
+    wrong = []
+    for at in range(1, most + 2):
+        ended, requests = refuser.run(lines, at)
+        # The request may be one of the line, or of the end of the run of the lines in front of it.
+        line = next((count for count, (_, made) in enumerate(known) if at <= made), len(lines))
+        fronts = [output for output, _ in known[max(0, line - 1) : line + 1]]
+        if not (is_good(ended, whole, fronts) if at <= most else (ended, requests) == (whole, most)):
+            wrong.append(f"request {at} of {most} refused: status {ended[0]}, printed {ended[1][-200:]}, told {ended[2][-200:]}")
+    return most, wrong
+
+
+def main():
+    if len(sys.argv) < 2:
+        sys.exit(__doc__)
+    chosen = [*scripts(sys.argv[2:])]
+    failed = total = 0
+    with tempfile.TemporaryDirectory() as folder, concurrent.futures.ThreadPoolExecutor(os.cpu_count()) as pool:
+        refuser = Refuser(pathlib.Path(sys.argv[1]).resolve(), folder)
+        for (name, _), (most, wrong) in zip(chosen, pool.map(lambda script: sweep(refuser, script[1]), chosen)):
+            total, failed = total + most, failed + bool(wrong)
+            for text in wrong:
+                print(f"{name}: {text}", flush=True)
+    print(f"{total} requests for memory of {len(chosen)} scripts, each refused in turn")
+    print(f"{len(chosen) - failed} passed, {failed} failed", flush=True)
+    sys.exit(failed > 0)
+
+
+main()
