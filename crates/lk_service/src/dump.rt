@@ -1,6 +1,7 @@
 //! What stands in the store of a folder, for whoever runs a node.
 
-ghost use Rattle.std.specs.Prelude.{◌≤◌};
+ghost use Rattle.std.specs.Prelude.{◌≡◌, ◌≤◌};
+ghost use Rattle.lk_disk.specs.declared.device.Side.{Side};
 
 use crate::fault::ServiceFault;
 use crate::folder::look_at_device;
@@ -53,7 +54,9 @@ pub fn dump_device<D: LogDisk, W: Write>(
     alloc: Global,
     device: &mut D,
     out: &mut W,
-) -> Result<bool, ServiceFault> {
+) -> Result<bool, ServiceFault>
+    ensures unchanged { D.is_honest → (s : Side) → D.disk device.new s ≡ D.disk device.old s }
+{
     let found = look(alloc, device)?;
     let Ok(is_store) = write_found(found, out) else {
         return Err(ServiceFault::Write);
