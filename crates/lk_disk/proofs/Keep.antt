@@ -2,7 +2,7 @@
 use Rattle.std.proofs.Common.{◌≡◌, ℕ, ◌+◌, ◌-◌, ◌≤◌, min, max, List, [], ◌++◌, length, take, drop, arith, sym, ◌∙◌, ap, append_assoc, length-drop, Option, Some, None}
 use Rattle.std.proofs.Math.Seq.{take-add, take-append-add, take-length}
 use Rattle.std.proofs.lemmas.List.{take_min, take_all, drop_all, append-nil, take-append-drop, length-take-le}
-use Rattle.lk_disk.specs.Disk.{Disk, MayLeave, AppendsSome, CutShort, contents, appended, cut_to, kept_by}
+use Rattle.lk_disk.specs.Disk.{Disk, MayLeave, AppendsSome, CutShort, contents, appended, kept_by}
 use Rattle.lk_disk.specs.Memory.{cut_within}
 use Rattle.lk_disk.specs.Files.{left_of, file_showing}
 

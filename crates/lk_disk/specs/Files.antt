@@ -1,6 +1,6 @@
 -- A file that grows at its end, what its calls do to it, and what a stop may leave.
-use Rattle.std.specs.Prelude.{◌≡◌, ℕ, ◌++◌, [], Bool, Option, Some, None, take, drop}
-use Rattle.lk_disk.specs.Disk.{Disk}
+use Rattle.std.specs.Prelude.{◌≡◌, ℕ, ◌<◌, ◌⊎◌, ◌++◌, [], Bool, true, false, Option, Some, None, Result, Ok, Err, length, take, drop}
+use Rattle.lk_disk.specs.Disk.{Disk, contents, one_more}
 use Rattle.lk_disk.specs.declared.device.Side.{Side}
 use Rattle.lk_disk.specs.declared.device.Side.TheVariants.{A, B}
 
@@ -41,10 +41,38 @@ unknown = broken (record { synced = []; unsynced = [] })
 abbrev pub IsWhole : File → Type 0
 IsWhole f = f ≡ whole (left_of f)
 
+-- what a contract sees of a file in memory: how it stands, and how often a call has failed
+pub record CountedFile : Type 0 where
+  pub file : File
+  pub failures : ℕ
+
 -- what a contract sees of a file that is used until a call of it fails
 pub record UsedFile : Type 0 where
   pub file : File
+  pub failures : ℕ
   pub failed : Bool
+
+-- a call was refused, untried, since the file had failed before
+abbrev pub IsUntried : UsedFile → UsedFile → Type 0
+IsUntried old new = (old.failed ≡ true) × (new ≡ old)
+
+-- a call of the file failed
+abbrev pub HasFailed : UsedFile → UsedFile → Type 0
+HasFailed old new = (old.failed ≡ false) × (new.failures ≡ one_more old.failures)
+
+-- all calls of the file were made, and it goes on
+abbrev pub HasPassed : UsedFile → UsedFile → Type 0
+HasPassed old new = (old.failed ≡ false) × (new.failed ≡ false) × (new.failures ≡ old.failures)
+
+-- the call was refused only so, and passed else
+abbrev pub IsCaused : {T E : Type 0} → UsedFile → UsedFile → Result T E → Type 0
+IsCaused old new (Ok _) = HasPassed old new
+IsCaused old new (Err _) = IsUntried old new ⊎ HasFailed old new
+
+-- or, of a cut, since this many bytes are more than the file has, where that is known
+abbrev pub IsCutCaused : {T E : Type 0} → Type 0 → ℕ → UsedFile → UsedFile → Result T E → Type 0
+IsCutCaused is_honest len old new (Ok _) = HasPassed old new
+IsCutCaused is_honest len old new (Err _) = IsUntried old new ⊎ HasFailed old new ⊎ (HasPassed old new × (is_honest → length (contents (left_of old.file)) < len))
 
 -- what a contract sees of a device of two such files
 pub record FilePair : Type 0 where

@@ -1,8 +1,8 @@
 // A device of two files.
 ghost use Rattle.std.specs.Prelude.{◌≡◌, ◌≤◌, ◌<◌, ◌+◌, length, slice_range, IsFalse, OnOk, OnErr, IfOk};
-ghost use Rattle.lk_disk.specs.Disk.{contents, appended, flushed, cut_to, other, one_more, AppendsSome, CutShort};
+ghost use Rattle.lk_disk.specs.Disk.{contents, appended, flushed, cut_to, other, one_more, AppendsSome, CutShort, HasCause};
 ghost use Rattle.lk_disk.specs.Meters.{fresh};
-ghost use Rattle.lk_disk.specs.Files.{FilePair, IsWhole, disk_at};
+ghost use Rattle.lk_disk.specs.Files.{FilePair, IsWhole, IsCaused, IsCutCaused, used_at, disk_at};
 ghost use Rattle.lk_disk.specs.declared.device.Side.{Side};
 
 use crate::append_file::{AppendFile, FileFault};
@@ -35,6 +35,8 @@ impl<F: AppendFile + Drop> FileDisk<F> {
         requires b { F.is_honest → IsWhole (F.file b) }
         ensures a { result.a.file ≡ F.file a }
         ensures b { result.b.file ≡ F.file b }
+        ensures failures_a { result.a.failures ≡ F.failures a }
+        ensures failures_b { result.b.failures ≡ F.failures b }
         ensures alive_a { IsFalse result.a.failed }
         ensures alive_b { IsFalse result.b.failed }
         ensures failures { result.failures ≡ 0 }
@@ -50,6 +52,8 @@ impl<F: AppendFile + Drop> FileDisk<F> {
     pub fn into_files(self) -> (F, F)
         ensures a { F.file result.0 ≡ self.a.file }
         ensures b { F.file result.1 ≡ self.b.file }
+        ensures failures_a { F.failures result.0 ≡ self.a.failures }
+        ensures failures_b { F.failures result.1 ≡ self.b.failures }
     {
         let FileDisk { a, b, failures: _ } = self;
         (a.into_file(), b.into_file())
@@ -76,7 +80,15 @@ impl<F: AppendFile + Drop> LogDisk for FileDisk<F> {
 
     ghost is_metered = { ⊥ };
 
-    fn length(&mut self, side: Side) -> Result<usize, DeviceFault> {
+    fn length(&mut self, side: Side) -> Result<usize, DeviceFault>
+        ensures value { F.is_honest → IfOk result (λ n. n ≡ length (contents (disk_at self.old side))) }
+        ensures unchanged { F.is_honest → (s : Side) → disk_at self.new s ≡ disk_at self.old s }
+        ensures alive { (used_at self.new side).failed ≡ (used_at self.old side).failed }
+        ensures cause { HasCause self.old.failures self.new.failures result }
+        // It fails only where the file's call did, or had before.
+        ensures file { IsCaused (used_at self.old side) (used_at self.new side) result }
+        ensures apart { used_at self.new (other side) ≡ used_at self.old (other side) }
+    {
         let length = match side {
             Side::A => self.a.length(),
             Side::B => self.b.length(),
@@ -87,12 +99,16 @@ impl<F: AppendFile + Drop> LogDisk for FileDisk<F> {
         }
     }
 
-    fn read_into(
-        &mut self,
-        side: Side,
-        offset: usize,
-        buffer: &mut [u8],
-    ) -> Result<(), DeviceFault> {
+    fn read_into(&mut self, side: Side, offset: usize, buffer: &mut [u8]) -> Result<(), DeviceFault>
+        ensures value { F.is_honest → OnOk result (buffer.new ≡ slice_range (contents (disk_at self.old side)) offset (offset + length buffer.old)) }
+        ensures within { F.is_honest → OnOk result (offset + length buffer.old ≤ length (contents (disk_at self.old side))) }
+        ensures unchanged { F.is_honest → (s : Side) → disk_at self.new s ≡ disk_at self.old s }
+        ensures alive { (used_at self.new side).failed ≡ (used_at self.old side).failed }
+        ensures cause { HasCause self.old.failures self.new.failures result }
+        // It fails only where the file's call did, or had before.
+        ensures file { IsCaused (used_at self.old side) (used_at self.new side) result }
+        ensures apart { used_at self.new (other side) ≡ used_at self.old (other side) }
+    {
         let read = match side {
             Side::A => self.a.read_into(offset, buffer),
             Side::B => self.b.read_into(offset, buffer),
@@ -103,7 +119,14 @@ impl<F: AppendFile + Drop> LogDisk for FileDisk<F> {
         }
     }
 
-    fn append(&mut self, side: Side, piece: &[u8]) -> Result<(), DeviceFault> {
+    fn append(&mut self, side: Side, piece: &[u8]) -> Result<(), DeviceFault>
+        ensures ok { F.is_honest → OnOk result (disk_at self.new side ≡ appended (disk_at self.old side) piece.now) }
+        ensures err { F.is_honest → OnErr result (AppendsSome piece.now (disk_at self.old side) (disk_at self.new side)) }
+        ensures cause { HasCause self.old.failures self.new.failures result }
+        // It fails only where the file's call did, or had before.
+        ensures file { IsCaused (used_at self.old side) (used_at self.new side) result }
+        ensures apart { used_at self.new (other side) ≡ used_at self.old (other side) }
+    {
         let appended = match side {
             Side::A => self.a.append(piece),
             Side::B => self.b.append(piece),
@@ -114,7 +137,14 @@ impl<F: AppendFile + Drop> LogDisk for FileDisk<F> {
         }
     }
 
-    fn sync(&mut self, side: Side) -> Result<(), DeviceFault> {
+    fn sync(&mut self, side: Side) -> Result<(), DeviceFault>
+        ensures ok { F.is_honest → OnOk result (disk_at self.new side ≡ flushed (disk_at self.old side)) }
+        ensures err { F.is_honest → OnErr result (disk_at self.new side ≡ disk_at self.old side) }
+        ensures cause { HasCause self.old.failures self.new.failures result }
+        // It fails only where the file's call did, or had before.
+        ensures file { IsCaused (used_at self.old side) (used_at self.new side) result }
+        ensures apart { used_at self.new (other side) ≡ used_at self.old (other side) }
+    {
         let synced = match side {
             Side::A => self.a.sync(),
             Side::B => self.b.sync(),
@@ -125,7 +155,16 @@ impl<F: AppendFile + Drop> LogDisk for FileDisk<F> {
         }
     }
 
-    fn cut(&mut self, side: Side, len: usize) -> Result<(), DeviceFault> {
+    fn cut(&mut self, side: Side, len: usize) -> Result<(), DeviceFault>
+        ensures ok { F.is_honest → OnOk result (disk_at self.new side ≡ cut_to len (disk_at self.old side)) }
+        ensures within { F.is_honest → OnOk result (len ≤ length (contents (disk_at self.old side))) }
+        ensures err { F.is_honest → OnErr result (CutShort len (disk_at self.old side) (disk_at self.new side)) }
+        ensures past_end { F.is_honest → length (contents (disk_at self.old side)) < len → disk_at self.new side ≡ disk_at self.old side }
+        ensures cause { HasCause self.old.failures self.new.failures result }
+        // It fails only where a call of the file did, or had before, or past the end.
+        ensures file { IsCutCaused F.is_honest len (used_at self.old side) (used_at self.new side) result }
+        ensures apart { used_at self.new (other side) ≡ used_at self.old (other side) }
+    {
         let cut = match side {
             Side::A => self.a.cut(len),
             Side::B => self.b.cut(len),

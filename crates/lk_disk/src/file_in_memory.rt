@@ -1,6 +1,6 @@
 // A file in memory: it shows that a file can be honest.
 ghost use Rattle.std.specs.Prelude.{◌≡◌, ◌↔◌, ◌≤◌, ◌+◌, ℕ, [], length, Ok, ⊤, slice_range, IsOk, OnOk, OnErr};
-ghost use Rattle.lk_disk.specs.Disk.{Disk, MayLeave, contents, appended, flushed, cut_to, kept_by};
+ghost use Rattle.lk_disk.specs.Disk.{Disk, MayLeave, contents, appended, flushed, cut_to, kept_by, one_more, HasCause};
 ghost use Rattle.lk_disk.specs.Files.{whole, shortened, bytes_of, left_of, IsWhole};
 
 use crate::append_file::{AppendFile, FileFault};
@@ -14,75 +14,91 @@ pub struct FileInMemory {
     bytes: MemoryFile,
     // so many of its bytes it shows, where it was shortened and not yet synced
     shown: Option<usize>,
+    failures: u64,
 }
 
 impl Model for FileInMemory {
-    ghost use Rattle.lk_disk.specs.Files.{File, file_showing};
+    ghost use Rattle.lk_disk.specs.Files.{CountedFile, file_showing};
 
-    ghost Value = { File };
+    ghost Value = { CountedFile };
 
-    ghost view = { λ f. file_showing f.shown f.bytes };
+    ghost view = { λ f. record { file = file_showing f.shown f.bytes; failures = f.failures } };
 }
 
 impl FileInMemory {
     /// An empty file.
     pub fn new(alloc: Global) -> FileInMemory
-        ensures { result ≡ whole (record { synced = []; unsynced = [] }) }
+        ensures { result ≡ record { file = whole (record { synced = []; unsynced = [] }); failures = 0 } }
     {
         FileInMemory {
             bytes: MemoryFile::new(alloc),
             shown: None,
+            failures: 0,
         }
     }
 
     /// A stop that keeps up to so many of the bytes that are not synced. What is left is synced.
     pub fn stop(&mut self, unsynced: usize)
-        ensures after { self.new ≡ whole (kept_by unsynced (bytes_of self.old)) }
-        ensures image { MayLeave (left_of self.old) (contents (left_of self.new)) }
+        ensures after { self.new ≡ record self.old { file = whole (kept_by unsynced (bytes_of self.old.file)) } }
+        ensures image { MayLeave (left_of self.old.file) (contents (left_of self.new.file)) }
     {
         self.bytes.stop(unsynced);
         self.shown = None;
     }
+
+    // Counts a failure.
+    fn fail(&mut self) -> FileFault
+        ensures { self.new ≡ record self.old { failures = one_more self.old.failures } }
+    {
+        self.failures = self.failures.saturating_add(1);
+        FileFault
+    }
 }
 
 impl AppendFile for FileInMemory {
-    ghost file = { λ f. f };
+    ghost file = { λ f. f.file };
 
     ghost is_honest = { ⊤ };
 
+    ghost failures = { λ f. f.failures };
+
     fn length(&mut self) -> Result<usize, FileFault>
-        ensures value { IsWhole self.old → result ≡ Ok (length (contents (left_of self.old))) }
+        ensures value { IsWhole self.old.file → result ≡ Ok (length (contents (left_of self.old.file))) }
         ensures unchanged { self.new ≡ self.old }
+        ensures ok { IsOk result }
     {
         Ok(self.shown.unwrap_or(self.bytes.len()))
     }
 
     fn read_into(&mut self, offset: usize, buffer: &mut [u8]) -> Result<(), FileFault>
-        ensures within { IsWhole self.old → IsOk result ↔ (offset + length buffer.old ≤ length (contents (left_of self.old))) }
-        ensures value { OnOk result (buffer.new ≡ slice_range (contents (left_of self.old)) offset (offset + length buffer.old)) }
-        ensures unchanged { self.new ≡ self.old }
+        ensures within { IsWhole self.old.file → IsOk result ↔ (offset + length buffer.old ≤ length (contents (left_of self.old.file))) }
+        ensures value { OnOk result (buffer.new ≡ slice_range (contents (left_of self.old.file)) offset (offset + length buffer.old)) }
+        ensures unchanged { self.new.file ≡ self.old.file }
+        ensures cause { HasCause self.old.failures self.new.failures result }
     {
         if self.shown.is_none() && self.bytes.read_into(offset, buffer) {
             Ok(())
         } else {
-            Err(FileFault)
+            Err(self.fail())
         }
     }
 
     fn append(&mut self, piece: &[u8]) -> Result<(), FileFault>
-        ensures ok { OnOk result (self.new ≡ whole (appended (left_of self.old) piece.now)) }
-        ensures err { OnErr result (self.new ≡ self.old) }
+        ensures ok { OnOk result (self.new.file ≡ whole (appended (left_of self.old.file) piece.now)) }
+        ensures err { OnErr result (self.new.file ≡ self.old.file) }
+        ensures cause { HasCause self.old.failures self.new.failures result }
     {
-        if self.shown.is_some() {
-            return Err(FileFault);
+        if self.shown.is_some() || self.bytes.append(piece).is_err() {
+            return Err(self.fail());
         }
-        self.bytes.append(piece).map_err(|_| FileFault)
+        Ok(())
     }
 
     fn sync(&mut self) -> Result<(), FileFault>
         ensures ok { IsOk result }
-        ensures whole { IsWhole self.old → self.new ≡ whole (flushed (left_of self.old)) }
-        ensures short { (n : ℕ) (d : Disk) → self.old ≡ shortened n d → self.new ≡ whole (cut_to n d) }
+        ensures whole { IsWhole self.old.file → self.new.file ≡ whole (flushed (left_of self.old.file)) }
+        ensures short { (n : ℕ) (d : Disk) → self.old.file ≡ shortened n d → self.new.file ≡ whole (cut_to n d) }
+        ensures failures { self.new.failures ≡ self.old.failures }
     {
         match self.shown {
             Some(shown) => self.bytes.cut(shown),
@@ -93,10 +109,11 @@ impl AppendFile for FileInMemory {
     }
 
     fn shorten(&mut self, len: usize) -> Result<(), FileFault>
-        ensures ok { IsWhole self.old → len ≤ length (contents (left_of self.old)) → IsOk result × (self.new ≡ shortened len (left_of self.old)) }
+        ensures ok { IsWhole self.old.file → len ≤ length (contents (left_of self.old.file)) → IsOk result × (self.new.file ≡ shortened len (left_of self.old.file)) }
+        ensures cause { HasCause self.old.failures self.new.failures result }
     {
         if self.shown.is_some() || self.bytes.len() < len {
-            return Err(FileFault);
+            return Err(self.fail());
         }
         self.shown = Some(len);
         Ok(())

@@ -1,4 +1,6 @@
 // The files of the system. What they do no contract can say: this module is trusted.
+ghost use Rattle.std.specs.Prelude.{◌≡◌};
+ghost use Rattle.lk_disk.specs.Disk.{one_more, HasCause};
 ghost use Rattle.lk_disk.specs.Files.{unknown};
 
 use crate::append_file::{AppendFile, FileFault};
@@ -17,6 +19,27 @@ use thiserror::Error;
 #[derive(Debug, Drop)]
 pub struct SystemFile<F> {
     file: F,
+    failures: u64,
+}
+
+impl<F> SystemFile<F> {
+    // Counts a failure.
+    fn fail(&mut self) -> FileFault
+        ensures { self.new.failures ≡ one_more self.old.failures }
+    {
+        self.failures = self.failures.saturating_add(1);
+        FileFault
+    }
+
+    // Counts a call that was not made.
+    fn told(&mut self, is_made: bool) -> Result<(), FileFault>
+        ensures { HasCause self.old.failures self.new.failures result }
+    {
+        if is_made {
+            return Ok(());
+        }
+        Err(self.fail())
+    }
 }
 
 impl<F: OpenFile + Read + Write + Seek> AppendFile for SystemFile<F> {
@@ -24,30 +47,37 @@ impl<F: OpenFile + Read + Write + Seek> AppendFile for SystemFile<F> {
 
     ghost is_honest = { ⊥ };
 
+    ghost failures = { λ f. f.failures };
+
     fn length(&mut self) -> Result<usize, FileFault> {
         let Ok(metadata) = self.file.metadata() else {
-            return Err(FileFault);
+            return Err(self.fail());
         };
-        usize::try_from(metadata.len()).map_err(|_| FileFault)
+        match usize::try_from(metadata.len()) {
+            Ok(length) => Ok(length),
+            Err(_) => Err(self.fail()),
+        }
     }
 
     fn read_into(&mut self, offset: usize, buffer: &mut [u8]) -> Result<(), FileFault> {
-        if self.file.seek(SeekFrom::Start(offset as u64)).is_err() {
-            return Err(FileFault);
-        }
-        self.file.read_exact(buffer).map_err(|_| FileFault)
+        let is_found = self.file.seek(SeekFrom::Start(offset as u64)).is_ok();
+        let is_read = is_found && self.file.read_exact(buffer).is_ok();
+        self.told(is_read)
     }
 
     fn append(&mut self, piece: &[u8]) -> Result<(), FileFault> {
-        self.file.write_all(piece).map_err(|_| FileFault)
+        let is_made = self.file.write_all(piece).is_ok();
+        self.told(is_made)
     }
 
     fn sync(&mut self) -> Result<(), FileFault> {
-        self.file.sync_data().map_err(|_| FileFault)
+        let is_made = self.file.sync_data().is_ok();
+        self.told(is_made)
     }
 
     fn shorten(&mut self, len: usize) -> Result<(), FileFault> {
-        self.file.set_len(len as u64).map_err(|_| FileFault)
+        let is_made = self.file.set_len(len as u64).is_ok();
+        self.told(is_made)
     }
 }
 
@@ -70,7 +100,7 @@ fn open_one<R: Files>(
     let Ok(file) = how.open(rt, path.as_path()) else {
         return Err(CannotOpen);
     };
-    Ok(SystemFile { file })
+    Ok(SystemFile { file, failures: 0 })
 }
 
 /// Makes the names of files that were made in a folder outlast a stop of the machine.

@@ -1,7 +1,7 @@
 // One file that is used until a call of it fails.
 ghost use Rattle.std.specs.Prelude.{◌≡◌, ◌≤◌, ◌<◌, ◌+◌, length, true, false, slice_range, IsTrue, IsFalse, IsOk, OnOk, OnErr, IfOk};
 ghost use Rattle.lk_disk.specs.Disk.{contents, appended, flushed, cut_to, AppendsSome, CutShort};
-ghost use Rattle.lk_disk.specs.Files.{left_of, IsWhole};
+ghost use Rattle.lk_disk.specs.Files.{left_of, IsWhole, IsCaused, IsCutCaused};
 
 use crate::append_file::{AppendFile, FileFault};
 use std::marker::Model;
@@ -19,7 +19,7 @@ impl<F: AppendFile + Drop> Model for UsedFile<F> {
 
     ghost Value = { Used };
 
-    ghost view = { λ u. record { file = F.file u.file; failed = u.failed } };
+    ghost view = { λ u. record { file = F.file u.file; failures = F.failures u.file; failed = u.failed } };
 
     ghost invariant = { λ u. F.is_honest → u.failed ≡ false → IsWhole (F.file u.file) };
 }
@@ -28,6 +28,7 @@ impl<F: AppendFile + Drop> UsedFile<F> {
     pub fn of(file: F) -> UsedFile<F>
         requires { F.is_honest → IsWhole (F.file file) }
         ensures file { result.file ≡ F.file file }
+        ensures failures { result.failures ≡ F.failures file }
         ensures failed { IsFalse result.failed }
     {
         UsedFile {
@@ -37,7 +38,8 @@ impl<F: AppendFile + Drop> UsedFile<F> {
     }
 
     pub fn into_file(self) -> F
-        ensures { F.file result ≡ self.file }
+        ensures file { F.file result ≡ self.file }
+        ensures failures { F.failures result ≡ self.failures }
     {
         let UsedFile { file, failed: _ } = self;
         file
@@ -45,7 +47,9 @@ impl<F: AppendFile + Drop> UsedFile<F> {
 
     pub fn length(&mut self) -> Result<usize, FileFault>
         ensures value { F.is_honest → IfOk result (λ n. n ≡ length (contents (left_of self.old.file))) }
-        ensures unchanged { F.is_honest → self.new ≡ self.old }
+        ensures unchanged { F.is_honest → self.new.file ≡ self.old.file }
+        ensures failed { self.new.failed ≡ self.old.failed }
+        ensures cause { IsCaused self.old self.new result }
     {
         if self.failed {
             return Err(FileFault);
@@ -56,7 +60,9 @@ impl<F: AppendFile + Drop> UsedFile<F> {
     pub fn read_into(&mut self, offset: usize, buffer: &mut [u8]) -> Result<(), FileFault>
         ensures value { F.is_honest → OnOk result (buffer.new ≡ slice_range (contents (left_of self.old.file)) offset (offset + length buffer.old)) }
         ensures within { F.is_honest → OnOk result (offset + length buffer.old ≤ length (contents (left_of self.old.file))) }
-        ensures unchanged { F.is_honest → self.new ≡ self.old }
+        ensures unchanged { F.is_honest → self.new.file ≡ self.old.file }
+        ensures failed { self.new.failed ≡ self.old.failed }
+        ensures cause { IsCaused self.old self.new result }
     {
         if self.failed {
             return Err(FileFault);
@@ -81,6 +87,7 @@ impl<F: AppendFile + Drop> UsedFile<F> {
     pub fn append(&mut self, piece: &[u8]) -> Result<(), FileFault>
         ensures ok { F.is_honest → OnOk result (left_of self.new.file ≡ appended (left_of self.old.file) piece.now) }
         ensures err { F.is_honest → OnErr result (AppendsSome piece.now (left_of self.old.file) (left_of self.new.file)) }
+        ensures cause { IsCaused self.old self.new result }
     {
         self.begin()?;
         self.file.append(piece)?;
@@ -91,6 +98,7 @@ impl<F: AppendFile + Drop> UsedFile<F> {
     pub fn sync(&mut self) -> Result<(), FileFault>
         ensures ok { F.is_honest → OnOk result (left_of self.new.file ≡ flushed (left_of self.old.file)) }
         ensures err { F.is_honest → OnErr result (left_of self.new.file ≡ left_of self.old.file) }
+        ensures cause { IsCaused self.old self.new result }
     {
         self.begin()?;
         self.file.sync()?;
@@ -103,6 +111,7 @@ impl<F: AppendFile + Drop> UsedFile<F> {
         ensures within { F.is_honest → OnOk result (len ≤ length (contents (left_of self.old.file))) }
         ensures err { F.is_honest → OnErr result (CutShort len (left_of self.old.file) (left_of self.new.file)) }
         ensures past_end { F.is_honest → length (contents (left_of self.old.file)) < len → left_of self.new.file ≡ left_of self.old.file }
+        ensures cause { IsCutCaused F.is_honest len self.old self.new result }
     {
         if self.length()? < len {
             return Err(FileFault);

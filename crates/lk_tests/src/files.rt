@@ -55,6 +55,9 @@ impl AppendFile for Failing {
 
     ghost is_honest = { ⊥ };
 
+    // Its failures are not counted: the count stands at its greatest.
+    ghost failures = { λ _. 18446744073709551615 };
+
     fn length(&mut self) -> Result<usize, FileFault> {
         self.bytes.length()
     }
