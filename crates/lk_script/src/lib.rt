@@ -11,7 +11,7 @@ pub mod laws;
 pub mod lines;
 mod mode;
 pub mod order;
-mod printing;
+pub mod printing;
 pub mod script;
 pub mod server;
 pub mod world_line;

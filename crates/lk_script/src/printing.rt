@@ -1,4 +1,5 @@
-// What an event of a world prints.
+//! What an event of a world prints.
+
 ghost use Rattle.std.specs.Prelude.{◌≡◌, ◌++◌, OnOk};
 ghost use Rattle.lk_script.specs.Worlds.{refusal_name, refused_line};
 

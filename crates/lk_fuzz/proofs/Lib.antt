@@ -1,0 +1,2 @@
+mod Furthest
+mod Happening

@@ -1,0 +1,19 @@
+use Rattle.std.proofs.Common.{refl, subst}
+use Rattle.std.proofs.lemmas.Result.{on_ok_weaker}
+use Rattle.lk_fuzz.specs.Lines.{IsFurthest, done_line}
+use Rattle.lk_fuzz.proofs.fuzzing.write_run.Goals as goal
+
+pub returns-in-Ok : goal.returns-in-Ok
+returns-in-Ok g c = on_ok_weaker c.write_done.result (λ done. (
+  done_line c.args.count done.0,
+  record {
+    begun = c.world_of_three-world.result;
+    new_world = c.world_of_three-world.ensures;
+    ended = c.run_schedule.new.world;
+    fuzzes = c.in-Ok.ensures;
+    furthest = done.0;
+    is_furthest = subst (λ trace. IsFurthest trace done.0) c.trace.ensures done.1;
+    line = refl;
+  },
+  done.2,
+)) c.write_done.ensures
