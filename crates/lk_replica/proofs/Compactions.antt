@@ -1,5 +1,5 @@
 -- A call that was told to compact, by what it came to.
-use Rattle.std.proofs.Common.{◌≡◌, ℕ, ◌<◌, ◌≤◌, ◌⊎◌, List, [], ◌∷◌, Bool, true, false, Result, Ok, Err, OnOk, refl, sym, ap, subst, inl, inr, arith}
+use Rattle.std.proofs.Common.{◌≡◌, ℕ, ◌<◌, ◌≤◌, ◌⊎◌, List, [], ◌∷◌, Bool, true, false, Result, Ok, Err, OnOk, OnErr, refl, sym, ap, subst, inl, inr, arith}
 use Rattle.std.proofs.lemmas.Bool.{cases_lt}
 use Rattle.std.specs.Prelude.{IfErr, IsErrAnd, IsErrOf}
 use Rattle.lk_types.specs.Limits.{max_count}
@@ -19,12 +19,13 @@ use Rattle.lk_node.specs.Holdings.{Holding}
 use Rattle.lk_node.specs.Keeping.{Stands}
 use Rattle.lk_node.specs.Packing.{standing_of, standing_here}
 use Rattle.lk_replica.specs.Compacted.{IsCompacted, IsStoreFault, CompactsTo}
-use Rattle.lk_replica.specs.Compacting.{AllStandAt}
-use Rattle.lk_replica.specs.Faults.{fault_number, fault_of, CountsFailure, RefusedAfter, PassesOr}
+use Rattle.lk_replica.specs.Compacting.{AllStandAt, AreSame}
+use Rattle.lk_replica.specs.Faults.{fault_number, fault_of, CountsFailure, RefusedAfter, PassesOr, IfSpared}
 use Rattle.lk_replica.specs.ReplicaValue.{ReplicaValue}
 use Rattle.lk_replica.specs.declared.fault.ReplicaFault.{ReplicaFault}
 use Rattle.lk_replica.specs.declared.fault.ReplicaFault.TheVariants as fault
 use Rattle.lk_replica.proofs.OnDevices.{on_device}
+use Rattle.lk_replica.proofs.Spared.{spared_number}
 
 -- it has compacted
 pub compacted : {T : Type 0} (m : Meaning) (old new : ReplicaValue) (r : Result T ReplicaFault) → OnOk r (new.node ≡ standing_here old.node)
@@ -79,14 +80,16 @@ failed_alone (fault.Send notes) is = absurd (omega (arith, is))
 -- it was refused, for a cause
 pub refused : {T : Type 0} (m : Meaning) (old new : ReplicaValue) (r : Result T ReplicaFault) → CountsFailure old.store.failures new.store.failures r → PassesOr old.store.meter new.store.meter rebase_calls r
     → (old.failed ≡ true → IsErrOf r fault.Failed) → (old.failed ≡ false → old.store.failed ≡ false → old.store.generation < max_count → IsErrOf r fault.Failed → ⊥) → (old.failed ≡ true → new ≡ old)
-    → IfErr r (λ e. IsStoreFault (fault_number e)) → IfErr r (λ e. CompactsTo m old new (Err (fault_number e)))
-refused m old new (Ok x) cause calls failed before stays of_store = tt
-refused m old new (Err e) cause calls failed before stays of_store = (
+    → OnErr r (new.failed ≡ true) → IfErr r (IfSpared (AreSame (disks old.store) (disks new.store))) → IfErr r (λ e. IsStoreFault (fault_number e)) → IfErr r (λ e. CompactsTo m old new (Err (fault_number e)))
+refused m old new (Ok x) cause calls failed before stays broken same of_store = tt
+refused m old new (Err e) cause calls failed before stays broken same of_store = (
   record {
     failures = cause;
     calls = calls;
     earlier = λ number alive store_alive further. before alive store_alive (omega (arith, further)) (ap Err (failed_alone e number));
     once = λ ended. (ap fault_number (same_error e fault.Failed (failed ended)), stays ended);
+    ends = λ other. broken;
+    stays = λ device post. inl (spared_number (AreSame (disks old.store) (disks new.store)) e same device post);
   },
   of_store,
 )

@@ -10,6 +10,7 @@ mod Thinning
 mod OnDevices
 mod Calling
 mod Compactions
+mod Spared
 mod Going
 pub mod Replicas
 mod Rerunning

@@ -241,7 +241,7 @@ module _ (m : Meaning) (IsText : List ℕ → Type 0) (keeps : KeepsTexts IsText
 
 -- ---- the device that a store gives back
 
-picked : (live : Side) (d : Side → Disk) (a b : Disk) → d live ≡ a → d (other live) ≡ b → (s : Side) → d s ≡ pick live a b s
+pub picked : (live : Side) (d : Side → Disk) (a b : Disk) → d live ≡ a → d (other live) ≡ b → (s : Side) → d s ≡ pick live a b s
 picked A d a b here there A = here
 picked A d a b here there B = there
 picked B d a b here there A = there

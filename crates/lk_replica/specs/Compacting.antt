@@ -4,7 +4,7 @@ use Rattle.lk_disk.specs.Disk.{Disk, contents}
 use Rattle.lk_disk.specs.declared.device.Side.{Side}
 use Rattle.lk_log.specs.Causes.{rebase_calls}
 use Rattle.lk_log.specs.Images.{Image, MayLeaveBoth}
-use Rattle.lk_log.specs.StoreValue.{StoreValue}
+use Rattle.lk_log.specs.StoreValue.{StoreValue, disks}
 use Rattle.lk_log.specs.Stores.{Holds, next_base}
 use Rattle.lk_log.specs.Values.{StandingValue}
 use Rattle.lk_log.specs.declared.stored.Stored.{Stored}
@@ -43,6 +43,16 @@ pub record Rebases (node : NodeValue) (store : StoreValue) (new : NodeValue) (af
 pub record RebasesWhereDue (node : NodeValue) (store : StoreValue) (new : NodeValue) (after : StoreValue) : Type 0 where
   pub due : IsDue node store → Rebases node store new after
   pub rests : (IsDue node store → ⊥) → (new ≡ node) × IsSameStore store after
+
+-- each file is as it was
+abbrev pub AreSame : (Side → Disk) → (Side → Disk) → Type 0
+AreSame old new = (s : Side) → new s ≡ old s
+
+-- the files are as they were, or as a rebase that was due left them
+abbrev pub AreLeft : NodeValue → StoreValue → StoreValue → Type 0
+AreLeft node old new =
+    AreSame (disks old) (disks new)
+    ⊎ ((mid : NodeValue) × (between : StoreValue) × IsDue node old × Rebases node old mid between × AreSame (disks between) (disks new))
 
 -- how many changing calls of the device that takes
 pub record CallsWhereDue (node : NodeValue) (store : StoreValue) (k : ℕ) : Type 0 where

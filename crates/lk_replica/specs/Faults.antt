@@ -64,6 +64,16 @@ IsOfCalls (fault.Send notes) = Unit {0}
 abbrev pub IsNumberOfCalls : ℕ → Type 0
 IsNumberOfCalls number = (number ≡ 7) ⊎ (number ≡ 8) ⊎ (number ≡ 11) ⊎ (number ≡ 14) ⊎ (number ≡ 15)
 
+-- where no call of the device has failed and no datagram was lost, this holds
+abbrev pub IfSpared : Type 0 → ReplicaFault → Type 0
+IfSpared P fault.Device = Unit {0}
+IfSpared P fault.NoMemory = P
+IfSpared P fault.Damaged = P
+IfSpared P fault.WrongStore = P
+IfSpared P fault.Failed = P
+IfSpared P fault.Halted = P
+IfSpared P (fault.Send notes) = Unit {0}
+
 -- where a datagram was not sent, the notes of the call have this
 abbrev pub IfSend : (List Note → Type 0) → ReplicaFault → Type 0
 IfSend P fault.Device = Unit {0}

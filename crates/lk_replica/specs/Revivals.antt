@@ -19,6 +19,7 @@ pub use Rattle.lk_learner.specs.Unpacking.{Unpacks}
 use Rattle.lk_node.specs.Histories.{Genesis, Command}
 use Rattle.lk_node.specs.Leavings.{header_of, acceptor_of, StandsAs}
 use Rattle.lk_node.specs.NodeValue.{NodeValue}
+use Rattle.lk_replica.specs.Compacting.{AreSame}
 use Rattle.lk_replica.specs.Faults.{failures_by, RefusedAfter}
 use Rattle.lk_replica.specs.ReplicaValue.{ReplicaValue}
 use Rattle.lk_node.specs.Served.{text}
@@ -104,12 +105,14 @@ pub record NoneRevives (m : Meaning) (IsText : List ℕ → Type 0) (disks : Sid
   pub stands : StandsAs whose (text m genesis []) (seen disks) standing
   pub none : (w : WholeValue) → MayRevive IsText whose standing w → ⊥
 
--- a revival was refused with the fault of this number, for its cause, and left that device
+-- a revival was refused with the fault of this number, for its cause, and left that device: damaged files and another's stay as they are
 pub record IsNotRevived (m : Meaning) (IsText : List ℕ → Type 0) (device : Memory) (whose : HeaderValue) (number : ℕ) (left : Memory) : Type 0 where
   pub failures : left.failures ≡ failures_by number device.failures
   pub calls : RefusedAfter number device.meter left.meter
   pub damaged : number ≡ 9 → IsDamaged (seen (disk_of device)) ⊎ NoneRevives m IsText (disk_of device) whose
   pub wrong : number ≡ 10 → IsWrong (seen (disk_of device)) whose
+  pub damaged_stays : IsDamaged (seen (disk_of device)) → number ≡ 9 → AreSame (disk_of device) (disk_of left)
+  pub wrong_stays : number ≡ 10 → AreSame (disk_of device) (disk_of left)
   pub only : (7 ≤ number) × (number ≤ 10)
 
 -- what a revival came to

@@ -10,7 +10,7 @@ use Rattle.lk_log.specs.declared.stored.Stored.{Stored}
 use Rattle.lk_node.specs.Calls.{heard_by}
 use Rattle.lk_node.specs.Histories.{Datagram}
 use Rattle.lk_node.specs.Letters.{LetterValue, batch_of}
-use Rattle.lk_replica.specs.Compacting.{Rebases, RebasesWhereDue, CallsWhereDue}
+use Rattle.lk_replica.specs.Compacting.{AreLeft, Rebases, RebasesWhereDue, CallsWhereDue}
 use Rattle.lk_replica.specs.Faults.{failures_by, RefusedAfter, IsNumberOfCalls}
 use Rattle.lk_replica.specs.ReplicaValue.{ReplicaValue}
 use Rattle.lk_node.specs.NodeValue.{NodeValue}
@@ -54,12 +54,16 @@ pub record IsTaken (m : Meaning) (IsText : List ℕ → Type 0) (Metered : Type 
   pub store_alive : new.store.failed ≡ false
 
 -- a call was refused with the fault of this number, for its cause: 7 exactly where the device has failed once more, 11 only after an
--- earlier refusal, after which there is no other, or where fewer than two further generations are left: a call rebases twice at most
+-- earlier refusal, after which there is no other, or where fewer than two further generations are left: a call rebases twice at most. It
+-- has ended the replica, unless it tells that a datagram was lost; and where no call of the device has failed, the files are as they were,
+-- or as a rebase that was due left them
 pub record IsRefused (old new : ReplicaValue) (number : ℕ) : Type 0 where
   pub failures : new.store.failures ≡ failures_by number old.store.failures
   pub calls : RefusedAfter number old.store.meter new.store.meter
   pub earlier : number ≡ 11 → old.failed ≡ false → old.store.failed ≡ false → old.store.generation + 1 < max_count → ⊥
   pub once : old.failed ≡ true → (number ≡ 11) × (new ≡ old)
+  pub ends : (number ≡ 15 → ⊥) → new.failed ≡ true
+  pub stays : (number ≡ 7 → ⊥) → (number ≡ 15 → ⊥) → AreLeft old.node old.store new.store
 
 -- the replica was given this, and sent these datagrams of its node
 pub record IsTakenAs (m : Meaning) (IsText : List ℕ → Type 0) (old : ReplicaValue) (bytes : Option (List ℕ)) (new : ReplicaValue) (notes : List Note) (sent : List Datagram) : Type 0 where

@@ -1,5 +1,5 @@
 // Writing all that a node holds as the Base of the other file.
-ghost use Rattle.std.specs.Prelude.{◌≡◌, ℕ, ◌+◌, ◌≤◌, ◌<◌, length, List, [], ◌∷◌, false, true, ◌↔◌, IsTrue, OnOk, IfOk, IfErr, IsErrOf, MatchResult};
+ghost use Rattle.std.specs.Prelude.{◌≡◌, ℕ, ◌+◌, ◌≤◌, ◌<◌, length, List, [], ◌∷◌, false, true, ◌↔◌, IsTrue, OnOk, OnErr, IfOk, IfErr, IsErrOf, MatchResult};
 ghost use Rattle.lk_types.specs.Limits.{max_base, max_count};
 ghost use Rattle.lk_disk.specs.Disk.{contents};
 ghost use Rattle.lk_disk.specs.Meters.{Passes};
@@ -20,9 +20,9 @@ ghost use Rattle.lk_node.specs.Holdings.{Holding};
 ghost use Rattle.lk_node.specs.Keeping.{Keeps, Stands};
 ghost use Rattle.lk_node.specs.Leavings.{header_of, DisksFit, AllCover};
 ghost use Rattle.lk_node.specs.Packing.{standing_of, standing_here};
-ghost use Rattle.lk_replica.specs.Compacting.{AllStandAt, IsDue, IsSameStore, RebasesWhereDue, CallsWhereDue};
+ghost use Rattle.lk_replica.specs.Compacting.{AllStandAt, AreSame, IsDue, IsSameStore, RebasesWhereDue, CallsWhereDue};
 ghost use Rattle.lk_replica.specs.Compacted.{IsStoreFault};
-ghost use Rattle.lk_replica.specs.Faults.{fault_number, CountsFailure, RefusedAfter, PassesOr, IfSend, IsOfCalls};
+ghost use Rattle.lk_replica.specs.Faults.{fault_number, CountsFailure, RefusedAfter, PassesOr, IfSend, IfSpared, IsOfCalls};
 
 use crate::fault::ReplicaFault;
 use crate::replica::Replica;
@@ -64,6 +64,7 @@ pub fn write_base<M: Machine, D: LogDisk + Drop>(
     ensures failed_before { store.old.failed ≡ false → store.old.generation < max_count → IsErrOf result ReplicaFault.Failed → ⊥ }
     ensures cause { CountsFailure store.old.failures store.new.failures result }
     ensures metered { D.is_metered → D.is_honest → PassesOr store.old.meter store.new.meter rebase_calls result }
+    ensures stays { D.is_honest → IfErr result (IfSpared (AreSame (disks store.old) (disks store.new))) }
     // After any exit neither file is longer than it was, or else than a Base; at Ok the live one is no longer than a Base.
     ensures room { D.is_honest → StaysWithin max_base (disks store.old) (disks store.new) }
     ensures short { D.is_honest → OnOk result (length (contents store.new.live_disk) ≤ max_base) }
@@ -121,6 +122,7 @@ pub fn rebase_where_due<M: Machine, D: LogDisk + Drop>(
     ensures metered { D.is_metered → D.is_honest → MatchResult result
         (λ _. (k : ℕ) × CallsWhereDue node.old store.old k × Passes store.old.meter store.new.meter k)
         (λ e. RefusedAfter (fault_number e) store.old.meter store.new.meter) }
+    ensures stays { D.is_honest → IfErr result (IfSpared (AreSame (disks store.old) (disks store.new))) }
     // After any exit neither file is longer than it was, or else than a Base; at Ok the live one is shorter than what makes a rebase due.
     ensures room { D.is_honest → StaysWithin max_base (disks store.old) (disks store.new) }
     ensures small { D.is_honest → OnOk result (length (contents store.new.live_disk) < 131072) }
@@ -151,10 +153,13 @@ impl<M: Machine, D: LogDisk + Drop> Replica<M, D> {
             → OnOk result (AllStandAt (meaning M.first M.next M.answer) genesis n (disks self.new.store) (executed self.new.node.learner) held.view.done) }
         ensures becomes { OnOk result (self.new.node ≡ standing_here self.old.node) }
         ensures writes { D.is_honest → (ks ls : List Stored) → Holds self.old.store ks ls → OnOk result (Holds self.new.store (Base (next_base self.old.store (standing_of self.old.node)) ∷ []) []) }
+        // A refusal leaves both files as they were where no call of the device has failed.
+        ensures stays { D.is_honest → IfErr result (IfSpared (AreSame (disks self.old.store) (disks self.new.store))) }
         // After any exit neither file is longer than it was, or else than a Base.
         ensures room { D.is_honest → StaysWithin max_base (disks self.old.store) (disks self.new.store) }
         ensures alive { OnOk result (self.new.failed ≡ false) }
         ensures store_alive { OnOk result (self.new.store.failed ≡ false) }
+        ensures broken { OnErr result (self.new.failed ≡ true) }
         ensures of_store { IfErr result (λ e. IsStoreFault (fault_number e)) }
         // Nothing but an earlier refusal, its own or its store's, makes it answer `Failed`, or that no further generation is left.
         ensures failed { self.old.failed ≡ true → IsErrOf result ReplicaFault.Failed }

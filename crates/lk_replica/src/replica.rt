@@ -7,7 +7,7 @@ ghost use Rattle.lk_disk.specs.Meters.{Passes, trapped};
 ghost use Rattle.lk_log.specs.Rooms.{StaysWithin};
 ghost use Rattle.lk_log.specs.StoreValue.{StoreValue, disks};
 ghost use Rattle.lk_node.specs.NodeValue.{NodeValue};
-ghost use Rattle.lk_replica.specs.Compacting.{RebasesWhereDue};
+ghost use Rattle.lk_replica.specs.Compacting.{AreLeft, AreSame, RebasesWhereDue};
 ghost use Rattle.lk_state.specs.Meanings.{meaning};
 ghost use Rattle.lk_wire.specs.Grammar.{Spells};
 ghost use Rattle.lk_history.specs.Datagrams.{NodeMessage, Datagram as DatagramValue, said_by};
@@ -21,7 +21,7 @@ ghost use Rattle.lk_node.specs.Letters.{LetterValue, batch_of};
 ghost use Rattle.lk_replica.specs.Posts.{AreOf, SendsSome, more_by};
 ghost use Rattle.lk_node.specs.Steps.{Steps};
 ghost use Rattle.lk_replica.specs.Taking.{Writes, write_calls, CallsOfStep, IsTaken};
-ghost use Rattle.lk_replica.specs.Faults.{fault_number, CountsFailure, RefusedAfter, IfSend, IsOfCalls};
+ghost use Rattle.lk_replica.specs.Faults.{fault_number, CountsFailure, RefusedAfter, IfSend, IfSpared, IsOfCalls};
 ghost use Rattle.lk_replica.specs.Rooms.{max_behind};
 
 use crate::compacting::{rebase_where_due, write_base};
@@ -97,6 +97,8 @@ impl<M: Machine, D: LogDisk + Drop> Replica<M, D> {
         ensures halts { IsErrOf result ReplicaFault.Halted → self.new.node.halted ≡ true }
         // After any exit neither file is longer than it was, or else than half of what a file may hold, and a step.
         ensures room { D.is_honest → StaysWithin max_behind (disks self.old.store) (disks self.new.store) }
+        // Where no call of the device has failed, a refusal leaves both files as they were, or as a rebase that was due left them.
+        ensures stays { D.is_honest → IfErr result (IfSpared (AreLeft self.old.node self.old.store self.new.store)) }
         // `Device` comes exactly where a call of the device has failed, and `Send` exactly where some of the post's did.
         ensures cause { CountsFailure self.old.store.failures self.new.store.failures result }
         ensures cause_send { IfErr result (IfSend (λ notes. (lost : ℕ) × (lost ≢ 0) × (P.failures post.new ≡ more_by lost (P.failures post.old)))) }
@@ -200,6 +202,7 @@ fn write<M: Machine, D: LogDisk + Drop>(
     ensures alive { OnOk result (store.new.failed ≡ false) }
     ensures failed_before { store.old.failed ≡ false → store.old.generation < max_count → IsErrOf result ReplicaFault.Failed → ⊥ }
     ensures cause { CountsFailure store.old.failures store.new.failures result }
+    ensures stays { D.is_honest → IfErr result (IfSpared (AreSame (disks store.old) (disks store.new))) }
     ensures room { D.is_honest → length (contents store.old.live_disk) < 131072 → StaysWithin max_behind (disks store.old) (disks store.new) }
 {
     let outbox = node.step(input)?;
@@ -236,6 +239,7 @@ fn write_behind<M: Machine, D: LogDisk + Drop>(
     ensures halts { IsErrOf result ReplicaFault.Halted → node.new.halted ≡ true }
     ensures failed_before { store.old.failed ≡ false → store.old.generation + 1 < max_count → IsErrOf result ReplicaFault.Failed → ⊥ }
     ensures cause { CountsFailure store.old.failures store.new.failures result }
+    ensures stays { D.is_honest → IfErr result (IfSpared (AreLeft node.old store.old store.new)) }
     ensures room { D.is_honest → StaysWithin max_behind (disks store.old) (disks store.new) }
 {
     rebase_where_due(node, store)?;

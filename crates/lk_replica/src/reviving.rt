@@ -3,7 +3,7 @@ ghost use Rattle.std.specs.Prelude.{◌≡◌, ◌⊎◌, ℕ, ◌+◌, ◌*◌,
 ghost use Rattle.std.specs.List.{list_all};
 ghost use Rattle.lk_disk.specs.declared.device.Side.{Side};
 ghost use Rattle.lk_log.specs.Images.{IsDamaged, seen};
-ghost use Rattle.lk_log.specs.Stores.{IsWrong, StandsForSome};
+ghost use Rattle.lk_log.specs.Stores.{IsWrong, NarrowsOrBegins, StandsForSome};
 ghost use Rattle.lk_log.specs.StoreValue.{disks};
 ghost use Rattle.lk_log.specs.Rooms.{StaysWithin};
 ghost use Rattle.lk_types.specs.Limits.{max_base};
@@ -12,6 +12,7 @@ ghost use Rattle.lk_state.specs.Packed.{Packs};
 ghost use Rattle.lk_state.specs.States.{WholeValue};
 ghost use Rattle.lk_history.specs.Datagrams.{NodeMessage};
 ghost use Rattle.lk_node.specs.Calls.{Goes};
+ghost use Rattle.lk_replica.specs.Compacting.{AreSame};
 ghost use Rattle.lk_replica.specs.Faults.{fault_number, failures_by, RefusedAfter};
 ghost use Rattle.lk_node.specs.Executing.{NothingToRun};
 ghost use Rattle.lk_node.specs.Histories.{History, Genesis as TheGenesis, IsLawful};
@@ -126,6 +127,12 @@ impl<M: Machine, D: LogDisk + Drop> Replica<M, D> {
         ensures exact { D.is_honest → IfOk result (λ r. Revives (meaning M.first M.next M.answer) M.IsText (D.disk device) header.now r.replica r.notes.items) }
         ensures damaged { D.is_honest → IfErr result (λ e. fault_number e.fault ≡ 9 → IsDamaged (seen (D.disk device)) ⊎ NoneRevives (meaning M.first M.next M.answer) M.IsText (D.disk device) header.now) }
         ensures wrong { D.is_honest → IfErr result (λ e. fault_number e.fault ≡ 10 → IsWrong (seen (D.disk device)) header.now) }
+        // A damaged store and another's stay as they are.
+        ensures damaged_stays { D.is_honest → IsDamaged (seen (D.disk device)) → IfErr result (λ e. fault_number e.fault ≡ 9 → AreSame (D.disk device) (D.disk e.device)) }
+        ensures wrong_stays { D.is_honest → IfErr result (λ e. fault_number e.fault ≡ 10 → AreSame (D.disk device) (D.disk e.device)) }
+        // After a refusal each image comes to what an image before it came to, or to a store that is begun.
+        ensures stays_err { D.is_honest → (genesis : TheGenesis) → header.now ≡ header_of genesis header.now.node
+            → IfErr result (λ e. NarrowsOrBegins (D.disk device) (D.disk e.device) header.now (text (meaning M.first M.next M.answer) genesis [])) }
         ensures only { IfErr result (λ e. (7 ≤ fault_number e.fault) × (fault_number e.fault ≤ 10)) }
         // `Device` comes exactly where a call of the device has failed.
         ensures cause { MatchResult result (λ r. r.replica.store.failures ≡ D.failures device) (λ e. D.failures e.device ≡ failures_by (fault_number e.fault) (D.failures device)) }

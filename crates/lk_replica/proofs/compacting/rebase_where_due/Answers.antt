@@ -11,6 +11,7 @@ use Rattle.lk_replica.proofs.compacting.rebase_where_due.Goals as goal
 use Rattle.lk_disk.proofs.Devices.{passes_on}
 use Rattle.lk_log.specs.Causes.{rebase_calls}
 use Rattle.lk_replica.proofs.Calling.{refused_by, refused_on}
+use Rattle.lk_replica.proofs.Spared.{spared_all, spared_more, spared_as, same_files, then_same}
 
 pub returns-in_err-due-clause-ends : goal.returns-in_err-due-clause-ends
 returns-in_err-due-clause-ends g c honest h n f =
@@ -117,3 +118,14 @@ returns-in_err-write_base-clause-metered g c metered honest =
 pub returns-clause-metered : goal.returns-clause-metered
 returns-clause-metered g c metered honest =
     (rebase_calls, record { due = λ _. refl; rests = λ no. absurd (no ((c.in_ok-due.ensures.value honest).0 (search rules))) }, passes_on 0 (c.in_ok-due.ensures.metered metered) rebase_calls (c.in_ok-write_base.ensures.metered metered honest))
+
+-- ---- what a refusal leaves
+
+pub returns-in_err-due-clause-stays : goal.returns-in_err-due-clause-stays
+returns-in_err-due-clause-stays g c honest =
+    spared_as _ _ _ c.from_residual.ensures.1 (spared_all _ _ (same_files c.args.store.now c.is_due.new.store (c.is_due.ensures.same honest)))
+
+pub returns-in_err-write_base-clause-stays : goal.returns-in_err-write_base-clause-stays
+returns-in_err-write_base-clause-stays g c honest =
+    spared_as _ _ _ c.from_residual-in_err-write_base.ensures.1
+    (spared_more _ _ _ (then_same (disks c.args.store.now) (disks c.is_due.new.store) (disks c.write_base.new.store) (same_files c.args.store.now c.is_due.new.store (c.is_due.ensures.same honest))) (c.in_err-write_base.ensures.stays honest))

@@ -16,6 +16,7 @@ use Rattle.lk_disk.specs.Meters.{start}
 use Rattle.lk_replica.specs.declared.fault.ReplicaFault.TheVariants as fault
 use Rattle.lk_replica.proofs.Calling.{refused_by}
 use Rattle.lk_replica.proofs.Compactions.{rebase_refused, refused_as}
+use Rattle.lk_replica.proofs.Spared.{spared_as, rebase_spares}
 
 pub returns-in_err-rebase-clause-ends : goal.returns-in_err-rebase-clause-ends
 returns-in_err-rebase-clause-ends g c honest h n f =
@@ -118,3 +119,13 @@ pub returns-in_err-rebase-clause-of_store : goal.returns-in_err-rebase-clause-of
 returns-in_err-rebase-clause-of_store g c =
     refused_as _ _ c.from_residual-in_err-rebase.ensures.1
     (rebase_refused c.args.store.now _ c.in_err-rebase.ensures.refuses (λ last. (c.in_err-rebase.ensures.last last).1) c.in_err-rebase.ensures.only)
+
+-- ---- what a refusal leaves
+
+pub returns-in_err-standing-clause-stays : goal.returns-in_err-standing-clause-stays
+returns-in_err-standing-clause-stays g c honest = spared_as _ _ fault.NoMemory c.from_residual.ensures.1 (λ s. refl)
+
+pub returns-in_err-rebase-clause-stays : goal.returns-in_err-rebase-clause-stays
+returns-in_err-rebase-clause-stays g c honest =
+    spared_as _ _ _ c.from_residual-in_err-rebase.ensures.1
+    (rebase_spares c.args.store.now c.rebase.new.self _ (c.in_err-rebase.ensures.no_memory honest) c.rebase.ensures.failed (λ last. (c.in_err-rebase.ensures.last last).0) c.in_err-rebase.ensures.only)

@@ -16,6 +16,7 @@ use Rattle.lk_node.proofs.Nodes.{few_entries}
 use Rattle.lk_disk.specs.Meters.{start}
 use Rattle.lk_replica.specs.declared.fault.ReplicaFault.TheVariants as fault
 use Rattle.lk_replica.proofs.Calling.{refused_by}
+use Rattle.lk_replica.proofs.Spared.{spared_as, put_spares}
 
 pub returns-in_err-outbox-clause-ends : goal.returns-in_err-outbox-clause-ends
 returns-in_err-outbox-clause-ends g c honest h n f heard = f.left
@@ -148,3 +149,17 @@ returns-then-outbox-clause-runs g c none = c.in_ok-write_base.ensures.runs (c.in
 
 pub returns-in_err-outbox-clause-metered : goal.returns-in_err-outbox-clause-metered
 returns-in_err-outbox-clause-metered g c metered honest = refused_by _ _ _ _ fault.Halted c.from_residual.ensures.1 (0, start)
+
+
+-- ---- what a refusal leaves
+
+pub returns-in_err-outbox-clause-stays : goal.returns-in_err-outbox-clause-stays
+returns-in_err-outbox-clause-stays g c honest = spared_as _ _ fault.Halted c.from_residual.ensures.1 (λ s. refl)
+
+pub returns-in_err-put-clause-stays : goal.returns-in_err-put-clause-stays
+returns-in_err-put-clause-stays g c honest =
+    spared_as _ _ _ c.from_residual-in_err-put.ensures.1
+    (put_spares c.args.store.now c.put.new.self _ c.put.ensures.live (c.put.ensures.other_disk honest) (c.in_err-put.ensures.no_memory honest) c.put.ensures.failed c.in_err-put.ensures.only)
+
+pub returns-in_err-write_base-clause-stays : goal.returns-in_err-write_base-clause-stays
+returns-in_err-write_base-clause-stays g c honest = spared_as _ _ _ c.from_residual-in_err-write_base.ensures.1 (c.in_err-write_base.ensures.stays honest)

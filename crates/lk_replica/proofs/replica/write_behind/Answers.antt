@@ -3,6 +3,8 @@ use Rattle.lk_log.proofs.Room.{within_first, refused_room}
 use Rattle.lk_replica.proofs.replica.write_behind.Goals as goal
 use Rattle.lk_disk.proofs.Devices.{passes_on}
 use Rattle.lk_replica.proofs.Calling.{refused_by, refused_on}
+use Rattle.std.proofs.Common.{inl}
+use Rattle.lk_replica.proofs.Spared.{spared_more, spared_as, left_after}
 
 pub returns-in_err-rebase_where_due-clause-ends : goal.returns-in_err-rebase_where_due-clause-ends
 returns-in_err-rebase_where_due-clause-ends g c honest h n f heard =
@@ -70,3 +72,15 @@ returns-in_err-outbox-clause-metered g c metered honest =
 pub returns-clause-calls : goal.returns-clause-calls
 returns-clause-calls g c metered honest =
     let d = c.in_ok-rebase_where_due.ensures.metered metered honest in (d.0, d.1, passes_on d.0 d.2 _ (c.in_ok-outbox.ensures.metered metered honest))
+
+
+-- ---- what a refusal leaves
+
+pub returns-in_err-rebase_where_due-clause-stays : goal.returns-in_err-rebase_where_due-clause-stays
+returns-in_err-rebase_where_due-clause-stays g c honest =
+    spared_as _ _ _ c.from_residual.ensures.1 (spared_more _ _ _ (λ same. inl same) (c.in_err-rebase_where_due.ensures.stays honest))
+
+pub returns-in_err-outbox-clause-stays : goal.returns-in_err-outbox-clause-stays
+returns-in_err-outbox-clause-stays g c honest =
+    spared_as _ _ _ c.from_residual-in_err-outbox.ensures.1
+    (spared_more _ _ _ (left_after c.args.node.now c.rebase_where_due.new.node c.args.store.now c.rebase_where_due.new.store c.write.new.store (c.in_ok-rebase_where_due.ensures.exact honest)) (c.in_err-outbox.ensures.stays honest))

@@ -1,10 +1,17 @@
-use Rattle.std.proofs.Common.{[], Result, Ok, Err, IfOk, MatchResult}
+use Rattle.std.proofs.Common.{◌≡◌, ℕ, ◌≤◌, ◌⊎◌, List, [], Result, Ok, Err, IfOk, MatchResult}
+use Rattle.std.specs.Prelude.{IfErr}
+use Rattle.lk_log.specs.Images.{IsDamaged, seen}
 use Rattle.lk_log.specs.Rooms.{StaysWithin}
-use Rattle.lk_disk.specs.Memory.{disk_of}
+use Rattle.lk_log.specs.Stores.{IsWrong}
+use Rattle.lk_log.specs.Values.{HeaderValue}
+use Rattle.lk_disk.specs.Memory.{Memory, disk_of}
 use Rattle.lk_state.specs.Meanings.{Meaning, meaning}
 use Rattle.lk_node.specs.Calls.{Goes}
 use Rattle.lk_node.specs.Keeping.{Stands}
 use Rattle.lk_node.specs.Leavings.{AllCover}
+use Rattle.lk_replica.specs.Compacting.{AreSame}
+use Rattle.lk_replica.specs.Faults.{fault_number, failures_by, RefusedAfter}
+use Rattle.lk_replica.specs.Revivals.{NoneRevives, IsNotRevived}
 use Rattle.lk_replica.proofs.OnDevices.{on_device}
 use Rattle.lk_replica.proofs.in_memory.ReplicaMemoryDiskMemoryReplica.revive.Goals as goal
 
@@ -17,6 +24,16 @@ if_ok P Q (Err e) f p = tt
 all_ok : {A E : Type 0} (P Q S : A → Type 0) (X Y : E → Type 0) (r : Result A E) → IfOk r P → MatchResult r Q X → MatchResult r S Y → IfOk r (λ x. P x × Q x × S x)
 all_ok P Q S X Y (Ok x) p q s = (p, q, s)
 all_ok P Q S X Y (Err e) p q s = tt
+
+-- and of what stands at a refusal
+not_revived : {A E : Type 0} (m : Meaning) (IsText : List ℕ → Type 0) (device : Memory) (whose : HeaderValue) (r : Result A E) (number : E → ℕ) (left : E → Memory) (X Y : A → Type 0)
+    → MatchResult r X (λ e. (left e).failures ≡ failures_by (number e) device.failures) → MatchResult r Y (λ e. RefusedAfter (number e) device.meter (left e).meter)
+    → IfErr r (λ e. number e ≡ 9 → IsDamaged (seen (disk_of device)) ⊎ NoneRevives m IsText (disk_of device) whose) → IfErr r (λ e. number e ≡ 10 → IsWrong (seen (disk_of device)) whose)
+    → (IsDamaged (seen (disk_of device)) → IfErr r (λ e. number e ≡ 9 → AreSame (disk_of device) (disk_of (left e)))) → IfErr r (λ e. number e ≡ 10 → AreSame (disk_of device) (disk_of (left e)))
+    → IfErr r (λ e. (7 ≤ number e) × (number e ≤ 10)) → IfErr r (λ e. IsNotRevived m IsText device whose (number e) (left e))
+not_revived m IsText device whose (Ok x) number left X Y failures calls damaged wrong damaged_stays wrong_stays only = tt
+not_revived m IsText device whose (Err e) number left X Y failures calls damaged wrong damaged_stays wrong_stays only =
+    record { failures = failures; calls = calls; damaged = damaged; wrong = wrong; damaged_stays = damaged_stays; wrong_stays = wrong_stays; only = only }
 
 pub returns-clause-up : goal.returns-clause-up
 returns-clause-up g c h n whose lawful fits =
@@ -44,3 +61,9 @@ returns-clause-room g c = if_ok _ _ c.revive.result (λ r room. on_device (λ d.
 
 pub returns-clause-room_err : goal.returns-clause-room_err
 returns-clause-room_err g c = c.revive.ensures.room_err tt
+
+pub returns-clause-refused : goal.returns-clause-refused
+returns-clause-refused g c =
+    let e = c.revive.ensures in
+    not_revived (meaning g.M.Machine.first g.M.Machine.next g.M.Machine.answer) g.M.Machine.IsText c.args.device c.args.header.now c.revive.result (λ e. fault_number e.fault) (λ e. e.device) _ _
+    e.cause (e.metered tt tt) (e.damaged tt) (e.wrong tt) (e.damaged_stays tt) (e.wrong_stays tt) e.only

@@ -12,6 +12,8 @@ use Rattle.lk_log.specs.Rooms.{StaysWithin}
 use Rattle.lk_log.proofs.Room.{within_same}
 use Rattle.lk_replica.proofs.replica.Replica.compact.Goals as goal
 use Rattle.lk_disk.specs.Meters.{start}
+use Rattle.lk_replica.specs.Compacting.{AreSame}
+use Rattle.lk_replica.proofs.Spared.{spared_more, spared_as}
 
 pub returns-in_err-write_base-clause-ends : goal.returns-in_err-write_base-clause-ends
 returns-in_err-write_base-clause-ends g c honest h n f =
@@ -64,3 +66,13 @@ pub returns-clause-writes : goal.returns-clause-writes
 returns-clause-writes g c honest ks ls held =
     subst (λ (r : ReplicaValue). Holds c.write_base.new.store (Base (next_base r.store (standing_of r.node)) ∷ []) []) c.self.view_is
     (c.in_ok-write_base.ensures.writes honest ks ls (subst (λ (r : ReplicaValue). Holds r.store ks ls) (sym c.self.view_is) held))
+
+-- ---- what a refusal leaves
+
+pub returns-then-self-clause-stays : goal.returns-then-self-clause-stays
+returns-then-self-clause-stays g c honest = λ s. refl
+
+pub returns-in_err-write_base-clause-stays : goal.returns-in_err-write_base-clause-stays
+returns-in_err-write_base-clause-stays g c honest =
+    spared_as _ _ _ c.from_residual.ensures.1
+    (spared_more _ _ _ (λ same. subst (λ (r : ReplicaValue). AreSame (disks r.store) (disks c.write_base.new.store)) c.self.view_is same) (c.in_err-write_base.ensures.stays honest))

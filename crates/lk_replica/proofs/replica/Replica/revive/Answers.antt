@@ -16,6 +16,9 @@ use Rattle.lk_replica.specs.Revivals.{Restores}
 use Rattle.lk_node.specs.Served.{text}
 use Rattle.lk_replica.proofs.Revivals.{revived_goes, began, own_header, opened, opening_fits_as, opening_covers_as, given_fit, given_cover, given_room, wrong_only, damaged_only}
 use Rattle.lk_replica.proofs.replica.Replica.revive.Goals as goal
+use Rattle.lk_log.specs.Stores.{NarrowsOrBegins}
+use Rattle.lk_log.proofs.StoreLaws.{found_sound}
+use Rattle.lk_replica.proofs.Spared.{given_narrow, damage_only, not_wrong}
 
 pub returns-in-Ok-restored-clause-up : goal.returns-in-Ok-restored-clause-up
 returns-in-Ok-restored-clause-up g c honest h n is lawful before =
@@ -121,3 +124,38 @@ returns-in-Ok-reopen-clause-metered g c metered honest =
       | inl e ↦ subst (λ f. RefusedAfter (fault_number f) old new) (sym e) left
       | inr e ↦ subst (λ f. RefusedAfter (fault_number f) old new) (sym e) left
     ]
+
+-- ---- what a refusal leaves
+
+pub returns-in_default-clause-stays_err : goal.returns-in_default-clause-stays_err
+returns-in_default-clause-stays_err g c honest genesis is image left = inl (image, left, λ v es means. means)
+
+pub returns-in-Ok-reopen-clause-stays_err : goal.returns-in-Ok-reopen-clause-stays_err
+returns-in-Ok-reopen-clause-stays_err g c honest genesis is =
+    let m : Meaning = meaning g.M.Machine.first g.M.Machine.next g.M.Machine.answer in
+    let same = began c.genesis-2.result.now genesis c.args.header.now c.args.header.now.node c.genesis-2.ensures.cluster c.genesis-2.ensures.alpha c.genesis-2.ensures.members is in
+    let begins : c.as_slice.result.now ≡ text m genesis [] = c.as_slice.ensures ∙ c.in-Ok.ensures.text ∙ ap (λ (k : Genesis). text m k []) same in
+    given_narrow (g.D.LogDisk.disk c.args.device) c.args.header.now (text m genesis []) c.in-Ok-reopen.store (g.D.LogDisk.disk c.into_disks.result) c.into_disks.ensures.live_disk c.into_disks.ensures.other_disk
+    (subst (λ (t : List ℕ). NarrowsOrBegins (g.D.LogDisk.disk c.args.device) (disks c.in-Ok-reopen.store) c.args.header.now t) begins (c.in-Ok-reopen.ensures.stays honest))
+
+pub returns-clause-stays_err : goal.returns-clause-stays_err
+returns-clause-stays_err g c honest genesis is =
+    let m : Meaning = meaning g.M.Machine.first g.M.Machine.next g.M.Machine.answer in
+    let same = began c.genesis-2.result.now genesis c.args.header.now c.args.header.now.node c.genesis-2.ensures.cluster c.genesis-2.ensures.alpha c.genesis-2.ensures.members is in
+    let begins : c.as_slice.result.now ≡ text m genesis [] = c.as_slice.ensures ∙ c.in-Ok.ensures.text ∙ ap (λ (k : Genesis). text m k []) same in
+    subst (λ (t : List ℕ). NarrowsOrBegins (g.D.LogDisk.disk c.args.device) (g.D.LogDisk.disk c.in-Err.e.device) c.args.header.now t) begins (c.in-Err.ensures.stays_err honest)
+
+pub returns-in-Ok-reopen-clause-damaged_stays : goal.returns-in-Ok-reopen-clause-damaged_stays
+returns-in-Ok-reopen-clause-damaged_stays g c honest damaged nine =
+    let o = c.in-Ok-reopen.ensures.ok honest in
+    absurd (found_sound (seen (g.D.LogDisk.disk c.args.device)) c.args.header.now c.as_slice.result.now o.entries o.found damaged)
+
+pub returns-clause-damaged_stays : goal.returns-clause-damaged_stays
+returns-clause-damaged_stays g c honest damaged nine =
+    c.in-Err.ensures.damaged_stays honest (damage_only c.in-Err.e.fault (sym (ap fault_number c.from.ensures) ∙ nine))
+
+pub returns-in-Ok-reopen-clause-wrong_stays : goal.returns-in-Ok-reopen-clause-wrong_stays
+returns-in-Ok-reopen-clause-wrong_stays g c honest ten = absurd (not_wrong c.in-Err-restored.fault c.in-Err-restored.ensures.only ten)
+
+pub returns-clause-wrong_stays : goal.returns-clause-wrong_stays
+returns-clause-wrong_stays g c honest ten = c.in-Err.ensures.wrong_stays honest (wrong_only c.in-Err.e.fault (sym (ap fault_number c.from.ensures) ∙ ten))

@@ -1,4 +1,4 @@
-use Rattle.std.proofs.Common.{◌≡◌, List, ◌++◌, Contains, refl, sym, ◌∙◌, ap, subst}
+use Rattle.std.proofs.Common.{◌≡◌, List, ◌++◌, Contains, inl, refl, sym, ◌∙◌, ap, subst}
 use Rattle.lk_log.specs.StoreValue.{disks}
 use Rattle.lk_state.specs.Meanings.{meaning}
 use Rattle.lk_node.specs.Calls.{NodeFits, Goes}
@@ -16,6 +16,8 @@ use Rattle.lk_log.specs.Rooms.{StaysWithin}
 use Rattle.lk_log.proofs.Room.{within_same}
 use Rattle.lk_replica.proofs.replica.Replica.take.Goals as goal
 use Rattle.lk_disk.specs.Meters.{start}
+use Rattle.lk_replica.specs.Compacting.{AreLeft}
+use Rattle.lk_replica.proofs.Spared.{spared_more, spared_as}
 
 pub returns-in-Ok-clause-goes : goal.returns-in-Ok-clause-goes
 returns-in-Ok-clause-goes g c honest telling h n f heard =
@@ -162,3 +164,13 @@ returns-then-self-clause-metered g c metered honest = (0, start)
 pub returns-clause-metered : goal.returns-clause-metered
 returns-clause-metered g c metered honest =
     let k = subst (λ (r : ReplicaValue). CallsOfStep r.node r.store c.in_ok-outbox.outbox c.write_behind.new.store) c.self.view_is (c.in_ok-outbox.ensures.calls metered honest) in (_, k.2)
+
+-- ---- what a refusal leaves
+
+pub returns-then-self-clause-stays : goal.returns-then-self-clause-stays
+returns-then-self-clause-stays g c honest = inl (λ s. refl)
+
+pub returns-in_err-outbox-clause-stays : goal.returns-in_err-outbox-clause-stays
+returns-in_err-outbox-clause-stays g c honest =
+    spared_as _ _ _ c.from_residual.ensures.1
+    (spared_more _ _ _ (λ left. subst (λ (r : ReplicaValue). AreLeft r.node r.store c.write_behind.new.store) c.self.view_is left) (c.in_err-outbox.ensures.stays honest))
