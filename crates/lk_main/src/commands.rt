@@ -55,6 +55,14 @@ fn dump_command<'a>(alloc: Global) -> Result<Command<'a>, AllocError> {
         .arg(named(alloc, "dir", "the folder of a node's files"))
 }
 
+/// `locks fuzz`.
+fn fuzz_command<'a>(alloc: Global) -> Result<Command<'a>, AllocError> {
+    Command::new(alloc, "fuzz")
+        .about("runs random events in a world of three nodes")
+        .arg(named(alloc, "start", "the number that the events are drawn from"))?
+        .arg(named(alloc, "events", "how many events, 0 to 20000"))
+}
+
 /// The program and its subcommands.
 pub fn program<'a>(alloc: Global) -> Result<Command<'a>, AllocError> {
     let sim = Command::new(alloc, "sim").about("runs a script from standard input");
@@ -64,6 +72,7 @@ pub fn program<'a>(alloc: Global) -> Result<Command<'a>, AllocError> {
         .version(VERSION)
         .subcommand_required(true)
         .subcommand(sim)?
+        .subcommand(fuzz_command(alloc)?)?
         .subcommand(node_command(alloc)?)?
         .subcommand(ask_command(alloc)?)?
         .subcommand(demo)?

@@ -1,6 +1,7 @@
 //! What the words of a subcommand ask for, where they are understood.
 
 use clap::ArgMatches;
+use lk_fuzz::fuzzing::MAX_EVENTS;
 use lk_log::Header;
 use lk_service::asking::Question;
 use lk_service::command_words::operation_of;
@@ -27,6 +28,13 @@ pub fn node_plan<'a>(matches: &ArgMatches<'a>) -> Option<NodePlan<'a>> {
         port,
         folder: matches.get_str("dir")?,
     })
+}
+
+/// The number that a schedule begins at, and how many events it has.
+pub fn fuzz_plan(matches: &ArgMatches<'_>) -> Option<(u64, u32)> {
+    let start = read_number(word(matches, "start")?, u64::MAX)?;
+    let events = read_number(word(matches, "events")?, MAX_EVENTS)?;
+    Some((start, events as u32))
 }
 
 /// The client that a word names.

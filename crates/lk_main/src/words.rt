@@ -3,10 +3,11 @@
 ghost use Rattle.std.specs.Prelude.{◌≤◌};
 
 use crate::commands::program;
-use crate::plans::{ask_plan, node_plan};
+use crate::plans::{ask_plan, fuzz_plan, node_plan};
 use clap::error::ErrorKind;
 use clap::{ArgMatches, Error};
 use lk_disk::MemoryDisk;
+use lk_fuzz::fuzzing::run_fuzz;
 use lk_locks::LockTable;
 use lk_replica::Replica;
 use lk_script::ending::{end, tell};
@@ -77,6 +78,21 @@ fn ask_words<R: Net, W: Write, E: Write>(
     }
 }
 
+/// Runs a random schedule.
+fn fuzz_words<W: Write, E: Write>(
+    alloc: Global,
+    matches: &ArgMatches<'_>,
+    out: &mut W,
+    err: &mut E,
+) -> u8
+    ensures { result ≤ 2 }
+{
+    match fuzz_plan(matches) {
+        Some((start, events)) => run_fuzz::<Nodes, W, E>(alloc, start, events, out, err),
+        None => refuse_words(err),
+    }
+}
+
 /// Runs the subcommand that was named.
 fn run_matches<H: Files<File = File> + Net + Eprint, R: BufRead, W: Write, E: Write>(
     rt: &H,
@@ -90,6 +106,7 @@ fn run_matches<H: Files<File = File> + Net + Eprint, R: BufRead, W: Write, E: Wr
 {
     match matches.subcommand() {
         Some(("sim", _)) => run_to_end::<Nodes, R, W, E>(alloc, reader, out, err),
+        Some(("fuzz", words)) => fuzz_words(alloc, words, out, err),
         Some(("node", words)) => run_node_words(rt, alloc, words, err),
         Some(("ask", words)) => ask_words(rt, alloc, words, out, err),
         Some(("demo", _)) => demo::<LockTable, H, W, E>(rt, alloc, out, err),
