@@ -1,5 +1,5 @@
 -- What an event does to a world.
-use Rattle.std.specs.Prelude.{◌≡◌, ℕ, ◌-◌, ◌⊎◌, ◌&&◌, nat_lt, nat_le, false, length, take, List, [], ◌∷◌, ◌++◌, Option, Some, None, Result, Ok, Err, set, Contains, if◌then◌else◌}
+use Rattle.std.specs.Prelude.{◌≡◌, ℕ, ◌-◌, ◌⊎◌, ◌&&◌, nat_lt, nat_le, true, false, length, take, List, [], ◌∷◌, ◌++◌, Option, Some, None, Result, Ok, Err, set, Contains, if◌then◌else◌}
 use Rattle.lk_disk.specs.Memory.{Memory, empty}
 use Rattle.lk_disk.specs.Meters.{Passes, stopping}
 use Rattle.lk_disk.specs.declared.trap.Trap.{Trap}
@@ -66,6 +66,10 @@ pub record IsNoWant (number : ℕ) (left : Memory) : Type 0 where
   pub halted : number ≡ 14 → ⊥
   pub letters : number ≡ 15 → ⊥
   pub starved : left.meter.starved ≡ false
+
+-- a fault is for want of memory
+abbrev pub IsWant : ℕ → Memory → Type 0
+IsWant number left = (number ≡ 8) ⊎ (number ≡ 14) ⊎ (number ≡ 15) ⊎ (left.meter.starved ≡ true)
 
 -- how a node ended that has come to an armed stop, or else to a fault of this number
 abbrev pub end_by : Option ℕ → ℕ → ℕ → End

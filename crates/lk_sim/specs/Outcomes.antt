@@ -10,7 +10,7 @@ use Rattle.lk_node.specs.Histories.{History, Genesis, Datagram}
 use Rattle.lk_node.specs.Holdings.{Holding}
 use Rattle.lk_node.specs.declared.note.Note.{Note}
 use Rattle.lk_replica.specs.Behaviours.{Behaviour, disks_by}
-use Rattle.lk_sim.specs.Events.{Adds, IsNoWant, SentUpTo, end_by, end_at}
+use Rattle.lk_sim.specs.Events.{Adds, IsNoWant, IsWant, SentUpTo, end_by, end_at}
 use Rattle.lk_sim.specs.Scenes.{Scene}
 use Rattle.lk_sim.specs.Seats.{SeatFits, At, stopped_on, fallen_on, device_in}
 use Rattle.lk_sim.specs.Traces.{Tells}
@@ -40,6 +40,14 @@ pub record HasHalted {R : Type 0} (Left : Memory → Type 0) (s : Seat R) : Type
   pub device : Memory
   pub left : Left device
   pub down : s.life ≡ Down (stopped_on 0 0 device)
+
+-- a fault of that kind, for want of memory, has stopped it, on the disks that it left, of whose unsynced bytes none is left
+pub record HasWanted {R : Type 0} (Ends : ℕ → Memory → Type 0) (s : Seat R) : Type 0 where
+  pub number : ℕ
+  pub left : Memory
+  pub ends : Ends number left
+  pub want : IsWant number left
+  pub down : s.life ≡ Down (stopped_on 0 0 left)
 
 -- a node that has come to an armed stop, for so many bytes, was stopped; another one is as it was
 abbrev pub Rests : {R : Type 0} → Behaviour R → Option ℕ → Seat R → Seat R → Type 0

@@ -1,5 +1,5 @@
 // A node of the world.
-ghost use Rattle.std.specs.Prelude.{◌≡◌, ℕ, ◌⊎◌, length, false, IfOk, OnErr};
+ghost use Rattle.std.specs.Prelude.{◌≡◌, ℕ, ◌⊎◌, length, true, false, IfOk, OnErr};
 ghost use Rattle.lk_disk.specs.Disk.{contents};
 ghost use Rattle.lk_disk.specs.Memory.{Memory, disk_of};
 ghost use Rattle.lk_disk.specs.declared.device.Side.TheVariants.{A, B};
@@ -9,11 +9,11 @@ ghost use Rattle.lk_node.specs.Leavings.{header_of, DisksFit};
 ghost use Rattle.lk_node.specs.Calls.{heard_by, InputFits};
 ghost use Rattle.lk_replica.specs.Behaviours.{disks_by};
 ghost use Rattle.lk_replica.specs.Faults.{fault_number};
-ghost use Rattle.lk_sim.specs.Events.{Breaks, StaysDown, IsNoWant, LeftBy, LeftByRevival, SentUpTo, end_by, end_at};
+ghost use Rattle.lk_sim.specs.Events.{Breaks, StaysDown, IsNoWant, IsWant, LeftBy, LeftByRevival, SentUpTo, end_by, end_at};
 ghost use Rattle.lk_sim.specs.Rooms.{AreShort};
 ghost use Rattle.lk_sim.specs.Seats.{SeatFits, SeatGoes, IsTrapped, device_in, stopped_on};
 ghost use Rattle.lk_sim.specs.Kept.{disks_of};
-ghost use Rattle.lk_sim.specs.Outcomes.{HasFallen, HasHalted, HasTaken, HasRevived, IsThis, Rests};
+ghost use Rattle.lk_sim.specs.Outcomes.{HasFallen, HasHalted, HasTaken, HasRevived, HasWanted, IsThis, Rests};
 ghost use Rattle.lk_sim.specs.declared.seat.Life.TheVariants.{Up, Down};
 
 use crate::end::End;
@@ -95,7 +95,8 @@ pub fn rest<R: MemoryReplica>(alloc: Global, seat: &mut Seat<R>, at: Option<usiz
 
 // Whether the fault is for want of memory: a letter is lost in memory for nothing else.
 fn is_wanting(fault: &ReplicaFault, device: &MemoryDisk) -> bool
-    ensures { result ≡ false → IsNoWant (fault_number fault.now) device.now }
+    ensures no_want { result ≡ false → IsNoWant (fault_number fault.now) device.now }
+    ensures want { result ≡ true → IsWant (fault_number fault.now) device.now }
 {
     device.starved()
         || matches!(
@@ -116,6 +117,7 @@ pub fn fall<R: MemoryReplica>(
     ensures fits { (h : History) (w : View) → DisksFit R.meaning h seat.old.number (disk_of device) → AreShort (disk_of device) → SeatFits R.Shows (disks_by R.behaves) R.meaning h w seat.new }
     ensures fallen { IfOk result (λ o. HasFallen (IsThis (fault_number fault) device) seat.new o.notes.items o.sent.items o.ended o.stop) }
     ensures halted { OnErr result (seat.new.life ≡ Down (stopped_on 0 0 device)) }
+    ensures want { OnErr result (IsWant (fault_number fault) device) }
 {
     if is_wanting(&fault, &device) {
         device.stop(0, 0);
@@ -186,6 +188,7 @@ pub fn step<R: MemoryReplica>(
     ensures exact { (r : R) → seat.old.life ≡ Up r
         → IfOk result (λ o. HasTaken R.behaves r (heard_by input.entry) seat.new o.notes.items o.sent.items o.ended o.stop ⊎ HasFallen (Breaks R.behaves r (heard_by input.entry)) seat.new o.notes.items o.sent.items o.ended o.stop) }
     ensures halted { OnErr result (HasHalted (LeftBy R.behaves (heard_by input.entry) seat.old.life) seat.new) }
+    ensures wants { (r : R) → seat.old.life ≡ Up r → OnErr result (HasWanted (Breaks R.behaves r (heard_by input.entry)) seat.new) }
 {
     let node = seat.number;
     let Life::Up(replica) = &mut seat.life else {
@@ -223,6 +226,7 @@ pub fn revive<R: MemoryReplica>(
     ensures exact { (d : Memory) → seat.old.life ≡ Down d
         → IfOk result (λ o. HasRevived R.behaves d (header_of genesis.now seat.old.number) seat.new o.notes.items o.sent.items o.ended o.stop ⊎ HasFallen (StaysDown R.behaves d (header_of genesis.now seat.old.number)) seat.new o.notes.items o.sent.items o.ended o.stop) }
     ensures halted { (d : Memory) → seat.old.life ≡ Down d → OnErr result (HasHalted (LeftByRevival R.behaves (header_of genesis.now seat.old.number) seat.old.life) seat.new) }
+    ensures wants { (d : Memory) → seat.old.life ≡ Down d → OnErr result (HasWanted (StaysDown R.behaves d (header_of genesis.now seat.old.number)) seat.new) }
 {
     let device = take_device(alloc, seat);
     match R::revive(alloc, device, &Header::new(seat.number, genesis.copy())) {
