@@ -12,3 +12,4 @@ pub mod SharerLaws
 pub mod PackedLaws
 pub mod NextLaws
 pub mod Lists
+pub mod Held

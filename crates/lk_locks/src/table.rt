@@ -5,6 +5,7 @@ ghost use Rattle.std.specs.FinMap as map;
 ghost use Rattle.lk_types.specs.Limits.{max_names};
 ghost use Rattle.lk_locks.specs.Bodies.{body_of, is_known, known};
 ghost use Rattle.lk_locks.specs.Holders.{is_kept};
+ghost use Rattle.lk_locks.specs.Held.{held_in};
 ghost use Rattle.lk_locks.specs.Packed.{IsTable, rise, entries, text};
 ghost use Rattle.lk_locks.specs.declared.slot.Slot.{Slot};
 ghost use Rattle.lk_wire.specs.Fronts.{Keeps};
@@ -65,7 +66,7 @@ impl LockTable {
     }
 
     /// How many names stand.
-    fn len(&self) -> usize
+    pub fn len(&self) -> usize
         ensures len { result ≡ map.len self.now.names }
         ensures short { result ≤ max_names }
     {
@@ -73,7 +74,7 @@ impl LockTable {
     }
 
     /// At most max_names names stand, and each part is in its range. It does nothing.
-    pub(crate) fn facts(&self)
+    pub fn facts(&self)
         ensures { IsTable self.now }
     {
         let _ = &self.slots;
@@ -153,6 +154,19 @@ impl LockTable {
             return Ok(());
         }
         self.put_names(out)
+    }
+
+    /// The names that are held, rising, each with its slot.
+    pub fn held(&self, alloc: Global) -> Result<Vec<(Name, Slot)>, NoMemory>
+        ensures { IfOk result (λ found. found.items ≡ held_in (map.entries self.now.names)) }
+    {
+        let mut held = Vec::new(alloc);
+        for (name, slot) in self.slots.iter() {
+            if slot.holders.is_held() {
+                held.push((name.copy(), slot.copy()))?;
+            }
+        }
+        Ok(held)
     }
 
     /// Answers a body that the table knows, and does it.

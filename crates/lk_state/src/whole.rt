@@ -98,6 +98,13 @@ impl<M: Machine> Whole<M> {
         self.sessions.as_slice()
     }
 
+    /// The machine.
+    pub fn machine(&self) -> &M
+        ensures { M.text result.now ≡ self.now.text }
+    {
+        &self.machine
+    }
+
     /// Where a request of this client stands to its last one that counted.
     pub fn seen(&self, client: ClientNo, number: RequestNumber) -> Seen
         ensures value { result ≡ seen_as (session_of client self.now.sessions) number }

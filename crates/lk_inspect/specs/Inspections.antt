@@ -1,0 +1,27 @@
+-- What is told of a store, as the list of commands says it.
+use Rattle.std.specs.Prelude.{◌≡◌, ◌+◌, List, length}
+use Rattle.std.specs.FinMap as map
+use Rattle.lk_log.specs.Values.{StandingValue}
+use Rattle.lk_members.specs.Counting.{Command}
+use Rattle.lk_members.specs.Rosters.{Genesis}
+use Rattle.lk_members.specs.Windows.{sets_from}
+use Rattle.lk_state.specs.Packed.{Packs}
+use Rattle.lk_state.specs.States.{WholeValue, sessions_of}
+use Rattle.lk_locks.specs.Held.{held_in}
+use Rattle.lk_locks.specs.Lists.{table_of}
+use Rattle.lk_locks.specs.Meaning.{table_meaning}
+use Rattle.lk_locks.specs.Packed.{IsText}
+use Rattle.lk_inspect.specs.declared.inspection.Inspection.{Inspection}
+
+-- how long the list is, who decides the next positions, the names of its plain table and those that are held, and of how many
+-- clients a request counts
+pub record Tells (genesis : Genesis) (L : List Command) (i : Inspection) : Type 0 where
+  pub executed : i.executed ≡ length L
+  pub members : i.window ≡ sets_from genesis L (length L + 1) genesis.alpha
+  pub names : i.names ≡ map.len (table_of L).names
+  pub held : i.held.items ≡ held_in (map.entries (table_of L).names)
+  pub clients : i.clients ≡ length (sessions_of table_meaning genesis L)
+
+-- its snapshot packs no state at its position
+abbrev pub CannotStand : StandingValue → Type 0
+CannotStand s = (w : WholeValue) → Packs IsText w s.snapshot → w.roster.executed ≡ s.position → ⊥

@@ -1,0 +1,70 @@
+//! What the store of a folder comes to, for whoever runs a node.
+
+ghost use Rattle.std.specs.Prelude.{◌≡◌, ◌≤◌};
+ghost use Rattle.lk_disk.specs.declared.device.Side.{Side};
+
+use crate::inspection::{Inspection, inspected};
+use crate::lines::write_inspection;
+use lk_disk::LogDisk;
+use lk_log::look;
+use lk_service::fault::ServiceFault;
+use lk_service::folder::look_at_device;
+use std::alloc::Global;
+use std::fs::Files;
+use std::io;
+use std::io::Write;
+
+/// Writes what a store comes to, or `no store`. Whether there is one.
+fn write_found<W: Write>(found: Option<&Inspection>, out: &mut W) -> io::Result<bool> {
+    match found {
+        Some(inspection) => write_inspection(inspection, out)?,
+        None => out.write_all(b"no store\n")?,
+    }
+    out.flush()?;
+    Ok(found.is_some())
+}
+
+/// What the store of a device comes to, or `None` where none stands. It changes nothing there. It refuses with the faults 7, 8
+/// and 9 of the store; 9 also where its snapshot packs no state at its position.
+pub fn inspect_device<D: LogDisk>(
+    alloc: Global,
+    device: &mut D,
+) -> Result<Option<Inspection>, ServiceFault>
+    ensures unchanged { D.is_honest → (s : Side) → D.disk device.new s ≡ D.disk device.old s }
+{
+    match look(alloc, device)? {
+        Some((_, standing)) => Ok(Some(inspected(alloc, &standing)?)),
+        None => Ok(None),
+    }
+}
+
+/// Writes what the files of a folder come to, none of which is made. Whether a store stands there.
+fn inspect_folder<R: Files, W: Write, E: Write>(
+    rt: &R,
+    alloc: Global,
+    folder: &str,
+    out: &mut W,
+    err: &mut E,
+) -> Result<bool, ServiceFault> {
+    let mut device = look_at_device(rt, alloc, folder, err)?;
+    let found = inspect_device(alloc, &mut device)?;
+    write_found(found.as_ref(), out).map_err(|_| ServiceFault::Write)
+}
+
+/// Prints what the store of a folder comes to, also while a node serves from it. The status is 0; 1 where no store stands
+/// there, which is printed as `no store`, and where a fault is told on standard error.
+pub fn inspect<R: Files, W: Write, E: Write>(
+    rt: &R,
+    alloc: Global,
+    folder: &str,
+    out: &mut W,
+    err: &mut E,
+) -> u8
+    ensures { result ≤ 1 }
+{
+    match inspect_folder(rt, alloc, folder, out, err) {
+        Ok(true) => 0,
+        Ok(false) => 1,
+        Err(fault) => fault.tell(err),
+    }
+}

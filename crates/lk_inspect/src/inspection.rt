@@ -1,0 +1,58 @@
+//! What is told of a store.
+
+ghost use Rattle.std.specs.Prelude.{◌≡◌, ◌⊎◌, ◌++◌, List, length, IfOk, IfErr, IsErrOf};
+ghost use Rattle.std.specs.List.{AllByRecursion};
+ghost use Rattle.lk_types.specs.Commands.{IsCommand};
+ghost use Rattle.lk_members.specs.Counting.{Command as TheCommand};
+ghost use Rattle.lk_members.specs.Rosters.{Genesis as TheGenesis};
+ghost use Rattle.lk_state.specs.Packed.{Packs};
+ghost use Rattle.lk_state.specs.States.{whole_after};
+ghost use Rattle.lk_replica.specs.Revivals.{run_from};
+ghost use Rattle.lk_locks.specs.Meaning.{table_meaning};
+ghost use Rattle.lk_locks.specs.Packed.{IsText};
+ghost use Rattle.lk_inspect.specs.Inspections.{CannotStand, Tells};
+
+use crate::state::state_of;
+use lk_locks::{Name, Slot};
+use lk_log::Standing;
+use lk_members::Window;
+use lk_service::fault::ServiceFault;
+use lk_types::Executed;
+use std::alloc::Global;
+
+/// What a list of commands comes to.
+#[derive(Debug, Drop)]
+pub struct Inspection {
+    /// How many positions are executed.
+    pub executed: Executed,
+    /// The members of the next positions.
+    pub window: Window,
+    /// How many names the table has.
+    pub names: usize,
+    /// Of how many clients a request took effect.
+    pub clients: usize,
+    /// The names that are held, rising.
+    pub held: Vec<(Name, Slot)>,
+}
+
+/// What the snapshot of a standing and the decided commands above it come to, up to the first gap. It refuses with `Damaged`
+/// where the snapshot packs no state at its position, and with `NoMemory`.
+pub fn inspected(alloc: Global, standing: &Standing) -> Result<Inspection, ServiceFault>
+    ensures tells { (genesis : TheGenesis) (L : List TheCommand) → Packs IsText (whole_after table_meaning genesis L) standing.now.snapshot
+        → AllByRecursion IsCommand (L ++ run_from (length L) standing.now.pairs)
+        → IfOk result (Tells genesis (L ++ run_from (length L) standing.now.pairs)) }
+    ensures damaged { IsErrOf result ServiceFault.Damaged → CannotStand standing.now }
+    ensures only { IfErr result (λ e. (e ≡ ServiceFault.Damaged) ⊎ (e ≡ ServiceFault.NoMemory)) }
+{
+    let whole = state_of(alloc, standing)?;
+    let table = whole.machine();
+    table.facts();
+    let held = table.held(alloc)?;
+    Ok(Inspection {
+        executed: whole.executed(),
+        window: whole.roster().window().copy(),
+        names: table.len(),
+        clients: whole.sessions().len(),
+        held,
+    })
+}

@@ -1,0 +1,68 @@
+//! The state that a standing comes to.
+
+ghost use Rattle.std.specs.Prelude.{◌≡◌, ◌<◌, ◌⊎◌, ◌++◌, List, length, OnOk, IfOk, IfErr, IsErrOf};
+ghost use Rattle.lk_members.specs.Counting.{Command as TheCommand};
+ghost use Rattle.lk_members.specs.Rosters.{Genesis as TheGenesis};
+ghost use Rattle.lk_types.specs.Limits.{max_count};
+ghost use Rattle.lk_state.specs.Packed.{Packs};
+ghost use Rattle.lk_state.specs.Runs.{ran};
+ghost use Rattle.lk_state.specs.States.{WholeValue, SumsUp, whole_after};
+ghost use Rattle.lk_replica.specs.Revivals.{run_from, all_ran};
+ghost use Rattle.lk_locks.specs.Meaning.{table_meaning};
+ghost use Rattle.lk_locks.specs.Packed.{IsText};
+ghost use Rattle.lk_inspect.specs.Inspections.{CannotStand};
+
+use lk_locks::LockTable;
+use lk_log::Standing;
+use lk_service::fault::ServiceFault;
+use lk_state::{Ran, Whole};
+use lk_types::{Answer, Command, NoMemory, Position};
+use std::alloc::Global;
+
+/// The state that the snapshot packs, at its position.
+fn unpacked(alloc: Global, standing: &Standing) -> Result<Whole<LockTable>, ServiceFault>
+    ensures one { (w : WholeValue) → Packs IsText w standing.now.snapshot → IfOk result (λ v. v ≡ w) }
+    ensures damaged { IsErrOf result ServiceFault.Damaged → CannotStand standing.now }
+    ensures only { IfErr result (λ e. (e ≡ ServiceFault.Damaged) ⊎ (e ≡ ServiceFault.NoMemory)) }
+{
+    let whole: Whole<LockTable> = Whole::unpack(alloc, &standing.snapshot)?;
+    if whole.executed() != standing.position {
+        return Err(ServiceFault::Damaged);
+    }
+    Ok(whole)
+}
+
+/// Runs a command. A refused call changes nothing.
+fn run_one(whole: &mut Whole<LockTable>, command: &Command) -> Result<Option<Answer>, NoMemory>
+    requires { whole.old.roster.executed < max_count }
+    ensures { OnOk result (whole.new ≡ ran table_meaning command.now whole.old) }
+{
+    let run: Ran = whole.run(command)?;
+    Ok(run.answer)
+}
+
+/// Runs the decided commands from the next position on, up to the first gap.
+fn run_on(whole: &mut Whole<LockTable>, pairs: &[(Position, Command)]) -> Result<(), NoMemory>
+    ensures { OnOk result (whole.new ≡ all_ran table_meaning (run_from whole.old.roster.executed pairs.now) whole.old) }
+{
+    for pair in pairs {
+        if pair.0.get() != whole.executed().get() + 1 {
+            return Ok(());
+        }
+        run_one(whole, &pair.1)?;
+    }
+    Ok(())
+}
+
+/// The state behind the snapshot and the decided commands above it, up to the first gap. It refuses with `Damaged` where the
+/// snapshot packs no state at its position, and with `NoMemory`.
+pub fn state_of(alloc: Global, standing: &Standing) -> Result<Whole<LockTable>, ServiceFault>
+    ensures sums { (genesis : TheGenesis) (L : List TheCommand) → Packs IsText (whole_after table_meaning genesis L) standing.now.snapshot
+        → IfOk result (SumsUp table_meaning genesis (L ++ run_from (length L) standing.now.pairs)) }
+    ensures damaged { IsErrOf result ServiceFault.Damaged → CannotStand standing.now }
+    ensures only { IfErr result (λ e. (e ≡ ServiceFault.Damaged) ⊎ (e ≡ ServiceFault.NoMemory)) }
+{
+    let mut whole = unpacked(alloc, standing)?;
+    run_on(&mut whole, &standing.pairs)?;
+    Ok(whole)
+}
