@@ -150,7 +150,6 @@ returns-then-outbox-clause-runs g c none = c.in_ok-write_base.ensures.runs (c.in
 pub returns-in_err-outbox-clause-metered : goal.returns-in_err-outbox-clause-metered
 returns-in_err-outbox-clause-metered g c metered honest = refused_by _ _ _ _ fault.Halted c.from_residual.ensures.1 (0, start)
 
-
 -- ---- what a refusal leaves
 
 pub returns-in_err-outbox-clause-stays : goal.returns-in_err-outbox-clause-stays

@@ -73,7 +73,6 @@ pub returns-clause-calls : goal.returns-clause-calls
 returns-clause-calls g c metered honest =
     let d = c.in_ok-rebase_where_due.ensures.metered metered honest in (d.0, d.1, passes_on d.0 d.2 _ (c.in_ok-outbox.ensures.metered metered honest))
 
-
 -- ---- what a refusal leaves
 
 pub returns-in_err-rebase_where_due-clause-stays : goal.returns-in_err-rebase_where_due-clause-stays
