@@ -54,7 +54,7 @@ fn run_on(whole: &mut Whole<LockTable>, pairs: &[(Position, Command)]) -> Result
     Ok(())
 }
 
-/// The state behind the snapshot and the decided commands above it, up to the first gap. It refuses with `Damaged` where the
+/// The state after the snapshot and the decided commands above it, up to the first gap. It refuses with `Damaged` where the
 /// snapshot packs no state at its position, and with `NoMemory`.
 pub fn state_of(alloc: Global, standing: &Standing) -> Result<Whole<LockTable>, ServiceFault>
     ensures sums { (genesis : TheGenesis) (L : List TheCommand) → Packs IsText (whole_after table_meaning genesis L) standing.now.snapshot
