@@ -8,7 +8,7 @@ use crate::node_turns::{
 use std::alloc::Global;
 use std::test::Fail;
 
-/// How node 1's replica is before a dialogue, in a cluster of three with alpha 1.
+/// How node 1's replica is before a dialogue, in a cluster of three; with alpha 1, but for the last two.
 #[derive(Clone, Copy)]
 pub enum Start {
     /// On empty disks.
@@ -17,6 +17,10 @@ pub enum Start {
     Led,
     /// On a file of these bytes.
     TakenUp(&'static [&'static str]),
+    /// On empty disks, with alpha 2.
+    BegunAhead,
+    /// On a file of these bytes, with alpha 2.
+    TakenUpAhead(&'static [&'static str]),
 }
 
 /// How it is, and what it then hears and sends.
@@ -404,7 +408,9 @@ fn replica_of(alloc: Global, start: Start) -> Result<Locks, Fail> {
     match start {
         Start::Begun => begun(alloc, 1, 1, 3),
         Start::Led => led(alloc, 1),
-        Start::TakenUp(texts) => taken_up(alloc, texts),
+        Start::TakenUp(texts) => taken_up(alloc, 1, texts),
+        Start::BegunAhead => begun(alloc, 1, 2, 3),
+        Start::TakenUpAhead(texts) => taken_up(alloc, 2, texts),
     }
 }
 

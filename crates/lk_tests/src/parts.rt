@@ -29,7 +29,22 @@ const NONE_THERE: Turn<'static> = (LEAD, &[(Node(2), "07", "0000000000000001 000
 
 const HEAD_THERE: Turn<'static> = (LEAD, &[(Node(2), "07", "0000000000000001 00000020")]);
 
-const DIALOGUES: [Dialogue; 4] = [
+// The state of 80 bytes behind two positions, in which client 9 has joined node 4 and then had node 1 leave: of position 3 all four
+// are members, of position 4 nodes 2 to 4. Its one part is a datagram of 114 bytes.
+const JOINED: &str =
+    "0000000000000002 02 04 00000001 1b59 00000002 1b5a 00000003 1b5b 00000004 1b5c 03 00000002 1b5a 00000003 1b5b 00000004 1b5c 00000004 0000000000000002 0001 0009 0000000000000002 23 0000";
+
+const JOINED_PART: &str =
+    "0000000000000002 00000050 00000000 0050 0000000000000002 02 04 00000001 1b59 00000002 1b5a 00000003 1b5b 00000004 1b5c 03 00000002 1b5a 00000003 1b5b 00000004 1b5c 00000004 0000000000000002 0001 0009 0000000000000002 23 0000";
+
+const JOINED_FILE: [&str; 4] = [
+    "00000096 01 0000000000000001 01 0000000000000005 00000001 02 03 00000001 1b59 00000002 1b59 00000003 1b59",
+    "0000000000000000 00000000 0000000000000002 00000050",
+    JOINED,
+    "0000 0000",
+];
+
+const DIALOGUES: [Dialogue; 6] = [
     // A snapshot is served from the offset on, or from its start where the offset is not below its length.
     (
         Start::TakenUp(&SEEN),
@@ -110,6 +125,37 @@ const DIALOGUES: [Dialogue; 4] = [
             (Said(SECOND, "08", WHOLE), NOTHING),
             ASKED_AGAIN,
             (FAR_LEAD, &[(Node(2), "07", "0000000000000101 00000000")]),
+        ],
+    ),
+    // Who has the state serves it in one part.
+    (
+        Start::TakenUpAhead(&JOINED_FILE),
+        &[(
+            Said("00000004", "07", "0000000000000001 00000000"),
+            &[(Node(4), "08", JOINED_PART)],
+        )],
+    ),
+    // Who installs it knows what client 9 was answered last, and the port of node 4.
+    (
+        Start::BegunAhead,
+        &[
+            (Said(SECOND, "08", JOINED_PART), NOTHING),
+            (
+                Said("00000000", "09", "0009 0000000000000002 02 00000001"),
+                &[(Client(9), "0a", "0009 0000000000000002 23")],
+            ),
+            (
+                Said(
+                    "00000004",
+                    "0d",
+                    "0000000000000001 00000004 0000000000000002",
+                ),
+                NOTHING,
+            ),
+            (
+                Said("00000000", "09", "0007 0000000000000001 00 03 01 01 61"),
+                &[(Client(7), "0b", "0007 0000000000000001 00000004 1b5c")],
+            ),
         ],
     ),
     // A state is installed in a term: the request that waits is told the number that passed it, and the term goes on.
