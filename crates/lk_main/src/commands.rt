@@ -48,10 +48,10 @@ fn ask_command<'a>(alloc: Global) -> Result<Command<'a>, AllocError> {
         .arg(op)
 }
 
-/// `locks dump`.
-fn dump_command<'a>(alloc: Global) -> Result<Command<'a>, AllocError> {
-    Command::new(alloc, "dump")
-        .about("prints what stands in the store of a folder")
+/// A subcommand that reads the store of a folder.
+fn reading<'a>(alloc: Global, name: &'a str, about: &'a str) -> Result<Command<'a>, AllocError> {
+    Command::new(alloc, name)
+        .about(about)
         .arg(named(alloc, "dir", "the folder of a node's files"))
 }
 
@@ -67,6 +67,12 @@ fn fuzz_command<'a>(alloc: Global) -> Result<Command<'a>, AllocError> {
 pub fn program<'a>(alloc: Global) -> Result<Command<'a>, AllocError> {
     let sim = Command::new(alloc, "sim").about("runs a script from standard input");
     let demo = Command::new(alloc, "demo").about("shows three nodes and two clients");
+    let dump = reading(alloc, "dump", "prints what stands in the store of a folder")?;
+    let inspect = reading(
+        alloc,
+        "inspect",
+        "prints what the store of a folder comes to",
+    )?;
     Command::new(alloc, "locks")
         .about("a replicated service of named locks with fencing numbers")
         .version(VERSION)
@@ -76,5 +82,6 @@ pub fn program<'a>(alloc: Global) -> Result<Command<'a>, AllocError> {
         .subcommand(node_command(alloc)?)?
         .subcommand(ask_command(alloc)?)?
         .subcommand(demo)?
-        .subcommand(dump_command(alloc)?)
+        .subcommand(dump)?
+        .subcommand(inspect)
 }

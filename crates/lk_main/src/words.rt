@@ -8,6 +8,7 @@ use clap::error::ErrorKind;
 use clap::{ArgMatches, Error};
 use lk_disk::MemoryDisk;
 use lk_fuzz::fuzzing::run_fuzz;
+use lk_inspect::inspect::inspect;
 use lk_locks::LockTable;
 use lk_replica::Replica;
 use lk_script::ending::{end, tell};
@@ -111,6 +112,9 @@ fn run_matches<H: Files<File = File> + Net + Eprint, R: BufRead, W: Write, E: Wr
         Some(("ask", words)) => ask_words(rt, alloc, words, out, err),
         Some(("demo", _)) => demo::<LockTable, H, W, E>(rt, alloc, out, err),
         Some(("dump", words)) => dump(rt, alloc, words.get_str("dir").unwrap_or(""), out, err),
+        Some(("inspect", words)) => {
+            inspect(rt, alloc, words.get_str("dir").unwrap_or(""), out, err)
+        }
         _ => 2,
     }
 }
