@@ -60,7 +60,7 @@ class NewcomerTest(unittest.TestCase):
 
     def test_a_newcomer_is_given_the_state_and_is_in_each_majority(self):
         self.newcomer()
-        self.assertLess(self.seconds_until_known(4), 5.0)
+        self.assertLess(self.seconds_until_known(4), 10.0)
         for node in (1, 2, 3):  # three of four are a majority, so the newcomer is in each
             self.cluster.kill(node)
             fence = self.client.acquire("db")
