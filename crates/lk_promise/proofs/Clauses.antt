@@ -89,7 +89,7 @@ abbrev pub locks_behave : Behaviour ReplicaValue
 locks_behave = record {
   memory = λ r. device_of r.store;
   with_trap = λ t r. record r { store = record r.store { meter = trapped t r.store.meter } };
-  Takes = λ old bytes new came. ComesTo table_meaning old bytes new came;
+  Takes = λ old bytes new came. ComesTo table_meaning IsText old bytes new came;
   Revives = λ device whose came. RevivesTo table_meaning IsText device whose came;
   Compacts = λ old new came. CompactsTo table_meaning old new came;
 }
