@@ -17,8 +17,6 @@ mod node_dialogues;
 #[cfg(test)]
 mod node_turns;
 #[cfg(test)]
-mod parts;
-#[cfg(test)]
 mod raised;
 #[cfg(test)]
 mod reviving;
