@@ -18,7 +18,7 @@ MOST = 99_000
 
 
 def events(count):
-    """So many lines, each one event, for one node that leads behind the seventh."""
+    """So many lines, each one event, for one node that leads after the seventh."""
     yield from ("start 1", "tick 1", "tick 1", "tick 1", "tick 1", "deliver 1", "deliver 2")
     sent, done, asked = 2, 7, 0
     while done + 4 <= count and sent + 4 <= MOST:

@@ -17,7 +17,7 @@ use Rattle.lk_acceptor.specs.Answers.{Agrees}
 use Rattle.lk_acceptor.specs.VoteLists.{AreRising, IsVoteAt, HasVoteFrom, votes_below, votes_with, votes_from, votes_above}
 use Rattle.lk_acceptor.proofs.Rising.{first, rising_parts, rising_all, from_is_from}
 
--- ---- the votes below a position are parted from the others
+-- ---- the votes below a position are separated from the others
 
 above : (low : ℕ) (vs : List Vote) → are_votes_above low vs ≡ true → (k : ℕ) (d : Vote) → k < length vs → low < (get_or vs k d).position
 above low [] e k d short = absurd (omega arith)
@@ -63,7 +63,7 @@ found_from low i (w ∷ ws) v e at =
       ]
     ]
 
--- it stands behind those below it
+-- it stands after those below it
 pub found : (i : ℕ) (vs : List Vote) (v : Vote) → AreRising vs → IsVoteAt i vs v → slice_get vs (votes_below i vs) ≡ Some v
 found i vs v rising at = found_from rising.0 i vs v rising.1 at
 
@@ -130,7 +130,7 @@ last_tells end vs v rising is = last_from rising.0 end vs v rising.1 is
 
 -- ---- the votes from a position on
 
--- they stand behind those below it
+-- they stand after those below it
 rest_from : (low i : ℕ) (vs : List Vote) → are_votes_above low vs ≡ true → drop (votes_below i vs) vs ≡ votes_from i vs
 rest_from low i [] e = refl
 rest_from low i (w ∷ ws) e =

@@ -46,7 +46,7 @@ with_state a s = record { alpha = a.alpha; state = s }
 abbrev pub greater : BallotValue → BallotValue → BallotValue
 greater a b = if is_below a b then b else a
 
--- the state that a store stands for once an entry is written behind those that stand for a state
+-- the state that a store stands for once an entry is written after those that stand for a state
 abbrev pub with_entry : Entry → AcceptorState → AcceptorState
 with_entry (entry.Promise b) s = with_promise s (greater s.promised b)
 with_entry (entry.Vote v) s = record {

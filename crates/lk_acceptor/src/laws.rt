@@ -34,7 +34,7 @@ pub fn an_answer_is_covered()
     ensures accept { (a : AcceptorValue) (e : ℕ) (x : Vote) (r : Response) (new : AcceptorValue) → IsOrdered a.state → AnswersAccept a e x r new → Covers new.state r.reply }
 {}
 
-/// What the acceptor then holds is what a store stands for that has the entry behind those of what it held: where there is
+/// What the acceptor then holds is what a store stands for that has the entry after those of what it held: where there is
 /// no entry nothing has changed.
 pub fn entries_tell_what_is_held()
     ensures prepare { (a : AcceptorValue) (e : ℕ) (b : BallotValue) (first : ℕ) (r : Response) (new : AcceptorValue) → AnswersPrepare a e b first r new → new.state ≡ with_written r.entry a.state }
@@ -42,7 +42,7 @@ pub fn entries_tell_what_is_held()
     ensures own { (s : AcceptorState) (b : BallotValue) → IsBelow s.promised b → with_promise s b ≡ with_entry (entry.Promise b) s }
 {}
 
-/// There is one answer, one entry and one state behind it.
+/// There is one answer, one entry and one state after it.
 pub fn there_is_one_answer()
     ensures prepare { (a : AcceptorValue) (e : ℕ) (b : BallotValue) (first : ℕ) (r q : Response) (new other : AcceptorValue)
         → AnswersPrepare a e b first r new → AnswersPrepare a e b first q other → (r ≡ q) × (new ≡ other) }

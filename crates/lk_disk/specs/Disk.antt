@@ -3,7 +3,7 @@ use Rattle.std.specs.Prelude.{◌≡◌, ℕ, ◌+◌, ◌-◌, ◌^◌, ◌≤�
 use Rattle.lk_disk.specs.declared.device.Side.{Side}
 use Rattle.lk_disk.specs.declared.device.Side.TheVariants.{A, B}
 
--- the bytes that outlast a stop, and those behind them, of which a stop leaves a beginning
+-- the bytes that outlast a stop, and those after them, of which a stop leaves a beginning
 pub record Disk : Type 0 where
   pub synced : List ℕ
   pub unsynced : List ℕ

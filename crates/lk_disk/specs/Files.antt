@@ -12,7 +12,7 @@ pub data File : Type 0 where
   -- a call failed: a stop may leave these bytes, and what it shows is not known
   broken : Disk → File
 
--- the same bytes, of which those behind the first n are synced no longer
+-- the same bytes, of which those after the first n are synced no longer
 abbrev pub loosened : ℕ → Disk → Disk
 loosened n d = record { synced = take n d.synced; unsynced = drop n d.synced ++ d.unsynced }
 

@@ -51,7 +51,7 @@ cut_within n bytes d = cut_to (min (max bytes n) (length (contents d))) d
 abbrev pub refused : Memory → Memory
 refused m = failed (counted m)
 
--- a call failed for want of memory, and no disk has changed
+-- a call failed when out of memory, and no disk has changed
 abbrev pub wanting : Memory → Memory
 wanting m = failed (record m { meter = starving m.meter })
 

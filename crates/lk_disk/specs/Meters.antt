@@ -48,7 +48,7 @@ called m = record m {
 abbrev pub starving : Meter → Meter
 starving m = record (called m) { starved = true }
 
--- a changing call passed, or it failed: by the trap, the fuse, or an armed stop, or for want of memory
+-- a changing call passed, or it failed: by the trap, the fuse, or an armed stop, or when out of memory
 abbrev pub Calls : {T E : Type 0} → Meter → Meter → Result T E → Type 0
 Calls m n (Ok _) = (is_failing m ≡ false) × (n ≡ called m)
 Calls m n (Err _) = ((is_failing m ≡ true) × (n ≡ called m)) ⊎ (n ≡ starving m)
@@ -76,7 +76,7 @@ pub data Passes (m : Meter) : Meter → ℕ → Type 0 where
   call : {n : Meter} {k : ℕ} → Passes m n k → is_failing n ≡ false → Passes m (called n) (k + 1)
   read : {n : Meter} {k : ℕ} → Passes m n k → is_unread n ≡ false → Passes m (asked n) k
 
--- such calls passed, and the next one failed: a changing one as it had to, or for want of memory, or a reading one as it had to
+-- such calls passed, and the next one failed: a changing one as it had to, or when out of memory, or a reading one as it had to
 pub record Breaks (m n : Meter) : Type 0 where
   pub passed : ℕ
   pub last : Meter

@@ -21,7 +21,7 @@ stops_next Off = None
 stops_next (Fail count) = None
 stops_next (Arm count bytes) = if count == 1 then Some bytes else None
 
--- the trap behind that call
+-- the trap after that call
 abbrev pub trap_behind : Trap → Trap
 trap_behind Off = Off
 trap_behind (Fail count) = if nat_le count 1 then Off else Fail (count - 1)

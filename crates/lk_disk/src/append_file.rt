@@ -10,10 +10,10 @@ use thiserror::Error;
 #[error("the file failed")]
 pub struct FileFault;
 
-/// One file, of which some bytes are synced: they outlast a stop, which may take the bytes behind them from some byte on.
+/// One file, of which some bytes are synced: they outlast a stop, which may take the bytes after them from some byte on.
 ///
 /// What is said of its bytes holds where the file is honest, and as long as no call but `length` and `read_into` has
-/// failed: behind such a call nobody knows what it shows. An `Err` is counted in any case: the count of failures is one
+/// failed: after such a call nobody knows what it shows. An `Err` is counted in any case: the count of failures is one
 /// more then, up to 2^64 - 1, and the same at `Ok`.
 pub trait AppendFile {
     /// What is known of it.

@@ -1,4 +1,4 @@
-// A device of two disks, each seen as its synced bytes and the unsynced bytes behind them.
+// A device of two disks, each seen as its synced bytes and the unsynced bytes after them.
 ghost use Rattle.std.specs.Prelude.{◌≡◌, ◌≤◌, ◌<◌, ◌+◌, ℕ, length, slice_range, OnOk, OnErr, IfOk};
 ghost use Rattle.lk_disk.specs.Disk.{Disk, other, contents, appended, flushed, cut_to, AppendsSome, CutShort, HasCause};
 ghost use Rattle.lk_disk.specs.Meters.{Calls, Reads};
@@ -30,7 +30,7 @@ impl DeviceFault {
 
 /// A device of two disks, each a row of bytes that grows at its end.
 ///
-/// The bytes up to some point are synced: they outlast a stop, which may take the unsynced bytes behind them from some
+/// The bytes up to some point are synced: they outlast a stop, which may take the unsynced bytes after them from some
 /// byte on. What is said of the disks holds where the device is honest. An `Err` is counted in any case: the count of
 /// failures is one more then, up to 2^64 - 1, and the same at `Ok`.
 pub trait LogDisk {
@@ -46,7 +46,7 @@ pub trait LogDisk {
     /// What makes it fail.
     ghost meter: { Self → Meter };
 
-    /// It counts its calls and fails as its meter tells, for want of memory or past the end of a disk, and by nothing else. It is
+    /// It counts its calls and fails as its meter tells, when out of memory or past the end of a disk, and by nothing else. It is
     /// a fact of the kind of device, so no call can end it.
     ghost is_metered: { Type 0 };
 

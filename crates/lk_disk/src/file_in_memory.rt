@@ -8,7 +8,7 @@ use crate::memory_file::MemoryFile;
 use std::alloc::Global;
 use std::marker::Model;
 
-/// One file in memory. An append fails for want of memory; else a call fails where it has to, and then it changes nothing.
+/// One file in memory. An append fails when out of memory; else a call fails where it has to, and then it changes nothing.
 #[derive(Debug, Drop)]
 pub struct FileInMemory {
     bytes: MemoryFile,

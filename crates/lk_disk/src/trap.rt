@@ -13,7 +13,7 @@ pub enum Trap {
     /// The call of that number fails once and changes nothing.
     Fail(u64),
     /// A stop at the call of that number, for so many bytes: that call and each later one fails until a stop. An append is made
-    /// all the same, a sync is not, and a cut leaves up to so many bytes of the file. Whoever sends behind the calls of a step
+    /// all the same, a sync is not, and a cut leaves up to so many bytes of the file. Whoever sends after the calls of a step
     /// counts the sends on.
     Arm(u64, usize),
 }

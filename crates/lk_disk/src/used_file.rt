@@ -6,7 +6,7 @@ ghost use Rattle.lk_disk.specs.Files.{left_of, IsWhole, IsCaused, IsCutCaused};
 use crate::append_file::{AppendFile, FileFault};
 use std::marker::Model;
 
-/// A file that refuses all calls behind an append, a sync or a cut that failed: what it shows is then not known.
+/// A file that refuses all calls after an append, a sync or a cut that failed: what it shows is then not known.
 #[derive(Debug, Drop)]
 pub(crate) struct UsedFile<F: AppendFile + Drop> {
     file: F,

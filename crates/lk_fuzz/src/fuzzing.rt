@@ -147,7 +147,7 @@ fn furthest(trace: &[Note]) -> u64
     furthest
 }
 
-// A number behind words.
+// A number after words.
 fn numbered(alloc: Global, words: &str, number: u64) -> Result<String, AllocError>
     ensures { IfOk result (λ text. string_bytes text ≡ words.now ++ decimal number) }
 {

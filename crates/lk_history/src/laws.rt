@@ -82,7 +82,7 @@ pub fn the_start_fits()
     ensures { (genesis : Genesis) → WorldFits genesis start }
 {}
 
-/// A node that fits to what was sent fits to it behind any changes. It takes this node's view alone, so a node can show it
+/// A node that fits to what was sent fits to it after any changes. It takes this node's view alone, so a node can show it
 /// that knows of no other.
 pub fn changes_keep_the_node()
     ensures { (genesis : Genesis) (sent : List Datagram) (n : ℕ) (old new : View) → Sound genesis sent → ViewFits genesis sent n old

@@ -25,7 +25,7 @@ pub sums_behind : (m : Meaning) (genesis : Genesis) (L vs : List Command) → al
 sums_behind m genesis L [] = ap (whole_after m genesis) (sym (append-nil L))
 sums_behind m genesis L (v ∷ vs) = ap (all_ran m vs) (ran-whole_after m genesis L v) ∙ sums_behind m genesis (L ++ v ∷ []) vs ∙ ap (whole_after m genesis) (append_assoc L (v ∷ []) vs)
 
--- the next pair is run, and behind a gap nothing
+-- the next pair is run, and after a gap nothing
 pub next_runs : (e : ℕ) (p : Pair) (ps : List Pair) → p.0 ≡ e + 1 → run_from e (p ∷ ps) ≡ p.1 ∷ run_from (e + 1) ps
 next_runs e p ps is = let same : eqb p.0 (e + 1) ≡ true = eq-eqb p.0 (e + 1) is in rw same refl
 
@@ -58,7 +58,7 @@ pub sessions_are : (m : Meaning) (genesis : Genesis) (L : List Command) → (who
 unfolding whole_after
 sessions_are m genesis L = refl
 
--- what stands once the pairs behind a list were run
+-- what stands once the pairs after a list were run
 pub stands_behind : (m : Meaning) (genesis : Genesis) (L : List Command) (v w : WholeValue) (ps qs : List Pair) → v ≡ whole_after m genesis L → ps ≡ qs
     → w ≡ all_ran m (run_from v.roster.executed ps) v → w ≡ whole_after m genesis (L ++ run_from (length L) qs)
 stands_behind m genesis L v w ps qs sums same is =

@@ -62,7 +62,7 @@ distinct-proposed w p ps h none =
     subst (IsDistinct nat_eq) (sym (map-push (λ (q : ProposalValue). q.position) (filter w ps) (p ∷ [])))
     (IsDistinct-push nat_eq_equiv (positions (filter w ps)) p.position (distinct-filter w ps h) (absent w p.position ps none))
 
--- ---- so many positions behind the executed ones
+-- ---- so many positions after the executed ones
 
 behind : ℕ → ℕ → List ℕ
 behind e zero = []

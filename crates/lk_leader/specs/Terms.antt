@@ -42,7 +42,7 @@ with_proposals ps t = record { ballot = t.ballot; reports = t.reports; proposals
 abbrev pub proposal_at : ℕ → List ProposalValue → Option ProposalValue
 proposal_at i ps = find (λ p. p.position == i) ps
 
--- those at the so many positions behind the executed ones
+-- those at the so many positions after the executed ones
 abbrev pub in_window : ℕ → ℕ → List ProposalValue → List ProposalValue
 in_window executed alpha ps = filter (λ p. nat_lt executed p.position && nat_le p.position (executed + alpha)) ps
 

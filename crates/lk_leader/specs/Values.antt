@@ -55,7 +55,7 @@ pub record IsFirstNew (executed : ℕ) (ps : List ProposalValue) (waiting : List
 abbrev pub NoneIsNew : ℕ → List ProposalValue → List RequestValue → Type 0
 NoneIsNew executed ps waiting = (r : RequestValue) → Contains waiting r → IsUnderWay executed ps (Request r)
 
--- some promise tells of a vote at the position or behind it
+-- some promise tells of a vote at the position or after it
 abbrev pub is_reached : List Report → ℕ → Bool
 is_reached reports i = list_any (λ r. list_any (λ x. nat_le i x.position) r.votes) reports
 

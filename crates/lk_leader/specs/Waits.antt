@@ -7,7 +7,7 @@ use Rattle.std.specs.Prelude.{◌≡◌, ℕ, false, nat_lt, nat_le, ◌==◌, i
 abbrev pub newer : RequestValue → RequestValue → RequestValue
 newer r q = if nat_lt q.number r.number then r else q
 
--- what waits once this request was asked: a client's first waits behind the others, a later one can take the place of the first
+-- what waits once this request was asked: a client's first waits after the others, a later one can take the place of the first
 abbrev pub asked : RequestValue → List RequestValue → List RequestValue
 asked r [] = r ∷ []
 asked r (q ∷ qs) = if r.client == q.client then newer r q ∷ qs else q ∷ asked r qs

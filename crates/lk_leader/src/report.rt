@@ -51,7 +51,7 @@ impl Report {
         best
     }
 
-    /// Whether it tells of a vote at the position or behind it.
+    /// Whether it tells of a vote at the position or after it.
     pub(crate) fn reaches(&self, position: Position) -> bool
         ensures { result ≡ list_any (λ x. nat_le position x.position) self.now.votes }
     {

@@ -116,7 +116,7 @@ impl Term {
         best
     }
 
-    /// Whether some promise tells of a vote at the position or behind it.
+    /// Whether some promise tells of a vote at the position or after it.
     fn is_reached(&self, position: Position) -> bool
         ensures { result ≡ is_reached self.now.reports position }
     {

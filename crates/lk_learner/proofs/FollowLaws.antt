@@ -149,7 +149,7 @@ module _ (m : Meaning) (genesis : Genesis) where
 
   -- ---- what it runs
 
-  -- the pair of the next position stands behind the list, with no gap
+  -- the pair of the next position stands after the list, with no gap
   pub next_known : (done : List Command) (pairs : List Pair) (l : LearnerValue) (v : Command) → Follows m genesis done pairs l → IsNext l v → Contains pairs (suc (length done), v)
   next_known done pairs l v f h =
       let e = executed_is done l.whole f.sums in

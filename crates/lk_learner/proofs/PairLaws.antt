@@ -144,7 +144,7 @@ next_is_first e p ps v rise h =
     let b = rising_parts e p ps rise in
     elim (cons_cases p ps (e + 1, v) h) [ inl is ↦ is | inr later ↦ (let k = rising_all p.0 ps b.1 (e + 1, v) later in absurd (omega (arith, k, b.0))) ]
 
--- those behind it are left without it
+-- those after it are left without it
 pub without_later : (i low : ℕ) (ps : List Pair) → i ≤ low → are_pairs_above low ps ≡ true → without i ps ≡ ps
 without_later i low [] le e = refl
 without_later i low (p ∷ ps) le e =

@@ -16,7 +16,7 @@ pub record GatheredValue : Type 0 where
   pub total : ℕ
   pub bytes : List ℕ
 
--- the state behind the executed list, the position of the snapshot from which it was begun and the snapshot's packed text,
+-- the state after the executed list, the position of the snapshot from which it was begun and the snapshot's packed text,
 -- the commands that were executed since then, the pairs of later positions, and the snapshot that is gathered, if any
 pub record LearnerValue : Type 0 where
   pub whole : WholeValue
@@ -88,6 +88,6 @@ abbrev pub gathered_bytes : Option GatheredValue → ℕ
 gathered_bytes None = 0
 gathered_bytes (Some g) = length g.bytes
 
--- what is wanted next: the next position, or a snapshot from behind what is gathered on
+-- what is wanted next: the next position, or a snapshot from after what is gathered on
 abbrev pub wanted : LearnerValue → WantValue
 wanted l = record { first = executed l + 1; offset = gathered_bytes l.gathered }

@@ -37,7 +37,7 @@ pub fn a_learner_follows_its_list()
         → Follows m genesis done pairs l → SumsUp m genesis L w → Follows m genesis L (pairs_above w.roster.executed pairs) (installed w l) }
 {}
 
-/// What a learner runs next is chosen at the position behind its list, so the list with it is chosen: never is a pair run
+/// What a learner runs next is chosen at the position after its list, so the list with it is chosen: never is a pair run
 /// over a gap.
 pub fn what_is_run_is_chosen()
     ensures chosen { (m : Meaning) (genesis : Genesis) (sent : List Datagram) (w : View) (l : LearnerValue) (v : Command) → Sound genesis sent → Stems genesis sent w

@@ -12,7 +12,7 @@ use lk_wire::{Decided, Want};
 use std::alloc::Global;
 use std::marker::Model;
 
-/// What a node has learned of the list: the state behind the commands that it has executed, these commands as far as
+/// What a node has learned of the list: the state after the commands that it has executed, these commands as far as
 /// its snapshot has not taken their place, the snapshot's packed text, decided commands of later positions, and what it has
 /// gathered of another node's snapshot.
 #[derive(Drop)]
@@ -66,7 +66,7 @@ impl<M: Machine> Learner<M> {
         }
     }
 
-    /// The state behind the executed commands.
+    /// The state after the executed commands.
     pub fn whole(&self) -> &Whole<M>
         ensures { result.now ≡ self.now.whole }
     {
@@ -154,7 +154,7 @@ impl<M: Machine> Learner<M> {
         Ok(Some(ran))
     }
 
-    /// The packed text of the state behind the executed commands.
+    /// The packed text of the state after the executed commands.
     pub fn pack_now(&self) -> Result<BytesMut, NoMemory>
         ensures text { IfOk result (λ t. t.items ≡ packed self.now.whole) }
         ensures some { IfOk result (λ t. 1 ≤ length t.items) }
@@ -178,7 +178,7 @@ impl<M: Machine> Learner<M> {
     }
 
     /// What to ask for: the commands from the next position on, or the rest of a snapshot that is gathered. `None` where
-    /// 2^48 positions are executed, behind which there is none. It takes no memory.
+    /// 2^48 positions are executed, after which there is none. It takes no memory.
     pub fn want(&self) -> Option<Want>
         ensures { MatchOption result (executed self.now ≡ max_count) (λ w. w ≡ wanted self.now) }
     {

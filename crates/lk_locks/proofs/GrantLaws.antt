@@ -211,7 +211,7 @@ is_for_its_name name body = (to, λ e. subst (λ (n : List ℕ). eq_by_cmp (slic
     to : eq_by_cmp (slice_cmp nat_cmp) name (name_of body) ≡ true → name_of body ≡ name
     to e = elim (same_or_not name (name_of body)) [ inl same ↦ sym same.1 | inr other ↦ let no = other in absurd cc ]
 
--- the table behind some calls
+-- the table after some calls
 abbrev behind : Table → List Call → Table
 behind t [] = t
 behind t (call ∷ calls) = behind (next_by_task call.0 call.1 t) calls

@@ -1,4 +1,4 @@
--- A list of commands: the lock table behind it, as a text and plain.
+-- A list of commands: the lock table after it, as a text and plain.
 use Rattle.std.proofs.Common.{◌≡◌, ℕ, true, false, cond, List, [], ◌∷◌, ◌++◌, Option, Some, None, fold, refl, ap, subst, sym, ◌∙◌}
 use Rattle.std.specs.List.{list_all, AllByRecursion}
 use Rattle.std.proofs.lemmas.List.Sums.{fold-append}
@@ -21,7 +21,7 @@ use Rattle.lk_locks.specs.Lists.{table_after, table_of}
 
 -- ---- one command more
 
--- the table behind a request that counts, or none
+-- the table after a request that counts, or none
 abbrev pub table_behind : Table → Option RequestValue → Table
 table_behind m None = m
 table_behind m (Some r) = table_after r.client r.op m
@@ -67,7 +67,7 @@ counted_keeps : (o : Option RequestValue) (m : Table) → IsOfClient o → IsTab
 counted_keeps None m is_client fits = (fits, refl)
 counted_keeps (Some r) m is_client fits = op_keeps r.client r.op m is_client fits
 
--- the text behind the list is that of the plain table
+-- the text after the list is that of the plain table
 abbrev TextIsPlain : List Command → Type 0
 TextIsPlain L = AllByRecursion IsCommand L → IsTextOf (table_of L) (text_of table_meaning L)
 
@@ -94,11 +94,11 @@ is_plain = by_pushes TextIsPlain none_is_plain more_is_plain
 pub table_of-is_table : (L : List Command) → AllByRecursion IsCommand L → IsTable (table_of L)
 table_of-is_table L all = (is_plain L all).0
 
--- the text that the machine has behind a list is that of its table
+-- the text that the machine has after a list is that of its table
 pub text_of-text : (L : List Command) → AllByRecursion IsCommand L → text_of table_meaning L ≡ text (table_of L)
 text_of-text L all = (is_plain L all).1
 
--- what the machine answers behind a list is what its table answers
+-- what the machine answers after a list is what its table answers
 pub answer-text_of : (L : List Command) → AllByRecursion IsCommand L → (client : ℕ) (task : Task) → table_meaning.answer client task (text_of table_meaning L) ≡ task_answer client task (table_of L)
 answer-text_of L all client task = ap (task_answer client task) (ap table_in (text_of-text L all) ∙ again (table_of L) (table_of-is_table L all))
 

@@ -163,7 +163,7 @@ pub plain_table : (bytes behind : List ℕ) (n : ℕ) (r : Option (List Entry)) 
 unfolding read_table
 plain_table bytes behind n r front other e = rw (front, other) (whole_made (λ (es : List Entry). let v : Bool × List Entry = (false, es) in v) (read_entries false) bytes ∙ ap (mapped (λ (es : List Entry). let v : Bool × List Entry = (false, es) in v)) e)
 
--- a text written behind its mark, or without one
+-- a text written after its mark, or without one
 pub marked : (t : Table) (old new : List ℕ) → t.raised ≡ true → new ≡ (old ++ two 65282) ++ entries t.raised (map.entries t.names) → new ≡ old ++ text t
 unfolding text
 marked t old new is e = e ∙ append_assoc old (two 65282) (entries t.raised (map.entries t.names)) ∙ rw is refl

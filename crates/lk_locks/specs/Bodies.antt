@@ -8,7 +8,7 @@ use Rattle.lk_locks.specs.Names.{IsName, is_name}
 use Rattle.lk_locks.specs.declared.body.Body.{Body}
 use Rattle.lk_locks.specs.declared.body.Body.TheVariants.{Acquire, Release, Ask, Check, Share, Break}
 
--- a name behind its length
+-- a name after its length
 abbrev pub lock_name : List ℕ → List ℕ
 lock_name name = length name ∷ name
 
@@ -57,7 +57,7 @@ read_name = tested is_name (sized read_byte)
 unfoldable pub read_name_and_fence : List ℕ → Option ((List ℕ × ℕ) × List ℕ)
 read_name_and_fence = both read_name read_count
 
--- what stands behind the first byte
+-- what stands after the first byte
 unfoldable pub fields_of : ℕ → List ℕ → Option (Body × List ℕ)
 fields_of =
     kind 1 (made Acquire read_name)

@@ -1,4 +1,4 @@
--- The plain table behind a list of commands.
+-- The plain table after a list of commands.
 use Rattle.std.specs.Prelude.{ℕ, Option, Some, None, List, fold}
 use Rattle.lk_types.specs.declared.answer.Answer.{Answer}
 use Rattle.lk_types.specs.declared.command.Op.{Op}
@@ -6,7 +6,7 @@ use Rattle.lk_types.specs.declared.command.Op.TheVariants.{Table, Join, Leave, R
 use Rattle.lk_members.specs.Counting.{Command, counting}
 use Rattle.lk_locks.specs.Plain as plain
 
--- the lock table behind an op of a client
+-- the lock table after an op of a client
 abbrev pub table_after : ℕ → Op → plain.Table → plain.Table
 table_after client (Table body) t = plain.next client body t
 table_after client (Join node port) t = t
@@ -20,6 +20,6 @@ table_answer client (Join node port) t = None
 table_answer client (Leave node) t = None
 table_answer client Raise t = Some (plain.raise_answer t)
 
--- the lock table behind a list: the requests that count, in order
+-- the lock table after a list: the requests that count, in order
 unfoldable pub table_of : List Command → plain.Table
 table_of L = fold (λ t r. table_after r.client r.op t) plain.empty (counting L)

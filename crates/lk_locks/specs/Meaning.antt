@@ -5,7 +5,7 @@ use Rattle.lk_state.specs.Meanings.{Meaning, meaning, Task, Body, Raising}
 use Rattle.lk_locks.specs.Packed.{text, table_in}
 use Rattle.lk_locks.specs.Plain.{Table, empty, answer, next, raise_answer, raised}
 
--- the table behind a task of a client
+-- the table after a task of a client
 abbrev pub next_by_task : ℕ → Task → Table → Table
 next_by_task client (Body bytes) t = next client bytes t
 next_by_task client Raising t = raised t

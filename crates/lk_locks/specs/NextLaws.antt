@@ -247,7 +247,7 @@ next_is_table client bytes t is_client fits = after_are_names t.raised client (k
 pub raised_is_table : (t : Table) → IsTable t → IsTable (raised t)
 raised_is_table t fits = raised_are_names t.raised t.names fits
 
--- the text behind a task, by the text before it
+-- the text after a task, by the text before it
 pub next_is_text : (client : ℕ) (task : Task) (before : List ℕ) → IsClient client → IsText before → IsText (table_meaning.next client task before)
 next_is_text client (BodyTask body) before is_client t =
     let is = text_is before t in

@@ -25,7 +25,7 @@ pub enum Body {
     Break(Name, Fence),
 }
 
-/// A name behind its length, from the front of the bytes.
+/// A name after its length, from the front of the bytes.
 #[tactic(auto, unfolding(crate::specs::Bodies::read_name))]
 pub fn read_name(bytes: &[u8]) -> Option<(Name, &[u8])>
     ensures { Finds (λ x. (x.0, x.1.now)) result (read_name bytes.now) }
@@ -39,7 +39,7 @@ pub fn read_name(bytes: &[u8]) -> Option<(Name, &[u8])>
     Some((Name::of(name)?, rest))
 }
 
-/// What stands behind the first byte of a body.
+/// What stands after the first byte of a body.
 #[tactic(auto, unfolding(crate::specs::Bodies::fields_of, crate::specs::Bodies::read_name_and_fence))]
 fn read_fields(kind: u8, bytes: &[u8]) -> Option<(Body, &[u8])>
     ensures { Finds (λ x. (x.0, x.1.now)) result (fields_of kind bytes.now) }
@@ -85,7 +85,7 @@ fn read_whole(bytes: &[u8]) -> Option<Body>
     }
 }
 
-/// The bytes of a first byte, a name and at most eight bytes behind it.
+/// The bytes of a first byte, a name and at most eight bytes after it.
 fn spelled(kind: u8, name: &Name, rest: &[u8]) -> Payload
     requires { length rest.now ≤ 8 }
     ensures { result ≡ kind ∷ (lock_name name.now ++ rest.now) }
@@ -100,7 +100,7 @@ fn spelled(kind: u8, name: &Name, rest: &[u8]) -> Payload
 }
 
 impl Body {
-    /// The body that the bytes are, or `None` where they are none: a first byte from 1 to 6, the name behind its
+    /// The body that the bytes are, or `None` where they are none: a first byte from 1 to 6, the name after its
     /// length, and for Release, Check and Break the fence in eight bytes, the greatest first.
     pub fn read(bytes: &[u8]) -> Option<Body>
         ensures value { result ≡ body_of bytes.now }

@@ -79,7 +79,7 @@ fn read_sharers(bytes: &[u8]) -> Option<(Sharers, &[u8])>
     Some((clients, rest))
 }
 
-/// Who holds a name, behind a byte that says in which mode.
+/// Who holds a name, after a byte that says in which mode.
 #[tactic(auto, unfolding(crate::specs::Packed::holders_of))]
 fn read_mode(bytes: &[u8]) -> Option<(Holders, &[u8])>
     ensures read { Finds (λ x. (x.0, x.1.now)) result (tagged holders_of bytes.now) }
@@ -223,7 +223,7 @@ fn put_slot(out: &mut BytesMut, raised: bool, value: &Slot) -> Result<(), AllocE
     Ok(())
 }
 
-/// Writes a name and its slot. Where memory is refused, a beginning of the two may stand behind what stood.
+/// Writes a name and its slot. Where memory is refused, a beginning of the two may stand after what stood.
 #[tactic(auto, using(lk_wire::proofs::Spellings::keeps_same, lk_wire::proofs::Spellings::keeps_behind))]
 pub fn put_entry(
     out: &mut BytesMut,

@@ -46,12 +46,12 @@ pub fn short_texts()
     ensures { (bytes : List ℕ) → IsText bytes → length bytes ≤ 30212 }
 {}
 
-/// The text that the table has as a machine, once a list was run, is that of the plain table behind the list.
+/// The text that the table has as a machine, once a list was run, is that of the plain table after the list.
 pub fn texts_are_of_tables()
     ensures { (L : List Command) → AllByRecursion IsCommand L → text_of table_meaning L ≡ text (table_of L) }
 {}
 
-/// What the machine answers behind a list is what the plain table behind the list answers.
+/// What the machine answers after a list is what the plain table after the list answers.
 pub fn answers_are_plain()
     ensures { (L : List Command) → AllByRecursion IsCommand L → (client : ℕ) (task : Task) → table_meaning.answer client task (text_of table_meaning L) ≡ task_answer client task (table_of L) }
 {}

@@ -116,7 +116,7 @@ impl Machine for LockTable {
         self.raise_it()
     }
 
-    /// Adds how many names stand, and then in rising order each name with its last fence and who holds it; behind a mark
+    /// Adds how many names stand, and then in rising order each name with its last fence and who holds it; after a mark
     /// where the table was raised.
     fn pack(&self, out: &mut BytesMut) -> Result<(), NoMemory> {
         let stood = out.len();

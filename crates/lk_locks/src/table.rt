@@ -129,7 +129,7 @@ impl LockTable {
     }
 
     /// Writes how many names stand, and then each with its slot. Where memory is refused, a beginning of that may stand
-    /// behind what stood.
+    /// after what stood.
     #[tactic(auto, using(lk_wire::proofs::Spellings::keeps_same, lk_wire::proofs::Spellings::keeps_behind))]
     fn put_names(&self, out: &mut BytesMut) -> Result<(), AllocError>
         ensures ok { OnOk result (out.new.items ≡ out.old.items ++ entries self.now.raised (map.entries self.now.names)) }
@@ -142,7 +142,7 @@ impl LockTable {
         Ok(())
     }
 
-    /// Writes the packed text. Where memory is refused, a beginning of it may stand behind what stood.
+    /// Writes the packed text. Where memory is refused, a beginning of it may stand after what stood.
     #[tactic(auto, using(lk_wire::proofs::Spellings::keeps_same, lk_wire::proofs::Spellings::keeps_behind))]
     pub(crate) fn put(&self, out: &mut BytesMut) -> Result<(), AllocError>
         ensures ok { OnOk result (out.new.items ≡ out.old.items ++ text self.now) }

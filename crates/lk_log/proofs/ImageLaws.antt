@@ -37,7 +37,7 @@ has_base-plain [] (x ∷ given) e = has_base-plain [] given refl
 has_base-plain (Base b ∷ es) given e = absurd cc
 has_base-plain (Plain x ∷ es) given e = has_base-plain es given e
 
--- behind a Base what is given is well placed
+-- after a Base what is given is well placed
 pub misplaced-plain : (es : List Stored) (given : List Entry) → 0 < generation es → is_misplaced es ≡ false → is_misplaced (es ++ plain given) ≡ false
 misplaced-plain [] given some e = absurd (omega arith)
 misplaced-plain (Base b ∷ es) given some e = has_base-plain es given e

@@ -1,4 +1,4 @@
--- How much longer a file is behind a call.
+-- How much longer a file is after a call.
 use Rattle.std.proofs.Common.{◌≡◌, ℕ, ◌+◌, ◌*◌, ◌≤◌, ◌<◌, max, List, [], ◌∷◌, ◌++◌, length, take, refl, ap, sym, ◌∙◌, subst, inl, inr, arith, length-append, append-nil}
 use Rattle.std.specs.List.{AllByRecursion}
 use Rattle.std.proofs.Math.Seq.{take-length}
@@ -115,13 +115,13 @@ short_room d bytes e few = omega (arith, ap (λ x. length (contents x)) e, ap le
 pub within_first : (most : ℕ) (old mid new : Side → Disk) → StaysWithin most old mid → StaysWithin most mid new → StaysWithin most old new
 within_first most old mid new a b s = omega (arith, a s, b s)
 
--- ---- a step, behind a rebase that is due
+-- ---- a step, after a rebase that is due
 
 -- a rebase was refused
 pub refused_room : (old new : Side → Disk) → StaysWithin 49152 old new → StaysWithin 132704 old new
 refused_room old new stays s = omega (arith, stays s)
 
--- where a rebase was due it was done, and so the live file has less than 131,072 bytes: a step of at most 1,632 stands behind it
+-- where a rebase was due it was done, and so the live file has less than 131,072 bytes: a step of at most 1,632 stands after it
 behind : (live : Side) (old mid new : Side → Disk) → StaysWithin 49152 old mid → length (contents (mid live)) < 131072 → length (contents (new live)) ≤ length (contents (mid live)) + 1632 → new (other live) ≡ mid (other live) → StaysWithin 132704 old new
 behind A old mid new stays small grows beside A = omega (arith, small, grows)
 behind A old mid new stays small grows beside B = omega (arith, stays B, ap (λ d. length (contents d)) beside)
@@ -137,6 +137,6 @@ behind_room old mid new stays small is grows beside =
     on A stays = behind A old (pick A mid.live_disk mid.other_disk) (pick A new.live_disk new.other_disk) stays small grows beside
     on B stays = behind B old (pick B mid.live_disk mid.other_disk) (pick B new.live_disk new.other_disk) stays small grows beside
 
--- so the promise: where neither file held more in front, neither holds more behind
+-- so the promise: where neither file held more in front, neither holds more after
 pub never_longer : (old new : Side → Disk) → StaysWithin 132704 old new → ((s : Side) → length (contents (old s)) ≤ 262144) → (s : Side) → length (contents (new s)) ≤ 262144
 never_longer old new stays before s = omega (arith, stays s, before s)

@@ -46,7 +46,7 @@ one_image old new es f each c left = (contents old, whole_left old, both_same (c
 pub all_synced : (d : Disk) (bytes c : List ℕ) → d ≡ record { synced = bytes; unsynced = [] } → MayLeave d c → c ≡ bytes
 all_synced d bytes c is left = left.1 ∙ (λ i. (is i).synced ++ take left.0 (is i).unsynced) ∙ ap (λ (l : List ℕ). bytes ++ l) (take_nil left.0) ∙ append-nil bytes
 
--- cut behind its whole entries a file is these
+-- cut after its whole entries a file is these
 pub cut_whole : (d : Disk) (n : ℕ) (es : List Stored) → AreWholeEntries (contents d) es → n ≡ length (spelling_of_all es) → take n (contents d) ≡ spelling_of_all es
 cut_whole d n es w end = ap (λ (l : List ℕ). take n l) w.is ∙ take_at (spelling_of_all es) w.rest n (sym end)
 
@@ -83,7 +83,7 @@ short_narrows old new n es f end short c left = elim (cases_lt (length c) (lengt
       (c, (length c - length old.synced, here), λ fs d of. of)
 ]
 
--- nothing stands behind the whole entries
+-- nothing stands after the whole entries
 pub nothing_behind : (d : Disk) (es : List Stored) → AreWholeEntries (contents d) es → length (contents d) ≤ length (spelling_of_all es) → contents d ≡ spelling_of_all es
 nothing_behind d es w short =
     let nothing : w.rest ≡ [] = nil_from_length w.rest (omega (arith, ap length w.is, length-append (spelling_of_all es) w.rest)) in

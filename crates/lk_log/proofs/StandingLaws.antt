@@ -46,7 +46,7 @@ snapshot-push (Plain e ∷ es) fs s t p q h = absurd h
 apart : (i low j : ℕ) → low < i → ltb low j ≡ false → eqb j i ≡ false
 apart i low j h e = grind (arith, nat_tests)
 
--- ---- one more entry behind others
+-- ---- one more entry after others
 
 module _ (es : List Stored) (s : StandingValue) (h : StandsFor es s) where
   promise_stands : (b : BallotValue) → StandsFor (es ++ Plain (Promise b) ∷ []) (with_plain (Promise b) s)

@@ -86,7 +86,7 @@ take_within m n x y = elim (cases_lt m (length x + n)) [
   | inr long ↦ (length x + n, take_all m (x ++ take n y) (omega (arith, length-append x (take n y), length-take n y)) ∙ sym (take-append-add x y n))
 ]
 
--- what is given fits behind what stands there
+-- what is given fits after what stands there
 module _ (ks ls : List Stored) (given : List Entry) where
   regrouped : (ks ++ ls) ++ plain given ≡ ks ++ (ls ++ plain given)
   regrouped = append_assoc ks ls (plain given)

@@ -51,7 +51,7 @@ rising_stands = standings.rising_stands
 pub one_standing : (es : List Stored) (s t : StandingValue) → StandsFor es s → StandsFor es t → s ≡ t
 one_standing = one.one_standing
 
--- ---- behind a Base all entries are plain
+-- ---- after a Base all entries are plain
 
 no_base_plain : (ls : List Stored) → has_base ls ≡ false → (more : List Entry) × (ls ≡ plain more)
 no_base_plain [] e = ([], refl)

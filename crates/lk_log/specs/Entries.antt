@@ -54,15 +54,15 @@ fields (Plain (Promise b)) = ballot b
 fields (Plain (Vote v)) = vote v
 fields (Plain (Decided position c)) = pair (position, c)
 
--- what stands behind the length
+-- what stands after the length
 abbrev pub body : Stored → List ℕ
 body e = kind e ∷ fields e
 
--- the number of the bytes behind it, and then these
+-- the number of the bytes after it, and then these
 unfoldable pub spelling : Stored → List ℕ
 spelling e = four (length (body e)) ++ body e
 
--- entries one behind the other
+-- entries one after the other
 abbrev pub spelling_of_all : List Stored → List ℕ
 spelling_of_all [] = []
 spelling_of_all (e ∷ es) = spelling e ++ spelling_of_all es

@@ -1,4 +1,4 @@
--- The whole entries of a file, and what stands behind them.
+-- The whole entries of a file, and what stands after them.
 use Rattle.std.specs.Prelude.{◌≡◌, ℕ, ◌+◌, Bool, nat_lt, nat_le, ◌&&◌, ◌||◌, not, List, ◌++◌, length, take}
 use Rattle.std.specs.Int.{w32, from_be_bytes}
 use Rattle.std.specs.List.{AllByRecursion}
@@ -25,7 +25,7 @@ told_length rest = from_be_bytes w32 (take 4 rest)
 abbrev pub is_torn : List ℕ → Bool
 is_torn rest = nat_lt (length rest) 4 || (nat_le 1 (told_length rest) && nat_le (told_length rest) max_torn && nat_lt (length rest) (4 + told_length rest))
 
--- a file's whole entries, and whether damage stands behind them: a rest that is not torn
+-- a file's whole entries, and whether damage stands after them: a rest that is not torn
 pub record IsFile (bytes : List ℕ) (es : List Stored) (is_damaged : Bool) : Type 0 where
   pub whole : AreWholeEntries bytes es
   pub damage : not (is_torn whole.rest) ≡ is_damaged

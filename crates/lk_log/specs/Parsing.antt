@@ -74,7 +74,7 @@ read_fields =
 abbrev pub read_body : List ℕ → Option (Stored × List ℕ)
 read_body = tagged read_fields
 
--- how many bytes stand behind the length: with its own four at most 49,152
+-- how many bytes stand after the length: with its own four at most 49,152
 unfoldable pub read_size : List ℕ → Option (ℕ × List ℕ)
 read_size = tested (λ n. nat_le n (max_base - 4)) read_four
 

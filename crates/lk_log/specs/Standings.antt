@@ -143,7 +143,7 @@ with_plain (Vote v) s = record s {
 }
 with_plain (Decided position c) s = record s { pairs = if nat_lt s.position position then with_pair (position, c) s.pairs else s.pairs }
 
--- a standing with more entries, one behind the other
+-- a standing with more entries, one after the other
 abbrev pub with_all : List Entry → StandingValue → StandingValue
 with_all [] s = s
 with_all (e ∷ es) s = with_all es (with_plain e s)

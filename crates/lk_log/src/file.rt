@@ -26,11 +26,11 @@ pub struct File {
     pub end: usize,
     // How many bytes there are.
     pub size: usize,
-    // Whether what stands behind the entries is damage.
+    // Whether what stands after the entries is damage.
     pub is_damaged: bool,
 }
 
-// Whether a stop may have left this behind whole entries.
+// Whether a stop may have left this after whole entries.
 #[tactic(auto, unfolding(crate::specs::Files::told_length, lk_wire::specs::FieldReading::read_four))]
 fn is_torn(rest: &[u8]) -> bool
     ensures { result ≡ is_torn rest.now }

@@ -125,7 +125,7 @@ fn of_base(base: Base) -> Standing
 }
 
 impl Standing {
-    /// Adds an entry behind those that it stands for. Of two votes at a position the one of greater ballot is kept, the
+    /// Adds an entry after those that it stands for. Of two votes at a position the one of greater ballot is kept, the
     /// earlier where they are equal, and the first decided command of a position.
     ///
     /// It refuses with `NoMemory` (8) alone, and then nothing has changed.

@@ -36,7 +36,7 @@ pub fn one_spelling()
     ensures long { (e : Stored) → 0 < length (spelling e) }
 {}
 
-/// The entries of a live file stand for one thing, and with an entry behind them for that with this entry.
+/// The entries of a live file stand for one thing, and with an entry after them for that with this entry.
 pub fn one_standing()
     ensures some { (image : Image) (es : List Stored) → IsLive image es → (s : StandingValue) × StandsFor es s }
     ensures one { (es : List Stored) (s t : StandingValue) → StandsFor es s → StandsFor es t → s ≡ t }

@@ -1,4 +1,4 @@
-//! Two files that remember what a node promised, voted and learned: entries behind a Base, read back after any stop.
+//! Two files that remember what a node promised, voted and learned: entries after a Base, read back after any stop.
 #![tactic(auto)]
 
 mod adding;

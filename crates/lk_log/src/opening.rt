@@ -67,7 +67,7 @@ pub fn find<D: LogDisk>(alloc: Global, device: &mut D) -> Result<Option<(Side, F
     }
 }
 
-// Cuts off what stands behind the entries, by no call where nothing does.
+// Cuts off what stands after the entries, by no call where nothing does.
 fn cut_off<D: LogDisk>(
     device: &mut D,
     live: Side,

@@ -265,7 +265,7 @@ fn read_base(alloc: Global, bytes: &[u8]) -> Result<(Base, &[u8]), Unread>
     Ok((base, rest))
 }
 
-// What stands behind the byte that tells an entry's kind.
+// What stands after the byte that tells an entry's kind.
 #[tactic(auto, unfolding(crate::specs::Parsing::read_fields))]
 fn read_fields(alloc: Global, kind: u8, bytes: &[u8]) -> Result<(Stored, &[u8]), Unread>
     ensures { Gives (λ x. (x.0, x.1.now)) result (read_fields kind bytes.now) }
@@ -326,7 +326,7 @@ fn read_entry(alloc: Global, bytes: &[u8]) -> Result<(Stored, &[u8]), Unread>
     Ok((body_of(alloc, text)?, rest))
 }
 
-// The entry that begins the bytes, and the bytes behind it.
+// The entry that begins the bytes, and the bytes after it.
 #[tactic(auto, using(crate::proofs::EntryLaws::is_found, crate::proofs::EntryLaws::is_none))]
 pub fn first_entry(alloc: Global, bytes: &[u8]) -> Result<(Stored, &[u8]), Unread>
     ensures found { IfOk result (λ x. IsStored x.0 × (bytes.now ≡ spelling x.0 ++ x.1.now)) }

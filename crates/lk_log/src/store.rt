@@ -1,4 +1,4 @@
-// The store: entries behind one another in the live file.
+// The store: entries after one another in the live file.
 ghost use Rattle.std.specs.Prelude.{◌≡◌, ◌++◌, ◌∷◌, ◌<◌, ◌≤◌, ◌^◌, ◌+◌, ◌-◌, ◌*◌, ◌⊎◌, List, [], length, true, false, IfOk, IfErr, OnOk, OnErr, IsErrOf};
 ghost use Rattle.lk_types.specs.Limits.{max_base, max_count};
 ghost use Rattle.lk_disk.specs.Disk.{contents, other};
@@ -23,7 +23,7 @@ use lk_types::limits::MAX_COUNT;
 use std::alloc::Global;
 use std::marker::Model;
 
-/// A store: a live file, behind whose entries the next ones are written, and the other file of its device.
+/// A store: a live file, after whose entries the next ones are written, and the other file of its device.
 #[derive(Drop)]
 pub struct Store<D: LogDisk + Drop> {
     pub(crate) alloc: Global,
@@ -53,7 +53,7 @@ impl<D: LogDisk + Drop> Model for Store<D> {
 }
 
 impl<D: LogDisk + Drop> Store<D> {
-    /// Adds entries behind those of the live file, and syncs them where that is asked.
+    /// Adds entries after those of the live file, and syncs them where that is asked.
     ///
     /// It refuses with `Device` (7) and `NoMemory` (8); after that each later call answers `Failed` (11).
     pub fn put(&mut self, entries: &[Entry], sync: bool) -> Result<(), StoreFault>

@@ -130,7 +130,7 @@ fn put_plain_body(out: &mut BytesMut, value: &Entry) -> Result<(), AllocError>
     Ok(())
 }
 
-// Bytes behind their length.
+// Bytes after their length.
 fn put_behind_length(out: &mut BytesMut, text: &[u8]) -> Result<(), AllocError>
     requires { length text.now ≤ max_base - 4 }
     ensures { OnOk result (out.new.items ≡ out.old.items ++ (four (length text.now) ++ text.now)) }
@@ -202,7 +202,7 @@ fn put_plain(alloc: Global, out: &mut BytesMut, entry: &Entry) -> Result<(), All
     Ok(())
 }
 
-// The spellings of entries, one behind the other.
+// The spellings of entries, one after the other.
 pub fn spelled(alloc: Global, entries: &[Entry]) -> Result<BytesMut, AllocError>
     ensures { IfOk result (λ out. out.items ≡ spelling_of_all (plain entries.now)) }
 {

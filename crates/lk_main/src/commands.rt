@@ -6,7 +6,7 @@ use std::alloc::{AllocError, Global};
 /// The version of the package, and the format of the stores that it writes.
 const VERSION: &str = "0.1.0, stores of format 1";
 
-/// A word that has to be given behind `--NAME`.
+/// A word that has to be given after `--NAME`.
 fn named<'a>(alloc: Global, name: &'a str, help: &'a str) -> Arg<'a> {
     Arg::new(alloc, name)
         .long(name)

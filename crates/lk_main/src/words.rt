@@ -124,7 +124,7 @@ fn write_help<W: Write>(help: &Error, out: &mut W) -> Result<(), ScriptFault> {
     write!(out, "{help}").map_err(|_| ScriptFault::Write)
 }
 
-/// Tells why the command line was not taken: help goes to standard output with status 0, want of memory has status 1,
+/// Tells why the command line was not taken: help goes to standard output with status 0, out of memory has status 1,
 /// anything else has status 2.
 fn refuse<W: Write, E: Write>(error: &Error, out: &mut W, err: &mut E) -> u8
     ensures { result ≤ 2 }

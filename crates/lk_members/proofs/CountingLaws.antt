@@ -21,7 +21,7 @@ placed_entries_stand L p here = stands_behind [] L p here
 
 -- ---- an entry that counts
 
--- what a request that counts stands behind
+-- what a request that counts stands after
 pub counted_behind : (before : List Command) (c : Command) (r : RequestValue) → counted before c ≡ Some r → (c ≡ Request r) × (list_all (is_older r) before ≡ true)
 counted_behind before Noop r e = absurd cc
 counted_behind before (Request s) r e =

@@ -34,7 +34,7 @@ counting-push L c =
     ∙ filter_map-append (λ (p : Placed). counted p.before p.entry) (placed L) (p ∷ [])
     ∙ ap (λ (rs : List RequestValue). counting L ++ rs) (added_is (counted L c) p refl)
 
--- the roster behind a request that counts, or none
+-- the roster after a request that counts, or none
 abbrev pub roster_behind : PlainRoster → Option RequestValue → PlainRoster
 roster_behind r None = r
 roster_behind r (Some q) = next_roster r q.op

@@ -64,7 +64,7 @@ is_granted (Some Joined) = true
 is_granted (Some Left) = true
 is_granted _ = false
 
--- the roster behind an op: only a granted join or leave changes it
+-- the roster after an op: only a granted join or leave changes it
 abbrev pub next_roster : PlainRoster → Op → PlainRoster
 next_roster r (Table body) = r
 next_roster r (Join node port) =
@@ -77,15 +77,15 @@ next_roster r (Leave node) =
     else r
 next_roster r Raise = r
 
--- the roster behind the requests that count, in order
+-- the roster after the requests that count, in order
 unfoldable pub roster_of : Genesis → List Command → PlainRoster
 roster_of genesis L = fold (λ r q. next_roster r q.op) (first_roster genesis) (counting L)
 
--- the members that decide position i: those behind the first i - alpha entries
+-- the members that decide position i: those after the first i - alpha entries
 unfoldable pub members : Genesis → List Command → ℕ → List Member
 members genesis L i = (roster_of genesis (take (i - genesis.alpha) L)).members
 
--- the entry counts behind the entries before it, and is granted a change of the members
+-- the entry counts after the entries before it, and is granted a change of the members
 abbrev pub is_granted_change : PlainRoster → Option RequestValue → Bool
 is_granted_change r None = false
 is_granted_change r (Some q) = is_granted (roster_answer r q.op)

@@ -19,7 +19,7 @@ pub fn majorities_meet()
     ensures { (set : List Member) (W V : List ℕ) → IsMajority W set → IsMajority V set → (n : ℕ) × Contains W n × Contains V n }
 {}
 
-/// What a list names for the positions up to alpha behind its end, each longer list names.
+/// What a list names for the positions up to alpha after its end, each longer list names.
 pub fn members_stay()
     ensures { (genesis : Genesis) (L rest : List Command) (i : ℕ) → i ≤ length L + genesis.alpha → members genesis (L ++ rest) i ≡ members genesis L i }
 {}

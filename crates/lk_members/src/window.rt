@@ -164,7 +164,7 @@ impl Window {
         window
     }
 
-    /// Adds the set of the position behind the last.
+    /// Adds the set of the position after the last.
     pub fn push(&mut self, set: Members)
         requires { length self.old < 16 }
         ensures { self.new ≡ self.old ++ set ∷ [] }

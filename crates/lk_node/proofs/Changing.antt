@@ -133,7 +133,7 @@ all_on : (P Q : Entry → Type 0) (es : List Entry) → ((e : Entry) → P e →
 all_on P Q [] f a = tt
 all_on P Q (e ∷ es) f a = (f e a.0, all_on P Q es f a.1)
 
--- what a node holds behind a change that leaves its acceptor alone: it fits, the view has grown, and knows what it knew
+-- what a node holds after a change that leaves its acceptor alone: it fits, the view has grown, and knows what it knew
 pub record IsFollowed (m : Meaning) (h : History) (n : ℕ) (old : View) (new : NodeValue) : Type 0 where
   pub holding : Holding
   pub held : IsHeld m new h.genesis holding

@@ -164,7 +164,7 @@ got_last : (xs : List Command) (v : Command) → slice_get (xs ++ v ∷ []) (len
 got_last [] v = refl
 got_last (x ∷ xs) v = got_last xs v
 
--- what has run last stands behind what was served before
+-- what has run last stands after what was served before
 pub last_served_at : (m : Meaning) (l : LearnerValue) (v : Command) → IsLearner l → slice_get (advanced m v l).served (executed l + 1 - (l.snapshot_position + 1)) ≡ Some v
 last_served_at m l v is =
     let place : executed l + 1 - (l.snapshot_position + 1) ≡ length l.served = omega (arith, is.reaches) in
@@ -367,7 +367,7 @@ pub one_goes_on : (m : Meaning) (Heard : History → Type 0) (went : Bool) (old 
 one_goes_on m Heard true old before new behind is k = executes_goes_on m Heard old before new behind is k
 one_goes_on m Heard false old before new behind is k = subst₂ (λ (node : NodeValue) (o : OutboxValue). GoesOn m Heard old node before o) (sym k.1) (sym k.2) (rests_here m Heard old before)
 
--- ---- one behind another
+-- ---- one after another
 
 its_learner : (node : NodeValue) → (while_named node).learner ≡ node.learner
 its_learner node = by_test (is_outside node)

@@ -30,7 +30,7 @@ use Rattle.lk_node.proofs.Lists.{only}
 pub rests_here : (m : Meaning) (Heard : History → Type 0) (node : NodeValue) (out : OutboxValue) → GoesOn m Heard node node out out
 rests_here m Heard node out = record { binds = λ first b. b; serves = λ h n loose s heard. s }
 
--- one part behind another
+-- one part after another
 pub then_goes_on : (m : Meaning) (Heard : History → Type 0) (a b c : NodeValue) (x y z : OutboxValue) → GoesOn m Heard a b x y → GoesOn m Heard b c y z → GoesOn m Heard a c x z
 then_goes_on m Heard a b c x y z f g = record {
   binds = λ first k. g.binds first (f.binds first k);

@@ -113,7 +113,7 @@ pairs_settle : (m : Meaning) (first : ℕ) (commands : List Command) (old : Node
 pairs_settle m first commands old before _ _ _ none_yet none = none
 pairs_settle m first commands old before _ _ _ (one_more v so_far at takes) none = takes.runs.1
 
--- a part is gathered and no state installed, or all that can be is executed behind that
+-- a part is gathered and no state installed, or all that can be is executed after that
 part_settles : (m : Meaning) (IsText : List ℕ → Type 0) (p : PartValue) (old new : NodeValue) (out : OutboxValue) → HearsPart m IsText old p new out → Settles old new
 part_settles m IsText p old new out (inl k) none = k.2.runs.1
 part_settles m IsText p old new out (inr k) none = by_install k.0.1

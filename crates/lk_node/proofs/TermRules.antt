@@ -1,4 +1,4 @@
--- A term goes on in a history: what its node holds behind a promise that was heard, a proposal, or the ballot's beginning.
+-- A term goes on in a history: what its node holds after a promise that was heard, a proposal, or the ballot's beginning.
 use Rattle.std.proofs.Common.{◌≡◌, ℕ, ◌⊎◌, inl, inr, true, false, List, length, Option, Some, None, Contains, refl, sym, ◌∙◌, ap, subst, subst₂}
 use Rattle.std.proofs.lemmas.Bool.{cases_Bool, cases_eq}
 use Rattle.lk_types.specs.BallotValue.{BallotValue}

@@ -28,7 +28,7 @@ next_ballot node = record { round = greatest_round node + 1; node = node.header.
 abbrev pub beginning : BallotValue → NodeValue → NodeValue
 beginning b node = record node { acceptor = with_state node.acceptor (with_promise node.acceptor.state b); leader = with_term (begun b) node.leader }
 
--- behind the promise these nodes are asked for theirs, from the next position on, where there is one
+-- after the promise these nodes are asked for theirs, from the next position on, where there is one
 abbrev pub AsksPromises : BallotValue → List ℕ → NodeValue → OutboxValue → Type 0
 AsksPromises b nodes old out =
     (IsMessage (saying old.header (kinds.Prepare b (executed old.learner + 1))) × (out ≡ telling (beginning b old) nodes (kinds.Prepare b (executed old.learner + 1)) (with_entry (Promise b) nothing)))

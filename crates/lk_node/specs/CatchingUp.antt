@@ -39,7 +39,7 @@ Feeds node other first offset out =
 abbrev pub HearsWant : NodeValue → ℕ → WantValue → NodeValue → OutboxValue → Type 0
 HearsWant old from want new out = (new ≡ old) × Feeds old from want.first want.offset out
 
--- the other node is asked for what stands behind the executed positions, where these are not all 2^48
+-- the other node is asked for what stands after the executed positions, where these are not all 2^48
 abbrev pub AsksOn : NodeValue → ℕ → OutboxValue → Type 0
 AsksOn node other out =
     ((executed node.learner < max_count) × SaysAlone node (to_node node other) (kinds.Want (wanted node.learner)) out)

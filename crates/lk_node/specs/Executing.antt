@@ -103,7 +103,7 @@ ExecutesOne m false old before new behind = NothingToRun old × (new ≡ old) ×
 
 -- ---- any number of them
 
--- one execution behind another
+-- one execution after another
 pub data Runs (m : Meaning) (old : NodeValue) (before : OutboxValue) : NodeValue → OutboxValue → Type 0 where
   stays : Runs m old before old before
   goes_on : {mid new : NodeValue} {between behind : OutboxValue} → Runs m old before mid between → Executes m mid between new behind → Runs m old before new behind

@@ -14,7 +14,7 @@ use Rattle.lk_node.specs.Outboxes.{OutboxValue, nothing, with_rebase}
 abbrev pub Gathers : (List ℕ → Type 0) → Bool → PartValue → NodeValue → NodeValue → Type 0
 Gathers IsText went p old new = (l : LearnerValue) × Installs IsText went (hearing p old.learner) l × (new ≡ with_learner old l)
 
--- so many of the sessions are settled, one behind another
+-- so many of the sessions are settled, one after another
 pub data SettlesFirst (ss : List Session) (old : NodeValue) (before : OutboxValue) : ℕ → NodeValue → OutboxValue → Type 0 where
   none_yet : SettlesFirst ss old before 0 old before
   one_more : {k : ℕ} {mid new : NodeValue} {between behind : OutboxValue} (s : Session) → SettlesFirst ss old before k mid between → slice_get ss k ≡ Some s → Settles s mid between new behind

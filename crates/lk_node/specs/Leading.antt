@@ -41,7 +41,7 @@ pub record ProposesVote (old : NodeValue) (x : Vote) : Type 0 where
   pub ballot : x.ballot ≡ term.ballot
   pub proposes : Proposes term old.leader.waiting old.learner.whole.roster x.position x.command
 
--- the node behind that
+-- the node after that
 abbrev pub having_proposed : (old : NodeValue) (x : Vote) → ProposesVote old x → NodeValue
 having_proposed old x p = with_leader old (with_term (proposed old.learner.whole.roster x.position x.command p.term) old.leader)
 

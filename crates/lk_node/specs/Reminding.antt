@@ -58,7 +58,7 @@ OffersAgain node b i before out =
     ((p : ProposalValue) × (o : IsOpen node.leader node.learner.whole.roster i p) × TellsThese node (unheard o.set p.accepted) (kinds.Accept (vote_for b i p)) before out)
     ⊎ (((p : ProposalValue) → IsOpen node.leader node.learner.whole.roster i p → ⊥) × (out ≡ before))
 
--- so at the position that lies so far behind the next one, where there is one
+-- so at the position that lies so far after the next one, where there is one
 abbrev pub OffersAhead : NodeValue → BallotValue → ℕ → OutboxValue → OutboxValue → Type 0
 OffersAhead node b ahead before out =
     OffersAgain node b (executed node.learner + 1 + ahead) before out

@@ -61,7 +61,7 @@ TakesBytes m IsText old bytes new out =
     ((x : Message) × Spells x bytes × (x.cluster ≡ old.header.cluster) × Hears m IsText old x.content new out)
     ⊎ (IsForeign old bytes × StandsStill old new out)
 
--- and behind that it proposes all that is open
+-- and after that it proposes all that is open
 pub record TakesDatagram (m : Meaning) (IsText : List ℕ → Type 0) (old : NodeValue) (bytes : List ℕ) (new : NodeValue) (out : OutboxValue) : Type 0 where
   pub mid : NodeValue
   pub first : OutboxValue

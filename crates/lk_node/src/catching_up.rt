@@ -50,7 +50,7 @@ impl<M: Machine> Node<M> {
         Ok(out)
     }
 
-    // The other node is asked for what stands behind the executed positions.
+    // The other node is asked for what stands after the executed positions.
     fn ask_on(&self, other: NodeNo) -> Result<Outbox, NoMemory>
         ensures { IfOk result (λ o. AsksOn self.now other o) }
     {

@@ -16,7 +16,7 @@ use lk_state::Machine;
 use lk_types::{Command, Entry, NoMemory, Position};
 use lk_wire::Decided;
 
-// The position that lies so far behind the first.
+// The position that lies so far after the first.
 fn position_behind(first: Position, offset: usize) -> Position
     requires { first + offset ≤ max_count }
     ensures { result ≡ first + offset }

@@ -91,7 +91,7 @@ impl<M: Machine> Node<M> {
     }
 
     /// Takes a tick or a datagram, and tells what is to be written, noted and sent, in that order. What it learns it also
-    /// executes, as far as that goes: the command of the next position is not kept behind it, where it was not before.
+    /// executes, as far as that goes: the command of the next position is not kept after it, where it was not before.
     ///
     /// It refuses with `Halted` where memory is refused; after that each later call answers `Halted`.
     pub fn step(&mut self, input: Input) -> Result<Outbox, Halted>

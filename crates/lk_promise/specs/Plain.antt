@@ -147,7 +147,7 @@ use_locks client raised (Some (Check name fence)) locks = (checks fence (map.get
 use_locks client raised (Some (Share name)) locks = if raised then share client name (map.get locks name) locks else (Bad, locks)
 use_locks client raised (Some (Break name fence)) locks = if raised then break_lock name fence (map.get locks name) locks else (Bad, locks)
 
--- ---- what stands behind a list of commands
+-- ---- what stands after a list of commands
 
 pub record State : Type 0 where
   -- how many commands there were

@@ -156,7 +156,7 @@ AreTold sent trace = AreReplies sent (filter is_told trace)
 
 -- ---- order
 
--- what was answered before a request was asked takes effect in front of it, in each chosen list: however the trace is parted, of an
+-- what was answered before a request was asked takes effect in front of it, in each chosen list: however the trace is separated, of an
 -- answer in front and a request that was not asked there. (The real-time order of Herlihy, Wing, Linearizability, 1990)
 abbrev pub IsOrdered : Genesis → List Datagram → List Note → Type 0
 IsOrdered genesis sent trace =
@@ -374,7 +374,7 @@ Compacts (event.Compact n) new =
     × EachImage new.genesis s (λ memory. (memory.position ≡ (kept_by replica).executed) × HasSnapshot new.genesis new.sent memory)
 Compacts _ new = Unit {0}
 
--- an event that is refused changes nothing. For want of memory it notes and sends nothing, and the node that it is for may have gone down
+-- an event that is refused changes nothing. When out of memory it notes and sends nothing, and the node that it is for may have gone down
 pub record IsRefused (old : Scene ReplicaValue) (e : Event) (refused : Refused) (new : Scene ReplicaValue) : Type 0 where
   pub unchanged : (refused ≡ WorldMemory → ⊥) → new ≡ old
   pub only : (new.seats ≡ old.seats) ⊎ ((number : ℕ) × IsFor old.sent e number × FallsDown number old.seats new.seats)

@@ -34,7 +34,7 @@ pub fn apply(world: &mut World<Replicas>, event: Event) -> Result<(), Refused>
     ensures does { OnOk result (IsDone world.old event world.new) }
     // A node that was told to compact has a snapshot of all that it has executed.
     ensures compacts { OnOk result (Compacts event world.new) }
-    // An event that is refused changes nothing but that its node may have stopped for want of memory.
+    // An event that is refused changes nothing but that its node may have stopped when out of memory.
     ensures refused { IfErr result (λ e. IsRefused world.old event e world.new) }
 {
     world.apply(event)

@@ -33,12 +33,12 @@ among_behind : (qs ps : List Pair) (p : Pair) → Contains (qs ++ p ∷ ps) p
 among_behind [] ps p = (0, omega arith, refl)
 among_behind (q ∷ qs) ps p = contains_more q (qs ++ p ∷ ps) p (among_behind qs ps p)
 
--- those behind it are above it
+-- those after it are above it
 rising_behind : (low : ℕ) (qs ps : List Pair) (p : Pair) → are_pairs_above low (qs ++ p ∷ ps) ≡ true → are_pairs_above p.0 ps ≡ true
 rising_behind low [] ps p e = (rising_parts low p ps e).1
 rising_behind low (q ∷ qs) ps p e = rising_behind q.0 qs ps p (rising_parts low q (qs ++ p ∷ ps) e).1
 
--- the pair behind the others is put behind them
+-- the pair after the others is put after them
 with_last : (low : ℕ) (qs ps : List Pair) (p : Pair) → are_pairs_above low (qs ++ p ∷ ps) ≡ true → with_pair p qs ≡ qs ++ p ∷ []
 with_last low [] ps p e = refl
 with_last low (q ∷ qs) ps p e =
@@ -54,7 +54,7 @@ none_before e (q ∷ qs) ps p rise is =
     let less = rising_all q.0 (qs ++ p ∷ ps) b.1 p (among_behind qs ps p) in
     absurd (omega (arith, b.0, less, is))
 
--- behind a gap nothing is run
+-- after a gap nothing is run
 gap_stops : (e : ℕ) (ps : List Pair) → ((v : Command) → Contains ps (e + 1, v) → ⊥) → run_from e ps ≡ []
 gap_stops e [] none = refl
 gap_stops e (p ∷ ps) none = elim (cases_Bool (eqb p.0 (e + 1))) [
@@ -221,7 +221,7 @@ module _ (m : Meaning) (node : ℕ) (w : WholeValue) (pairs : List Pair) where
               | inr later ↦ new q.0 qs b.1 v later
             ]
 
-        -- behind a gap nothing more is executed
+        -- after a gap nothing more is executed
         within : executed l < p.0 → p.0 ≤ executed l + 2 * alpha l
         within above = by_place (cases_Bool (eqb p.0 (executed l + 1)))
           where

@@ -107,7 +107,7 @@ among_all (suc n) (q ∷ qs) p h = contains_more q qs p (among_all n qs p h)
 one_more : (L : List Command) (v : Command) → length (L ++ v ∷ []) ≡ length L + 1
 one_more L v = length-append L (v ∷ [])
 
--- ---- what is run behind a chosen list
+-- ---- what is run after a chosen list
 
 module _ (m : Meaning) (genesis : Genesis) where
   sums_behind : (L vs : List Command) → all_ran m vs (whole_after m genesis L) ≡ whole_after m genesis (L ++ vs)

@@ -5,6 +5,6 @@ use Rattle.std.specs.Prelude.{ℕ, ◌+◌, ◌*◌}
 abbrev pub max_step : ℕ
 max_step = 102 * 16
 
--- a step behind a file that is not due for a rebase
+-- a step after a file that is not due for a rebase
 abbrev pub max_behind : ℕ
 max_behind = 131072 + max_step

@@ -19,7 +19,7 @@ use Rattle.lk_node.specs.Steps.{Steps}
 use Rattle.lk_node.specs.declared.input.Input.{Input}
 use Rattle.lk_node.specs.declared.note.Note.{Note}
 
--- the outbox's entries stand behind what the store held, and all of it is synced where the outbox says so
+-- the outbox's entries stand after what the store held, and all of it is synced where the outbox says so
 abbrev pub Puts : StoreValue → OutboxValue → StoreValue → Type 0
 Puts old out new = (ks ls : List Stored) → Holds old ks ls
     → (out.sync ≡ false → Holds new ks (ls ++ plain out.entries)) × (out.sync ≡ true → Holds new (ks ++ (ls ++ plain out.entries)) [])

@@ -104,7 +104,7 @@ impl<M: Machine, D: LogDisk + Drop> Replica<M, D> {
         ensures cause_send { IfErr result (IfSend (λ notes. (lost : ℕ) × (lost ≢ 0) × (P.failures post.new ≡ more_by lost (P.failures post.old)))) }
         ensures metered { D.is_metered → D.is_honest → IfErr result (λ e. RefusedAfter (fault_number e) self.old.store.meter self.new.store.meter) }
         ensures failed { self.old.failed ≡ true → IsErrOf result ReplicaFault.Failed }
-        // Nothing but an earlier refusal, its own or its store's, makes it answer `Failed`, or a rebase behind the last generation:
+        // Nothing but an earlier refusal, its own or its store's, makes it answer `Failed`, or a rebase after the last generation:
         // a call makes two at most.
         ensures failed_before { self.old.failed ≡ false → self.old.store.failed ≡ false → self.old.store.generation + 1 < max_count → IsErrOf result ReplicaFault.Failed → ⊥ }
         ensures store_alive { OnOk result (self.new.store.failed ≡ false) }

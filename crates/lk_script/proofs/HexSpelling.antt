@@ -22,7 +22,7 @@ pub front_no_space : (line bytes : List ℕ) → SpellsBytes line bytes → slic
 front_no_space _ _ (one high low byte p) = no_space high p.0
 front_no_space _ _ (more high low byte spaces line bytes p s) = no_space high p.0
 
--- what stands behind all spaces stands there in one way
+-- what stands after all spaces stands there in one way
 same_behind : (m n : ℕ) (a b : List ℕ) → replicate m 32 ++ a ≡ replicate n 32 ++ b → slice_index a 0 ≢ 32 → slice_index b 0 ≢ 32 → a ≡ b
 same_behind zero zero a b e ha hb = e
 same_behind zero (suc n) a b e ha hb = absurd (ha (ap (λ (l : List ℕ). slice_index l 0) e))
@@ -49,7 +49,7 @@ front _ _ (more h' l' b' spaces line bytes q s) h l b behind e p =
     let eh : h' ≡ h = cc in let el : l' ≡ l = cc in let eb : behind ≡ replicate spaces 32 ++ line = cc in
     inr (record { spaces = spaces; line = line; tail = bytes; behind_is = eb; all_is = ap (λ (x : ℕ). x ∷ bytes) (same_pair h l b h' l' b' p q eh el); spelled = s })
 
--- what spells bytes is not empty, also behind spaces
+-- what spells bytes is not empty, also after spaces
 not_empty : (n : ℕ) (line bytes : List ℕ) → SpellsBytes line bytes → replicate n 32 ++ line ≡ [] → ⊥
 not_empty zero _ _ (one high low byte p) e = absurd cc
 not_empty zero _ _ (more high low byte spaces line bytes p s) e = absurd cc
@@ -89,7 +89,7 @@ ends line bytes rest behind h l b g e p last =
     let empty : behind ≡ [] = nil_from_length behind (eqb-true (length behind) 0 last) in
     g.sound (b ∷ []) (subst (λ (t : List ℕ). SpellsBytes t (b ∷ [])) (sym (e ∙ ap (λ (t : List ℕ). h ∷ l ∷ t) empty)) (one h l b p))
 
--- a byte with more behind it
+-- a byte with more after it
 pub goes_on : (line bytes rest behind next : List ℕ) (h l b n : ℕ) → GoesOn line bytes rest → rest ≡ h ∷ l ∷ behind → SpellsByte h l b → eqb (length behind) 0 ≡ false
     → behind ≡ replicate n 32 ++ next → slice_index next 0 ≢ 32 → GoesOn line (bytes ++ b ∷ []) next
 goes_on line bytes rest behind next h l b n g e p filled spaces digit = record {

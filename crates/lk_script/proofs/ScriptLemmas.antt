@@ -74,7 +74,7 @@ world_unknown begun run line fits none out after t = absurd fits
 world_unknown (table cluster L) run line fits none out after t = absurd fits
 world_unknown (world done) run line fits none _ _ (happens d l out o spells) = none o spells
 
--- a run so far: the lines read, what they printed, and what is set up behind them
+-- a run so far: the lines read, what they printed, and what is set up after them
 pub record SoFar {R : Type 0} (input : List ℕ) (before written left : Option (List ℕ)) (server : Mode R) (number : ℕ) : Type 0 where
   pub front : List (List ℕ)
   pub rest : List ℕ

@@ -6,7 +6,7 @@ use Rattle.lk_sim.specs.declared.refused.Refused.{Refused}
 use Rattle.lk_script.specs.declared.fault.ScriptFault.{ScriptFault}
 use Rattle.lk_script.specs.declared.fault.ScriptFault.TheVariants.{Read, Write, ScriptMemory, BadLine, Ended}
 
--- the script's lines print the text, to the last of them, and what stands behind it
+-- the script's lines print the text, to the last of them, and what stands after it
 pub record PrintsAll (script text : List ℕ) : Type 0 where
   pub state : Script
   pub printed : List ℕ
@@ -21,7 +21,7 @@ EndsAtLine number script text = Runs begun 1 (lines_of script) text (at_line num
 abbrev pub EndsRefused : Refused → List ℕ → List ℕ → Type 0
 EndsRefused r script text = Runs begun 1 (lines_of script) text (at_refusal r)
 
--- the run broke off at a line: the lines in front of it print the text, and of what stands behind these no more than this line was taken
+-- the run broke off at a line: the lines in front of it print the text, and of what stands after these no more than this line was taken
 pub record BreaksOff (script text : List ℕ) (left : Option (List ℕ)) : Type 0 where
   pub front : List (List ℕ)
   pub behind : List ℕ

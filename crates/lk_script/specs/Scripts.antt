@@ -17,7 +17,7 @@ pub data Script : Type 0 where
   table : (cluster : ℕ) (L : List Command) → Script
   world : (done : ℕ) → Script
 
--- a line that is understood, what it prints and what is set up behind it
+-- a line that is understood, what it prints and what is set up after it
 pub data Takes : Script → List ℕ → List ℕ → Script → Type 0 where
   -- the first line sets a table up
   begins : (line : List ℕ) (cluster : ℕ) → IsTableLine line cluster → Takes begun line [] (table cluster [])
@@ -50,9 +50,9 @@ pub data Runs : Script → ℕ → List (List ℕ) → List ℕ → Stop → Typ
   -- a line that is understood
   takes : (s after : Script) (n : ℕ) (line out : List ℕ) (lines : List (List ℕ)) (text : List ℕ) (stop : Stop) → line ≢ [] → Takes s line out after → Runs after (n + 1) lines text stop
       → Runs s n (line ∷ lines) (out ++ text) stop
-  -- a line that is not: nothing behind it is read
+  -- a line that is not: nothing after it is read
   stops : (s : Script) (n : ℕ) (line : List ℕ) (lines : List (List ℕ)) → line ≢ [] → ((out : List ℕ) (after : Script) → Takes s line out after → ⊥) → Runs s n (line ∷ lines) [] (at_line n)
-  -- a refusal: nothing behind it is read
+  -- a refusal: nothing after it is read
   refuses : (s : Script) (n : ℕ) (line out : List ℕ) (r : Refused) (lines : List (List ℕ)) → line ≢ [] → Refuses s line out r → Runs s n (line ∷ lines) out (at_refusal r)
 
 -- what stands last where no line is left

@@ -43,7 +43,7 @@ is_for_table (Join node port) = false
 is_for_table (Leave node) = false
 is_for_table Raise = true
 
--- what a datagram to node 1 of the cluster prints, and the list behind it
+-- what a datagram to node 1 of the cluster prints, and the list after it
 pub data Prints (cluster : ℕ) (L : List Command) (bytes : List ℕ) : List ℕ → List Command → Type 0 where
   -- the bytes are no datagram
   unreadable : ((m : Message) → Spells m bytes → ⊥) → Prints cluster L bytes (codes "bad") L

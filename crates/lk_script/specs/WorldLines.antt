@@ -1,4 +1,4 @@
--- The lines of world mode behind its first, and what each asks for.
+-- The lines of world mode after its first, and what each asks for.
 use Rattle.std.specs.Prelude.{◌≡◌, ◌≢◌, ◌≤◌, ◌⊎◌, ℕ, List, [], ◌∷◌, ◌++◌, Ok, codes}
 use Rattle.std.specs.Fmt.{decimal}
 use Rattle.hex.specs.Hex.{decode_of}
@@ -16,18 +16,18 @@ use Rattle.lk_script.specs.declared.order.Order.TheVariants.{Ticks, Once}
 abbrev pub IsWord : ℕ → ℕ → ℕ → List ℕ → Type 0
 IsWord least most n word = (least ≤ n) × (n ≤ most) × (word ≡ decimal n)
 
--- the words begin with such a number, and behind a space these words stand
+-- the words begin with such a number, and after a space these words stand
 abbrev pub Leads : ℕ → ℕ → ℕ → List ℕ → List ℕ → Type 0
 Leads least most n rest words = (least ≤ n) × (n ≤ most) × (words ≡ decimal n ++ 32 ∷ rest)
 
--- a node, alone or with words behind it
+-- a node, alone or with words after it
 abbrev pub IsNodeWord : ℕ → List ℕ → Type 0
 IsNodeWord = IsWord 1 max_node
 
 abbrev pub NodeLeads : ℕ → List ℕ → List ℕ → Type 0
 NodeLeads = Leads 1 max_node
 
--- ---- what the words behind each verb ask for
+-- ---- what the words after each verb ask for
 
 -- `N`
 abbrev pub AsksToStart : List ℕ → Order → Type 0

@@ -14,7 +14,7 @@ pub fn tell<E: Write>(fault: ScriptFault, err: &mut E) -> u8
     1
 }
 
-/// Ends a run: flushes the output, and tells the run's fault, and behind it fault 24 where the flush failed. A refusal of the
+/// Ends a run: flushes the output, and tells the run's fault, and after it fault 24 where the flush failed. A refusal of the
 /// world is not told, since it stands in the output. The status is 0, or 1 where a fault was told or an event was refused.
 pub fn end<W: Write, E: Write>(ran: Result<(), ScriptFault>, out: &mut W, err: &mut E) -> u8
     ensures status { (result ≡ 0) ⊎ (result ≡ 1) }

@@ -155,7 +155,7 @@ fn print_end(text: &mut Vec<u8>, end: &End) -> Result<(), NoMemory> {
 }
 
 /// Adds what an event printed, which added the notes and the datagrams from these places on: its notes, the datagrams, each
-/// answer and pass behind its own note, and the fault that ended a node.
+/// answer and pass after its own note, and the fault that ended a node.
 pub fn print_event(
     text: &mut Vec<u8>,
     trace: &[Note],

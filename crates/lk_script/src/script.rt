@@ -24,7 +24,7 @@ use lk_types::Genesis;
 use std::alloc::{AllocError, Global};
 use std::io::{BufRead, Write};
 
-/// The number behind the word.
+/// The number after the word.
 fn cluster_named(line: &[u8]) -> Option<u64>
     ensures { (cluster : ℕ) → IsTableLine line.now cluster → result ≡ Some cluster }
 {

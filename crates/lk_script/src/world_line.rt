@@ -1,4 +1,4 @@
-//! Lines of world mode behind its first.
+//! Lines of world mode after its first.
 
 ghost use Rattle.std.specs.Prelude.{◌≡◌, ◌≢◌, ◌≤◌, ℕ, List, [], Ok, Some, IfSome, IsNone, IfOk, IsErrOf};
 ghost use Rattle.hex.specs.Hex.{decode_of};
@@ -175,7 +175,7 @@ fn understood(order: Option<Order>) -> Result<Order, LineFault>
     order.ok_or(LineFault::NotUnderstood)
 }
 
-/// What the words behind a verb ask for.
+/// What the words after a verb ask for.
 fn asked(alloc: Global, verb: EventVerb, words: &[u8]) -> Result<Order, LineFault>
     ensures ok { IfOk result (Asks verb words.now) }
     ensures not_understood { IsErrOf result LineFault.NotUnderstood → (o : OrderValue) → Asks verb words.now o → ⊥ }

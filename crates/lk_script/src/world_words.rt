@@ -17,7 +17,7 @@ pub fn number_of(word: &[u8], least: u64, most: u64) -> Option<u64>
     Some(number)
 }
 
-/// The number in that range that the first word tells, and what stands behind the space that ends it.
+/// The number in that range that the first word tells, and what stands after the space that ends it.
 pub fn first_number(words: &[u8], least: u64, most: u64) -> Option<(u64, &[u8])>
     ensures some { IfSome result (λ p. Leads least most p.0 p.1.now words.now) }
     ensures none { IsNone result → (n : ℕ) (rest : List ℕ) → Leads least most n rest words.now → ⊥ }

@@ -11,11 +11,11 @@ pub record ServerValue : Type 0 where
   pub received : ℕ
   pub failed : Bool
 
--- what a replica is given at the datagram of that number: its bytes, and a tick behind every 64th
+-- what a replica is given at the datagram of that number: its bytes, and a tick after every 64th
 abbrev pub inputs : ℕ → List ℕ → List (Option (List ℕ))
 inputs number bytes = if number % 64 == 0 then Some bytes ∷ None ∷ [] else Some bytes ∷ []
 
--- a replica that ended was given the datagram, and no more than a tick behind it
+-- a replica that ended was given the datagram, and no more than a tick after it
 abbrev pub EndsBehind : List ℕ → List (Option (List ℕ)) → List (Option (List ℕ)) → Type 0
 EndsBehind bytes old new = (new ≡ old ++ Some bytes ∷ []) ⊎ (new ≡ old ++ Some bytes ∷ None ∷ [])
 

@@ -4,7 +4,7 @@ use lk_types::Op;
 use lk_words::operation::read_operation;
 use std::alloc::{AllocError, Global};
 
-/// Adds a word behind those that stand, with one space between them. Whether it is one word: it has no space itself.
+/// Adds a word after those that stand, with one space between them. Whether it is one word: it has no space itself.
 fn add_word(text: &mut Vec<u8>, is_first: bool, word: &str) -> Result<bool, AllocError> {
     if !is_first {
         text.extend_from_slice(b" ")?;

@@ -32,9 +32,9 @@ const STORY: [(u16, u64, &[u8]); 4] = [
     (1, 2, b"release db 1"),
     (2, 2, b"acquire db"),
 ];
-/// The idle turns behind which a request is sent again.
+/// The idle turns after which a request is sent again.
 const PATIENCE: u32 = 200;
-/// The idle turns behind which nothing is waited for any more.
+/// The idle turns after which nothing is waited for any more.
 const IDLE_TURNS: u32 = 10_000;
 /// The turns between two idle ones, at most.
 const TURNS: u64 = 1 << 48;
@@ -180,8 +180,8 @@ impl<M: Machine, S: Datagrams + Drop> Cluster<M, S> {
         Ok(None)
     }
 
-    /// Sends a request, and again behind every 200 idle turns, in each of which a tick comes to each node. Gives its reply,
-    /// or `None` behind 10,000 idle turns.
+    /// Sends a request, and again after every 200 idle turns, in each of which a tick comes to each node. Gives its reply,
+    /// or `None` after 10,000 idle turns.
     fn ask(&mut self, alloc: Global, question: &Question) -> Result<Option<Reply>, ServiceFault> {
         let bytes = datagram(alloc, question)?;
         for idle in 0..IDLE_TURNS {

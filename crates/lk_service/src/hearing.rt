@@ -9,7 +9,7 @@ use std::net::SocketAddr;
 
 impl Addresses {
     /// Keeps from where a datagram of the cluster came: a client's request, or what a node says. All else is passed over,
-    /// also a datagram that could not be read for want of memory.
+    /// also a datagram that could not be read when out of memory.
     pub fn hear(&mut self, alloc: Global, cluster: u64, bytes: &[u8], from: SocketAddr)
         ensures { Hears cluster bytes.now from self.old self.new }
     {

@@ -157,7 +157,7 @@ module _ (m : Meaning) (genesis : Genesis) (sent : List Datagram) (sound : Sound
 
 -- ---- it stays so
 
--- where two lists that were joined are parted
+-- where two lists that were joined are separated
 parted_at : {X : Type 0} (xs ys front back : List X) → xs ++ ys ≡ front ++ back → ((rest : List X) × (xs ≡ front ++ rest)) ⊎ ((more : List X) × (front ≡ xs ++ more) × (ys ≡ more ++ back))
 parted_at [] ys front back e = inr (front, refl, e)
 parted_at (x ∷ xs) ys [] back e = inl (x ∷ xs, refl)

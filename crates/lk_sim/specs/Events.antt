@@ -60,14 +60,14 @@ StaysDown b device header number left = b.Revives device header (Err (number, le
 abbrev pub FailsToPack : {R : Type 0} → Behaviour R → R → ℕ → Memory → Type 0
 FailsToPack {R = R} b r number left = (q : R) × b.Compacts r q (Err number) × RefusedAfter number (b.memory r).meter left.meter × (left ≡ b.memory q)
 
--- a fault is not for want of memory
+-- a fault is not "out of memory"
 pub record IsNoWant (number : ℕ) (left : Memory) : Type 0 where
   pub memory : number ≡ 8 → ⊥
   pub halted : number ≡ 14 → ⊥
   pub letters : number ≡ 15 → ⊥
   pub starved : left.meter.starved ≡ false
 
--- a fault is for want of memory
+-- a fault is "out of memory"
 abbrev pub IsWant : ℕ → Memory → Type 0
 IsWant number left = (number ≡ 8) ⊎ (number ≡ 14) ⊎ (number ≡ 15) ⊎ (left.meter.starved ≡ true)
 
@@ -113,7 +113,7 @@ pub record Falls {R : Type 0} (Ends : ℕ → Memory → Type 0) (old new : Scen
 
 -- ---- a node is given something
 
--- it goes on: all calls of its device have passed, no armed stop came at a send, what its replica noted and sent was added, behind a
+-- it goes on: all calls of its device have passed, no armed stop came at a send, what its replica noted and sent was added, after a
 -- request that was just asked, and its answers and passes were noted as they were sent
 pub record GoesOn {R : Type 0} (b : Behaviour R) (old new : Scene R) (r : R) (t : Seat R) (o : Option (List ℕ)) (asked : List Note) : Type 0 where
   pub replica : R

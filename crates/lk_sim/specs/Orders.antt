@@ -23,7 +23,7 @@ pub record CountsBefore (L : List Command) (i client number : ℕ) : Type 0 wher
   pub of_number : request.number ≡ number
   pub counts : CountsAt L place request
 
--- wherever a trace is parted: what was answered in its front counts in each chosen list in front of each request that counts
+-- wherever a trace is separated: what was answered in its front counts in each chosen list in front of each request that counts
 -- there and was not asked in that front
 abbrev pub InOrder : Genesis → List Datagram → List Note → Type 0
 InOrder genesis sent trace =

@@ -41,7 +41,7 @@ pub record HasHalted {R : Type 0} (Left : Memory → Type 0) (s : Seat R) : Type
   pub left : Left device
   pub down : s.life ≡ Down (stopped_on 0 0 device)
 
--- a fault of that kind, for want of memory, has stopped it, on the disks that it left, of whose unsynced bytes none is left
+-- a fault of that kind, when out of memory, has stopped it, on the disks that it left, of whose unsynced bytes none is left
 pub record HasWanted {R : Type 0} (Ends : ℕ → Memory → Type 0) (s : Seat R) : Type 0 where
   pub number : ℕ
   pub left : Memory
@@ -88,7 +88,7 @@ pub record HasPacked {R : Type 0} (b : Behaviour R) (r : R) (s : Seat R) (mine :
   pub ended : how ≡ None
   pub no_stop : stop ≡ None
 
--- what it noted and sent was added, behind what was just asked, and its answers and passes were noted as they were sent
+-- what it noted and sent was added, after what was just asked, and its answers and passes were noted as they were sent
 pub record HasAdded {R : Type 0} (old new : Scene R) (asked mine : List Note) (batch : List Datagram) (how : Option End) : Type 0 where
   pub told : List Note
   pub tells : Tells batch told

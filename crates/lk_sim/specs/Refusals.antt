@@ -84,7 +84,7 @@ NoInjection seats sent n bytes Forged = IsUp seats n × IsForged bytes
 NoInjection seats sent n bytes WorldFull = IsUp seats n × (IsForged bytes → ⊥) × IsFull sent
 NoInjection seats sent n bytes _ = ⊥
 
--- the event is refused so, and not for want of memory
+-- the event is refused so, and not when out of memory
 abbrev pub MayNot : {R : Type 0} → Scene R → Event → Refused → Type 0
 MayNot w (event.Start n) e = NoStart w.seats n e
 MayNot w (event.Restart n) e = NoRestart w.seats n e

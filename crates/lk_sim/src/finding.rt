@@ -8,7 +8,7 @@ use crate::seat::{Life, Seat};
 use lk_replica::Datagram;
 use lk_types::NodeNo;
 
-// More datagrams than this may stand behind a step, but no step begins then.
+// More datagrams than this may stand after a step, but no step begins then.
 const MAX_DATAGRAMS: usize = 99_000;
 
 /// The place of the node of this number.

@@ -55,7 +55,7 @@ fn join(
     Ok(())
 }
 
-/// Keeps what a call came to, behind a request that was just asked, or nothing of it.
+/// Keeps what a call came to, after a request that was just asked, or nothing of it.
 pub fn add<R: MemoryReplica>(
     parts: &mut Parts<R>,
     asked: Option<Request>,

@@ -93,7 +93,7 @@ pub fn rest<R: MemoryReplica>(alloc: Global, seat: &mut Seat<R>, at: Option<usiz
     }
 }
 
-// Whether the fault is for want of memory: a letter is lost in memory for nothing else.
+// Whether the fault is "out of memory": a letter is lost in memory for nothing else.
 fn is_wanting(fault: &ReplicaFault, device: &MemoryDisk) -> bool
     ensures no_want { result ≡ false → IsNoWant (fault_number fault.now) device.now }
     ensures want { result ≡ true → IsWant (fault_number fault.now) device.now }
@@ -105,7 +105,7 @@ fn is_wanting(fault: &ReplicaFault, device: &MemoryDisk) -> bool
         )
 }
 
-/// A fault leaves the node down, on the disks as they are; want of memory stops it. Either way the trap is gone, and the
+/// A fault leaves the node down, on the disks as they are; being out of memory stops it. Either way the trap is gone, and the
 /// device forgets that it was starved. Where the fault is that of an armed stop, that is told, and still to be made.
 pub fn fall<R: MemoryReplica>(
     alloc: Global,

@@ -19,7 +19,7 @@ use Rattle.lk_state.proofs.ReplyLaws.{session_now, reply_here, mine_is_asked}
 older-is_new_last : (m : Meaning) (genesis : Genesis) (L : List Command) (r : RequestValue) → list_all (is_older r) L ≡ is_new (last_served m genesis L r.client) r.number
 older-is_new_last m genesis L r = is_older-is_new m genesis L r ∙ ap (λ (o : Option Session). is_new o r.number) (sym (last_served-session_of m genesis L r.client))
 
--- a request counts behind a list exactly where its number is above that of its client's last one that counts
+-- a request counts after a list exactly where its number is above that of its client's last one that counts
 pub counts_above_last : (m : Meaning) (genesis : Genesis) (L : List Command) (r : RequestValue) → counted L (Request r) ≡ cond (is_new (last_served m genesis L r.client) r.number) (Some r) None
 counts_above_last m genesis L r = ap (λ (b : Bool). cond b (Some r) None) (older-is_new_last m genesis L r)
 

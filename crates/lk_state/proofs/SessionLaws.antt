@@ -144,7 +144,7 @@ none_above client low (s ∷ l) le h =
     let other : eqb s.client client ≡ false = ne_eqb s.client client (λ e. omega arith) in
     rw other (none_above client s.client l (omega arith) parts.1)
 
--- in rising sessions a client's stands behind those of smaller clients, or nowhere
+-- in rising sessions a client's stands after those of smaller clients, or nowhere
 pub session_of-before : (client low : ℕ) (l : List Session) → are_sessions_above low l ≡ true → session_of client l ≡ own client (slice_get l (before client l))
 session_of-before client low [] h = refl
 session_of-before client low (s ∷ l) h =

@@ -43,7 +43,7 @@ ledger-push m genesis L c =
     ∙ filter_map-append (λ (p : Placed). served m genesis p) (placed L) (p ∷ [])
     ∙ ap (λ (s : List Session). ledger m genesis L ++ s) (entered_is m genesis p (served m genesis p) refl)
 
--- the machine's text behind a request that counts, or none
+-- the machine's text after a request that counts, or none
 abbrev pub text_behind : Meaning → List ℕ → Option RequestValue → List ℕ
 text_behind m text None = text
 text_behind m text (Some q) = next_text m text q.client q.op
@@ -183,7 +183,7 @@ counts_more m genesis L c so_far r =
     ∙ behind_one m genesis L c so_far r
     ∙ ap (λ (l : List Session). is_new (session_of r.client l) r.number) (sym (sessions_of-push m genesis L c))
 
--- a request counts behind a list exactly where its number is above its client's last one
+-- a request counts after a list exactly where its number is above its client's last one
 pub is_older-is_new : (m : Meaning) (genesis : Genesis) (L : List Command) → CountsBySessions m genesis L
 is_older-is_new m genesis = by_pushes (CountsBySessions m genesis) (λ r. rw (nothing_served m genesis) refl) (counts_more m genesis)
 
@@ -213,7 +213,7 @@ same_whole a b roster sessions text =
     let made : RosterValue → List Session → List ℕ → WholeValue = λ r s t. record { roster = r; sessions = s; text = t } in
     ap (λ (r : RosterValue). made r a.sessions a.text) roster ∙ ap (λ (s : List Session). made b.roster s a.text) sessions ∙ ap (λ (t : List ℕ). made b.roster b.sessions t) text
 
--- what stands behind one command more
+-- what stands after one command more
 pub ran-whole_after : (m : Meaning) (genesis : Genesis) (L : List Command) (c : Command) → ran m c (whole_after m genesis L) ≡ whole_after m genesis (L ++ c ∷ [])
 unfolding whole_after
 ran-whole_after m genesis L c =
@@ -237,7 +237,7 @@ last_entered : (last : Option Session) (client : ℕ) (o : Option Session) → f
 last_entered last client None = refl
 last_entered last client (Some s) = refl
 
--- the client's last request behind one entry more
+-- the client's last request after one entry more
 pub last_served-push : (m : Meaning) (genesis : Genesis) (L : List Command) (c : Command) (client : ℕ) → last_served m genesis (L ++ c ∷ []) client ≡ session_or client (last_served m genesis L client) (served_here m genesis L c)
 last_served-push m genesis L c client =
     ap (fold (λ (last : Option Session) (s : Session). cond (eqb s.client client) (Some s) last) None) (ledger-push m genesis L c)

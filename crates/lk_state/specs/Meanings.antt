@@ -9,7 +9,7 @@ pub data Task : Type 0 where
   Body : List ℕ → Task
   Raising : Task
 
--- the text of a machine that has run nothing, the text behind a task of a client, and what the client is answered
+-- the text of a machine that has run nothing, the text after a task of a client, and what the client is answered
 pub record Meaning : Type 0 where
   pub first : List ℕ
   pub next : ℕ → Task → List ℕ → List ℕ

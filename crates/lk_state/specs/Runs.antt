@@ -11,7 +11,7 @@ use Rattle.lk_state.specs.States.{WholeValue, next_text, op_answer}
 use Rattle.lk_state.specs.declared.whole.Seen.{Seen}
 use Rattle.lk_state.specs.declared.whole.Seen.TheVariants as seen
 
--- the request that the command is, where it counts behind these sessions
+-- the request that the command is, where it counts after these sessions
 abbrev pub counted_now : List Session → Command → Option RequestValue
 counted_now sessions Noop = None
 counted_now sessions (Request r) = if is_new (session_of r.client sessions) r.number then Some r else None
@@ -30,7 +30,7 @@ served_by m w (Some r) =
       text = next_text m w.text r.client r.op;
     }
 
--- what stands behind the command
+-- what stands after the command
 abbrev pub ran : Meaning → Command → WholeValue → WholeValue
 ran m command w = served_by m w (counted_now w.sessions command)
 

@@ -9,7 +9,7 @@ use Rattle.lk_members.specs.Windows.{RosterValue, roster_after}
 use Rattle.lk_state.specs.Meanings.{Meaning, Body, Raising}
 use Rattle.lk_state.specs.Sessions.{Session, with_session}
 
--- the machine's text behind an op: joins and leaves are none of its own
+-- the machine's text after an op: joins and leaves are none of its own
 abbrev pub next_text : Meaning → List ℕ → ℕ → Op → List ℕ
 next_text m text client (Table body) = m.next client (Body body) text
 next_text m text client (Join node port) = text
@@ -23,7 +23,7 @@ op_answer m roster text client (Join node port) = join_answer roster node
 op_answer m roster text client (Leave node) = leave_answer roster node
 op_answer m roster text client Raise = m.answer client Raising text
 
--- the machine's text behind the requests that count, in order
+-- the machine's text after the requests that count, in order
 unfoldable pub text_of : Meaning → List Command → List ℕ
 text_of m L = fold (λ text q. next_text m text q.client q.op) m.first (counting L)
 

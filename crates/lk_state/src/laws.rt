@@ -14,7 +14,7 @@ ghost use Rattle.lk_state.specs.Packed.{IsWhole};
 
 use crate::machine::Machine;
 
-/// A request counts behind a list exactly where its number is above that of its client's last one that counts.
+/// A request counts after a list exactly where its number is above that of its client's last one that counts.
 pub fn counts_above_last()
     ensures { (m : Meaning) (genesis : Genesis) (L : List Command) (r : RequestValue) → counted L (Request r) ≡ (if is_new (last_served m genesis L r.client) r.number then Some r else None) }
 {}

@@ -73,7 +73,7 @@ pub trait Machine: Sized + Drop {
     // the text of a machine that has run nothing
     ghost first: { List ℕ };
 
-    // the text behind a task of a client, by the text before it
+    // the text after a task of a client, by the text before it
     ghost next: { ℕ → Task → List ℕ → List ℕ };
 
     // what the client is answered, by the text before its task

@@ -134,7 +134,7 @@ fn fresh<R: Files + Alloc>(rt: &R, folder: &str) -> Result<(), Fail> {
     Ok(fs::create_dir(rt, folder)?)
 }
 
-// What is read, the lengths, whether a cut and a read past the end are refused, and the lengths behind a cut.
+// What is read, the lengths, whether a cut and a read past the end are refused, and the lengths after a cut.
 fn used<R: Files>(rt: &R, alloc: Global, folder: &str) -> Result<bool, Fail> {
     let mut disk = FileDisk::open(rt, alloc, folder)?;
     let is_read = written(&mut disk)? == *b"bcde";

@@ -52,7 +52,7 @@ const DECIDED: &str = "0000000000000001 01 01 0007 0000000000000001 00 03 01 01 
 const LATER_VOTE: &str =
     "0000000000000001 00000001 0000000000000002 01 0008 0000000000000005 00 03 01 01 62";
 
-// The ballot (1, 1) behind the first position.
+// The ballot (1, 1) after the first position.
 const PREPARE_NEXT: &str = "0000000000000001 00000001 0000000000000002";
 
 const LEAD_NEXT: &str = "0000000000000001 00000001 0000000000000001";
@@ -68,7 +68,7 @@ const REFUSED: &str = "0000000000000001 00000001 0000000000000005 00000002 00000
 
 const ABOVE: &str = "0000000000000006 00000001 0000000000000001";
 
-// The Base of node 1 up to the promised ballot, and the state of three nodes with alpha 1 behind its position.
+// The Base of node 1 up to the promised ballot, and the state of three nodes with alpha 1 after its position.
 const BASE: &str =
     "00000072 01 0000000000000001 01 0000000000000005 00000001 01 03 00000001 1b59 00000002 1b59 00000003 1b59";
 
@@ -94,7 +94,7 @@ const SEEN: [&str; 5] = [
     "0000 0000",
 ];
 
-// Two no-ops are decided behind them.
+// Two no-ops are decided after them.
 const TWO_NOOPS: Turn<'static> = (Said(SECOND, "06", "0000000000000101 02 00 00"), NOTHING);
 
 // Requests of client 7, and what each is answered.
@@ -327,7 +327,7 @@ const DIALOGUES: [Dialogue; 13] = [
             ),
         ],
     ),
-    // What is wanted behind the snapshot is served, to any node; a datagram of another cluster and bytes of none are nothing.
+    // What is wanted after the snapshot is served, to any node; a datagram of another cluster and bytes of none are nothing.
     (
         Start::TakenUp(&SEEN),
         &[

@@ -30,7 +30,7 @@ const BROKEN: [Row; 11] = [
     (9, 5, "03 02", "27"),
 ];
 
-// What the table packs to behind these.
+// What the table packs to after these.
 const BROKEN_TABLE: &str = "ff02 0001 02 6462 0000000000000002 01 0009";
 
 // Eight clients share a name, and the ninth may not. The last of them leaves, and it may.
@@ -73,7 +73,7 @@ fn is_answered(alloc: Global, state: &mut State, row: Row) -> Result<bool, Fail>
     Ok(&out[..] == wanted.as_slice())
 }
 
-// The state behind the rows, or the first of them that is answered another way.
+// The state after the rows, or the first of them that is answered another way.
 fn served<'a>(alloc: Global, rows: &[Row<'a>]) -> Result<Result<State, Row<'a>>, Fail> {
     let genesis = Genesis::of(5, 1, &[Member::default()])?;
     let mut state: State = Whole::begin(alloc, &genesis);

@@ -1,4 +1,4 @@
-//! What a replica takes up, and answers behind failed calls and stops.
+//! What a replica takes up, and answers after failed calls and stops.
 
 use crate::digits::bytes_of;
 use crate::second::header;
@@ -65,7 +65,7 @@ const WITH_PORT_7004: &str =
 const BASE: &str =
     "00000072 01 0000000000000001 01 0000000000000005 00000002 01 03 00000001 1b59 00000002 1b5a 00000003 1b5b 0000000000000001 00000001";
 
-// The state of three nodes with alpha 1 that have executed 256 positions, behind its length, and no vote or pair.
+// The state of three nodes with alpha 1 that have executed 256 positions, after its length, and no vote or pair.
 const SNAPSHOT: &str =
     "0000002c 0000000000000100 01 03 00000001 1b59 00000002 1b5a 00000003 1b5b 00000003 0000000000000000 0000 0000 0000 0000";
 
@@ -118,7 +118,7 @@ const FILES: [Row; 27] = [
     (&[BEGUN, "00010001"], &[], (9, 0, 122, 0)),
     (&[BEGUN, "00000000"], &[], (9, 0, 122, 0)),
     (&[BEGUN, "00000001 09"], &[], (9, 0, 123, 0)),
-    // Two Bases of one generation, two in one file, and entries behind none.
+    // Two Bases of one generation, two in one file, and entries after none.
     (&[BEGUN], &[BEGUN], (9, 0, 118, 118)),
     (&[BEGUN, SECOND_BEGUN], &[], (9, 0, 236, 0)),
     (&[PROMISED], &[], (9, 0, 17, 0)),
@@ -153,7 +153,7 @@ fn device_of(alloc: Global, a: &[&str], b: &[&str]) -> Result<MemoryDisk, Fail> 
     Ok(device)
 }
 
-// The number of the refusal of the device, 0 for none, how many notes there are, and the lengths behind it.
+// The number of the refusal of the device, 0 for none, how many notes there are, and the lengths after it.
 fn outcome(alloc: Global, device: MemoryDisk) -> Result<(u8, usize, usize, usize), Fail> {
     let revived: Result<_, ReviveFault<MemoryDisk>> = <OnDisks as MemoryReplica>::revive(
         alloc,
@@ -275,7 +275,7 @@ struct Sent {
     vote: bool,
 }
 
-// The device behind a failed run, and what was sent in it.
+// The device after a failed run, and what was sent in it.
 fn run(alloc: Global, device: MemoryDisk) -> Result<(MemoryDisk, Sent), Fail> {
     let mut replica: OnDisks = match MemoryReplica::revive(alloc, device, &header()?) {
         Ok(revived) => revived.replica,
@@ -314,7 +314,7 @@ fn covers_failed(alloc: Global, call: u64, kept: usize) -> Result<bool, Fail> {
     Ok(covers(alloc, once, kept)? && covers(alloc, always, kept)?)
 }
 
-// The first call, if any, behind whose failure something is not covered.
+// The first call, if any, after whose failure something is not covered.
 fn first_uncovered(alloc: Global, kept: usize) -> Result<Option<u64>, Fail> {
     for call in 0..9 {
         if !covers_failed(alloc, call, kept)? {

@@ -130,7 +130,7 @@ fn decided(one: NodeNo) -> Result<[Event; 11], Fail> {
     ])
 }
 
-// Whether the run ended by want of memory at its last event.
+// Whether the run ended by being out of memory at its last event.
 fn is_starved(end: RunEnd, events: usize) -> bool {
     end.done.saturating_add(1) == events && end.refused == Some(Refused::WorldMemory)
 }

@@ -8,7 +8,7 @@ use std::test::Fail;
 
 type State = Whole<LockTable>;
 
-// The first state of node 1 at port 7001 with alpha 2, and one behind a join of node 4 and a leave of node 1.
+// The first state of node 1 at port 7001 with alpha 2, and one after a join of node 4 and a leave of node 1.
 const STATES: [&[&str]; 2] = [
     &[
         "0000000000000000 02 01 00000001 1b59 01 00000001 1b59 00000001 0000000000000000",

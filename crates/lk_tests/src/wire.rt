@@ -47,7 +47,7 @@ const DATAGRAMS: [Row; 34] = [
     ("4c4b010a 0000000000000005 00000001 0007 0000000000000001 27", "Message { cluster: 5, content: Node(NodeNo { value: 1 }, Answer(Answered { client: ClientNo { value: 7 }, number: RequestNumber { value: 1 }, answer: AlreadyRaised })) }"),
 ];
 
-// What stands in front, the last that is taken, the first that is not, what stands behind.
+// What stands in front, the last that is taken, the first that is not, what stands after.
 type Limit<'a> = (&'a str, &'a str, &'a str, &'a str);
 
 #[rattlefmt::skip]

@@ -7,7 +7,7 @@ use Rattle.lk_wire.specs.Fronts.{Keeps}
 pub keeps_same : (old new : List ℕ) → new ≡ old → Keeps old new
 keeps_same old new e = record { front = ap (take (length old)) e ∙ take-length old }
 
--- the same behind what was added before
+-- the same after what was added before
 pub keeps_behind : (old mid new added : List ℕ) → mid ≡ old ++ added → Keeps mid new → Keeps old new
 keeps_behind old mid new added e k =
     let rest = drop (length mid) new in

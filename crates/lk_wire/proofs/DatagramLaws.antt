@@ -21,9 +21,9 @@ use Rattle.lk_wire.proofs.NumberLaws.{four_reads, eight_reads}
 use Rattle.lk_wire.proofs.FieldLaws.{is_in, passes, request_reads}
 use Rattle.lk_wire.proofs.MessageLaws.{node_takes, node_again, kind_fits, kind_other}
 
--- ---- behind the header
+-- ---- after the header
 
--- what stands behind a header of this kind and sender
+-- what stands after a header of this kind and sender
 record Holds (k from : ℕ) (bytes : List ℕ) (c : Content) (rest : List ℕ) : Type 0 where
   kind_is : kind c ≡ k
   sender_is : sender c ≡ from

@@ -1,4 +1,4 @@
--- What stands behind a tag, kind by kind: a further kind is one more `kind_takes` or `bare_takes`.
+-- What stands after a tag, kind by kind: a further kind is one more `kind_takes` or `bare_takes`.
 use Rattle.std.proofs.Common.{◌≡◌, ℕ, eqb, List, [], ◌∷◌, ◌++◌, Option, Some, sym, ap, subst, ◌∙◌, inl, inr}
 use Rattle.std.proofs.lemmas.Bool.{eqb-true}
 use Rattle.lk_wire.specs.Parser.{made, tagged, kind, bare, no_kind}
@@ -9,7 +9,7 @@ pub record Behind {X : Type 0} (tag : X → ℕ) (s : X → List ℕ) (F : X →
   pub tag_is : tag x ≡ t
   pub took : Took s F bytes x rest
 
--- whatever is read behind a tag is a value of that tag
+-- whatever is read after a tag is a value of that tag
 pub record TakesKinds {X : Type 0} (tag : X → ℕ) (s : X → List ℕ) (F : X → Type 0) (q : ℕ → List ℕ → Option (X × List ℕ)) : Type 0 where
   pub takes : (t : ℕ) (bytes : List ℕ) (x : X) (rest : List ℕ) → IsBytes bytes → q t bytes ≡ Some (x, rest) → Behind tag s F t bytes x rest
 
@@ -39,7 +39,7 @@ module _ {X : Type 0} where
       let b = r.takes t bytes x rest (IsBytes-rest t bytes h) e in
       record { parts = ap (λ (w : List ℕ). t ∷ w) b.took.parts ∙ ap (λ (n : ℕ). n ∷ (s x ++ rest)) (sym b.tag_is); rest_fits = b.took.rest_fits; fits = b.took.fits }
 
-  -- a tag in one byte, and what stands behind it
+  -- a tag in one byte, and what stands after it
   pub tagged_reads : (tag : X → ℕ) (s : X → List ℕ) (F : X → Type 0) (q : ℕ → List ℕ → Option (X × List ℕ)) → TakesKinds tag s F q → ((x : X) (rest : List ℕ) → F x → q (tag x) (s x ++ rest) ≡ Some (x, rest))
       → Reads (tagged q) (λ (x : X). tag x ∷ s x) F
   tagged_reads tag s F q r again = record { takes = tagged_takes tag s F q r; again = again }

@@ -1,4 +1,4 @@
--- Numbers of a fixed width, and bytes behind their length.
+-- Numbers of a fixed width, and bytes after their length.
 use Rattle.std.proofs.Common.{◌≡◌, ℕ, ◌^◌, ◌<◌, ◌≤◌, false, cond, ltb, List, ◌++◌, length, take, drop, Option, Some, None, refl, sym, ap, subst, ◌∙◌, append_assoc, arith, inl, inr}
 use Rattle.std.specs.Int.{Width, w16, w32, w64, byte_len, from_be_bytes, to_be_bytes}
 use Rattle.std.proofs.lemmas.Bool.{ltb-false, le-ltb}
@@ -75,7 +75,7 @@ pub eight_reads : Reads read_eight eight (λ (n : ℕ). n < 2 ^ 64)
 unfolding eight read_eight
 eight_reads = number_reads w64 (2 ^ 64) wide64
 
--- ---- bytes behind their length
+-- ---- bytes after their length
 
 sized_takes : (c : List ℕ → Option (ℕ × List ℕ)) (t : ℕ → List ℕ) (C : ℕ → Type 0) → Reads c t C
     → (bytes text rest : List ℕ) → IsBytes bytes → sized c bytes ≡ Some (text, rest) → Took (λ (text : List ℕ). t (length text) ++ text) (λ (text : List ℕ). C (length text)) bytes text rest

@@ -45,7 +45,7 @@ op_tag (Join node port) = 1
 op_tag (Leave node) = 2
 op_tag Raise = 3
 
--- behind a Raise stands the version that the machine is raised to, which is 2
+-- after a Raise stands the version that the machine is raised to, which is 2
 abbrev pub op_fields : Op → List ℕ
 op_fields (Table bytes) = payload bytes
 op_fields (Join node port) = member (record { node = node; port = port })

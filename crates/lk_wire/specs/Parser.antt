@@ -1,4 +1,4 @@
--- Reading from the front of a list: a value and the bytes behind it. Readers of bigger things are built of smaller ones.
+-- Reading from the front of a list: a value and the bytes after it. Readers of bigger things are built of smaller ones.
 use Rattle.std.specs.Prelude.{◌≡◌, ℕ, zero, suc, Bool, List, [], ◌∷◌, length, take, drop, Option, Some, None, nat_lt, ◌==◌, if◌then◌else◌}
 use Rattle.std.specs.Int.{Width, byte_len, from_be_bytes}
 
@@ -47,15 +47,15 @@ module _ {X : Type 0} where
   abbrev pub counted : (List ℕ → Option (ℕ × List ℕ)) → (List ℕ → Option (X × List ℕ)) → List ℕ → Option (List X × List ℕ)
   counted c p bytes = c bytes >>= λ n. many p n.0 n.1
 
-  -- a byte that says what stands behind it
+  -- a byte that says what stands after it
   abbrev pub tagged : (ℕ → List ℕ → Option (X × List ℕ)) → List ℕ → Option (X × List ℕ)
   tagged q bytes = read_byte bytes >>= λ t. q t.0 t.1
 
-  -- behind the tag k this, behind another one what the others say
+  -- after the tag k this, after another one what the others say
   abbrev pub kind : ℕ → (List ℕ → Option (X × List ℕ)) → (ℕ → List ℕ → Option (X × List ℕ)) → ℕ → List ℕ → Option (X × List ℕ)
   kind k p others tag bytes = if tag == k then p bytes else others tag bytes
 
-  -- nothing stands behind the tag, which says it all
+  -- nothing stands after the tag, which says it all
   abbrev pub bare : X → List ℕ → Option (X × List ℕ)
   bare x bytes = Some (x, bytes)
 

@@ -99,7 +99,7 @@ node_of =
 unfoldable pub read_asked : ℕ → List ℕ → Option (Content × List ℕ)
 read_asked from bytes = if from == 0 then made content.Request read_request bytes else None
 
--- what stands behind the header
+-- what stands after the header
 unfoldable pub content_of : ℕ → ℕ → List ℕ → Option (Content × List ℕ)
 content_of k from bytes =
     if k == 9 then read_asked from bytes

@@ -1,5 +1,5 @@
 //! The fields of which datagrams, store entries and packed states are built, read from the front of some bytes and
-//! written behind some.
+//! written after some.
 
 pub(crate) mod number;
 mod put;

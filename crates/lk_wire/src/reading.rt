@@ -61,7 +61,7 @@ fn read_asked(sender: u32, bytes: &[u8]) -> Option<(Content, &[u8])>
     Some((Content::Request(request), rest))
 }
 
-/// What stands behind the header.
+/// What stands after the header.
 #[tactic(auto, unfolding(crate::specs::Reading::content_of))]
 fn content_of(
     alloc: Global,

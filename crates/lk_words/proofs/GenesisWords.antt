@@ -6,7 +6,7 @@ use Rattle.lk_words.specs.Words.{HasNo}
 use Rattle.lk_words.specs.Geneses.{SpellsGenesis}
 use Rattle.lk_words.proofs.Splits.{one_parting, number_has_no}
 
--- the first number, and what stands behind its comma
+-- the first number, and what stands after its comma
 pub cluster_once : (text word words : List ℕ) (cluster alpha : ℕ) (ms : List Member) → (s : SpellsGenesis text cluster alpha ms) → HasNo 44 word → text ≡ word ++ 44 ∷ words
     → (word ≡ decimal cluster) × (words ≡ decimal alpha ++ 44 ∷ s.words)
 cluster_once text word words cluster alpha ms s free e =

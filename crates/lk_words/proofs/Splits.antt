@@ -8,7 +8,7 @@ use Rattle.std.specs.Fmt.{decimal}
 use Rattle.std.specs.List.{list_any}
 use Rattle.lk_words.specs.Words.{HasNo, HasNoSpace}
 
--- ---- a text is parted at any sign
+-- ---- a text is separated at any sign
 
 module _ (sign : ℕ) where
   tail : (z : ℕ) (w : List ℕ) → HasNo sign (z ∷ w) → HasNo sign w
@@ -20,7 +20,7 @@ module _ (sign : ℕ) where
   no_first : (z : ℕ) (w : List ℕ) → HasNo sign (z ∷ w) → z ≡ sign → ⊥
   no_first z w h e = let same : (z == sign) ≡ true = eq-eqb z sign e in cc (h, same)
 
-  -- a text is parted in one way
+  -- a text is separated in one way
   pub one_parting : (a c b d : List ℕ) → HasNo sign a → HasNo sign c → a ++ sign ∷ b ≡ c ++ sign ∷ d → (a ≡ c) × (b ≡ d)
   one_parting [] [] b d ha hc e = (refl, cc e)
   one_parting [] (y ∷ c) b d ha hc e = let first : y ≡ sign = cc e in absurd (no_first y c hc first)
@@ -66,7 +66,7 @@ number_has_no_colon = decimal_by_steps (λ _ ds. HasNo 58 ds)
     (λ n small. last 58 [] (48 + n) (grind (arith, common_steps)) refl)
     (λ n ds large h. last 58 ds (48 + n % 10) (grind (arith, common_steps)) h)
 
--- two numbers with a space behind them, in front of the same text, are one
+-- two numbers with a space after them, in front of the same text, are one
 pub one_number_behind : (text : List ℕ) (m n : ℕ) (a b : List ℕ) → m < 2 ^ 64 → n < 2 ^ 64 → text ≡ decimal m ++ 32 ∷ a → text ≡ decimal n ++ 32 ∷ b → (m ≡ n) × (a ≡ b)
 one_number_behind text m n a b sm sn em en =
     let parts = one_way text (decimal m) a (decimal n) b (number_has_no_space m sm) em (number_has_no_space n sn) en in

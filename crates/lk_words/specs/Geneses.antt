@@ -9,7 +9,7 @@ use Rattle.lk_types.specs.declared.member.Member.{Member}
 abbrev pub IsMemberWord : Member → List ℕ → Type 0
 IsMemberWord m word = IsNode m.node × IsPort m.port × (word ≡ decimal m.node ++ 58 ∷ decimal m.port)
 
--- members in words, one or more, parted by a sign
+-- members in words, one or more, separated by a sign
 pub data SpellsMembers (sign : ℕ) : List ℕ → List Member → Type 0 where
   one : (m : Member) (word : List ℕ) → IsMemberWord m word → SpellsMembers sign word (m ∷ [])
   more : (m : Member) (word rest : List ℕ) (members : List Member) → IsMemberWord m word → SpellsMembers sign rest members → SpellsMembers sign (word ++ sign ∷ rest) (m ∷ members)

@@ -16,7 +16,7 @@ use Rattle.lk_words.specs.declared.verb.Verb.TheVariants as verb
 abbrev pub IsNameWord : List ℕ → Type 0
 IsNameWord word = (1 ≤ length word) × (length word ≤ 54) × HasNoSpace word
 
--- a body: its first byte, the name behind its length, and the rest
+-- a body: its first byte, the name after its length, and the rest
 abbrev pub body : ℕ → List ℕ → List ℕ → List ℕ
 body kind name rest = kind ∷ length name ∷ (name ++ rest)
 
@@ -46,7 +46,7 @@ AsksToRaise words o = (words ≡ codes "2") × (o ≡ Raise)
 abbrev pub AsksInHex : List ℕ → Op → Type 0
 AsksInHex digits o = (bytes : List ℕ) × (decode_of digits ≡ Ok bytes) × IsPayload bytes × (o ≡ Table bytes)
 
--- what the words behind a verb ask for
+-- what the words after a verb ask for
 abbrev pub Asks : Verb → List ℕ → Op → Type 0
 Asks verb.Acquire = AsksOfName 1
 Asks verb.Release = AsksOfFence 2

@@ -16,7 +16,7 @@ use lk_types::{NodeNo, Op, Payload, Port};
 /// The most bytes of a name: with its length, a fence and a first byte it fits a body.
 const MAX_NAME_WORD: usize = 54;
 
-/// The body with this first byte, a name and at most eight bytes behind it. `None` where the word is no name.
+/// The body with this first byte, a name and at most eight bytes after it. `None` where the word is no name.
 fn body_of(kind: u8, name: &[u8], rest: &[u8]) -> Option<Payload>
     requires { length rest.now ≤ 8 }
     ensures some { IfSome result (λ b. IsNameWord name.now × (b ≡ body kind name.now rest.now)) }
@@ -127,7 +127,7 @@ fn in_hex(digits: &[u8]) -> Option<Op>
     }
 }
 
-/// What the words behind a verb ask for.
+/// What the words after a verb ask for.
 fn asked(verb: Verb, words: &[u8]) -> Option<Op>
     ensures some { IfSome result (Asks verb words.now) }
     ensures none { IsNone result → (o : Operation) → Asks verb words.now o → ⊥ }
@@ -146,7 +146,7 @@ fn asked(verb: Verb, words: &[u8]) -> Option<Op>
     }
 }
 
-/// What a client asks by words that are parted by one space: `acquire NAME`, `release NAME FENCE`, `ask NAME`,
+/// What a client asks by words that are separated by one space: `acquire NAME`, `release NAME FENCE`, `ask NAME`,
 /// `check NAME FENCE`, `share NAME`, `break NAME FENCE`, `join NODE PORT`, `leave NODE`, `raise 2` or `raw HEX`, or `None`
 /// where they are none of these.
 ///

@@ -1,4 +1,4 @@
-//! Writing a field behind some bytes: its one spelling. Where memory is refused nothing is written. A writer asks for
+//! Writing a field after some bytes: its one spelling. Where memory is refused nothing is written. A writer asks for
 //! its room before it begins, and where that room was there, memory is not refused.
 
 ghost use Rattle.std.specs.Prelude.{◌≡◌, ◌++◌, OnOk, OnErr};
@@ -168,7 +168,7 @@ fn put_payload(out: &mut BytesMut, value: &Payload) -> Result<(), AllocError>
     Ok(())
 }
 
-/// Writes an op behind a byte that says which it is.
+/// Writes an op after a byte that says which it is.
 pub fn put_op(out: &mut BytesMut, value: &Op) -> Result<(), AllocError>
     ensures ok { OnOk result (out.new.items ≡ out.old.items ++ op value.now) }
     ensures err { OnErr result (out.new.items ≡ out.old.items) }
@@ -210,7 +210,7 @@ pub fn put_request(out: &mut BytesMut, value: &Request) -> Result<(), AllocError
     Ok(())
 }
 
-/// Writes a command behind a byte that says whether it is a request.
+/// Writes a command after a byte that says whether it is a request.
 pub fn put_command(out: &mut BytesMut, value: &Command) -> Result<(), AllocError>
     ensures ok { OnOk result (out.new.items ≡ out.old.items ++ command value.now) }
     ensures err { OnErr result (out.new.items ≡ out.old.items) }
@@ -306,7 +306,7 @@ fn put_answer_fields(out: &mut BytesMut, value: &Answer) -> Result<(), AllocErro
     Ok(())
 }
 
-/// Writes an answer behind a byte that says which it is.
+/// Writes an answer after a byte that says which it is.
 pub fn put_answer(out: &mut BytesMut, value: Answer) -> Result<(), AllocError>
     ensures ok { OnOk result (out.new.items ≡ out.old.items ++ answer value) }
     ensures err { OnErr result (out.new.items ≡ out.old.items) }

@@ -1,4 +1,4 @@
-//! Reading a field from the front of some bytes: a value that fits and is spelled there, with the bytes behind it, or
+//! Reading a field from the front of some bytes: a value that fits and is spelled there, with the bytes after it, or
 //! `None` where none is.
 
 ghost use Rattle.std.specs.Prelude.{◌≡◌, ◌<◌, ◌^◌};
@@ -154,7 +154,7 @@ pub fn read_member(bytes: &[u8]) -> Option<(Member, &[u8])>
     value::read_member(bytes)
 }
 
-/// What a request asks for, behind a byte that says which op it is.
+/// What a request asks for, after a byte that says which op it is.
 #[tactic(auto, using(crate::proofs::FrontLaws::op_front))]
 pub fn read_op(bytes: &[u8]) -> Option<(Op, &[u8])>
     ensures front { ReadsFront (λ x. (x.0, x.1.now)) op IsOp bytes.now result }
@@ -172,7 +172,7 @@ pub fn read_request(bytes: &[u8]) -> Option<(Request, &[u8])>
     value::read_request(bytes)
 }
 
-/// Nothing or a request, behind a byte that says which.
+/// Nothing or a request, after a byte that says which.
 #[tactic(auto, using(crate::proofs::FrontLaws::command_front))]
 pub fn read_command(bytes: &[u8]) -> Option<(Command, &[u8])>
     ensures front { ReadsFront (λ x. (x.0, x.1.now)) command IsCommand bytes.now result }
@@ -190,7 +190,7 @@ pub fn read_vote(bytes: &[u8]) -> Option<(Vote, &[u8])>
     value::read_vote(bytes)
 }
 
-/// What a request is answered, behind a byte that says which answer it is.
+/// What a request is answered, after a byte that says which answer it is.
 #[tactic(auto, using(crate::proofs::FrontLaws::answer_front))]
 pub fn read_answer(bytes: &[u8]) -> Option<(Answer, &[u8])>
     ensures front { ReadsFront (λ x. (x.0, x.1.now)) answer IsAnswer bytes.now result }

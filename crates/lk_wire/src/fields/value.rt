@@ -152,7 +152,7 @@ pub fn read_vote(bytes: &[u8]) -> Option<(Vote, &[u8])>
     Some((vote, rest))
 }
 
-/// The answer of a tag behind which nothing stands.
+/// The answer of a tag after which nothing stands.
 #[tactic(auto, unfolding(crate::specs::FieldReading::bare_answer))]
 fn bare_answer<'a>(tag: u8, rest: &'a [u8]) -> Option<(Answer, &'a [u8])>
     ensures { Finds (λ x. (x.0, x.1.now)) result (bare_answer tag rest.now) }

@@ -1,4 +1,4 @@
--- A vote at the position stands behind those below it.
+-- A vote at the position stands after those below it.
 use Rattle.std.proofs.Common.{◌≡◌, Option, length, Bor, refl, sym, subst}
 use Rattle.std.specs.Prelude.{MatchOption}
 use Rattle.std.proofs.lemmas.Bool.{ltb-true, ltb-false}

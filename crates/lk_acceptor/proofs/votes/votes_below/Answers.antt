@@ -1,4 +1,4 @@
--- Rising positions are parted by the one that is looked for.
+-- Rising positions are separated by the one that is looked for.
 use Rattle.std.proofs.Common.{rules, nat_lt}
 use Rattle.std.proofs.lemmas.List.Sorted.{IsPartitionPoint-from_clause, IsPartitionedBy-ltb}
 use Rattle.lk_types.specs.declared.vote.Vote.{Vote}

@@ -1,4 +1,4 @@
--- Rising clients are parted by the one that is looked for.
+-- Rising clients are separated by the one that is looked for.
 use Rattle.std.proofs.Common.{rules, ℕ, nat_lt}
 use Rattle.std.proofs.lemmas.List.Sorted.{IsPartitionPoint-from_clause, IsPartitionedBy-ltb}
 use Rattle.lk_locks.specs.SharerLaws.{clients_rise, place_is_before}

@@ -7,7 +7,7 @@ use Rattle.lk_state.specs.States.{WholeValue}
 use Rattle.lk_replica.proofs.Rerunning.{Comes, comes_kept, comes_run, comes_reached, comes_noted, comes_to, comes_near, comes_far, drop_next}
 use Rattle.lk_replica.proofs.relearning.relearn.Goals as goal
 
--- behind the last pair none is still to come
+-- after the last pair none is still to come
 ended : {m : Meaning} {node : ℕ} {w : WholeValue} {pairs : List Pair} {l : LearnerValue} {notes : List Note} (ps : List Pair) (k : ℕ) → length ps ≤ k → Comes m node w pairs l notes (l.pairs ++ drop k ps) → Comes m node w pairs l notes (l.pairs ++ [])
 ended {m} {node} {w} {pairs} {l} {notes} ps k le = subst (λ (rest : List Pair). Comes m node w pairs l notes (l.pairs ++ rest)) (drop_of_length-le ps le)
 

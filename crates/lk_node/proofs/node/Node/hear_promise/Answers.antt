@@ -1,4 +1,4 @@
--- What goes on behind a promise.
+-- What goes on after a promise.
 use Rattle.lk_node.proofs.TermRules.{promise_goes_on}
 use Rattle.lk_node.proofs.node.Node.hear_promise.Goals as goal
 

@@ -1,4 +1,4 @@
--- The client's session stands behind those of smaller clients.
+-- The client's session stands after those of smaller clients.
 use Rattle.std.proofs.Common.{◌∙◌, ap, sym, ℕ, List}
 use Rattle.std.specs.Prelude.{slice_get}
 use Rattle.lk_state.specs.Sessions.{Session, session_of, own}
