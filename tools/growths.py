@@ -4,8 +4,8 @@
 PROGRAM is one that the gate has built; tools/refusing.c, built by `cc` and loaded in front of its C library, refuses its N-th request for
 memory, N = 1, 2, .. until none is refused. The scripts are those of examples/ and a table whose names are all taken, or those given.
 
-Each run may end in three ways: as the script ends where nothing is refused; by fault 25, behind all that the lines in front of the one that
-wanted memory print; and in world mode by `refused 22 WorldMemory`, behind the same. Which line wanted memory is known from how many
+Each run may end in three ways: as the script ends where nothing is refused; by fault 25, after all that the lines in front of the one that
+wanted memory print; and in world mode by `refused 22 WorldMemory`, after the same. Which line wanted memory is known from how many
 requests a run of the lines up to it makes. The last line is `N passed, M failed`, of scripts, and the status 1 where one failed."""
 import concurrent.futures, os, pathlib, re, subprocess, sys, tempfile
 

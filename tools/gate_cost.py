@@ -1,0 +1,78 @@
+#!/usr/bin/env python3
+"""gate_cost.py [COMMAND ..]: what each crate costs in a run of the gate, `./check` if no command is given.
+
+It runs the command and looks twice a second at the processor time of each process of the prover that the command started: which crate it checks, and
+whether its proof, its tests or its wrong bodies. What a process spent since it was last seen is lost, a second or so of each. At the end it prints a
+table in minutes of a processor, as docs/GATE.md has it, with the machine's load and the share of time that the host took away (`steal`)."""
+import collections, os, pathlib, re, subprocess, sys, threading, time
+
+TOP = pathlib.Path(__file__).resolve().parent.parent
+TICKS = os.sysconf("SC_CLK_TCK")
+
+
+def processes():
+    """Each process: its number, parent, ticks of its own and words."""
+    for folder in pathlib.Path("/proc").glob("[0-9]*"):
+        try:
+            fields = (folder / "stat").read_text().rsplit(")", 1)[1].split()
+            words = (folder / "cmdline").read_bytes().decode(errors="replace").split("\0")
+            where = os.readlink(folder / "cwd")
+        except OSError:
+            continue
+        yield int(folder.name), int(fields[1]), int(fields[11]) + int(fields[12]), words, where
+
+
+def below(top):
+    """The processes below one, itself among them."""
+    found, known = {}, {top}
+    every = sorted(processes())
+    for _ in range(8):
+        for number, parent, ticks, words, where in every:
+            if number in known or parent in known:
+                known.add(number)
+                found[number] = (ticks, words, where)
+    return found
+
+
+def kind_of(words, where):
+    """The crate that a process checks, and what of it: "other" for all but the prover."""
+    line = " ".join(words)
+    named = re.search(r"--crate-name (\w+)", line)
+    if not named:
+        return "other", "proof"
+    if "/rt-" in where or "/rt-edit" in line or "must-fail" in line:
+        return named[1], "wrong bodies"
+    return named[1], "tests" if "--test" in words else "proof"
+
+
+def machine():
+    """The machine's ticks since it began: all, and those that the host took away."""
+    fields = list(map(int, pathlib.Path("/proc/stat").read_text().split("\n")[0].split()[1:9]))
+    return sum(fields), fields[7]
+
+
+def main():
+    start, (all_before, stolen_before) = time.time(), machine()
+    spent, loads = {}, []
+    run = subprocess.Popen(sys.argv[1:] or ["./check"], cwd=TOP)
+    while run.poll() is None:
+        for number, (ticks, words, where) in below(run.pid).items():
+            spent[number, kind_of(words, where)] = ticks
+        loads.append(os.getloadavg()[0])
+        time.sleep(0.5)
+    table = collections.Counter()
+    for (_, kind), ticks in spent.items():
+        table[kind] += ticks / TICKS / 60
+    all_after, stolen_after = machine()
+    crates = [line.split(":")[0] for line in (TOP / "crates.txt").read_text().split("\n") if line and line[0] != "#"] + ["other"]
+    kinds = ("proof", "wrong bodies", "tests")
+    print("| crate | " + " | ".join(kinds) + " |\n|---|" + "---:|" * len(kinds))
+    for crate in crates:
+        print(f"| `{crate}` | " + " | ".join(f"{table[crate, kind]:.1f}" for kind in kinds) + " |")
+    print("| all | " + " | ".join(f"{sum(table[crate, kind] for crate in crates):.1f}" for kind in kinds) + " |")
+    stolen = (stolen_after - stolen_before) / max(1, all_after - all_before)
+    print(f"{sum(table.values()):.1f} processor minutes, {(time.time() - start) / 60:.1f} by the clock, load {sum(loads) / max(1, len(loads)):.1f}, {stolen:.0%} taken by the host")
+    sys.exit(run.returncode)
+
+
+main()
