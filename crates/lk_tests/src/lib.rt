@@ -13,13 +13,21 @@ mod faltering;
 #[cfg(test)]
 mod files;
 #[cfg(test)]
+mod hostile;
+#[cfg(test)]
+mod lengths;
+#[cfg(test)]
 mod node_dialogues;
 #[cfg(test)]
 mod node_turns;
 #[cfg(test)]
+mod parts;
+#[cfg(test)]
 mod raised;
 #[cfg(test)]
 mod reviving;
+#[cfg(test)]
+mod schedules;
 #[cfg(test)]
 mod second;
 #[cfg(test)]

@@ -8,25 +8,29 @@ use crate::node_turns::{
 use std::alloc::Global;
 use std::test::Fail;
 
-/// How node 1's replica is before a dialogue, in a cluster of three with alpha 1.
+/// How node 1's replica is before a dialogue, in a cluster of three; with alpha 1, but for the last two.
 #[derive(Clone, Copy)]
-enum Start {
+pub enum Start {
     /// On empty disks.
     Begun,
     /// With a term, the ballot (1, 1).
     Led,
     /// On a file of these bytes.
     TakenUp(&'static [&'static str]),
+    /// On empty disks, with alpha 2.
+    BegunAhead,
+    /// On a file of these bytes, with alpha 2.
+    TakenUpAhead(&'static [&'static str]),
 }
 
 /// How it is, and what it then hears and sends.
-type Dialogue = (Start, &'static [Turn<'static>]);
+pub type Dialogue = (Start, &'static [Turn<'static>]);
 
 const FIRST: &str = "00000001";
 
-const SECOND: &str = "00000002";
+pub const SECOND: &str = "00000002";
 
-const THIRD: &str = "00000003";
+pub const THIRD: &str = "00000003";
 
 const OUTSIDER: &str = "00000009";
 
@@ -86,7 +90,7 @@ const AT_LAST: [&str; 5] = [
 
 // 256 positions are executed, and (2, 2) is promised. The last request of client 7 that counted has number 9, and was granted
 // fence 3.
-const SEEN: [&str; 5] = [
+pub const SEEN: [&str; 5] = [
     "00000085 01 0000000000000001 01 0000000000000005 00000001 01 03 00000001 1b59 00000002 1b59 00000003 1b59",
     "0000000000000002 00000002 0000000000000100",
     "0000003f 0000000000000100 01 03 00000001 1b59 00000002 1b59 00000003 1b59 00000003 0000000000000000",
@@ -98,12 +102,12 @@ const SEEN: [&str; 5] = [
 const TWO_NOOPS: Turn<'static> = (Said(SECOND, "06", "0000000000000101 02 00 00"), NOTHING);
 
 // Requests of client 7, and what each is answered.
-const ASKED_AGAIN: Turn<'static> = (
+pub const ASKED_AGAIN: Turn<'static> = (
     Said("00000000", "09", "0007 0000000000000009 00 04 01 02 6161"),
     &[(Client(7), "0a", "0007 0000000000000009 01 0000000000000003")],
 );
 
-const ASKED_BELOW: Turn<'static> = (
+pub const ASKED_BELOW: Turn<'static> = (
     Said("00000000", "09", "0007 0000000000000008 00 04 01 02 6161"),
     &[(Client(7), "0c", "0007 0000000000000008 0000000000000009")],
 );
@@ -111,7 +115,7 @@ const ASKED_BELOW: Turn<'static> = (
 const ASKED_ANEW: Heard<'static> = Said("00000000", "09", "0007 000000000000000a 00 04 01 02 6161");
 
 // The vote goes to all.
-const PROPOSED: Turn<'static> = (
+pub const PROPOSED: Turn<'static> = (
     ASKED,
     &[
         (Node(1), "03", VOTE),
@@ -404,12 +408,14 @@ fn replica_of(alloc: Global, start: Start) -> Result<Locks, Fail> {
     match start {
         Start::Begun => begun(alloc, 1, 1, 3),
         Start::Led => led(alloc, 1),
-        Start::TakenUp(texts) => taken_up(alloc, texts),
+        Start::TakenUp(texts) => taken_up(alloc, 1, texts),
+        Start::BegunAhead => begun(alloc, 1, 2, 3),
+        Start::TakenUpAhead(texts) => taken_up(alloc, 2, texts),
     }
 }
 
 /// The first of the dialogues, and in it the first turn, in which anything else is sent.
-fn first_other(alloc: Global, dialogues: &[Dialogue]) -> Result<Option<(usize, usize)>, Fail> {
+pub fn first_other(alloc: Global, dialogues: &[Dialogue]) -> Result<Option<(usize, usize)>, Fail> {
     for (at, (start, turns)) in dialogues.iter().enumerate() {
         let mut replica = replica_of(alloc, *start)?;
         if let Some(turn) = first_astray(alloc, &mut replica, turns)? {

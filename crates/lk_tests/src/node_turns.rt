@@ -65,13 +65,13 @@ pub fn begun(alloc: Global, node: u32, alpha: u8, count: usize) -> Result<Locks,
     revived(alloc, MemoryDisk::new(alloc), &header(node, alpha, count)?)
 }
 
-/// Node 1's replica on a file of these bytes, in a cluster of three with alpha 1.
-pub fn taken_up(alloc: Global, texts: &[&str]) -> Result<Locks, Fail> {
+/// Node 1's replica on a file of these bytes, in a cluster of three.
+pub fn taken_up(alloc: Global, alpha: u8, texts: &[&str]) -> Result<Locks, Fail> {
     let bytes = bytes_of(alloc, texts)?;
     let mut device = MemoryDisk::new(alloc);
     device.append(Side::A, &bytes)?;
     device.stop(bytes.len(), 0);
-    revived(alloc, device, &header(1, 1, 3)?)
+    revived(alloc, device, &header(1, alpha, 3)?)
 }
 
 /// Node 1's replica in a cluster of three, whose ballot (1, 1) nodes 1 and 2 have promised.
@@ -95,7 +95,8 @@ fn spelled(alloc: Global, sender: &str, kind: &str, fields: &str) -> Result<Vec<
     bytes_of(alloc, &["4c4b01", kind, "0000000000000005", sender, fields])
 }
 
-fn take(replica: &mut Locks, input: Input) -> Result<Vec<Datagram>, Fail> {
+/// What the replica sends for what it takes.
+pub fn take(replica: &mut Locks, input: Input) -> Result<Vec<Datagram>, Fail> {
     match MemoryReplica::take(replica, input) {
         Ok(taken) => Ok(taken.sent),
         Err(_) => Err("taken")?,

@@ -5,12 +5,12 @@ use lk_wire::{ReadFault, read, write};
 use std::alloc::Global;
 use std::test::Fail;
 
-// Bytes as hex, and what they say.
-type Row<'a> = (&'a str, &'a str);
+/// Bytes as hex, and what they say.
+pub type Row<'a> = (&'a str, &'a str);
 
-// A datagram of each kind, and one of each answer.
+/// A datagram of each kind, and one of each answer.
 #[rattlefmt::skip]
-const DATAGRAMS: [Row; 34] = [
+pub const DATAGRAMS: [Row; 34] = [
     ("4c4b0101 0000000000000005 00000001 0000000000000003 00000001 0000000000000064", "Message { cluster: 5, content: Node(NodeNo { value: 1 }, Prepare(RealBallot { ballot: Ballot { round: 3, node: 1 } }, Position { value: 100 })) }"),
     ("4c4b0102 0000000000000005 00000002 0000000000000003 00000001 0000000000000003 02 0000000000000004 0000000000000001 00000001 00 0000000000000006 0000000000000002 00000003 01 0007 0000000000000001 00 04 01026462", "Message { cluster: 5, content: Node(NodeNo { value: 2 }, Promise(Promise { ballot: RealBallot { ballot: Ballot { round: 3, node: 1 } }, first: Position { value: 3 }, votes: [Vote { position: Position { value: 4 }, ballot: RealBallot { ballot: Ballot { round: 1, node: 1 } }, command: Noop }, Vote { position: Position { value: 6 }, ballot: RealBallot { ballot: Ballot { round: 2, node: 3 } }, command: Request(Request { client: ClientNo { value: 7 }, number: RequestNumber { value: 1 }, op: Table(Payload { bytes: [1, 2, 100, 98] }) }) }] })) }"),
     ("4c4b0103 0000000000000005 00000001 0000000000000003 00000001 0000000000000006 01 0009 0000000000000002 01 00000004 1b5c", "Message { cluster: 5, content: Node(NodeNo { value: 1 }, Accept(Vote { position: Position { value: 6 }, ballot: RealBallot { ballot: Ballot { round: 3, node: 1 } }, command: Request(Request { client: ClientNo { value: 9 }, number: RequestNumber { value: 2 }, op: Join(NodeNo { value: 4 }, Port { value: 7004 }) }) })) }"),
@@ -110,7 +110,8 @@ fn is_taken(alloc: Global, bytes: &[u8]) -> bool {
     read(alloc, bytes).is_ok()
 }
 
-fn is_bad(alloc: Global, bytes: &[u8]) -> bool {
+/// Whether the bytes are no datagram.
+pub fn is_bad(alloc: Global, bytes: &[u8]) -> bool {
     matches!(read(alloc, bytes), Err(ReadFault::Bad))
 }
 
