@@ -12,8 +12,9 @@ use crate::term::Term;
 use crate::waiting::Waiting;
 use lk_members::Roster;
 use lk_types::{
-    Ballot, ClientNo, Command, NoMemory, NodeNo, Op, Position, RealBallot, RequestNumber, Vote,
+    Ballot, ClientNo, Command, NoMemory, NodeNo, Op, Position, RealBallot, RequestNumber,
 };
+use lk_wire::Votes;
 use std::alloc::Global;
 use std::marker::Model;
 
@@ -59,10 +60,12 @@ impl Leader {
         }
     }
 
-    /// A request waits: a greater number takes the place of its client's waiting one, any other is dropped.
+    /// A request waits: a greater number takes the place of its client's waiting one, any other is dropped. Memory is wanted
+    /// where none of its client waits.
     pub fn ask(&mut self, client: ClientNo, number: RequestNumber, op: &Op) -> Result<(), NoMemory>
         ensures ok { OnOk result (self.new ≡ record { term = self.old.term; waiting = asked (record { client = client; number = number; op = op.now }) self.old.waiting }) }
         ensures err { OnErr result (self.new ≡ self.old) }
+        ensures memory { OnErr result (waiting_of client self.old.waiting ≡ None) }
     {
         self.waiting.ask(client, number, op)?;
         Ok(())
@@ -81,7 +84,7 @@ impl Leader {
         node: NodeNo,
         ballot: RealBallot,
         first: Position,
-        votes: &[Vote],
+        votes: &Votes<'_>,
         roster: &Roster,
     ) -> Result<(), NoMemory>
         ensures kept { (t : TermValue) → IsFirstOf self.old roster.now node ballot t

@@ -5,6 +5,7 @@ ghost use Rattle.lk_leader.specs.Values.{Told as TheTold, IsBest, told_by};
 
 use crate::told::{Told, better};
 use lk_types::{Members, NoMemory, NodeNo, Position, Vote};
+use lk_wire::Votes;
 use std::alloc::Global;
 use std::marker::Model;
 
@@ -30,11 +31,11 @@ impl Report {
         alloc: Global,
         node: NodeNo,
         first: Position,
-        votes: &[Vote],
+        votes: &Votes<'_>,
     ) -> Result<Report, NoMemory>
         ensures { IfOk result (λ r. r ≡ record { node = node; first = first; votes = votes.now }) }
     {
-        let votes = copied(alloc, votes)?;
+        let votes = votes.to_vec(alloc)?;
         Ok(Report { node, first, votes })
     }
 
@@ -78,15 +79,4 @@ pub fn is_one_of(set: &Members, node: NodeNo) -> bool
     ensures { result ≡ is_member node set.now }
 {
     set.as_slice().iter().any(|member| member.node == node)
-}
-
-/// The same votes.
-fn copied(alloc: Global, votes: &[Vote]) -> Result<Vec<Vote>, NoMemory>
-    ensures { IfOk result (λ v. v.items ≡ votes.now) }
-{
-    let mut copy = Vec::new(alloc);
-    for vote in votes {
-        copy.push(vote.copy())?;
-    }
-    Ok(copy)
 }

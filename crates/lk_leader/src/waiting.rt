@@ -62,6 +62,7 @@ impl Waiting {
     ) -> Result<(), NoMemory>
         ensures ok { OnOk result (self.new ≡ asked (record { client = client; number = number; op = op.now }) self.old) }
         ensures err { OnErr result (self.new ≡ self.old) }
+        ensures memory { OnErr result (waiting_of client self.old ≡ None) }
     {
         if let Some(waits) = self.requests.get(&client) {
             if waits.number >= number {

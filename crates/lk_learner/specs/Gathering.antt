@@ -1,5 +1,5 @@
 -- Snapshots of other nodes, gathered part by part.
-use Rattle.std.specs.Prelude.{◌≤◌, ℕ, Bool, true, ◌==◌, ◌&&◌, if◌then◌else◌, nat_lt, List, [], ◌++◌, length, Option, Some, None}
+use Rattle.std.specs.Prelude.{◌≤◌, ℕ, Bool, true, false, ◌==◌, ◌&&◌, if◌then◌else◌, nat_lt, List, [], ◌++◌, length, Option, Some, None}
 use Rattle.lk_types.specs.Limits.{max_base}
 use Rattle.lk_wire.specs.Values.{PartValue}
 use Rattle.lk_learner.specs.Learners.{GatheredValue}
@@ -30,6 +30,11 @@ abbrev pub begins : Option GatheredValue → PartValue → Bool
 begins None p = true
 begins (Some g) p = nat_lt g.position p.position
 
+-- it goes on what is gathered, if anything is
+abbrev pub goes_on_any : Option GatheredValue → PartValue → Bool
+goes_on_any None p = false
+goes_on_any (Some g) p = goes_on g p
+
 -- the part is added to what is gathered, if anything is
 abbrev pub joined_any : Option GatheredValue → PartValue → Option GatheredValue
 joined_any None p = None
@@ -39,3 +44,7 @@ joined_any (Some g) p = Some (joined g p)
 -- dropped, one of a greater position than that which is gathered begins anew, and any other goes on what stands there or is dropped
 abbrev pub heard : ℕ → Option GatheredValue → PartValue → Option GatheredValue
 heard executed g p = if nat_lt executed p.position then (if begins g p then Some (begun_by p) else joined_any g p) else g
+
+-- its bytes are taken: it is of a position that is not executed, and begins a text or goes on what stands there
+abbrev pub is_taken : ℕ → Option GatheredValue → PartValue → Bool
+is_taken executed g p = nat_lt executed p.position && (if begins g p then p.offset == 0 else goes_on_any g p)

@@ -6,7 +6,7 @@ ghost use Rattle.lk_learner.specs.Gathering.{first_bytes, begun_by, goes_on, joi
 
 use lk_state::{Machine, UnpackFault, Whole};
 use lk_types::{NoMemory, Position};
-use lk_wire::Part;
+use lk_wire::PartRef;
 use std::alloc::Global;
 use std::marker::Model;
 
@@ -30,8 +30,9 @@ impl Model for Gathered {
 }
 
 /// The bytes of the part, where it is the first one.
-fn first_bytes(alloc: Global, part: &Part) -> Result<Vec<u8>, NoMemory>
-    ensures { IfOk result (λ bytes. bytes.items ≡ first_bytes part.now) }
+fn first_bytes(alloc: Global, part: &PartRef<'_>) -> Result<Vec<u8>, NoMemory>
+    ensures value { IfOk result (λ bytes. bytes.items ≡ first_bytes part.now) }
+    ensures memory { OnErr result (part.now.offset ≡ 0) }
 {
     if part.offset() != 0 {
         return Ok(Vec::new(alloc));
@@ -41,8 +42,9 @@ fn first_bytes(alloc: Global, part: &Part) -> Result<Vec<u8>, NoMemory>
 
 impl Gathered {
     /// What is gathered from this part on: nothing yet, where the part is not the first one.
-    pub(crate) fn begun_by(alloc: Global, part: &Part) -> Result<Gathered, NoMemory>
-        ensures { IfOk result (λ g. g ≡ begun_by part.now) }
+    pub(crate) fn begun_by(alloc: Global, part: &PartRef<'_>) -> Result<Gathered, NoMemory>
+        ensures value { IfOk result (λ g. g ≡ begun_by part.now) }
+        ensures memory { OnErr result (part.now.offset ≡ 0) }
     {
         part.facts();
         let bytes = first_bytes(alloc, part)?;
@@ -83,7 +85,7 @@ impl Gathered {
     }
 
     /// Whether the part is one of the same snapshot that goes on what stands there.
-    fn goes_on(&self, part: &Part) -> bool
+    fn goes_on(&self, part: &PartRef<'_>) -> bool
         ensures { result ≡ goes_on self.now part.now }
     {
         part.position() == self.position
@@ -92,9 +94,10 @@ impl Gathered {
     }
 
     /// The part is added where it goes on what stands there. Memory is wanted for its bytes; a refused call changes nothing.
-    pub(crate) fn join(&mut self, part: &Part) -> Result<(), NoMemory>
+    pub(crate) fn join(&mut self, part: &PartRef<'_>) -> Result<(), NoMemory>
         ensures ok { OnOk result (self.new ≡ joined self.old part.now) }
         ensures err { OnErr result (self.new ≡ self.old) }
+        ensures memory { OnErr result (IsTrue (goes_on self.old part.now)) }
     {
         part.facts();
         if !self.goes_on(part) {

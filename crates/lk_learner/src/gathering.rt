@@ -1,13 +1,13 @@
-ghost use Rattle.std.specs.Prelude.{◌≡◌, OnOk, OnErr};
-ghost use Rattle.lk_learner.specs.Gathering.{begins, joined_any, heard};
+ghost use Rattle.std.specs.Prelude.{◌≡◌, IsTrue, OnOk, OnErr};
+ghost use Rattle.lk_learner.specs.Gathering.{begins, goes_on_any, joined_any, heard, is_taken};
 
 use crate::gathered::Gathered;
 use lk_types::{Executed, NoMemory};
-use lk_wire::Part;
+use lk_wire::PartRef;
 use std::alloc::Global;
 
 // Whether the part is of a snapshot above that which is gathered, if any is.
-fn begins(gathered: &Option<Gathered>, part: &Part) -> bool
+fn begins(gathered: &Option<Gathered>, part: &PartRef<'_>) -> bool
     ensures { result ≡ begins gathered.now part.now }
 {
     match gathered {
@@ -17,9 +17,10 @@ fn begins(gathered: &Option<Gathered>, part: &Part) -> bool
 }
 
 // The part is added to what is gathered, where it goes on what stands there. A refused call changes nothing.
-fn join(gathered: &mut Option<Gathered>, part: &Part) -> Result<(), NoMemory>
+fn join(gathered: &mut Option<Gathered>, part: &PartRef<'_>) -> Result<(), NoMemory>
     ensures ok { OnOk result (gathered.new ≡ joined_any gathered.old part.now) }
     ensures err { OnErr result (gathered.new ≡ gathered.old) }
+    ensures memory { OnErr result (IsTrue (goes_on_any gathered.old part.now)) }
 {
     let Some(gathered) = gathered else {
         return Ok(());
@@ -30,16 +31,17 @@ fn join(gathered: &mut Option<Gathered>, part: &Part) -> Result<(), NoMemory>
 
 /// A part of a snapshot was heard, where so many positions are executed. Where its position is one of these it is dropped.
 /// Where it is greater than that of what is gathered, gathering begins anew with it. Any other part is added where it is of the
-/// same snapshot and goes on what is gathered, and else dropped. So at most one text is gathered. Memory is wanted for the
-/// bytes; a refused call changes nothing.
+/// same snapshot and goes on what is gathered, and else dropped. So at most one text is gathered. Memory is wanted for bytes
+/// that are added; a refused call changes nothing.
 pub fn gather(
     alloc: Global,
     executed: Executed,
     gathered: &mut Option<Gathered>,
-    part: &Part,
+    part: &PartRef<'_>,
 ) -> Result<(), NoMemory>
     ensures ok { OnOk result (gathered.new ≡ heard executed gathered.old part.now) }
     ensures err { OnErr result (gathered.new ≡ gathered.old) }
+    ensures memory { OnErr result (IsTrue (is_taken executed gathered.old part.now)) }
 {
     if part.position().get() <= executed.get() {
         return Ok(());

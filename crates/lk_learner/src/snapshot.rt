@@ -1,8 +1,9 @@
 // What a learner does with snapshots: its own, which it serves in parts, and those of others, which it gathers and installs.
-ghost use Rattle.std.specs.Prelude.{◌≡◌, ◌<◌, ◌≤◌, ◌↔◌, length, Ok, None, [], IsTrue, IfSome, IfOk, OnOk, OnErr};
+ghost use Rattle.std.specs.Prelude.{◌≡◌, ◌<◌, ◌≤◌, ◌↔◌, length, Ok, Some, None, [], IsTrue, IfSome, IfOk, OnOk, OnErr};
 ghost use Rattle.lk_state.specs.Packed.{packed};
 ghost use Rattle.lk_learner.specs.Learners.{WholeValue, GatheredValue, executed, alpha};
 ghost use Rattle.lk_learner.specs.Parts.{start_of, AreParts};
+ghost use Rattle.lk_learner.specs.Gathering.{is_taken};
 ghost use Rattle.lk_learner.specs.Installing.{hearing, HasWhole, MayInstall, pairs_above, installed, Installs};
 
 use crate::gathering::gather;
@@ -13,7 +14,7 @@ use arrayvec::ArrayVec;
 use lk_state::{Machine, Whole};
 use lk_types::limits::MAX_VOTES;
 use lk_types::{Executed, NoMemory, Position};
-use lk_wire::Part;
+use lk_wire::{Part, PartRef};
 
 // Forgets the pairs up to a position.
 fn forget_to(pairs: &mut ArrayVec<Pair, MAX_VOTES>, position: Executed)
@@ -42,10 +43,11 @@ impl<M: Machine> Learner<M> {
 
     /// A part of another node's snapshot was heard. Where its position is executed already it is dropped. Where it is greater
     /// than that of what is gathered, gathering begins anew with it; any other part is added where it is of the same snapshot
-    /// and goes on what is gathered, and else dropped. Memory is wanted for its bytes; a refused call changes nothing.
-    pub fn part(&mut self, part: &Part) -> Result<(), NoMemory>
+    /// and goes on what is gathered, and else dropped. Memory is wanted for bytes that are added; a refused call changes nothing.
+    pub fn part(&mut self, part: &PartRef<'_>) -> Result<(), NoMemory>
         ensures ok { OnOk result (self.new ≡ hearing part.now self.old) }
         ensures err { OnErr result (self.new ≡ self.old) }
+        ensures memory { OnErr result (IsTrue (is_taken (executed self.old) self.old.gathered part.now)) }
     {
         let executed = self.whole.executed();
         gather(self.alloc, executed, &mut self.gathered, part)?;
@@ -66,6 +68,7 @@ impl<M: Machine> Learner<M> {
     fn gathered_state(&self) -> Result<Option<Whole<M>>, NoMemory>
         ensures some { (g : GatheredValue) → HasWhole self.now g → IfOk result (λ found. IfSome found (λ w. MayInstall M.IsText self.now w)) }
         ensures none { result ≡ Ok None → (w : WholeValue) → MayInstall M.IsText self.now w → ⊥ }
+        ensures memory { OnErr result ((g : GatheredValue) × (self.now.gathered ≡ Some g) × (executed self.now < g.position)) }
     {
         let Some(gathered) = &self.gathered else {
             return Ok(None);
@@ -94,11 +97,12 @@ impl<M: Machine> Learner<M> {
 
     /// Where a whole text is gathered, its state is installed: it takes the place of what was executed, and pairs up to its
     /// position are forgotten. It must be the text of a state at its position, above what is executed, with as many sets of
-    /// members ahead; any other whole text is thrown away. Whether a state was installed. Memory is wanted for the state; a
+    /// members ahead; any other whole text is thrown away. Whether a state was installed. Memory is wanted for a state above; a
     /// refused call changes nothing.
     pub fn install(&mut self) -> Result<bool, NoMemory>
         ensures exact { IfOk result (λ went. Installs M.IsText went self.old self.new) }
         ensures err { OnErr result (self.new ≡ self.old) }
+        ensures memory { OnErr result ((g : GatheredValue) × HasWhole self.old g × (executed self.old < g.position)) }
     {
         if !self.has_whole() {
             return Ok(false);

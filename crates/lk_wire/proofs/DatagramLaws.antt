@@ -1,13 +1,10 @@
 -- A datagram reads what its spelling is.
-use Rattle.std.proofs.Common.{◌≡◌, ℕ, suc, ◌^◌, ◌<◌, ◌⊎◌, true, eqb, ◌&&◌, List, [], ◌∷◌, ◌++◌, Some, None, Result, Ok, Err, refl, sym, ap, subst, ◌∙◌, append_assoc, arith, inl, inr}
-use Rattle.std.specs.Prelude.{IfOk}
+use Rattle.std.proofs.Common.{◌≡◌, ℕ, suc, ◌^◌, ◌<◌, true, eqb, ◌&&◌, List, [], ◌∷◌, ◌++◌, Some, None, refl, sym, ap, subst, ◌∙◌, append_assoc, arith, inl, inr}
 use Rattle.std.proofs.lemmas.Bool.{eqb-true}
 use Rattle.std.proofs.lemmas.Bool.Decides.{nat_tests}
 use Rattle.std.proofs.lemmas.List.{append-nil}
 use Rattle.lk_types.specs.Ranges.{IsNode}
 use Rattle.lk_types.specs.Commands.{IsRequest}
-use Rattle.lk_wire.specs.declared.fault.ReadFault.{ReadFault}
-use Rattle.lk_wire.specs.declared.fault.ReadFault.TheVariants as faults
 use Rattle.lk_wire.specs.declared.message.Content.{Content}
 use Rattle.lk_wire.specs.declared.message.Content.TheVariants as content
 use Rattle.lk_wire.specs.declared.message.Message.{Message}
@@ -15,7 +12,7 @@ use Rattle.lk_wire.specs.Fields.{one, four, eight, request}
 use Rattle.lk_wire.specs.Grammar.{kind, sender, fields, header, spelling, IsContent, IsMessage, Spells}
 use Rattle.lk_wire.specs.Parser.{◌>>=◌, read_byte, both, made}
 use Rattle.lk_wire.specs.FieldReading.{is_from_1_to, read_four, read_eight, read_request}
-use Rattle.lk_wire.specs.Reading.{Gives, node_of, read_asked, content_of, read_header, read_message, all_of}
+use Rattle.lk_wire.specs.Reading.{node_of, read_asked, content_of, read_header, read_message, all_of}
 use Rattle.lk_wire.proofs.Codec.{IsBytes, bind_ok, chosen, some_is, Took, Reads, both_reads, made_as, byte_reads, one_front, whole_takes, whole_again}
 use Rattle.lk_wire.proofs.NumberLaws.{four_reads, eight_reads}
 use Rattle.lk_wire.proofs.FieldLaws.{is_in, passes, request_reads}
@@ -136,27 +133,13 @@ message_again m rest fits =
 pub message_reads : Reads read_message spelling IsMessage
 message_reads = record { takes = message_takes; again = message_again }
 
--- ---- what read promises
+-- ---- what a view promises
 
-pub is_found : (bytes : List ℕ) (r : Result Message ReadFault) → IsBytes bytes → Gives (λ m. m) r (all_of bytes) → IfOk r (λ m. Spells m bytes)
-is_found bytes (Ok m) h given = whole_takes read_message spelling IsMessage message_reads bytes m h given
-is_found bytes (Err e) h given = tt
+pub is_found : (bytes : List ℕ) (m : Message) → IsBytes bytes → all_of bytes ≡ Some m → Spells m bytes
+is_found bytes m h e = whole_takes read_message spelling IsMessage message_reads bytes m h e
 
-again : (m : Message) (bytes : List ℕ) → Spells m bytes → all_of bytes ≡ Some m
+pub again : (m : Message) (bytes : List ℕ) → Spells m bytes → all_of bytes ≡ Some m
 again m bytes s = ap all_of s.1 ∙ whole_again read_message spelling IsMessage message_reads m s.0
-
-pub is_only : (m : Message) (bytes : List ℕ) (r : Result Message ReadFault) → Gives (λ m. m) r (all_of bytes) → Spells m bytes → (r ≡ Ok m) ⊎ (r ≡ Err faults.NoMemory)
-is_only m bytes (Ok n) given s =
-    let some = again m bytes s in
-    inl (ap (λ (x : Message). Ok x) (some_is n m (sym given ∙ some)))
-is_only m bytes (Err faults.Bad) given s = let some = again m bytes s in absurd cc
-is_only m bytes (Err faults.NoMemory) given s = inr refl
-
-pub is_bad : (bytes : List ℕ) (r : Result Message ReadFault) → Gives (λ m. m) r (all_of bytes) → r ≡ Err faults.Bad → (m : Message) → Spells m bytes → ⊥
-is_bad bytes r given e m s =
-    let none : all_of bytes ≡ None = subst (λ (q : Result Message ReadFault). Gives (λ m. m) q (all_of bytes)) e given in
-    let some = again m bytes s in
-    absurd cc
 
 -- ---- the laws of the grammar
 

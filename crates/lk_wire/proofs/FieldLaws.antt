@@ -19,7 +19,7 @@ use Rattle.lk_types.specs.declared.command.Command.TheVariants.{Noop, Request}
 use Rattle.lk_types.specs.declared.member.Member.{Member}
 use Rattle.lk_types.specs.declared.vote.Vote.{Vote}
 use Rattle.lk_wire.specs.Fields.{one, two, four, eight, ballot, member, payload, op_tag, op_fields, op, request, command_tag, command_fields, command, vote, pair, answer_tag, answer_fields, answer}
-use Rattle.lk_wire.specs.Parser.{read_byte, sized, tested, tagged, kind, bare, no_kind}
+use Rattle.lk_wire.specs.Parser.{read_byte, sized, tested, kind, bare, no_kind}
 use Rattle.lk_wire.specs.FieldReading.{is_from_1_to, read_two, read_four, read_eight, read_node, read_client, read_port, read_count, read_total, read_ballot, is_mark, read_mark, read_member, read_payload, read_version, op_of, read_op, read_request, command_of, read_command, read_vote, read_pair, bare_answer, read_held, read_sharer_count, read_sharing, answer_of, read_answer}
 use Rattle.lk_wire.proofs.Codec.{Reads, fitting, both_reads, made_reads, tested_reads, byte_reads}
 use Rattle.lk_wire.proofs.NumberLaws.{two_reads, four_reads, eight_reads, sized_reads}

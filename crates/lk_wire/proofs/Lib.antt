@@ -3,10 +3,12 @@ mod Repeats
 mod NumberLaws
 mod KindLaws
 mod Loop
+mod Walks
 mod FieldLaws
 mod FrontLaws
 mod Appends
 mod MessageLaws
 mod DatagramLaws
 mod Lengths
+mod PlaceLaws
 pub mod Spellings

@@ -7,3 +7,5 @@ pub mod Reading
 pub mod Fronts
 pub mod Faults
 pub mod Rooms
+pub mod Views
+pub mod Shown

@@ -1,11 +1,9 @@
 -- Reading each part of a message, and a message.
-use Rattle.std.specs.Prelude.{◌≡◌, ℕ, ◌+◌, Bool, List, ◌∷◌, length, Option, Some, None, Result, Ok, Err, nat_lt, nat_le, ◌&&◌, ◌==◌, if◌then◌else◌}
+use Rattle.std.specs.Prelude.{ℕ, ◌+◌, Bool, List, ◌∷◌, length, Option, Some, None, nat_lt, nat_le, ◌&&◌, ◌==◌, if◌then◌else◌}
 use Rattle.lk_types.specs.Limits.{max_node, max_part, max_base}
 use Rattle.lk_types.specs.declared.command.Command.{Command}
 use Rattle.lk_types.specs.declared.vote.Vote.{Vote}
 use Rattle.lk_wire.specs.Values.{PromiseValue, are_votes_from, DecidedValue, are_commands_from, WantValue, PartValue, PassedValue}
-use Rattle.lk_wire.specs.declared.fault.ReadFault.{ReadFault}
-use Rattle.lk_wire.specs.declared.fault.ReadFault.TheVariants as faults
 use Rattle.lk_wire.specs.declared.message.Nack.{Nack}
 use Rattle.lk_wire.specs.declared.message.Answered.{Answered}
 use Rattle.lk_wire.specs.declared.message.Elsewhere.{Elsewhere}
@@ -16,16 +14,6 @@ use Rattle.lk_wire.specs.declared.message.Content.TheVariants as content
 use Rattle.lk_wire.specs.declared.message.Message.{Message}
 use Rattle.lk_wire.specs.Parser.{◌>>=◌, read_byte, both, made, tested, counted, sized, kind, no_kind, whole}
 use Rattle.lk_wire.specs.FieldReading.{is_from_1_to, read_two, read_four, read_eight, read_client, read_count, read_total, read_ballot, read_mark, read_member, read_request, read_command, read_vote, read_answer}
-
--- nothing was read, unless memory ran out
-abbrev pub Fails : {Y : Type 0} → ReadFault → Option Y → Type 0
-Fails faults.Bad read = read ≡ None
-Fails faults.NoMemory read = Unit {0}
-
--- what a function returned, seen by view, is what reading gives, unless memory ran out
-abbrev pub Gives : {X Y : Type 0} → (X → Y) → Result X ReadFault → Option Y → Type 0
-Gives view (Ok x) read = read ≡ Some (view x)
-Gives view (Err e) read = Fails e read
 
 -- ---- the fields of each kind
 
@@ -74,7 +62,7 @@ read_lead = made (λ l. kinds.Lead l.0 l.1) (both read_ballot read_total)
 
 -- ---- by kind
 
--- the kinds that are read without memory
+-- the kinds that hold neither a list nor a piece of a snapshot
 unfoldable pub small_of : ℕ → List ℕ → Option (NodeMessage × List ℕ)
 small_of =
     kind 1 read_prepare

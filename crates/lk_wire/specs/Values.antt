@@ -33,9 +33,12 @@ pub record DecidedValue : Type 0 where
   pub first : ℕ
   pub commands : List Command
 
--- 1 to 16 commands, the last for a position of at most 2^48
+-- so many commands are 1 to 16, the last for a position of at most 2^48
+abbrev pub is_run : ℕ → ℕ → Bool
+is_run first count = nat_le 1 count && nat_le count max_commands && nat_le (first + count) (max_count + 1)
+
 abbrev pub are_commands_from : ℕ → List Command → Bool
-are_commands_from first cs = nat_le 1 (length cs) && nat_le (length cs) max_commands && nat_le (first + length cs) (max_count + 1)
+are_commands_from first cs = is_run first (length cs)
 
 abbrev pub IsDecided : DecidedValue → Type 0
 IsDecided d = IsCount d.first × AllByRecursion IsCommand d.commands × IsTrue (are_commands_from d.first d.commands)
@@ -55,9 +58,13 @@ pub record PartValue : Type 0 where
   pub offset : ℕ
   pub bytes : List ℕ
 
+-- 1 to 1,024 bytes after the offset lie within the total, which is 1 to 49,152
+abbrev pub LieWithin : ℕ → ℕ → ℕ → Type 0
+LieWithin total offset n = (1 ≤ total) × (total ≤ max_base) × (1 ≤ n) × (n ≤ max_part) × (offset + n ≤ total)
+
 -- it lies within its total
 abbrev pub IsWithin : PartValue → Type 0
-IsWithin p = (1 ≤ p.total) × (p.total ≤ max_base) × (1 ≤ length p.bytes) × (length p.bytes ≤ max_part) × (p.offset + length p.bytes ≤ p.total)
+IsWithin p = LieWithin p.total p.offset (length p.bytes)
 
 abbrev pub IsPart : PartValue → Type 0
 IsPart p = IsCount p.position × IsWithin p

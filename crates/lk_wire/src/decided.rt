@@ -1,7 +1,7 @@
 ghost use Rattle.std.specs.Prelude.{◌≡◌, ◌≤◌, ◌+◌, ◌↔◌, IsSome, IfSome, IsTrue};
 ghost use Rattle.std.specs.List.{AllByRecursion};
 ghost use Rattle.lk_types.specs.Commands.{IsCommand};
-ghost use Rattle.lk_wire.specs.Values.{IsDecided, are_commands_from};
+ghost use Rattle.lk_wire.specs.Values.{IsDecided, are_commands_from, is_run};
 
 use lk_types::limits::{MAX_COMMANDS, MAX_COUNT};
 use lk_types::{Command, Position};
@@ -33,11 +33,10 @@ fn commands_facts(commands: &[Command])
     }
 }
 
-/// Whether there are 1 to 16 commands, the last for a position of at most 2^48.
-fn are_from(first: Position, commands: &[Command]) -> bool
-    ensures { result ≡ are_commands_from first commands.now }
+/// Whether so many commands are 1 to 16, the last for a position of at most 2^48.
+pub fn is_run(first: Position, count: usize) -> bool
+    ensures { result ≡ is_run first count }
 {
-    let count = commands.len();
     count >= 1 && count <= MAX_COMMANDS && first.get() + count as u64 <= MAX_COUNT + 1
 }
 
@@ -49,7 +48,7 @@ impl Decided {
     {
         let _ = first.get();
         commands_facts(&commands);
-        if !are_from(first, &commands) {
+        if !is_run(first, commands.len()) {
             return None;
         }
         Some(Decided { first, commands })

@@ -4,7 +4,12 @@ ghost use Rattle.lk_wire.specs.declared.fault.ReadFault.TheVariants.{NoMemory as
 use std::alloc::{AllocError, AllocFailed};
 use thiserror::Error;
 
-/// Why no message was read.
+/// The bytes are no datagram: refusal 5.
+#[derive(Clone, Copy, Debug, PartialEq, Eq, Error)]
+#[error("the bytes are no datagram")]
+pub struct Bad;
+
+/// Why no message was read into memory.
 #[derive(Clone, Copy, Debug, PartialEq, Eq, Error)]
 pub enum ReadFault {
     #[error("the bytes are no datagram")]

@@ -5,6 +5,7 @@ pub(crate) mod number;
 mod put;
 mod read;
 pub(crate) mod room;
+pub(crate) mod skip;
 pub(crate) mod value;
 
 pub use put::{

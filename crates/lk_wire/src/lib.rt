@@ -1,5 +1,5 @@
-//! Datagrams as bytes: each message has one spelling, `read` takes these spellings and nothing else, and `fields` reads
-//! and writes the parts that stores and packed states are built of too.
+//! Datagrams as bytes: each message has one spelling, `view` and `read` take these spellings and nothing else, the one in
+//! place and the other into memory, and `fields` reads and writes the parts that stores and packed states are built of too.
 #![tactic(auto)]
 
 mod decided;
@@ -11,15 +11,25 @@ mod part;
 mod passed;
 mod promise;
 mod reading;
+mod viewing;
 mod want;
 mod writing;
 
 pub use decided::Decided;
-pub use fault::ReadFault;
+pub use fault::{Bad, ReadFault};
 pub use message::{Answered, Content, Elsewhere, Message, Nack, NodeMessage};
 pub use part::Part;
 pub use passed::Passed;
 pub use promise::Promise;
 pub use reading::read;
+pub use viewing::commands::Commands;
+pub use viewing::decided::DecidedRef;
+pub use viewing::message::{ContentRef, MessageRef, NodeMessageRef};
+pub use viewing::part::PartRef;
+pub use viewing::promise::PromiseRef;
+pub use viewing::request::RequestRef;
+pub use viewing::view;
+pub use viewing::vote::{CommandRef, VoteRef};
+pub use viewing::votes::Votes;
 pub use want::Want;
 pub use writing::write;

@@ -1,5 +1,5 @@
-ghost use Rattle.std.specs.Prelude.{◌≡◌, ◌↔◌, IsSome, IfSome};
-ghost use Rattle.lk_wire.specs.Values.{IsPart, IsWithin};
+ghost use Rattle.std.specs.Prelude.{◌≡◌, ◌↔◌, IsSome, IfSome, IsTrue};
+ghost use Rattle.lk_wire.specs.Values.{IsPart, IsWithin, LieWithin};
 
 use lk_types::Position;
 use lk_types::limits::{MAX_BASE, MAX_PART};
@@ -24,6 +24,17 @@ impl Model for Part {
     ghost invariant = { λ p. IsPart (record { position = p.position; total = p.total; offset = p.offset; bytes = p.bytes.items }) };
 }
 
+/// Whether so many bytes after the offset lie within the total, which is 1 to 49,152, and are 1 to 1,024.
+pub fn is_within(total: u32, offset: u32, length: usize) -> bool
+    ensures { IsTrue result ↔ LieWithin total offset length }
+{
+    total as usize <= MAX_BASE
+        && offset <= total
+        && length >= 1
+        && length <= MAX_PART
+        && length <= (total - offset) as usize
+}
+
 impl Part {
     /// The piece, or `None` where the total is not 1 to 49,152, there are not 1 to 1,024 bytes, or they end past the
     /// total.
@@ -32,14 +43,7 @@ impl Part {
         ensures value { IfSome result (λ p. p ≡ record { position = position; total = total; offset = offset; bytes = bytes.items }) }
     {
         let _ = position.get();
-        if total as usize > MAX_BASE
-            || offset > total
-            || bytes.is_empty()
-            || bytes.len() > MAX_PART
-        {
-            return None;
-        }
-        if bytes.len() > (total - offset) as usize {
+        if !is_within(total, offset, bytes.len()) {
             return None;
         }
         Some(Part {

@@ -1,10 +1,10 @@
 -- The client's entry tells whether the request is newer.
-use Rattle.std.proofs.Common.{◌≡◌, ◌∙◌, ◌≤◌, ◌<◌, eqb, Some, None, ap, sym, subst, rules}
+use Rattle.std.proofs.Common.{◌≡◌, ◌∙◌, ◌≤◌, ◌<◌, eqb, Some, None, List, ap, sym, subst, rules}
 use Rattle.std.specs.Map.{lookup}
 use Rattle.indexmap.specs.IndexMap.{insert_entry}
-use Rattle.lk_leader.specs.Waits.{asked}
+use Rattle.lk_leader.specs.Waits.{RequestValue, asked, waiting_of}
 use Rattle.lk_leader.specs.declared.waiting.Asked.{Asked}
-use Rattle.lk_leader.proofs.WaitLaws.{requests_of, request_of, asked-inserted, asked-dropped}
+use Rattle.lk_leader.proofs.WaitLaws.{requests_of, request_of, asked-inserted, asked-dropped, waiting-none}
 use Rattle.lk_leader.proofs.waiting.Waiting.ask.Goals.{in-Some+else-ge, in_default}
 use Rattle.lk_leader.proofs.waiting.Waiting.ask.Goals as goal
 
@@ -34,4 +34,17 @@ returns-clause-ok c =
           ap requests_of entries
           ∙ asked-inserted c.self.inside.requests.entries c.args.client r (λ v is. absurd (cc (none, is)))
           ∙ ap (asked (request_of (c.args.client, r))) c.self.view_is)
+    ]
+
+pub returns-in_err-insert-clause-memory : goal.returns-in_err-insert-clause-memory
+returns-in_err-insert-clause-memory c =
+    elim c.match-get.branch [
+      | in-Some+else-ge w ↦
+          (let none : lookup (eqb c.args.client) c.self.inside.requests.entries ≡ None = rw w.self-inside-is at c.in_err-insert.ensures.absent in
+          let free : waiting_of c.args.client c.args.self.now ≡ None = subst (λ (qs : List RequestValue). waiting_of c.args.client qs ≡ None) c.self.view_is (waiting-none c.self.inside.requests.entries c.args.client none) in
+          search (rules, free))
+      | in_default w ↦
+          (let none : lookup (eqb c.args.client) c.self.inside.requests.entries ≡ None = rw w.self-inside-is at c.in_err-insert.ensures.absent in
+          let free : waiting_of c.args.client c.args.self.now ≡ None = subst (λ (qs : List RequestValue). waiting_of c.args.client qs ≡ None) c.self.view_is (waiting-none c.self.inside.requests.entries c.args.client none) in
+          search (rules, free))
     ]
