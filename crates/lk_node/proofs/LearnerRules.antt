@@ -1,7 +1,10 @@
 -- What a node learns and executes goes on: it rests on what was chosen, and the node knows it.
-use Rattle.std.proofs.Common.{get_or, ◌≡◌, ℕ, ◌+◌, ◌<◌, ◌≤◌, inl, inr, Bool, true, false, ◌||◌, ◌&&◌, nat_le, length, List, [], ◌∷◌, ◌++◌, Some, Contains, refl, sym, ◌∙◌, ap, subst, subst₂, arith}
+use Rattle.std.proofs.Common.{get_or, ◌≡◌, ℕ, ◌+◌, ◌-◌, ◌<◌, ◌≤◌, inl, inr, Bool, true, false, ◌||◌, ◌&&◌, nat_le, length, List, [], ◌∷◌, ◌++◌, Some, Contains, drop, refl, sym, ◌∙◌, ap, subst, subst₂, arith}
 use Rattle.std.specs.Prelude.{slice_get}
 use Rattle.std.specs.List.{AllByRecursion}
+use Rattle.std.proofs.Math.Numerals.{suc-eq-add-one}
+use Rattle.std.proofs.Math.Seq.{drop-cons}
+use Rattle.std.proofs.lemmas.List.{length-drop}
 use Rattle.std.proofs.lemmas.Bool.{and_parts, leb-true}
 use Rattle.std.proofs.lemmas.Option.{slice_get-get_or}
 use Rattle.std.proofs.lemmas.List.Elements.{Contains-append_left}
@@ -163,3 +166,18 @@ within_range d k fits less =
 -- the element that a loop reads
 pub element : {X : Type 0} (vs ws : List X) (k : ℕ) (v : X) → vs ≡ ws → k < length vs → v ≡ get_or vs k v → slice_get ws k ≡ Some v
 element vs ws k v same less is = ap (λ l. slice_get l k) (sym same) ∙ slice_get-get_or vs k v less ∙ ap Some (sym is)
+
+-- the element that a walk comes to, and what it leaves
+pub walked : {X : Type 0} (vs rest others : List X) (k : ℕ) (v : X) → rest ≡ drop k vs → k < length vs → rest ≡ v ∷ others → (slice_get vs k ≡ Some v) × (others ≡ drop (k + 1) vs)
+walked vs rest others k v at_ less is =
+    let both_ : v ∷ others ≡ get_or vs k v ∷ drop (k + 1) vs = sym is ∙ at_ ∙ drop-cons vs k v less ∙ ap (λ (n : ℕ). get_or vs k v ∷ drop n vs) (suc-eq-add-one k) in
+    let one : get_or vs k v ≡ v = cc in
+    (slice_get-get_or vs k v less ∙ ap Some one, cc)
+
+-- a walk does not end before the last one
+module _ {X : Type 0} where
+  pub not_walked : (vs rest : List X) (k : ℕ) → rest ≡ drop k vs → k < length vs → rest ≡ [] → ⊥
+  not_walked vs rest k at_ less is =
+      let n : length (drop k vs) ≡ length vs - k = length-drop k vs in
+      let none : length (drop k vs) ≡ 0 = ap (λ (l : List X). length l) (sym at_ ∙ is) in
+      omega (arith, n, none, less)

@@ -17,5 +17,7 @@ mod InstallRules
 mod TakingUp
 mod Reminders
 mod Settling
+mod NoneOpen
+mod Waking
 mod FewEntries
 pub mod Nodes

@@ -11,11 +11,11 @@ use crate::node::Node;
 use crate::outbox::Outbox;
 use lk_state::Machine;
 use lk_types::NoMemory;
-use lk_wire::Part;
+use lk_wire::PartRef;
 
 impl<M: Machine> Node<M> {
     // The part is gathered, and what is whole by that is installed where it is a state's. Whether it was.
-    fn gather(&mut self, part: &Part) -> Result<bool, NoMemory>
+    fn gather(&mut self, part: &PartRef<'_>) -> Result<bool, NoMemory>
         ensures { IfOk result (λ went. Gathers M.IsText went part.now self.old self.new) }
     {
         self.learner.part(part)?;
@@ -50,7 +50,7 @@ impl<M: Machine> Node<M> {
     }
 
     // A part of another node's snapshot was heard.
-    pub(crate) fn hear_part(&mut self, part: &Part) -> Result<Outbox, NoMemory>
+    pub(crate) fn hear_part(&mut self, part: &PartRef<'_>) -> Result<Outbox, NoMemory>
         ensures exact { IfOk result (λ o. HearsPart (meaning M.first M.next M.answer) M.IsText self.old part.now self.new o) }
         ensures goes_on { (from : ℕ) → IfOk result (λ o. GoesOn (meaning M.first M.next M.answer) (λ h. HasSent h.genesis h.sent from (kinds.Part part.now)) self.old self.new nothing o) }
     {

@@ -17,12 +17,12 @@ use crate::node::Node;
 use crate::outbox::Outbox;
 use lk_state::Machine;
 use lk_types::{Members, NoMemory, NodeNo, Vote};
-use lk_wire::{NodeMessage, Promise};
+use lk_wire::{NodeMessage, PromiseRef};
 use std::alloc::Global;
 
 impl<M: Machine> Node<M> {
     // The leader hears a promise.
-    fn keep_promise(&mut self, from: NodeNo, promise: &Promise) -> Result<(), NoMemory>
+    fn keep_promise(&mut self, from: NodeNo, promise: &PromiseRef<'_>) -> Result<(), NoMemory>
         ensures { OnOk result (KeepsPromise self.old from promise.now self.new ⊎ DropsPromise self.old from promise.now self.new) }
     {
         let (ballot, first) = (promise.ballot(), promise.first());
@@ -37,7 +37,7 @@ impl<M: Machine> Node<M> {
     pub(crate) fn hear_promise(
         &mut self,
         from: NodeNo,
-        promise: &Promise,
+        promise: &PromiseRef<'_>,
     ) -> Result<Outbox, NoMemory>
         ensures exact { IfOk result (λ o. HearsPromise self.old from promise.now self.new o) }
         ensures goes_on { IfOk result (λ o. GoesOn (meaning M.first M.next M.answer) (λ h. HasSent h.genesis h.sent from (kinds.Promise promise.now)) self.old self.new nothing o) }

@@ -14,7 +14,7 @@ use crate::node::Node;
 use crate::outbox::Outbox;
 use lk_state::Machine;
 use lk_types::{Command, Entry, NoMemory, Position};
-use lk_wire::Decided;
+use lk_wire::DecidedRef;
 
 // The position that lies so far after the first.
 fn position_behind(first: Position, offset: usize) -> Position
@@ -71,16 +71,20 @@ impl<M: Machine> Node<M> {
     }
 
     // Decided commands are told: they are taken in order.
-    pub(crate) fn hear_decided(&mut self, decided: &Decided) -> Result<Outbox, NoMemory>
+    pub(crate) fn hear_decided(&mut self, decided: &DecidedRef<'_>) -> Result<Outbox, NoMemory>
         ensures exact { IfOk result (λ o. TakesPairs (meaning M.first M.next M.answer) decided.now.first decided.now.commands self.old nothing (length decided.now.commands) self.new o) }
         ensures goes_on { (from : ℕ) → IfOk result (λ o. GoesOn (meaning M.first M.next M.answer) (λ h. HasSent h.genesis h.sent from (kinds.Decided decided.now)) self.old self.new nothing o) }
     {
         decided.facts();
         let mut out = Outbox::new(self.alloc);
-        let commands = decided.commands();
-        'pairs: for index in 0..commands.len() {
+        let mut rest = decided.commands().copy();
+        'pairs: for index in 0..decided.commands().len() {
+            let Some(next) = rest.next() else {
+                return Ok(out);
+            };
             let position = position_behind(decided.first(), index);
-            self.take_pair(position, &commands[index], &mut out)?;
+            self.take_pair(position, &next.0, &mut out)?;
+            rest = next.1;
         }
         Ok(out)
     }

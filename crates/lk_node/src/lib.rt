@@ -20,6 +20,7 @@ mod outbox;
 mod packing;
 mod reminding;
 mod replying;
+mod showing;
 mod step;
 mod telling;
 mod ticking;

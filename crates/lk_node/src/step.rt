@@ -1,5 +1,6 @@
 // What a node does with any input.
-ghost use Rattle.std.specs.Prelude.{◌≡◌, true, IfOk, OnOk, OnErr, IsErr};
+ghost use Rattle.std.specs.Prelude.{◌≡◌, true, false, IfOk, OnOk, OnErr, IsErr};
+ghost use Rattle.lk_wire.specs.Shown.{shown_node, shown_content};
 ghost use Rattle.lk_history.specs.Datagrams.{HasSent};
 ghost use Rattle.lk_state.specs.Meanings.{meaning};
 ghost use Rattle.lk_node.specs.Calls.{InputFits};
@@ -15,38 +16,38 @@ use crate::node::{Halted, Node};
 use crate::outbox::Outbox;
 use lk_state::Machine;
 use lk_types::{NoMemory, NodeNo};
-use lk_wire::{Content, NodeMessage, ReadFault, read};
+use lk_wire::{ContentRef, NodeMessageRef, view};
 
 impl<M: Machine> Node<M> {
     #[tactic(auto, using(crate::proofs::Serving::rests_here))]
     // Does with a node's message what is to be done.
-    fn hear_node(&mut self, from: NodeNo, message: &NodeMessage) -> Result<Outbox, NoMemory>
-        ensures exact { IfOk result (λ o. HearsNode (meaning M.first M.next M.answer) M.IsText self.old from message.now self.new o) }
-        ensures goes_on { IfOk result (λ o. GoesOn (meaning M.first M.next M.answer) (λ h. HasSent h.genesis h.sent from message.now) self.old self.new nothing o) }
+    fn hear_node(&mut self, from: NodeNo, message: &NodeMessageRef<'_>) -> Result<Outbox, NoMemory>
+        ensures exact { IfOk result (λ o. HearsNode (meaning M.first M.next M.answer) M.IsText self.old from (shown_node message.now) self.new o) }
+        ensures goes_on { IfOk result (λ o. GoesOn (meaning M.first M.next M.answer) (λ h. HasSent h.genesis h.sent from (shown_node message.now)) self.old self.new nothing o) }
     {
         match message {
-            NodeMessage::Prepare(ballot, first) => self.prepare(from, *ballot, *first),
-            NodeMessage::Accept(vote) => self.accept(from, vote.copy()),
-            NodeMessage::Promise(promise) => self.hear_promise(from, promise),
-            NodeMessage::Accepted(vote) => self.hear_accepted(from, vote),
-            NodeMessage::Decided(decided) => self.hear_decided(decided),
-            NodeMessage::Nack(nack) => self.hear_nack(from, nack),
-            NodeMessage::Want(want) => self.hear_want(from, want),
-            NodeMessage::Part(part) => self.hear_part(part),
-            NodeMessage::Lead(ballot, executed) => self.hear_lead(from, *ballot, *executed),
+            NodeMessageRef::Prepare(ballot, first) => self.prepare(from, *ballot, *first),
+            NodeMessageRef::Accept(vote) => self.accept(from, vote.vote()),
+            NodeMessageRef::Promise(promise) => self.hear_promise(from, promise),
+            NodeMessageRef::Accepted(vote) => self.hear_accepted(from, &vote.vote()),
+            NodeMessageRef::Decided(decided) => self.hear_decided(decided),
+            NodeMessageRef::Nack(nack) => self.hear_nack(from, nack),
+            NodeMessageRef::Want(want) => self.hear_want(from, want),
+            NodeMessageRef::Part(part) => self.hear_part(part),
+            NodeMessageRef::Lead(ballot, executed) => self.hear_lead(from, *ballot, *executed),
             _ => Ok(Outbox::new(self.alloc)),
         }
     }
 
     #[tactic(auto, using(crate::proofs::Serving::rests_here))]
     // Does with a message of the cluster what is to be done.
-    fn hear(&mut self, content: &Content) -> Result<Outbox, NoMemory>
-        ensures exact { IfOk result (λ o. Hears (meaning M.first M.next M.answer) M.IsText self.old content.now self.new o) }
-        ensures goes_on { IfOk result (λ o. GoesOn (meaning M.first M.next M.answer) (λ h. WasHeard h content.now) self.old self.new nothing o) }
+    fn hear(&mut self, content: &ContentRef<'_>) -> Result<Outbox, NoMemory>
+        ensures exact { IfOk result (λ o. Hears (meaning M.first M.next M.answer) M.IsText self.old (shown_content content.now) self.new o) }
+        ensures goes_on { IfOk result (λ o. GoesOn (meaning M.first M.next M.answer) (λ h. WasHeard h (shown_content content.now)) self.old self.new nothing o) }
     {
         match content {
-            Content::Request(request) => self.hear_request(request),
-            Content::Node(from, message) => self.hear_node(*from, message),
+            ContentRef::Request(request) => self.hear_request(&request.request()),
+            ContentRef::Node(from, message) => self.hear_node(*from, message),
         }
     }
 
@@ -56,10 +57,8 @@ impl<M: Machine> Node<M> {
         ensures exact { IfOk result (λ o. TakesBytes (meaning M.first M.next M.answer) M.IsText self.old bytes.now self.new o) }
         ensures goes_on { IfOk result (λ o. GoesOn (meaning M.first M.next M.answer) (λ h. IsHeard h bytes.now) self.old self.new nothing o) }
     {
-        let message = match read(self.alloc, bytes) {
-            Ok(message) => message,
-            Err(ReadFault::Bad) => return Ok(Outbox::new(self.alloc)),
-            Err(ReadFault::NoMemory) => return Err(NoMemory),
+        let Ok(message) = view(bytes) else {
+            return Ok(Outbox::new(self.alloc));
         };
         if message.cluster != self.header.genesis().cluster {
             return Ok(Outbox::new(self.alloc));
@@ -91,14 +90,17 @@ impl<M: Machine> Node<M> {
     }
 
     /// Takes a tick or a datagram, and tells what is to be written, noted and sent, in that order. What it learns it also
-    /// executes, as far as that goes: the command of the next position is not kept after it, where it was not before.
+    /// executes, as far as that goes: the command of the next position is not kept after it, where it was not before. What is
+    /// open it has proposed.
     ///
     /// It refuses with `Halted` where memory is refused; after that each later call answers `Halted`.
     pub fn step(&mut self, input: Input) -> Result<Outbox, Halted>
         ensures steps { IfOk result (λ o. Steps (meaning M.first M.next M.answer) M.IsText self.old input.entry self.new o) }
         ensures goes_on { IfOk result (λ o. GoesOn (meaning M.first M.next M.answer) (λ h. InputFits h input.entry) self.old self.new nothing o) }
         ensures runs { NothingToRun self.old → OnOk result (NothingToRun self.new) }
+        ensures done { OnOk result (NothingOpen self.new) }
         ensures halts { OnErr result (self.new.halted ≡ true) }
+        ensures awake { OnOk result (self.new.halted ≡ false) }
         ensures stays_halted { self.old.halted ≡ true → IsErr result × (self.new ≡ self.old) }
     {
         if self.halted {

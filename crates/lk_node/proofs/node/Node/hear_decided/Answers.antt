@@ -1,12 +1,12 @@
-use Rattle.std.proofs.Common.{◌≡◌, ◌∙◌, ℕ, ◌+◌, Some, ap, sym, subst, arith}
-use Rattle.std.specs.Prelude.{slice_get}
+use Rattle.std.proofs.Common.{◌≡◌, ◌∙◌, ℕ, ◌+◌, List, length, refl, ap, sym, subst, arith}
+use Rattle.lk_types.specs.declared.command.Command.{Command}
 use Rattle.lk_wire.specs.declared.message.NodeMessage.TheVariants as kinds
 use Rattle.lk_state.specs.Meanings.{Meaning, meaning}
 use Rattle.lk_history.specs.Datagrams.{HasSent}
 use Rattle.lk_node.specs.DecidedPairs.{TakesPairs, none_yet}
 use Rattle.lk_node.specs.Outboxes.{OutboxValue, nothing}
 use Rattle.lk_node.specs.Serving.{GoesOn}
-use Rattle.lk_node.proofs.LearnerRules.{told_goes_on, takes_more, element}
+use Rattle.lk_node.proofs.LearnerRules.{told_goes_on, takes_more, walked, not_walked}
 use Rattle.lk_node.proofs.Serving.{rests_here}
 use Rattle.lk_node.proofs.node.Node.hear_decided.Goals as goal
 
@@ -15,13 +15,24 @@ pairs-init g c =
     let m : Meaning = meaning g.M.Machine.first g.M.Machine.next g.M.Machine.answer in (
       subst (λ (o : OutboxValue). TakesPairs m c.args.decided.now.first c.args.decided.now.commands c.args.self.now nothing 0 c.args.self.now o) (sym c.new-out.ensures) none_yet,
       λ from. subst (λ (o : OutboxValue). GoesOn m (λ h. HasSent h.genesis h.sent from (kinds.Decided c.args.decided.now)) c.args.self.now c.args.self.now nothing o) (sym c.new-out.ensures) (rests_here m _ c.args.self.now nothing),
+      c.copy-rest.ensures ∙ c.commands.ensures,
     )
 
 pub pairs-preserved : goal.pairs-preserved
 pairs-preserved g c =
     let place : c.position_behind-position.result ≡ c.args.decided.now.first + c.pairs.index = c.position_behind-position.ensures ∙ ap (λ (i : ℕ). i + c.pairs.index) c.first.ensures in
-    let here : slice_get c.args.decided.now.commands c.pairs.index ≡ Some c.index-commands-index.result =
-    element c.commands-commands.result.now c.args.decided.now.commands c.pairs.index c.index-commands-index.result c.commands-commands.ensures (omega (arith, c.pairs-test.true)) c.index-commands-index.is in (
-      takes_more _ c.args.decided.now c.pairs.index c.position_behind-position.result c.index-commands-index.result _ c.pairs.self _ _ c.pairs.out _ place here c.pairs.invariant.0 c.in_ok-take_pair.ensures.exact,
-      λ from. told_goes_on _ from c.args.decided.now c.pairs.index c.position_behind-position.result c.index-commands-index.result _ c.pairs.self _ _ c.pairs.out _ place here (c.pairs.invariant.1 from) c.in_ok-take_pair.ensures.goes_on,
+    let many : c.len-index-end.result ≡ length c.args.decided.now.commands = c.len-index-end.ensures ∙ ap (λ (l : List Command). length l) c.commands-2.ensures in
+    let went = walked c.args.decided.now.commands c.pairs.rest c.in-Some.next.1 c.pairs.index c.in-Some.next.0 c.pairs.invariant.2 (omega (arith, many, c.pairs-test.true)) c.in-Some.ensures.some in (
+      takes_more _ c.args.decided.now c.pairs.index c.position_behind-position.result c.in-Some.next.0 _ c.pairs.self _ _ c.pairs.out _ place went.0 c.pairs.invariant.0 c.in_ok-take_pair.ensures.exact,
+      λ from. told_goes_on _ from c.args.decided.now c.pairs.index c.position_behind-position.result c.in-Some.next.0 _ c.pairs.self _ _ c.pairs.out _ place went.0 (c.pairs.invariant.1 from) c.in_ok-take_pair.ensures.goes_on,
+      went.1,
     )
+
+pub returns-in_default-clause-exact : goal.returns-in_default-clause-exact
+returns-in_default-clause-exact g c =
+    let many : c.len-index-end.result ≡ length c.args.decided.now.commands = c.len-index-end.ensures ∙ ap (λ (l : List Command). length l) c.commands-2.ensures in
+    let none = not_walked c.args.decided.now.commands c.pairs.rest c.pairs.index c.pairs.invariant.2 (omega (arith, many, c.pairs-test.true)) (c.in_default.ensures.none refl) in
+    absurd none
+
+pub returns-in_default-clause-goes_on : goal.returns-in_default-clause-goes_on
+returns-in_default-clause-goes_on g c = c.pairs.invariant.1

@@ -1,4 +1,4 @@
-use Rattle.std.proofs.Common.{ℕ}
+use Rattle.std.proofs.Common.{◌≡◌, ℕ, drop}
 use Rattle.lk_wire.specs.declared.message.NodeMessage.TheVariants as kinds
 use Rattle.lk_state.specs.Meanings.{meaning}
 use Rattle.lk_history.specs.Datagrams.{HasSent}
@@ -11,3 +11,4 @@ abbrev pub invariant-pairs : goal.invariant-pairs
 invariant-pairs g l =
     TakesPairs (meaning g.M.Machine.first g.M.Machine.next g.M.Machine.answer) l.decided.first l.decided.commands l.fn.self nothing l.index l.self l.out
     × ((from : ℕ) → GoesOn (meaning g.M.Machine.first g.M.Machine.next g.M.Machine.answer) (λ h. HasSent h.genesis h.sent from (kinds.Decided l.decided)) l.fn.self l.self nothing l.out)
+    × (l.rest ≡ drop l.index l.decided.commands)

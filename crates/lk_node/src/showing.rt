@@ -1,0 +1,44 @@
+// What a node shows of itself to whoever runs it.
+ghost use Rattle.std.specs.Prelude.{◌≡◌};
+ghost use Rattle.std.specs.Option.{option_map};
+
+use crate::node::Node;
+use lk_state::Machine;
+use lk_types::{Ballot, Executed, NodeNo, RealBallot};
+
+impl<M: Machine> Node<M> {
+    /// How many positions it has executed.
+    pub fn executed(&self) -> Executed
+        ensures { result ≡ self.now.learner.whole.roster.executed }
+    {
+        self.learner.whole().executed()
+    }
+
+    /// The position of its snapshot.
+    pub fn snapshot_position(&self) -> Executed
+        ensures { result ≡ self.now.acceptor.state.snapshot_position }
+    {
+        self.acceptor.snapshot_position()
+    }
+
+    /// The ballot that it has promised.
+    pub fn promised(&self) -> Ballot
+        ensures { result ≡ self.now.acceptor.state.promised }
+    {
+        self.acceptor.promised()
+    }
+
+    /// The ballot of its term, if it has one.
+    pub fn term(&self) -> Option<RealBallot>
+        ensures { result ≡ option_map (λ t. t.ballot) self.now.leader.term }
+    {
+        self.leader.ballot()
+    }
+
+    /// The node that it takes for the leader.
+    pub fn known(&self) -> Option<NodeNo>
+        ensures { result ≡ self.now.known }
+    {
+        self.known
+    }
+}
