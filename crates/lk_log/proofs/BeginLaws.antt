@@ -1,5 +1,5 @@
 -- What the beginning of a store leaves.
-use Rattle.std.proofs.Common.{◌≡◌, ◌⊎◌, inl, inr, ℕ, ◌*◌, ◌≤◌, lit<, lit≤, false, not, List, [], ◌∷◌, ◌++◌, length, take, refl, sym, ◌∙◌, ap, subst, arith, length-append}
+use Rattle.std.proofs.Common.{◌≡◌, ◌⊎◌, inl, inr, ℕ, ◌*◌, ◌≤◌, lit<, lit≤, false, not, ◌||◌, List, [], ◌∷◌, ◌++◌, length, take, refl, sym, ◌∙◌, ap, subst, arith, length-append}
 use Rattle.std.specs.List.{flat_map}
 use Rattle.std.proofs.lemmas.List.Concat.{flat_map-cons}
 use Rattle.std.proofs.lemmas.Bool.{cases_lt}
@@ -11,6 +11,7 @@ use Rattle.lk_disk.specs.declared.device.Side.{Side}
 use Rattle.lk_disk.specs.declared.device.Side.TheVariants.{A, B}
 use Rattle.lk_log.specs.Headers.{IsHeader}
 use Rattle.lk_log.specs.Entries.{base, spelling, IsStored}
+use Rattle.lk_log.specs.Formats.{is_mixed}
 use Rattle.lk_log.specs.Files.{NoneBegins, is_torn, IsFile}
 use Rattle.lk_log.specs.Images.{Image, MayLeaveBoth, IsLive, IsEmpty, Narrows, seen, SameMeaning}
 use Rattle.lk_log.specs.StoreValue.{pick}
@@ -20,6 +21,7 @@ use Rattle.lk_log.specs.declared.stored.Stored.{Stored}
 use Rattle.lk_log.specs.declared.stored.Stored.TheVariants.{Base}
 use Rattle.lk_log.specs.declared.verdict.Verdict.TheVariants.{Empty}
 use Rattle.lk_log.proofs.Spelling.{front_begins_none}
+use Rattle.lk_log.proofs.Mixed.{sound_rest}
 use Rattle.lk_log.proofs.Torn.{entry_front_torn}
 use Rattle.lk_log.proofs.Whole.{file_spelled, front_past}
 use Rattle.lk_log.proofs.ImageLaws.{each_side, is_live, Nothing, nothing_there, means_same}
@@ -56,10 +58,10 @@ nothing_front : (c d : List ℕ) (p : ℕ) → IsFile c [] false → d ≡ take 
 nothing_front c d p f is = subst (λ (l : List ℕ). IsFile l [] false) (sym is) (front_past p c [] f (omega arith))
 
 -- the front of what an entry spells is the entry or nothing
-pub entry_or_nothing : (e : Stored) (p : ℕ) (c : List ℕ) → IsStored e → c ≡ take p (spelling e) → IsFile c [] false ⊎ IsFile c (e ∷ []) false
-entry_or_nothing e p c fits is = elim (cases_lt p (length (spelling e))) [
-  | inl short ↦ inl (record { whole = record { fit = tt; rest = c; is = refl; ends = subst (λ (l : List ℕ). NoneBegins l) (sym is) (front_begins_none e p fits short) }; damage = ap (λ (l : List ℕ). not (is_torn l)) is ∙ ap not (entry_front_torn e p fits short) })
-  | inr all ↦ inr (file_spelled (e ∷ []) c (fits, tt) (is ∙ take_all p (spelling e) all ∙ sym (append-nil (spelling e))))
+pub entry_or_nothing : (e : Stored) (p : ℕ) (c : List ℕ) → IsStored e → is_mixed (e ∷ []) ≡ false → c ≡ take p (spelling e) → IsFile c [] false ⊎ IsFile c (e ∷ []) false
+entry_or_nothing e p c fits sound is = elim (cases_lt p (length (spelling e))) [
+  | inl short ↦ inl (record { whole = record { fit = tt; rest = c; is = refl; ends = subst (λ (l : List ℕ). NoneBegins l) (sym is) (front_begins_none e p fits short) }; damage = ap (λ (l : List ℕ). not (is_torn l) || is_mixed []) is ∙ sound_rest (is_torn (take p (spelling e))) (is_mixed []) (entry_front_torn e p fits short) refl })
+  | inr all ↦ inr (file_spelled (e ∷ []) c (fits, tt) sound (is ∙ take_all p (spelling e) all ∙ sym (append-nil (spelling e))))
 ]
 
 -- nothing stood there and nothing stands there
@@ -84,14 +86,14 @@ module _ (old new : Side → Disk) (h : HeaderValue) (text : List ℕ) (empty : 
       λ at_a. inl (seen old, λ s. whole_left (old s), nothing_same (seen old) image was_nothing (record { a = at_a; b = at_b })) in
       elim (over (image A) (left A)) [
         | inl was ↦ nothing_more (nothing_front (contents (old A)) (image A) was.0 was_nothing.a was.1)
-        | inr now ↦ elim (entry_or_nothing (Base (first_base h text)) now.0 (image A) fits now.1) [
+        | inr now ↦ elim (entry_or_nothing (Base (first_base h text)) now.0 (image A) fits refl now.1) [
           | inl none ↦ nothing_more none
           | inr base_there ↦ inr (empty, is_live image A (Base (first_base h text) ∷ []) [] false base_there at_b refl refl (lit< tt))
         ]
       ]
 
   pub begun_opens : IsStored (Base (first_base h text)) → new B ≡ old B → new A ≡ record { synced = spelling (Base (first_base h text)); unsynced = [] }
-      → OpensOn (seen old) h text (new A) (new B) 1 (first_base h text).standing
+      → OpensOn (seen old) h text (new A) (new B) 1 2 (first_base h text).standing
   begun_opens fits same is = record {
     entries = Base (first_base h text) ∷ [];
     found = inr (empty, refl);
@@ -100,10 +102,12 @@ module _ (old new : Side → Disk) (h : HeaderValue) (text : List ℕ) (empty : 
       unsynced = ap (λ (d : Disk). d.unsynced) is;
       fit = (fits, tt);
       placed = refl;
+      sound = refl;
       older = record { entries = []; is_damaged = false; file = subst (λ (d : Disk). IsFile (contents d) [] false) (sym same) was_nothing.b; placed = refl; less = lit< tt };
     };
     header = refl;
     generation_is = refl;
+    format_is = refl;
     stands = base_stands (first_base h text) fits.0;
   }
 
@@ -137,6 +141,6 @@ members_long (m ∷ ms) = omega (arith, ap length (flat_map-cons member m ms), l
 pub first_fits : (h : HeaderValue) (text : List ℕ) → IsHeader h → 1 ≤ length text → length text ≤ 49054 → IsStored (Base (first_base h text))
 unfolding base two four eight
 first_fits h text fits some few = (
-  ((lit≤ tt, lit≤ tt), fits, (inr refl, lit≤ tt, some, omega (arith, few), lit≤ tt, tt, refl, lit≤ tt, tt, refl)),
+  ((lit≤ tt, lit≤ tt), fits, (inr refl, lit≤ tt, some, omega (arith, few), lit≤ tt, tt, refl, lit≤ tt, tt, refl), (lit≤ tt, lit≤ tt)),
   omega (arith, few, members_long h.members, fits.4.1, length-append (flat_map member h.members), length-append text),
 )

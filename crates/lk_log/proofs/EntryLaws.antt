@@ -17,14 +17,15 @@ use Rattle.lk_types.specs.declared.entry.Entry.TheVariants.{Promise, Vote, Decid
 use Rattle.lk_types.specs.declared.member.Member.{Member}
 use Rattle.lk_types.specs.declared.vote.Vote.{Vote as VoteValue}
 use Rattle.lk_wire.specs.Fields.{one, two, four, eight, ballot, member, op, command, vote, pair}
-use Rattle.lk_wire.specs.Parser.{◌>>=◌, read_byte, made, tested, sized, kind as kind_of, no_kind, whole}
+use Rattle.lk_wire.specs.Parser.{◌>>=◌, read_byte, tested, sized, whole}
 use Rattle.lk_wire.specs.FieldReading.{is_from_1_to, read_two, read_four, read_eight, read_node, read_count, read_total, read_ballot, read_mark, read_member, read_vote, read_pair}
 use Rattle.lk_wire.specs.Values.{are_votes_above}
 use Rattle.lk_wire.proofs.Spellings.{IsBytes, IsBytes-drop, IsBytes-take, Took, Reads, bind_ok, some_is, fitting, both_reads, made_reads, tested_reads, byte_reads, whole_takes, whole_again, two_reads, four_reads, eight_reads, sized_reads, counted_reads, TakesKinds, no_kind_takes, kind_takes, tagged_reads, ranged_reads, limited_reads, node_reads, count_reads, total_reads, ballot_reads, mark_reads, member_reads, vote_reads, pair_reads}
 use Rattle.lk_log.specs.Values.{HeaderValue, StandingValue, BaseValue}
+use Rattle.lk_log.specs.Formats.{IsFormat}
 use Rattle.lk_log.specs.Headers.{IsHeader}
 use Rattle.lk_log.specs.Entries.{members, header, snapshot, votes, pairs, standing, base, kind, fields, body, spelling, IsPair, are_pairs_above, IsStanding, IsBase, IsEntry, IsStored}
-use Rattle.lk_log.specs.Parsing.{read_alpha, read_members, read_header_fields, read_header, read_snapshot, read_few, read_votes, read_pairs, is_in_order, read_standing, read_base, read_fields, read_body, read_size, within, read_entry, Gives}
+use Rattle.lk_log.specs.Parsing.{read_alpha, read_members, read_format, read_header, read_snapshot, read_few, read_votes, read_pairs, is_in_order, read_standing, read_base, read_fields, read_body, read_size, within, read_entry, Gives}
 use Rattle.lk_log.specs.Files.{NoneBegins}
 use Rattle.lk_log.specs.declared.unread.Unread.{Unread}
 use Rattle.lk_log.specs.declared.unread.Unread.TheVariants.{NoEntry, NoMemory}
@@ -47,26 +48,19 @@ members_reads = fitting read_members members (λ (ms : List Member). (((1 ≤ le
     (tested_reads (are_members_above 0) _ members _
     (counted_reads (tested (is_from_1_to 7) read_byte) one _ (ranged_reads 7 256 (omega arith) read_byte one byte_reads) read_member member IsMember member_reads))
 
-header_fields : HeaderValue → List ℕ
-header_fields h = eight h.cluster ++ (four h.node ++ (one h.alpha ++ members h.members))
-
 header_of : ℕ × (ℕ × (ℕ × List Member)) → HeaderValue
 header_of h = record { node = h.1.0; cluster = h.0; alpha = h.1.1.0; members = h.1.1.1 }
 
-header_fields_reads : Reads read_header_fields header_fields IsHeader
-unfolding header_fields header_of AreAll
-header_fields_reads = fitting read_header_fields header_fields (λ (h : HeaderValue). (h.cluster < 2 ^ 64) × (IsNode h.node × (IsAlpha h.alpha × AreAll h.members))) IsHeader
+pub header_reads : Reads read_header header IsHeader
+unfolding read_header header_of AreAll
+header_reads = fitting read_header header (λ (h : HeaderValue). (h.cluster < 2 ^ 64) × (IsNode h.node × (IsAlpha h.alpha × AreAll h.members))) IsHeader
     (λ h f. (f.0, f.1.0, f.1.1.0, f.1.1.1.0, f.1.1.1.1)) (λ h f. (f.0, (f.1, (f.2, (f.3, f.4)))))
     (made_reads header_of (λ (h : HeaderValue). (h.cluster, (h.node, (h.alpha, h.members)))) (λ x. refl) (λ y. refl) _ _ _
     (both_reads read_eight eight (λ n. n < 2 ^ 64) _ _ _ eight_reads (both_reads read_node four IsNode _ _ _ node_reads (both_reads read_alpha one IsAlpha read_members members AreAll alpha_reads members_reads))))
 
-header_takes : TakesKinds (λ (h : HeaderValue). 1) header_fields IsHeader (kind_of 1 (made (λ (h : HeaderValue). h) read_header_fields) no_kind)
-header_takes = kind_takes (λ (h : HeaderValue). 1) header_fields IsHeader 1 (λ (h : HeaderValue). h) read_header_fields header_fields IsHeader header_fields_reads (λ y. refl) (λ y. refl) (λ y f. f) _
-    (no_kind_takes (λ (h : HeaderValue). 1) header_fields IsHeader)
-
-pub header_reads : Reads read_header header IsHeader
-unfolding read_header header_fields
-header_reads = tagged_reads (λ (h : HeaderValue). 1) header_fields IsHeader _ header_takes (λ h rest fits. rw (header_fields_reads.again h rest fits) refl)
+format_reads : Reads read_format one IsFormat
+unfolding read_format
+format_reads = ranged_reads 2 256 (omega arith) read_byte one byte_reads
 
 -- ---- the standing
 
@@ -124,14 +118,14 @@ standing_reads = fitting read_standing standing (λ (s : StandingValue). Parts s
     (both_reads read_mark ballot IsMark _ _ _ mark_reads (both_reads read_total eight IsTotal _ _ _ total_reads (both_reads read_snapshot snapshot (λ (text : List ℕ). (1 ≤ length text) × (length text ≤ 49152)) _ _ _ snapshot_reads
     (both_reads read_votes votes AreVotes read_pairs pairs ArePairs votes_reads pairs_reads))))))
 
-base_of : ℕ × (HeaderValue × StandingValue) → BaseValue
-base_of b = record { generation = b.0; header = b.1.0; standing = b.1.1 }
+base_of : ℕ × (ℕ × (HeaderValue × StandingValue)) → BaseValue
+base_of b = record { generation = b.0; format = b.1.0; header = b.1.1.0; standing = b.1.1.1 }
 
 base_reads : Reads read_base base IsBase
 unfolding read_base base base_of
-base_reads = fitting read_base base (λ (b : BaseValue). IsCount b.generation × (IsHeader b.header × IsStanding b.standing)) IsBase (λ b f. (f.0, f.1.0, f.1.1)) (λ b f. (f.0, (f.1, f.2)))
-    (made_reads base_of (λ (b : BaseValue). (b.generation, (b.header, b.standing))) (λ x. refl) (λ y. refl) _ _ _
-    (both_reads read_count eight IsCount _ _ _ count_reads (both_reads read_header header IsHeader read_standing standing IsStanding header_reads standing_reads)))
+base_reads = fitting read_base base (λ (b : BaseValue). IsCount b.generation × (IsFormat b.format × (IsHeader b.header × IsStanding b.standing))) IsBase (λ b f. (f.0, f.1.1.0, f.1.1.1, f.1.0)) (λ b f. (f.0, (f.3, (f.1, f.2))))
+    (made_reads base_of (λ (b : BaseValue). (b.generation, (b.format, (b.header, b.standing)))) (λ x. refl) (λ y. refl) _ _ _
+    (both_reads read_count eight IsCount _ _ _ count_reads (both_reads read_format one IsFormat _ _ _ format_reads (both_reads read_header header IsHeader read_standing standing IsStanding header_reads standing_reads))))
 
 -- ---- the body of an entry
 

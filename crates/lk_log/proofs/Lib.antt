@@ -2,6 +2,7 @@ mod HeaderLaws
 mod EntryLaws
 mod Spelling
 mod Torn
+mod Mixed
 mod Whole
 mod ImageLaws
 mod Steps

@@ -26,6 +26,7 @@ use Rattle.lk_log.proofs.BeginLaws.{entry_or_nothing, members_long}
 use Rattle.lk_log.proofs.EntryLaws.{len_command}
 use Rattle.lk_log.proofs.ImageLaws.{misplaced-take, generation-append, generation-take, each_side, is_live}
 use Rattle.lk_log.proofs.Settle.{all_synced, short_front}
+use Rattle.lk_log.proofs.Mixed.{mixed-two}
 use Rattle.lk_log.proofs.Spelling.{spelled-append, all-left, all-right}
 use Rattle.lk_log.proofs.Steps.{OlderImage, older_image, grows_holds, keeps_at}
 use Rattle.lk_log.proofs.Whole.{front, file_behind, front_file, file_spelled}
@@ -42,11 +43,11 @@ unfolding eight
 pairs_long [] fit = omega arith
 pairs_long (p ∷ ps) fit = omega (arith, ap length (flat_map-cons pair p ps), length-append (pair p) (flat_map pair ps), len_command p.1 fit.0.1, pairs_long ps fit.1)
 
-pub base_fits : (b : BaseValue) → IsCount b.generation → IsHeader b.header → IsMark b.standing.promised → IsTotal b.standing.position → AllByRecursion IsVote b.standing.votes → AllByRecursion IsPair b.standing.pairs
+pub base_fits : (b : BaseValue) → b.format ≡ 2 → IsCount b.generation → IsHeader b.header → IsMark b.standing.promised → IsTotal b.standing.position → AllByRecursion IsVote b.standing.votes → AllByRecursion IsPair b.standing.pairs
     → MayBegin b.standing → IsStored (Base b)
 unfolding base two four eight
-base_fits b number whose promised position votes pairs may = (
-  (number, whose, (promised, position, may.some, omega (arith, may.room), may.few_votes, votes, may.votes_rise, may.few_pairs, pairs, may.pairs_rise)),
+base_fits b two number whose promised position votes pairs may = (
+  (number, whose, (promised, position, may.some, omega (arith, may.room), may.few_votes, votes, may.votes_rise, may.few_pairs, pairs, may.pairs_rise), (omega (arith, two), omega (arith, two))),
   omega (
     arith,
     may.room,
@@ -78,7 +79,7 @@ live_image d o ks ls h c left =
     let n = (front at.0 ls fits).count in
     record {
       count = n;
-      file = subst (λ (x : List ℕ). IsFile x (ks ++ take n ls) false) (sym at.1) (file_behind ks ls at.0 fits (all-left IsStored ks ls h.fit));
+      file = subst (λ (x : List ℕ). IsFile x (ks ++ take n ls) false) (sym at.1) (file_behind ks ls at.0 fits (all-left IsStored ks ls h.fit) h.sound);
       placed = subst (λ (l : List Stored). is_misplaced l ≡ false) (take-append-add ks ls n) (misplaced-take (length ks + n) (ks ++ ls) h.placed);
       same = generation-append ks (take n ls) (omega (arith, h.older.less));
     }
@@ -106,7 +107,7 @@ holds_older : (d o : Disk) (ks ls : List Stored) (g : ℕ) → HoldsOn d o ks ls
 holds_older d o ks ls g h less = record {
   entries = ks ++ ls;
   is_damaged = false;
-  file = file_spelled (ks ++ ls) (contents d) h.fit ((λ i. h.synced i ++ h.unsynced i) ∙ sym (spelled-append ks ls));
+  file = file_spelled (ks ++ ls) (contents d) h.fit h.sound ((λ i. h.synced i ++ h.unsynced i) ∙ sym (spelled-append ks ls));
   placed = h.placed;
   less = omega (arith, less, generation-append ks ls (omega (arith, h.older.less)));
 }
@@ -121,12 +122,12 @@ new_goes image A b at o = is_live image B (Base b ∷ []) o.entries o.is_damaged
 new_goes image B b at o = is_live image A (Base b ∷ []) o.entries o.is_damaged at o.file refl o.placed o.less
 
 -- a file that has a Base alone, all of it synced
-base_alone : (d : Disk) (b : BaseValue) (c : List ℕ) → IsStored (Base b) → d ≡ record { synced = spelling (Base b); unsynced = [] } → MayLeave d c → IsFile c (Base b ∷ []) false
-base_alone d b c fits is left = file_spelled (Base b ∷ []) c (fits, tt) (all_synced d (spelling (Base b)) c is left ∙ sym (append-nil (spelling (Base b))))
+base_alone : (d : Disk) (b : BaseValue) (c : List ℕ) → b.format ≡ 2 → IsStored (Base b) → d ≡ record { synced = spelling (Base b); unsynced = [] } → MayLeave d c → IsFile c (Base b ∷ []) false
+base_alone d b c two fits is left = file_spelled (Base b ∷ []) c (fits, tt) (mixed-two (Base b ∷ []) [] two) (all_synced d (spelling (Base b)) c is left ∙ sym (append-nil (spelling (Base b))))
 
 -- ---- the calls
 
-module _ (old new : Side → Disk) (live : Side) (b : BaseValue) (ks ls : List Stored) (h : HoldsOn (old live) (old (other live)) ks ls) (less : generation ks < b.generation) (fits : IsStored (Base b)) where
+module _ (old new : Side → Disk) (live : Side) (b : BaseValue) (ks ls : List Stored) (h : HoldsOn (old live) (old (other live)) ks ls) (less : generation ks < b.generation) (two : b.format ≡ 2) (fits : IsStored (Base b)) where
   -- the other file was written over, or in part
   pub over_keeps : IsWrittenOver (old (other live)) (spelling (Base b)) (new (other live)) → new live ≡ old live → KeepsOrIs new ks ls b
   over_keeps over same image left =
@@ -134,7 +135,7 @@ module _ (old new : Side → Disk) (live : Side) (b : BaseValue) (ks ls : List S
       let stays : OlderImage (image (other live)) (generation ks) → ((k : ℕ) × IsLive image (ks ++ take k ls)) ⊎ IsLive image (Base b ∷ []) = λ o. inl (i.count, old_stays image live ks ls i o) in
       elim (over (image (other live)) (left (other live))) [
         | inl was ↦ stays (older_front (old (other live)) (generation ks) h.older (image (other live)) was.0 was.1)
-        | inr now ↦ elim (entry_or_nothing (Base b) now.0 (image (other live)) fits now.1) [
+        | inr now ↦ elim (entry_or_nothing (Base b) now.0 (image (other live)) fits (mixed-two (Base b ∷ []) [] two) now.1) [
           | inl none ↦ stays (nothing_older (image (other live)) (generation ks) none (omega (arith, h.older.less)))
           | inr there ↦ inr (new_goes image live b there (live_older (image live) ks ls b.generation i less))
         ]
@@ -144,17 +145,18 @@ module _ (old new : Side → Disk) (live : Side) (b : BaseValue) (ks ls : List S
   pub front_keeps : new (other live) ≡ record { synced = spelling (Base b); unsynced = [] } → ((c : List ℕ) → MayLeave (new live) c → (p : ℕ) × (c ≡ take p (contents (old live)))) → KeepsOrIs new ks ls b
   front_keeps is front image left =
       let at = front (image live) (left live) in
-      inr (new_goes image live b (base_alone (new (other live)) b (image (other live)) fits is (left (other live)))
+      inr (new_goes image live b (base_alone (new (other live)) b (image (other live)) two fits is (left (other live)))
       (older_front (old live) b.generation (holds_older (old live) (old (other live)) ks ls b.generation h less) (image live) at.0 at.1))
 
 -- the Base stands alone, and the file that was left is empty
-pub gone_over : (d o : Disk) (b : BaseValue) → IsStored (Base b) → d ≡ record { synced = spelling (Base b); unsynced = [] } → o ≡ record { synced = []; unsynced = [] } → HoldsOn d o (Base b ∷ []) []
-gone_over d o b fits is left = record {
+pub gone_over : (d o : Disk) (b : BaseValue) → b.format ≡ 2 → IsStored (Base b) → d ≡ record { synced = spelling (Base b); unsynced = [] } → o ≡ record { synced = []; unsynced = [] } → HoldsOn d o (Base b ∷ []) []
+gone_over d o b two fits is left = record {
   synced = ap (λ (e : Disk). e.synced) is ∙ sym (append-nil (spelling (Base b)));
   unsynced = ap (λ (e : Disk). e.unsynced) is;
   fit = (fits, tt);
   placed = refl;
-  older = record { entries = []; is_damaged = false; file = file_spelled [] (contents o) tt (ap contents left); placed = refl; less = omega (arith, fits.0.0.0) };
+  sound = mixed-two (Base b ∷ []) [] two;
+  older = record { entries = []; is_damaged = false; file = file_spelled [] (contents o) tt refl (ap contents left); placed = refl; less = omega (arith, fits.0.0.0) };
 }
 
 -- what a cut to nothing leaves, made or failed, is a front

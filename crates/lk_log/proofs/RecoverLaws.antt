@@ -38,12 +38,13 @@ module _ (old mid : Side → Disk) (same : (s : Side) → mid s ≡ old s) where
   found_before h zero es (inl l) = inl (live_before es l)
   found_before h zero es (inr e) = inr (empty_before e.0, e.1)
 
-  pub opens_before : (h : HeaderValue) (zero : List ℕ) (d o : Disk) (n : ℕ) (s : StandingValue) → OpensOn (seen mid) h zero d o n s → OpensOn (seen old) h zero d o n s
-  opens_before h zero d o n s f = record {
+  pub opens_before : (h : HeaderValue) (zero : List ℕ) (d o : Disk) (n f : ℕ) (s : StandingValue) → OpensOn (seen mid) h zero d o n f s → OpensOn (seen old) h zero d o n f s
+  opens_before h zero d o n told s f = record {
     entries = f.entries;
     found = found_before h zero f.entries f.found;
     holds = f.holds;
     header = f.header;
     generation_is = f.generation_is;
+    format_is = f.format_is;
     stands = f.stands;
   }

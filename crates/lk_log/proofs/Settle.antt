@@ -8,10 +8,11 @@ use Rattle.lk_disk.specs.Disk.{Disk, contents, cut_to, flushed, CutShort, MayLea
 use Rattle.lk_disk.specs.declared.device.Side.{Side}
 use Rattle.lk_log.specs.Entries.{spelling_of_all, IsStored}
 use Rattle.lk_log.specs.Files.{AreWholeEntries, IsFile}
+use Rattle.lk_log.specs.Formats.{is_mixed}
 use Rattle.lk_log.specs.Images.{is_misplaced, generation, Narrows}
 use Rattle.lk_log.specs.Stores.{IsOlder, HoldsOn, FileNarrows}
 use Rattle.lk_log.specs.declared.stored.Stored.{Stored}
-use Rattle.lk_log.proofs.Whole.{file_unique, file_spelled, front_past}
+use Rattle.lk_log.proofs.Whole.{file_unique, file_spelled, file_sound, front_past}
 use Rattle.lk_log.proofs.Steps.{take_nil, left_front}
 
 -- what both bytes have as one file, they have as any
@@ -51,7 +52,7 @@ pub cut_whole : (d : Disk) (n : ℕ) (es : List Stored) → AreWholeEntries (con
 cut_whole d n es w end = ap (λ (l : List ℕ). take n l) w.is ∙ take_at (spelling_of_all es) w.rest n (sym end)
 
 pub cut_narrows : (old new : Disk) (n : ℕ) (es : List Stored) → IsFile (contents old) es false → n ≡ length (spelling_of_all es) → new ≡ cut_to n old → FileNarrows old new
-cut_narrows old new n es f end is = one_image old new es f (λ c left. file_spelled es c f.whole.fit (all_synced new (take n (contents old)) c is left ∙ cut_whole old n es f.whole end))
+cut_narrows old new n es f end is = one_image old new es f (λ c left. file_spelled es c f.whole.fit (file_sound (contents old) es f) (all_synced new (take n (contents old)) c is left ∙ cut_whole old n es f.whole end))
 
 pub flushed_narrows : (old new : Disk) → new ≡ flushed old → FileNarrows old new
 flushed_narrows old new is c left = (contents old, whole_left old, λ es d f. subst (λ (l : List ℕ). IsFile l es d) (sym (all_synced new (contents old) c is left)) f)
@@ -90,14 +91,15 @@ nothing_behind d es w short =
     w.is ∙ ap (λ (l : List ℕ). spelling_of_all es ++ l) nothing ∙ append-nil (spelling_of_all es)
 
 -- cut and synced, beside an older file
-pub settled : (mid new o o' : Disk) (es : List Stored) → AllByRecursion IsStored es → is_misplaced es ≡ false → contents mid ≡ spelling_of_all es → new ≡ flushed mid → o' ≡ o → IsOlder o (generation es) → HoldsOn new o' es []
-settled mid new o o' es fit placed is sync same older =
+pub settled : (mid new o o' : Disk) (es : List Stored) → AllByRecursion IsStored es → is_misplaced es ≡ false → is_mixed es ≡ false → contents mid ≡ spelling_of_all es → new ≡ flushed mid → o' ≡ o → IsOlder o (generation es) → HoldsOn new o' es []
+settled mid new o o' es fit placed sound is sync same older =
     let all = sym (append-nil es) in
     record {
       synced = ap (λ (d : Disk). d.synced) sync ∙ is;
       unsynced = ap (λ (d : Disk). d.unsynced) sync;
       fit = subst (AllByRecursion IsStored) all fit;
       placed = subst (λ (l : List Stored). is_misplaced l ≡ false) all placed;
+      sound = subst (λ (l : List Stored). is_mixed l ≡ false) all sound;
       older = subst (λ (d : Disk). IsOlder d (generation es)) (sym same) older;
     }
 

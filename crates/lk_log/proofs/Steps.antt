@@ -10,11 +10,13 @@ use Rattle.lk_disk.specs.declared.device.Side.{Side}
 use Rattle.lk_disk.specs.declared.device.Side.TheVariants.{A, B}
 use Rattle.lk_log.specs.Entries.{spelling_of_all, IsStored}
 use Rattle.lk_log.specs.Files.{IsFile}
+use Rattle.lk_log.specs.Formats.{format, is_mixed}
 use Rattle.lk_log.specs.Images.{Image, MayLeaveBoth, is_misplaced, generation, IsLive}
 use Rattle.lk_log.specs.StoreValue.{pick}
 use Rattle.lk_log.specs.Stores.{plain, IsOlder, HoldsOn}
 use Rattle.lk_log.specs.declared.stored.Stored.{Stored}
 use Rattle.lk_log.proofs.Spelling.{spelled-append, all-append, all-left, all-right}
+use Rattle.lk_log.proofs.Mixed.{mixed-two}
 use Rattle.lk_log.proofs.Whole.{front, file_behind, front_file}
 use Rattle.lk_log.proofs.ImageLaws.{misplaced-take, misplaced-plain, generation-append, generation-take, is_live}
 
@@ -51,6 +53,7 @@ pub record Grows (live_disk other_disk : Disk) (ks more : List Stored) : Type 0 
   pub front : (c : List ℕ) → MayLeave live_disk c → (m : ℕ) × (c ≡ spelling_of_all ks ++ take m (spelling_of_all more))
   pub fit : AllByRecursion IsStored (ks ++ more)
   pub placed : is_misplaced (ks ++ more) ≡ false
+  pub sound : is_mixed (ks ++ more) ≡ false
   pub older : IsOlder other_disk (generation ks)
 
 pub stands : (disks : Side → Disk) (live : Side) (ks more : List Stored) → Grows (disks live) (disks (other live)) ks more → (image : Image) → MayLeaveBoth disks image → (k : ℕ) × IsLive image (ks ++ take k more)
@@ -62,7 +65,7 @@ stands disks live ks more h image left =
     let some : 0 < generation ks = omega (arith, older.less) in (
       n,
       is_live image live (ks ++ take n more) older.entries older.is_damaged
-          (subst (λ (c : List ℕ). IsFile c (ks ++ take n more) false) (sym at.1) (file_behind ks more at.0 fits (all-left IsStored ks more h.fit)))
+          (subst (λ (c : List ℕ). IsFile c (ks ++ take n more) false) (sym at.1) (file_behind ks more at.0 fits (all-left IsStored ks more h.fit) h.sound))
           older.file
           (subst (λ (l : List Stored). is_misplaced l ≡ false) (take-append-add ks more n) (misplaced-take (length ks + n) (ks ++ more) h.placed))
           older.placed
@@ -76,7 +79,7 @@ stands_at B d o ks more h = stands (pick B d o) B ks more h
 -- nothing was added: a beginning of what stood is a beginning of more
 pub keeps_at : (live : Side) (d o : Disk) (ks ls more : List Stored) → HoldsOn d o ks ls → (image : Image) → MayLeaveBoth (pick live d o) image → (k : ℕ) × IsLive image (ks ++ take k (ls ++ more))
 keeps_at live d o ks ls more h image left =
-    let at = stands_at live d o ks ls (record { front = λ c left. (left.0, left.1 ∙ (λ i. h.synced i ++ take left.0 (h.unsynced i))); fit = h.fit; placed = h.placed; older = h.older }) image left in
+    let at = stands_at live d o ks ls (record { front = λ c left. (left.0, left.1 ∙ (λ i. h.synced i ++ take left.0 (h.unsynced i))); fit = h.fit; placed = h.placed; sound = h.sound; older = h.older }) image left in
     let same : take (min at.0 (length ls)) (ls ++ more) ≡ take at.0 ls = take-append-le (min at.0 (length ls)) ls more (omega arith) ∙ take_min at.0 ls in
     (min at.0 (length ls), subst (λ (l : List Stored). IsLive image (ks ++ l)) (sym same) at.1)
 
@@ -106,8 +109,8 @@ older_positive : (o : Disk) (g : ℕ) → IsOlder o g → 0 < g
 older_positive o g older = omega (arith, older.less)
 
 module _ (d o d' o' : Disk) (ks ls : List Stored) (given : List Entry) where
-  pub grows_torn : HoldsOn d o ks ls → AllByRecursion IsStored (plain given) → (n : ℕ) → d' ≡ appended d (take n (spelling_of_all (plain given))) → o' ≡ o → Grows d' o' ks (ls ++ plain given)
-  grows_torn h fits n is same = record {
+  pub grows_torn : format ks ≡ 2 → HoldsOn d o ks ls → AllByRecursion IsStored (plain given) → (n : ℕ) → d' ≡ appended d (take n (spelling_of_all (plain given))) → o' ≡ o → Grows d' o' ks (ls ++ plain given)
+  grows_torn two h fits n is same = record {
     front = λ c left.
         let within = take_within left.0 n (spelling_of_all ls) (spelling_of_all (plain given)) in
         let new : c ≡ d.synced ++ take left.0 (d.unsynced ++ take n (spelling_of_all (plain given))) = left.1 ∙ ap (λ (e : Disk). e.synced ++ take left.0 e.unsynced) is in
@@ -115,15 +118,17 @@ module _ (d o d' o' : Disk) (ks ls : List Stored) (given : List Entry) where
         (within.0, old ∙ ap (λ (l : List ℕ). spelling_of_all ks ++ l) (within.1 ∙ ap (λ (l : List ℕ). take within.0 l) (sym (spelled-append ls (plain given)))));
     fit = more_fit ks ls given h.fit fits;
     placed = more_placed ks ls given (older_positive o (generation ks) h.older) h.placed;
+    sound = mixed-two ks (ls ++ plain given) two;
     older = older_same o o' (generation ks) same h.older;
   }
 
-  pub holds_append : HoldsOn d o ks ls → AllByRecursion IsStored (plain given) → d' ≡ appended d (spelling_of_all (plain given)) → o' ≡ o → HoldsOn d' o' ks (ls ++ plain given)
-  holds_append h fits is same = record {
+  pub holds_append : format ks ≡ 2 → HoldsOn d o ks ls → AllByRecursion IsStored (plain given) → d' ≡ appended d (spelling_of_all (plain given)) → o' ≡ o → HoldsOn d' o' ks (ls ++ plain given)
+  holds_append two h fits is same = record {
     synced = ap (λ (e : Disk). e.synced) is ∙ h.synced;
     unsynced = ap (λ (e : Disk). e.unsynced) is ∙ ap (λ (l : List ℕ). l ++ spelling_of_all (plain given)) h.unsynced ∙ sym (spelled-append ls (plain given));
     fit = more_fit ks ls given h.fit fits;
     placed = more_placed ks ls given (older_positive o (generation ks) h.older) h.placed;
+    sound = mixed-two ks (ls ++ plain given) two;
     older = older_same o o' (generation ks) same h.older;
   }
 
@@ -135,11 +140,12 @@ holds_sync d o d' o' ks ls h is same =
       unsynced = ap (λ (e : Disk). e.unsynced) is;
       fit = subst (AllByRecursion IsStored) (sym all) h.fit;
       placed = subst (λ (l : List Stored). is_misplaced l ≡ false) (sym all) h.placed;
+      sound = subst (λ (l : List Stored). is_mixed l ≡ false) (sym all) h.sound;
       older = older_same o o' (generation (ks ++ ls)) same (subst (IsOlder o) (sym (generation-append ks ls (older_positive o (generation ks) h.older))) h.older);
     }
 
 pub grows_holds : (d o : Disk) (ks ls : List Stored) → HoldsOn d o ks ls → Grows d o ks ls
-grows_holds d o ks ls h = record { front = λ c left. (left.0, left.1 ∙ (λ i. h.synced i ++ take left.0 (h.unsynced i))); fit = h.fit; placed = h.placed; older = h.older }
+grows_holds d o ks ls h = record { front = λ c left. (left.0, left.1 ∙ (λ i. h.synced i ++ take left.0 (h.unsynced i))); fit = h.fit; placed = h.placed; sound = h.sound; older = h.older }
 
 -- all of it is synced
 pub grows_synced : (d o d' o' : Disk) (ks ls : List Stored) → HoldsOn d o ks ls → d' ≡ flushed d → o' ≡ o → Grows d' o' ks ls
@@ -150,16 +156,17 @@ grows_synced d o d' o' ks ls h is same = record {
       (length (spelling_of_all ls), all ∙ (λ i. h.synced i ++ h.unsynced i) ∙ ap (λ (l : List ℕ). spelling_of_all ks ++ l) (sym (take_all (length (spelling_of_all ls)) (spelling_of_all ls) (omega arith))));
   fit = h.fit;
   placed = h.placed;
+  sound = h.sound;
   older = older_same o o' (generation ks) same h.older;
 }
 
 -- the same, where the piece that was given is these bytes
 module _ (d o d' o' : Disk) (ks ls : List Stored) (given : List Entry) (bytes : List ℕ) (piece : bytes ≡ spelling_of_all (plain given)) where
-  pub torn_piece : HoldsOn d o ks ls → AllByRecursion IsStored (plain given) → AppendsSome bytes d d' → o' ≡ o → Grows d' o' ks (ls ++ plain given)
-  torn_piece h fits torn same = grows_torn d o d' o' ks ls given h fits torn.0 (torn.1 ∙ ap (λ (l : List ℕ). appended d (take torn.0 l)) piece) same
+  pub torn_piece : format ks ≡ 2 → HoldsOn d o ks ls → AllByRecursion IsStored (plain given) → AppendsSome bytes d d' → o' ≡ o → Grows d' o' ks (ls ++ plain given)
+  torn_piece two h fits torn same = grows_torn d o d' o' ks ls given two h fits torn.0 (torn.1 ∙ ap (λ (l : List ℕ). appended d (take torn.0 l)) piece) same
 
-  pub holds_piece : HoldsOn d o ks ls → AllByRecursion IsStored (plain given) → d' ≡ appended d bytes → o' ≡ o → HoldsOn d' o' ks (ls ++ plain given)
-  holds_piece h fits is same = holds_append d o d' o' ks ls given h fits (is ∙ ap (appended d) piece) same
+  pub holds_piece : format ks ≡ 2 → HoldsOn d o ks ls → AllByRecursion IsStored (plain given) → d' ≡ appended d bytes → o' ≡ o → HoldsOn d' o' ks (ls ++ plain given)
+  holds_piece two h fits is same = holds_append d o d' o' ks ls given two h fits (is ∙ ap (appended d) piece) same
 
 -- nothing has changed
 pub holds_same : (d o d' o' : Disk) (ks ls : List Stored) → HoldsOn d o ks ls → d' ≡ d → o' ≡ o → HoldsOn d' o' ks ls

@@ -10,6 +10,7 @@ use Rattle.lk_wire.specs.Values.{are_votes_above}
 use Rattle.lk_log.specs.Entries.{IsBase, IsStored, are_pairs_above}
 use Rattle.lk_log.specs.EveryImage.{AllMean, EveryFound, NarrowsOrBeganSome}
 use Rattle.lk_log.specs.Files.{IsFile}
+use Rattle.lk_log.specs.Formats.{is_mixed}
 use Rattle.lk_log.specs.Images.{Image, MayLeaveBoth, has_base, is_misplaced, generation, Means, IsLive, IsEmpty, IsDamaged, SameMeaning, seen}
 use Rattle.lk_log.specs.Standings.{HasHeader, StandsFor, with_plain, with_all, of_base}
 use Rattle.lk_log.specs.StoreValue.{StoreValue, pick, disks}
@@ -20,6 +21,7 @@ use Rattle.lk_log.specs.declared.stored.Stored.TheVariants.{Base, Plain}
 use Rattle.lk_log.specs.declared.verdict.Verdict.{Verdict}
 use Rattle.lk_log.specs.declared.verdict.Verdict.TheVariants.{Live, Empty, Damaged}
 use Rattle.lk_log.proofs.ImageLaws as images
+use Rattle.lk_log.proofs.Mixed.{mixed-take}
 use Rattle.lk_log.proofs.OneStanding as one
 use Rattle.lk_log.proofs.Settle.{whole_left}
 use Rattle.lk_log.proofs.Spelling.{all-left, none_begins_nil}
@@ -248,9 +250,11 @@ synced_image s ks ls h =
         unsynced = refl;
         fit = subst (AllByRecursion IsStored) nothing (all-left IsStored ks ls h.on.fit);
         placed = subst (λ (l : List Stored). is_misplaced l ≡ false) (take_at ks ls (length ks) refl ∙ nothing) (images.misplaced-take (length ks) (ks ++ ls) h.on.placed);
+        sound = subst (λ (l : List Stored). is_mixed l ≡ false) (take_at ks ls (length ks) refl ∙ nothing) (mixed-take (length ks) (ks ++ ls) h.on.sound);
         older = h.on.older;
       };
       generation_is = h.generation_is;
+      format_is = h.format_is;
       header_is = h.header_is;
     } in
     let image : Image = λ side. (disks s side).synced ++ take 0 (disks s side).unsynced in
@@ -335,7 +339,7 @@ rebase_every P Q old new ks ls tail b whose text h is keeps grows all base every
 
 -- what an opened store of this header holds
 pub opens_holds : (before : Image) (whose : HeaderValue) (text : List ℕ) (store : StoreValue) (s : StandingValue) (o : Opens before whose text store s) → store.header ≡ whose → Holds store o.entries []
-opens_holds before whose text store s o same = record { on = o.holds; generation_is = o.generation_is; header_is = subst (HasHeader o.entries) (sym same) o.header }
+opens_holds before whose text store s o same = record { on = o.holds; generation_is = o.generation_is; format_is = o.format_is; header_is = subst (HasHeader o.entries) (sym same) o.header }
 
 -- each image then comes to something
 pub every_means : (P : List Stored → Type 0) (disks : Side → Disk) (whose : HeaderValue) (text : List ℕ) → EveryFound disks whose text P → AllMean disks

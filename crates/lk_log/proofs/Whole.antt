@@ -1,5 +1,5 @@
 -- The whole entries of bytes, and of the front of a file.
-use Rattle.std.proofs.Common.{◌≡◌, inl, inr, ℕ, zero, suc, ◌+◌, ◌-◌, ◌≤◌, Bool, true, false, not, List, [], ◌∷◌, ◌++◌, length, take, drop, Option, Some, None, refl, sym, ◌∙◌, ap, arith, append_assoc, length-append, take-append-drop}
+use Rattle.std.proofs.Common.{◌≡◌, inl, inr, ℕ, zero, suc, ◌+◌, ◌-◌, ◌≤◌, Bool, true, false, not, ◌||◌, List, [], ◌∷◌, ◌++◌, length, take, drop, Option, Some, None, refl, sym, ◌∙◌, ap, arith, append_assoc, length-append, take-append-drop}
 use Rattle.std.specs.List.{AllByRecursion}
 use Rattle.std.proofs.Math.Seq.{take-append-add}
 use Rattle.std.proofs.lemmas.Bool.{cases_lt}
@@ -7,10 +7,12 @@ use Rattle.std.proofs.lemmas.List.{append_cancel_left, append-nil, take-append-l
 use Rattle.lk_wire.proofs.Spellings.{IsBytes}
 use Rattle.lk_log.specs.Entries.{spelling, spelling_of_all, IsStored}
 use Rattle.lk_log.specs.Files.{NoneBegins, AreWholeEntries, is_torn, IsFile}
+use Rattle.lk_log.specs.Formats.{is_mixed}
 use Rattle.lk_log.specs.Parsing.{read_entry}
 use Rattle.lk_log.specs.declared.stored.Stored.{Stored}
 use Rattle.lk_log.proofs.EntryLaws.{entry_reads, none_at}
 use Rattle.lk_log.proofs.Spelling.{same_front, spelled_long, front_begins_none, none_begins_nil, spelled-append, all-append, all-take}
+use Rattle.lk_log.proofs.Mixed.{neither, sound_rest, torn_rest, mixed-front}
 use Rattle.lk_log.proofs.Torn.{nil_torn, entry_front_torn, torn_front}
 
 -- the front of what entries spell is some of them, and a torn end that no entry begins
@@ -68,8 +70,8 @@ none_front k rest none e more fits is =
 -- ---- files
 
 -- these entries, and a front of what others spell
-pub file_behind : (ks ls : List Stored) (n : ℕ) (fits : AllByRecursion IsStored ls) → AllByRecursion IsStored ks → IsFile (spelling_of_all ks ++ take n (spelling_of_all ls)) (ks ++ take (front n ls fits).count ls) false
-file_behind ks ls n fits fit =
+pub file_behind : (ks ls : List Stored) (n : ℕ) (fits : AllByRecursion IsStored ls) → AllByRecursion IsStored ks → is_mixed (ks ++ ls) ≡ false → IsFile (spelling_of_all ks ++ take n (spelling_of_all ls)) (ks ++ take (front n ls fits).count ls) false
+file_behind ks ls n fits fit sound =
     let cut = front n ls fits in
     record {
       whole = record {
@@ -78,16 +80,16 @@ file_behind ks ls n fits fit =
         is = ap (λ (l : List ℕ). spelling_of_all ks ++ l) cut.is ∙ sym (append_assoc (spelling_of_all ks) (spelling_of_all (take cut.count ls)) cut.rest) ∙ ap (λ (l : List ℕ). l ++ cut.rest) (sym (spelled-append ks (take cut.count ls)));
         ends = cut.ends;
       };
-      damage = ap not cut.torn;
+      damage = sound_rest (is_torn cut.rest) (is_mixed (ks ++ take cut.count ls)) cut.torn (mixed-front ks ls cut.count sound);
     }
 
-pub file_spelled : (es : List Stored) (c : List ℕ) → AllByRecursion IsStored es → c ≡ spelling_of_all es → IsFile c es false
-file_spelled es c fit is = record { whole = record { fit = fit; rest = []; is = is ∙ sym (append-nil (spelling_of_all es)); ends = none_begins_nil }; damage = ap not nil_torn }
+pub file_spelled : (es : List Stored) (c : List ℕ) → AllByRecursion IsStored es → is_mixed es ≡ false → c ≡ spelling_of_all es → IsFile c es false
+file_spelled es c fit sound is = record { whole = record { fit = fit; rest = []; is = is ∙ sym (append-nil (spelling_of_all es)); ends = none_begins_nil }; damage = sound_rest (is_torn []) (is_mixed es) nil_torn sound }
 
 pub file_unique : (c : List ℕ) (es fs : List Stored) (d f : Bool) → IsFile c es d → IsFile c fs f → (es ≡ fs) × (d ≡ f)
 file_unique c es fs d f a b = (
   whole_unique es fs c c refl a.whole b.whole,
-  sym a.damage ∙ ap (λ (l : List ℕ). not (is_torn l)) (rest_unique es fs c a.whole b.whole) ∙ b.damage,
+  sym a.damage ∙ (λ i. not (is_torn (rest_unique es fs c a.whole b.whole i)) || is_mixed (whole_unique es fs c c refl a.whole b.whole i)) ∙ b.damage,
 )
 
 -- the front of a file
@@ -102,7 +104,7 @@ front_file n c es w = elim (cases_lt (length (spelling_of_all es)) n) [
       let at : n ≡ length (spelling_of_all es) + (n - length (spelling_of_all es)) = omega arith in
       record {
         count = length es;
-        is_damaged = not (is_torn (take (n - length (spelling_of_all es)) w.rest));
+        is_damaged = not (is_torn (take (n - length (spelling_of_all es)) w.rest)) || is_mixed (take (length es) es);
         file = record {
           whole = record {
             fit = all-take IsStored (length es) es w.fit;
@@ -117,13 +119,17 @@ front_file n c es w = elim (cases_lt (length (spelling_of_all es)) n) [
       let cut = front n es w.fit in
       record {
         count = cut.count;
-        is_damaged = false;
+        is_damaged = is_mixed (take cut.count es);
         file = record {
           whole = record { fit = all-take IsStored cut.count es w.fit; rest = cut.rest; is = ap (λ (l : List ℕ). take n l) w.is ∙ take-append-le n (spelling_of_all es) w.rest within ∙ cut.is; ends = cut.ends };
-          damage = ap not cut.torn;
+          damage = torn_rest (is_torn cut.rest) (is_mixed (take cut.count es)) cut.torn;
         };
       }
 ]
+
+-- a file that is not damaged does not mix the formats
+pub file_sound : (c : List ℕ) (es : List Stored) → IsFile c es false → is_mixed es ≡ false
+file_sound c es f = (neither (not (is_torn f.whole.rest)) (is_mixed es) f.damage).1
 
 -- the front of a file that reaches past its entries, where these are followed by what is torn
 pub front_past : (n : ℕ) (c : List ℕ) (es : List Stored) → IsFile c es false → length (spelling_of_all es) ≤ n → IsFile (take n c) es false
@@ -137,7 +143,7 @@ front_past n c es f past =
         is = ap (λ (l : List ℕ). take n l) w.is ∙ ap (λ (k : ℕ). take k (spelling_of_all es ++ w.rest)) at ∙ take-append-add (spelling_of_all es) w.rest (n - length (spelling_of_all es));
         ends = none_front (n - length (spelling_of_all es)) w.rest w.ends;
       };
-      damage = ap not (torn_front w.rest (n - length (spelling_of_all es)) (is_true (is_torn w.rest) f.damage));
+      damage = sound_rest (is_torn (take (n - length (spelling_of_all es)) w.rest)) (is_mixed es) (torn_front w.rest (n - length (spelling_of_all es)) (is_true (is_torn w.rest) (neither (not (is_torn w.rest)) (is_mixed es) f.damage).0)) (file_sound c es f);
     }
   where
     is_true : (b : Bool) → not b ≡ false → b ≡ true

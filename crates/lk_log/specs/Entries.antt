@@ -13,6 +13,7 @@ use Rattle.lk_types.specs.declared.member.Member.{Member}
 use Rattle.lk_types.specs.declared.vote.Vote.{Vote as VoteValue}
 use Rattle.lk_wire.specs.Fields.{one, two, four, eight, ballot, member, vote, pair}
 use Rattle.lk_wire.specs.Values.{are_votes_above}
+use Rattle.lk_log.specs.Formats.{IsFormat}
 use Rattle.lk_log.specs.Headers.{IsHeader}
 use Rattle.lk_log.specs.Values.{HeaderValue, StandingValue, BaseValue}
 use Rattle.lk_log.specs.declared.stored.Stored.{Stored}
@@ -22,9 +23,9 @@ use Rattle.lk_log.specs.declared.stored.Stored.TheVariants.{Base, Plain}
 abbrev pub members : List Member → List ℕ
 members ms = one (length ms) ++ flat_map member ms
 
--- the format, which is 1, and whose store it is
+-- whose store it is
 abbrev pub header : HeaderValue → List ℕ
-header h = 1 ∷ (eight h.cluster ++ (four h.node ++ (one h.alpha ++ members h.members)))
+header h = eight h.cluster ++ (four h.node ++ (one h.alpha ++ members h.members))
 
 -- the length, and then the bytes
 abbrev pub snapshot : List ℕ → List ℕ
@@ -40,7 +41,7 @@ abbrev pub standing : StandingValue → List ℕ
 standing s = ballot s.promised ++ (eight s.position ++ (snapshot s.snapshot ++ (votes s.votes ++ pairs s.pairs)))
 
 unfoldable pub base : BaseValue → List ℕ
-base b = eight b.generation ++ (header b.header ++ standing b.standing)
+base b = eight b.generation ++ (one b.format ++ (header b.header ++ standing b.standing))
 
 abbrev pub kind : Stored → ℕ
 kind (Base b) = 1
@@ -85,7 +86,7 @@ IsStanding s = IsMark s.promised × IsTotal s.position
     × (length s.pairs ≤ max_votes) × AllByRecursion IsPair s.pairs × IsTrue (are_pairs_above s.position s.pairs)
 
 abbrev pub IsBase : BaseValue → Type 0
-IsBase b = IsCount b.generation × IsHeader b.header × IsStanding b.standing
+IsBase b = IsCount b.generation × IsHeader b.header × IsStanding b.standing × IsFormat b.format
 
 abbrev pub IsEntry : Entry → Type 0
 IsEntry (Promise b) = IsReal b

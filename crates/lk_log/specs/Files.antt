@@ -4,6 +4,7 @@ use Rattle.std.specs.Int.{w32, from_be_bytes}
 use Rattle.std.specs.List.{AllByRecursion}
 use Rattle.lk_types.specs.Limits.{max_torn}
 use Rattle.lk_log.specs.Entries.{spelling, spelling_of_all, IsStored}
+use Rattle.lk_log.specs.Formats.{is_mixed}
 use Rattle.lk_log.specs.declared.stored.Stored.{Stored}
 
 -- no entry begins these bytes
@@ -25,7 +26,7 @@ told_length rest = from_be_bytes w32 (take 4 rest)
 abbrev pub is_torn : List ℕ → Bool
 is_torn rest = nat_lt (length rest) 4 || (nat_le 1 (told_length rest) && nat_le (told_length rest) max_torn && nat_lt (length rest) (4 + told_length rest))
 
--- a file's whole entries, and whether damage stands after them: a rest that is not torn
+-- A file's whole entries, and whether it is damaged: a rest that is not torn stands after them, or they mix the two formats.
 pub record IsFile (bytes : List ℕ) (es : List Stored) (is_damaged : Bool) : Type 0 where
   pub whole : AreWholeEntries bytes es
-  pub damage : not (is_torn whole.rest) ≡ is_damaged
+  pub damage : (not (is_torn whole.rest) || is_mixed es) ≡ is_damaged

@@ -40,7 +40,7 @@ generation (Plain e ∷ es) = 0
 abbrev pub unless_damaged : Bool → Verdict → Verdict
 unless_damaged is_damaged v = if is_damaged then Damaged else v
 
--- What files of these whole entries come to, and of this damage after them: the file whose Base has the greater
+-- What files of these whole entries come to, and of this damage: the file whose Base has the greater
 -- generation is live, and of the other one the damage is not looked at. Without a Base they are empty.
 abbrev pub verdict : List Stored → List Stored → Bool → Bool → Verdict
 verdict a b a_damaged b_damaged =

@@ -2,6 +2,7 @@ pub mod Values
 pub mod Headers
 pub mod StoreValue
 pub mod Causes
+pub mod Formats
 pub mod Entries
 pub mod Parsing
 pub mod Files

@@ -32,11 +32,11 @@ read_alpha = tested (is_from_1_to 16) read_byte
 unfoldable pub read_members : List ℕ → Option (List Member × List ℕ)
 read_members = tested (are_members_above 0) (counted (tested (is_from_1_to 7) read_byte) read_member)
 
-abbrev pub read_header_fields : List ℕ → Option (HeaderValue × List ℕ)
-read_header_fields = made (λ h. record { node = h.1.0; cluster = h.0; alpha = h.1.1.0; members = h.1.1.1 }) (both read_eight (both read_node (both read_alpha read_members)))
+unfoldable pub read_format : List ℕ → Option (ℕ × List ℕ)
+read_format = tested (is_from_1_to 2) read_byte
 
 unfoldable pub read_header : List ℕ → Option (HeaderValue × List ℕ)
-read_header = tagged (kind 1 (made (λ h. h) read_header_fields) no_kind)
+read_header = made (λ h. record { node = h.1.0; cluster = h.0; alpha = h.1.1.0; members = h.1.1.1 }) (both read_eight (both read_node (both read_alpha read_members)))
 
 unfoldable pub read_snapshot : List ℕ → Option (List ℕ × List ℕ)
 read_snapshot = sized (tested (is_from_1_to max_base) read_four)
@@ -61,7 +61,7 @@ read_standing = tested is_in_order
     (both read_mark (both read_total (both read_snapshot (both read_votes read_pairs)))))
 
 unfoldable pub read_base : List ℕ → Option (BaseValue × List ℕ)
-read_base = made (λ b. record { generation = b.0; header = b.1.0; standing = b.1.1 }) (both read_count (both read_header read_standing))
+read_base = made (λ b. record { generation = b.0; format = b.1.0; header = b.1.1.0; standing = b.1.1.1 }) (both read_count (both read_format (both read_header read_standing)))
 
 unfoldable pub read_fields : ℕ → List ℕ → Option (Stored × List ℕ)
 read_fields =

@@ -7,8 +7,8 @@ use Rattle.lk_disk.specs.declared.device.Side.{Side}
 use Rattle.lk_disk.specs.declared.device.Side.TheVariants.{A, B}
 use Rattle.lk_log.specs.Values.{HeaderValue}
 
--- the disk of the live file and the other one, how often the device has failed, what makes it fail, which side is live, the generation of
--- its Base, whose store it is, and whether the store refuses all calls
+-- the disk of the live file and the other one, how often the device has failed, what makes it fail, which side is live, the generation and
+-- the format of its Base, whose store it is, and whether the store refuses all calls
 pub record StoreValue : Type 0 where
   pub live_disk : Disk
   pub other_disk : Disk
@@ -16,6 +16,7 @@ pub record StoreValue : Type 0 where
   pub meter : Meter
   pub live : Side
   pub generation : ℕ
+  pub format : ℕ
   pub header : HeaderValue
   pub failed : Bool
 

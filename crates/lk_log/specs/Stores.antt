@@ -9,6 +9,7 @@ use Rattle.lk_disk.specs.Disk.{Disk, other, contents, MayLeave}
 use Rattle.lk_disk.specs.declared.device.Side.{Side}
 use Rattle.lk_log.specs.Entries.{spelling_of_all, IsStored, are_pairs_above}
 use Rattle.lk_log.specs.Files.{IsFile}
+use Rattle.lk_log.specs.Formats.{format, is_mixed}
 use Rattle.lk_log.specs.Images.{Image, MayLeaveBoth, is_misplaced, generation, IsLive, IsEmpty, SameMeaning, seen}
 use Rattle.lk_log.specs.Standings.{HasHeader, StandsFor}
 use Rattle.lk_log.specs.StoreValue.{StoreValue, pick}
@@ -35,12 +36,14 @@ pub record HoldsOn (live_disk other_disk : Disk) (synced_entries unsynced_entrie
   pub unsynced : live_disk.unsynced ≡ spelling_of_all unsynced_entries
   pub fit : AllByRecursion IsStored (synced_entries ++ unsynced_entries)
   pub placed : is_misplaced (synced_entries ++ unsynced_entries) ≡ false
+  pub sound : is_mixed (synced_entries ++ unsynced_entries) ≡ false
   pub older : IsOlder other_disk (generation synced_entries)
 
--- a store holds these entries, the first of them synced, after a Base of its generation and its header
+-- a store holds these entries, the first of them synced, after a Base of its generation, its format and its header
 pub record Holds (s : StoreValue) (synced_entries unsynced_entries : List Stored) : Type 0 where
   pub on : HoldsOn s.live_disk s.other_disk synced_entries unsynced_entries
   pub generation_is : s.generation ≡ generation synced_entries
+  pub format_is : s.format ≡ format synced_entries
   pub header_is : HasHeader synced_entries s.header
 
 -- each image that a stop may leave of these disks has all of the first entries and a beginning of the others
@@ -67,9 +70,9 @@ pub record MayBegin (s : StandingValue) : Type 0 where
   pub few_pairs : length s.pairs ≤ max_votes
   pub pairs_rise : IsTrue (are_pairs_above s.position s.pairs)
 
--- the Base of the next generation of a store
+-- the Base of the next generation of a store, which has format 2
 abbrev pub next_base : StoreValue → StandingValue → BaseValue
-next_base s t = record { generation = s.generation + 1; header = s.header; standing = t }
+next_base s t = record { generation = s.generation + 1; format = 2; header = s.header; standing = t }
 
 -- each image that a stop may leave of these disks has all of the first entries and a beginning of the others, or the new
 -- Base alone
@@ -83,10 +86,11 @@ KeepsOrIs disks first more b = (image : Image) → MayLeaveBoth disks image
 abbrev pub cut_calls : ℕ → ℕ → ℕ
 cut_calls end size = if nat_le size end then 0 else 1
 
--- the Base of a store that is begun
+-- the Base of a store that is begun, which has format 2
 abbrev pub first_base : HeaderValue → List ℕ → BaseValue
 first_base h zero = record {
   generation = 1;
+  format = 2;
   header = h;
   standing = record { promised = zero_ballot; position = 0; snapshot = zero; votes = []; pairs = [] };
 }
@@ -95,18 +99,19 @@ first_base h zero = record {
 abbrev pub Found : Image → HeaderValue → List ℕ → List Stored → Type 0
 Found before h zero es = IsLive before es ⊎ (IsEmpty before × (es ≡ Base (first_base h zero) ∷ []))
 
--- what an opening finds is held by these disks, all of it synced, under this header and with this standing
-pub record OpensOn (before : Image) (h : HeaderValue) (zero : List ℕ) (live_disk other_disk : Disk) (number : ℕ) (standing : StandingValue) : Type 0 where
+-- what an opening finds is held by these disks, all of it synced, under this header, with its format and with this standing
+pub record OpensOn (before : Image) (h : HeaderValue) (zero : List ℕ) (live_disk other_disk : Disk) (number told : ℕ) (standing : StandingValue) : Type 0 where
   pub entries : List Stored
   pub found : Found before h zero entries
   pub holds : HoldsOn live_disk other_disk entries []
   pub header : HasHeader entries h
   pub generation_is : number ≡ generation entries
+  pub format_is : told ≡ format entries
   pub stands : StandsFor entries standing
 
 -- so by an opened store
 abbrev pub Opens : Image → HeaderValue → List ℕ → StoreValue → StandingValue → Type 0
-Opens before h zero s = OpensOn before h zero s.live_disk s.other_disk s.generation
+Opens before h zero s = OpensOn before h zero s.live_disk s.other_disk s.generation s.format
 
 -- how many changing calls of the device an opening makes: three where it begins a store, and else a cut, where something is torn,
 -- and a sync
@@ -129,11 +134,12 @@ StandsForSome s = (es : List Stored) × StandsFor es s
 abbrev pub IsWrong : Image → HeaderValue → Type 0
 IsWrong before h = (es : List Stored) × IsLive before es × (HasHeader es h → ⊥)
 
--- the live file has this generation and this standing
-pub record Shows (before : Image) (number : ℕ) (standing : StandingValue) : Type 0 where
+-- the live file has this generation, this format and this standing
+pub record Shows (before : Image) (number told : ℕ) (standing : StandingValue) : Type 0 where
   pub entries : List Stored
   pub live : IsLive before entries
   pub generation_is : number ≡ generation entries
+  pub format_is : told ≡ format entries
   pub stands : StandsFor entries standing
 
 -- each image of the new disks comes to what an image of the old ones came to, or to a store that is begun where

@@ -23,5 +23,6 @@ pub record StandingValue : Type 0 where
 -- what begins a file
 pub record BaseValue : Type 0 where
   pub generation : ℕ
+  pub format : ℕ
   pub header : HeaderValue
   pub standing : StandingValue

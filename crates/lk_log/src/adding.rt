@@ -2,6 +2,7 @@
 ghost use Rattle.std.specs.Prelude.{◌≡◌, ◌≤◌, ◌+◌, ◌*◌, ◌++◌, List, [], length, take, true, false, OnOk, OnErr, IsErrOf};
 ghost use Rattle.lk_disk.specs.Disk.{other, contents, appended, AppendsSome, HasCause};
 ghost use Rattle.lk_log.specs.Causes.{IsCaused, ComesBy, IsMetered, calls_for, put_calls};
+ghost use Rattle.lk_log.specs.Formats.{format};
 ghost use Rattle.lk_log.specs.Images.{Image, MayLeaveBoth, IsLive};
 ghost use Rattle.lk_log.specs.StoreValue.{pick};
 ghost use Rattle.lk_log.specs.Stores.{plain, HoldsOn, KeepsAtLeastOn};
@@ -27,7 +28,7 @@ fn append_some<D: LogDisk>(device: &mut D, side: Side, bytes: &[u8]) -> Result<(
     device.append(side, bytes)
 }
 
-// Adds entries after those of the live file, and syncs them where that is asked.
+// Adds entries after those of the live file, which has format 2, and syncs them where that is asked.
 pub fn add<D: LogDisk>(
     alloc: Global,
     device: &mut D,
@@ -35,11 +36,11 @@ pub fn add<D: LogDisk>(
     entries: &[Entry],
     sync: bool,
 ) -> Result<(), StoreFault>
-    ensures added { D.is_honest → sync ≡ false → (ks ls : List Stored) → HoldsOn (D.disk device.old live) (D.disk device.old (other live)) ks ls
+    ensures added { D.is_honest → sync ≡ false → (ks ls : List Stored) → format ks ≡ 2 → HoldsOn (D.disk device.old live) (D.disk device.old (other live)) ks ls
         → OnOk result (HoldsOn (D.disk device.new live) (D.disk device.new (other live)) ks (ls ++ plain entries.now)) }
-    ensures synced { D.is_honest → sync ≡ true → (ks ls : List Stored) → HoldsOn (D.disk device.old live) (D.disk device.old (other live)) ks ls
+    ensures synced { D.is_honest → sync ≡ true → (ks ls : List Stored) → format ks ≡ 2 → HoldsOn (D.disk device.old live) (D.disk device.old (other live)) ks ls
         → OnOk result (HoldsOn (D.disk device.new live) (D.disk device.new (other live)) (ks ++ (ls ++ plain entries.now)) []) }
-    ensures any { D.is_honest → (ks ls : List Stored) → HoldsOn (D.disk device.old live) (D.disk device.old (other live)) ks ls
+    ensures any { D.is_honest → (ks ls : List Stored) → format ks ≡ 2 → HoldsOn (D.disk device.old live) (D.disk device.old (other live)) ks ls
         → KeepsAtLeastOn live (D.disk device.new live) (D.disk device.new (other live)) ks (ls ++ plain entries.now) }
     ensures beside { D.is_honest → D.disk device.new (other live) ≡ D.disk device.old (other live) }
     ensures no_memory { D.is_honest → IsErrOf result StoreFault.NoMemory → D.disk device.new live ≡ D.disk device.old live }

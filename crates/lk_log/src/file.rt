@@ -1,14 +1,16 @@
 // Reading a file of a device.
-ghost use Rattle.std.specs.Prelude.{◌≡◌, ◌++◌, length, false, IfOk, IfErr};
+ghost use Rattle.std.specs.Prelude.{◌≡◌, ◌++◌, ◌||◌, not, length, false, IfOk, IfErr};
 ghost use Rattle.std.specs.List.{AllByRecursion};
 ghost use Rattle.lk_disk.specs.Disk.{contents};
 ghost use Rattle.lk_log.specs.Causes.{IsCaused, IsMetered};
 ghost use Rattle.lk_log.specs.Entries.{spelling_of_all, IsStored};
 ghost use Rattle.lk_log.specs.Files.{is_torn, IsFile};
+ghost use Rattle.lk_log.specs.Formats.{is_mixed};
 ghost use Rattle.lk_log.specs.Images.{generation, is_misplaced, has_base};
 ghost use Rattle.lk_log.specs.declared.fault.StoreFault.TheVariants.{NoMemory as memory_fault};
 
 use crate::fault::StoreFault;
+use crate::formats::is_mixed;
 use crate::reading::first_entry;
 use crate::stored::Stored;
 use crate::unread::Unread;
@@ -26,7 +28,7 @@ pub struct File {
     pub end: usize,
     // How many bytes there are.
     pub size: usize,
-    // Whether what stands after the entries is damage.
+    // Whether what stands after the entries is damage, or they mix the two formats.
     pub is_damaged: bool,
 }
 
@@ -40,6 +42,13 @@ fn is_torn(rest: &[u8]) -> bool
     };
     let told = told as usize;
     told >= 1 && told <= MAX_TORN && rest.len() < 4 + told
+}
+
+// Whether a file is damaged that has these entries, and this after them.
+fn is_damaged(entries: &[Stored], rest: &[u8]) -> bool
+    ensures { result ≡ (not (is_torn rest.now) || is_mixed entries.now) }
+{
+    !is_torn(rest) || is_mixed(entries)
 }
 
 // The file of these bytes.
@@ -61,11 +70,12 @@ fn file_of(alloc: Global, bytes: &[u8]) -> Result<File, StoreFault>
             Err(Unread::NoMemory) => return Err(StoreFault::NoMemory),
         }
     }
+    let is_damaged = is_damaged(&entries, rest);
     Ok(File {
         entries,
         end: bytes.len() - rest.len(),
         size: bytes.len(),
-        is_damaged: !is_torn(rest),
+        is_damaged,
     })
 }
 

@@ -116,6 +116,7 @@ fn of_base(base: Base) -> Standing
 {
     let Base {
         generation: _,
+        format: _,
         header: _,
         standing,
     } = base;

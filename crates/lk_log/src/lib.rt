@@ -5,6 +5,7 @@ mod adding;
 mod base;
 mod fault;
 mod file;
+mod formats;
 mod gathering;
 mod header;
 pub mod laws;
@@ -21,6 +22,6 @@ mod writing;
 
 pub use fault::{ReopenFault, StoreFault};
 pub use header::Header;
-pub use reopening::{look, reopen};
+pub use reopening::{LiveFile, look, reopen};
 pub use standing::Standing;
 pub use store::Store;

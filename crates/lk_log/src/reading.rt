@@ -7,7 +7,7 @@ ghost use Rattle.lk_wire.specs.Parser.{Finds, many, whole};
 ghost use Rattle.lk_wire.specs.Values.{are_votes_above};
 ghost use Rattle.lk_log.specs.Entries.{are_pairs_above, spelling, IsStored};
 ghost use Rattle.lk_log.specs.Files.{NoneBegins};
-ghost use Rattle.lk_log.specs.Parsing.{Gives, read_alpha, read_members, read_header, read_snapshot, read_few, read_votes, read_pairs, is_in_order, read_standing, read_base, read_fields, read_body, read_size, read_entry};
+ghost use Rattle.lk_log.specs.Parsing.{Gives, read_alpha, read_members, read_format, read_header, read_snapshot, read_few, read_votes, read_pairs, is_in_order, read_standing, read_base, read_fields, read_body, read_size, read_entry};
 
 use crate::base::Base;
 use crate::header::Header;
@@ -65,15 +65,22 @@ fn read_members(bytes: &[u8]) -> Option<(Members, &[u8])>
     Some((Members::of(&members)?, rest))
 }
 
+#[tactic(auto, unfolding(crate::specs::Parsing::read_format))]
+fn read_format(bytes: &[u8]) -> Option<(u8, &[u8])>
+    ensures { Finds (λ x. (x.0, x.1.now)) result (read_format bytes.now) }
+{
+    let (format, rest) = read_u8(bytes)?;
+    if format < 1 || format > 2 {
+        return None;
+    }
+    Some((format, rest))
+}
+
 #[tactic(auto, unfolding(crate::specs::Parsing::read_header))]
 fn read_header(bytes: &[u8]) -> Option<(Header, &[u8])>
     ensures { Finds (λ x. (x.0, x.1.now)) result (read_header bytes.now) }
 {
-    let (format, rest) = read_u8(bytes)?;
-    if format != 1 {
-        return None;
-    }
-    let (cluster, rest) = read_u64(rest)?;
+    let (cluster, rest) = read_u64(bytes)?;
     let Some((node, rest)) = read_node(rest) else {
         return None;
     };
@@ -253,12 +260,16 @@ fn read_base(alloc: Global, bytes: &[u8]) -> Result<(Base, &[u8]), Unread>
     let Some((generation, rest)) = read_position(bytes) else {
         return Err(Unread::NoEntry);
     };
+    let Some((format, rest)) = read_format(rest) else {
+        return Err(Unread::NoEntry);
+    };
     let Some((header, rest)) = read_header(rest) else {
         return Err(Unread::NoEntry);
     };
     let (standing, rest) = read_standing(alloc, rest)?;
     let base = Base {
         generation: generation.get(),
+        format,
         header,
         standing,
     };

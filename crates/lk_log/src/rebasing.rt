@@ -27,11 +27,11 @@ pub fn other(side: Side) -> Side
 
 // Writes these bytes of a Base in the place of the other file's, syncs them, and cuts the live file to nothing.
 pub fn go_over<D: LogDisk>(device: &mut D, live: Side, bytes: &[u8]) -> Result<(), StoreFault>
-    ensures holds { D.is_honest → (b : BaseValue) → IsStored (base_entry b) → bytes.now ≡ spelling (base_entry b)
+    ensures holds { D.is_honest → (b : BaseValue) → b.format ≡ 2 → IsStored (base_entry b) → bytes.now ≡ spelling (base_entry b)
         → OnOk result (HoldsOn (D.disk device.new (other live)) (D.disk device.new live) (base_entry b ∷ []) []) }
     ensures left { D.is_honest → OnOk result (D.disk device.new live ≡ record { synced = []; unsynced = [] }) }
     ensures any { D.is_honest → (b : BaseValue) (ks ls : List Stored) → HoldsOn (D.disk device.old live) (D.disk device.old (other live)) ks ls
-        → generation ks < b.generation → IsStored (base_entry b) → bytes.now ≡ spelling (base_entry b) → KeepsOrIs (D.disk device.new) ks ls b }
+        → generation ks < b.generation → b.format ≡ 2 → IsStored (base_entry b) → bytes.now ≡ spelling (base_entry b) → KeepsOrIs (D.disk device.new) ks ls b }
     ensures room { D.is_honest → length bytes.now ≤ max_base → StaysWithin max_base (D.disk device.old) (D.disk device.new) }
     ensures short { D.is_honest → length bytes.now ≤ max_base → OnOk result (length (contents (D.disk device.new (other live))) ≤ max_base) }
     ensures only { IfErr result (λ e. e ≡ StoreFault.Device) }

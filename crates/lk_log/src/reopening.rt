@@ -17,6 +17,7 @@ ghost use Rattle.lk_log.specs.declared.stored.Stored.{Stored};
 use crate::base::Base;
 use crate::fault::{ReopenFault, StoreFault};
 use crate::file::{File, generation_of};
+use crate::formats::format_of;
 use crate::gathering::gather;
 use crate::header::Header;
 use crate::opening::{find, settle};
@@ -33,6 +34,7 @@ use std::alloc::{AllocError, Global};
 struct Opened {
     live: Side,
     generation: u64,
+    format: u8,
     standing: Standing,
 }
 
@@ -65,6 +67,7 @@ fn first_base(alloc: Global, header: &Header, zero: &[u8]) -> Result<Base, Alloc
     header.facts();
     Ok(Base {
         generation: 1,
+        format: 2,
         header: header.copy(),
         standing: Standing {
             promised: Ballot::ZERO,
@@ -86,7 +89,7 @@ fn begin<D: LogDisk>(
     requires some { 1 ≤ length zero.now }
     requires room { length zero.now ≤ 49054 }
     ensures opens { D.is_honest → IsEmpty (seen (D.disk device.old))
-        → IfOk result (λ o. OpensOn (seen (D.disk device.old)) header.now zero.now (D.disk device.new o.live) (D.disk device.new (other o.live)) o.generation o.standing) }
+        → IfOk result (λ o. OpensOn (seen (D.disk device.old)) header.now zero.now (D.disk device.new o.live) (D.disk device.new (other o.live)) o.generation o.format o.standing) }
     ensures stays { D.is_honest → IsEmpty (seen (D.disk device.old)) → NarrowsOrBegins (D.disk device.old) (D.disk device.new) header.now zero.now }
     ensures room { D.is_honest → StaysWithin max_base (D.disk device.old) (D.disk device.new) }
     ensures in_a { IfOk result (λ o. o.live ≡ A) }
@@ -99,12 +102,14 @@ fn begin<D: LogDisk>(
     write_over(device, Side::A, &bytes)?;
     let Base {
         generation,
+        format,
         header: _,
         standing,
     } = base;
     Ok(Opened {
         live: Side::A,
         generation,
+        format,
         standing,
     })
 }
@@ -128,7 +133,7 @@ fn open<D: LogDisk>(
     file: File,
 ) -> Result<Opened, StoreFault>
     ensures opens { D.is_honest → FoundLive (D.disk device.old) live file.entries.items file.end file.size → (zero : List ℕ)
-        → IfOk result (λ o. OpensOn (seen (D.disk device.old)) header.now zero (D.disk device.new o.live) (D.disk device.new (other o.live)) o.generation o.standing) }
+        → IfOk result (λ o. OpensOn (seen (D.disk device.old)) header.now zero (D.disk device.new o.live) (D.disk device.new (other o.live)) o.generation o.format o.standing) }
     ensures stays { D.is_honest → FoundLive (D.disk device.old) live file.entries.items file.end file.size → (zero : List ℕ)
         → NarrowsOrBegins (D.disk device.old) (D.disk device.new) header.now zero }
     ensures room { D.is_honest → StaysWithin 0 (D.disk device.old) (D.disk device.new) }
@@ -152,10 +157,12 @@ fn open<D: LogDisk>(
     }
     settle(device, live, end, size)?;
     let generation = generation_of(&entries);
+    let format = format_of(&entries);
     let standing = gather(alloc, entries)?;
     Ok(Opened {
         live,
         generation,
+        format,
         standing,
     })
 }
@@ -170,7 +177,7 @@ fn recover<D: LogDisk>(
     requires some { 1 ≤ length zero.now }
     requires room { length zero.now ≤ 49054 }
     ensures opens { D.is_honest
-        → IfOk result (λ o. OpensOn (seen (D.disk device.old)) header.now zero.now (D.disk device.new o.live) (D.disk device.new (other o.live)) o.generation o.standing) }
+        → IfOk result (λ o. OpensOn (seen (D.disk device.old)) header.now zero.now (D.disk device.new o.live) (D.disk device.new (other o.live)) o.generation o.format o.standing) }
     ensures stays { D.is_honest → NarrowsOrBegins (D.disk device.old) (D.disk device.new) header.now zero.now }
     ensures room { D.is_honest → StaysWithin max_base (D.disk device.old) (D.disk device.new) }
     ensures begun { D.is_honest → IsEmpty (seen (D.disk device.old)) → IfOk result (λ o. o.live ≡ A) }
@@ -236,6 +243,7 @@ pub fn reopen<D: LogDisk + Drop>(
             let Opened {
                 live,
                 generation,
+                format,
                 standing,
             } = opened;
             let store = Store {
@@ -243,6 +251,7 @@ pub fn reopen<D: LogDisk + Drop>(
                 device,
                 live,
                 generation,
+                format,
                 header: header.copy(),
                 failed: false,
             };
@@ -252,15 +261,21 @@ pub fn reopen<D: LogDisk + Drop>(
     }
 }
 
-/// The generation and the standing of the live file, or `None` where no Base stands. It changes nothing.
+/// What stands in the live file.
+#[derive(Debug, Drop)]
+pub struct LiveFile {
+    pub generation: u64,
+    /// 1 or 2.
+    pub format: u8,
+    pub standing: Standing,
+}
+
+/// The generation, the format and the standing of the live file, or `None` where no Base stands. It changes nothing.
 ///
 /// It refuses with `Device` (7), `NoMemory` (8) and `Damaged` (9).
-pub fn look<D: LogDisk>(
-    alloc: Global,
-    device: &mut D,
-) -> Result<Option<(u64, Standing)>, StoreFault>
+pub fn look<D: LogDisk>(alloc: Global, device: &mut D) -> Result<Option<LiveFile>, StoreFault>
     ensures unchanged { D.is_honest → (s : Side) → D.disk device.new s ≡ D.disk device.old s }
-    ensures some { D.is_honest → IfOk result (λ r. IfSome r (λ x. Shows (seen (D.disk device.old)) x.0 x.1)) }
+    ensures some { D.is_honest → IfOk result (λ r. IfSome r (λ x. Shows (seen (D.disk device.old)) x.generation x.format x.standing)) }
     ensures none { D.is_honest → result ≡ Ok None → IsEmpty (seen (D.disk device.old)) }
     ensures damaged { D.is_honest → IsErrOf result StoreFault.Damaged → IsDamaged (seen (D.disk device.old)) }
     ensures wrong { IsErrOf result StoreFault.WrongStore → ⊥ }
@@ -272,7 +287,13 @@ pub fn look<D: LogDisk>(
     let Some((_, file)) = find(alloc, device)? else {
         return Ok(None);
     };
-    let generation = generation_of(&file.entries);
     let File { entries, .. } = file;
-    Ok(Some((generation, gather(alloc, entries)?)))
+    let generation = generation_of(&entries);
+    let format = format_of(&entries);
+    let standing = gather(alloc, entries)?;
+    Ok(Some(LiveFile {
+        generation,
+        format,
+        standing,
+    }))
 }

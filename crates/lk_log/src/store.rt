@@ -30,6 +30,7 @@ pub struct Store<D: LogDisk + Drop> {
     pub(crate) device: D,
     pub(crate) live: Side,
     pub(crate) generation: u64,
+    pub(crate) format: u8,
     pub(crate) header: Header,
     pub(crate) failed: bool,
 }
@@ -47,16 +48,18 @@ impl<D: LogDisk + Drop> Model for Store<D> {
       meter = D.meter s.device;
       live = s.live;
       generation = s.generation;
+      format = s.format;
       header = s.header;
       failed = s.failed;
     } };
 }
 
 impl<D: LogDisk + Drop> Store<D> {
-    /// Adds entries after those of the live file, and syncs them where that is asked.
+    /// Adds entries after those of the live file, which has format 2, and syncs them where that is asked.
     ///
     /// It refuses with `Device` (7) and `NoMemory` (8); after that each later call answers `Failed` (11).
     pub fn put(&mut self, entries: &[Entry], sync: bool) -> Result<(), StoreFault>
+        requires { self.old.format ≡ 2 }
         // At Ok the entries stand there, synced where that was asked.
         ensures added { D.is_honest → sync ≡ false → (ks ls : List Stored) → Holds self.old ks ls
             → OnOk result (Holds self.new ks (ls ++ plain entries.now)) }
@@ -72,6 +75,7 @@ impl<D: LogDisk + Drop> Store<D> {
         ensures grows { D.is_honest → length (contents self.new.live_disk) ≤ length (contents self.old.live_disk) + 102 * length entries.now }
         ensures live { self.new.live ≡ self.old.live }
         ensures generation { self.new.generation ≡ self.old.generation }
+        ensures format { self.new.format ≡ self.old.format }
         ensures header { self.new.header ≡ self.old.header }
         ensures err { OnErr result (self.new.failed ≡ true) }
         ensures alive { OnOk result (self.new.failed ≡ false) }
@@ -92,7 +96,7 @@ impl<D: LogDisk + Drop> Store<D> {
     }
 
     /// Writes a standing as the Base of a further file, the next generation's, and goes over to that file: the other one
-    /// is cut to nothing. It stands for this standing alone, and for nothing that was put before.
+    /// is cut to nothing. The further file has format 2, whatever the live one had. It stands for this standing alone, and for nothing that was put before.
     ///
     /// It refuses with `Device` (7) and `NoMemory` (8); after that each later call answers `Failed` (11). At generation 2^48
     /// it refuses with `Failed` and changes nothing. Memory is wanted before the device is called.
@@ -110,6 +114,8 @@ impl<D: LogDisk + Drop> Store<D> {
         ensures room { D.is_honest → StaysWithin max_base (disks self.old) (disks self.new) }
         ensures short { D.is_honest → OnOk result (length (contents self.new.live_disk) ≤ max_base) }
         ensures generation { OnOk result (self.new.generation ≡ self.old.generation + 1) }
+        ensures format { OnOk result (self.new.format ≡ 2) }
+        ensures format_err { OnErr result (self.new.format ≡ self.old.format) }
         ensures header { self.new.header ≡ self.old.header }
         ensures err { self.old.generation < max_count → OnErr result (self.new.failed ≡ true) }
         ensures alive { OnOk result (self.new.failed ≡ false) }
@@ -127,10 +133,11 @@ impl<D: LogDisk + Drop> Store<D> {
         self.header.facts();
         standing.facts();
         self.failed = true;
-        let bytes = spelled_parts(self.alloc, self.generation + 1, &self.header, standing)?;
+        let bytes = spelled_parts(self.alloc, self.generation + 1, 2, &self.header, standing)?;
         go_over(&mut self.device, self.live, &bytes)?;
         self.live = other(self.live);
         self.generation += 1;
+        self.format = 2;
         self.failed = false;
         Ok(())
     }
@@ -144,6 +151,7 @@ impl<D: LogDisk + Drop> Store<D> {
         ensures other_disk { D.is_honest → self.new.other_disk ≡ self.old.other_disk }
         ensures live { self.new.live ≡ self.old.live }
         ensures generation { self.new.generation ≡ self.old.generation }
+        ensures format { self.new.format ≡ self.old.format }
         ensures header { self.new.header ≡ self.old.header }
         ensures err { OnErr result (self.new.failed ≡ true) }
         ensures alive { OnOk result (self.new.failed ≡ false) }
@@ -162,6 +170,13 @@ impl<D: LogDisk + Drop> Store<D> {
         Ok(length)
     }
 
+    /// The format of the live file, 1 or 2.
+    pub fn format(&self) -> u8
+        ensures { result ≡ self.now.format }
+    {
+        self.format
+    }
+
     /// The device.
     pub fn device(&self) -> &D
         ensures live_disk { D.disk result.now self.now.live ≡ self.now.live_disk }
@@ -170,6 +185,13 @@ impl<D: LogDisk + Drop> Store<D> {
         ensures meter { D.meter result.now ≡ self.now.meter }
     {
         &self.device
+    }
+
+    /// The generation of the live file.
+    pub fn generation(&self) -> u64
+        ensures { result ≡ self.now.generation }
+    {
+        self.generation
     }
 
     /// The device, as the store leaves it.
@@ -184,6 +206,7 @@ impl<D: LogDisk + Drop> Store<D> {
             device,
             live: _,
             generation: _,
+            format: _,
             header: _,
             failed: _,
         } = self;
@@ -200,6 +223,7 @@ impl<D: Trapped + Drop> Store<D> {
         ensures failures { self.new.failures ≡ self.old.failures }
         ensures live { self.new.live ≡ self.old.live }
         ensures generation { self.new.generation ≡ self.old.generation }
+        ensures format { self.new.format ≡ self.old.format }
         ensures header { self.new.header ≡ self.old.header }
         ensures failed { self.new.failed ≡ self.old.failed }
     {

@@ -32,7 +32,6 @@ fn put_members(out: &mut BytesMut, list: &[Member]) -> Result<(), AllocError>
 fn put_header(out: &mut BytesMut, value: &Header) -> Result<(), AllocError>
     ensures { OnOk result (out.new.items ≡ out.old.items ++ header value.now) }
 {
-    put_u8(out, 1)?;
     put_u64(out, value.genesis().cluster)?;
     put_node(out, value.node())?;
     put_u8(out, value.genesis().alpha)?;
@@ -96,14 +95,16 @@ fn put_standing(out: &mut BytesMut, value: &Standing) -> Result<(), AllocError>
 fn put_base_body(
     out: &mut BytesMut,
     generation: u64,
+    format: u8,
     whose: &Header,
     value: &Standing,
 ) -> Result<(), AllocError>
-    requires { IsBase (record { generation = generation; header = whose.now; standing = value.now }) }
-    ensures { OnOk result (out.new.items ≡ out.old.items ++ body (base_entry (record { generation = generation; header = whose.now; standing = value.now }))) }
+    requires { IsBase (record { generation = generation; format = format; header = whose.now; standing = value.now }) }
+    ensures { OnOk result (out.new.items ≡ out.old.items ++ body (base_entry (record { generation = generation; format = format; header = whose.now; standing = value.now }))) }
 {
     put_u8(out, 1)?;
     put_u64(out, generation)?;
+    put_u8(out, format)?;
     put_header(out, whose)?;
     put_standing(out, value)?;
     Ok(())
@@ -140,19 +141,20 @@ fn put_behind_length(out: &mut BytesMut, text: &[u8]) -> Result<(), AllocError>
     Ok(())
 }
 
-// The spelling of the Base of this generation, header and standing.
+// The spelling of the Base of this generation, format, header and standing.
 #[tactic(auto, using(crate::proofs::EntryLaws::body_short), unfolding(crate::specs::Entries::spelling))]
 pub fn spelled_parts(
     alloc: Global,
     generation: u64,
+    format: u8,
     whose: &Header,
     value: &Standing,
 ) -> Result<BytesMut, AllocError>
-    requires { IsStored (base_entry (record { generation = generation; header = whose.now; standing = value.now })) }
-    ensures { IfOk result (λ out. out.items ≡ spelling (base_entry (record { generation = generation; header = whose.now; standing = value.now }))) }
+    requires { IsStored (base_entry (record { generation = generation; format = format; header = whose.now; standing = value.now })) }
+    ensures { IfOk result (λ out. out.items ≡ spelling (base_entry (record { generation = generation; format = format; header = whose.now; standing = value.now }))) }
 {
     let mut text = BytesMut::new(alloc);
-    put_base_body(&mut text, generation, whose, value)?;
+    put_base_body(&mut text, generation, format, whose, value)?;
     let mut out = BytesMut::new(alloc);
     put_behind_length(&mut out, &text)?;
     Ok(out)
@@ -163,7 +165,13 @@ pub fn spelled_base(alloc: Global, value: &Base) -> Result<BytesMut, AllocError>
     requires { IsStored (base_entry value.now) }
     ensures { IfOk result (λ out. out.items ≡ spelling (base_entry value.now)) }
 {
-    spelled_parts(alloc, value.generation, &value.header, &value.standing)
+    spelled_parts(
+        alloc,
+        value.generation,
+        value.format,
+        &value.header,
+        &value.standing,
+    )
 }
 
 // The range of each part of an entry. It does nothing.

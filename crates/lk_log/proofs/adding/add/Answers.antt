@@ -11,35 +11,35 @@ use Rattle.lk_log.specs.declared.fault.StoreFault.TheVariants.{NoMemory}
 
 -- nothing was written
 pub returns-in_err-bytes-clause-any : goal.returns-in_err-bytes-clause-any
-returns-in_err-bytes-clause-any g c honest ks ls holds = keeps_at c.args.live _ _ ks ls (plain c.args.entries.now) holds
+returns-in_err-bytes-clause-any g c honest ks ls two holds = keeps_at c.args.live _ _ ks ls (plain c.args.entries.now) holds
 
 -- a beginning was added
 pub returns-in_err-append_some-clause-any : goal.returns-in_err-append_some-clause-any
-returns-in_err-append_some-clause-any g c honest ks ls holds =
+returns-in_err-append_some-clause-any g c honest ks ls two holds =
     let old = g.D.LogDisk.disk c.args.device.now in
     let new = g.D.LogDisk.disk c.append_some.new.device in
     stands_at c.args.live (new c.args.live) (new (other c.args.live)) ks _
     (torn_piece (old c.args.live) (old (other c.args.live)) (new c.args.live) (new (other c.args.live)) ks ls c.args.entries.now c.deref.result.now (c.deref.ensures ∙ c.in_ok-bytes.ensures)
-    holds c.entries_facts.ensures (c.in_err-append_some.ensures.err honest) (c.append_some.ensures.beside honest))
+    two holds c.entries_facts.ensures (c.in_err-append_some.ensures.err honest) (c.append_some.ensures.beside honest))
 
 pub returns-then-not-sync-clause-added : goal.returns-then-not-sync-clause-added
-returns-then-not-sync-clause-added g c honest unasked ks ls holds =
+returns-then-not-sync-clause-added g c honest unasked ks ls two holds =
     let old = g.D.LogDisk.disk c.args.device.now in
     let new = g.D.LogDisk.disk c.append_some.new.device in
     holds_piece (old c.args.live) (old (other c.args.live)) (new c.args.live) (new (other c.args.live)) ks ls c.args.entries.now c.deref.result.now (c.deref.ensures ∙ c.in_ok-bytes.ensures)
-    holds c.entries_facts.ensures (c.in_ok-append_some.ensures.ok honest) (c.append_some.ensures.beside honest)
+    two holds c.entries_facts.ensures (c.in_ok-append_some.ensures.ok honest) (c.append_some.ensures.beside honest)
 
 pub returns-then-not-sync-clause-any : goal.returns-then-not-sync-clause-any
-returns-then-not-sync-clause-any g c honest ks ls holds =
+returns-then-not-sync-clause-any g c honest ks ls two holds =
     let old = g.D.LogDisk.disk c.args.device.now in
     let new = g.D.LogDisk.disk c.append_some.new.device in
     stands_at c.args.live (new c.args.live) (new (other c.args.live)) ks _
     (grows_holds (new c.args.live) (new (other c.args.live)) ks _
     (holds_piece (old c.args.live) (old (other c.args.live)) (new c.args.live) (new (other c.args.live)) ks ls c.args.entries.now c.deref.result.now (c.deref.ensures ∙ c.in_ok-bytes.ensures)
-    holds c.entries_facts.ensures (c.in_ok-append_some.ensures.ok honest) (c.append_some.ensures.beside honest)))
+    two holds c.entries_facts.ensures (c.in_ok-append_some.ensures.ok honest) (c.append_some.ensures.beside honest)))
 
 pub returns-in_err-sync-clause-any : goal.returns-in_err-sync-clause-any
-returns-in_err-sync-clause-any g c honest ks ls holds =
+returns-in_err-sync-clause-any g c honest ks ls two holds =
     let old = g.D.LogDisk.disk c.args.device.now in
     let mid = g.D.LogDisk.disk c.append_some.new.device in
     let new = g.D.LogDisk.disk c.sync.new.self in
@@ -47,28 +47,28 @@ returns-in_err-sync-clause-any g c honest ks ls holds =
     (grows_holds (new c.args.live) (new (other c.args.live)) ks _
     (holds_same (mid c.args.live) (mid (other c.args.live)) (new c.args.live) (new (other c.args.live)) ks _
     (holds_piece (old c.args.live) (old (other c.args.live)) (mid c.args.live) (mid (other c.args.live)) ks ls c.args.entries.now c.deref.result.now (c.deref.ensures ∙ c.in_ok-bytes.ensures)
-    holds c.entries_facts.ensures (c.in_ok-append_some.ensures.ok honest) (c.append_some.ensures.beside honest))
+    two holds c.entries_facts.ensures (c.in_ok-append_some.ensures.ok honest) (c.append_some.ensures.beside honest))
     (c.in_err-sync.ensures.err honest) (c.sync.ensures.beside honest)))
 
 pub returns-clause-synced : goal.returns-clause-synced
-returns-clause-synced g c honest asked ks ls holds =
+returns-clause-synced g c honest asked ks ls two holds =
     let old = g.D.LogDisk.disk c.args.device.now in
     let mid = g.D.LogDisk.disk c.append_some.new.device in
     let new = g.D.LogDisk.disk c.sync.new.self in
     holds_sync (mid c.args.live) (mid (other c.args.live)) (new c.args.live) (new (other c.args.live)) ks _
     (holds_piece (old c.args.live) (old (other c.args.live)) (mid c.args.live) (mid (other c.args.live)) ks ls c.args.entries.now c.deref.result.now (c.deref.ensures ∙ c.in_ok-bytes.ensures)
-    holds c.entries_facts.ensures (c.in_ok-append_some.ensures.ok honest) (c.append_some.ensures.beside honest))
+    two holds c.entries_facts.ensures (c.in_ok-append_some.ensures.ok honest) (c.append_some.ensures.beside honest))
     (c.in_ok-sync.ensures.ok honest) (c.sync.ensures.beside honest)
 
 pub returns-clause-any : goal.returns-clause-any
-returns-clause-any g c honest ks ls holds =
+returns-clause-any g c honest ks ls two holds =
     let old = g.D.LogDisk.disk c.args.device.now in
     let mid = g.D.LogDisk.disk c.append_some.new.device in
     let new = g.D.LogDisk.disk c.sync.new.self in
     stands_at c.args.live (new c.args.live) (new (other c.args.live)) ks _
     (grows_synced (mid c.args.live) (mid (other c.args.live)) (new c.args.live) (new (other c.args.live)) ks _
     (holds_piece (old c.args.live) (old (other c.args.live)) (mid c.args.live) (mid (other c.args.live)) ks ls c.args.entries.now c.deref.result.now (c.deref.ensures ∙ c.in_ok-bytes.ensures)
-    holds c.entries_facts.ensures (c.in_ok-append_some.ensures.ok honest) (c.append_some.ensures.beside honest))
+    two holds c.entries_facts.ensures (c.in_ok-append_some.ensures.ok honest) (c.append_some.ensures.beside honest))
     (c.in_ok-sync.ensures.ok honest) (c.sync.ensures.beside honest))
 
 pub returns-in_err-append_some-clause-grows : goal.returns-in_err-append_some-clause-grows

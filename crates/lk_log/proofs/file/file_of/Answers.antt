@@ -1,6 +1,8 @@
-use Rattle.std.proofs.Common.{◌++◌, not, List, ℕ, length, sym, subst, ap, ◌∙◌, arith, length-append}
+use Rattle.std.proofs.Common.{◌++◌, not, ◌||◌, List, ℕ, length, sym, subst, ap, ◌∙◌, arith, length-append}
 use Rattle.std.specs.List.{AllByRecursion}
 use Rattle.lk_log.specs.Entries.{spelling, spelling_of_all, IsStored}
+use Rattle.lk_log.specs.Files.{is_torn}
+use Rattle.lk_log.specs.Formats.{is_mixed}
 use Rattle.lk_log.specs.declared.stored.Stored.{Stored}
 use Rattle.lk_log.proofs.Spelling.{spelled_long, spelled-push, all-append}
 use Rattle.lk_log.proofs.file.file_of.Goals as goal
@@ -22,5 +24,5 @@ returns-clause-file c =
     let none = c.in-Err-NoEntry.ensures.none in
     record {
       whole = record { fit = c.read.invariant.fit; rest = c.read.rest.now; is = c.read.invariant.so_far; ends = none (cc) };
-      damage = ap not (sym c.is_torn.ensures);
+      damage = sym (c.is_damaged-is_damaged.ensures ∙ ap (λ (es : List Stored). not (is_torn c.read.rest.now) || is_mixed es) c.deref.ensures.value);
     }

@@ -4,6 +4,7 @@ use Rattle.lk_disk.specs.declared.device.Side.{Side}
 use Rattle.lk_log.specs.Stores.{FileNarrows}
 use Rattle.lk_log.proofs.ImageLaws.{each_side}
 use Rattle.lk_log.proofs.Settle.{narrows, file_same, file_then, flushed_narrows, settled}
+use Rattle.lk_log.proofs.Whole.{file_sound}
 use Rattle.lk_log.proofs.opening.settle.Goals as goal
 use Rattle.lk_log.proofs.Room.{within_then, within_side, synced_room}
 use Rattle.lk_disk.proofs.Devices.{passes_on, call_passes}
@@ -37,7 +38,7 @@ returns-clause-narrows g c honest es found =
 
 pub returns-clause-holds : goal.returns-clause-holds
 returns-clause-holds g c honest es found =
-    settled (g.D.LogDisk.disk c.cut_off.new.device c.args.live) _ (g.D.LogDisk.disk c.args.device.now (other c.args.live)) _ es found.file.whole.fit found.placed
+    settled (g.D.LogDisk.disk c.cut_off.new.device c.args.live) _ (g.D.LogDisk.disk c.args.device.now (other c.args.live)) _ es found.file.whole.fit found.placed (file_sound _ es found.file)
     (c.in_ok-cut_off.ensures.contents honest es found) (c.in_ok-sync.ensures.ok honest)
     (c.sync.ensures.beside honest ∙ c.cut_off.ensures.beside honest) found.older
 

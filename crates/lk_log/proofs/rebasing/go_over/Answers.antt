@@ -10,45 +10,45 @@ use Rattle.lk_log.proofs.rebasing.go_over.Goals as goal
 use Rattle.lk_disk.proofs.Devices.{passes_on, breaks_on, call_passes, call_breaks}
 
 pub returns-in_err-write_over-clause-any : goal.returns-in_err-write_over-clause-any
-returns-in_err-write_over-clause-any g c honest b ks ls holds less fits piece =
+returns-in_err-write_over-clause-any g c honest b ks ls holds less two fits piece =
     let old = g.D.LogDisk.disk c.args.device.now in
     let new = g.D.LogDisk.disk c.write_over.new.device in
     let side = c.other-side.ensures in
     let over = subst (λ (k : Side). IsWrittenOver (old k) c.args.bytes.now (new k)) side (c.write_over.ensures.any honest) in
-    over_keeps old new c.args.live b ks ls holds less fits
+    over_keeps old new c.args.live b ks ls holds less two fits
     (subst (λ (l : List ℕ). IsWrittenOver (old (other c.args.live)) l (new (other c.args.live))) piece over)
     (beside_live new old c.args.live c.other-side.result side (c.write_over.ensures.beside honest))
 
 pub returns-in_err-cut-clause-any : goal.returns-in_err-cut-clause-any
-returns-in_err-cut-clause-any g c honest b ks ls holds less fits piece =
+returns-in_err-cut-clause-any g c honest b ks ls holds less two fits piece =
     let old = g.D.LogDisk.disk c.args.device.now in
     let mid = g.D.LogDisk.disk c.write_over.new.device in
     let new = g.D.LogDisk.disk c.cut.new.self in
     let side = c.other-side.ensures in
     let same : mid c.args.live ≡ old c.args.live = beside_live mid old c.args.live c.other-side.result side (c.write_over.ensures.beside honest) in
     let written : mid (other c.args.live) ≡ record { synced = c.args.bytes.now; unsynced = [] } = subst (λ (k : Side). mid k ≡ record { synced = c.args.bytes.now; unsynced = [] }) side (c.in_ok-write_over.ensures.ok honest) in
-    front_keeps old new c.args.live b ks ls holds less fits
+    front_keeps old new c.args.live b ks ls holds less two fits
     (c.cut.ensures.beside honest ∙ written ∙ (λ i. record { synced = piece i; unsynced = [] }))
     (cut_front (old c.args.live) (new c.args.live) (subst (λ (d : Disk). CutShort 0 d (new c.args.live)) same (c.in_err-cut.ensures.err honest)))
 
 pub returns-clause-holds : goal.returns-clause-holds
-returns-clause-holds g c honest b fits piece =
+returns-clause-holds g c honest b two fits piece =
     let mid = g.D.LogDisk.disk c.write_over.new.device in
     let new = g.D.LogDisk.disk c.cut.new.self in
     let side = c.other-side.ensures in
     let written : mid (other c.args.live) ≡ record { synced = c.args.bytes.now; unsynced = [] } = subst (λ (k : Side). mid k ≡ record { synced = c.args.bytes.now; unsynced = [] }) side (c.in_ok-write_over.ensures.ok honest) in
-    gone_over (new (other c.args.live)) (new c.args.live) b fits
+    gone_over (new (other c.args.live)) (new c.args.live) b two fits
     (c.cut.ensures.beside honest ∙ written ∙ (λ i. record { synced = piece i; unsynced = [] }))
     (c.in_ok-cut.ensures.ok honest)
 
 pub returns-clause-any : goal.returns-clause-any
-returns-clause-any g c honest b ks ls holds less fits piece =
+returns-clause-any g c honest b ks ls holds less two fits piece =
     let old = g.D.LogDisk.disk c.args.device.now in
     let mid = g.D.LogDisk.disk c.write_over.new.device in
     let new = g.D.LogDisk.disk c.cut.new.self in
     let side = c.other-side.ensures in
     let written : mid (other c.args.live) ≡ record { synced = c.args.bytes.now; unsynced = [] } = subst (λ (k : Side). mid k ≡ record { synced = c.args.bytes.now; unsynced = [] }) side (c.in_ok-write_over.ensures.ok honest) in
-    front_keeps old new c.args.live b ks ls holds less fits
+    front_keeps old new c.args.live b ks ls holds less two fits
     (c.cut.ensures.beside honest ∙ written ∙ (λ i. record { synced = piece i; unsynced = [] }))
     (nothing_front (old c.args.live) (new c.args.live) (c.in_ok-cut.ensures.ok honest))
 

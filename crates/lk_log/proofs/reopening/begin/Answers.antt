@@ -49,7 +49,7 @@ returns-clause-opens g c honest empty =
     let is = c.in_ok-base.ensures.value in
     let piece = c.deref.ensures ∙ c.in_ok-bytes.ensures ∙ ap (λ (b : BaseValue). spelling (Base b)) is in
     let written : new A ≡ record { synced = spelling (Base (first_base c.args.header.now c.args.zero.now)); unsynced = [] } = c.in_ok-write_over.ensures.ok honest ∙ (λ i. record { synced = piece i; unsynced = [] }) in
-    subst (λ (b : BaseValue). OpensOn (seen old) c.args.header.now c.args.zero.now (new A) (new B) b.generation b.standing) (sym (c.base.view_is ∙ is))
+    subst (λ (b : BaseValue). OpensOn (seen old) c.args.header.now c.args.zero.now (new A) (new B) b.generation b.format b.standing) (sym (c.base.view_is ∙ is))
     (begun_opens old new c.args.header.now c.args.zero.now empty (first_fits c.args.header.now c.args.zero.now c.first_base.ensures.header c.requires.some c.requires.room) (c.write_over.ensures.beside honest) written)
 
 pub returns-clause-stands : goal.returns-clause-stands

@@ -1,4 +1,5 @@
 use Rattle.std.proofs.Common.{◌∙◌, ap}
+use Rattle.lk_log.specs.Formats.{format}
 use Rattle.lk_log.specs.Images.{generation}
 use Rattle.lk_log.proofs.ImageLaws.{found_is_live, found_positive}
 use Rattle.lk_log.proofs.reopening.look.Goals as goal
@@ -11,5 +12,6 @@ returns-clause-some g c honest =
       entries = c.in-Some.file.entries.items;
       live = found_is_live old c.in-Some.field-0-0 c.in-Some.file.entries.items c.in-Some.file.end c.in-Some.file.size found;
       generation_is = c.generation_of-generation.ensures ∙ ap generation c.deref.ensures.value;
-      stands = c.in_ok-gather.ensures.stands found.file.whole.fit found.placed (found_positive old c.in-Some.field-0-0 c.in-Some.file.entries.items c.in-Some.file.end c.in-Some.file.size found);
+      format_is = c.format_of-format.ensures ∙ ap format c.deref-2.ensures.value;
+      stands = c.in_ok-standing.ensures.stands found.file.whole.fit found.placed (found_positive old c.in-Some.field-0-0 c.in-Some.file.entries.items c.in-Some.file.end c.in-Some.file.size found);
     }

@@ -29,6 +29,7 @@ returns-clause-opens g c honest found zero = record {
   holds = c.in_ok-settle.ensures.holds honest c.args.file.entries.items found;
   header = subst (λ (l : List Stored). HasHeader l c.args.header.now) c.deref.ensures.value (c.has_header.ensures.0 (search rules));
   generation_is = search rules;
+  format_is = search rules;
   stands = c.in_ok-standing.ensures.stands found.file.whole.fit found.placed (found_positive (g.D.LogDisk.disk c.args.device.now) c.args.live c.args.file.entries.items c.args.file.end c.args.file.size found);
 }
 

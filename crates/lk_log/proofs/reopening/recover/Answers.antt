@@ -21,7 +21,7 @@ returns-in-Some-clause-opens g c honest =
     let same = c.find.ensures.unchanged honest in
     let found = rw c.in-Some.is at (c.in_ok-live.ensures.live honest) in
     ok_then c.open.result _ _
-    (λ o p. opens_before old mid same c.args.header.now c.args.zero.now (new o.live) (new (other o.live)) o.generation o.standing p)
+    (λ o p. opens_before old mid same c.args.header.now c.args.zero.now (new o.live) (new (other o.live)) o.generation o.format o.standing p)
     (c.open.ensures.opens honest (found_after old mid same c.in-Some.live c.in-Some.file.entries.items c.in-Some.file.end c.in-Some.file.size found) c.args.zero.now)
 
 -- where a file is live nothing is empty
@@ -55,7 +55,7 @@ returns-in-None-clause-opens g c honest =
     let same = c.find.ensures.unchanged honest in
     let empty = c.in_ok-live.ensures.empty honest (cc) in
     ok_then c.begin.result _ _
-    (λ o p. opens_before old mid same c.args.header.now c.args.zero.now (new o.live) (new (other o.live)) o.generation o.standing p)
+    (λ o p. opens_before old mid same c.args.header.now c.args.zero.now (new o.live) (new (other o.live)) o.generation o.format o.standing p)
     (c.begin.ensures.opens honest (empty_after old mid same empty))
 
 pub returns-in-None-clause-stays : goal.returns-in-None-clause-stays
