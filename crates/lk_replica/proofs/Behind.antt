@@ -32,6 +32,7 @@ use Rattle.lk_node.specs.Serving.{IsLight, Tells, Serves, GoesOn}
 use Rattle.lk_node.specs.declared.input.Input.{Input}
 use Rattle.lk_node.specs.declared.note.Note.{Note}
 use Rattle.lk_replica.specs.Posts.{AreOf}
+use Rattle.lk_replica.specs.Remembering.{Remembers}
 use Rattle.lk_replica.proofs.Going.{said_covered, said_light, batch_covered, bound, serves}
 use Rattle.lk_replica.proofs.Images.{fit_disks}
 use Rattle.lk_replica.proofs.Rebasing.{snapshot_covers, base_stands, here, rebase_stands, base_fits, here_fits}
@@ -112,6 +113,10 @@ module _ (m : Meaning) (Heard : History → Type 0) (genesis : Genesis) (n : ℕ
     stands = k.stands;
     remembers = k.remembers ∙ sym ((bound m Heard node stepped out g).still is);
   }
+
+  -- and it remembers
+  pub still_remembers : Remembers stepped old genesis n
+  still_remembers = record { whose = (bound m Heard node stepped out g).header ∙ whose; keeps = still_keeps }
 
   -- whatever is sent, the acceptor covers
   pub sent_is_covered : (x : NodeMessage) (d : Datagram) → Contains (batch_of n out.letters) d → Spells (said_by genesis n x) d.bytes → Covers stepped.acceptor.state x

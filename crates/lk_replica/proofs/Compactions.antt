@@ -1,5 +1,5 @@
 -- A call that was told to compact, by what it came to.
-use Rattle.std.proofs.Common.{◌≡◌, ℕ, ◌<◌, ◌≤◌, ◌⊎◌, List, [], ◌∷◌, Bool, true, false, Result, Ok, Err, OnOk, OnErr, refl, sym, ap, subst, inl, inr, arith}
+use Rattle.std.proofs.Common.{◌≡◌, ◌∙◌, ℕ, ◌<◌, ◌≤◌, ◌⊎◌, List, [], ◌∷◌, Bool, true, false, Result, Ok, Err, OnOk, OnErr, refl, sym, ap, subst, inl, inr, arith}
 use Rattle.std.proofs.lemmas.Bool.{cases_lt}
 use Rattle.std.specs.Prelude.{IfErr, IsErrAnd, IsErrOf}
 use Rattle.lk_types.specs.Limits.{max_count}
@@ -68,7 +68,7 @@ pub refused_as : {T : Type 0} (r : Result T ReplicaFault) (f : ReplicaFault) →
 refused_as (Ok x) f is so = absurd is
 refused_as (Err e) f is so = subst (λ z. IsStoreFault (fault_number z)) (sym is) so
 
-failed_alone : (e : ReplicaFault) → fault_number e ≡ 11 → e ≡ fault.Failed
+pub failed_alone : (e : ReplicaFault) → fault_number e ≡ 11 → e ≡ fault.Failed
 failed_alone fault.Device is = absurd (omega (arith, is))
 failed_alone fault.NoMemory is = absurd (omega (arith, is))
 failed_alone fault.Damaged is = absurd (omega (arith, is))
@@ -80,9 +80,10 @@ failed_alone (fault.Send notes) is = absurd (omega (arith, is))
 -- it was refused, for a cause
 pub refused : {T : Type 0} (m : Meaning) (old new : ReplicaValue) (r : Result T ReplicaFault) → CountsFailure old.store.failures new.store.failures r → PassesOr old.store.meter new.store.meter rebase_calls r
     → (old.failed ≡ true → IsErrOf r fault.Failed) → (old.failed ≡ false → old.store.failed ≡ false → old.store.generation < max_count → IsErrOf r fault.Failed → ⊥) → (old.failed ≡ true → new ≡ old)
-    → OnErr r (new.failed ≡ true) → IfErr r (IfSpared (AreSame (disks old.store) (disks new.store))) → IfErr r (λ e. IsStoreFault (fault_number e)) → IfErr r (λ e. CompactsTo m old new (Err (fault_number e)))
-refused m old new (Ok x) cause calls failed before stays broken same of_store = tt
-refused m old new (Err e) cause calls failed before stays broken same of_store = (
+    → OnErr r (new.failed ≡ true) → IfErr r (IfSpared (AreSame (disks old.store) (disks new.store))) → IfErr r (λ e. IsStoreFault (fault_number e)) → new.node.halted ≡ old.node.halted
+    → IfErr r (λ e. CompactsTo m old new (Err (fault_number e)))
+refused m old new (Ok x) cause calls failed before stays broken same of_store wakes = tt
+refused m old new (Err e) cause calls failed before stays broken same of_store wakes = (
   record {
     failures = cause;
     calls = calls;
@@ -90,6 +91,8 @@ refused m old new (Err e) cause calls failed before stays broken same of_store =
     once = λ ended. (ap fault_number (same_error e fault.Failed (failed ended)), stays ended);
     ends = λ other. broken;
     stays = λ device post. inl (spared_number (AreSame (disks old.store) (disks new.store)) e same device post);
+    halts = λ number. absurd (elim of_store [ inl a ↦ omega (arith, a, number) | inr (inl a) ↦ omega (arith, a, number) | inr (inr a) ↦ omega (arith, a, number) ]);
+    awake = λ was other. wakes ∙ was;
   },
   of_store,
 )

@@ -25,6 +25,7 @@ use Rattle.lk_node.specs.Keeping.{IsDecided, IsKnown, Keeps, Stands}
 use Rattle.lk_node.specs.Leavings.{header_of, acceptor_of, view_of, DisksFit, AllCover}
 use Rattle.lk_node.specs.Letters.{LetterValue, datagram_of, batch_of}
 use Rattle.lk_replica.specs.Posts.{AreOf}
+use Rattle.lk_replica.specs.Remembering.{Remembers}
 use Rattle.lk_node.specs.NodeValue.{NodeValue}
 use Rattle.lk_node.specs.Outboxes.{OutboxValue, nothing}
 use Rattle.lk_node.specs.Serving.{IsLight, with_entries, Tells, Binds, Serves, GoesOn}
@@ -198,14 +199,22 @@ module _ (m : Meaning) (h : History) (n : ℕ) (node new : NodeValue) (old store
 
 -- ---- sync before send, whatever has happened
 
-module _ (m : Meaning) (genesis : Genesis) (n : ℕ) (held : Holding) (node new : NodeValue) (old store : StoreValue) (Heard : History → Type 0) (out : OutboxValue)
-    (shown : Stands m node old genesis n held) (g : GoesOn m Heard node new nothing out) where
+-- a replica that stands so remembers
+abbrev pub remembered : (m : Meaning) (genesis : Genesis) (n : ℕ) (held : Holding) (node : NodeValue) (store : StoreValue) → Stands m node store genesis n held → Remembers node store genesis n
+remembered m genesis n held node store shown = record { whose = shown.whose; keeps = shown.keeps }
+
+module _ (m : Meaning) (genesis : Genesis) (n : ℕ) (node new : NodeValue) (old store : StoreValue) (Heard : History → Type 0) (out : OutboxValue)
+    (shown : Remembers node old genesis n) (g : GoesOn m Heard node new nothing out) where
   -- what was put the store keeps
   pub step_keeps : (out.sync ≡ false → Holds store shown.keeps.entries (plain shown.keeps.loose ++ plain out.entries)) → (out.sync ≡ true → Holds store (shown.keeps.entries ++ (plain shown.keeps.loose ++ plain out.entries)) [])
       → KeepsToo (header_of genesis n) store new.acceptor.state shown.keeps.loose out.entries out.sync
   step_keeps added synced =
       let b = bound m Heard node new out g in
       put_keeps (header_of genesis n) old store node.acceptor.state new.acceptor.state out.entries out.sync shown.keeps b.written b.unsynced added synced
+
+  -- and so it remembers
+  pub step_remembers : KeepsToo (header_of genesis n) store new.acceptor.state shown.keeps.loose out.entries out.sync → Remembers new store genesis n
+  step_remembers k = record { whose = (bound m Heard node new out g).header ∙ shown.whose; keeps = k.keeps }
 
   pub step_syncs : (k : Keeps (header_of genesis n) store new.acceptor.state) (x : NodeMessage) (d : Datagram) → Contains (batch_of n out.letters) d → Spells (said_by genesis n x) d.bytes
       → AllCover m genesis n (disks store) x

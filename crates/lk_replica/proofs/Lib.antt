@@ -1,5 +1,6 @@
 mod Revivals
 mod Rebasing
+mod Renewals
 mod Behind
 mod Adding
 mod Images

@@ -36,6 +36,7 @@ use Rattle.lk_node.specs.Packing.{standing_of, standing_here}
 use Rattle.lk_node.specs.Served.{text}
 use Rattle.lk_node.proofs.Nodes.{contains_more}
 use Rattle.lk_replica.specs.Compacting.{AllStandAt, IsSameStore}
+use Rattle.lk_replica.specs.Remembering.{Remembers}
 use Rattle.lk_replica.proofs.Adding.{adds}
 use Rattle.lk_replica.proofs.Going.{known_rests}
 use Rattle.lk_replica.proofs.Images.{EntriesCover, fit_entries, entries_fit, cover_entries, entries_cover, cover_disks, none_asked, cover_more}
@@ -121,6 +122,22 @@ module _ (m : Meaning) (genesis : Genesis) (n : ℕ) (node : NodeValue) (old new
   pub rebase_syncs : Holds new (Base base ∷ []) [] → (y : NodeMessage) → Covers node.acceptor.state y → AllCover m genesis n (disks new) y
   rebase_syncs holds y c = cover_disks m genesis n new (Base base ∷ []) [] y holds (base_covers y c)
 
+  -- and the store keeps what the acceptor then holds
+  pub rebase_keeps : node.header ≡ header_of genesis n → Holds new (Base base ∷ []) [] → Remembers (standing_here node) new genesis n
+  rebase_keeps whose holds = record {
+    whose = whose;
+    keeps = record {
+      entries = Base base ∷ [];
+      loose = [];
+      holds = holds;
+      decided = tt;
+      header = base_header;
+      standing = standing_of node;
+      stands = base_stands;
+      remembers = refl;
+    };
+  }
+
 module _ (m : Meaning) (genesis : Genesis) (n : ℕ) (node : NodeValue) (old new : StoreValue) (x : Holding) (shown : Stands m node old genesis n x)
     (may : MayBegin (standing_of node)) (within : node.acceptor.state.snapshot_position ≤ executed node.learner) where
   -- what the node then holds
@@ -128,18 +145,10 @@ module _ (m : Meaning) (genesis : Genesis) (n : ℕ) (node : NodeValue) (old new
   here = record { view = with_acceptor x.view (without_votes_to x.view.acceptor (executed node.learner)); waiting = x.waiting; gathered = x.gathered }
 
   pub rebase_stands : Holds new (Base (next_base old (standing_of node)) ∷ []) [] → Stands m (standing_here node) new genesis n here
+  unfolding rebase_keeps
   rebase_stands holds = record {
     whose = shown.whose;
-    keeps = record {
-      entries = Base (next_base old (standing_of node)) ∷ [];
-      loose = [];
-      holds = holds;
-      decided = tt;
-      header = base_header m genesis n node old new shown.keeps may within;
-      standing = standing_of node;
-      stands = base_stands m genesis n node old new shown.keeps may within;
-      remembers = refl;
-    };
+    keeps = (rebase_keeps m genesis n node old new shown.keeps may within shown.whose holds).keeps;
     known = tt;
     held = record {
       acceptor = ap (λ (a : AcceptorState). without_votes_to a (executed node.learner)) shown.held.acceptor;
@@ -227,11 +236,12 @@ module _ (m : Meaning) (old new : StoreValue) (same : IsSameStore old new) where
   same_holds ks ls h = record {
     on = subst₂ (λ (d o : Disk). HoldsOn d o ks ls) (sym same.live_disk) (sym same.other_disk) h.on;
     generation_is = same.generation ∙ h.generation_is;
+    format_is = same.format ∙ h.format_is;
     header_is = subst (HasHeader ks) (sym same.header) h.header_is;
   }
 
-  pub same_stands : (node : NodeValue) (genesis : Genesis) (n : ℕ) (x : Holding) → Stands m node old genesis n x → Stands m node new genesis n x
-  same_stands node genesis n x s = record {
+  abbrev pub same_remembers : (node : NodeValue) (genesis : Genesis) (n : ℕ) → Remembers node old genesis n → Remembers node new genesis n
+  same_remembers node genesis n s = record {
     whose = s.whose;
     keeps = record {
       entries = s.keeps.entries;
@@ -243,6 +253,12 @@ module _ (m : Meaning) (old new : StoreValue) (same : IsSameStore old new) where
       stands = s.keeps.stands;
       remembers = s.keeps.remembers;
     };
+  }
+
+  pub same_stands : (node : NodeValue) (genesis : Genesis) (n : ℕ) (x : Holding) → Stands m node old genesis n x → Stands m node new genesis n x
+  same_stands node genesis n x s = record {
+    whose = s.whose;
+    keeps = (same_remembers node genesis n (record { whose = s.whose; keeps = s.keeps })).keeps;
     known = s.known;
     held = s.held;
   }

@@ -38,6 +38,7 @@ use Rattle.lk_node.specs.Keeping.{Stands}
 use Rattle.lk_node.specs.Leavings.{header_of, acceptor_of, view_of, ImageFits, DisksFit, AllCover}
 use Rattle.lk_node.specs.Calls.{Goes, NodeFits}
 use Rattle.lk_node.specs.NodeValue.{NodeValue}
+use Rattle.lk_replica.specs.Remembering.{Remembers}
 use Rattle.lk_replica.specs.Revivals.{run_from, all_ran, notes_of, relearned, Restores}
 use Rattle.lk_node.specs.Served.{text, IsOfNode, IsBorneOut}
 use Rattle.lk_node.specs.declared.note.Note.{Note}
@@ -238,6 +239,14 @@ module _ (m : Meaning) (IsText : List ℕ → Type 0) (keeps : KeepsTexts IsText
         notes_borne m h lawful n under ran chosen x (subst (λ (ns : List Note). Contains ns x) noted c);
     left = nothing_later m h n (disks store) after;
   }
+
+-- whatever the disks have been through, the store keeps what the acceptor holds
+pub revived_remembers : (m : Meaning) (IsText : List ℕ → Type 0) (genesis : Genesis) (n : ℕ) (old : Side → Disk) (store : StoreValue) (s : StandingValue) (node : NodeValue) (notes : List Note)
+    → Opens (seen old) (header_of genesis n) (text m genesis []) store s → Restores m IsText (header_of genesis n) s node notes → store.header ≡ header_of genesis n → Remembers node store genesis n
+revived_remembers m IsText genesis n old store s node notes o r named = subst (λ (k : NodeValue). Remembers k store genesis n) (sym r.node_is) (record {
+  whose = refl;
+  keeps = record { entries = o.entries; loose = []; holds = opens_holds (seen old) (header_of genesis n) (text m genesis []) store s o named; decided = tt; header = o.header; standing = s; stands = o.stands; remembers = refl };
+})
 
 -- ---- the device that a store gives back
 

@@ -1,5 +1,5 @@
 -- What a call of a replica has done that rebases its store.
-use Rattle.std.specs.Prelude.{◌≡◌, ℕ, ◌+◌, ◌≤◌, ◌⊎◌, List, [], ◌∷◌, length}
+use Rattle.std.specs.Prelude.{◌≡◌, ℕ, ◌+◌, ◌≤◌, ◌==◌, ◌⊎◌, if◌then◌else◌, List, [], ◌∷◌, length}
 use Rattle.lk_disk.specs.Disk.{Disk, contents}
 use Rattle.lk_disk.specs.declared.device.Side.{Side}
 use Rattle.lk_log.specs.Causes.{rebase_calls}
@@ -32,12 +32,22 @@ pub record IsSameStore (old new : StoreValue) : Type 0 where
   pub other_disk : new.other_disk ≡ old.other_disk
   pub live : new.live ≡ old.live
   pub generation : new.generation ≡ old.generation
+  pub format : new.format ≡ old.format
   pub header : new.header ≡ old.header
 
 -- the node's Base stands alone in the store, and the node stands on it
 pub record Rebases (node : NodeValue) (store : StoreValue) (new : NodeValue) (after : StoreValue) : Type 0 where
   pub becomes : new ≡ standing_here node
   pub writes : (ks ls : List Stored) → Holds store ks ls → Holds after (Base (next_base store (standing_of node)) ∷ []) []
+
+-- a store of format 1 was rebased, and so has format 2, and one of format 2 is as it was
+pub record Renews (node : NodeValue) (store : StoreValue) (new : NodeValue) (after : StoreValue) : Type 0 where
+  pub rebases : store.format ≡ 1 → Rebases node store new after
+  pub rests : store.format ≡ 2 → (new ≡ node) × (after ≡ store)
+
+-- how many changing calls of the device that takes
+abbrev pub renew_calls : ℕ → ℕ
+renew_calls format = if format == 2 then 0 else rebase_calls
 
 -- what was due was done, and else nothing
 pub record RebasesWhereDue (node : NodeValue) (store : StoreValue) (new : NodeValue) (after : StoreValue) : Type 0 where

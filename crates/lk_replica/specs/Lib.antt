@@ -7,3 +7,4 @@ pub mod Behaviours
 pub mod Compacting
 pub mod Compacted
 pub mod Rooms
+pub mod Remembering

@@ -1,14 +1,20 @@
 -- What a revival makes of what a store stands for.
 use Rattle.std.specs.Prelude.{◌≡◌, ℕ, ◌⊎◌, ◌+◌, ◌*◌, ◌≤◌, ◌==◌, if◌then◌else◌, false, None, Result, Ok, Err, List, [], ◌∷◌, length, drop, Contains}
+use Rattle.lk_types.specs.Limits.{max_count}
 use Rattle.lk_types.specs.declared.vote.Vote.{Vote}
 use Rattle.lk_disk.specs.Disk.{Disk}
 use Rattle.lk_disk.specs.Memory.{Memory, disk_of}
 use Rattle.lk_disk.specs.Meters.{Passes}
 use Rattle.lk_disk.specs.declared.device.Side.{Side}
 use Rattle.lk_disk.specs.declared.meter.Meter.{Meter}
-use Rattle.lk_log.specs.Images.{IsDamaged, seen}
-use Rattle.lk_log.specs.Stores.{IsWrong, Opens, OpensBy}
-use Rattle.lk_log.specs.Values.{HeaderValue, StandingValue}
+use Rattle.lk_log.specs.Causes.{rebase_calls}
+use Rattle.lk_log.specs.Formats.{format}
+use Rattle.lk_log.specs.Images.{Image, MayLeaveBoth, IsDamaged, IsEmpty, IsLive, SameMeaning, generation, seen}
+use Rattle.lk_log.specs.Stores.{IsWrong, Opens, OpensBy, first_base}
+use Rattle.lk_log.specs.StoreValue.{StoreValue}
+use Rattle.lk_log.specs.Values.{HeaderValue, StandingValue, BaseValue}
+use Rattle.lk_log.specs.declared.stored.Stored.{Stored}
+use Rattle.lk_log.specs.declared.stored.Stored.TheVariants.{Base}
 use Rattle.lk_state.specs.Meanings.{Meaning}
 use Rattle.lk_state.specs.Packed.{Packs, packed}
 use Rattle.lk_state.specs.Runs.{ran}
@@ -19,7 +25,7 @@ pub use Rattle.lk_learner.specs.Unpacking.{Unpacks}
 use Rattle.lk_node.specs.Histories.{Genesis, Command}
 use Rattle.lk_node.specs.Leavings.{header_of, acceptor_of, StandsAs}
 use Rattle.lk_node.specs.NodeValue.{NodeValue}
-use Rattle.lk_replica.specs.Compacting.{AreSame}
+use Rattle.lk_replica.specs.Compacting.{AreSame, Renews}
 use Rattle.lk_replica.specs.Faults.{failures_by, RefusedAfter}
 use Rattle.lk_replica.specs.ReplicaValue.{ReplicaValue}
 use Rattle.lk_node.specs.Served.{text}
@@ -83,19 +89,52 @@ pub record Restores (m : Meaning) (IsText : List ℕ → Type 0) (whose : Header
   pub node_is : node ≡ revived m whose s whole
   pub notes_are : notes ≡ notes_of whose.node s.position (run_from s.position s.pairs)
 
--- what these disks stand for, or a store that is begun there, is revived as this replica, with these notes
-pub record Revives (m : Meaning) (IsText : List ℕ → Type 0) (disks : Side → Disk) (whose : HeaderValue) (r : ReplicaValue) (notes : List Note) : Type 0 where
+-- what these disks stand for, or a store that is begun there, is taken up as this store and this node, with these notes
+pub record TakesUp (m : Meaning) (IsText : List ℕ → Type 0) (disks : Side → Disk) (whose : HeaderValue) (node : NodeValue) (store : StoreValue) (notes : List Note) : Type 0 where
   pub genesis : Genesis
   pub began : whose ≡ header_of genesis whose.node
   pub standing : StandingValue
-  pub opens : Opens (seen disks) whose (text m genesis []) r.store standing
-  pub restores : Restores m IsText whose standing r.node notes
+  pub opens : Opens (seen disks) whose (text m genesis []) store standing
+  pub restores : Restores m IsText whose standing node notes
+
+-- it is revived as this replica, with these notes: where the file has format 1 the store was rebased at once
+pub record Revives (m : Meaning) (IsText : List ℕ → Type 0) (disks : Side → Disk) (whose : HeaderValue) (r : ReplicaValue) (notes : List Note) : Type 0 where
+  pub node : NodeValue
+  pub store : StoreValue
+  pub takes : TakesUp m IsText disks whose node store notes
+  pub renews : Renews node store r.node r.store
   pub alive : r.failed ≡ false
   pub store_alive : r.store.failed ≡ false
+
+-- the live file has format 1
+abbrev pub IsOld : Image → Type 0
+IsOld image = (es : List Stored) × IsLive image es × (format es ≡ 1)
+
+-- so, and it has the last generation
+abbrev pub IsLastOld : Image → Type 0
+IsLastOld image = (es : List Stored) × IsLive image es × (format es ≡ 1) × (max_count ≤ generation es)
+
+-- how many changing calls of the device bring it to format 2
+pub record RenewsBy (image : Image) (k : ℕ) : Type 0 where
+  pub old : IsOld image → k ≡ rebase_calls
+  pub rests : (IsOld image → ⊥) → k ≡ 0
 
 -- the calls of a metered device in which a store was opened
 abbrev pub CallsOfOpening : (Side → Disk) → Meter → Meter → Type 0
 CallsOfOpening disks m n = (k : ℕ) × OpensBy (seen disks) k × Passes m n k
+
+-- and brought to format 2 where it was not
+abbrev pub CallsOfRevival : (Side → Disk) → Meter → Meter → Type 0
+CallsOfRevival disks m n = (k j : ℕ) × OpensBy (seen disks) k × RenewsBy (seen disks) j × Passes m n (k + j)
+
+-- each image of the new disks comes to what an image of the old ones came to, or to a store that is begun where nothing stood, or, where what was read
+-- has format 1, has its entries or the Base of format 2 of the next generation alone
+abbrev pub NarrowsOrRenews : (Side → Disk) → (Side → Disk) → HeaderValue → List ℕ → Type 0
+NarrowsOrRenews old new whose zero = (image : Image) → MayLeaveBoth new image
+    → ((before : Image) × MayLeaveBoth old before × SameMeaning before image)
+    ⊎ (IsEmpty (seen old) × IsLive image (Base (first_base whose zero) ∷ []))
+    ⊎ ((es : List Stored) × IsLive (seen old) es × (format es ≡ 1)
+    × (IsLive image es ⊎ ((b : BaseValue) × (b.format ≡ 2) × (b.generation ≡ generation es + 1) × IsLive image (Base b ∷ []))))
 
 -- what these disks stand for may not be revived
 pub record NoneRevives (m : Meaning) (IsText : List ℕ → Type 0) (disks : Side → Disk) (whose : HeaderValue) : Type 0 where
@@ -105,7 +144,8 @@ pub record NoneRevives (m : Meaning) (IsText : List ℕ → Type 0) (disks : Sid
   pub stands : StandsAs whose (text m genesis []) (seen disks) standing
   pub none : (w : WholeValue) → MayRevive IsText whose standing w → ⊥
 
--- a revival was refused with the fault of this number, for its cause, and left that device: damaged files and another's stay as they are
+-- a revival was refused with the fault of this number, for its cause, and left that device: damaged files and another's stay as they are, and 11
+-- comes only where the file has format 1 and no generation is left for a rebase
 pub record IsNotRevived (m : Meaning) (IsText : List ℕ → Type 0) (device : Memory) (whose : HeaderValue) (number : ℕ) (left : Memory) : Type 0 where
   pub failures : left.failures ≡ failures_by number device.failures
   pub calls : RefusedAfter number device.meter left.meter
@@ -113,12 +153,13 @@ pub record IsNotRevived (m : Meaning) (IsText : List ℕ → Type 0) (device : M
   pub wrong : number ≡ 10 → IsWrong (seen (disk_of device)) whose
   pub damaged_stays : IsDamaged (seen (disk_of device)) → number ≡ 9 → AreSame (disk_of device) (disk_of left)
   pub wrong_stays : number ≡ 10 → AreSame (disk_of device) (disk_of left)
-  pub only : (7 ≤ number) × (number ≤ 10)
+  pub last : number ≡ 11 → IsLastOld (seen (disk_of device))
+  pub only : (7 ≤ number) × (number ≤ 11)
 
 -- what a revival came to
 abbrev pub RevivesTo : Meaning → (List ℕ → Type 0) → Memory → HeaderValue → Result (ReplicaValue × List Note) (ℕ × Memory) → Type 0
 RevivesTo m IsText device whose (Ok came) =
     Revives m IsText (disk_of device) whose came.0 came.1
     × (came.0.store.failures ≡ device.failures)
-    × CallsOfOpening (disk_of device) device.meter came.0.store.meter
+    × CallsOfRevival (disk_of device) device.meter came.0.store.meter
 RevivesTo m IsText device whose (Err left) = IsNotRevived m IsText device whose left.0 left.1

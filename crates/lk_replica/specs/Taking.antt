@@ -52,10 +52,11 @@ pub record IsTaken (m : Meaning) (IsText : List ℕ → Type 0) (Metered : Type 
   pub calls : Metered → CallsOfStep old.node old.store out new.store
   pub alive : new.failed ≡ false
   pub store_alive : new.store.failed ≡ false
+  pub awake : new.node.halted ≡ false
 
 -- a call was refused with the fault of this number, for its cause: 7 exactly where the device has failed once more, 11 only after an
--- earlier refusal, after which there is no other, or where fewer than two further generations are left: a call rebases twice at most. It
--- has ended the replica, unless it tells that a datagram was lost; and where no call of the device has failed, the files are as they were,
+-- earlier refusal, after which there is no other, or where fewer than two further generations are left: a call rebases twice at most, and
+-- 14 exactly where the node has halted. It has ended the replica, unless it tells that a datagram was lost; and where no call of the device has failed, the files are as they were,
 -- or as a rebase that was due left them
 pub record IsRefused (old new : ReplicaValue) (number : ℕ) : Type 0 where
   pub failures : new.store.failures ≡ failures_by number old.store.failures
@@ -64,6 +65,8 @@ pub record IsRefused (old new : ReplicaValue) (number : ℕ) : Type 0 where
   pub once : old.failed ≡ true → (number ≡ 11) × (new ≡ old)
   pub ends : (number ≡ 15 → ⊥) → new.failed ≡ true
   pub stays : (number ≡ 7 → ⊥) → (number ≡ 15 → ⊥) → AreLeft old.node old.store new.store
+  pub halts : number ≡ 14 → new.node.halted ≡ true
+  pub awake : old.node.halted ≡ false → (number ≡ 14 → ⊥) → new.node.halted ≡ false
 
 -- the replica was given this, and sent these datagrams of its node
 pub record IsTakenAs (m : Meaning) (IsText : List ℕ → Type 0) (old : ReplicaValue) (bytes : Option (List ℕ)) (new : ReplicaValue) (notes : List Note) (sent : List Datagram) : Type 0 where

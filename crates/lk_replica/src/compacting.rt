@@ -6,7 +6,7 @@ ghost use Rattle.lk_disk.specs.Meters.{Passes};
 ghost use Rattle.lk_log.specs.Causes.{rebase_calls};
 ghost use Rattle.lk_log.specs.Rooms.{StaysWithin};
 ghost use Rattle.lk_log.specs.StoreValue.{disks};
-ghost use Rattle.lk_log.specs.Stores.{Holds, MayBegin, next_base};
+ghost use Rattle.lk_log.specs.Stores.{Holds, KeepsOrIs, MayBegin, next_base};
 ghost use Rattle.lk_log.specs.declared.stored.Stored.{Stored};
 ghost use Rattle.lk_log.specs.declared.stored.Stored.TheVariants.{Base};
 ghost use Rattle.lk_state.specs.Meanings.{meaning};
@@ -22,6 +22,7 @@ ghost use Rattle.lk_node.specs.Leavings.{header_of, DisksFit, AllCover};
 ghost use Rattle.lk_node.specs.Packing.{standing_of, standing_here};
 ghost use Rattle.lk_replica.specs.Compacting.{AllStandAt, AreSame, IsDue, IsSameStore, RebasesWhereDue, CallsWhereDue};
 ghost use Rattle.lk_replica.specs.Compacted.{IsStoreFault};
+ghost use Rattle.lk_replica.specs.Remembering.{Remembers};
 ghost use Rattle.lk_replica.specs.Faults.{fault_number, CountsFailure, RefusedAfter, PassesOr, IfSend, IfSpared, IsOfCalls};
 
 use crate::fault::ReplicaFault;
@@ -50,11 +51,17 @@ pub fn write_base<M: Machine, D: LogDisk + Drop>(
         → OnOk result (AllStandAt (meaning M.first M.next M.answer) genesis n (disks store.new) (executed node.new.learner) held.view.done) }
     ensures shows { D.is_honest → (genesis : Genesis) (n : ℕ) (held : Holding) → Stands (meaning M.first M.next M.answer) node.old store.old genesis n held
         → OnOk result ((x : Holding) × Stands (meaning M.first M.next M.answer) node.new store.new genesis n x) }
+    ensures remembers { D.is_honest → (genesis : Genesis) (n : ℕ) → Remembers node.old store.old genesis n → OnOk result (Remembers node.new store.new genesis n) }
+    ensures wakes { node.new.halted ≡ node.old.halted }
     ensures becomes { OnOk result (node.new ≡ standing_here node.old) }
     ensures writes { D.is_honest → (ks ls : List Stored) → Holds store.old ks ls → OnOk result (Holds store.new (Base (next_base store.old (standing_of node.old)) ∷ []) []) }
+    // After any exit each image has what it had, or the Base alone.
+    ensures any { D.is_honest → (ks ls : List Stored) → Holds store.old ks ls → KeepsOrIs (disks store.new) ks ls (next_base store.old (standing_of node.old)) }
     ensures begins { OnOk result (MayBegin (standing_of node.old)) }
     ensures within { node.old.acceptor.state.snapshot_position ≤ executed node.old.learner }
     ensures generation { OnOk result (store.new.generation ≡ store.old.generation + 1) }
+    ensures format { OnOk result (store.new.format ≡ 2) }
+    ensures format_stays { store.old.format ≡ 2 → store.new.format ≡ 2 }
     ensures runs { NothingToRun node.old → OnOk result (NothingToRun node.new) }
     ensures alive { OnOk result (store.new.failed ≡ false) }
     ensures only { IfErr result (IfSend (λ notes. ⊥)) }
@@ -84,6 +91,7 @@ fn is_due<M: Machine, D: LogDisk + Drop>(
     ensures value { D.is_honest → IfOk result (λ due. IsTrue due ↔ IsDue node.now store.old) }
     ensures same { D.is_honest → IsSameStore store.old store.new }
     ensures generation { store.new.generation ≡ store.old.generation }
+    ensures format { store.new.format ≡ store.old.format }
     ensures alive { OnOk result (store.new.failed ≡ false) }
     ensures only { IfErr result (IfSend (λ notes. ⊥)) }
     ensures told { IfErr result IsOfCalls }
@@ -106,12 +114,15 @@ pub fn rebase_where_due<M: Machine, D: LogDisk + Drop>(
         → OnOk result (NodeFits (meaning M.first M.next M.answer) h n (Stands (meaning M.first M.next M.answer) node.new store.new h.genesis n) (disks store.new)) }
     ensures ends { D.is_honest → (h : History) (n : ℕ) → NodeFits (meaning M.first M.next M.answer) h n (Stands (meaning M.first M.next M.answer) node.old store.old h.genesis n) (disks store.old)
         → DisksFit (meaning M.first M.next M.answer) h n (disks store.new) }
-    ensures covers { D.is_honest → (genesis : Genesis) (n : ℕ) (held : Holding) (x : NodeMessage) → Stands (meaning M.first M.next M.answer) node.old store.old genesis n held
+    ensures covers { D.is_honest → (genesis : Genesis) (n : ℕ) (x : NodeMessage) → Remembers node.old store.old genesis n
         → AllCover (meaning M.first M.next M.answer) genesis n (disks store.old) x → AllCover (meaning M.first M.next M.answer) genesis n (disks store.new) x }
     ensures shows { D.is_honest → (genesis : Genesis) (n : ℕ) (held : Holding) → Stands (meaning M.first M.next M.answer) node.old store.old genesis n held
         → OnOk result ((x : Holding) × Stands (meaning M.first M.next M.answer) node.new store.new genesis n x) }
+    ensures remembers { D.is_honest → (genesis : Genesis) (n : ℕ) → Remembers node.old store.old genesis n → OnOk result (Remembers node.new store.new genesis n) }
+    ensures wakes { node.new.halted ≡ node.old.halted }
     ensures exact { D.is_honest → OnOk result (RebasesWhereDue node.old store.old node.new store.new) }
     ensures further { OnOk result (store.new.generation ≤ store.old.generation + 1) }
+    ensures format_stays { store.old.format ≡ 2 → store.new.format ≡ 2 }
     ensures runs { NothingToRun node.old → OnOk result (NothingToRun node.new) }
     ensures alive { OnOk result (store.new.failed ≡ false) }
     ensures only { IfErr result (IfSend (λ notes. ⊥)) }
@@ -146,11 +157,13 @@ impl<M: Machine, D: LogDisk + Drop> Replica<M, D> {
         // After any exit each image that a stop may leave fits, and covers what every image covered.
         ensures ends { D.is_honest → (h : History) (n : ℕ) → NodeFits (meaning M.first M.next M.answer) h n (Stands (meaning M.first M.next M.answer) self.old.node self.old.store h.genesis n) (disks self.old.store)
             → DisksFit (meaning M.first M.next M.answer) h n (disks self.new.store) }
-        ensures covers { D.is_honest → (genesis : Genesis) (n : ℕ) (held : Holding) (x : NodeMessage) → Stands (meaning M.first M.next M.answer) self.old.node self.old.store genesis n held
+        ensures covers { D.is_honest → (genesis : Genesis) (n : ℕ) (x : NodeMessage) → Remembers self.old.node self.old.store genesis n
             → AllCover (meaning M.first M.next M.answer) genesis n (disks self.old.store) x → AllCover (meaning M.first M.next M.answer) genesis n (disks self.new.store) x }
         // At Ok each image stands for a snapshot of all that is executed.
         ensures stands { D.is_honest → (genesis : Genesis) (n : ℕ) (held : Holding) → Stands (meaning M.first M.next M.answer) self.old.node self.old.store genesis n held
             → OnOk result (AllStandAt (meaning M.first M.next M.answer) genesis n (disks self.new.store) (executed self.new.node.learner) held.view.done) }
+        ensures remembers { D.is_honest → (genesis : Genesis) (n : ℕ) → Remembers self.old.node self.old.store genesis n → OnOk result (Remembers self.new.node self.new.store genesis n) }
+        ensures wakes { self.new.node.halted ≡ self.old.node.halted }
         ensures becomes { OnOk result (self.new.node ≡ standing_here self.old.node) }
         ensures writes { D.is_honest → (ks ls : List Stored) → Holds self.old.store ks ls → OnOk result (Holds self.new.store (Base (next_base self.old.store (standing_of self.old.node)) ∷ []) []) }
         // A refusal leaves both files as they were where no call of the device has failed.

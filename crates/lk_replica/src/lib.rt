@@ -10,6 +10,7 @@ mod in_memory;
 mod memory_replica;
 mod post;
 mod relearning;
+mod renewing;
 mod replica;
 mod reviving;
 

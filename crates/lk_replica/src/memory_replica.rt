@@ -66,7 +66,8 @@ pub trait MemoryReplica: Sized + Drop {
 
     /// Takes up what a stop left, or begins where nothing stands.
     ///
-    /// It refuses with `Device` (7), `NoMemory` (8), `Damaged` (9) and `WrongStore` (10), and hands the device back.
+    /// It refuses with `Device` (7), `NoMemory` (8), `Damaged` (9) and `WrongStore` (10), and where a file of format 1 has
+    /// generation 2^48 with `Failed` (11), and hands the device back.
     fn revive(
         alloc: Global,
         device: MemoryDisk,

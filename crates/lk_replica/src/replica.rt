@@ -14,7 +14,6 @@ ghost use Rattle.lk_history.specs.Datagrams.{NodeMessage, Datagram as DatagramVa
 ghost use Rattle.lk_node.specs.Calls.{InputFits, NodeFits, Goes};
 ghost use Rattle.lk_node.specs.Executing.{NothingToRun};
 ghost use Rattle.lk_node.specs.Histories.{History, Genesis};
-ghost use Rattle.lk_node.specs.Holdings.{Holding};
 ghost use Rattle.lk_node.specs.Keeping.{Stands};
 ghost use Rattle.lk_node.specs.Leavings.{DisksFit, AllCover};
 ghost use Rattle.lk_node.specs.Letters.{LetterValue, batch_of};
@@ -22,6 +21,7 @@ ghost use Rattle.lk_replica.specs.Posts.{AreOf, SendsSome, more_by};
 ghost use Rattle.lk_node.specs.Steps.{Steps};
 ghost use Rattle.lk_replica.specs.Taking.{Writes, write_calls, CallsOfStep, IsTaken};
 ghost use Rattle.lk_replica.specs.Faults.{fault_number, CountsFailure, RefusedAfter, IfSend, IfSpared, IsOfCalls};
+ghost use Rattle.lk_replica.specs.Remembering.{Remembers};
 ghost use Rattle.lk_replica.specs.Rooms.{max_behind};
 
 use crate::compacting::{rebase_where_due, write_base};
@@ -51,8 +51,8 @@ impl<M: Machine, D: LogDisk + Drop> Model for Replica<M, D> {
 
     ghost Value = { ReplicaValue };
 
-    // What it could execute it has executed.
-    ghost invariant = { λ r. r.failed ≡ false → NothingToRun r.node };
+    // What it could execute it has executed, and its store has format 2.
+    ghost invariant = { λ r. (r.failed ≡ false → NothingToRun r.node) × (r.store.format ≡ 2) };
 
     ghost view = { λ r. record { node = r.node; store = r.store; failed = r.failed } };
 }
@@ -75,12 +75,16 @@ impl<M: Machine, D: LogDisk + Drop> Replica<M, D> {
         // After any exit each image that a stop may leave fits the history as it was.
         ensures ends { D.is_honest → (h : History) (n : ℕ) → NodeFits (meaning M.first M.next M.answer) h n (Stands (meaning M.first M.next M.answer) self.old.node self.old.store h.genesis n) (disks self.old.store) → InputFits h input.entry
             → DisksFit (meaning M.first M.next M.answer) h n (disks self.new.store) }
-        // Sync before send, whatever has happened: what was sent, and what every image covered, every image covers.
-        ensures syncs { D.is_honest → P.is_telling → (genesis : Genesis) (n : ℕ) (held : Holding) (x : NodeMessage) → Stands (meaning M.first M.next M.answer) self.old.node self.old.store genesis n held
+        // Sync before send, whatever has happened, and whatever it was revived on: what was sent, and what every image covered,
+        // every image covers, after any exit.
+        ensures syncs { D.is_honest → P.is_telling → (genesis : Genesis) (n : ℕ) (x : NodeMessage) → Remembers self.old.node self.old.store genesis n
             → (sent : List LetterValue) × (P.sent post.new ≡ P.sent post.old ++ sent)
             × ((d : DatagramValue) → Contains (batch_of n sent) d → Spells (said_by genesis n x) d.bytes → AllCover (meaning M.first M.next M.answer) genesis n (disks self.new.store) x) }
-        ensures covers { D.is_honest → (genesis : Genesis) (n : ℕ) (held : Holding) (x : NodeMessage) → Stands (meaning M.first M.next M.answer) self.old.node self.old.store genesis n held
+        ensures covers { D.is_honest → (genesis : Genesis) (n : ℕ) (x : NodeMessage) → Remembers self.old.node self.old.store genesis n
             → AllCover (meaning M.first M.next M.answer) genesis n (disks self.old.store) x → AllCover (meaning M.first M.next M.answer) genesis n (disks self.new.store) x }
+        // Where it goes on its store keeps what its acceptor holds.
+        ensures remembers { D.is_honest → (genesis : Genesis) (n : ℕ) → Remembers self.old.node self.old.store genesis n → OnOk result (Remembers self.new.node self.new.store genesis n) }
+        ensures remembers_on { D.is_honest → (genesis : Genesis) (n : ℕ) → Remembers self.old.node self.old.store genesis n → IfErr result (IfSend (λ notes. Remembers self.new.node self.new.store genesis n)) }
         // At Ok it has written the outbox of its step, given its notes and sent its letters in order, and nothing else. Under
         // `Send` the letters whose send failed are lost.
         ensures exact { D.is_honest → P.is_telling → IfOk result (λ notes. IsTaken (meaning M.first M.next M.answer) M.IsText D.is_metered self.old input.entry self.new notes.items (λ letters. P.sent post.new ≡ P.sent post.old ++ letters)) }
@@ -92,9 +96,11 @@ impl<M: Machine, D: LogDisk + Drop> Replica<M, D> {
         ensures broken { IfErr result (λ e. (fault_number e ≡ 15 → ⊥) → self.new.failed ≡ true) }
         // Nothing is sent then.
         ensures silent { P.is_telling → IfErr result (λ e. (fault_number e ≡ 15 → ⊥) → P.sent post.new ≡ P.sent post.old) }
-        // Nothing but 7, 8, 11, 14 and 15 comes, and 14 where the node has halted.
+        // Nothing but 7, 8, 11, 14 and 15 comes, and 14 exactly where the node has halted.
         ensures told { IfErr result IsOfCalls }
         ensures halts { IsErrOf result ReplicaFault.Halted → self.new.node.halted ≡ true }
+        ensures awake { OnOk result (self.new.node.halted ≡ false) }
+        ensures awake_err { self.old.node.halted ≡ false → IfErr result (λ e. (fault_number e ≡ 14 → ⊥) → self.new.node.halted ≡ false) }
         // After any exit neither file is longer than it was, or else than half of what a file may hold, and a step.
         ensures room { D.is_honest → StaysWithin max_behind (disks self.old.store) (disks self.new.store) }
         // Where no call of the device has failed, a refusal leaves both files as they were, or as a rebase that was due left them.
@@ -138,6 +144,20 @@ impl<M: Machine, D: LogDisk + Drop> Replica<M, D> {
         ensures { result ≡ self.now.failed }
     {
         self.failed
+    }
+
+    /// The node.
+    pub fn node(&self) -> &Node<M>
+        ensures { result.now ≡ self.now.node }
+    {
+        &self.node
+    }
+
+    /// The generation of its store.
+    pub fn generation(&self) -> u64
+        ensures { result ≡ self.now.store.generation }
+    {
+        self.store.generation()
     }
 
     /// The device.
@@ -185,20 +205,25 @@ fn write<M: Machine, D: LogDisk + Drop>(
     store: &mut Store<D>,
     input: Input,
 ) -> Result<Outbox, ReplicaFault>
+    requires { store.old.format ≡ 2 }
     ensures goes { D.is_honest → (h : History) (n : ℕ) → NodeFits (meaning M.first M.next M.answer) h n (Stands (meaning M.first M.next M.answer) node.old store.old h.genesis n) (disks store.old) → InputFits h input.entry
         → IfOk result (λ o. (sent : List LetterValue) → AreOf sent o.letters → Goes (meaning M.first M.next M.answer) h n (Stands (meaning M.first M.next M.answer) node.new store.new h.genesis n) (disks store.new) o.notes (batch_of n sent)) }
     ensures ends { D.is_honest → (h : History) (n : ℕ) → NodeFits (meaning M.first M.next M.answer) h n (Stands (meaning M.first M.next M.answer) node.old store.old h.genesis n) (disks store.old) → InputFits h input.entry
         → DisksFit (meaning M.first M.next M.answer) h n (disks store.new) }
-    ensures syncs { D.is_honest → (genesis : Genesis) (n : ℕ) (held : Holding) (x : NodeMessage) → Stands (meaning M.first M.next M.answer) node.old store.old genesis n held
+    ensures syncs { D.is_honest → (genesis : Genesis) (n : ℕ) (x : NodeMessage) → Remembers node.old store.old genesis n
         → IfOk result (λ o. (d : DatagramValue) → Contains (batch_of n o.letters) d → Spells (said_by genesis n x) d.bytes → AllCover (meaning M.first M.next M.answer) genesis n (disks store.new) x) }
-    ensures covers { D.is_honest → (genesis : Genesis) (n : ℕ) (held : Holding) (x : NodeMessage) → Stands (meaning M.first M.next M.answer) node.old store.old genesis n held
+    ensures covers { D.is_honest → (genesis : Genesis) (n : ℕ) (x : NodeMessage) → Remembers node.old store.old genesis n
         → AllCover (meaning M.first M.next M.answer) genesis n (disks store.old) x → AllCover (meaning M.first M.next M.answer) genesis n (disks store.new) x }
+    ensures remembers { D.is_honest → (genesis : Genesis) (n : ℕ) → Remembers node.old store.old genesis n → OnOk result (Remembers node.new store.new genesis n) }
     ensures exact { D.is_honest → IfOk result (λ o. (stepped : NodeValue) × Steps (meaning M.first M.next M.answer) M.IsText node.old input.entry stepped o × Writes stepped store.old o node.new store.new) }
     ensures metered { D.is_metered → D.is_honest → MatchResult result (λ o. Passes store.old.meter store.new.meter (write_calls o)) (λ e. RefusedAfter (fault_number e) store.old.meter store.new.meter) }
     ensures runs { NothingToRun node.old → OnOk result (NothingToRun node.new) }
     ensures only { IfErr result (IfSend (λ notes. ⊥)) }
     ensures told { IfErr result IsOfCalls }
     ensures halts { IsErrOf result ReplicaFault.Halted → node.new.halted ≡ true }
+    ensures awake { OnOk result (node.new.halted ≡ false) }
+    ensures awake_err { IfErr result (λ e. (fault_number e ≡ 14 → ⊥) → node.new.halted ≡ false) }
+    ensures format { store.new.format ≡ 2 }
     ensures alive { OnOk result (store.new.failed ≡ false) }
     ensures failed_before { store.old.failed ≡ false → store.old.generation < max_count → IsErrOf result ReplicaFault.Failed → ⊥ }
     ensures cause { CountsFailure store.old.failures store.new.failures result }
@@ -220,23 +245,28 @@ fn write_behind<M: Machine, D: LogDisk + Drop>(
     store: &mut Store<D>,
     input: Input,
 ) -> Result<Outbox, ReplicaFault>
+    requires { store.old.format ≡ 2 }
     ensures goes { D.is_honest → (h : History) (n : ℕ) → NodeFits (meaning M.first M.next M.answer) h n (Stands (meaning M.first M.next M.answer) node.old store.old h.genesis n) (disks store.old) → InputFits h input.entry
         → IfOk result (λ o. (sent : List LetterValue) → AreOf sent o.letters → Goes (meaning M.first M.next M.answer) h n (Stands (meaning M.first M.next M.answer) node.new store.new h.genesis n) (disks store.new) o.notes (batch_of n sent)) }
     ensures ends { D.is_honest → (h : History) (n : ℕ) → NodeFits (meaning M.first M.next M.answer) h n (Stands (meaning M.first M.next M.answer) node.old store.old h.genesis n) (disks store.old) → InputFits h input.entry
         → DisksFit (meaning M.first M.next M.answer) h n (disks store.new) }
-    ensures syncs { D.is_honest → (genesis : Genesis) (n : ℕ) (held : Holding) (x : NodeMessage) → Stands (meaning M.first M.next M.answer) node.old store.old genesis n held
+    ensures syncs { D.is_honest → (genesis : Genesis) (n : ℕ) (x : NodeMessage) → Remembers node.old store.old genesis n
         → IfOk result (λ o. (d : DatagramValue) → Contains (batch_of n o.letters) d → Spells (said_by genesis n x) d.bytes → AllCover (meaning M.first M.next M.answer) genesis n (disks store.new) x) }
-    ensures covers { D.is_honest → (genesis : Genesis) (n : ℕ) (held : Holding) (x : NodeMessage) → Stands (meaning M.first M.next M.answer) node.old store.old genesis n held
+    ensures covers { D.is_honest → (genesis : Genesis) (n : ℕ) (x : NodeMessage) → Remembers node.old store.old genesis n
         → AllCover (meaning M.first M.next M.answer) genesis n (disks store.old) x → AllCover (meaning M.first M.next M.answer) genesis n (disks store.new) x }
+    ensures remembers { D.is_honest → (genesis : Genesis) (n : ℕ) → Remembers node.old store.old genesis n → OnOk result (Remembers node.new store.new genesis n) }
     ensures exact { D.is_honest → IfOk result (λ o. (mid : NodeValue) × (between : StoreValue) × RebasesWhereDue node.old store.old mid between
         × (stepped : NodeValue) × Steps (meaning M.first M.next M.answer) M.IsText mid input.entry stepped o × Writes stepped between o node.new store.new) }
     ensures calls { D.is_metered → D.is_honest → IfOk result (λ o. CallsOfStep node.old store.old o store.new) }
     ensures metered { D.is_metered → D.is_honest → IfErr result (λ e. RefusedAfter (fault_number e) store.old.meter store.new.meter) }
     ensures runs { NothingToRun node.old → OnOk result (NothingToRun node.new) }
+    ensures format { store.new.format ≡ 2 }
     ensures alive { OnOk result (store.new.failed ≡ false) }
     ensures only { IfErr result (IfSend (λ notes. ⊥)) }
     ensures told { IfErr result IsOfCalls }
     ensures halts { IsErrOf result ReplicaFault.Halted → node.new.halted ≡ true }
+    ensures awake { OnOk result (node.new.halted ≡ false) }
+    ensures awake_err { node.old.halted ≡ false → IfErr result (λ e. (fault_number e ≡ 14 → ⊥) → node.new.halted ≡ false) }
     ensures failed_before { store.old.failed ≡ false → store.old.generation + 1 < max_count → IsErrOf result ReplicaFault.Failed → ⊥ }
     ensures cause { CountsFailure store.old.failures store.new.failures result }
     ensures stays { D.is_honest → IfErr result (IfSpared (AreLeft node.old store.old store.new)) }

@@ -13,22 +13,24 @@ ghost use Rattle.lk_state.specs.States.{WholeValue};
 ghost use Rattle.lk_history.specs.Datagrams.{NodeMessage};
 ghost use Rattle.lk_node.specs.Calls.{Goes};
 ghost use Rattle.lk_replica.specs.Compacting.{AreSame};
+ghost use Rattle.lk_replica.specs.Remembering.{Remembers};
 ghost use Rattle.lk_replica.specs.Faults.{fault_number, failures_by, RefusedAfter};
 ghost use Rattle.lk_node.specs.Executing.{NothingToRun};
 ghost use Rattle.lk_node.specs.Histories.{History, Genesis as TheGenesis, IsLawful};
 ghost use Rattle.lk_node.specs.Keeping.{Stands};
 ghost use Rattle.lk_node.specs.Leavings.{header_of, DisksFit, AllCover};
-ghost use Rattle.lk_replica.specs.Revivals.{Unpacks, MayRevive, Restores, Revives, NoneRevives, CallsOfOpening};
+ghost use Rattle.lk_replica.specs.Revivals.{Unpacks, MayRevive, Restores, TakesUp, Revives, NoneRevives, CallsOfOpening, CallsOfRevival, IsLastOld, NarrowsOrRenews};
 ghost use Rattle.lk_node.specs.Served.{text};
 
 use crate::fault::ReplicaFault;
 use crate::memory_replica::{ReviveFault, Revived};
 use crate::relearning::relearn;
+use crate::renewing::renew;
 use crate::replica::Replica;
 use bytes::BytesMut;
 use lk_acceptor::Acceptor;
 use lk_disk::LogDisk;
-use lk_log::{Header, Standing, reopen};
+use lk_log::{Header, Standing, Store, reopen};
 use lk_node::{Node, Note};
 use lk_state::{Machine, Whole};
 use lk_types::{Executed, Genesis, NoMemory, Vote};
@@ -103,12 +105,86 @@ fn restored<M: Machine>(
     Ok((Node::new(alloc, header.copy(), acceptor, learner), notes))
 }
 
+// What was taken up, whatever format its file has.
+#[derive(Drop)]
+struct TakenUp<M: Machine, D: LogDisk + Drop> {
+    node: Node<M>,
+    store: Store<D>,
+    notes: Vec<Note>,
+}
+
+// Takes up what a stop left on these disks, or begins where nothing stands. Where the file has format 1 it stays so.
+fn take_up<M: Machine, D: LogDisk + Drop>(
+    alloc: Global,
+    device: D,
+    header: &Header,
+) -> Result<TakenUp<M, D>, ReviveFault<D>>
+    ensures up { D.is_honest → (h : History) (n : ℕ) → header.now ≡ header_of h.genesis n → IsLawful (meaning M.first M.next M.answer) h → DisksFit (meaning M.first M.next M.answer) h n (D.disk device)
+        → IfOk result (λ r. Goes (meaning M.first M.next M.answer) h n (Stands (meaning M.first M.next M.answer) r.node r.store h.genesis n) (disks r.store) r.notes.items []) }
+    ensures down { D.is_honest → (h : History) (n : ℕ) → header.now ≡ header_of h.genesis n → IsLawful (meaning M.first M.next M.answer) h → DisksFit (meaning M.first M.next M.answer) h n (D.disk device)
+        → IfErr result (λ e. DisksFit (meaning M.first M.next M.answer) h n (D.disk e.device)) }
+    // Whatever every image covered, every image covers.
+    ensures covers { D.is_honest → (genesis : TheGenesis) (n : ℕ) (x : NodeMessage) → header.now ≡ header_of genesis n → AllCover (meaning M.first M.next M.answer) genesis n (D.disk device) x
+        → IfOk result (λ r. AllCover (meaning M.first M.next M.answer) genesis n (disks r.store) x) }
+    ensures covers_err { D.is_honest → (genesis : TheGenesis) (n : ℕ) (x : NodeMessage) → header.now ≡ header_of genesis n → AllCover (meaning M.first M.next M.answer) genesis n (D.disk device) x
+        → IfErr result (λ e. AllCover (meaning M.first M.next M.answer) genesis n (D.disk e.device) x) }
+    // Its store keeps what its acceptor holds, whatever the disks have been through.
+    ensures remembers { D.is_honest → (genesis : TheGenesis) (n : ℕ) → header.now ≡ header_of genesis n → IfOk result (λ r. Remembers r.node r.store genesis n) }
+    // What the disks stand for is what is revived, and nothing else is executed.
+    ensures exact { D.is_honest → IfOk result (λ r. TakesUp (meaning M.first M.next M.answer) M.IsText (D.disk device) header.now r.node r.store r.notes.items) }
+    ensures damaged { D.is_honest → IfErr result (λ e. fault_number e.fault ≡ 9 → IsDamaged (seen (D.disk device)) ⊎ NoneRevives (meaning M.first M.next M.answer) M.IsText (D.disk device) header.now) }
+    ensures wrong { D.is_honest → IfErr result (λ e. fault_number e.fault ≡ 10 → IsWrong (seen (D.disk device)) header.now) }
+    // A damaged store and another's stay as they are.
+    ensures damaged_stays { D.is_honest → IsDamaged (seen (D.disk device)) → IfErr result (λ e. fault_number e.fault ≡ 9 → AreSame (D.disk device) (D.disk e.device)) }
+    ensures wrong_stays { D.is_honest → IfErr result (λ e. fault_number e.fault ≡ 10 → AreSame (D.disk device) (D.disk e.device)) }
+    // After a refusal each image comes to what an image before it came to, or to a store that is begun.
+    ensures stays_err { D.is_honest → (genesis : TheGenesis) → header.now ≡ header_of genesis header.now.node
+        → IfErr result (λ e. NarrowsOrBegins (D.disk device) (D.disk e.device) header.now (text (meaning M.first M.next M.answer) genesis [])) }
+    ensures only { IfErr result (λ e. (7 ≤ fault_number e.fault) × (fault_number e.fault ≤ 10)) }
+    // `Device` comes exactly where a call of the device has failed.
+    ensures cause { MatchResult result (λ r. r.store.failures ≡ D.failures device) (λ e. D.failures e.device ≡ failures_by (fault_number e.fault) (D.failures device)) }
+    ensures metered { D.is_metered → D.is_honest → MatchResult result
+        (λ r. CallsOfOpening (D.disk device) (D.meter device) r.store.meter)
+        (λ e. RefusedAfter (fault_number e.fault) (D.meter device) (D.meter e.device)) }
+    // After any exit neither file is longer than it was, or else than a Base.
+    ensures room { D.is_honest → IfOk result (λ r. StaysWithin max_base (D.disk device) (disks r.store)) }
+    ensures room_err { D.is_honest → IfErr result (λ e. StaysWithin max_base (D.disk device) (D.disk e.device)) }
+    ensures whose { IfOk result (λ r. r.store.header ≡ header.now) }
+    ensures store_alive { IfOk result (λ r. r.store.failed ≡ false) }
+    ensures awake { IfOk result (λ r. r.node.halted ≡ false) }
+    // What it can execute it has executed.
+    ensures runs { IfOk result (λ r. NothingToRun r.node) }
+{
+    header.genesis().facts();
+    let Ok(zero) = zero_text::<M>(alloc, header.genesis()) else {
+        return Err(ReviveFault {
+            fault: ReplicaFault::NoMemory,
+            device,
+        });
+    };
+    match reopen(alloc, device, header, zero.as_slice()) {
+        Ok((store, standing)) => match restored(alloc, header, standing) {
+            Ok((node, notes)) => Ok(TakenUp { node, store, notes }),
+            Err(fault) => Err(ReviveFault {
+                fault,
+                device: store.into_disks(),
+            }),
+        },
+        Err(e) => Err(ReviveFault {
+            fault: ReplicaFault::from(e.fault),
+            device: e.device,
+        }),
+    }
+}
+
 impl<M: Machine, D: LogDisk + Drop> Replica<M, D> {
-    /// Takes up what a stop left on these disks, or begins where nothing stands. It gives the notes of what it executed.
+    /// Takes up what a stop left on these disks, or begins where nothing stands. It gives the notes of what it executed. Where
+    /// the file has format 1 it is rebased at once, and so has format 2.
     ///
-    /// It refuses with `Device` (7), `NoMemory` (8), `Damaged` (9) and `WrongStore` (10), and hands the device back.
-    /// `Damaged` is also told where the snapshot is no packed state at its position with the genesis' alpha, and where a
-    /// vote or a decided pair lies more than twice alpha above what is then executed.
+    /// It refuses with `Device` (7), `NoMemory` (8), `Damaged` (9) and `WrongStore` (10), and where a file of format 1 has
+    /// generation 2^48 with `Failed` (11), and hands the device back. `Damaged` is also told where the snapshot is no packed
+    /// state at its position with the genesis' alpha, and where a vote or a decided pair lies more than twice alpha above what
+    /// is then executed.
     pub fn revive(
         alloc: Global,
         device: D,
@@ -123,6 +199,8 @@ impl<M: Machine, D: LogDisk + Drop> Replica<M, D> {
             → IfOk result (λ r. AllCover (meaning M.first M.next M.answer) genesis n (disks r.replica.store) x) }
         ensures covers_err { D.is_honest → (genesis : TheGenesis) (n : ℕ) (x : NodeMessage) → header.now ≡ header_of genesis n → AllCover (meaning M.first M.next M.answer) genesis n (D.disk device) x
             → IfErr result (λ e. AllCover (meaning M.first M.next M.answer) genesis n (D.disk e.device) x) }
+        // Its store keeps what its acceptor holds, whatever the disks have been through.
+        ensures remembers { D.is_honest → (genesis : TheGenesis) (n : ℕ) → header.now ≡ header_of genesis n → IfOk result (λ r. Remembers r.replica.node r.replica.store genesis n) }
         // What the disks stand for is what is revived, and nothing else is executed.
         ensures exact { D.is_honest → IfOk result (λ r. Revives (meaning M.first M.next M.answer) M.IsText (D.disk device) header.now r.replica r.notes.items) }
         ensures damaged { D.is_honest → IfErr result (λ e. fault_number e.fault ≡ 9 → IsDamaged (seen (D.disk device)) ⊎ NoneRevives (meaning M.first M.next M.answer) M.IsText (D.disk device) header.now) }
@@ -130,49 +208,45 @@ impl<M: Machine, D: LogDisk + Drop> Replica<M, D> {
         // A damaged store and another's stay as they are.
         ensures damaged_stays { D.is_honest → IsDamaged (seen (D.disk device)) → IfErr result (λ e. fault_number e.fault ≡ 9 → AreSame (D.disk device) (D.disk e.device)) }
         ensures wrong_stays { D.is_honest → IfErr result (λ e. fault_number e.fault ≡ 10 → AreSame (D.disk device) (D.disk e.device)) }
-        // After a refusal each image comes to what an image before it came to, or to a store that is begun.
+        // After a refusal each image comes to what an image before it came to, or to a store that is begun, or to what was found in a
+        // file of format 1 or the Base that was to take its place.
         ensures stays_err { D.is_honest → (genesis : TheGenesis) → header.now ≡ header_of genesis header.now.node
-            → IfErr result (λ e. NarrowsOrBegins (D.disk device) (D.disk e.device) header.now (text (meaning M.first M.next M.answer) genesis [])) }
-        ensures only { IfErr result (λ e. (7 ≤ fault_number e.fault) × (fault_number e.fault ≤ 10)) }
+            → IfErr result (λ e. NarrowsOrRenews (D.disk device) (D.disk e.device) header.now (text (meaning M.first M.next M.answer) genesis [])) }
+        // `Failed` comes only where the file has format 1 and no generation is left for a rebase.
+        ensures last { D.is_honest → IfErr result (λ e. fault_number e.fault ≡ 11 → IsLastOld (seen (D.disk device))) }
+        ensures only { IfErr result (λ e. (7 ≤ fault_number e.fault) × (fault_number e.fault ≤ 11)) }
         // `Device` comes exactly where a call of the device has failed.
         ensures cause { MatchResult result (λ r. r.replica.store.failures ≡ D.failures device) (λ e. D.failures e.device ≡ failures_by (fault_number e.fault) (D.failures device)) }
         ensures metered { D.is_metered → D.is_honest → MatchResult result
-            (λ r. CallsOfOpening (D.disk device) (D.meter device) r.replica.store.meter)
+            (λ r. CallsOfRevival (D.disk device) (D.meter device) r.replica.store.meter)
             (λ e. RefusedAfter (fault_number e.fault) (D.meter device) (D.meter e.device)) }
         // After any exit neither file is longer than it was, or else than a Base.
         ensures room { D.is_honest → IfOk result (λ r. StaysWithin max_base (D.disk device) (disks r.replica.store)) }
         ensures room_err { D.is_honest → IfErr result (λ e. StaysWithin max_base (D.disk device) (D.disk e.device)) }
+        ensures format { IfOk result (λ r. r.replica.store.format ≡ 2) }
         ensures alive { IfOk result (λ r. r.replica.failed ≡ false) }
         ensures store_alive { IfOk result (λ r. r.replica.store.failed ≡ false) }
+        ensures awake { IfOk result (λ r. r.replica.node.halted ≡ false) }
         // What it can execute it has executed.
         ensures runs { IfOk result (λ r. NothingToRun r.replica.node) }
     {
-        header.genesis().facts();
-        let Ok(zero) = zero_text::<M>(alloc, header.genesis()) else {
-            return Err(ReviveFault {
-                fault: ReplicaFault::NoMemory,
-                device,
-            });
+        let mut up: TakenUp<M, D> = match take_up(alloc, device, header) {
+            Ok(up) => up,
+            Err(e) => return Err(e),
         };
-        match reopen(alloc, device, header, zero.as_slice()) {
-            Ok((store, standing)) => match restored(alloc, header, standing) {
-                Ok((node, notes)) => Ok(Revived {
-                    replica: Replica {
-                        alloc,
-                        node,
-                        store,
-                        failed: false,
-                    },
-                    notes,
-                }),
-                Err(fault) => Err(ReviveFault {
-                    fault,
-                    device: store.into_disks(),
-                }),
-            },
-            Err(e) => Err(ReviveFault {
-                fault: ReplicaFault::from(e.fault),
-                device: e.device,
+        match renew(&mut up.node, &mut up.store) {
+            Ok(()) => Ok(Revived {
+                replica: Replica {
+                    alloc,
+                    node: up.node,
+                    store: up.store,
+                    failed: false,
+                },
+                notes: up.notes,
+            }),
+            Err(fault) => Err(ReviveFault {
+                fault,
+                device: up.store.into_disks(),
             }),
         }
     }

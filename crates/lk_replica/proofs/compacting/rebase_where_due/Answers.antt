@@ -5,7 +5,7 @@ use Rattle.lk_log.specs.declared.stored.Stored.TheVariants.{Base}
 use Rattle.lk_node.specs.Packing.{standing_of}
 use Rattle.lk_log.specs.StoreValue.{disks}
 use Rattle.lk_state.specs.Meanings.{Meaning, meaning}
-use Rattle.lk_replica.proofs.Rebasing.{same_holds, same_stands, same_fit, same_cover, same_node_fits, same_room, goes_fits}
+use Rattle.lk_replica.proofs.Rebasing.{same_holds, same_remembers, same_stands, same_fit, same_cover, same_node_fits, same_room, goes_fits}
 use Rattle.lk_log.proofs.Room.{within_first}
 use Rattle.lk_replica.proofs.compacting.rebase_where_due.Goals as goal
 use Rattle.lk_disk.proofs.Devices.{passes_on}
@@ -19,7 +19,7 @@ returns-in_err-due-clause-ends g c honest h n f =
     same_fit m c.args.store.now c.is_due.new.store (c.is_due.ensures.same honest) h n f.left
 
 pub returns-in_err-due-clause-covers : goal.returns-in_err-due-clause-covers
-returns-in_err-due-clause-covers g c honest genesis n held x shown every =
+returns-in_err-due-clause-covers g c honest genesis n x shown every =
     let m : Meaning = meaning g.M.Machine.first g.M.Machine.next g.M.Machine.answer in
     same_cover m c.args.store.now c.is_due.new.store (c.is_due.ensures.same honest) genesis n x every
 
@@ -29,7 +29,7 @@ returns-then-not-due-clause-ends g c honest h n f =
     same_fit m c.args.store.now c.is_due.new.store (c.is_due.ensures.same honest) h n f.left
 
 pub returns-then-not-due-clause-covers : goal.returns-then-not-due-clause-covers
-returns-then-not-due-clause-covers g c honest genesis n held x shown every =
+returns-then-not-due-clause-covers g c honest genesis n x shown every =
     let m : Meaning = meaning g.M.Machine.first g.M.Machine.next g.M.Machine.answer in
     same_cover m c.args.store.now c.is_due.new.store (c.is_due.ensures.same honest) genesis n x every
 
@@ -55,9 +55,9 @@ returns-in_err-write_base-clause-ends g c honest h n f =
     c.write_base.ensures.ends honest h n (same_node_fits m c.args.store.now c.is_due.new.store (c.is_due.ensures.same honest) c.args.node.now h n f)
 
 pub returns-in_err-write_base-clause-covers : goal.returns-in_err-write_base-clause-covers
-returns-in_err-write_base-clause-covers g c honest genesis n held x shown every =
+returns-in_err-write_base-clause-covers g c honest genesis n x shown every =
     let m : Meaning = meaning g.M.Machine.first g.M.Machine.next g.M.Machine.answer in
-    c.write_base.ensures.covers honest genesis n x (same_stands m c.args.store.now c.is_due.new.store (c.is_due.ensures.same honest) c.args.node.now genesis n held shown).keeps (same_cover m c.args.store.now c.is_due.new.store (c.is_due.ensures.same honest) genesis n x every)
+    c.write_base.ensures.covers honest genesis n x (same_remembers m c.args.store.now c.is_due.new.store (c.is_due.ensures.same honest) c.args.node.now genesis n shown).keeps (same_cover m c.args.store.now c.is_due.new.store (c.is_due.ensures.same honest) genesis n x every)
 
 pub returns-clause-ends : goal.returns-clause-ends
 returns-clause-ends g c honest h n f =
@@ -65,9 +65,9 @@ returns-clause-ends g c honest h n f =
     c.write_base.ensures.ends honest h n (same_node_fits m c.args.store.now c.is_due.new.store (c.is_due.ensures.same honest) c.args.node.now h n f)
 
 pub returns-clause-covers : goal.returns-clause-covers
-returns-clause-covers g c honest genesis n held x shown every =
+returns-clause-covers g c honest genesis n x shown every =
     let m : Meaning = meaning g.M.Machine.first g.M.Machine.next g.M.Machine.answer in
-    c.write_base.ensures.covers honest genesis n x (same_stands m c.args.store.now c.is_due.new.store (c.is_due.ensures.same honest) c.args.node.now genesis n held shown).keeps (same_cover m c.args.store.now c.is_due.new.store (c.is_due.ensures.same honest) genesis n x every)
+    c.write_base.ensures.covers honest genesis n x (same_remembers m c.args.store.now c.is_due.new.store (c.is_due.ensures.same honest) c.args.node.now genesis n shown).keeps (same_cover m c.args.store.now c.is_due.new.store (c.is_due.ensures.same honest) genesis n x every)
 
 pub returns-clause-goes : goal.returns-clause-goes
 returns-clause-goes g c honest h n f =
@@ -86,7 +86,7 @@ returns-clause-exact g c honest = record {
     becomes = c.in_ok-write_base.ensures.becomes;
     writes = λ ks ls h.
         let same = c.is_due.ensures.same honest in
-        let base : next_base c.is_due.new.store (standing_of c.args.node.now) ≡ next_base c.args.store.now (standing_of c.args.node.now) = λ i. record { generation = same.generation i + 1; header = same.header i; standing = standing_of c.args.node.now } in
+        let base : next_base c.is_due.new.store (standing_of c.args.node.now) ≡ next_base c.args.store.now (standing_of c.args.node.now) = λ i. record { generation = same.generation i + 1; format = 2; header = same.header i; standing = standing_of c.args.node.now } in
         subst (λ (b : BaseValue). Holds c.write_base.new.store (Base b ∷ []) []) base (c.in_ok-write_base.ensures.writes honest ks ls (same_holds (meaning g.M.Machine.first g.M.Machine.next g.M.Machine.answer) c.args.store.now c.is_due.new.store same ks ls h));
   };
   rests = λ other. absurd (other ((c.in_ok-due.ensures.value honest).0 (search rules)));
@@ -129,3 +129,14 @@ pub returns-in_err-write_base-clause-stays : goal.returns-in_err-write_base-clau
 returns-in_err-write_base-clause-stays g c honest =
     spared_as _ _ _ c.from_residual-in_err-write_base.ensures.1
     (spared_more _ _ _ (then_same (disks c.args.store.now) (disks c.is_due.new.store) (disks c.write_base.new.store) (same_files c.args.store.now c.is_due.new.store (c.is_due.ensures.same honest))) (c.in_err-write_base.ensures.stays honest))
+
+-- ---- what it remembers
+
+pub returns-then-not-due-clause-remembers : goal.returns-then-not-due-clause-remembers
+returns-then-not-due-clause-remembers g c honest genesis n shown =
+    same_remembers (meaning g.M.Machine.first g.M.Machine.next g.M.Machine.answer) c.args.store.now c.is_due.new.store (c.is_due.ensures.same honest) c.args.node.now genesis n shown
+
+pub returns-clause-remembers : goal.returns-clause-remembers
+returns-clause-remembers g c honest genesis n shown =
+    c.in_ok-write_base.ensures.remembers honest genesis n
+    (same_remembers (meaning g.M.Machine.first g.M.Machine.next g.M.Machine.answer) c.args.store.now c.is_due.new.store (c.is_due.ensures.same honest) c.args.node.now genesis n shown)

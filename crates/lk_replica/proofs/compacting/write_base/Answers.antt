@@ -1,4 +1,4 @@
-use Rattle.std.proofs.Common.{[], ◌∷◌, refl, sym, subst, inl, inr}
+use Rattle.std.proofs.Common.{[], ◌∷◌, refl, sym, ap, subst, inl, inr}
 use Rattle.lk_log.specs.StoreValue.{disks}
 use Rattle.lk_log.specs.Stores.{plain, Holds, MayBegin, next_base, KeepsOrIs}
 use Rattle.lk_log.specs.Values.{StandingValue}
@@ -9,8 +9,10 @@ use Rattle.lk_node.specs.Calls.{Goes}
 use Rattle.lk_node.specs.Keeping.{Stands}
 use Rattle.lk_node.specs.NodeValue.{NodeValue}
 use Rattle.lk_replica.specs.Compacting.{AllStandAt}
+use Rattle.lk_replica.specs.Remembering.{Remembers}
 use Rattle.lk_log.proofs.Room.{within_same}
-use Rattle.lk_replica.proofs.Rebasing.{here, rebase_covers, rebase_syncs, rebase_stands, rebase_fits, rebase_goes, all_stand}
+use Rattle.lk_log.proofs.StoreLaws.{holds_keeps}
+use Rattle.lk_replica.proofs.Rebasing.{here, rebase_keeps, rebase_covers, rebase_syncs, rebase_stands, rebase_fits, rebase_goes, all_stand}
 use Rattle.lk_replica.proofs.compacting.write_base.Goals as goal
 use Rattle.lk_disk.specs.Meters.{start}
 use Rattle.lk_replica.specs.declared.fault.ReplicaFault.TheVariants as fault
@@ -129,3 +131,30 @@ pub returns-in_err-rebase-clause-stays : goal.returns-in_err-rebase-clause-stays
 returns-in_err-rebase-clause-stays g c honest =
     spared_as _ _ _ c.from_residual-in_err-rebase.ensures.1
     (rebase_spares c.args.store.now c.rebase.new.self _ (c.in_err-rebase.ensures.no_memory honest) c.rebase.ensures.failed (λ last. (c.in_err-rebase.ensures.last last).0) c.in_err-rebase.ensures.only)
+
+-- ---- what it remembers
+
+pub returns-clause-remembers : goal.returns-clause-remembers
+returns-clause-remembers g c honest genesis n shown =
+    let m : Meaning = meaning g.M.Machine.first g.M.Machine.next g.M.Machine.answer in
+    let is = c.in_ok-standing.ensures.value in
+    let may = subst MayBegin is c.in_ok-standing.ensures.may in
+    let holds = subst (λ (s : StandingValue). Holds c.rebase.new.self (Base (next_base c.args.store.now s) ∷ []) []) is (c.in_ok-rebase.ensures.base honest shown.keeps.entries (plain shown.keeps.loose) shown.keeps.holds) in
+    subst (λ (k : NodeValue). Remembers k c.rebase.new.self genesis n) (sym c.stand_here.ensures)
+    (rebase_keeps m genesis n c.args.node.now c.args.store.now c.rebase.new.self shown.keeps may c.standing.ensures.near.snapshot shown.whose holds)
+
+pub returns-clause-wakes : goal.returns-clause-wakes
+returns-clause-wakes g c = ap (λ (k : NodeValue). k.halted) c.stand_here.ensures
+
+-- ---- after any exit
+
+pub returns-in_err-standing-clause-any : goal.returns-in_err-standing-clause-any
+returns-in_err-standing-clause-any g c honest ks ls holds image left = inl (holds_keeps c.args.store.now ks ls holds image left)
+
+pub returns-in_err-rebase-clause-any : goal.returns-in_err-rebase-clause-any
+returns-in_err-rebase-clause-any g c honest ks ls holds =
+    subst (λ (s : StandingValue). KeepsOrIs (disks c.rebase.new.self) ks ls (next_base c.args.store.now s)) c.in_ok-standing.ensures.value (c.rebase.ensures.any honest ks ls holds)
+
+pub returns-clause-any : goal.returns-clause-any
+returns-clause-any g c honest ks ls holds =
+    subst (λ (s : StandingValue). KeepsOrIs (disks c.rebase.new.self) ks ls (next_base c.args.store.now s)) c.in_ok-standing.ensures.value (c.rebase.ensures.any honest ks ls holds)

@@ -9,8 +9,8 @@ use Rattle.lk_node.specs.Keeping.{Stands}
 use Rattle.lk_node.specs.Letters.{batch_of}
 use Rattle.lk_node.specs.NodeValue.{NodeValue}
 use Rattle.lk_node.specs.Outboxes.{OutboxValue}
-use Rattle.lk_replica.proofs.Behind.{still_keeps, sent_is_covered, stepped_fits, installed_goes}
-use Rattle.lk_replica.proofs.Going.{put_leaves, put_goes, step_keeps, step_syncs, step_covers}
+use Rattle.lk_replica.proofs.Behind.{still_keeps, still_remembers, sent_is_covered, stepped_fits, installed_goes}
+use Rattle.lk_replica.proofs.Going.{put_leaves, put_goes, remembered, step_keeps, step_remembers, step_syncs, step_covers}
 use Rattle.lk_replica.proofs.replica.write.Goals as goal
 use Rattle.lk_node.proofs.Nodes.{few_entries}
 use Rattle.lk_disk.specs.Meters.{start}
@@ -22,7 +22,7 @@ pub returns-in_err-outbox-clause-ends : goal.returns-in_err-outbox-clause-ends
 returns-in_err-outbox-clause-ends g c honest h n f heard = f.left
 
 pub returns-in_err-outbox-clause-covers : goal.returns-in_err-outbox-clause-covers
-returns-in_err-outbox-clause-covers g c honest genesis n held x shown every = every
+returns-in_err-outbox-clause-covers g c honest genesis n x shown every = every
 
 pub returns-in_err-put-clause-ends : goal.returns-in_err-put-clause-ends
 returns-in_err-put-clause-ends g c honest h n f heard =
@@ -31,34 +31,34 @@ returns-in_err-put-clause-ends g c honest h n f heard =
     (subst (λ (es : List Entry). KeepsAtLeast c.put.new.self f.shown.keeps.entries (plain f.shown.keeps.loose ++ plain es)) is (c.put.ensures.any honest f.shown.keeps.entries (plain f.shown.keeps.loose) f.shown.keeps.holds))
 
 pub returns-in_err-put-clause-covers : goal.returns-in_err-put-clause-covers
-returns-in_err-put-clause-covers g c honest genesis n held x shown every =
+returns-in_err-put-clause-covers g c honest genesis n x shown every =
     let is : c.deref.result.now ≡ c.in_ok-outbox.outbox.entries = c.deref.ensures.value ∙ ap (λ (o : OutboxValue). o.entries) c.outbox.view_is in
-    step_covers _ genesis n held c.args.node.now c.step.new.self c.args.store.now c.put.new.self _ c.in_ok-outbox.outbox shown c.in_ok-outbox.ensures.goes_on
+    step_covers _ genesis n c.args.node.now c.step.new.self c.args.store.now c.put.new.self _ c.in_ok-outbox.outbox shown c.in_ok-outbox.ensures.goes_on
     (subst (λ (es : List Entry). KeepsAtLeast c.put.new.self shown.keeps.entries (plain shown.keeps.loose ++ plain es)) is (c.put.ensures.any honest shown.keeps.entries (plain shown.keeps.loose) shown.keeps.holds)) x every
 
 pub returns-clause-goes : goal.returns-clause-goes
 returns-clause-goes g c honest h n f heard =
     let is : c.deref.result.now ≡ c.in_ok-outbox.outbox.entries = c.deref.ensures.value ∙ ap (λ (o : OutboxValue). o.entries) c.outbox.view_is in
     put_goes _ h n c.args.node.now c.step.new.self c.args.store.now c.put.new.self c.args.input c.in_ok-outbox.outbox f heard c.in_ok-outbox.ensures.goes_on
-    (step_keeps _ h.genesis n f.holding c.args.node.now c.step.new.self c.args.store.now c.put.new.self _ c.in_ok-outbox.outbox f.shown c.in_ok-outbox.ensures.goes_on
+    (step_keeps _ h.genesis n c.args.node.now c.step.new.self c.args.store.now c.put.new.self _ c.in_ok-outbox.outbox (remembered _ h.genesis n f.holding c.args.node.now c.args.store.now f.shown) c.in_ok-outbox.ensures.goes_on
     (λ no'. subst (λ (es : List Entry). Holds c.put.new.self f.shown.keeps.entries (plain f.shown.keeps.loose ++ plain es)) is (c.in_ok-put.ensures.added honest (ap (λ (o : OutboxValue). o.sync) c.outbox.view_is ∙ no') f.shown.keeps.entries (plain f.shown.keeps.loose) f.shown.keeps.holds))
     (λ yes'. subst (λ (es : List Entry). Holds c.put.new.self (f.shown.keeps.entries ++ (plain f.shown.keeps.loose ++ plain es)) []) is (c.in_ok-put.ensures.synced honest (ap (λ (o : OutboxValue). o.sync) c.outbox.view_is ∙ yes') f.shown.keeps.entries (plain f.shown.keeps.loose) f.shown.keeps.holds)))
     (put_leaves _ h n c.args.node.now c.step.new.self c.args.store.now c.put.new.self c.args.input c.in_ok-outbox.outbox f heard c.in_ok-outbox.ensures.goes_on
     (subst (λ (es : List Entry). KeepsAtLeast c.put.new.self f.shown.keeps.entries (plain f.shown.keeps.loose ++ plain es)) is (c.put.ensures.any honest f.shown.keeps.entries (plain f.shown.keeps.loose) f.shown.keeps.holds)))
 
 pub returns-clause-syncs : goal.returns-clause-syncs
-returns-clause-syncs g c honest genesis n held x shown d listed said =
+returns-clause-syncs g c honest genesis n x shown d listed said =
     let is : c.deref.result.now ≡ c.in_ok-outbox.outbox.entries = c.deref.ensures.value ∙ ap (λ (o : OutboxValue). o.entries) c.outbox.view_is in
-    step_syncs _ genesis n held c.args.node.now c.step.new.self c.args.store.now c.put.new.self _ c.in_ok-outbox.outbox shown c.in_ok-outbox.ensures.goes_on
-    (step_keeps _ genesis n held c.args.node.now c.step.new.self c.args.store.now c.put.new.self _ c.in_ok-outbox.outbox shown c.in_ok-outbox.ensures.goes_on
+    step_syncs _ genesis n c.args.node.now c.step.new.self c.args.store.now c.put.new.self _ c.in_ok-outbox.outbox shown c.in_ok-outbox.ensures.goes_on
+    (step_keeps _ genesis n c.args.node.now c.step.new.self c.args.store.now c.put.new.self _ c.in_ok-outbox.outbox shown c.in_ok-outbox.ensures.goes_on
     (λ no'. subst (λ (es : List Entry). Holds c.put.new.self shown.keeps.entries (plain shown.keeps.loose ++ plain es)) is (c.in_ok-put.ensures.added honest (ap (λ (o : OutboxValue). o.sync) c.outbox.view_is ∙ no') shown.keeps.entries (plain shown.keeps.loose) shown.keeps.holds))
     (λ yes'. subst (λ (es : List Entry). Holds c.put.new.self (shown.keeps.entries ++ (plain shown.keeps.loose ++ plain es)) []) is (c.in_ok-put.ensures.synced honest (ap (λ (o : OutboxValue). o.sync) c.outbox.view_is ∙ yes') shown.keeps.entries (plain shown.keeps.loose) shown.keeps.holds))).keeps
     x d listed said
 
 pub returns-clause-covers : goal.returns-clause-covers
-returns-clause-covers g c honest genesis n held x shown every =
+returns-clause-covers g c honest genesis n x shown every =
     let is : c.deref.result.now ≡ c.in_ok-outbox.outbox.entries = c.deref.ensures.value ∙ ap (λ (o : OutboxValue). o.entries) c.outbox.view_is in
-    step_covers _ genesis n held c.args.node.now c.step.new.self c.args.store.now c.put.new.self _ c.in_ok-outbox.outbox shown c.in_ok-outbox.ensures.goes_on
+    step_covers _ genesis n c.args.node.now c.step.new.self c.args.store.now c.put.new.self _ c.in_ok-outbox.outbox shown c.in_ok-outbox.ensures.goes_on
     (subst (λ (es : List Entry). KeepsAtLeast c.put.new.self shown.keeps.entries (plain shown.keeps.loose ++ plain es)) is (c.put.ensures.any honest shown.keeps.entries (plain shown.keeps.loose) shown.keeps.holds)) x every
 
 pub returns-clause-ends : goal.returns-clause-ends
@@ -104,7 +104,7 @@ returns-in_err-write_base-clause-ends g c honest h n f heard =
     c.write_base.ensures.ends honest h n (stepped_fits _ h n c.args.node.now c.step.new.self c.args.store.now c.args.input c.in_ok-outbox.outbox f heard c.in_ok-outbox.ensures.goes_on is)
 
 pub returns-in_err-write_base-clause-covers : goal.returns-in_err-write_base-clause-covers
-returns-in_err-write_base-clause-covers g c honest genesis n held x shown every =
+returns-in_err-write_base-clause-covers g c honest genesis n x shown every =
     let is : c.in_ok-outbox.outbox.rebase ≡ true = sym (ap (λ (o : OutboxValue). o.rebase) c.outbox.view_is) ∙ c.if-outbox.true in
     c.write_base.ensures.covers honest genesis n x (still_keeps _ _ genesis n c.args.node.now c.step.new.self c.args.store.now shown.whose shown.keeps c.in_ok-outbox.outbox c.in_ok-outbox.ensures.goes_on is) every
 
@@ -114,7 +114,7 @@ returns-then-outbox-clause-ends g c honest h n f heard =
     c.write_base.ensures.ends honest h n (stepped_fits _ h n c.args.node.now c.step.new.self c.args.store.now c.args.input c.in_ok-outbox.outbox f heard c.in_ok-outbox.ensures.goes_on is)
 
 pub returns-then-outbox-clause-covers : goal.returns-then-outbox-clause-covers
-returns-then-outbox-clause-covers g c honest genesis n held x shown every =
+returns-then-outbox-clause-covers g c honest genesis n x shown every =
     let is : c.in_ok-outbox.outbox.rebase ≡ true = sym (ap (λ (o : OutboxValue). o.rebase) c.outbox.view_is) ∙ c.if-outbox.true in
     c.write_base.ensures.covers honest genesis n x (still_keeps _ _ genesis n c.args.node.now c.step.new.self c.args.store.now shown.whose shown.keeps c.in_ok-outbox.outbox c.in_ok-outbox.ensures.goes_on is) every
 
@@ -127,7 +127,7 @@ returns-then-outbox-clause-goes g c honest h n f heard sent among =
     (installed_goes m h n c.args.node.now c.step.new.self c.args.store.now c.args.input c.in_ok-outbox.outbox f heard c.in_ok-outbox.ensures.goes_on is c.write_base.new.store c.in_ok-write_base.ensures.begins c.write_base.ensures.within holds sent among)
 
 pub returns-then-outbox-clause-syncs : goal.returns-then-outbox-clause-syncs
-returns-then-outbox-clause-syncs g c honest genesis n held x shown d listed said =
+returns-then-outbox-clause-syncs g c honest genesis n x shown d listed said =
     let is : c.in_ok-outbox.outbox.rebase ≡ true = sym (ap (λ (o : OutboxValue). o.rebase) c.outbox.view_is) ∙ c.if-outbox.true in
     c.in_ok-write_base.ensures.syncs honest genesis n x (still_keeps _ _ genesis n c.args.node.now c.step.new.self c.args.store.now shown.whose shown.keeps c.in_ok-outbox.outbox c.in_ok-outbox.ensures.goes_on is)
     (sent_is_covered _ _ genesis n c.args.node.now c.step.new.self c.args.store.now shown.whose shown.keeps c.in_ok-outbox.outbox c.in_ok-outbox.ensures.goes_on is x d listed said)
@@ -162,3 +162,18 @@ returns-in_err-put-clause-stays g c honest =
 
 pub returns-in_err-write_base-clause-stays : goal.returns-in_err-write_base-clause-stays
 returns-in_err-write_base-clause-stays g c honest = spared_as _ _ _ c.from_residual-in_err-write_base.ensures.1 (c.in_err-write_base.ensures.stays honest)
+
+-- ---- what it remembers
+
+pub returns-clause-remembers : goal.returns-clause-remembers
+returns-clause-remembers g c honest genesis n shown =
+    let is : c.deref.result.now ≡ c.in_ok-outbox.outbox.entries = c.deref.ensures.value ∙ ap (λ (o : OutboxValue). o.entries) c.outbox.view_is in
+    step_remembers _ genesis n c.args.node.now c.step.new.self c.args.store.now c.put.new.self _ c.in_ok-outbox.outbox shown c.in_ok-outbox.ensures.goes_on
+    (step_keeps _ genesis n c.args.node.now c.step.new.self c.args.store.now c.put.new.self _ c.in_ok-outbox.outbox shown c.in_ok-outbox.ensures.goes_on
+    (λ no'. subst (λ (es : List Entry). Holds c.put.new.self shown.keeps.entries (plain shown.keeps.loose ++ plain es)) is (c.in_ok-put.ensures.added honest (ap (λ (o : OutboxValue). o.sync) c.outbox.view_is ∙ no') shown.keeps.entries (plain shown.keeps.loose) shown.keeps.holds))
+    (λ yes'. subst (λ (es : List Entry). Holds c.put.new.self (shown.keeps.entries ++ (plain shown.keeps.loose ++ plain es)) []) is (c.in_ok-put.ensures.synced honest (ap (λ (o : OutboxValue). o.sync) c.outbox.view_is ∙ yes') shown.keeps.entries (plain shown.keeps.loose) shown.keeps.holds)))
+
+pub returns-then-outbox-clause-remembers : goal.returns-then-outbox-clause-remembers
+returns-then-outbox-clause-remembers g c honest genesis n shown =
+    let is : c.in_ok-outbox.outbox.rebase ≡ true = sym (ap (λ (o : OutboxValue). o.rebase) c.outbox.view_is) ∙ c.if-outbox.true in
+    c.in_ok-write_base.ensures.remembers honest genesis n (still_remembers _ _ genesis n c.args.node.now c.step.new.self c.args.store.now shown.whose shown.keeps c.in_ok-outbox.outbox c.in_ok-outbox.ensures.goes_on is)

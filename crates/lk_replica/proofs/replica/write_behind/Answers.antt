@@ -11,35 +11,32 @@ returns-in_err-rebase_where_due-clause-ends g c honest h n f heard =
     c.rebase_where_due.ensures.ends honest h n f
 
 pub returns-in_err-rebase_where_due-clause-covers : goal.returns-in_err-rebase_where_due-clause-covers
-returns-in_err-rebase_where_due-clause-covers g c honest genesis n held x shown every =
-    c.rebase_where_due.ensures.covers honest genesis n held x shown every
+returns-in_err-rebase_where_due-clause-covers g c honest genesis n x shown every =
+    c.rebase_where_due.ensures.covers honest genesis n x shown every
 
 pub returns-in_err-outbox-clause-ends : goal.returns-in_err-outbox-clause-ends
 returns-in_err-outbox-clause-ends g c honest h n f heard =
     c.write.ensures.ends honest h n (c.in_ok-rebase_where_due.ensures.goes honest h n f) heard
 
 pub returns-in_err-outbox-clause-covers : goal.returns-in_err-outbox-clause-covers
-returns-in_err-outbox-clause-covers g c honest genesis n held x shown every =
-    let mid = c.in_ok-rebase_where_due.ensures.shows honest genesis n held shown in
-    c.write.ensures.covers honest genesis n mid.0 x mid.1 (c.rebase_where_due.ensures.covers honest genesis n held x shown every)
+returns-in_err-outbox-clause-covers g c honest genesis n x shown every =
+    c.write.ensures.covers honest genesis n x (c.in_ok-rebase_where_due.ensures.remembers honest genesis n shown) (c.rebase_where_due.ensures.covers honest genesis n x shown every)
 
 pub returns-clause-ends : goal.returns-clause-ends
 returns-clause-ends g c honest h n f heard =
     c.write.ensures.ends honest h n (c.in_ok-rebase_where_due.ensures.goes honest h n f) heard
 
 pub returns-clause-covers : goal.returns-clause-covers
-returns-clause-covers g c honest genesis n held x shown every =
-    let mid = c.in_ok-rebase_where_due.ensures.shows honest genesis n held shown in
-    c.write.ensures.covers honest genesis n mid.0 x mid.1 (c.rebase_where_due.ensures.covers honest genesis n held x shown every)
+returns-clause-covers g c honest genesis n x shown every =
+    c.write.ensures.covers honest genesis n x (c.in_ok-rebase_where_due.ensures.remembers honest genesis n shown) (c.rebase_where_due.ensures.covers honest genesis n x shown every)
 
 pub returns-clause-goes : goal.returns-clause-goes
 returns-clause-goes g c honest h n f heard =
     c.in_ok-outbox.ensures.goes honest h n (c.in_ok-rebase_where_due.ensures.goes honest h n f) heard
 
 pub returns-clause-syncs : goal.returns-clause-syncs
-returns-clause-syncs g c honest genesis n held x shown =
-    let mid = c.in_ok-rebase_where_due.ensures.shows honest genesis n held shown in
-    c.in_ok-outbox.ensures.syncs honest genesis n mid.0 x mid.1
+returns-clause-syncs g c honest genesis n x shown =
+    c.in_ok-outbox.ensures.syncs honest genesis n x (c.in_ok-rebase_where_due.ensures.remembers honest genesis n shown)
 
 pub returns-clause-exact : goal.returns-clause-exact
 returns-clause-exact g c honest =
@@ -83,3 +80,7 @@ pub returns-in_err-outbox-clause-stays : goal.returns-in_err-outbox-clause-stays
 returns-in_err-outbox-clause-stays g c honest =
     spared_as _ _ _ c.from_residual-in_err-outbox.ensures.1
     (spared_more _ _ _ (left_after c.args.node.now c.rebase_where_due.new.node c.args.store.now c.rebase_where_due.new.store c.write.new.store (c.in_ok-rebase_where_due.ensures.exact honest)) (c.in_err-outbox.ensures.stays honest))
+
+pub returns-clause-remembers : goal.returns-clause-remembers
+returns-clause-remembers g c honest genesis n shown =
+    c.in_ok-outbox.ensures.remembers honest genesis n (c.in_ok-rebase_where_due.ensures.remembers honest genesis n shown)

@@ -10,6 +10,7 @@ use Rattle.lk_node.specs.Keeping.{Stands}
 use Rattle.lk_node.specs.Leavings.{DisksFit, AllCover}
 use Rattle.lk_replica.specs.Compacting.{AllStandAt}
 use Rattle.lk_replica.proofs.Compactions.{compacted, refused, calls_ok, calls_err}
+use Rattle.lk_replica.proofs.Going.{remembered}
 use Rattle.lk_replica.proofs.OnDevices.{on_device, off_device}
 use Rattle.lk_replica.proofs.in_memory.ReplicaMemoryDiskMemoryReplica.compact.Goals as goal
 
@@ -36,7 +37,7 @@ returns-clause-ends g c h n fits =
 pub returns-clause-covers : goal.returns-clause-covers
 returns-clause-covers g c genesis n held x shown every =
     let m : Meaning = meaning g.M.Machine.first g.M.Machine.next g.M.Machine.answer in
-    on_device (λ d. AllCover m genesis n d x) c.compact.new.self.store (c.compact.ensures.covers tt genesis n held x shown (off_device (λ d. AllCover m genesis n d x) c.args.self.now.store every))
+    on_device (λ d. AllCover m genesis n d x) c.compact.new.self.store (c.compact.ensures.covers tt genesis n x (remembered m genesis n held c.args.self.now.node c.args.self.now.store shown) (off_device (λ d. AllCover m genesis n d x) c.args.self.now.store every))
 
 pub returns-clause-stands : goal.returns-clause-stands
 returns-clause-stands g c genesis n held shown =
@@ -59,7 +60,7 @@ returns-clause-exact g c =
 pub returns-clause-refused : goal.returns-clause-refused
 returns-clause-refused g c =
     let m : Meaning = meaning g.M.Machine.first g.M.Machine.next g.M.Machine.answer in
-    refused m c.args.self.now c.compact.new.self c.compact.result c.compact.ensures.cause (c.compact.ensures.metered tt tt) c.compact.ensures.failed c.compact.ensures.failed_before c.compact.ensures.stays_failed c.compact.ensures.broken (c.compact.ensures.stays tt) c.compact.ensures.of_store
+    refused m c.args.self.now c.compact.new.self c.compact.result c.compact.ensures.cause (c.compact.ensures.metered tt tt) c.compact.ensures.failed c.compact.ensures.failed_before c.compact.ensures.stays_failed c.compact.ensures.broken (c.compact.ensures.stays tt) c.compact.ensures.of_store c.compact.ensures.wakes
 
 pub returns-clause-calls : goal.returns-clause-calls
 returns-clause-calls g c = calls_ok c.args.self.now.store.meter c.compact.new.self.store.meter rebase_calls c.compact.result (c.compact.ensures.metered tt tt)

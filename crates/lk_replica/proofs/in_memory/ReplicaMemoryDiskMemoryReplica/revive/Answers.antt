@@ -1,17 +1,21 @@
-use Rattle.std.proofs.Common.{◌≡◌, ℕ, ◌≤◌, ◌⊎◌, List, [], Result, Ok, Err, IfOk, MatchResult}
+use Rattle.std.proofs.Common.{◌≡◌, ℕ, ◌+◌, ◌≤◌, ◌⊎◌, List, [], Result, Ok, Err, IfOk, MatchResult}
 use Rattle.std.specs.Prelude.{IfErr}
 use Rattle.lk_log.specs.Images.{IsDamaged, seen}
 use Rattle.lk_log.specs.Rooms.{StaysWithin}
 use Rattle.lk_log.specs.Stores.{IsWrong}
 use Rattle.lk_log.specs.Values.{HeaderValue}
+use Rattle.lk_disk.specs.Disk.{Disk}
 use Rattle.lk_disk.specs.Memory.{Memory, disk_of}
+use Rattle.lk_disk.specs.Meters.{Passes}
+use Rattle.lk_disk.specs.declared.device.Side.{Side}
+use Rattle.lk_disk.specs.declared.meter.Meter.{Meter}
 use Rattle.lk_state.specs.Meanings.{Meaning, meaning}
 use Rattle.lk_node.specs.Calls.{Goes}
 use Rattle.lk_node.specs.Keeping.{Stands}
 use Rattle.lk_node.specs.Leavings.{AllCover}
 use Rattle.lk_replica.specs.Compacting.{AreSame}
 use Rattle.lk_replica.specs.Faults.{fault_number, failures_by, RefusedAfter}
-use Rattle.lk_replica.specs.Revivals.{NoneRevives, IsNotRevived}
+use Rattle.lk_replica.specs.Revivals.{NoneRevives, IsNotRevived, IsLastOld, CallsOfRevival}
 use Rattle.lk_replica.proofs.OnDevices.{on_device}
 use Rattle.lk_replica.proofs.in_memory.ReplicaMemoryDiskMemoryReplica.revive.Goals as goal
 
@@ -30,10 +34,18 @@ not_revived : {A E : Type 0} (m : Meaning) (IsText : List ℕ → Type 0) (devic
     → MatchResult r X (λ e. (left e).failures ≡ failures_by (number e) device.failures) → MatchResult r Y (λ e. RefusedAfter (number e) device.meter (left e).meter)
     → IfErr r (λ e. number e ≡ 9 → IsDamaged (seen (disk_of device)) ⊎ NoneRevives m IsText (disk_of device) whose) → IfErr r (λ e. number e ≡ 10 → IsWrong (seen (disk_of device)) whose)
     → (IsDamaged (seen (disk_of device)) → IfErr r (λ e. number e ≡ 9 → AreSame (disk_of device) (disk_of (left e)))) → IfErr r (λ e. number e ≡ 10 → AreSame (disk_of device) (disk_of (left e)))
-    → IfErr r (λ e. (7 ≤ number e) × (number e ≤ 10)) → IfErr r (λ e. IsNotRevived m IsText device whose (number e) (left e))
-not_revived m IsText device whose (Ok x) number left X Y failures calls damaged wrong damaged_stays wrong_stays only = tt
-not_revived m IsText device whose (Err e) number left X Y failures calls damaged wrong damaged_stays wrong_stays only =
-    record { failures = failures; calls = calls; damaged = damaged; wrong = wrong; damaged_stays = damaged_stays; wrong_stays = wrong_stays; only = only }
+    → IfErr r (λ e. number e ≡ 11 → IsLastOld (seen (disk_of device))) → IfErr r (λ e. (7 ≤ number e) × (number e ≤ 11)) → IfErr r (λ e. IsNotRevived m IsText device whose (number e) (left e))
+not_revived m IsText device whose (Ok x) number left X Y failures calls damaged wrong damaged_stays wrong_stays last only = tt
+not_revived m IsText device whose (Err e) number left X Y failures calls damaged wrong damaged_stays wrong_stays last only =
+    record { failures = failures; calls = calls; damaged = damaged; wrong = wrong; damaged_stays = damaged_stays; wrong_stays = wrong_stays; last = last; only = only }
+
+-- so many calls of its device have passed
+passed : {A E : Type 0} (d : Side → Disk) (l : Meter) (now : A → Meter) (Y : E → Type 0) (r : Result A E) → MatchResult r (λ x. CallsOfRevival d l (now x)) Y → IfOk r (λ x. (k : ℕ) × Passes l (now x) k)
+passed d l now Y (Ok x) c = (c.0 + c.1, c.4)
+passed d l now Y (Err e) c = tt
+
+pub returns-clause-calls : goal.returns-clause-calls
+returns-clause-calls g c = passed (disk_of c.args.device) c.args.device.meter (λ r. r.replica.store.meter) _ c.revive.result (c.revive.ensures.metered tt tt)
 
 pub returns-clause-up : goal.returns-clause-up
 returns-clause-up g c h n whose lawful fits =
@@ -66,4 +78,4 @@ pub returns-clause-refused : goal.returns-clause-refused
 returns-clause-refused g c =
     let e = c.revive.ensures in
     not_revived (meaning g.M.Machine.first g.M.Machine.next g.M.Machine.answer) g.M.Machine.IsText c.args.device c.args.header.now c.revive.result (λ e. fault_number e.fault) (λ e. e.device) _ _
-    e.cause (e.metered tt tt) (e.damaged tt) (e.wrong tt) (e.damaged_stays tt) (e.wrong_stays tt) e.only
+    e.cause (e.metered tt tt) (e.damaged tt) (e.wrong tt) (e.damaged_stays tt) (e.wrong_stays tt) (e.last tt) e.only

@@ -9,6 +9,7 @@ use Rattle.lk_node.specs.Keeping.{Stands}
 use Rattle.lk_node.specs.Leavings.{DisksFit, AllCover}
 use Rattle.lk_node.specs.Letters.{batch_of}
 use Rattle.lk_replica.specs.Posts.{CollectedValue}
+use Rattle.lk_replica.proofs.Going.{remembered}
 use Rattle.lk_replica.proofs.OnDevices.{on_device, off_device}
 use Rattle.lk_replica.proofs.in_memory.ReplicaMemoryDiskMemoryReplica.take.Goals as goal
 
@@ -30,7 +31,7 @@ returns-in-Ok-clause-goes g c h n fits heard =
 pub returns-in-Ok-clause-syncs : goal.returns-in-Ok-clause-syncs
 returns-in-Ok-clause-syncs g c genesis n held x shown =
     let m : Meaning = meaning g.M.Machine.first g.M.Machine.next g.M.Machine.answer in
-    let synced = c.take.ensures.syncs tt tt genesis n held x shown in
+    let synced = c.take.ensures.syncs tt tt genesis n x (remembered m genesis n held c.args.self.now.node c.args.self.now.store shown) in
     let letters : c.take.new.post.letters ≡ synced.0 = synced.1 ∙ ap (λ (p : CollectedValue). p.letters ++ synced.0) c.empty_post-post.ensures in
     let is : c.number-node.result ≡ n = c.number-node.ensures ∙ ap (λ (w : HeaderValue). w.node) shown.whose in
     let batch : c.in-Ok.sent.items ≡ batch_of n synced.0 = c.in-Ok.ensures ∙ (λ i. batch_of (is i) (letters i)) in
@@ -55,14 +56,14 @@ returns-in-Err-clause-ends g c h n fits heard =
 pub returns-in_err-notes-clause-covers : goal.returns-in_err-notes-clause-covers
 returns-in_err-notes-clause-covers g c genesis n held x shown every =
     let m : Meaning = meaning g.M.Machine.first g.M.Machine.next g.M.Machine.answer in
-    on_device (λ d. AllCover m genesis n d x) c.take.new.self.store (c.take.ensures.covers tt genesis n held x shown (off_device (λ d. AllCover m genesis n d x) c.args.self.now.store every))
+    on_device (λ d. AllCover m genesis n d x) c.take.new.self.store (c.take.ensures.covers tt genesis n x (remembered m genesis n held c.args.self.now.node c.args.self.now.store shown) (off_device (λ d. AllCover m genesis n d x) c.args.self.now.store every))
 
 pub returns-in-Ok-clause-covers : goal.returns-in-Ok-clause-covers
 returns-in-Ok-clause-covers g c genesis n held x shown every =
     let m : Meaning = meaning g.M.Machine.first g.M.Machine.next g.M.Machine.answer in
-    on_device (λ d. AllCover m genesis n d x) c.take.new.self.store (c.take.ensures.covers tt genesis n held x shown (off_device (λ d. AllCover m genesis n d x) c.args.self.now.store every))
+    on_device (λ d. AllCover m genesis n d x) c.take.new.self.store (c.take.ensures.covers tt genesis n x (remembered m genesis n held c.args.self.now.node c.args.self.now.store shown) (off_device (λ d. AllCover m genesis n d x) c.args.self.now.store every))
 
 pub returns-in-Err-clause-covers : goal.returns-in-Err-clause-covers
 returns-in-Err-clause-covers g c genesis n held x shown every =
     let m : Meaning = meaning g.M.Machine.first g.M.Machine.next g.M.Machine.answer in
-    on_device (λ d. AllCover m genesis n d x) c.take.new.self.store (c.take.ensures.covers tt genesis n held x shown (off_device (λ d. AllCover m genesis n d x) c.args.self.now.store every))
+    on_device (λ d. AllCover m genesis n d x) c.take.new.self.store (c.take.ensures.covers tt genesis n x (remembered m genesis n held c.args.self.now.node c.args.self.now.store shown) (off_device (λ d. AllCover m genesis n d x) c.args.self.now.store every))

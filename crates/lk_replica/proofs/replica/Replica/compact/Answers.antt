@@ -13,6 +13,7 @@ use Rattle.lk_log.proofs.Room.{within_same}
 use Rattle.lk_replica.proofs.replica.Replica.compact.Goals as goal
 use Rattle.lk_disk.specs.Meters.{start}
 use Rattle.lk_replica.specs.Compacting.{AreSame}
+use Rattle.lk_replica.specs.Remembering.{Remembers}
 use Rattle.lk_replica.proofs.Spared.{spared_more, spared_as}
 
 pub returns-in_err-write_base-clause-ends : goal.returns-in_err-write_base-clause-ends
@@ -21,9 +22,9 @@ returns-in_err-write_base-clause-ends g c honest h n f =
     c.write_base.ensures.ends honest h n (subst (λ (r : ReplicaValue). NodeFits m h n (Stands m r.node r.store h.genesis n) (disks r.store)) (sym c.self.view_is) f)
 
 pub returns-in_err-write_base-clause-covers : goal.returns-in_err-write_base-clause-covers
-returns-in_err-write_base-clause-covers g c honest genesis n held x shown every =
+returns-in_err-write_base-clause-covers g c honest genesis n x shown every =
     let m : Meaning = meaning g.M.Machine.first g.M.Machine.next g.M.Machine.answer in
-    c.write_base.ensures.covers honest genesis n x (subst (λ (r : ReplicaValue). Stands m r.node r.store genesis n held) (sym c.self.view_is) shown).keeps
+    c.write_base.ensures.covers honest genesis n x (subst (λ (r : ReplicaValue). Remembers r.node r.store genesis n) (sym c.self.view_is) shown).keeps
     (subst (λ (r : ReplicaValue). AllCover m genesis n (disks r.store) x) (sym c.self.view_is) every)
 
 pub returns-clause-ends : goal.returns-clause-ends
@@ -32,9 +33,9 @@ returns-clause-ends g c honest h n f =
     c.write_base.ensures.ends honest h n (subst (λ (r : ReplicaValue). NodeFits m h n (Stands m r.node r.store h.genesis n) (disks r.store)) (sym c.self.view_is) f)
 
 pub returns-clause-covers : goal.returns-clause-covers
-returns-clause-covers g c honest genesis n held x shown every =
+returns-clause-covers g c honest genesis n x shown every =
     let m : Meaning = meaning g.M.Machine.first g.M.Machine.next g.M.Machine.answer in
-    c.write_base.ensures.covers honest genesis n x (subst (λ (r : ReplicaValue). Stands m r.node r.store genesis n held) (sym c.self.view_is) shown).keeps
+    c.write_base.ensures.covers honest genesis n x (subst (λ (r : ReplicaValue). Remembers r.node r.store genesis n) (sym c.self.view_is) shown).keeps
     (subst (λ (r : ReplicaValue). AllCover m genesis n (disks r.store) x) (sym c.self.view_is) every)
 
 pub returns-clause-goes : goal.returns-clause-goes
@@ -48,7 +49,7 @@ returns-clause-stands g c honest genesis n held shown =
     c.in_ok-write_base.ensures.stands honest genesis n held (subst (λ (r : ReplicaValue). Stands m r.node r.store genesis n held) (sym c.self.view_is) shown)
 
 pub invariant_of-self-2 : goal.invariant_of-self-2
-invariant_of-self-2 g c alive = c.in_ok-write_base.ensures.runs (c.self.invariant c.if-self.false)
+invariant_of-self-2 g c = (λ alive. c.in_ok-write_base.ensures.runs (c.self.invariant.0 c.if-self.false), c.write_base.ensures.format_stays c.self.invariant.1)
 
 pub returns-then-self-clause-room : goal.returns-then-self-clause-room
 returns-then-self-clause-room g c honest = within_same 49152 (disks c.args.self.now.store) (disks c.args.self.now.store) (λ s. refl)
@@ -76,3 +77,7 @@ pub returns-in_err-write_base-clause-stays : goal.returns-in_err-write_base-clau
 returns-in_err-write_base-clause-stays g c honest =
     spared_as _ _ _ c.from_residual.ensures.1
     (spared_more _ _ _ (λ same. subst (λ (r : ReplicaValue). AreSame (disks r.store) (disks c.write_base.new.store)) c.self.view_is same) (c.in_err-write_base.ensures.stays honest))
+
+pub returns-clause-remembers : goal.returns-clause-remembers
+returns-clause-remembers g c honest genesis n shown =
+    c.in_ok-write_base.ensures.remembers honest genesis n (subst (λ (r : ReplicaValue). Remembers r.node r.store genesis n) (sym c.self.view_is) shown)

@@ -17,6 +17,7 @@ use Rattle.lk_log.proofs.Room.{within_same}
 use Rattle.lk_replica.proofs.replica.Replica.take.Goals as goal
 use Rattle.lk_disk.specs.Meters.{start}
 use Rattle.lk_replica.specs.Compacting.{AreLeft}
+use Rattle.lk_replica.specs.Remembering.{Remembers}
 use Rattle.lk_replica.proofs.Spared.{spared_more, spared_as}
 
 pub returns-in-Ok-clause-goes : goal.returns-in-Ok-clause-goes
@@ -61,40 +62,40 @@ returns-in-Ok-clause-ends g c honest h n f heard =
     c.write_behind.ensures.ends honest h n (subst (λ (r : ReplicaValue). NodeFits m h n (Stands m r.node r.store h.genesis n) (disks r.store)) (sym c.self.view_is) f) heard
 
 pub returns-in_err-outbox-clause-covers : goal.returns-in_err-outbox-clause-covers
-returns-in_err-outbox-clause-covers g c honest genesis n held x shown every =
+returns-in_err-outbox-clause-covers g c honest genesis n x shown every =
     let m = meaning g.M.Machine.first g.M.Machine.next g.M.Machine.answer in
-    c.write_behind.ensures.covers honest genesis n held x (subst (λ (r : ReplicaValue). Stands m r.node r.store genesis n held) (sym c.self.view_is) shown)
+    c.write_behind.ensures.covers honest genesis n x (subst (λ (r : ReplicaValue). Remembers r.node r.store genesis n) (sym c.self.view_is) shown)
     (subst (λ (r : ReplicaValue). AllCover m genesis n (disks r.store) x) (sym c.self.view_is) every)
 
 pub returns-in-Ok-clause-covers : goal.returns-in-Ok-clause-covers
-returns-in-Ok-clause-covers g c honest genesis n held x shown every =
+returns-in-Ok-clause-covers g c honest genesis n x shown every =
     let m = meaning g.M.Machine.first g.M.Machine.next g.M.Machine.answer in
-    c.write_behind.ensures.covers honest genesis n held x (subst (λ (r : ReplicaValue). Stands m r.node r.store genesis n held) (sym c.self.view_is) shown)
+    c.write_behind.ensures.covers honest genesis n x (subst (λ (r : ReplicaValue). Remembers r.node r.store genesis n) (sym c.self.view_is) shown)
     (subst (λ (r : ReplicaValue). AllCover m genesis n (disks r.store) x) (sym c.self.view_is) every)
 
 pub returns-clause-covers : goal.returns-clause-covers
-returns-clause-covers g c honest genesis n held x shown every =
+returns-clause-covers g c honest genesis n x shown every =
     let m = meaning g.M.Machine.first g.M.Machine.next g.M.Machine.answer in
-    c.write_behind.ensures.covers honest genesis n held x (subst (λ (r : ReplicaValue). Stands m r.node r.store genesis n held) (sym c.self.view_is) shown)
+    c.write_behind.ensures.covers honest genesis n x (subst (λ (r : ReplicaValue). Remembers r.node r.store genesis n) (sym c.self.view_is) shown)
     (subst (λ (r : ReplicaValue). AllCover m genesis n (disks r.store) x) (sym c.self.view_is) every)
 
 pub returns-in-Ok-clause-syncs : goal.returns-in-Ok-clause-syncs
-returns-in-Ok-clause-syncs g c honest telling genesis n held x shown =
+returns-in-Ok-clause-syncs g c honest telling genesis n x shown =
     let m = meaning g.M.Machine.first g.M.Machine.next g.M.Machine.answer in
     let letters : c.deref.result.now ≡ c.in_ok-outbox.outbox.letters = c.deref.ensures.value ∙ ap (λ (o : OutboxValue). o.letters) c.outbox.view_is in (
       c.deref.result.now,
       c.in-Ok.ensures.all telling,
-      λ d listed said. c.in_ok-outbox.ensures.syncs honest genesis n held x (subst (λ (r : ReplicaValue). Stands m r.node r.store genesis n held) (sym c.self.view_is) shown) d (subst (λ (ls : List LetterValue). Contains (batch_of n ls) d) letters listed) said,
+      λ d listed said. c.in_ok-outbox.ensures.syncs honest genesis n x (subst (λ (r : ReplicaValue). Remembers r.node r.store genesis n) (sym c.self.view_is) shown) d (subst (λ (ls : List LetterValue). Contains (batch_of n ls) d) letters listed) said,
     )
 
 pub returns-clause-syncs : goal.returns-clause-syncs
-returns-clause-syncs g c honest telling genesis n held x shown =
+returns-clause-syncs g c honest telling genesis n x shown =
     let m = meaning g.M.Machine.first g.M.Machine.next g.M.Machine.answer in
     let letters : c.deref.result.now ≡ c.in_ok-outbox.outbox.letters = c.deref.ensures.value ∙ ap (λ (o : OutboxValue). o.letters) c.outbox.view_is in
     let kept = (c.in-Err.ensures.some telling).1 in (
       kept.0,
       kept.2,
-      λ d listed said. c.in_ok-outbox.ensures.syncs honest genesis n held x (subst (λ (r : ReplicaValue). Stands m r.node r.store genesis n held) (sym c.self.view_is) shown) d
+      λ d listed said. c.in_ok-outbox.ensures.syncs honest genesis n x (subst (λ (r : ReplicaValue). Remembers r.node r.store genesis n) (sym c.self.view_is) shown) d
           (subst (λ (ls : List LetterValue). Contains (batch_of n ls) d) letters (batch_among n kept.0 c.deref.result.now (thins_are_of c.deref.result.now (c.in-Err.ensures.some telling).0 kept.0 kept.1) d listed)) said,
     )
 
@@ -114,6 +115,7 @@ returns-in-Ok-clause-exact g c honest telling =
       calls = λ metered. subst (λ (r : ReplicaValue). CallsOfStep r.node r.store c.in_ok-outbox.outbox c.write_behind.new.store) c.self.view_is (c.in_ok-outbox.ensures.calls metered honest);
       alive = refl;
       store_alive = c.in_ok-outbox.ensures.alive;
+      awake = c.in_ok-outbox.ensures.awake;
     }
 
 pub returns-clause-exact_send : goal.returns-clause-exact_send
@@ -132,19 +134,20 @@ returns-clause-exact_send g c honest telling =
       calls = λ metered. subst (λ (r : ReplicaValue). CallsOfStep r.node r.store c.in_ok-outbox.outbox c.write_behind.new.store) c.self.view_is (c.in_ok-outbox.ensures.calls metered honest);
       alive = refl;
       store_alive = c.in_ok-outbox.ensures.alive;
+      awake = c.in_ok-outbox.ensures.awake;
     }
 
 pub invariant_of-self-in-Ok : goal.invariant_of-self-in-Ok
-invariant_of-self-in-Ok g c lives = c.in_ok-outbox.ensures.runs (c.self.invariant c.if-self.false)
+invariant_of-self-in-Ok g c = (λ lives. c.in_ok-outbox.ensures.runs (c.self.invariant.0 c.if-self.false), c.write_behind.ensures.format)
 
 pub returns-in-Ok-clause-runs : goal.returns-in-Ok-clause-runs
-returns-in-Ok-clause-runs g c = c.in_ok-outbox.ensures.runs (c.self.invariant c.if-self.false)
+returns-in-Ok-clause-runs g c = c.in_ok-outbox.ensures.runs (c.self.invariant.0 c.if-self.false)
 
 pub invariant_of-self-2 : goal.invariant_of-self-2
-invariant_of-self-2 g c lives = c.in_ok-outbox.ensures.runs (c.self.invariant c.if-self.false)
+invariant_of-self-2 g c = (λ lives. c.in_ok-outbox.ensures.runs (c.self.invariant.0 c.if-self.false), c.write_behind.ensures.format)
 
 pub returns-clause-runs_on : goal.returns-clause-runs_on
-returns-clause-runs_on g c = c.in_ok-outbox.ensures.runs (c.self.invariant c.if-self.false)
+returns-clause-runs_on g c = c.in_ok-outbox.ensures.runs (c.self.invariant.0 c.if-self.false)
 
 pub returns-then-self-clause-room : goal.returns-then-self-clause-room
 returns-then-self-clause-room g c honest = within_same 132704 (disks c.args.self.now.store) (disks c.args.self.now.store) (λ s. refl)
@@ -174,3 +177,13 @@ pub returns-in_err-outbox-clause-stays : goal.returns-in_err-outbox-clause-stays
 returns-in_err-outbox-clause-stays g c honest =
     spared_as _ _ _ c.from_residual.ensures.1
     (spared_more _ _ _ (λ left. subst (λ (r : ReplicaValue). AreLeft r.node r.store c.write_behind.new.store) c.self.view_is left) (c.in_err-outbox.ensures.stays honest))
+
+-- ---- what it remembers
+
+pub returns-in-Ok-clause-remembers : goal.returns-in-Ok-clause-remembers
+returns-in-Ok-clause-remembers g c honest genesis n shown =
+    c.in_ok-outbox.ensures.remembers honest genesis n (subst (λ (r : ReplicaValue). Remembers r.node r.store genesis n) (sym c.self.view_is) shown)
+
+pub returns-clause-remembers_on : goal.returns-clause-remembers_on
+returns-clause-remembers_on g c honest genesis n shown =
+    c.in_ok-outbox.ensures.remembers honest genesis n (subst (λ (r : ReplicaValue). Remembers r.node r.store genesis n) (sym c.self.view_is) shown)

@@ -1,0 +1,12 @@
+-- What a replica keeps of what its node has promised and accepted, whatever history it was revived on.
+use Rattle.std.specs.Prelude.{◌≡◌, ℕ}
+use Rattle.lk_log.specs.StoreValue.{StoreValue}
+use Rattle.lk_node.specs.Histories.{Genesis}
+use Rattle.lk_node.specs.Keeping.{Keeps}
+use Rattle.lk_node.specs.Leavings.{header_of}
+use Rattle.lk_node.specs.NodeValue.{NodeValue}
+
+-- the replica, by its parts, is that of the node in the cluster that began so, and its store keeps what its acceptor holds
+pub record Remembers (node : NodeValue) (store : StoreValue) (genesis : Genesis) (n : ℕ) : Type 0 where
+  pub whose : node.header ≡ header_of genesis n
+  pub keeps : Keeps (header_of genesis n) store node.acceptor.state
