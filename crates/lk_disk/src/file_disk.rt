@@ -48,6 +48,17 @@ impl<F: AppendFile + Drop> FileDisk<F> {
         }
     }
 
+    /// The file at a side.
+    pub fn file(&self, side: Side) -> &F
+        ensures file { F.file result.now ≡ (used_at self.now side).file }
+        ensures failures { F.failures result.now ≡ (used_at self.now side).failures }
+    {
+        match side {
+            Side::A => self.a.file(),
+            Side::B => self.b.file(),
+        }
+    }
+
     /// The files, as the device leaves them.
     pub fn into_files(self) -> (F, F)
         ensures a { F.file result.0 ≡ self.a.file }

@@ -1,12 +1,14 @@
 // The files of the system. What they do no contract can say: this module is trusted.
-ghost use Rattle.std.specs.Prelude.{◌≡◌};
+ghost use Rattle.std.specs.Prelude.{◌≡◌, IsFalse, IfOk};
 ghost use Rattle.lk_disk.specs.Disk.{one_more, HasCause};
 ghost use Rattle.lk_disk.specs.Files.{unknown};
 
 use crate::append_file::{AppendFile, FileFault};
+use crate::device::Side;
 use crate::file_disk::FileDisk;
 use std::alloc::Global;
 use std::fs::{File, Files, OpenFile, OpenOptions};
+use std::io;
 use std::io::{Read, Seek, SeekFrom, Write};
 use std::path::Path;
 use thiserror::Error;
@@ -20,25 +22,35 @@ use thiserror::Error;
 pub struct SystemFile<F> {
     file: F,
     failures: u64,
+    // why the last call that failed did
+    cause: Option<io::Error>,
+}
+
+// Reads from the offset on.
+fn read_at<F: Read + Seek>(file: &mut F, offset: usize, buffer: &mut [u8]) -> io::Result<()> {
+    file.seek(SeekFrom::Start(offset as u64))?;
+    file.read_exact(buffer)?;
+    Ok(())
 }
 
 impl<F> SystemFile<F> {
-    // Counts a failure.
-    fn fail(&mut self) -> FileFault
+    // Counts a failure, and keeps its cause.
+    fn fail(&mut self, cause: io::Error) -> FileFault
         ensures { self.new.failures ≡ one_more self.old.failures }
     {
         self.failures = self.failures.saturating_add(1);
+        self.cause = Some(cause);
         FileFault
     }
 
     // Counts a call that was not made.
-    fn told(&mut self, is_made: bool) -> Result<(), FileFault>
+    fn told(&mut self, made: io::Result<()>) -> Result<(), FileFault>
         ensures { HasCause self.old.failures self.new.failures result }
     {
-        if is_made {
-            return Ok(());
+        match made {
+            Ok(()) => Ok(()),
+            Err(cause) => Err(self.fail(cause)),
         }
-        Err(self.fail())
     }
 }
 
@@ -50,34 +62,34 @@ impl<F: OpenFile + Read + Write + Seek> AppendFile for SystemFile<F> {
     ghost failures = { λ f. f.failures };
 
     fn length(&mut self) -> Result<usize, FileFault> {
-        let Ok(metadata) = self.file.metadata() else {
-            return Err(self.fail());
+        let length = match self.file.metadata() {
+            Ok(metadata) => usize::try_from(metadata.len()),
+            Err(cause) => return Err(self.fail(cause)),
         };
-        match usize::try_from(metadata.len()) {
+        match length {
             Ok(length) => Ok(length),
-            Err(_) => Err(self.fail()),
+            Err(_) => Err(self.fail(io::Error::other("the file is too long"))),
         }
     }
 
     fn read_into(&mut self, offset: usize, buffer: &mut [u8]) -> Result<(), FileFault> {
-        let is_found = self.file.seek(SeekFrom::Start(offset as u64)).is_ok();
-        let is_read = is_found && self.file.read_exact(buffer).is_ok();
-        self.told(is_read)
+        let read = read_at(&mut self.file, offset, buffer);
+        self.told(read)
     }
 
     fn append(&mut self, piece: &[u8]) -> Result<(), FileFault> {
-        let is_made = self.file.write_all(piece).is_ok();
-        self.told(is_made)
+        let made = self.file.write_all(piece);
+        self.told(made)
     }
 
     fn sync(&mut self) -> Result<(), FileFault> {
-        let is_made = self.file.sync_data().is_ok();
-        self.told(is_made)
+        let made = self.file.sync_data();
+        self.told(made)
     }
 
     fn shorten(&mut self, len: usize) -> Result<(), FileFault> {
-        let is_made = self.file.set_len(len as u64).is_ok();
-        self.told(is_made)
+        let made = self.file.set_len(len as u64);
+        self.told(made)
     }
 }
 
@@ -93,14 +105,20 @@ fn open_one<R: Files>(
     how: &OpenOptions,
     folder: &str,
     name: &str,
-) -> Result<SystemFile<R::File>, CannotOpen> {
+) -> Result<SystemFile<R::File>, CannotOpen>
+    ensures { IfOk result (λ f. f.failures ≡ 0) }
+{
     let Ok(path) = Path::new(folder).join(alloc, name) else {
         return Err(CannotOpen);
     };
     let Ok(file) = how.open(rt, path.as_path()) else {
         return Err(CannotOpen);
     };
-    Ok(SystemFile { file, failures: 0 })
+    Ok(SystemFile {
+        file,
+        failures: 0,
+        cause: None,
+    })
 }
 
 /// Makes the names of files that were made in a folder outlast a stop of the machine.
@@ -114,7 +132,13 @@ impl<F: OpenFile + Read + Write + Seek + Drop> FileDisk<SystemFile<F>> {
         rt: &R,
         alloc: Global,
         folder: &str,
-    ) -> Result<FileDisk<SystemFile<F>>, CannotOpen> {
+    ) -> Result<FileDisk<SystemFile<F>>, CannotOpen>
+        ensures failures { IfOk result (λ d. d.failures ≡ 0) }
+        ensures failures_a { IfOk result (λ d. d.a.failures ≡ 0) }
+        ensures failures_b { IfOk result (λ d. d.b.failures ≡ 0) }
+        ensures alive_a { IfOk result (λ d. IsFalse d.a.failed) }
+        ensures alive_b { IfOk result (λ d. IsFalse d.b.failed) }
+    {
         let Ok(opened) = File::open(rt, folder) else {
             return Err(CannotOpen);
         };
@@ -131,11 +155,22 @@ impl<F: OpenFile + Read + Write + Seek + Drop> FileDisk<SystemFile<F>> {
         rt: &R,
         alloc: Global,
         folder: &str,
-    ) -> Result<FileDisk<SystemFile<F>>, CannotOpen> {
+    ) -> Result<FileDisk<SystemFile<F>>, CannotOpen>
+        ensures failures { IfOk result (λ d. d.failures ≡ 0) }
+        ensures failures_a { IfOk result (λ d. d.a.failures ≡ 0) }
+        ensures failures_b { IfOk result (λ d. d.b.failures ≡ 0) }
+        ensures alive_a { IfOk result (λ d. IsFalse d.a.failed) }
+        ensures alive_b { IfOk result (λ d. IsFalse d.b.failed) }
+    {
         let mut how = OpenOptions::new();
         how.read(true);
         let a = open_one(rt, alloc, &how, folder, "a")?;
         let b = open_one(rt, alloc, &how, folder, "b")?;
         Ok(FileDisk::of(a, b))
+    }
+
+    /// What the system said of the last call that failed at a side, where one did.
+    pub fn cause(&self, side: Side) -> Option<io::Error> {
+        self.file(side).cause
     }
 }

@@ -37,6 +37,13 @@ impl<F: AppendFile + Drop> UsedFile<F> {
         }
     }
 
+    pub fn file(&self) -> &F
+        ensures file { F.file result.now ≡ self.now.file }
+        ensures failures { F.failures result.now ≡ self.now.failures }
+    {
+        &self.file
+    }
+
     pub fn into_file(self) -> F
         ensures file { F.file result ≡ self.file }
         ensures failures { F.failures result ≡ self.failures }

@@ -13,7 +13,7 @@ ghost use Rattle.lk_history.specs.Chosen.{Command, command_at, Chosen, ChosenAt,
 ghost use Rattle.lk_history.specs.Soundness.{Sound};
 ghost use Rattle.lk_history.specs.Acceptors.{AcceptorState, CoversSent, TakesVote, TakesSnapshot};
 ghost use Rattle.lk_history.specs.Nodes.{Term, View, Stems, ViewFits, MayPromise, MayPostAll};
-ghost use Rattle.lk_history.specs.Changes.{Becomes};
+ghost use Rattle.lk_history.specs.Changes.{with_term, Changes, Becomes};
 ghost use Rattle.lk_history.specs.Snapshots.{IsSlice};
 ghost use Rattle.lk_history.specs.Worlds.{World, start, with_sent, with_view, IsClientRequest, Reaches, WorldFits, IsKept, MembersChange};
 
@@ -151,6 +151,22 @@ pub fn slices_join()
         → IsSlice genesis sent text position (length (text (take position L))) offset bytes }
 {}
 
+/// What a world may come to, at the least: nodes send what they may, clients ask, and nodes change, as often as may be. A node may
+/// stop at any time and restart from any image that covers what it has sent and stems from what was sent, and its term may end.
+pub fn worlds_come_about()
+    ensures begins { (genesis : Genesis) → Reaches genesis start }
+    ensures sends { (genesis : Genesis) (w : World) (n : ℕ) (batch : List Datagram) → Reaches genesis w
+        → MayPostAll genesis w.sent n (w.views n) batch → Reaches genesis (with_sent w batch) }
+    ensures asks { (genesis : Genesis) (w : World) (d : Datagram) → Reaches genesis w
+        → IsClientRequest d → Reaches genesis (with_sent w (d ∷ [])) }
+    ensures changes { (genesis : Genesis) (w : World) (n : ℕ) (new : View) → Reaches genesis w
+        → Changes genesis w.sent n (w.views n) new → Reaches genesis (with_view w n new) }
+    ensures restarts { (genesis : Genesis) (w : World) (n : ℕ) (image : View) → Reaches genesis w
+        → CoversSent genesis w.sent n image.acceptor → Stems genesis w.sent image → image.term ≡ None → Reaches genesis (with_view w n image) }
+    ensures leaves { (genesis : Genesis) (w : World) (n : ℕ) → Reaches genesis w
+        → Reaches genesis (with_view w n (with_term (w.views n) None)) }
+{}
+
 /// In every world that comes about chosen lists agree, and a majority keeps each command of a chosen list.
 pub fn every_world_agrees()
     ensures fits { (genesis : Genesis) (w : World) → Reaches genesis w → WorldFits genesis w }
@@ -163,5 +179,8 @@ pub fn every_world_agrees()
 /// Such worlds come about, and members change in them: the first command of a chosen list is decided by node 1 alone and
 /// makes node 2 a member, and the second is decided by both.
 pub fn members_change_in_some_world()
-    ensures { (genesis : Genesis) × (w : World) × (L : List Command) × MembersChange genesis w L }
+    ensures some { (genesis : Genesis) × (w : World) × (L : List Command) × MembersChange genesis w L }
+    ensures plain { (genesis : Genesis) × (w : World) × (L : List Command) × Reaches genesis w × Chosen genesis w.sent L × (length L ≡ 2)
+        × (members genesis L 1 ≡ record { node = 1; port = 7001 } ∷ [])
+        × (members genesis L 2 ≡ record { node = 1; port = 7001 } ∷ record { node = 2; port = 7002 } ∷ []) }
 {}

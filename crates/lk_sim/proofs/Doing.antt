@@ -14,8 +14,8 @@ use Rattle.lk_sim.specs.Traces.{asked_in, happened, Tells, asked_note}
 use Rattle.lk_sim.specs.Scenes.{Scene}
 use Rattle.lk_sim.specs.Seats.{At, SeatFits, SeatGoes, stopped_on, fallen_on, rested_on, device_in}
 use Rattle.lk_replica.specs.Behaviours.{Behaviour, TrapsAlone, disks_by}
-use Rattle.lk_sim.specs.Events.{AreOwn, Adds, Breaks, StaysDown, FailsToPack, Falls, Comes, stop_among, after_sends, end_by, end_at, IsGiven, IsBack, ComesUp, IsPacked, IsCompacted, IsHalted, LeftBy, LeftByRevival, LeftByPacking}
-use Rattle.lk_sim.specs.Outcomes.{HasFallen, HasTaken, HasRevived, HasPacked, HasAdded, HasSettled, HasGivenUp, Rests}
+use Rattle.lk_sim.specs.Events.{AreOwn, Adds, Breaks, StaysDown, FailsToPack, Falls, Comes, stop_among, after_sends, end_by, end_at, IsGiven, IsBack, ComesUp, IsPacked, IsCompacted, IsHalted, LeftBy, LeftByRevival}
+use Rattle.lk_sim.specs.Outcomes.{HasFallen, HasTaken, HasRevived, HasPacked, HasAdded, HasSettled, HasGivenUp, HasWanted, Rests}
 use Rattle.lk_sim.specs.Worlds.{Holds}
 use Rattle.lk_sim.specs.declared.end.End.{End}
 use Rattle.lk_sim.specs.declared.seat.Seat.{Seat}
@@ -23,7 +23,7 @@ use Rattle.lk_sim.specs.declared.seat.Life.{Life}
 use Rattle.lk_sim.specs.declared.seat.Life.TheVariants.{Up, Down}
 use Rattle.lk_sim.proofs.Ending.{goes_fits}
 use Rattle.lk_sim.proofs.Lists.{at_set_here}
-use Rattle.lk_sim.proofs.Stopping.{rested, stopped_sent}
+use Rattle.lk_sim.proofs.Stopping.{rested, nothing_sent, stopped_sent}
 use Rattle.lk_sim.proofs.Given.{set_twice, asked_maybe, went_down, went_off, went_on}
 
 -- one thing stands at a place
@@ -221,34 +221,64 @@ module _ {R : Type 0} (b : Behaviour R) (old new : Scene R) where
         ended = k.ended;
       }
 
--- whatever a node's call came to, a stop leaves of its device what it leaves of the one that the call left
+-- whatever a node's call came to of which something was to be kept, a stop leaves of its device what it leaves of the one that the call left
 module _ {R : Type 0} (b : Behaviour R) where
-  pub taken_left : TrapsAlone b → (r : R) (o : Option (List ℕ)) (life : Life R) (t : Seat R) (mine : List Note) (batch : List Datagram) (how : Option End) (stop : Option ℕ)
-      → life ≡ Up r → HasTaken b r o t mine batch how stop ⊎ HasFallen (Breaks b r o) t mine batch how stop → StopsOn b (LeftBy b o life) t.life
-  taken_left alone r o life t mine batch how stop up cases = elim cases [
+  pub taken_left : TrapsAlone b → (r : R) (o : Option (List ℕ)) (life : Life R) (t : Seat R) (asked mine : List Note) (batch : List Datagram) (how : Option End) (stop : Option ℕ) → (asked ++ mine ≡ [] → batch ≡ [] → ⊥)
+      → life ≡ Up r → HasTaken b r o t mine batch how stop ⊎ HasFallen (Breaks b r o) t mine batch how stop → StopsOn b (LeftBy b o asked life) t.life
+  taken_left alone r o life t asked mine batch how stop some up cases = elim cases [
     | inl k ↦ (
       b.memory k.replica,
-      (r, k.replica, Ok (mine, k.all), up, k.takes, refl),
+      (r, k.replica, Ok (mine, k.all), up, k.takes, refl, λ silent idle. some silent (nothing_sent b stop k.replica k.after k.all batch k.sends idle)),
       ap (λ (z : Life R). stopped_on 0 0 (device_in b z)) k.up ∙ stopped_sent b alone stop k.replica k.after k.all batch k.sends,
     )
-    | inr f ↦ (f.left, (r, f.ends.0, Err f.number, up, f.ends.1, f.ends.3), ap (λ (z : Life R). stopped_on 0 0 (device_in b z)) f.down)
+    | inr f ↦ (
+      f.left,
+      (r, f.ends.0, Err f.number, up, f.ends.1, f.ends.3, inr (λ none. some (ap (λ l. l ++ mine) none ∙ f.no_notes) f.no_batch)),
+      ap (λ (z : Life R). stopped_on 0 0 (device_in b z)) f.down,
+    )
   ]
 
-  pub revived_left : (d : Memory) (header : HeaderValue) (life : Life R) (t : Seat R) (mine : List Note) (batch : List Datagram) (how : Option End) (stop : Option ℕ)
+  pub revived_left : (d : Memory) (header : HeaderValue) (life : Life R) (t : Seat R) (mine : List Note) (batch : List Datagram) (how : Option End) (stop : Option ℕ) → (mine ≡ [] → batch ≡ [] → ⊥)
       → life ≡ Down d → HasRevived b d header t mine batch how stop ⊎ HasFallen (StaysDown b d header) t mine batch how stop → StopsOn b (LeftByRevival b header life) t.life
-  revived_left d header life t mine batch how stop down cases = elim cases [
-    | inl k ↦ (b.memory k.replica, (d, Ok (k.replica, mine), down, k.revives, refl), ap (λ (z : Life R). stopped_on 0 0 (device_in b z)) k.up)
-    | inr f ↦ (f.left, (d, Err (f.number, f.left), down, f.ends.0, refl), ap (λ (z : Life R). stopped_on 0 0 (device_in b z)) f.down)
+  revived_left d header life t mine batch how stop some down cases = elim cases [
+    | inl k ↦ (b.memory k.replica, (d, Ok (k.replica, mine), down, k.revives, (refl, λ none. some none k.no_batch)), ap (λ (z : Life R). stopped_on 0 0 (device_in b z)) k.up)
+    | inr f ↦ absurd (some f.no_notes f.no_batch)
   ]
 
--- so of one that was told to compact
+-- of one that was told to compact nothing is to be kept
 module _ {R : Type 0} (b : Behaviour R) where
-  pub packed_left : (r : R) (life : Life R) (t : Seat R) (mine : List Note) (batch : List Datagram) (how : Option End) (stop : Option ℕ)
-      → life ≡ Up r → HasPacked b r t mine batch how stop ⊎ HasFallen (FailsToPack b r) t mine batch how stop → StopsOn b (LeftByPacking b life) t.life
-  packed_left r life t mine batch how stop up cases = elim cases [
-    | inl k ↦ (b.memory k.replica, (r, k.replica, Ok tt, up, k.compacts, refl), ap (λ (z : Life R). stopped_on 0 0 (device_in b z)) k.up)
-    | inr f ↦ (f.left, (r, f.ends.0, Err f.number, up, f.ends.1, f.ends.3), ap (λ (z : Life R). stopped_on 0 0 (device_in b z)) f.down)
-  ]
+  pub packed_none : (r : R) (t : Seat R) (mine : List Note) (batch : List Datagram) (how : Option End) (stop : Option ℕ) → (mine ≡ [] → batch ≡ [] → ⊥)
+      → HasPacked b r t mine batch how stop ⊎ HasFallen (FailsToPack b r) t mine batch how stop → ⊥
+  packed_none r t mine batch how stop some cases = elim cases [ inl k ↦ some k.no_notes k.no_batch | inr f ↦ some f.no_notes f.no_batch ]
+
+-- a node that was stopped when out of memory
+module _ {R : Type 0} (old : Scene R) (Left : Life R → Memory → Type 0) (Ends : ℕ → Memory → Type 0) where
+  pub wanted : (i n : ℕ) (s t : Seat R) → At old.seats i s → s.number ≡ n → t.number ≡ s.number → (k : HasWanted Ends t) → Left s.life k.left → IsHalted Left old (record old { seats = set old.seats i t }) n
+  wanted i n s t at is number k left = record {
+    seat = s;
+    number = is;
+    next = t;
+    turns = record { place = i; at = at; number = number; seats = refl };
+    device = k.left;
+    left = left;
+    down = k.down;
+    adds = record { genesis = refl; sent = sym (append-nil old.sent); trace = sym (append-nil old.trace) };
+    ended = refl;
+  }
+
+-- it was stopped so
+pub halted_as : {R : Type 0} (Left Other : Life R → Memory → Type 0) (old new : Scene R) (n : ℕ) → ((life : Life R) (d : Memory) → Left life d → Other life d) → IsHalted Left old new n → IsHalted Other old new n
+halted_as Left Other old new n more h = record {
+  seat = h.seat;
+  number = h.number;
+  next = h.next;
+  turns = h.turns;
+  device = h.device;
+  left = more h.seat.life h.device h.left;
+  down = h.down;
+  adds = h.adds;
+  ended = h.ended;
+}
 
 -- a node is up, or was ended with nothing added
 pub record Ends {R : Type 0} (t : Seat R) (mine : List Note) (batch : List Datagram) : Type 0 where

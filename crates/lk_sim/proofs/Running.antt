@@ -5,7 +5,7 @@ use Rattle.lk_replica.specs.Behaviours.{Behaviour}
 use Rattle.std.specs.Prelude.{Option, Result, Ok, Err, Vec, OnOk, IfErr}
 use Rattle.std.specs.Global.{Global}
 use Rattle.lk_node.specs.declared.note.Note.{Note}
-use Rattle.lk_sim.specs.Events.{IsGiven, ComesUp, Brings, Does, Wants, IsRefused, IsRefusedAt, LeftBy, Grows}
+use Rattle.lk_sim.specs.Events.{IsGiven, ComesUp, Brings, Does, Wants, IsRefused, IsRefusedAt, LeftByInjection, Grows}
 use Rattle.lk_sim.specs.Refusals.{NoInjection}
 use Rattle.lk_sim.specs.Runs.{Passes, StopsAt, Runs}
 use Rattle.lk_sim.specs.Scenes.{Scene}
@@ -34,7 +34,7 @@ if_err P Q (Err e) f p = f e p
 
 -- bytes that were refused are a refused event
 pub injected_refused : {R : Type 0} (b : Behaviour R) (old new : Scene R) (n : ℕ) (bytes : Vec ℕ Global) (r : Refused)
-    → IsRefusedAt (NoInjection old.seats old.sent n bytes.items) (IsUp old.seats n) (LeftBy b (Some bytes.items)) old n r new → IsRefused b old (event.Inject n bytes) r new
+    → IsRefusedAt (NoInjection old.seats old.sent n bytes.items) (IsUp old.seats n) (LeftByInjection b bytes.items) old n r new → IsRefused b old (event.Inject n bytes) r new
 injected_refused b old new n bytes r k = elim k [
   | inl why ↦ inl why
   | inr wants ↦ inr wants

@@ -1,5 +1,5 @@
 -- A node that stops in the middle of what it sends.
-use Rattle.std.proofs.Common.{◌≡◌, ℕ, ◌-◌, List, length, take, drop, Option, Some, None, Contains, refl, ap, sym, ◌∙◌, subst, inl, inr, arith}
+use Rattle.std.proofs.Common.{◌≡◌, ℕ, zero, suc, ◌-◌, List, [], length, take, drop, Option, Some, None, Contains, refl, ap, sym, ◌∙◌, subst, inl, inr, arith}
 use Rattle.std.proofs.lemmas.Bool.{cases_lt}
 use Rattle.std.proofs.lemmas.List.{take-take, take_all, length-take, take-append-drop}
 use Rattle.std.proofs.lemmas.List.Elements.{Contains-append_left}
@@ -99,6 +99,15 @@ module _ {R : Type 0} (b : Behaviour R) (alone : TrapsAlone b) (Shows : R → Ge
   pub sent_short : (stop : Option ℕ) (r q : R) (all sent : List Datagram) → SentUpTo b stop r q all sent → AreShort (disks_by b r) → AreShort (disks_by b q)
   sent_short None r q all sent up short = subst (λ z. AreShort (disks_by b z)) (sym up.1) (counted_short (b.memory r).meter.trap (length all) r short)
   sent_short (Some bytes) r q all sent up short = subst (λ z. AreShort (disks_by b z)) (sym up.2) short
+
+-- of nothing nothing goes out
+pub nothing_sent : {R : Type 0} (b : Behaviour R) (stop : Option ℕ) (r q : R) (all sent : List Datagram) → SentUpTo b stop r q all sent → all ≡ [] → sent ≡ []
+nothing_sent b None r q all sent up none = up.2 ∙ none
+nothing_sent b (Some bytes) r q all sent up none = up.3 ∙ ap (take up.0) none ∙ empty up.0
+  where
+    empty : (k : ℕ) → ◌≡◌ {A = List Datagram} (take k []) []
+    empty zero = refl
+    empty (suc k) = refl
 
 -- a device of which a stop leaves no unsynced byte forgets its trap
 module _ {R : Type 0} (b : Behaviour R) (alone : TrapsAlone b) where

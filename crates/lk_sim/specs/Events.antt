@@ -284,23 +284,33 @@ Does b old e new = May old e × Brings b old e new
 
 -- ---- what want of memory leaves
 
--- a call of the replica, whatever it came to, left this device
-abbrev pub LeftBy : {R : Type 0} → Behaviour R → Option (List ℕ) → Life R → Memory → Type 0
-LeftBy {R = R} b o life left = (r q : R) × (came : Result (List Note × List Datagram) ℕ) × (life ≡ Up r) × b.Takes r o q came × (left ≡ b.memory q)
+-- what a call came to, after a request that was just asked, takes memory: it was refused when out of memory, or there is something to be
+-- noted or sent
+abbrev pub TakesMemory : List Note → Result (List Note × List Datagram) ℕ → Memory → Type 0
+TakesMemory asked (Ok told) left = asked ++ told.0 ≡ [] → told.1 ≡ [] → ⊥
+TakesMemory asked (Err number) left = IsWant number left ⊎ (asked ≡ [] → ⊥)
 
--- this is the device of what a revival came to
+-- such a call of the replica left this device
+abbrev pub LeftBy : {R : Type 0} → Behaviour R → Option (List ℕ) → List Note → Life R → Memory → Type 0
+LeftBy {R = R} b o asked life left = (r q : R) × (came : Result (List Note × List Datagram) ℕ) × (life ≡ Up r) × b.Takes r o q came × (left ≡ b.memory q) × TakesMemory asked came left
+
+-- so with bytes that no node has sent
+abbrev pub LeftByInjection : {R : Type 0} → Behaviour R → List ℕ → Life R → Memory → Type 0
+LeftByInjection b bytes life left = (request : Option RequestValue) × Asks bytes request × LeftBy b (Some bytes) (asked_note request) life left
+
+-- this is the device of what a revival came to that takes memory: it was refused when out of memory, or there is something to be noted
 abbrev pub IsOf : {R : Type 0} → Behaviour R → Result (R × List Note) (ℕ × Memory) → Memory → Type 0
-IsOf b (Ok came) left = left ≡ b.memory came.0
-IsOf b (Err came) left = left ≡ came.1
+IsOf b (Ok came) left = (left ≡ b.memory came.0) × (came.1 ≡ [] → ⊥)
+IsOf b (Err came) left = (left ≡ came.1) × IsWant came.0 came.1
 
--- a revival, whatever it came to, left this device
+-- such a revival left this device
 abbrev pub LeftByRevival : {R : Type 0} → Behaviour R → HeaderValue → Life R → Memory → Type 0
 LeftByRevival {R = R} b header life left =
     (d : Memory) × (came : Result (R × List Note) (ℕ × Memory)) × (life ≡ Down d) × b.Revives d header came × IsOf b came left
 
--- a compaction, whatever it came to, left this device
+-- a compaction that was refused when out of memory left this device
 abbrev pub LeftByPacking : {R : Type 0} → Behaviour R → Life R → Memory → Type 0
-LeftByPacking {R = R} b life left = (r q : R) × (came : Result (Unit {0}) ℕ) × (life ≡ Up r) × b.Compacts r q came × (left ≡ b.memory q)
+LeftByPacking {R = R} b life left = (r q : R) × (number : ℕ) × (life ≡ Up r) × b.Compacts r q (Err number) × (left ≡ b.memory q) × IsWant number left
 
 -- the node has stopped, with none of the unsynced bytes of the disks that its call had left
 pub record IsHalted {R : Type 0} (Left : Life R → Memory → Type 0) (old new : Scene R) (n : ℕ) : Type 0 where
@@ -315,16 +325,17 @@ pub record IsHalted {R : Type 0} (Left : Life R → Memory → Type 0) (old new 
   pub ended : new.ended ≡ old.ended
 
 -- what want of memory leaves of an event: the node that it steps, or revives, has stopped. Where no node was stepping yet nothing has
--- changed, nor where the node was never started before. A stop, and a trap that is set, take no memory. Nothing was noted or sent
+-- changed, nor where the node was never started before. A stop, and a trap that is set, take no memory, nor does a call that came to
+-- another fault, where no request was to be noted as asked. Nothing was noted or sent
 abbrev pub Wants : {R : Type 0} → Behaviour R → Scene R → Event → Scene R → Type 0
 Wants b old (event.Start n) new = new ≡ old
 Wants b old (event.Restart n) new = IsHalted (LeftByRevival b (header_of old.genesis n)) old new n
-Wants b old (event.Tick n) new = IsHalted (LeftBy b None) old new n
+Wants b old (event.Tick n) new = IsHalted (LeftBy b None []) old new n
 Wants b old (event.Compact n) new = IsHalted (LeftByPacking b) old new n
 Wants b old (event.Client n r) new = new ≡ old
 Wants b old (event.Deliver k) new =
-    (new ≡ old) ⊎ ((n : ℕ) × (d : Datagram) × (datagram_at old.sent k ≡ Some d) × (d.to ≡ party.Node n) × IsHalted (LeftBy b (Some d.bytes)) old new n)
-Wants b old (event.Inject n bytes) new = (new ≡ old) ⊎ IsHalted (LeftBy b (Some bytes.items)) old new n
+    (new ≡ old) ⊎ ((n : ℕ) × (d : Datagram) × (datagram_at old.sent k ≡ Some d) × (d.to ≡ party.Node n) × IsHalted (LeftBy b (Some d.bytes) []) old new n)
+Wants b old (event.Inject n bytes) new = (new ≡ old) ⊎ IsHalted (LeftByInjection b bytes.items) old new n
 Wants b old (event.Stop n x y) new = ⊥
 Wants b old (event.FailAt n count) new = ⊥
 Wants b old (event.Arm n count bytes) new = ⊥

@@ -35,12 +35,6 @@ pub record HasFallen {R : Type 0} (Ends : ℕ → Memory → Type 0) (s : Seat R
 abbrev pub IsThis : ℕ → Memory → ℕ → Memory → Type 0
 IsThis number left n d = (n ≡ number) × (d ≡ left)
 
--- it was stopped, on such a device, of whose unsynced bytes none is left
-pub record HasHalted {R : Type 0} (Left : Memory → Type 0) (s : Seat R) : Type 0 where
-  pub device : Memory
-  pub left : Left device
-  pub down : s.life ≡ Down (stopped_on 0 0 device)
-
 -- a fault of that kind, when out of memory, has stopped it, on the disks that it left, of whose unsynced bytes none is left
 pub record HasWanted {R : Type 0} (Ends : ℕ → Memory → Type 0) (s : Seat R) : Type 0 where
   pub number : ℕ

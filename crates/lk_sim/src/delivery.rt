@@ -2,10 +2,11 @@
 ghost use Rattle.std.specs.Prelude.{◌≡◌, ◌⊎◌, None, Some, IfOk, IfErr, IfSome, OnOk};
 ghost use Rattle.lk_history.specs.Datagrams.{Datagram as DatagramValue};
 ghost use Rattle.lk_history.specs.declared.party.Party.TheVariants as party;
+ghost use Rattle.lk_wire.specs.Shown.{shown_content};
 ghost use Rattle.lk_wire.specs.declared.message.Content.TheVariants as content;
 ghost use Rattle.lk_node.specs.Histories.{RequestValue};
 ghost use Rattle.lk_replica.specs.Behaviours.{disks_by};
-ghost use Rattle.lk_sim.specs.Events.{Does, IsInjected, IsRefused, IsRefusedAt, LeftBy};
+ghost use Rattle.lk_sim.specs.Events.{Does, IsInjected, IsRefused, IsRefusedAt, LeftByInjection};
 ghost use Rattle.lk_sim.specs.Heard.{Asks, IsForged};
 ghost use Rattle.lk_sim.specs.Refusals.{datagram_at, HasRoom, NoTurn, NoDelivery, NoInjection, MayTurn};
 ghost use Rattle.lk_sim.specs.Seats.{IsUp, IsUpAt};
@@ -20,8 +21,7 @@ use lk_history::Party;
 use lk_node::Input;
 use lk_replica::{Datagram, MemoryReplica};
 use lk_types::{NoMemory, NodeNo, Request};
-use lk_wire::{Content, ReadFault, read};
-use std::alloc::Global;
+use lk_wire::{ContentRef, view};
 
 // The place of the node of this number, which is up, where there is room for what it sends.
 fn turn_of<R: MemoryReplica>(parts: &Parts<R>, number: NodeNo) -> Result<usize, Refused>
@@ -95,29 +95,26 @@ pub fn deliver<R: MemoryReplica>(parts: &mut Parts<R>, k: usize) -> Result<(), R
 }
 
 // The request that is asked. A message of a node is forged.
-fn request_of(said: &Content) -> Result<Request, Refused>
-    ensures ok { IfOk result (λ r. said.now ≡ content.Request r) }
-    ensures err { IfErr result (λ e. (e ≡ Refused.Forged) × ((r : RequestValue) → said.now ≡ content.Request r → ⊥)) }
+fn request_of(said: &ContentRef<'_>) -> Result<Request, Refused>
+    ensures ok { IfOk result (λ r. shown_content said.now ≡ content.Request r) }
+    ensures err { IfErr result (λ e. (e ≡ Refused.Forged) × ((r : RequestValue) → shown_content said.now ≡ content.Request r → ⊥)) }
 {
     match said {
-        Content::Request(request) => Ok(request.copy()),
-        Content::Node(..) => Err(Refused::Forged),
+        ContentRef::Request(request) => Ok(request.request()),
+        ContentRef::Node(..) => Err(Refused::Forged),
     }
 }
 
 // The request that the bytes are, if they are one. A datagram of a node is forged.
-fn request_in(alloc: Global, bytes: &[u8]) -> Result<Option<Request>, Refused>
+fn request_in(bytes: &[u8]) -> Result<Option<Request>, Refused>
     ensures ok { IfOk result (λ o. Asks bytes.now o) }
-    ensures err { IfErr result (λ e. ((e ≡ Refused.Forged) × IsForged bytes.now) ⊎ (e ≡ Refused.WorldMemory)) }
+    ensures err { IfErr result (λ e. (e ≡ Refused.Forged) × IsForged bytes.now) }
 {
-    match read(alloc, bytes) {
-        Ok(message) => {
-            let request = request_of(&message.content)?;
-            Ok(Some(request))
-        }
-        Err(ReadFault::Bad) => Ok(None),
-        Err(ReadFault::NoMemory) => Err(Refused::WorldMemory),
-    }
+    let Ok(message) = view(bytes) else {
+        return Ok(None);
+    };
+    let request = request_of(&message.content)?;
+    Ok(Some(request))
 }
 
 /// A node is handed bytes that no node has sent.
@@ -129,10 +126,10 @@ pub fn inject<R: MemoryReplica>(
     requires { PartsHold R.Shows (disks_by R.behaves) R.meaning parts.old }
     ensures holds { PartsHold R.Shows (disks_by R.behaves) R.meaning parts.new }
     ensures ok { OnOk result (MayTurn (scene_of parts.old) number × (IsForged bytes.now → ⊥) × IsInjected R.behaves (scene_of parts.old) (scene_of parts.new) number bytes.now) }
-    ensures err { IfErr result (λ e. IsRefusedAt (NoInjection parts.old.seats.items parts.old.sent.items number bytes.now) (IsUp parts.old.seats.items number) (LeftBy R.behaves (Some bytes.now)) (scene_of parts.old) number e (scene_of parts.new)) }
+    ensures err { IfErr result (λ e. IsRefusedAt (NoInjection parts.old.seats.items parts.old.sent.items number bytes.now) (IsUp parts.old.seats.items number) (LeftByInjection R.behaves bytes.now) (scene_of parts.old) number e (scene_of parts.new)) }
 {
     let i = find_up(&parts.seats, number)?;
-    let asked = request_in(parts.alloc, bytes)?;
+    let asked = request_in(bytes)?;
     if !has_room(&parts.sent) {
         return Err(Refused::WorldFull);
     }

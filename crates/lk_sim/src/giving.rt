@@ -1,5 +1,5 @@
 // A node is given something, or comes up, and what it sends and notes is kept.
-ghost use Rattle.std.specs.Prelude.{◌≡◌, ℕ, ◌<◌, ◌++◌, List, length, set, IfOk, OnOk, OnErr};
+ghost use Rattle.std.specs.Prelude.{◌≡◌, ℕ, ◌<◌, ◌++◌, List, [], true, false, length, set, IfOk, OnOk, OnErr};
 ghost use Rattle.lk_disk.specs.Memory.{Memory, disk_of};
 ghost use Rattle.lk_history.specs.Nodes.{View};
 ghost use Rattle.lk_node.specs.Calls.{heard_by, InputFits};
@@ -55,7 +55,18 @@ fn join(
     Ok(())
 }
 
-/// Keeps what a call came to, after a request that was just asked, or nothing of it.
+// Whether nothing of what a call came to is to be noted or sent, nor a request that was just asked.
+fn is_nothing(asked: &Option<Request>, outcome: &Outcome) -> bool
+    ensures asked { result ≡ true → asked_note asked.now ≡ [] }
+    ensures notes { result ≡ true → outcome.now.notes.items ≡ [] }
+    ensures sent { result ≡ true → outcome.now.sent.items ≡ [] }
+    ensures some { result ≡ false → asked_note asked.now ++ outcome.now.notes.items ≡ [] → outcome.now.sent.items ≡ [] → ⊥ }
+{
+    asked.is_none() && outcome.notes.is_empty() && outcome.sent.is_empty()
+}
+
+/// Keeps what a call came to, after a request that was just asked, or nothing of it. Where there is nothing to keep it takes no
+/// memory.
 pub fn add<R: MemoryReplica>(
     parts: &mut Parts<R>,
     asked: Option<Request>,
@@ -63,8 +74,13 @@ pub fn add<R: MemoryReplica>(
 ) -> Result<(), NoMemory>
     ensures ok { OnOk result (HasAdded (scene_of parts.old) (scene_of parts.new) (asked_note asked) outcome.notes.items outcome.sent.items outcome.ended) }
     ensures err { OnErr result (scene_of parts.new ≡ scene_of parts.old) }
+    ensures wants { OnErr result (asked_note asked ++ outcome.notes.items ≡ [] → outcome.sent.items ≡ [] → ⊥) }
     ensures seats { parts.new.seats ≡ parts.old.seats }
 {
+    if is_nothing(&asked, &outcome) {
+        parts.ended = outcome.ended;
+        return Ok(());
+    }
     let Outcome {
         notes,
         sent: batch,
@@ -88,6 +104,7 @@ pub fn settle<R: MemoryReplica>(
     requires place { i < length parts.old.seats.items }
     ensures ok { OnOk result (HasSettled R.Shows R.behaves R.meaning (scene_of parts.old) i (scene_of parts.new) (asked_note asked) outcome.notes.items outcome.sent.items outcome.ended outcome.stop) }
     ensures err { OnErr result (HasGivenUp R.Shows R.behaves R.meaning (scene_of parts.old) i (scene_of parts.new)) }
+    ensures wants { OnErr result (asked_note asked ++ outcome.notes.items ≡ [] → outcome.sent.items ≡ [] → ⊥) }
 {
     let at = outcome.stop;
     match add(parts, asked, outcome) {
@@ -116,7 +133,7 @@ pub fn give<R: MemoryReplica>(
     ensures given { (n : ℕ) → IsUpAt parts.old.seats.items i n
         → OnOk result (IsGiven R.behaves (scene_of parts.old) (scene_of parts.new) n (heard_by input.entry) (asked_note asked)) }
     ensures halted { (n : ℕ) → IsUpAt parts.old.seats.items i n
-        → OnErr result (IsHalted (LeftBy R.behaves (heard_by input.entry)) (scene_of parts.old) (scene_of parts.new) n) }
+        → OnErr result (IsHalted (LeftBy R.behaves (heard_by input.entry) (asked_note asked)) (scene_of parts.old) (scene_of parts.new) n) }
 {
     let outcome = step(parts.alloc, &mut parts.seats[i], input)?;
     settle(parts, i, asked, outcome)?;

@@ -9,11 +9,11 @@ ghost use Rattle.lk_node.specs.Leavings.{header_of, DisksFit};
 ghost use Rattle.lk_node.specs.Calls.{heard_by, InputFits};
 ghost use Rattle.lk_replica.specs.Behaviours.{disks_by};
 ghost use Rattle.lk_replica.specs.Faults.{fault_number};
-ghost use Rattle.lk_sim.specs.Events.{Breaks, StaysDown, IsNoWant, IsWant, LeftBy, LeftByRevival, SentUpTo, end_by, end_at};
+ghost use Rattle.lk_sim.specs.Events.{Breaks, StaysDown, IsNoWant, IsWant, SentUpTo, end_by, end_at};
 ghost use Rattle.lk_sim.specs.Rooms.{AreShort};
 ghost use Rattle.lk_sim.specs.Seats.{SeatFits, SeatGoes, IsTrapped, device_in, stopped_on};
 ghost use Rattle.lk_sim.specs.Kept.{disks_of};
-ghost use Rattle.lk_sim.specs.Outcomes.{HasFallen, HasHalted, HasTaken, HasRevived, HasWanted, IsThis, Rests};
+ghost use Rattle.lk_sim.specs.Outcomes.{HasFallen, HasTaken, HasRevived, HasWanted, IsThis, Rests};
 ghost use Rattle.lk_sim.specs.declared.seat.Life.TheVariants.{Up, Down};
 
 use crate::end::End;
@@ -187,7 +187,6 @@ pub fn step<R: MemoryReplica>(
         → (d : Memory) → seat.new.life ≡ Down d → SeatFits R.Shows (disks_by R.behaves) R.meaning h w seat.new }
     ensures exact { (r : R) → seat.old.life ≡ Up r
         → IfOk result (λ o. HasTaken R.behaves r (heard_by input.entry) seat.new o.notes.items o.sent.items o.ended o.stop ⊎ HasFallen (Breaks R.behaves r (heard_by input.entry)) seat.new o.notes.items o.sent.items o.ended o.stop) }
-    ensures halted { OnErr result (HasHalted (LeftBy R.behaves (heard_by input.entry) seat.old.life) seat.new) }
     ensures wants { (r : R) → seat.old.life ≡ Up r → OnErr result (HasWanted (Breaks R.behaves r (heard_by input.entry)) seat.new) }
 {
     let node = seat.number;
@@ -225,7 +224,6 @@ pub fn revive<R: MemoryReplica>(
         → (d : Memory) → seat.new.life ≡ Down d → SeatFits R.Shows (disks_by R.behaves) R.meaning h w seat.new }
     ensures exact { (d : Memory) → seat.old.life ≡ Down d
         → IfOk result (λ o. HasRevived R.behaves d (header_of genesis.now seat.old.number) seat.new o.notes.items o.sent.items o.ended o.stop ⊎ HasFallen (StaysDown R.behaves d (header_of genesis.now seat.old.number)) seat.new o.notes.items o.sent.items o.ended o.stop) }
-    ensures halted { (d : Memory) → seat.old.life ≡ Down d → OnErr result (HasHalted (LeftByRevival R.behaves (header_of genesis.now seat.old.number) seat.old.life) seat.new) }
     ensures wants { (d : Memory) → seat.old.life ≡ Down d → OnErr result (HasWanted (StaysDown R.behaves d (header_of genesis.now seat.old.number)) seat.new) }
 {
     let device = take_device(alloc, seat);

@@ -1,11 +1,11 @@
-use Rattle.std.proofs.Common.{◌≡◌, rules, None, refl, sym, subst}
+use Rattle.std.proofs.Common.{◌≡◌, rules, None, Err, refl, sym, ap, subst}
 use Rattle.lk_node.specs.Leavings.{header_of}
-use Rattle.lk_sim.specs.Events.{LeftByRevival}
+use Rattle.lk_sim.specs.Events.{LeftByRevival, StaysDown}
 use Rattle.lk_sim.specs.Seats.{At}
 use Rattle.lk_sim.specs.declared.seat.Life.TheVariants.{Down}
 use Rattle.lk_sim.specs.Worlds.{scene_of}
 use Rattle.lk_sim.proofs.Explaining.{lawful}
-use Rattle.lk_sim.proofs.Doing.{StopsOn, at_same, back, revived_cases, revived_left, since, halted_holds, settled_holds, given_up_holds, given_up}
+use Rattle.lk_sim.proofs.Doing.{StopsOn, at_same, back, revived_cases, revived_left, wanted, since, halted_holds, settled_holds, given_up_holds, given_up}
 use Rattle.lk_sim.proofs.giving.come_up.Goals as goal
 
 pub returns-in_err-outcome-clause-holds : goal.returns-in_err-outcome-clause-holds
@@ -14,9 +14,21 @@ returns-in_err-outcome-clause-holds g c =
     let s = c.index_mut.result.now in
     let at : At p.seats.items c.args.i s = (search rules, sym c.index_mut.ensures.value) in
     let v = since _ g.R.MemoryReplica.behaves _ p.genesis p.seats.items p.sent.items p.trace.items c.requires.holds c.args.i s c.revive.new.seat at c.revive.ensures.number None in
-    let k = c.in_err-outcome.ensures.halted c.requires.down.1.1 (rw (at_same _ _ _ _ at c.requires.down.1.2) c.requires.down.1.4) in
+    let k = c.in_err-outcome.ensures.wants c.requires.down.1.1 (rw (at_same _ _ _ _ at c.requires.down.1.2) c.requires.down.1.4) in
     halted_holds _ g.R.MemoryReplica.behaves _ p.genesis p.seats.items p.sent.items p.trace.items c.requires.holds c.args.i s c.revive.new.seat at c.revive.ensures.number None c.revive.new.seat c.revive.ensures.number _ k.down
     (v.views s.number) (c.in_err-outcome.ensures.falls _ (v.views s.number) refl (lawful _ _ _ _ _ _ _ v) (v.seated c.args.i s at) _ k.down)
+
+pub returns-in_err-outcome-clause-halted : goal.returns-in_err-outcome-clause-halted
+returns-in_err-outcome-clause-halted g c n d =
+    let p = c.args.parts.now in
+    let s = c.index_mut.result.now in
+    let at : At p.seats.items c.args.i s = (search rules, sym c.index_mut.ensures.value) in
+    let is : s.number ≡ n = rw (at_same _ _ _ _ at d.2) d.3 in
+    let down : s.life ≡ Down d.1 = rw (at_same _ _ _ _ at d.2) d.4 in
+    let k = c.in_err-outcome.ensures.wants d.1 down in
+    let h = wanted (scene_of p) (LeftByRevival g.R.MemoryReplica.behaves (header_of p.genesis n)) (StaysDown g.R.MemoryReplica.behaves d.1 (header_of p.genesis s.number)) c.args.i n s c.revive.new.seat at is c.revive.ensures.number k
+    (d.1, Err (k.number, k.left), down, subst (λ z. g.R.MemoryReplica.behaves.Revives d.1 (header_of p.genesis z) (Err (k.number, k.left))) is k.ends.0, (refl, k.want)) in
+    search rules
 
 pub returns-in_err-settle-clause-holds : goal.returns-in_err-settle-clause-holds
 returns-in_err-settle-clause-holds g c =
@@ -40,7 +52,7 @@ returns-in_err-settle-clause-halted g c n d =
     let is : s.number ≡ n = rw (at_same _ _ _ _ at d.2) d.3 in
     let down : s.life ≡ Down d.1 = rw (at_same _ _ _ _ at d.2) d.4 in
     let k = given_up g.R.MemoryReplica.behaves (scene_of p) (scene_of c.settle.new.parts) (LeftByRevival g.R.MemoryReplica.behaves (header_of p.genesis n)) _ _ c.args.i n s c.revive.new.seat at (rw (at_same _ _ _ _ at d.2) d.3) c.revive.ensures.number
-    (subst (λ z. StopsOn g.R.MemoryReplica.behaves (LeftByRevival g.R.MemoryReplica.behaves (header_of p.genesis z) s.life) c.revive.new.seat.life) is (revived_left g.R.MemoryReplica.behaves d.1 _ _ _ _ _ _ _ down (c.in_ok-outcome.ensures.exact d.1 down))) c.in_err-settle.ensures.err in
+    (subst (λ z. StopsOn g.R.MemoryReplica.behaves (LeftByRevival g.R.MemoryReplica.behaves (header_of p.genesis z) s.life) c.revive.new.seat.life) is (revived_left g.R.MemoryReplica.behaves d.1 _ _ _ _ _ _ _ c.in_err-settle.ensures.wants down (c.in_ok-outcome.ensures.exact d.1 down))) c.in_err-settle.ensures.err in
     search rules
 
 pub returns-clause-holds : goal.returns-clause-holds

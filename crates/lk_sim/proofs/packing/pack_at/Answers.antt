@@ -1,10 +1,10 @@
 use Rattle.std.proofs.Common.{◌≡◌, rules, None, sym}
-use Rattle.lk_sim.specs.Events.{LeftByPacking}
+use Rattle.lk_sim.specs.Events.{LeftByPacking, FailsToPack}
 use Rattle.lk_sim.specs.Seats.{At}
 use Rattle.lk_sim.specs.declared.seat.Life.TheVariants.{Up}
 use Rattle.lk_sim.specs.Worlds.{scene_of}
 use Rattle.lk_sim.proofs.Explaining.{lawful}
-use Rattle.lk_sim.proofs.Doing.{at_same, compacted, packed_cases, packed_left, since, halted_holds, settled_holds, given_up_holds, given_up}
+use Rattle.lk_sim.proofs.Doing.{at_same, compacted, packed_cases, packed_none, wanted, since, halted_holds, settled_holds, given_up_holds}
 use Rattle.lk_sim.proofs.packing.pack_at.Goals as goal
 
 pub returns-in_err-outcome-clause-holds : goal.returns-in_err-outcome-clause-holds
@@ -13,9 +13,21 @@ returns-in_err-outcome-clause-holds g c =
     let s = c.index_mut.result.now in
     let at : At p.seats.items c.args.i s = (search rules, sym c.index_mut.ensures.value) in
     let v = since _ g.R.MemoryReplica.behaves _ p.genesis p.seats.items p.sent.items p.trace.items c.requires.holds c.args.i s c.pack.new.seat at c.pack.ensures.number None in
-    let k = c.in_err-outcome.ensures.halted in
+    let u = c.requires.up.1 in
+    let k = c.in_err-outcome.ensures.wants u.1 (rw (at_same _ _ _ _ at u.2) u.4) in
     halted_holds _ g.R.MemoryReplica.behaves _ p.genesis p.seats.items p.sent.items p.trace.items c.requires.holds c.args.i s c.pack.new.seat at c.pack.ensures.number None c.pack.new.seat c.pack.ensures.number _ k.down
     (v.views s.number) (c.in_err-outcome.ensures.falls _ (v.views s.number) (lawful _ _ _ _ _ _ _ v) (v.seated c.args.i s at) _ k.down)
+
+pub returns-in_err-outcome-clause-halted : goal.returns-in_err-outcome-clause-halted
+returns-in_err-outcome-clause-halted g c n u =
+    let p = c.args.parts.now in
+    let s = c.index_mut.result.now in
+    let at : At p.seats.items c.args.i s = (search rules, sym c.index_mut.ensures.value) in
+    let up : s.life ≡ Up u.1 = rw (at_same _ _ _ _ at u.2) u.4 in
+    let k = c.in_err-outcome.ensures.wants u.1 up in
+    let h = wanted (scene_of p) (LeftByPacking g.R.MemoryReplica.behaves) (FailsToPack g.R.MemoryReplica.behaves u.1) c.args.i n s c.pack.new.seat at (rw (at_same _ _ _ _ at u.2) u.3) c.pack.ensures.number k
+    (u.1, k.ends.0, k.number, up, k.ends.1, k.ends.3, k.want) in
+    search rules
 
 pub returns-in_err-settle-clause-holds : goal.returns-in_err-settle-clause-holds
 returns-in_err-settle-clause-holds g c =
@@ -37,8 +49,7 @@ returns-in_err-settle-clause-halted g c n u =
     let s = c.index_mut.result.now in
     let at : At p.seats.items c.args.i s = (search rules, sym c.index_mut.ensures.value) in
     let up : s.life ≡ Up u.1 = rw (at_same _ _ _ _ at u.2) u.4 in
-    let k = given_up g.R.MemoryReplica.behaves (scene_of p) (scene_of c.settle.new.parts) (LeftByPacking g.R.MemoryReplica.behaves) _ _ c.args.i n s c.pack.new.seat at (rw (at_same _ _ _ _ at u.2) u.3) c.pack.ensures.number (packed_left g.R.MemoryReplica.behaves u.1 _ _ _ _ _ _ up (c.in_ok-outcome.ensures.exact u.1 up)) c.in_err-settle.ensures.err in
-    search rules
+    absurd (packed_none g.R.MemoryReplica.behaves u.1 _ _ _ _ _ c.in_err-settle.ensures.wants (c.in_ok-outcome.ensures.exact u.1 up))
 
 pub returns-clause-holds : goal.returns-clause-holds
 returns-clause-holds g c =
