@@ -7,6 +7,7 @@ use crate::inspection::{Inspection, inspected};
 use crate::lines::write_inspection;
 use lk_disk::LogDisk;
 use lk_log::look;
+use lk_service::causes::tell_device;
 use lk_service::fault::ServiceFault;
 use lk_service::folder::look_at_device;
 use std::alloc::Global;
@@ -33,7 +34,7 @@ pub fn inspect_device<D: LogDisk>(
     ensures unchanged { D.is_honest → (s : Side) → D.disk device.new s ≡ D.disk device.old s }
 {
     match look(alloc, device)? {
-        Some((_, standing)) => Ok(Some(inspected(alloc, &standing)?)),
+        Some(live) => Ok(Some(inspected(alloc, &live.standing)?)),
         None => Ok(None),
     }
 }
@@ -47,8 +48,10 @@ fn inspect_folder<R: Files, W: Write, E: Write>(
     err: &mut E,
 ) -> Result<bool, ServiceFault> {
     let mut device = look_at_device(rt, alloc, folder, err)?;
-    let found = inspect_device(alloc, &mut device)?;
-    write_found(found.as_ref(), out).map_err(|_| ServiceFault::Write)
+    match inspect_device(alloc, &mut device) {
+        Ok(found) => write_found(found.as_ref(), out).map_err(|_| ServiceFault::Write),
+        Err(fault) => Err(tell_device(fault, &device, folder, err)),
+    }
 }
 
 /// Prints what the store of a folder comes to, also while a node serves from it. The status is 0; 1 where no store stands

@@ -22,6 +22,7 @@ use std::alloc::Global;
 /// The state that the snapshot packs, at its position.
 fn unpacked(alloc: Global, standing: &Standing) -> Result<Whole<LockTable>, ServiceFault>
     ensures one { (w : WholeValue) → Packs IsText w standing.now.snapshot → IfOk result (λ v. v ≡ w) }
+    ensures stands { IfOk result (λ w. w.roster.executed ≡ standing.now.position) }
     ensures damaged { IsErrOf result ServiceFault.Damaged → CannotStand standing.now }
     ensures only { IfErr result (λ e. (e ≡ ServiceFault.Damaged) ⊎ (e ≡ ServiceFault.NoMemory)) }
 {

@@ -4,7 +4,7 @@ use clap::{Arg, ArgAction, Command};
 use std::alloc::{AllocError, Global};
 
 /// The version of the package, and the format of the stores that it writes.
-const VERSION: &str = "0.1.0, stores of format 1";
+const VERSION: &str = "0.1.0, stores of format 2";
 
 /// A word that has to be given after `--NAME`.
 fn named<'a>(alloc: Global, name: &'a str, help: &'a str) -> Arg<'a> {
@@ -21,13 +21,18 @@ fn node_command<'a>(alloc: Global) -> Result<Command<'a>, AllocError> {
         .long("log")
         .action(ArgAction::SetTrue)
         .help("tells on standard error what is counted and run");
+    let verbose = Arg::new(alloc, "verbose")
+        .long("verbose")
+        .action(ArgAction::SetTrue)
+        .help("tells on standard error what --log does, and what else happens to the node");
     Command::new(alloc, "node")
         .about("runs a node on the files of a folder and a port of 127.0.0.1")
         .arg(named(alloc, "genesis", "CLUSTER,ALPHA,NODE:PORT,.."))?
         .arg(named(alloc, "number", "the number of the node"))?
         .arg(named(alloc, "port", "the port of the node"))?
         .arg(named(alloc, "dir", "the folder of its files"))?
-        .arg(log)
+        .arg(log)?
+        .arg(verbose)
 }
 
 /// `locks ask`.

@@ -39,6 +39,14 @@ fn refuse_words<E: Write>(err: &mut E) -> u8
     2
 }
 
+/// Which lines a node logs, if any.
+fn level_of(matches: &ArgMatches<'_>) -> Option<Level> {
+    if matches.get_flag("verbose") {
+        return Some(Level::Debug);
+    }
+    matches.get_flag("log").then_some(Level::Info)
+}
+
 /// Runs a node.
 fn run_node_words<R: Files<File = File> + Net + Eprint, E: Write>(
     rt: &R,
@@ -51,11 +59,11 @@ fn run_node_words<R: Files<File = File> + Net + Eprint, E: Write>(
     let Some(plan) = node_plan(matches) else {
         return refuse_words(err);
     };
-    if matches.get_flag("log") {
-        let log = Logged::new(rt, Level::Info, Console(rt));
-        return run_node::<LockTable, _, _, _>(rt, alloc, &plan, &log, err);
-    }
-    run_node::<LockTable, _, _, _>(rt, alloc, &plan, &Discard, err)
+    let Some(level) = level_of(matches) else {
+        return run_node::<LockTable, _, _, _>(rt, alloc, &plan, &Discard, err);
+    };
+    let log = Logged::new(rt, level, Console(rt));
+    run_node::<LockTable, _, _, _>(rt, alloc, &plan, &log, err)
 }
 
 /// Asks a node once.

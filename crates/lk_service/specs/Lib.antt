@@ -3,3 +3,4 @@ pub mod Addresses
 pub mod Posts
 pub mod Replies
 pub mod Servers
+pub mod Sights

@@ -1,15 +1,19 @@
 -- What a server gives to its replica.
 use Rattle.std.specs.Prelude.{◌≡◌, ◌⊎◌, Bool, ◌==◌, ◌%◌, ℕ, List, [], ◌∷◌, ◌++◌, Option, Some, None, if◌then◌else◌}
+use Rattle.std.specs.declared.net.socket_addr.SocketAddr.{SocketAddr}
 use Rattle.lk_service.specs.Addresses.{AddressBook}
+use Rattle.lk_service.specs.Posts.{Hears}
 
 -- the number of its cluster, what its replica was given (the bytes of a datagram, or none at a tick), from where others
--- wrote, how many datagrams came, and whether a call has ended the replica
+-- wrote, how many datagrams came, whether a call has ended the replica, what its socket has sent, and what comes to that next
 pub record ServerValue : Type 0 where
   pub cluster : ℕ
   pub given : List (Option (List ℕ))
   pub addresses : AddressBook
   pub received : ℕ
   pub failed : Bool
+  pub sent : List (SocketAddr × List ℕ)
+  pub next : Option (SocketAddr × List ℕ)
 
 -- what a replica is given at the datagram of that number: its bytes, and a tick after every 64th
 abbrev pub inputs : ℕ → List ℕ → List (Option (List ℕ))
@@ -22,3 +26,19 @@ EndsBehind bytes old new = (new ≡ old ++ Some bytes ∷ []) ⊎ (new ≡ old +
 -- a datagram was taken
 abbrev pub TakesOne : ServerValue → ServerValue → Type 0
 TakesOne old new = (bytes : List ℕ) × (new.given ≡ old.given ++ inputs new.received bytes)
+
+-- that is the datagram that came: it was taken whole, and its sender was heard
+pub record TakesThis (old new : ServerValue) (from : SocketAddr) (bytes : List ℕ) : Type 0 where
+  pub comes : old.next ≡ Some (from, bytes)
+  pub given : new.given ≡ old.given ++ inputs new.received bytes
+  pub heard : Hears old.cluster bytes from old.addresses new.addresses
+
+-- the datagram that came was taken
+abbrev pub TakesNext : ServerValue → ServerValue → Type 0
+TakesNext old new = (from : SocketAddr) × (bytes : List ℕ) × TakesThis old new from bytes
+
+-- none came, and a tick was taken
+pub record TicksIdle (old new : ServerValue) : Type 0 where
+  pub idle : old.next ≡ None
+  pub given : new.given ≡ old.given ++ None ∷ []
+  pub addresses : new.addresses ≡ old.addresses

@@ -1,11 +1,14 @@
-//! Why something does not open, for whoever runs the program.
+//! Why something does not open, or a call of a file failed, for whoever runs the program.
+
+ghost use Rattle.std.specs.Prelude.{◌≡◌};
 
 use crate::fault::ServiceFault;
 use crate::socket::{LocalSocket, local};
+use lk_disk::{FileDisk, Side, SystemFile};
 use std::alloc::Global;
 use std::fmt::Display;
-use std::fs::{Files, OpenOptions};
-use std::io::Write;
+use std::fs::{Files, OpenFile, OpenOptions};
+use std::io::{Read, Seek, Write};
 use std::net::Net;
 use std::path::Path;
 
@@ -61,4 +64,23 @@ pub fn tell_closed<R: Files, E: Write>(
         }
     }
     ServiceFault::CannotOpen
+}
+
+/// Tells in a line for each file of a folder of which a call has failed why that did, where the fault is the device's.
+pub fn tell_device<F: OpenFile + Read + Write + Seek + Drop, E: Write>(
+    fault: ServiceFault,
+    device: &FileDisk<SystemFile<F>>,
+    folder: &str,
+    err: &mut E,
+) -> ServiceFault
+    ensures { result ≡ fault }
+{
+    if fault == ServiceFault::Device {
+        for (side, name) in [(Side::A, "a"), (Side::B, "b")] {
+            if let Some(cause) = device.cause(side) {
+                let _ = writeln!(err, "{folder}/{name}: {cause}");
+            }
+        }
+    }
+    fault
 }

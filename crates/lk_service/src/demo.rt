@@ -135,10 +135,10 @@ impl<M: Machine, S: Datagrams + Drop> Cluster<M, S> {
     }
 
     /// Each node takes the next datagram that waits for it. Whether one waited for any.
-    fn serve(&mut self, alloc: Global) -> Result<bool, ServiceFault> {
+    fn serve(&mut self) -> Result<bool, ServiceFault> {
         let mut was_served = false;
         for node in &mut self.nodes {
-            was_served |= node.serve_next(alloc, &Discard)?;
+            was_served |= node.serve_next(&Discard)?;
         }
         Ok(was_served)
     }
@@ -170,7 +170,7 @@ impl<M: Machine, S: Datagrams + Drop> Cluster<M, S> {
         bytes: &[u8],
     ) -> Result<Option<Reply>, ServiceFault> {
         for _ in 0..TURNS {
-            let was_served = self.serve(alloc)?;
+            let was_served = self.serve()?;
             match self.hear(alloc, question, bytes) {
                 Heard::Reply(reply) => return Ok(Some(reply)),
                 Heard::Nothing if !was_served => return Ok(None),

@@ -3,10 +3,11 @@
 ghost use Rattle.std.specs.Prelude.{◌≡◌, ◌≤◌};
 ghost use Rattle.lk_disk.specs.declared.device.Side.{Side};
 
+use crate::causes::tell_device;
 use crate::fault::ServiceFault;
 use crate::folder::look_at_device;
 use lk_disk::LogDisk;
-use lk_log::{Standing, look};
+use lk_log::{LiveFile, look};
 use lk_types::Ballot;
 use std::alloc::Global;
 use std::fs::Files;
@@ -24,20 +25,21 @@ fn write_promised<W: Write>(promised: Ballot, out: &mut W) -> io::Result<()> {
 }
 
 /// Writes a line each for the generation of the live file, the promised ballot (`0 0` where there is none), the position
-/// of the snapshot, and how many votes and decided commands stand above it.
-fn write_standing<W: Write>(generation: u64, standing: &Standing, out: &mut W) -> io::Result<()> {
-    write_number("generation", generation, out)?;
-    write_promised(standing.promised, out)?;
-    write_number("snapshot", standing.position.get(), out)?;
-    write_number("votes", standing.votes.len() as u64, out)?;
-    write_number("decided", standing.pairs.len() as u64, out)
+/// of the snapshot, how many votes and decided commands stand above it, and the format of the file.
+fn write_live<W: Write>(live: &LiveFile, out: &mut W) -> io::Result<()> {
+    write_number("generation", live.generation, out)?;
+    write_promised(live.standing.promised, out)?;
+    write_number("snapshot", live.standing.position.get(), out)?;
+    write_number("votes", live.standing.votes.len() as u64, out)?;
+    write_number("decided", live.standing.pairs.len() as u64, out)?;
+    write_number("format", u64::from(live.format), out)
 }
 
 /// Writes what a look found, or `no store`. Whether there is a store.
-fn write_found<W: Write>(found: Option<(u64, Standing)>, out: &mut W) -> io::Result<bool> {
+fn write_found<W: Write>(found: Option<LiveFile>, out: &mut W) -> io::Result<bool> {
     match found {
-        Some((generation, standing)) => {
-            write_standing(generation, &standing, out)?;
+        Some(live) => {
+            write_live(&live, out)?;
             Ok(true)
         }
         None => {
@@ -76,10 +78,13 @@ fn dump_folder<R: Files, W: Write, E: Write>(
     err: &mut E,
 ) -> Result<bool, ServiceFault> {
     let mut device = look_at_device(rt, alloc, folder, err)?;
-    dump_device(alloc, &mut device, out)
+    match dump_device(alloc, &mut device, out) {
+        Ok(is_store) => Ok(is_store),
+        Err(fault) => Err(tell_device(fault, &device, folder, err)),
+    }
 }
 
-/// Prints what stands in the store of a folder, in five lines. The status is 0; 1 where no store stands there, which is
+/// Prints what stands in the store of a folder, in six lines. The status is 0; 1 where no store stands there, which is
 /// printed as `no store`, and where a fault is told on standard error.
 pub fn dump<R: Files, W: Write, E: Write>(
     rt: &R,

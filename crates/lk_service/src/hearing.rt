@@ -3,25 +3,32 @@
 ghost use Rattle.lk_service.specs.Posts.{Hears};
 
 use crate::addresses::Addresses;
-use lk_wire::{Content, read};
-use std::alloc::Global;
+use crate::came::Came;
+use lk_wire::{ContentRef, view};
 use std::net::SocketAddr;
 
 impl Addresses {
-    /// Keeps from where a datagram of the cluster came: a client's request, or what a node says. All else is passed over,
-    /// also a datagram that could not be read when out of memory.
-    pub fn hear(&mut self, alloc: Global, cluster: u64, bytes: &[u8], from: SocketAddr)
+    /// Keeps from where a datagram of the cluster came: a client's request, or what a node says. All else is passed over.
+    /// What came is told for the log.
+    pub fn hear(&mut self, cluster: u64, bytes: &[u8], from: SocketAddr) -> Came
         ensures { Hears cluster bytes.now from self.old self.new }
     {
-        let Ok(message) = read(alloc, bytes) else {
-            return;
+        let Ok(message) = view(bytes) else {
+            return Came::Bad;
         };
         if message.cluster != cluster {
-            return;
+            return Came::Foreign;
         }
         match &message.content {
-            Content::Request(request) => self.hear_client(request.client, from),
-            Content::Node(node, _) => self.hear_node(*node, from),
+            ContentRef::Request(request) => {
+                let client = request.request().client;
+                self.hear_client(client, from);
+                Came::Request(client)
+            }
+            ContentRef::Node(node, said) => {
+                self.hear_node(*node, from);
+                Came::said(*node, said)
+            }
         }
     }
 }

@@ -3,6 +3,7 @@
 
 pub mod addresses;
 pub mod asking;
+pub mod came;
 pub mod causes;
 pub mod command_words;
 pub mod demo;
@@ -16,4 +17,7 @@ pub mod post;
 pub mod reply;
 pub mod running;
 pub mod server;
+pub mod sight;
 pub mod socket;
+pub mod strangers;
+pub mod watching;

@@ -3,7 +3,9 @@
 ghost use Rattle.std.specs.Prelude.{◌≡◌, ◌++◌, ◌∷◌, ℕ, List, [], Option, Bool, true, false, OnOk, IfErr};
 ghost use Rattle.lk_node.specs.Calls.{heard_by};
 ghost use Rattle.lk_replica.specs.Faults.{fault_number, IfSend};
+ghost use Rattle.lk_service.specs.Sights.{IsSight};
 
+use crate::sight::Sight;
 use lk_disk::LogDisk;
 use lk_node::{Input, Note};
 use lk_replica::{Post, Replica, ReplicaFault};
@@ -26,6 +28,9 @@ pub trait NodeReplica: Sized + Drop {
         ensures alive { OnOk result (failed self.new ≡ false) }
         ensures sends_on { IfErr result (IfSend (λ notes. failed self.new ≡ false)) }
         ensures broken { IfErr result (λ e. (fault_number e ≡ 15 → ⊥) → failed self.new ≡ true) };
+
+    /// What is seen of it from outside.
+    fn sight(&self) -> Sight;
 }
 
 impl<M: Machine, D: LogDisk + Drop> NodeReplica for Replica<M, D> {
@@ -37,5 +42,19 @@ impl<M: Machine, D: LogDisk + Drop> NodeReplica for Replica<M, D> {
 
     fn take<P: Post>(&mut self, input: Input, post: &mut P) -> Result<Vec<Note>, ReplicaFault> {
         Replica::take(self, input, post)
+    }
+
+    fn sight(&self) -> Sight
+        ensures { IsSight self.now result }
+    {
+        let node = self.node();
+        Sight {
+            generation: self.generation(),
+            snapshot: node.snapshot_position(),
+            executed: node.executed(),
+            promised: node.promised(),
+            term: node.term(),
+            known: node.known(),
+        }
     }
 }

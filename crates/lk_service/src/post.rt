@@ -9,8 +9,14 @@ use crate::addresses::Addresses;
 use crate::socket::{Datagrams, local};
 use lk_node::To;
 use lk_replica::{Post, SendFault};
+use lk_types::NodeNo;
 use std::marker::Model;
 use std::net::SocketAddr;
+
+/// Where a datagram has its kind, and the kind of a Want.
+const KIND: usize = 3;
+
+const WANT: u8 = 7;
 
 /// A socket that is lent for a call, and from where others wrote to it.
 ///
@@ -21,6 +27,21 @@ pub struct SocketPost<'a, S: Datagrams> {
     socket: &'a mut S,
     addresses: &'a Addresses,
     failures: u64,
+    // how many were sent
+    sent: u64,
+    // the last node to which a Want was sent
+    wanted: Option<NodeNo>,
+}
+
+/// What became of the letters of a turn, for the log.
+#[derive(Clone, Copy, Debug, PartialEq, Eq)]
+pub struct Carried {
+    /// How many were sent.
+    pub sent: u64,
+    /// How many sends failed.
+    pub lost: u64,
+    /// The last node to which a Want was sent.
+    pub wanted: Option<NodeNo>,
 }
 
 impl<'a, S: Datagrams> Model for SocketPost<'a, S> {
@@ -53,6 +74,30 @@ impl<'a, S: Datagrams> SocketPost<'a, S> {
             socket,
             addresses,
             failures: 0,
+            sent: 0,
+            wanted: None,
+        }
+    }
+
+    /// What became of what it was given.
+    pub fn carried(&self) -> Carried
+        ensures { result.lost ≡ self.now.failures }
+    {
+        Carried {
+            sent: self.sent,
+            lost: self.failures,
+            wanted: self.wanted,
+        }
+    }
+
+    // Notes for the log that this was sent.
+    fn note(&mut self, to: &To, bytes: &[u8])
+        ensures { self.new ≡ self.old }
+    {
+        self.sent = self.sent.saturating_add(1);
+        match to {
+            To::Node(node, _) if bytes.get(KIND) == Some(&WANT) => self.wanted = Some(*node),
+            _ => {}
         }
     }
 }
@@ -74,7 +119,10 @@ impl<'a, S: Datagrams> Post for SocketPost<'a, S> {
             return Ok(());
         };
         match self.socket.send_to(place, bytes) {
-            Ok(()) => Ok(()),
+            Ok(()) => {
+                self.note(&to, bytes);
+                Ok(())
+            }
             Err(SendFault) => {
                 self.failures = self.failures.saturating_add(1);
                 Err(SendFault)

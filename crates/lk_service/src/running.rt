@@ -3,15 +3,17 @@
 ghost use Rattle.std.specs.Prelude.{◌≡◌, ◌≤◌};
 ghost use Rattle.lk_members.specs.Ports.{port_in};
 
-use crate::causes::open_socket;
+use crate::causes::{open_socket, tell_device};
 use crate::fault::ServiceFault;
 use crate::folder::{FolderLock, open_device};
+use crate::node_replica::NodeReplica;
 use crate::notes::log_notes;
 use crate::server::{Server, node_turn};
-use crate::socket::Datagrams;
-use lk_disk::LogDisk;
-use lk_log::Header;
-use lk_replica::Replica;
+use crate::socket::{Datagrams, LocalSocket};
+use crate::watching::{log_port, log_start};
+use lk_disk::{FileDisk, LogDisk, SystemFile};
+use lk_log::{Header, look};
+use lk_replica::{Replica, ReviveFault};
 use lk_state::Machine;
 use lk_types::{Member, NodeNo, Port};
 use log::Log;
@@ -31,6 +33,21 @@ pub struct NodePlan<'a> {
     pub folder: &'a str,
 }
 
+/// The replica that is taken up from a device. How it came up and what it executed by that is logged.
+fn take_up<M: Machine, D: LogDisk + Drop, L: Log>(
+    alloc: Global,
+    header: &Header,
+    device: D,
+    log: &L,
+) -> Result<Replica<M, D>, ReviveFault<D>> {
+    let mut device = device;
+    let is_new = matches!(look(alloc, &mut device), Ok(None));
+    let revived = Replica::<M, D>::revive(alloc, device, header)?;
+    log_start(log, is_new, &revived.replica.sight());
+    log_notes(log, &revived.notes);
+    Ok(revived.replica)
+}
+
 /// The server of a node that is taken up from a device, and what it executed as it came up.
 pub fn revive<M: Machine, D: LogDisk + Drop, S: Datagrams + Drop, L: Log>(
     alloc: Global,
@@ -39,14 +56,49 @@ pub fn revive<M: Machine, D: LogDisk + Drop, S: Datagrams + Drop, L: Log>(
     socket: S,
     log: &L,
 ) -> Result<Server<Replica<M, D>, S>, ServiceFault> {
-    match Replica::<M, D>::revive(alloc, device, header) {
-        Ok(revived) => {
-            log_notes(log, &revived.notes);
-            let cluster = header.genesis().cluster;
-            Ok(Server::new(cluster, revived.replica, socket))
-        }
+    match take_up::<M, D, L>(alloc, header, device, log) {
+        Ok(replica) => Ok(Server::new(header.genesis().cluster, replica, socket)),
         Err(refused) => Err(ServiceFault::of_replica(&refused.fault)),
     }
+}
+
+/// A node on the files of a folder, and its socket.
+type FolderServer<M> = Server<Replica<M, FileDisk<SystemFile<File>>>, LocalSocket>;
+
+/// The server of a node of a folder. Where a file fails a line tells why.
+fn revive_folder<M: Machine, L: Log, E: Write>(
+    alloc: Global,
+    plan: &NodePlan<'_>,
+    device: FileDisk<SystemFile<File>>,
+    socket: LocalSocket,
+    log: &L,
+    err: &mut E,
+) -> Result<FolderServer<M>, ServiceFault> {
+    match take_up::<M, _, L>(alloc, &plan.header, device, log) {
+        Ok(replica) => {
+            let cluster = plan.header.genesis().cluster;
+            Ok(Server::new(cluster, replica, socket))
+        }
+        Err(refused) => {
+            let fault = ServiceFault::of_replica(&refused.fault);
+            Err(tell_device(fault, &refused.device, plan.folder, err))
+        }
+    }
+}
+
+/// Takes 2^48 turns. Where a file fails a line tells why.
+fn take_turns<M: Machine, L: Log, E: Write>(
+    server: &mut FolderServer<M>,
+    folder: &str,
+    log: &L,
+    err: &mut E,
+) -> Result<(), ServiceFault> {
+    for _ in 0..TURNS {
+        if let Err(fault) = node_turn(server, log) {
+            return Err(tell_device(fault, server.replica().device(), folder, err));
+        }
+    }
+    Ok(())
 }
 
 /// Serves for 2^48 turns, from a folder that is locked meanwhile.
@@ -60,11 +112,9 @@ fn serve<M: Machine, R: Files<File = File> + Net, L: Log, E: Write>(
     let socket = open_socket(rt, plan.port.get(), err)?;
     let _lock = FolderLock::take(rt, alloc, plan.folder, err)?;
     let device = open_device(rt, alloc, plan.folder, err)?;
-    let mut server = revive::<M, _, _, L>(alloc, &plan.header, device, socket, log)?;
-    for _ in 0..TURNS {
-        node_turn(alloc, &mut server, log)?;
-    }
-    Ok(())
+    let mut server = revive_folder::<M, L, E>(alloc, plan, device, socket, log, err)?;
+    log_port(log, plan.port);
+    take_turns(&mut server, plan.folder, log, err)
 }
 
 /// The port at which the members have the node, where they do.

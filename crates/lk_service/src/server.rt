@@ -3,21 +3,24 @@
 ghost use Rattle.std.specs.Prelude.{◌≡◌, ◌⊎◌, ℕ, ◌+◌, ◌%◌, ◌^◌, ◌++◌, ◌∷◌, [], None, true, false, OnOk, OnErr, IfOk, IfErr};
 ghost use Rattle.lk_types.specs.Ranges.{IsClient};
 ghost use Rattle.lk_node.specs.Calls.{heard_by};
+ghost use Rattle.lk_replica.specs.Faults.{fault_number, IfSend};
 ghost use Rattle.lk_service.specs.Addresses.{client_at, node_at};
 ghost use Rattle.lk_service.specs.Posts.{Hears};
-ghost use Rattle.lk_service.specs.Servers.{inputs, EndsBehind, TakesOne};
+ghost use Rattle.lk_service.specs.Servers.{inputs, EndsBehind, TakesOne, TakesNext, TicksIdle};
 
 use crate::addresses::Addresses;
+use crate::came::Came;
 use crate::fault::ServiceFault;
 use crate::node_replica::NodeReplica;
 use crate::notes::log_notes;
 use crate::post::SocketPost;
 use crate::socket::Datagrams;
-use lk_node::Input;
+use crate::strangers::Strangers;
+use crate::watching::{log_carried, log_changes};
+use lk_node::{Input, Note};
 use lk_replica::ReplicaFault;
 use lk_types::limits::MAX_DATAGRAM;
 use log::Log;
-use std::alloc::Global;
 use std::marker::Model;
 use std::net::SocketAddr;
 
@@ -33,6 +36,8 @@ pub struct Server<R: NodeReplica, S: Datagrams + Drop> {
     addresses: Addresses,
     // the datagrams that came, modulo 2^64
     received: u64,
+    // those of them that say nothing to it
+    strangers: Strangers,
 }
 
 impl<R: NodeReplica, S: Datagrams + Drop> Model for Server<R, S> {
@@ -40,7 +45,7 @@ impl<R: NodeReplica, S: Datagrams + Drop> Model for Server<R, S> {
 
     ghost Value = { ServerValue };
 
-    ghost view = { λ s. record { cluster = s.cluster; given = R.given s.replica; addresses = s.addresses; received = s.received; failed = R.failed s.replica } };
+    ghost view = { λ s. record { cluster = s.cluster; given = R.given s.replica; addresses = s.addresses; received = s.received; failed = R.failed s.replica; sent = S.sent s.socket; next = S.next s.socket } };
 }
 
 impl<R: NodeReplica, S: Datagrams + Drop> Server<R, S> {
@@ -52,6 +57,8 @@ impl<R: NodeReplica, S: Datagrams + Drop> Server<R, S> {
         ensures nodes { (n : ℕ) → node_at result.addresses n ≡ None }
         ensures received { result.received ≡ 0 }
         ensures failed { result.failed ≡ R.failed replica }
+        ensures sent { result.sent ≡ S.sent socket }
+        ensures next { result.next ≡ S.next socket }
     {
         Server {
             cluster,
@@ -59,7 +66,15 @@ impl<R: NodeReplica, S: Datagrams + Drop> Server<R, S> {
             socket,
             addresses: Addresses::new(),
             received: 0,
+            strangers: Strangers::new(),
         }
+    }
+
+    /// The replica.
+    pub fn replica(&self) -> &R
+        ensures { R.given result.now ≡ self.now.given }
+    {
+        &self.replica
     }
 
     /// The replica, as the server leaves it.
@@ -72,12 +87,37 @@ impl<R: NodeReplica, S: Datagrams + Drop> Server<R, S> {
             socket: _,
             addresses: _,
             received: _,
+            strangers: _,
         } = self;
         replica
     }
 
+    /// Its replica takes a tick or a datagram, and what changes by that is logged.
+    fn step<L: Log>(
+        &mut self,
+        input: Input,
+        came: &Came,
+        log: &L,
+    ) -> Result<Vec<Note>, ReplicaFault>
+        ensures given { R.is_telling → self.new.given ≡ self.old.given ++ heard_by input.entry ∷ [] }
+        ensures addresses { self.new.addresses ≡ self.old.addresses }
+        ensures cluster { self.new.cluster ≡ self.old.cluster }
+        ensures received { self.new.received ≡ self.old.received }
+        ensures alive { OnOk result (self.new.failed ≡ false) }
+        ensures sends_on { IfErr result (IfSend (λ notes. self.new.failed ≡ false)) }
+        ensures broken { IfErr result (λ e. (fault_number e ≡ 15 → ⊥) → self.new.failed ≡ true) }
+    {
+        let before = self.replica.sight();
+        let mut post = SocketPost::new(&mut self.socket, &self.addresses);
+        let taken = self.replica.take(input, &mut post);
+        let carried = post.carried();
+        log_changes(log, came, &before, &self.replica.sight());
+        log_carried(log, came, &carried, self.socket.cause());
+        taken
+    }
+
     /// Its replica takes a tick or a datagram. What could not be sent is lost, and the notes count all the same.
-    fn take<L: Log>(&mut self, input: Input, log: &L) -> Result<(), ServiceFault>
+    fn take<L: Log>(&mut self, input: Input, came: &Came, log: &L) -> Result<(), ServiceFault>
         ensures given { R.is_telling → self.new.given ≡ self.old.given ++ heard_by input.entry ∷ [] }
         ensures addresses { self.new.addresses ≡ self.old.addresses }
         ensures cluster { self.new.cluster ≡ self.old.cluster }
@@ -86,8 +126,7 @@ impl<R: NodeReplica, S: Datagrams + Drop> Server<R, S> {
         ensures alive { OnOk result (self.new.failed ≡ false) }
         ensures broken { OnErr result (self.new.failed ≡ true) }
     {
-        let mut post = SocketPost::new(&mut self.socket, &self.addresses);
-        match &self.replica.take(input, &mut post) {
+        match &self.step(input, came, log) {
             Ok(notes) | Err(ReplicaFault::Send(notes)) => {
                 log_notes(log, notes);
                 Ok(())
@@ -106,13 +145,12 @@ impl<R: NodeReplica, S: Datagrams + Drop> Server<R, S> {
         ensures alive { OnOk result (self.new.failed ≡ false) }
         ensures broken { OnErr result (self.new.failed ≡ true) }
     {
-        self.take(Input::Tick, log)
+        self.take(Input::Tick, &Came::Tick, log)
     }
 
     /// A datagram has come from an address. Every 64th is followed by a tick.
     pub fn take_datagram<L: Log>(
         &mut self,
-        alloc: Global,
         bytes: &[u8],
         from: SocketAddr,
         log: &L,
@@ -127,8 +165,9 @@ impl<R: NodeReplica, S: Datagrams + Drop> Server<R, S> {
         ensures broken { OnErr result (self.new.failed ≡ true) }
     {
         self.received = self.received.wrapping_add(1);
-        self.addresses.hear(alloc, self.cluster, bytes, from);
-        self.take(Input::Datagram(bytes), log)?;
+        let came = self.addresses.hear(self.cluster, bytes, from);
+        self.strangers.count(&came, log);
+        self.take(Input::Datagram(bytes), &came, log)?;
         if self.received % DATAGRAMS_PER_TICK == 0 {
             self.tick(log)?;
         }
@@ -136,9 +175,12 @@ impl<R: NodeReplica, S: Datagrams + Drop> Server<R, S> {
     }
 
     /// Takes the next datagram, if one comes. Whether one did.
-    pub fn serve_next<L: Log>(&mut self, alloc: Global, log: &L) -> Result<bool, ServiceFault>
+    pub fn serve_next<L: Log>(&mut self, log: &L) -> Result<bool, ServiceFault>
         ensures given { R.is_telling → IfOk result (λ came. came ≡ true → TakesOne self.old self.new) }
-        ensures none { IfOk result (λ came. came ≡ false → self.new ≡ self.old) }
+        // It is the whole of what came, from where it came.
+        ensures hands { S.is_telling → R.is_telling → IfOk result (λ came. came ≡ true → TakesNext self.old self.new) }
+        ensures idle { S.is_telling → IfOk result (λ came. came ≡ false → self.old.next ≡ None) }
+        ensures none { IfOk result (λ came. came ≡ false → record self.new { next = self.old.next } ≡ self.old) }
         ensures cluster { self.new.cluster ≡ self.old.cluster }
         ensures passes { IfErr result (λ f. f ≡ ServiceFault.Send → ⊥) }
         ensures alive { IfOk result (λ came. came ≡ true → self.new.failed ≡ false) }
@@ -148,24 +190,25 @@ impl<R: NodeReplica, S: Datagrams + Drop> Server<R, S> {
         let Some((length, from)) = self.socket.receive(&mut buffer) else {
             return Ok(false);
         };
-        self.take_datagram(alloc, &buffer[..length], from, log)?;
+        self.take_datagram(&buffer[..length], from, log)?;
         Ok(true)
     }
 }
 
 /// One turn of a server: it takes the next datagram, or a tick where none came.
 pub fn node_turn<R: NodeReplica, S: Datagrams + Drop, L: Log>(
-    alloc: Global,
     server: &mut Server<R, S>,
     log: &L,
 ) -> Result<(), ServiceFault>
     ensures given { R.is_telling → OnOk result (TakesOne server.old server.new ⊎ (server.new.given ≡ server.old.given ++ None ∷ [])) }
+    // What it takes is the whole of what came, from where it came, and a tick where nothing did.
+    ensures hands { S.is_telling → R.is_telling → OnOk result (TakesNext server.old server.new ⊎ TicksIdle server.old server.new) }
     ensures cluster { server.new.cluster ≡ server.old.cluster }
     ensures passes { IfErr result (λ f. f ≡ ServiceFault.Send → ⊥) }
     ensures alive { OnOk result (server.new.failed ≡ false) }
     ensures broken { OnErr result (server.new.failed ≡ true) }
 {
-    if server.serve_next(alloc, log)? {
+    if server.serve_next(log)? {
         return Ok(());
     }
     server.tick(log)

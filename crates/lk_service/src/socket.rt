@@ -1,6 +1,6 @@
 //! Datagrams between addresses of this machine.
 
-ghost use Rattle.std.specs.Prelude.{◌≡◌, ◌≤◌, ◌++◌, ◌∷◌, [], List, ℕ, length, IfSome, OnOk, OnErr};
+ghost use Rattle.std.specs.Prelude.{◌≡◌, ◌≤◌, ◌++◌, ◌∷◌, [], List, ℕ, Option, Some, None, length, take, IfSome, IsNone, OnOk, OnErr};
 ghost use Rattle.std.specs.Net.Socket.{socket_port};
 ghost use Rattle.std.specs.declared.net.socket_addr.SocketAddr.{SocketAddr as Address};
 
@@ -25,7 +25,10 @@ pub trait Datagrams {
     /// What was sent, in order: to which address, and the bytes.
     ghost sent: { Self → List (Address × List ℕ) };
 
-    /// It tells what was sent. It is a fact of its kind, so no call can end it.
+    /// What comes next: from which address, and the bytes.
+    ghost next: { Self → Option (Address × List ℕ) };
+
+    /// It tells what was sent, and what comes next. It is a fact of its kind, so no call can end it.
     ghost is_telling: { Type 0 };
 
     /// Sends a datagram. A failed call sends nothing.
@@ -37,7 +40,12 @@ pub trait Datagrams {
     /// `None` where none came within 100 ms, or the receive failed.
     fn receive(&mut self, buffer: &mut [u8]) -> Option<(usize, SocketAddr)>
         ensures within { IfSome result (λ r. r.0 ≤ length buffer.new) }
-        ensures unchanged { is_telling → sent self.new ≡ sent self.old };
+        ensures some { is_telling → IfSome result (λ r. next self.old ≡ Some (r.1, take r.0 buffer.new)) }
+        ensures none { is_telling → IsNone result → next self.old ≡ None }
+        ensures unchanged { sent self.new ≡ sent self.old };
+
+    /// Why the last send that failed did, where the system told it.
+    fn cause(&self) -> Option<io::Error>;
 
     /// The port at which datagrams come, if that is known.
     fn port(&self) -> Option<u16>;
@@ -47,6 +55,8 @@ pub trait Datagrams {
 #[derive(Drop)]
 pub struct LocalSocket {
     socket: UdpSocket,
+    // why the last send that failed did
+    cause: Option<io::Error>,
 }
 
 impl LocalSocket {
@@ -54,7 +64,10 @@ impl LocalSocket {
     pub fn open<R: Net>(rt: &R, port: u16) -> io::Result<LocalSocket> {
         let socket = UdpSocket::bind(rt, local(port))?;
         socket.set_read_timeout(Some(Duration::from_millis(WAIT)))?;
-        Ok(LocalSocket { socket })
+        Ok(LocalSocket {
+            socket,
+            cause: None,
+        })
     }
 
     /// The same, which refuses with `CannotOpen`.
@@ -75,17 +88,26 @@ impl LocalSocket {
 impl Datagrams for LocalSocket {
     ghost sent = { λ _. [] };
 
+    ghost next = { λ _. None };
+
     ghost is_telling = { ⊥ };
 
     fn send_to(&mut self, to: SocketAddr, bytes: &[u8]) -> Result<(), SendFault> {
         match self.socket.send_to(bytes, to) {
             Ok(_) => Ok(()),
-            Err(_) => Err(SendFault),
+            Err(cause) => {
+                self.cause = Some(cause);
+                Err(SendFault)
+            }
         }
     }
 
     fn receive(&mut self, buffer: &mut [u8]) -> Option<(usize, SocketAddr)> {
         self.socket.recv_from(buffer).ok()
+    }
+
+    fn cause(&self) -> Option<io::Error> {
+        self.cause
     }
 
     fn port(&self) -> Option<u16> {

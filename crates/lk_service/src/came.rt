@@ -1,0 +1,62 @@
+//! What came to a server, for its log.
+
+use lk_types::{ClientNo, NodeNo};
+use lk_wire::NodeMessageRef;
+use std::fmt;
+
+/// What came to a server, as far as it was read.
+#[derive(Clone, Copy, Debug, PartialEq, Eq)]
+pub enum Came {
+    /// Some time has passed.
+    Tick,
+    /// A datagram that does not read.
+    Bad,
+    /// A datagram of another cluster.
+    Foreign,
+    /// A request of a client.
+    Request(ClientNo),
+    /// A node wants to be told what it has missed.
+    Want(NodeNo),
+    /// A node says something else, whose name stands here.
+    Said(&'static str, NodeNo),
+}
+
+/// The name of what a node says.
+pub fn name_of(message: &NodeMessageRef<'_>) -> &'static str {
+    match message {
+        NodeMessageRef::Prepare(_, _) => "Prepare",
+        NodeMessageRef::Promise(_) => "Promise",
+        NodeMessageRef::Accept(_) => "Accept",
+        NodeMessageRef::Accepted(_) => "Accepted",
+        NodeMessageRef::Nack(_) => "Nack",
+        NodeMessageRef::Decided(_) => "Decided",
+        NodeMessageRef::Want(_) => "Want",
+        NodeMessageRef::Part(_) => "Part",
+        NodeMessageRef::Answer(_) => "Answer",
+        NodeMessageRef::Elsewhere(_) => "Elsewhere",
+        NodeMessageRef::Passed(_) => "Passed",
+        NodeMessageRef::Lead(_, _) => "Lead",
+    }
+}
+
+impl Came {
+    /// What a node says.
+    pub fn said(node: NodeNo, message: &NodeMessageRef<'_>) -> Came {
+        match message {
+            NodeMessageRef::Want(_) => Came::Want(node),
+            _ => Came::Said(name_of(message), node),
+        }
+    }
+}
+
+impl fmt::Display for Came {
+    fn fmt<W: fmt::Write>(&self, f: &mut fmt::Formatter<W>) -> fmt::Result {
+        match self {
+            Came::Tick => f.write_str("a tick"),
+            Came::Bad | Came::Foreign => f.write_str("a datagram"),
+            Came::Request(client) => write!(f, "a request of client {}", client.get()),
+            Came::Want(node) => write!(f, "Want of node {}", node.get()),
+            Came::Said(name, node) => write!(f, "{name} of node {}", node.get()),
+        }
+    }
+}

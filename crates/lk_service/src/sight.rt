@@ -1,0 +1,20 @@
+//! What is seen of a replica from outside.
+
+use lk_types::{Ballot, Executed, NodeNo, RealBallot};
+
+/// What is seen of a replica from outside, between two turns.
+#[derive(Clone, Copy, Debug, PartialEq, Eq)]
+pub struct Sight {
+    /// The generation of its store.
+    pub generation: u64,
+    /// The position of its snapshot.
+    pub snapshot: Executed,
+    /// How many positions it has executed.
+    pub executed: Executed,
+    /// The ballot that it has promised.
+    pub promised: Ballot,
+    /// The ballot of its term, if it has one.
+    pub term: Option<RealBallot>,
+    /// The node that it takes for the leader.
+    pub known: Option<NodeNo>,
+}

@@ -1,0 +1,40 @@
+//! The datagrams that say nothing to a server, counted.
+
+use crate::came::Came;
+use log::{Log, debug};
+
+/// How many datagrams came that do not read, and how many of another cluster.
+#[derive(Clone, Copy, Debug, PartialEq, Eq)]
+pub struct Strangers {
+    bad: u64,
+    foreign: u64,
+}
+
+/// Logs how many there are, where that is a power of two.
+fn log_count<L: Log>(log: &L, what: &str, count: u64) {
+    if count.is_power_of_two() {
+        debug!(log; "datagrams {what}: {count}");
+    }
+}
+
+impl Strangers {
+    /// None came.
+    pub fn new() -> Strangers {
+        Strangers { bad: 0, foreign: 0 }
+    }
+
+    /// Counts what came, if it is one of them. Each count that is a power of two is logged at level debug.
+    pub fn count<L: Log>(&mut self, came: &Came, log: &L) {
+        match came {
+            Came::Bad => {
+                self.bad = self.bad.saturating_add(1);
+                log_count(log, "that do not read", self.bad);
+            }
+            Came::Foreign => {
+                self.foreign = self.foreign.saturating_add(1);
+                log_count(log, "of another cluster", self.foreign);
+            }
+            _ => {}
+        }
+    }
+}

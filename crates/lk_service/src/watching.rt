@@ -1,0 +1,108 @@
+//! What a server logs of its replica beside its notes: lines of level debug, one fact each. A line that fails is dropped.
+
+use crate::came::Came;
+use crate::post::Carried;
+use crate::sight::Sight;
+use lk_types::{NodeNo, Port, RealBallot};
+use log::{Log, debug};
+use std::io;
+
+/// Logs how a node came up: whether its store is a new one, and what stands in it.
+pub fn log_start<L: Log>(log: &L, is_new: bool, sight: &Sight) {
+    if is_new {
+        debug!(log; "came up with a new store");
+    } else {
+        debug!(log; "came up with the store that it had");
+    }
+    log_number(log, "generation", sight.generation);
+    log_number(log, "snapshot", sight.snapshot.get());
+    log_number(log, "executed", sight.executed.get());
+}
+
+/// Logs at which port a node listens.
+pub fn log_port<L: Log>(log: &L, port: Port) {
+    log_number(log, "port", u64::from(port.get()));
+}
+
+/// Logs a number by its name.
+fn log_number<L: Log>(log: &L, name: &str, number: u64) {
+    debug!(log; "{name} {number}");
+}
+
+/// Logs that a term has begun.
+fn log_begun<L: Log>(log: &L, term: RealBallot) {
+    let ballot = term.get();
+    debug!(log; "term {}.{} begun", ballot.round(), ballot.node());
+}
+
+/// Logs that a term has ended, and by what.
+fn log_ended<L: Log>(log: &L, came: &Came, term: RealBallot) {
+    let ballot = term.get();
+    debug!(log; "term {}.{} ended by {came}", ballot.round(), ballot.node());
+}
+
+/// Logs which term has ended and which has begun.
+fn log_term<L: Log>(log: &L, came: &Came, before: Option<RealBallot>, after: Option<RealBallot>) {
+    if before == after {
+        return;
+    }
+    if let Some(term) = before {
+        log_ended(log, came, term);
+    }
+    if let Some(term) = after {
+        log_begun(log, term);
+    }
+}
+
+/// Logs another leader than before.
+fn log_known<L: Log>(log: &L, before: Option<NodeNo>, after: Option<NodeNo>) {
+    match after {
+        _ if before == after => {}
+        Some(node) => log_number(log, "known leader", u64::from(node.get())),
+        None => debug!(log; "known leader none"),
+    }
+}
+
+/// Logs where the store was compacted, and which snapshot of another node was installed.
+fn log_store<L: Log>(log: &L, before: &Sight, after: &Sight) {
+    let rebases = after.generation.saturating_sub(before.generation);
+    let is_installed = after.snapshot.get() > before.executed.get();
+    if rebases > u64::from(is_installed) {
+        log_number(log, "compacted at", before.executed.get());
+    }
+    if is_installed {
+        log_number(log, "installed at", after.snapshot.get());
+    }
+}
+
+/// Logs what has changed by what came.
+pub fn log_changes<L: Log>(log: &L, came: &Came, before: &Sight, after: &Sight) {
+    log_term(log, came, before.term, after.term);
+    log_known(log, before.known, after.known);
+    log_store(log, before, after);
+}
+
+/// Logs that the node wants to be told what it has missed, and by how many datagrams it has told another that.
+fn log_wants<L: Log>(log: &L, came: &Came, carried: &Carried) {
+    if let Some(node) = carried.wanted {
+        log_number(log, "Want sent to node", u64::from(node.get()));
+    }
+    if let Came::Want(node) = came {
+        debug!(log; "Want of node {} served by {} datagrams", node.get(), carried.sent);
+    }
+}
+
+/// Logs why sends were lost.
+fn log_lost<L: Log>(log: &L, lost: u64, cause: Option<io::Error>) {
+    match cause {
+        _ if lost == 0 => {}
+        Some(cause) => debug!(log; "lost {lost} sends: {cause}"),
+        None => log_number(log, "lost sends:", lost),
+    }
+}
+
+/// Logs what became of what was sent in a turn.
+pub fn log_carried<L: Log>(log: &L, came: &Came, carried: &Carried, cause: Option<io::Error>) {
+    log_wants(log, came, carried);
+    log_lost(log, carried.lost, cause);
+}
