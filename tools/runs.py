@@ -10,7 +10,7 @@ A file is rows with an empty line between them; a line `# ..` is a comment. The 
     ! LINE      the same of standard error; a single line `!` alone stands for anything but nothing
     ? NUMBER    the status, where it is not 0
     @ FILE      standard output is this file, and is not read
-    % NAME HEX  a file of the folder, and its bytes; several lines of a file follow one another
+    % NAME HEX  a file of the folder, and its bytes; several lines of a file follow one another; NAME/ is a folder in it
     <* LINE     as `<`, one of several in a row, each of which stands in this place in a run of its own
 
 A row with several lines `$` is run with each of them. Bytes are written as in Python, `\\x20` for a space at an end. A run has
@@ -64,7 +64,10 @@ class Row:
         """Whether one run has its end, and what came of it where it has not."""
         with tempfile.TemporaryDirectory() as folder, open(self.to or "/dev/null", "wb") as to:
             for file, text in self.files.items():
-                pathlib.Path(folder, file).write_bytes(text)
+                if file.endswith("/"):
+                    pathlib.Path(folder, file).mkdir()
+                else:
+                    pathlib.Path(folder, file).write_bytes(text)
             how = {"stdout": to if self.to else subprocess.PIPE, "stderr": subprocess.PIPE, "cwd": folder, "timeout": 60}
             run = subprocess.run([program, *words], input=given, **how)
         err = bool(run.stderr) if self.is_told else run.stderr == b"".join(self.err)

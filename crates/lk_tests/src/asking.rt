@@ -1,5 +1,5 @@
 //! Whom a client follows, what it takes for a reply, and what it prints.
-ghost use Rattle.std.specs.Prelude.{[]};
+ghost use Rattle.std.specs.Prelude.{[], None};
 
 use crate::digits::bytes_of;
 use lk_replica::SendFault;
@@ -9,6 +9,7 @@ use lk_service::socket::{Datagrams, LocalSocket, local};
 use lk_types::{ClientNo, Port, Request, RequestNumber};
 use lk_words::operation::read_operation;
 use std::alloc::Global;
+use std::io;
 use std::net::SocketAddr;
 use std::test::Fail;
 
@@ -22,6 +23,8 @@ struct Scripted {
 
 impl Datagrams for Scripted {
     ghost sent = { λ _. [] };
+
+    ghost next = { λ _. None };
 
     ghost is_telling = { ⊥ };
 
@@ -39,6 +42,10 @@ impl Datagrams for Scripted {
         let place = buffer.get_mut(..datagram.len())?;
         place.copy_from_slice(datagram);
         Some((datagram.len(), local(1)))
+    }
+
+    fn cause(&self) -> Option<io::Error> {
+        None
     }
 
     fn port(&self) -> Option<u16> {

@@ -161,8 +161,10 @@ fn opened<R: Files>(rt: &R, alloc: Global, folder: &str) -> Result<bool, Fail> {
     FileDisk::open(rt, alloc, folder)?;
     let mut disk = FileDisk::look_at(rt, alloc, folder)?;
     let is_empty = lengths(&mut disk)? == (0, 0);
+    let was_told = disk.cause(Side::A).is_some();
     let is_written = disk.append(Side::A, b"x").is_ok();
-    Ok(is_none && !is_made && is_empty && !is_written)
+    let is_told = disk.cause(Side::A).is_some() && disk.cause(Side::B).is_none();
+    Ok(is_none && !is_made && is_empty && !is_written && !was_told && is_told)
 }
 
 #[test]

@@ -51,8 +51,8 @@ fn a_file_that_votes_have_filled_gives_way_to_a_base(rt: HostRuntime) -> Result<
     assert_eq!(rt; voted(alloc, &mut replica, 1..1285)?, (131_086, 0));
     assert_eq!(rt; voted(alloc, &mut replica, 1285..1286)?, (0, 317));
     let mut device = Replica::into_disks(replica);
-    let (generation, _) = look(alloc, &mut device)?.ok_or("store")?;
-    assert_eq!(rt; generation, 2);
+    let live = look(alloc, &mut device)?.ok_or("store")?;
+    assert_eq!(rt; live.generation, 2);
     Ok(())
 }
 

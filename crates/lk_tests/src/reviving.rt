@@ -38,14 +38,25 @@ const BELOW_NACK: &str =
 
 // The Base of node 2 in its first and its second generation, as it begins.
 const BEGUN: &str =
-    "00000072 01 0000000000000001 01 0000000000000005 00000002 01 03 00000001 1b59 00000002 1b5a 00000003 1b5b 0000000000000000 00000000 0000000000000000 0000002c 0000000000000000 01 03 00000001 1b59 00000002 1b5a 00000003 1b5b 00000003 0000000000000000 0000 0000 0000 0000";
+    "00000072 01 0000000000000001 02 0000000000000005 00000002 01 03 00000001 1b59 00000002 1b5a 00000003 1b5b 0000000000000000 00000000 0000000000000000 0000002c 0000000000000000 01 03 00000001 1b59 00000002 1b5a 00000003 1b5b 00000003 0000000000000000 0000 0000 0000 0000";
 
 const SECOND_BEGUN: &str =
-    "00000072 01 0000000000000002 01 0000000000000005 00000002 01 03 00000001 1b59 00000002 1b5a 00000003 1b5b 0000000000000000 00000000 0000000000000000 0000002c 0000000000000000 01 03 00000001 1b59 00000002 1b5a 00000003 1b5b 00000003 0000000000000000 0000 0000 0000 0000";
+    "00000072 01 0000000000000002 02 0000000000000005 00000002 01 03 00000001 1b59 00000002 1b5a 00000003 1b5b 0000000000000000 00000000 0000000000000000 0000002c 0000000000000000 01 03 00000001 1b59 00000002 1b5a 00000003 1b5b 00000003 0000000000000000 0000 0000 0000 0000";
+
+// A first Base as a program wrote it that knew format 1 alone, and one of the last generation.
+const OLD: &str =
+    "00000072 01 0000000000000001 01 0000000000000005 00000002 01 03 00000001 1b59 00000002 1b5a 00000003 1b5b 0000000000000000 00000000 0000000000000000 0000002c 0000000000000000 01 03 00000001 1b59 00000002 1b5a 00000003 1b5b 00000003 0000000000000000 0000 0000 0000 0000";
+
+const LAST_OLD: &str =
+    "00000072 01 0001000000000000 01 0000000000000005 00000002 01 03 00000001 1b59 00000002 1b5a 00000003 1b5b 0000000000000000 00000000 0000000000000000 0000002c 0000000000000000 01 03 00000001 1b59 00000002 1b5a 00000003 1b5b 00000003 0000000000000000 0000 0000 0000 0000";
+
+// The Base that takes the place of an old one after which `PROMISED` and `VOTED` stand.
+const RENEWED: &str =
+    "00000087 01 0000000000000002 02 0000000000000005 00000002 01 03 00000001 1b59 00000002 1b5a 00000003 1b5b 0000000000000003 00000001 0000000000000000 0000002c 0000000000000000 01 03 00000001 1b59 00000002 1b5a 00000003 1b5b 00000003 0000000000000000 0000 0000 0001 0000000000000001 0000000000000003 00000001 00 0000";
 
 // All of a first Base but its last byte.
 const TORN: &str =
-    "00000072 01 0000000000000001 01 0000000000000005 00000002 01 03 00000001 1b59 00000002 1b5a 00000003 1b5b 0000000000000000 00000000 0000000000000000 0000002c 0000000000000000 01 03 00000001 1b59 00000002 1b5a 00000003 1b5b 00000003 0000000000000000 0000 0000 0000 00";
+    "00000072 01 0000000000000001 02 0000000000000005 00000002 01 03 00000001 1b59 00000002 1b5a 00000003 1b5b 0000000000000000 00000000 0000000000000000 0000002c 0000000000000000 01 03 00000001 1b59 00000002 1b5a 00000003 1b5b 00000003 0000000000000000 0000 0000 0000 00";
 
 // What follows the ballot in such a Base.
 const NOTHING_YET: &str =
@@ -53,17 +64,17 @@ const NOTHING_YET: &str =
 
 // The Bases of another node, another cluster, and with another alpha and port, up to the ballot.
 const OF_NODE_3: &str =
-    "00000072 01 0000000000000001 01 0000000000000005 00000003 01 03 00000001 1b59 00000002 1b5a 00000003 1b5b";
+    "00000072 01 0000000000000001 02 0000000000000005 00000003 01 03 00000001 1b59 00000002 1b5a 00000003 1b5b";
 
 const OF_CLUSTER_6: &str =
-    "00000072 01 0000000000000001 01 0000000000000006 00000002 01 03 00000001 1b59 00000002 1b5a 00000003 1b5b";
+    "00000072 01 0000000000000001 02 0000000000000006 00000002 01 03 00000001 1b59 00000002 1b5a 00000003 1b5b";
 
 const WITH_PORT_7004: &str =
-    "00000072 01 0000000000000001 01 0000000000000005 00000002 01 03 00000001 1b59 00000002 1b5a 00000003 1b5c";
+    "00000072 01 0000000000000001 02 0000000000000005 00000002 01 03 00000001 1b59 00000002 1b5a 00000003 1b5c";
 
 // The Base of node 2, which has promised (1, 1), but for the position of its snapshot.
 const BASE: &str =
-    "00000072 01 0000000000000001 01 0000000000000005 00000002 01 03 00000001 1b59 00000002 1b5a 00000003 1b5b 0000000000000001 00000001";
+    "00000072 01 0000000000000001 02 0000000000000005 00000002 01 03 00000001 1b59 00000002 1b5a 00000003 1b5b 0000000000000001 00000001";
 
 // The state of three nodes with alpha 1 that have executed 256 positions, after its length, and no vote or pair.
 const SNAPSHOT: &str =
@@ -87,10 +98,12 @@ const DECIDED_258: &str = "0000000a 04 0000000000000102 00";
 
 const DECIDED_259: &str = "0000000a 04 0000000000000103 00";
 
+const RAISE_DECIDED: &str = "00000016 04 0000000000000001 01 0007 0000000000000001 03 02";
+
 /// What stands in the files A and B; the refusal, 0 for none; how many notes there are, and how long A and B are then.
 type Row<'a> = (&'a [&'a str], &'a [&'a str], (u8, usize, usize, usize));
 
-const FILES: [Row; 27] = [
+const FILES: [Row; 33] = [
     (&[], &[], (0, 0, 118, 0)),
     (&[BASE, AT_256, SNAPSHOT], &[], (0, 0, 118, 0)),
     (&[BEGUN, PROMISED, VOTED], &[], (0, 0, 161, 0)),
@@ -141,6 +154,13 @@ const FILES: [Row; 27] = [
         &[],
         (9, 0, 122, 0),
     ),
+    // A store of format 1 is rebased at once, where a generation is left; in it no command raises the machine.
+    (&[OLD], &[], (0, 0, 0, 118)),
+    (&[OLD, PROMISED, "00000016 03"], &[], (0, 0, 0, 118)),
+    (&[OLD, PROMISED, VOTED], &[], (0, 0, 0, 139)),
+    (&[LAST_OLD], &[], (11, 0, 118, 0)),
+    (&[OLD, RAISE_DECIDED], &[], (9, 0, 144, 0)),
+    (&[BEGUN, RAISE_DECIDED], &[], (0, 1, 144, 0)),
 ];
 
 // A device whose files have these bytes, all synced.
@@ -242,11 +262,12 @@ fn first_unsaid(
     Ok(None)
 }
 
-// The bytes of A where all that was said.
-fn written(alloc: Global, mut device: MemoryDisk) -> Result<Vec<u8>, Fail> {
+// The synced bytes of a file.
+fn written(alloc: Global, mut device: MemoryDisk, side: Side) -> Result<Vec<u8>, Fail> {
     device.stop(0, 0);
-    let mut bytes = vec![in alloc; 0; device.lengths().0]?;
-    device.read_into(Side::A, 0, &mut bytes)?;
+    let length = device.length(side)?;
+    let mut bytes = vec![in alloc; 0; length]?;
+    device.read_into(side, 0, &mut bytes)?;
     Ok(bytes)
 }
 
@@ -255,8 +276,11 @@ fn what_is_said_is_written_once_in_these_bytes(rt: HostRuntime) -> Result<(), Fa
     let alloc = rt.alloc();
     let mut replica = revived(alloc, MemoryDisk::new(alloc))?;
     assert_eq!(rt; first_unsaid(alloc, &mut replica, &SAID)?, None);
-    let bytes = written(alloc, Replica::into_disks(replica))?;
+    let bytes = written(alloc, Replica::into_disks(replica), Side::A)?;
     assert_eq!(rt; bytes, bytes_of(alloc, &[BEGUN, PROMISED, VOTED])?);
+    let renewed = revived(alloc, device_of(alloc, &[OLD, PROMISED, VOTED], &[])?)?;
+    let bytes = written(alloc, Replica::into_disks(renewed), Side::B)?;
+    assert_eq!(rt; bytes, bytes_of(alloc, &[RENEWED])?);
     Ok(())
 }
 

@@ -100,12 +100,9 @@ fn begun<R: Net>(rt: &R, alloc: Global) -> Result<Cluster, Fail> {
 }
 
 // A turn of each node.
-fn round<R: NodeReplica>(
-    alloc: Global,
-    nodes: &mut [Server<R, LocalSocket>],
-) -> Result<(), ServiceFault> {
+fn round<R: NodeReplica>(nodes: &mut [Server<R, LocalSocket>]) -> Result<(), ServiceFault> {
     for node in nodes {
-        node_turn(alloc, node, &Discard)?;
+        node_turn(node, &Discard)?;
     }
     Ok(())
 }
@@ -131,7 +128,7 @@ fn is_answered<R: NodeReplica>(
         if number % 50 == 0 {
             let _ = client.send_to(local(port.get()), datagrams.0);
         }
-        round(alloc, nodes)?;
+        round(nodes)?;
         if hears(client, datagrams.1) {
             return Ok(true);
         }

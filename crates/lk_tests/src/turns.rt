@@ -1,5 +1,5 @@
 //! What a turn logs, and a demonstration that nobody answers.
-ghost use Rattle.std.specs.Prelude.{[]};
+ghost use Rattle.std.specs.Prelude.{[], None};
 
 use lk_locks::LockTable;
 use lk_node::{Input, Note};
@@ -7,10 +7,12 @@ use lk_replica::{Post, ReplicaFault, SendFault};
 use lk_service::demo::{Sockets, play};
 use lk_service::node_replica::NodeReplica;
 use lk_service::server::{Server, node_turn};
+use lk_service::sight::Sight;
 use lk_service::socket::Datagrams;
-use lk_types::{Command, NodeNo, Position};
+use lk_types::{Ballot, Command, Executed, NodeNo, Position, RealBallot};
 use log::sink::{Discard, Memory};
 use std::alloc::Global;
+use std::io;
 use std::net::SocketAddr;
 use std::test::Fail;
 
@@ -28,6 +30,9 @@ struct Told {
     alloc: Global,
     end: End,
     failed: bool,
+    sight: Sight,
+    // what is seen once it has taken something
+    after: Sight,
 }
 
 // A note of position 3.
@@ -51,6 +56,7 @@ impl NodeReplica for Told {
 
     fn take<P: Post>(&mut self, _input: Input, _post: &mut P) -> Result<Vec<Note>, ReplicaFault> {
         self.failed = true;
+        self.sight = self.after;
         let Ok(notes) = ran(self.alloc) else {
             return Err(ReplicaFault::NoMemory);
         };
@@ -61,6 +67,10 @@ impl NodeReplica for Told {
             End::Broken => Err(ReplicaFault::Device),
         }
     }
+
+    fn sight(&self) -> Sight {
+        self.sight
+    }
 }
 
 // A socket to which nothing comes.
@@ -69,6 +79,8 @@ struct Waiting;
 
 impl Datagrams for Waiting {
     ghost sent = { λ _. [] };
+
+    ghost next = { λ _. None };
 
     ghost is_telling = { ⊥ };
 
@@ -80,40 +92,123 @@ impl Datagrams for Waiting {
         None
     }
 
+    fn cause(&self) -> Option<io::Error> {
+        None
+    }
+
     fn port(&self) -> Option<u16> {
         Some(7001)
     }
 }
 
-fn server(alloc: Global, end: End) -> Server<Told, Waiting> {
+/// The generation, the snapshot's position, how many positions are executed, and where there is one the round of a term of
+/// node 1 and the known leader, else 0.
+type Seen = (u64, u64, u64, u64, u32);
+
+const NEW: Seen = (1, 0, 0, 0, 0);
+
+fn sight_of(seen: Seen) -> Result<Sight, Fail> {
+    let (generation, snapshot, executed, round, known) = seen;
+    Ok(Sight {
+        generation,
+        snapshot: Executed::of(snapshot).ok_or("snapshot")?,
+        executed: Executed::of(executed).ok_or("executed")?,
+        promised: Ballot::ZERO,
+        term: match Ballot::of(round, 1) {
+            Some(ballot) => RealBallot::of(ballot),
+            None => None,
+        },
+        known: NodeNo::of(known),
+    })
+}
+
+// A server whose replica is seen so before and after what it takes.
+fn server(
+    alloc: Global,
+    end: End,
+    before: Seen,
+    after: Seen,
+) -> Result<Server<Told, Waiting>, Fail> {
     let told = Told {
         alloc,
         end,
         failed: false,
+        sight: sight_of(before)?,
+        after: sight_of(after)?,
     };
-    Server::new(5, told, Waiting)
+    Ok(Server::new(5, told, Waiting))
 }
 
-// What a turn logs whose replica ends so.
-fn logged(alloc: Global, end: End) -> Result<Vec<u8>, Fail> {
+// What a turn logs whose replica ends so, and is seen so before and after it.
+fn logged(alloc: Global, end: End, before: Seen, after: Seen) -> Result<Vec<u8>, Fail> {
     let memory = Memory::new(alloc);
-    let mut server = server(alloc, end);
-    let _ = node_turn(alloc, &mut server, &memory);
+    let mut server = server(alloc, end, before, after)?;
+    let _ = node_turn(&mut server, &memory);
     let mut text = Vec::new(alloc);
     for line in memory.into_lines().as_slice() {
         text.extend_from_slice(line.as_bytes())?;
+        text.push(b'\n')?;
     }
     Ok(text)
+}
+
+/// What is seen before a tick and after it, and the lines of level debug.
+type Change<'a> = (Seen, Seen, &'a [u8]);
+
+const CHANGES: [Change; 6] = [
+    (NEW, NEW, b""),
+    (
+        NEW,
+        (1, 0, 0, 3, 0),
+        b"[DEBUG lk_service::watching] term 3.1 begun\n",
+    ),
+    (
+        (1, 0, 0, 3, 1),
+        (1, 0, 0, 0, 2),
+        b"[DEBUG lk_service::watching] term 3.1 ended by a tick\n[DEBUG lk_service::watching] known leader 2\n",
+    ),
+    (
+        (1, 0, 256, 0, 2),
+        (2, 256, 256, 0, 0),
+        b"[DEBUG lk_service::watching] known leader none\n[DEBUG lk_service::watching] compacted at 256\n",
+    ),
+    (
+        (1, 0, 5, 0, 0),
+        (2, 300, 300, 0, 0),
+        b"[DEBUG lk_service::watching] installed at 300\n",
+    ),
+    (
+        (1, 0, 256, 0, 0),
+        (3, 600, 600, 0, 0),
+        b"[DEBUG lk_service::watching] compacted at 256\n[DEBUG lk_service::watching] installed at 600\n",
+    ),
+];
+
+// The first change that is logged otherwise.
+fn first_other(alloc: Global, changes: &[Change]) -> Result<Option<usize>, Fail> {
+    for (at, change) in changes.iter().enumerate() {
+        let (before, after, text) = *change;
+        if logged(alloc, End::Broken, before, after)?.as_slice() != text {
+            return Ok(Some(at));
+        }
+    }
+    Ok(None)
+}
+
+#[test]
+fn what_changes_by_a_turn_is_logged(rt: HostRuntime) -> Result<(), Fail> {
+    assert_eq!(rt; first_other(rt.alloc(), &CHANGES)?, None);
+    Ok(())
 }
 
 #[test]
 fn notes_are_logged_also_where_datagrams_were_lost(rt: HostRuntime) -> Result<(), Fail> {
     for (end, text) in [
-        (End::Notes, b"[INFO  lk_service::notes] ran 3".as_slice()),
-        (End::Lost, b"[INFO  lk_service::notes] ran 3".as_slice()),
+        (End::Notes, b"[INFO  lk_service::notes] ran 3\n".as_slice()),
+        (End::Lost, b"[INFO  lk_service::notes] ran 3\n".as_slice()),
         (End::Broken, b"".as_slice()),
     ] {
-        assert_eq!(rt; logged(rt.alloc(), end)?.as_slice(), text);
+        assert_eq!(rt; logged(rt.alloc(), end, NEW, NEW)?.as_slice(), text);
     }
     Ok(())
 }
