@@ -7,7 +7,8 @@ number of unsynced BYTES 0, 1 and all; then by `fail NODE COUNT` in the same way
 rest of the script follows, once with that event again in front of it and once without.
 
 What stands before the trap has to be printed as before, and no revival may end by a fault. The run goes on to the script's end or
-to a refusal 16 to 19, since a later line may name a datagram that was never sent. Whatever has run at a position, and whatever a
+to a refusal 16 to 19, since a later line may name a datagram that was never sent. Of a node that has executed 256 requests the tick is swept
+so at which it writes its snapshot. Whatever has run at a position, and whatever a
 request was answered, is the same at each node and each time. The last line is `N passed, M failed`, of scripts, and the status 1
 where one failed."""
 import concurrent.futures, itertools, os, pathlib, re, subprocess, sys
@@ -77,23 +78,34 @@ def swept(program, lines, at, node):
                 yield head[at], f"{head[at]} before line {at + 1}, {lines[at]}: {wrong}\n{output}" if wrong else None
 
 
-def sweep(program, lines):
-    """How many stops and how many failures of a script were tried, and what was wrong."""
+def sweep(program, lines, first):
+    """How many stops and how many failures of a script were tried from the event at a place on, and what was wrong."""
     output = printed(program, lines)
     bound = {words[1]: words[3][1:] for words in map(str.split, output.splitlines()) if words[0] == "sent" and words[3][0] == "n"}
     works = [(at, worker(line, bound)) for at, line in enumerate(lines)]
-    runs = [run for at, node in works if node for run in swept(program, lines, at, node)]
+    runs = [run for at, node in works[first:] if node for run in swept(program, lines, at, node)]
     stops = sum(trap.startswith("arm") for trap, _ in runs)
     return stops, len(runs) - stops, [wrong for _, wrong in runs if wrong]
 
 
+def filled():
+    """One node, alone, that executes 256 requests, and a tick, before which it writes its snapshot."""
+    yield from ("genesis 5 2 1:7001", "start 1", *["tick 1"] * 4, "deliver 1", "deliver 2")
+    for asked in range(256):
+        yield f"client 1 {asked + 1} 1 acquire name-{asked}"
+        yield from (f"deliver {4 * asked + step}" for step in (3, 4, 5))
+    yield "tick 1"
+
+
 def scripts(program):
-    """The world scripts that set no trap and end without a refusal, as lists of events."""
+    """The world scripts that set no trap and end without a refusal, as lists of events, and from which place on each is swept."""
     for file in sorted((TOP / "examples").glob("*.txt")):
         lines = [*events(file.read_text())]
         is_world = lines and lines[0].startswith("genesis ") and not any(line.startswith(("arm ", "fail ")) for line in lines)
         if is_world and re.search(r"done \d+\n\Z", printed(program, lines)):
-            yield file.name, lines
+            yield file.name, lines, 0
+    lines = [*filled()]
+    yield "256 requests", lines, len(lines) - 1
 
 
 def main():
@@ -101,7 +113,7 @@ def main():
     stops = failures = failed = 0
     chosen = [*scripts(program)]
     with concurrent.futures.ThreadPoolExecutor(os.cpu_count()) as pool:
-        for (name, _), (stopped, faulted, wrong) in zip(chosen, pool.map(lambda script: sweep(program, script[1]), chosen)):
+        for (name, _, _), (stopped, faulted, wrong) in zip(chosen, pool.map(lambda script: sweep(program, *script[1:]), chosen)):
             stops, failures, failed = stops + stopped, failures + faulted, failed + bool(wrong)
             for text in wrong:
                 print(f"{name}: {text}", flush=True)
