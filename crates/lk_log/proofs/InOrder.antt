@@ -32,7 +32,7 @@ eqb-ne a b e = grind (arith, nat_tests)
 
 -- ---- votes
 
-above_low : (low : ℕ) (v : Vote) (vs : List Vote) → are_votes_above low (v ∷ vs) ≡ true → (low < v.position) × (are_votes_above v.position vs ≡ true)
+pub above_low : (low : ℕ) (v : Vote) (vs : List Vote) → are_votes_above low (v ∷ vs) ≡ true → (low < v.position) × (are_votes_above v.position vs ≡ true)
 above_low low v vs e = let b = and_both (ltb low v.position) (are_votes_above v.position vs) e in (ltb-true low v.position b.0, b.1)
 
 low_above : (low : ℕ) (v : Vote) (vs : List Vote) → low < v.position → are_votes_above v.position vs ≡ true → are_votes_above low (v ∷ vs) ≡ true
@@ -141,7 +141,7 @@ best-rising i low (v ∷ vs) e =
 
 -- ---- decided commands
 
-pairs_low : (low : ℕ) (p : ℕ × Command) (ps : List (ℕ × Command)) → are_pairs_above low (p ∷ ps) ≡ true → (low < p.0) × (are_pairs_above p.0 ps ≡ true)
+pub pairs_low : (low : ℕ) (p : ℕ × Command) (ps : List (ℕ × Command)) → are_pairs_above low (p ∷ ps) ≡ true → (low < p.0) × (are_pairs_above p.0 ps ≡ true)
 pairs_low low p ps e = let b = and_both (ltb low p.0) (are_pairs_above p.0 ps) e in (ltb-true low p.0 b.0, b.1)
 
 low_pairs : (low : ℕ) (p : ℕ × Command) (ps : List (ℕ × Command)) → low < p.0 → are_pairs_above p.0 ps ≡ true → are_pairs_above low (p ∷ ps) ≡ true

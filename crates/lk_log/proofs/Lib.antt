@@ -9,6 +9,7 @@ mod Steps
 mod Metering
 mod Settle
 mod InOrder
+mod Halving
 mod StandingLaws
 mod BeginLaws
 mod RebaseLaws

@@ -1,5 +1,5 @@
 -- What a rebase leaves.
-use Rattle.std.proofs.Common.{◌≡◌, ℕ, ◌+◌, ◌*◌, ◌<◌, ◌≤◌, ◌⊎◌, inl, inr, lit<, lit≤, Bool, false, List, [], ◌∷◌, ◌++◌, length, take, refl, sym, ◌∙◌, ap, subst, arith, length-append}
+use Rattle.std.proofs.Common.{◌≡◌, ℕ, ◌+◌, ◌*◌, ◌<◌, ◌≤◌, ◌⊎◌, inl, inr, false, List, [], ◌∷◌, ◌++◌, length, take, refl, sym, ◌∙◌, ap, subst, arith, length-append}
 use Rattle.std.specs.List.{AllByRecursion, flat_map}
 use Rattle.std.proofs.Math.Seq.{take-append-add}
 use Rattle.std.proofs.lemmas.List.Concat.{flat_map-cons}
@@ -10,16 +10,16 @@ use Rattle.lk_types.specs.Votes.{IsVote}
 use Rattle.lk_types.specs.declared.command.Command.{Command}
 use Rattle.lk_types.specs.declared.vote.Vote.{Vote as VoteValue}
 use Rattle.lk_wire.specs.Fields.{two, four, eight, member, vote, pair}
-use Rattle.lk_disk.specs.Disk.{Disk, other, contents, appended, cut_to, flushed, CutShort, MayLeave}
+use Rattle.lk_disk.specs.Disk.{Disk, other, contents, CutShort, MayLeave}
 use Rattle.lk_disk.specs.declared.device.Side.{Side}
 use Rattle.lk_disk.specs.declared.device.Side.TheVariants.{A, B}
 use Rattle.lk_log.specs.Headers.{IsHeader}
-use Rattle.lk_log.specs.Entries.{base, spelling, spelling_of_all, IsPair, IsStored}
+use Rattle.lk_log.specs.Entries.{base, spelling, IsPair, IsStored}
 use Rattle.lk_log.specs.Files.{IsFile}
-use Rattle.lk_log.specs.Images.{Image, MayLeaveBoth, is_misplaced, generation, IsLive}
+use Rattle.lk_log.specs.Images.{Image, is_misplaced, generation, IsLive}
 use Rattle.lk_log.specs.StoreValue.{pick}
 use Rattle.lk_log.specs.Stores.{IsOlder, HoldsOn, MayBegin, KeepsOrIs, IsWrittenOver}
-use Rattle.lk_log.specs.Values.{HeaderValue, StandingValue, BaseValue}
+use Rattle.lk_log.specs.Values.{BaseValue}
 use Rattle.lk_log.specs.declared.stored.Stored.{Stored}
 use Rattle.lk_log.specs.declared.stored.Stored.TheVariants.{Base}
 use Rattle.lk_log.proofs.BeginLaws.{entry_or_nothing, members_long}
@@ -28,7 +28,7 @@ use Rattle.lk_log.proofs.ImageLaws.{misplaced-take, generation-append, generatio
 use Rattle.lk_log.proofs.Settle.{all_synced, short_front}
 use Rattle.lk_log.proofs.Mixed.{mixed-two}
 use Rattle.lk_log.proofs.Spelling.{spelled-append, all-left, all-right}
-use Rattle.lk_log.proofs.Steps.{OlderImage, older_image, grows_holds, keeps_at}
+use Rattle.lk_log.proofs.Steps.{OlderImage, grows_holds, keeps_at}
 use Rattle.lk_log.proofs.Whole.{front, file_behind, front_file, file_spelled}
 
 -- ---- a standing that may be written fits into a Base

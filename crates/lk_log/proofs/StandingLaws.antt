@@ -13,7 +13,7 @@ use Rattle.lk_types.specs.declared.vote.Vote.{Vote as VoteValue}
 use Rattle.lk_wire.specs.Values.{are_votes_above}
 use Rattle.lk_log.specs.Entries.{are_pairs_above, IsBase, IsStored}
 use Rattle.lk_log.specs.Images.{has_base, is_misplaced, generation}
-use Rattle.lk_log.specs.Standings.{greater, greatest_of, ballot_of, ballots_in, ballots, votes_in, all_votes, pairs_in, all_pairs, best_vote, vote_at, decided_at, HasSnapshot, StandsFor, with_vote, with_pair, with_plain, of_base}
+use Rattle.lk_log.specs.Standings.{greater, greatest_of, ballot_of, ballots_in, ballots, votes_in, all_votes, pairs_in, all_pairs, best_vote, vote_at, decided_at, HasSnapshot, StandsFor, Rises, with_vote, with_pair, with_plain, of_base}
 use Rattle.lk_log.specs.Values.{StandingValue, BaseValue}
 use Rattle.lk_log.specs.declared.stored.Stored.{Stored}
 use Rattle.lk_log.specs.declared.stored.Stored.TheVariants.{Base, Plain}
@@ -46,6 +46,27 @@ snapshot-push (Plain e ∷ es) fs s t p q h = absurd h
 apart : (i low j : ℕ) → low < i → ltb low j ≡ false → eqb j i ≡ false
 apart i low j h e = grind (arith, nat_tests)
 
+-- ---- its lists rise
+
+votes_still_rise : (s : StandingValue) (v : VoteValue) → Rises s → are_votes_above s.position (cond (ltb s.position v.position) (with_vote v s.votes) s.votes) ≡ true
+votes_still_rise s v rises = by_test (ltb s.position v.position) refl
+  where
+    by_test : (b : Bool) → ltb s.position v.position ≡ b → are_votes_above s.position (cond b (with_vote v s.votes) s.votes) ≡ true
+    by_test true e = rising-with s.position v s.votes rises.0 (ltb-true s.position v.position e)
+    by_test false e = rises.0
+
+pairs_still_rise : (s : StandingValue) (p : ℕ × Command) → Rises s → are_pairs_above s.position (cond (ltb s.position p.0) (with_pair p s.pairs) s.pairs) ≡ true
+pairs_still_rise s p rises = by_test (ltb s.position p.0) refl
+  where
+    by_test : (b : Bool) → ltb s.position p.0 ≡ b → are_pairs_above s.position (cond b (with_pair p s.pairs) s.pairs) ≡ true
+    by_test true e = pairs_rise-with s.position p s.pairs rises.1 (ltb-true s.position p.0 e)
+    by_test false e = rises.1
+
+pub rises_with : (e : Entry) (s : StandingValue) → Rises s → Rises (with_plain e s)
+rises_with (Promise b) s rises = rises
+rises_with (Vote v) s rises = (votes_still_rise s v rises, rises.1)
+rises_with (Decided n c) s rises = (rises.0, pairs_still_rise s (n, c) rises)
+
 -- ---- one more entry after others
 
 module _ (es : List Stored) (s : StandingValue) (h : StandsFor es s) where
@@ -66,19 +87,12 @@ module _ (es : List Stored) (s : StandingValue) (h : StandsFor es s) where
       by_test true e = vote_at-with i s.position v s.votes h.votes_rise
       by_test false e = let other = apart i s.position v.position above e in rw other refl
 
-  votes_still_rise : (v : VoteValue) → are_votes_above s.position (cond (ltb s.position v.position) (with_vote v s.votes) s.votes) ≡ true
-  votes_still_rise v = by_test (ltb s.position v.position) refl
-    where
-      by_test : (b : Bool) → ltb s.position v.position ≡ b → are_votes_above s.position (cond b (with_vote v s.votes) s.votes) ≡ true
-      by_test true e = rising-with s.position v s.votes h.votes_rise (ltb-true s.position v.position e)
-      by_test false e = h.votes_rise
-
   vote_stands : (v : VoteValue) → StandsFor (es ++ Plain (Vote v) ∷ []) (with_plain (Vote v) s)
   vote_stands v = record {
     snapshot = snapshot-push es (Plain (Vote v) ∷ []) s (with_plain (Vote v) s) refl refl h.snapshot;
     promised = ap (λ (g : BallotValue). greater g v.ballot) h.promised ∙ sym (greatest-push zero_ballot (ballots es) v.ballot) ∙ ap (greatest_of zero_ballot) (sym (ballots-push es (Plain (Vote v))));
     votes = λ i above. vote_found v i above ∙ ap (λ (o : Option VoteValue). vote_then i o v) (h.votes i above) ∙ sym (best-push i None (all_votes es) v) ∙ ap (best_vote i) (sym (votes-push es (Plain (Vote v))));
-    votes_rise = votes_still_rise v;
+    votes_rise = votes_still_rise s v (h.votes_rise, h.pairs_rise);
     pairs = λ i above. h.pairs i above ∙ ap (decided_at i) (sym (pairs-push es (Plain (Vote v)) ∙ append-nil (all_pairs es)));
     pairs_rise = h.pairs_rise;
   }
@@ -94,13 +108,6 @@ module _ (es : List Stored) (s : StandingValue) (h : StandsFor es s) where
       by_test true e = decided_at-with i s.position p s.pairs h.pairs_rise
       by_test false e = unchanged (decided_at i s.pairs) (apart i s.position p.0 above e)
 
-  pairs_still_rise : (p : ℕ × Command) → are_pairs_above s.position (cond (ltb s.position p.0) (with_pair p s.pairs) s.pairs) ≡ true
-  pairs_still_rise p = by_test (ltb s.position p.0) refl
-    where
-      by_test : (b : Bool) → ltb s.position p.0 ≡ b → are_pairs_above s.position (cond b (with_pair p s.pairs) s.pairs) ≡ true
-      by_test true e = pairs_rise-with s.position p s.pairs h.pairs_rise (ltb-true s.position p.0 e)
-      by_test false e = h.pairs_rise
-
   decided_stands : (n : ℕ) (c : Command) → StandsFor (es ++ Plain (Decided n c) ∷ []) (with_plain (Decided n c) s)
   decided_stands n c = record {
     snapshot = snapshot-push es (Plain (Decided n c) ∷ []) s (with_plain (Decided n c) s) refl refl h.snapshot;
@@ -108,7 +115,7 @@ module _ (es : List Stored) (s : StandingValue) (h : StandsFor es s) where
     votes = λ i above. h.votes i above ∙ ap (best_vote i) (sym (votes-push es (Plain (Decided n c)) ∙ append-nil (all_votes es)));
     votes_rise = h.votes_rise;
     pairs = λ i above. pair_found (n, c) i above ∙ ap (λ (o : Option Command). decided_then i o (n, c)) (h.pairs i above) ∙ sym (decided-push i (all_pairs es) (n, c)) ∙ ap (decided_at i) (sym (pairs-push es (Plain (Decided n c))));
-    pairs_rise = pairs_still_rise (n, c);
+    pairs_rise = pairs_still_rise s (n, c) (h.votes_rise, h.pairs_rise);
   }
 
 pub plain_stands : (es : List Stored) (s : StandingValue) (e : Entry) → StandsFor es s → StandsFor (es ++ Plain e ∷ []) (with_plain e s)
@@ -169,3 +176,7 @@ so_far_plain (Base b ∷ es) e s t is h = record {
       subst (StandsFor (Base b ∷ es ++ Plain e ∷ [])) (sym is) (plain_stands (Base b ∷ es) s e (h.stands front.0 (has_base-front es (Plain e) placed).0 some));
 }
 so_far_plain (Plain x ∷ es) e s t is h = record { stands = λ fit placed some. absurd cc }
+
+-- that of a Base alone rises
+pub rises_alone : (b : BaseValue) (s : StandingValue) → s ≡ of_base b → IsStored (Base b) → Rises s
+rises_alone b s is fits = subst Rises (sym is) (fits.0.2.6, fits.0.2.9)

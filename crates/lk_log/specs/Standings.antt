@@ -109,10 +109,27 @@ pub record StandsFor (es : List Stored) (s : StandingValue) : Type 0 where
 
 -- ---- lists that are kept in order
 
--- so many votes of smaller positions are in front
+-- their positions rise strictly
+abbrev pub AreVotesRising : List VoteValue → Type 0
+AreVotesRising vs = (low : ℕ) × IsTrue (are_votes_above low vs)
+
+abbrev pub ArePairsRising : List (ℕ × Command) → Type 0
+ArePairsRising ps = (low : ℕ) × IsTrue (are_pairs_above low ps)
+
+-- those of a standing rise above its snapshot
+abbrev pub Rises : StandingValue → Type 0
+Rises s = IsTrue (are_votes_above s.position s.votes) × IsTrue (are_pairs_above s.position s.pairs)
+
+-- so many elements of smaller keys are in front
+abbrev pub below : {A : Type 0} → (A → ℕ) → ℕ → List A → ℕ
+below key i [] = 0
+below key i (x ∷ xs) = if nat_lt (key x) i then suc (below key i xs) else 0
+
 abbrev pub votes_below : ℕ → List VoteValue → ℕ
-votes_below i [] = 0
-votes_below i (v ∷ vs) = if nat_lt v.position i then suc (votes_below i vs) else 0
+votes_below = below (λ v. v.position)
+
+abbrev pub pairs_below : ℕ → List (ℕ × Command) → ℕ
+pairs_below = below (λ p. p.0)
 
 -- the votes with a later one, in order
 abbrev pub with_vote : VoteValue → List VoteValue → List VoteValue
@@ -121,10 +138,6 @@ with_vote v (w ∷ ws) =
     if nat_lt w.position v.position then w ∷ with_vote v ws
     else if w.position == v.position then (if is_below w.ballot v.ballot then v else w) ∷ ws
     else v ∷ w ∷ ws
-
-abbrev pub pairs_below : ℕ → List (ℕ × Command) → ℕ
-pairs_below i [] = 0
-pairs_below i (p ∷ ps) = if nat_lt p.0 i then suc (pairs_below i ps) else 0
 
 -- the pairs with a later one, in order
 abbrev pub with_pair : ℕ × Command → List (ℕ × Command) → List (ℕ × Command)

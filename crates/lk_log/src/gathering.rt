@@ -1,9 +1,7 @@
 // Gathering what entries stand for.
-ghost use Rattle.std.specs.Prelude.{◌≡◌, ◌<◌, ◌≤◌, ◌≢◌, ◌∷◌, [], ◌++◌, List, map, false, length, get_or, OnOk, OnErr, IfOk, IfErr};
-ghost use Rattle.std.specs.List.{AllByRecursion};
-ghost use Rattle.lk_log.specs.Entries.{IsStored};
-ghost use Rattle.lk_log.specs.Images.{generation, is_misplaced};
-ghost use Rattle.lk_log.specs.Standings.{greater, greatest_of, ballot_of, votes_below, with_vote, pairs_below, with_pair, with_plain, of_base, StandsFor};
+ghost use Rattle.std.specs.Prelude.{◌≡◌, ◌≤◌, map, length, OnOk, OnErr, IfOk, IfErr};
+ghost use Rattle.lk_log.specs.Standings.{greater, greatest_of, ballot_of, votes_below, with_vote, pairs_below, with_pair, with_plain, of_base, AreVotesRising, ArePairsRising, Rises, StandsFor};
+ghost use Rattle.lk_log.specs.Stores.{MayStand};
 ghost use Rattle.lk_types.specs.declared.entry.Entry.TheVariants.{Vote as vote_entry, Decided as decided_entry};
 ghost use Rattle.lk_log.specs.declared.fault.StoreFault.TheVariants.{NoMemory as memory_fault};
 
@@ -33,21 +31,18 @@ fn greatest_of(ballot: Ballot, votes: &[Vote]) -> Ballot
 
 // How many votes of smaller positions are in front.
 fn votes_below(position: Position, votes: &[Vote]) -> usize
+    requires { AreVotesRising votes.now }
     ensures value { result ≡ votes_below position votes.now }
     ensures within { result ≤ length votes.now }
 {
-    for (i, vote) in votes.iter().enumerate() {
-        if vote.position.get() >= position.get() {
-            return i;
-        }
-    }
-    votes.len()
+    votes.partition_point(|vote| vote.position < position)
 }
 
 // Keeps a vote in its place. Of two votes at a position the one of greater ballot is kept, the earlier where they are
 // equal.
 #[tactic(auto, using(crate::proofs::InOrder::at_end, crate::proofs::InOrder::at_other, crate::proofs::InOrder::at_below, crate::proofs::InOrder::at_above))]
 fn keep_vote(votes: &mut Vec<Vote>, vote: Vote) -> Result<(), AllocFailed<Vote>>
+    requires { AreVotesRising votes.old.items }
     ensures ok { OnOk result (votes.new.items ≡ with_vote vote votes.old.items) }
     ensures err { OnErr result (votes.new.items ≡ votes.old.items) }
 {
@@ -68,15 +63,11 @@ fn keep_vote(votes: &mut Vec<Vote>, vote: Vote) -> Result<(), AllocFailed<Vote>>
 
 // How many pairs of smaller positions are in front.
 fn pairs_below(position: Position, pairs: &[(Position, Command)]) -> usize
+    requires { ArePairsRising pairs.now }
     ensures value { result ≡ pairs_below position pairs.now }
     ensures within { result ≤ length pairs.now }
 {
-    for (i, pair) in pairs.iter().enumerate() {
-        if pair.0.get() >= position.get() {
-            return i;
-        }
-    }
-    pairs.len()
+    pairs.partition_point(|pair| pair.0 < position)
 }
 
 // Keeps a decided command in its place. Of two of a position the earlier is kept.
@@ -85,6 +76,7 @@ fn keep_pair(
     pairs: &mut Vec<(Position, Command)>,
     pair: (Position, Command),
 ) -> Result<(), AllocFailed<(Position, Command)>>
+    requires { ArePairsRising pairs.old.items }
     ensures ok { OnOk result (pairs.new.items ≡ with_pair pair pairs.old.items) }
     ensures err { OnErr result (pairs.new.items ≡ pairs.old.items) }
 {
@@ -100,7 +92,9 @@ fn keep_pair(
 }
 
 // The standing of no entries.
-fn nothing(alloc: Global) -> Standing {
+fn nothing(alloc: Global) -> Standing
+    ensures { Rises result }
+{
     Standing {
         promised: Ballot::ZERO,
         position: Executed::default(),
@@ -126,11 +120,10 @@ fn of_base(base: Base) -> Standing
 }
 
 impl Standing {
-    /// Adds an entry after those that it stands for. Of two votes at a position the one of greater ballot is kept, the
-    /// earlier where they are equal, and the first decided command of a position.
-    ///
-    /// It refuses with `NoMemory` (8) alone, and then nothing has changed.
-    pub fn add(&mut self, entry: Entry) -> Result<(), StoreFault>
+    // Adds an entry after those that it stands for. Of two votes at a position the one of greater ballot is kept, the
+    // earlier where they are equal, and the first decided command of a position.
+    fn add(&mut self, entry: Entry) -> Result<(), StoreFault>
+        requires { Rises self.old }
         ensures ok { OnOk result (self.new ≡ with_plain entry self.old) }
         ensures err { OnErr result (self.new ≡ self.old) }
         ensures only { IfErr result (λ e. e ≡ memory_fault) }
@@ -146,6 +139,7 @@ impl Standing {
     }
 
     fn add_vote(&mut self, vote: Vote) -> Result<(), StoreFault>
+        requires { Rises self.old }
         ensures ok { OnOk result (self.new ≡ with_plain (vote_entry vote) self.old) }
         ensures err { OnErr result (self.new ≡ self.old) }
         ensures only { IfErr result (λ e. e ≡ memory_fault) }
@@ -159,6 +153,7 @@ impl Standing {
     }
 
     fn add_pair(&mut self, pair: (Position, Command)) -> Result<(), StoreFault>
+        requires { Rises self.old }
         ensures ok { OnOk result (self.new ≡ with_plain (decided_entry pair.0 pair.1) self.old) }
         ensures err { OnErr result (self.new ≡ self.old) }
         ensures only { IfErr result (λ e. e ≡ memory_fault) }
@@ -170,10 +165,11 @@ impl Standing {
     }
 }
 
-// What entries with a Base in front stand for.
+// What entries with a Base in front stand for. Each is put into its place by halving, so the time grows with the number
+// of entries, and with what is moved where they do not come in order.
 pub fn gather(alloc: Global, entries: Vec<Stored>) -> Result<Standing, StoreFault>
-    ensures stands { AllByRecursion IsStored entries.items → is_misplaced entries.items ≡ false → 0 < generation entries.items
-        → IfOk result (StandsFor entries.items) }
+    requires { MayStand entries.items }
+    ensures stands { IfOk result (StandsFor entries.items) }
     ensures only { IfErr result (λ e. e ≡ memory_fault) }
 {
     let mut standing = nothing(alloc);

@@ -132,12 +132,13 @@ fn open<D: LogDisk>(
     live: Side,
     file: File,
 ) -> Result<Opened, StoreFault>
+    requires { MayStand file.entries.items }
     ensures opens { D.is_honest → FoundLive (D.disk device.old) live file.entries.items file.end file.size → (zero : List ℕ)
         → IfOk result (λ o. OpensOn (seen (D.disk device.old)) header.now zero (D.disk device.new o.live) (D.disk device.new (other o.live)) o.generation o.format o.standing) }
     ensures stays { D.is_honest → FoundLive (D.disk device.old) live file.entries.items file.end file.size → (zero : List ℕ)
         → NarrowsOrBegins (D.disk device.old) (D.disk device.new) header.now zero }
     ensures room { D.is_honest → StaysWithin 0 (D.disk device.old) (D.disk device.new) }
-    ensures stands { MayStand file.entries.items → IfOk result (λ o. StandsForSome o.standing) }
+    ensures stands { IfOk result (λ o. StandsForSome o.standing) }
     ensures wrong { IsErrOf result StoreFault.WrongStore → HasHeader file.entries.items header.now → ⊥ }
     ensures wrong_stays { D.is_honest → IsErrOf result StoreFault.WrongStore → (s : Side) → D.disk device.new s ≡ D.disk device.old s }
     ensures damaged { IsErrOf result StoreFault.Damaged → ⊥ }

@@ -1,4 +1,4 @@
-use Rattle.std.proofs.Common.{◌≡◌, length, rules, arith}
+use Rattle.std.proofs.Common.{arith}
 use Rattle.std.proofs.lemmas.Bool.Decides.{nat_tests}
 use Rattle.lk_log.proofs.Metering.{none_made, one_comes, no_call_for, one_call_for}
 use Rattle.lk_log.proofs.adding.append_some.Goals as goal

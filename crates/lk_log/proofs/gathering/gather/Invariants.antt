@@ -1,5 +1,9 @@
+use Rattle.std.specs.List.{AllByRecursion}
+use Rattle.lk_log.specs.Entries.{IsStored}
+use Rattle.lk_log.specs.Standings.{Rises}
 use Rattle.lk_log.proofs.StandingLaws.{StandsSoFar}
 use Rattle.lk_log.proofs.gathering.gather.Given as goal
 
+-- what stands so far, in order, and what is left is in its range
 abbrev pub invariant-loop-entry : goal.invariant-loop-entry
-invariant-loop-entry l = StandsSoFar l.yielded l.standing
+invariant-loop-entry l = StandsSoFar l.yielded l.standing × Rises l.standing × AllByRecursion IsStored l.entry-iterator.rest.items

@@ -1,13 +1,11 @@
-use Rattle.std.proofs.Common.{◌≡◌, ◌≤◌, List, ℕ, [], sym, ◌∙◌, ap, subst, arith, rules}
+use Rattle.std.proofs.Common.{◌≡◌, List, ℕ, [], ◌∙◌, subst, arith, rules}
 use Rattle.lk_disk.specs.Disk.{Disk, other, CutShort}
 use Rattle.lk_disk.specs.declared.device.Side.{Side}
-use Rattle.lk_log.specs.Entries.{spelling}
 use Rattle.lk_log.specs.Stores.{IsWrittenOver}
-use Rattle.lk_log.specs.declared.stored.Stored.TheVariants.{Base}
 use Rattle.lk_log.proofs.RebaseLaws.{beside_live, over_keeps, front_keeps, cut_front, nothing_front, gone_over}
 use Rattle.lk_log.proofs.Room.{written_room, within_still, within_side, cut_short_room, cut_room, short_room}
 use Rattle.lk_log.proofs.rebasing.go_over.Goals as goal
-use Rattle.lk_disk.proofs.Devices.{passes_on, breaks_on, call_passes, call_breaks}
+use Rattle.lk_disk.proofs.Devices.{passes_on, call_passes}
 
 pub returns-in_err-write_over-clause-any : goal.returns-in_err-write_over-clause-any
 returns-in_err-write_over-clause-any g c honest b ks ls holds less two fits piece =

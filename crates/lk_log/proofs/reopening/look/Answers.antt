@@ -1,7 +1,7 @@
 use Rattle.std.proofs.Common.{◌∙◌, ap}
 use Rattle.lk_log.specs.Formats.{format}
 use Rattle.lk_log.specs.Images.{generation}
-use Rattle.lk_log.proofs.ImageLaws.{found_is_live, found_positive}
+use Rattle.lk_log.proofs.ImageLaws.{found_is_live}
 use Rattle.lk_log.proofs.reopening.look.Goals as goal
 
 pub returns-clause-some : goal.returns-clause-some
@@ -13,5 +13,5 @@ returns-clause-some g c honest =
       live = found_is_live old c.in-Some.field-0-0 c.in-Some.file.entries.items c.in-Some.file.end c.in-Some.file.size found;
       generation_is = c.generation_of-generation.ensures ∙ ap generation c.deref.ensures.value;
       format_is = c.format_of-format.ensures ∙ ap format c.deref-2.ensures.value;
-      stands = c.in_ok-standing.ensures.stands found.file.whole.fit found.placed (found_positive old c.in-Some.field-0-0 c.in-Some.file.entries.items c.in-Some.file.end c.in-Some.file.size found);
+      stands = c.in_ok-standing.ensures.stands;
     }

@@ -2,7 +2,7 @@ use Rattle.std.proofs.Common.{refl, inl, subst, List, rules}
 use Rattle.lk_log.specs.Standings.{HasHeader}
 use Rattle.lk_log.specs.declared.stored.Stored.{Stored}
 use Rattle.lk_log.proofs.BeginLaws.{begins_same, begins_narrows}
-use Rattle.lk_log.proofs.ImageLaws.{found_is_live, found_positive}
+use Rattle.lk_log.proofs.ImageLaws.{found_is_live}
 use Rattle.lk_log.proofs.reopening.open.Goals as goal
 use Rattle.lk_log.proofs.Room.{within_same}
 use Rattle.lk_disk.specs.Meters.{start}
@@ -30,7 +30,7 @@ returns-clause-opens g c honest found zero = record {
   header = subst (λ (l : List Stored). HasHeader l c.args.header.now) c.deref.ensures.value (c.has_header.ensures.0 (search rules));
   generation_is = search rules;
   format_is = search rules;
-  stands = c.in_ok-standing.ensures.stands found.file.whole.fit found.placed (found_positive (g.D.LogDisk.disk c.args.device.now) c.args.live c.args.file.entries.items c.args.file.end c.args.file.size found);
+  stands = c.in_ok-standing.ensures.stands;
 }
 
 pub returns-then-not-has_header-clause-room : goal.returns-then-not-has_header-clause-room

@@ -1,6 +1,0 @@
-use Rattle.std.proofs.Common.{◌≡◌, ◌+◌, drop}
-use Rattle.lk_log.specs.Standings.{votes_below}
-use Rattle.lk_log.proofs.gathering.votes_below.Given as goal
-
-abbrev pub invariant-loop-i : goal.invariant-loop-i
-invariant-loop-i l = l.i + votes_below l.position (drop l.i l.votes) ≡ votes_below l.position l.votes
