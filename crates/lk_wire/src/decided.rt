@@ -1,17 +1,27 @@
-ghost use Rattle.std.specs.Prelude.{◌≡◌, ◌≤◌, ◌+◌, ◌↔◌, IsSome, IfSome, IsTrue};
+ghost use Rattle.std.specs.Prelude.{◌≡◌, ◌∷◌, ◌≤◌, ◌+◌, ◌↔◌, [], length, IsSome, IfSome, IfOk, IsTrue};
 ghost use Rattle.std.specs.List.{AllByRecursion};
 ghost use Rattle.lk_types.specs.Commands.{IsCommand};
+ghost use Rattle.lk_wire.specs.declared.message.NodeMessage.TheVariants as kinds;
+ghost use Rattle.lk_wire.specs.FieldReading.{read_command};
+ghost use Rattle.lk_wire.specs.Parser.{Finds, made, many};
+ghost use Rattle.lk_wire.specs.Reading.{read_decided};
+ghost use Rattle.lk_wire.specs.Shown.{shown_node};
 ghost use Rattle.lk_wire.specs.Values.{IsDecided, are_commands_from, is_run};
+ghost use Rattle.lk_wire.specs.Views.{past, commands_in, AreCommands};
 
+use crate::fields::read::{read_command, read_position, read_u8};
+use crate::fields::skip::{front_of, skip_command};
+use crate::viewing::message::NodeMessageRef;
 use lk_types::limits::{MAX_COMMANDS, MAX_COUNT};
-use lk_types::{Command, Position};
+use lk_types::{Command, NoMemory, Position};
+use std::alloc::Global;
 use std::marker::Model;
 
 /// The decided commands of `first` and of the positions after it.
 #[derive(Debug, Drop)]
 pub struct Decided {
-    first: Position,
-    commands: Vec<Command>,
+    pub(crate) first: Position,
+    pub(crate) commands: Vec<Command>,
 }
 
 impl Model for Decided {
@@ -34,7 +44,7 @@ fn commands_facts(commands: &[Command])
 }
 
 /// Whether so many commands are 1 to 16, the last for a position of at most 2^48.
-pub fn is_run(first: Position, count: usize) -> bool
+fn is_run(first: Position, count: usize) -> bool
     ensures { result ≡ is_run first count }
 {
     count >= 1 && count <= MAX_COMMANDS && first.get() + count as u64 <= MAX_COUNT + 1
@@ -54,6 +64,136 @@ impl Decided {
         Some(Decided { first, commands })
     }
 
+    /// Each part is in its range, and no command lies past the last position. It does nothing.
+    pub fn facts(&self)
+        ensures { IsDecided self.now }
+    {
+        let _first = self.first;
+    }
+}
+
+/// Commands in a datagram, one after another: so many, and the bytes that spell them and nothing else. A contract sees the
+/// list of them.
+#[derive(Drop)]
+pub struct Commands<'a> {
+    count: u8,
+    bytes: &'a [u8],
+}
+
+impl<'a> Model for Commands<'a> {
+    ghost use Rattle.std.specs.Prelude.{List};
+    ghost use Rattle.lk_types.specs.declared.command.Command.{Command};
+    ghost use Rattle.lk_wire.specs.Views.{commands_in, AreCommands};
+
+    ghost Value = { List Command };
+
+    ghost view = { λ c. commands_in c.count c.bytes.now };
+
+    ghost invariant = { λ c. AreCommands c.count c.bytes.now };
+}
+
+/// What stands after so many commands.
+fn end_of(count: u8, bytes: &[u8]) -> Option<&[u8]>
+    ensures { Finds (λ x. x.now) result (past (many read_command count) bytes.now) }
+{
+    let mut rest = bytes;
+    for _ in 0..count {
+        rest = skip_command(rest)?;
+    }
+    Some(rest)
+}
+
+/// Of bytes that are so many commands: these are so many and in their ranges. It does nothing.
+fn facts_of(count: u8, bytes: &[u8])
+    ensures count { AreCommands count bytes.now → length (commands_in count bytes.now) ≡ count }
+    ensures in_range { AreCommands count bytes.now → AllByRecursion IsCommand (commands_in count bytes.now) }
+{
+    let _bytes = bytes;
+}
+
+impl<'a> Commands<'a> {
+    /// So many commands, and what stands after them.
+    fn of(count: u8, bytes: &'a [u8]) -> Option<(Commands<'a>, &'a [u8])>
+        ensures { Finds (λ x. (x.0, x.1.now)) result (many read_command count bytes.now) }
+    {
+        let rest = end_of(count, bytes)?;
+        let bytes = front_of(bytes, rest);
+        Some((Commands { count, bytes }, rest))
+    }
+
+    /// The same commands.
+    pub fn copy(&self) -> Commands<'a>
+        ensures { result ≡ self.now }
+    {
+        Commands {
+            count: self.count,
+            bytes: self.bytes,
+        }
+    }
+
+    /// How many they are.
+    pub fn len(&self) -> usize
+        ensures { result ≡ length self.now }
+    {
+        facts_of(self.count, self.bytes);
+        self.count as usize
+    }
+
+    /// The first of them, and the others.
+    pub fn next(&self) -> Option<(Command, Commands<'a>)>
+        ensures some { IfSome result (λ x. self.now ≡ x.0 ∷ x.1) }
+        ensures none { result ≡ None → self.now ≡ [] }
+    {
+        if self.count == 0 {
+            return None;
+        }
+        let Some((command, rest)) = read_command(self.bytes) else {
+            return None;
+        };
+        let others = Commands {
+            count: self.count - 1,
+            bytes: rest,
+        };
+        Some((command, others))
+    }
+
+    /// All of them, in order, as a list that owns them.
+    pub fn to_vec(&self, alloc: Global) -> Result<Vec<Command>, NoMemory>
+        ensures { IfOk result (λ cs. cs.items ≡ self.now) }
+    {
+        let mut list = Vec::new(alloc);
+        list.reserve(self.len())?;
+        let mut rest = self.copy();
+        for _ in 0..self.len() {
+            let Some((command, others)) = rest.next() else {
+                return Ok(list);
+            };
+            list.push(command)?;
+            rest = others;
+        }
+        Ok(list)
+    }
+}
+
+/// A Decided in a datagram. A contract sees what it sees of the Decided.
+#[derive(Drop)]
+pub struct DecidedRef<'a> {
+    first: Position,
+    commands: Commands<'a>,
+}
+
+impl<'a> Model for DecidedRef<'a> {
+    ghost use Rattle.std.specs.Prelude.{IsTrue};
+    ghost use Rattle.lk_wire.specs.Values.{DecidedValue, are_commands_from};
+
+    ghost Value = { DecidedValue };
+
+    ghost view = { λ d. record { first = d.first; commands = d.commands } };
+
+    ghost invariant = { λ d. IsTrue (are_commands_from d.first d.commands) };
+}
+
+impl<'a> DecidedRef<'a> {
     /// The position of the first command.
     pub fn first(&self) -> Position
         ensures { result ≡ self.now.first }
@@ -62,7 +202,7 @@ impl Decided {
     }
 
     /// The commands, in order of position.
-    pub fn commands(&self) -> &[Command]
+    pub fn commands(&self) -> &Commands<'a>
         ensures { result.now ≡ self.now.commands }
     {
         &self.commands
@@ -72,6 +212,31 @@ impl Decided {
     pub fn facts(&self)
         ensures { IsDecided self.now }
     {
-        let _first = self.first;
+        let _ = self.first.get();
+        facts_of(self.commands.count, self.commands.bytes);
     }
+
+    /// The same Decided, which owns its commands.
+    pub fn copy(&self, alloc: Global) -> Result<Decided, NoMemory>
+        ensures { IfOk result (λ d. d ≡ self.now) }
+    {
+        let commands = self.commands.to_vec(alloc)?;
+        Ok(Decided::of(self.first, commands).unwrap())
+    }
+}
+
+/// The first position, and the commands after their count.
+#[tactic(auto, unfolding(crate::specs::Reading::read_decided, crate::specs::Reading::read_commands))]
+pub fn read_decided(bytes: &[u8]) -> Option<(NodeMessageRef<'_>, &[u8])>
+    ensures { Finds (λ x. (shown_node x.0, x.1.now)) result (made kinds.Decided read_decided bytes.now) }
+{
+    if let Some((first, rest)) = read_position(bytes)
+        && let Some((count, rest)) = read_u8(rest)
+        && let Some((commands, rest)) = Commands::of(count, rest)
+        && is_run(first, commands.len())
+    {
+        let decided = DecidedRef { first, commands };
+        return Some((NodeMessageRef::Decided(decided), rest));
+    }
+    None
 }

@@ -1,7 +1,5 @@
 ghost use Rattle.std.specs.Prelude.{◌≡◌};
-ghost use Rattle.lk_wire.specs.declared.fault.ReadFault.TheVariants.{NoMemory as memory};
 
-use std::alloc::{AllocError, AllocFailed};
 use thiserror::Error;
 
 /// The bytes are no datagram: refusal 5.
@@ -26,21 +24,5 @@ impl ReadFault {
         ensures { result ≡ fault_number self }
     {
         self as u8
-    }
-}
-
-impl<T: Drop> From<AllocFailed<T>> for ReadFault {
-    ghost from_gives = { λ _ e. e ≡ memory };
-
-    fn from(_error: AllocFailed<T>) -> ReadFault {
-        ReadFault::NoMemory
-    }
-}
-
-impl From<AllocError> for ReadFault {
-    ghost from_gives = { λ _ e. e ≡ memory };
-
-    fn from(_error: AllocError) -> ReadFault {
-        ReadFault::NoMemory
     }
 }

@@ -1,20 +1,17 @@
 //! The fields of which datagrams, store entries and packed states are built, read from the front of some bytes and
 //! written after some.
 
-pub(crate) mod number;
-mod put;
-mod read;
+pub(crate) mod put;
+pub(crate) mod read;
 pub(crate) mod room;
 pub(crate) mod skip;
-pub(crate) mod value;
 
 pub use put::{
-    put_answer, put_ballot, put_client, put_command, put_executed, put_fence, put_last_fence,
-    put_mark, put_member, put_node, put_number, put_op, put_port, put_position, put_request,
-    put_u8, put_u16, put_u32, put_u64, put_vote,
+    put_answer, put_ballot, put_client, put_command, put_executed, put_fence, put_mark, put_member,
+    put_node, put_number, put_position, put_u8, put_u16, put_u32, put_u64, put_vote,
 };
 pub use read::{
-    read_answer, read_ballot, read_client, read_command, read_executed, read_fence,
-    read_last_fence, read_mark, read_member, read_node, read_number, read_op, read_port,
-    read_position, read_request, read_u8, read_u16, read_u32, read_u64, read_vote,
+    read_answer, read_ballot, read_client, read_command, read_executed, read_fence, read_mark,
+    read_member, read_node, read_number, read_op, read_position, read_u8, read_u16, read_u32,
+    read_u64, read_vote,
 };

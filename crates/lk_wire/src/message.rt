@@ -1,12 +1,133 @@
+ghost use Rattle.std.specs.Prelude.{◌≡◌, ◌<◌, ◌≤◌, ◌↔◌, IsSome, IfSome};
+ghost use Rattle.lk_types.specs.Limits.{max_base};
+ghost use Rattle.lk_wire.specs.Values.{IsPassed, IsWant};
+
 use crate::decided::Decided;
 use crate::part::Part;
-use crate::passed::Passed;
 use crate::promise::Promise;
-use crate::want::Want;
+use lk_types::limits::MAX_BASE;
 use lk_types::{
     Answer, Ballot, ClientNo, Executed, Member, NodeNo, Position, RealBallot, Request,
     RequestNumber, Vote,
 };
+use std::marker::Model;
+
+/// What a node that lies behind asks for: the commands from a position on, or, where these are gone, a snapshot from
+/// an offset on.
+#[derive(Clone, Copy, Debug, PartialEq, Eq)]
+pub struct Want {
+    first: Position,
+    offset: u32,
+}
+
+impl Model for Want {
+    ghost use Rattle.lk_wire.specs.Values.{WantValue, IsWant};
+
+    ghost Value = { WantValue };
+
+    ghost view = { λ w. record { first = w.first; offset = w.offset } };
+
+    ghost invariant = { λ w. IsWant (record { first = w.first; offset = w.offset }) };
+
+    ghost inverse = { λ w. record { first = w.first; offset = w.offset } };
+}
+
+impl Want {
+    /// The wish, or `None` where the offset is above 49,152.
+    pub fn of(first: Position, offset: u32) -> Option<Want>
+        ensures some { IsSome result ↔ (offset ≤ max_base) }
+        ensures value { IfSome result (λ w. w ≡ record { first = first; offset = offset }) }
+    {
+        let _ = first.get();
+        if offset as usize > MAX_BASE {
+            return None;
+        }
+        Some(Want { first, offset })
+    }
+
+    /// The first position that is wanted.
+    pub fn first(self) -> Position
+        ensures { result ≡ self.first }
+    {
+        self.first
+    }
+
+    /// How many bytes of a snapshot are there already.
+    pub fn offset(self) -> u32
+        ensures { result ≡ self.offset }
+    {
+        self.offset
+    }
+
+    /// Each part is in its range. It does nothing.
+    pub fn facts(self)
+        ensures { IsWant self }
+    {}
+}
+
+/// What a node tells a client whose number lies below its last one: it is never answered.
+#[derive(Clone, Copy, Debug, PartialEq, Eq)]
+pub struct Passed {
+    client: ClientNo,
+    number: RequestNumber,
+    last: RequestNumber,
+}
+
+impl Model for Passed {
+    ghost use Rattle.lk_wire.specs.Values.{PassedValue, IsPassed};
+
+    ghost Value = { PassedValue };
+
+    ghost view = { λ p. record { client = p.client; number = p.number; last = p.last } };
+
+    ghost invariant = { λ p. IsPassed (record { client = p.client; number = p.number; last = p.last }) };
+
+    ghost inverse = { λ p. record { client = p.client; number = p.number; last = p.last } };
+}
+
+impl Passed {
+    /// The news for that client and number, or `None` where the last number is not above it.
+    pub fn of(client: ClientNo, number: RequestNumber, last: RequestNumber) -> Option<Passed>
+        ensures some { IsSome result ↔ (number < last) }
+        ensures value { IfSome result (λ p. p ≡ record { client = client; number = number; last = last }) }
+    {
+        let _ = client.get();
+        if number.get() >= last.get() {
+            return None;
+        }
+        Some(Passed {
+            client,
+            number,
+            last,
+        })
+    }
+
+    /// The client that is told.
+    pub fn client(self) -> ClientNo
+        ensures { result ≡ self.client }
+    {
+        self.client
+    }
+
+    /// The number that was asked.
+    pub fn number(self) -> RequestNumber
+        ensures { result ≡ self.number }
+    {
+        self.number
+    }
+
+    /// The client's last number.
+    pub fn last(self) -> RequestNumber
+        ensures { result ≡ self.last }
+    {
+        self.last
+    }
+
+    /// Each part is in its range, and the last number above the other. It does nothing.
+    pub fn facts(self)
+        ensures { IsPassed self }
+    {}
+}
 
 /// A refusal: the ballot that was refused, the one that is promised, and how many positions its sender has executed.
 #[derive(Clone, Copy, Debug, PartialEq, Eq)]
@@ -69,33 +190,6 @@ pub struct Message {
     pub content: Content,
 }
 
-impl Nack {
-    ghost use Rattle.lk_wire.specs.Grammar.{IsNack};
-
-    /// Each part is in its range. It does nothing.
-    pub fn facts(self)
-        ensures { IsNack self }
-    {}
-}
-
-impl Answered {
-    ghost use Rattle.lk_wire.specs.Grammar.{IsAnswered};
-
-    /// Each part is in its range. It does nothing.
-    pub fn facts(self)
-        ensures { IsAnswered self }
-    {}
-}
-
-impl Elsewhere {
-    ghost use Rattle.lk_wire.specs.Grammar.{IsElsewhere};
-
-    /// Each part is in its range. It does nothing.
-    pub fn facts(self)
-        ensures { IsElsewhere self }
-    {}
-}
-
 impl NodeMessage {
     ghost use Rattle.lk_wire.specs.Grammar.{IsNodeMessage};
 
@@ -105,21 +199,27 @@ impl NodeMessage {
     {
         match self {
             NodeMessage::Prepare(ballot, first) => {
-                let _ = ballot.get();
-                let _ = first.get();
+                let _ = (ballot.get(), first.get());
             }
             NodeMessage::Promise(promise) => promise.facts(),
             NodeMessage::Accept(vote) | NodeMessage::Accepted(vote) => vote.facts(),
-            NodeMessage::Nack(nack) => nack.facts(),
+            NodeMessage::Nack(nack) => {
+                let _ = (nack.ballot.get(), nack.promised.node(), nack.executed.get());
+            }
             NodeMessage::Decided(decided) => decided.facts(),
             NodeMessage::Want(want) => want.facts(),
             NodeMessage::Part(part) => part.facts(),
-            NodeMessage::Answer(answered) => answered.facts(),
-            NodeMessage::Elsewhere(elsewhere) => elsewhere.facts(),
+            NodeMessage::Answer(answered) => {
+                let _ = (answered.client.get(), answered.number.get());
+                answered.answer.facts();
+            }
+            NodeMessage::Elsewhere(elsewhere) => {
+                let _ = (elsewhere.client.get(), elsewhere.number.get());
+                elsewhere.member.facts();
+            }
             NodeMessage::Passed(passed) => passed.facts(),
             NodeMessage::Lead(ballot, executed) => {
-                let _ = ballot.get();
-                let _ = executed.get();
+                let _ = (ballot.get(), executed.get());
             }
         }
     }

@@ -1,17 +1,25 @@
-ghost use Rattle.std.specs.Prelude.{◌≡◌, ◌↔◌, IsSome, IfSome, IsTrue};
+ghost use Rattle.std.specs.Prelude.{◌≡◌, ◌↔◌, IsSome, IfSome, IfOk, IsTrue};
+ghost use Rattle.lk_wire.specs.declared.message.NodeMessage.TheVariants as kinds;
+ghost use Rattle.lk_wire.specs.FieldReading.{read_two};
+ghost use Rattle.lk_wire.specs.Parser.{Finds, made, sized};
+ghost use Rattle.lk_wire.specs.Reading.{read_part};
+ghost use Rattle.lk_wire.specs.Shown.{shown_node};
 ghost use Rattle.lk_wire.specs.Values.{IsPart, IsWithin, LieWithin};
 
-use lk_types::Position;
+use crate::fields::read::{read_position, read_u16, read_u32};
+use crate::viewing::message::NodeMessageRef;
 use lk_types::limits::{MAX_BASE, MAX_PART};
+use lk_types::{NoMemory, Position};
+use std::alloc::Global;
 use std::marker::Model;
 
 /// A piece of a packed snapshot: the snapshot's position and length, where in it the piece stands, and its bytes.
 #[derive(Debug, Drop)]
 pub struct Part {
-    position: Position,
-    total: u32,
-    offset: u32,
-    bytes: Vec<u8>,
+    pub(crate) position: Position,
+    pub(crate) total: u32,
+    pub(crate) offset: u32,
+    pub(crate) bytes: Vec<u8>,
 }
 
 impl Model for Part {
@@ -25,7 +33,7 @@ impl Model for Part {
 }
 
 /// Whether so many bytes after the offset lie within the total, which is 1 to 49,152, and are 1 to 1,024.
-pub fn is_within(total: u32, offset: u32, length: usize) -> bool
+fn is_within(total: u32, offset: u32, length: usize) -> bool
     ensures { IsTrue result ↔ LieWithin total offset length }
 {
     total as usize <= MAX_BASE
@@ -54,6 +62,34 @@ impl Part {
         })
     }
 
+    /// Each part is in its range, and the piece within its total. It does nothing.
+    pub fn facts(&self)
+        ensures { IsPart self.now }
+    {
+        let _position = self.position;
+    }
+}
+
+/// A Part in a datagram. A contract sees what it sees of the Part.
+#[derive(Drop)]
+pub struct PartRef<'a> {
+    position: Position,
+    total: u32,
+    offset: u32,
+    bytes: &'a [u8],
+}
+
+impl<'a> Model for PartRef<'a> {
+    ghost use Rattle.lk_wire.specs.Values.{PartValue, IsWithin};
+
+    ghost Value = { PartValue };
+
+    ghost view = { λ p. record { position = p.position; total = p.total; offset = p.offset; bytes = p.bytes.now } };
+
+    ghost invariant = { λ p. IsWithin (record { position = p.position; total = p.total; offset = p.offset; bytes = p.bytes.now }) };
+}
+
+impl<'a> PartRef<'a> {
     /// The position up to which the snapshot has executed.
     pub fn position(&self) -> Position
         ensures { result ≡ self.now.position }
@@ -75,17 +111,60 @@ impl Part {
         self.offset
     }
 
-    /// The bytes of this piece.
-    pub fn bytes(&self) -> &[u8]
+    /// The bytes of this piece, in the datagram.
+    pub fn bytes(&self) -> &'a [u8]
         ensures { result.now ≡ self.now.bytes }
     {
-        &self.bytes
+        self.bytes
     }
 
     /// Each part is in its range, and the piece within its total. It does nothing.
     pub fn facts(&self)
         ensures { IsPart self.now }
     {
-        let _position = self.position;
+        let _ = self.position.get();
     }
+
+    /// The same Part, which owns its bytes.
+    pub fn copy(&self, alloc: Global) -> Result<Part, NoMemory>
+        ensures { IfOk result (λ p. p ≡ self.now) }
+    {
+        let bytes = self.bytes.to_vec(alloc)?;
+        Ok(Part::of(self.position, self.total, self.offset, bytes).unwrap())
+    }
+}
+
+/// The length of some bytes and then these.
+fn read_slice(bytes: &[u8]) -> Option<(&[u8], &[u8])>
+    ensures { Finds (λ x. (x.0.now, x.1.now)) result (sized read_two bytes.now) }
+{
+    let (length, rest) = read_u16(bytes)?;
+    let length = length as usize;
+    if rest.len() < length {
+        return None;
+    }
+    Some(rest.split_at(length))
+}
+
+/// The position, the total, the offset, and the bytes after their length.
+#[tactic(auto, unfolding(crate::specs::Reading::read_part))]
+pub fn read_part(bytes: &[u8]) -> Option<(NodeMessageRef<'_>, &[u8])>
+    ensures { Finds (λ x. (shown_node x.0, x.1.now)) result (made kinds.Part read_part bytes.now) }
+{
+    let Some((position, rest)) = read_position(bytes) else {
+        return None;
+    };
+    let (total, rest) = read_u32(rest)?;
+    let (offset, rest) = read_u32(rest)?;
+    let (bytes, rest) = read_slice(rest)?;
+    if !is_within(total, offset, bytes.len()) {
+        return None;
+    }
+    let part = PartRef {
+        position,
+        total,
+        offset,
+        bytes,
+    };
+    Some((NodeMessageRef::Part(part), rest))
 }

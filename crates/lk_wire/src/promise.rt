@@ -1,19 +1,29 @@
-ghost use Rattle.std.specs.Prelude.{◌≡◌, ◌≤◌, ◌-◌, ◌↔◌, IsSome, IfSome, IsTrue};
+ghost use Rattle.std.specs.Prelude.{◌≡◌, ◌≤◌, ◌-◌, ◌↔◌, length, IsSome, IfSome, IfOk, IsTrue};
 ghost use Rattle.std.specs.List.{AllByRecursion};
 ghost use Rattle.lk_types.specs.Votes.{IsVote};
-ghost use Rattle.lk_wire.specs.Values.{IsPromise, are_votes_from};
+ghost use Rattle.lk_wire.specs.declared.message.NodeMessage.TheVariants as kinds;
+ghost use Rattle.lk_wire.specs.FieldReading.{read_vote};
+ghost use Rattle.lk_wire.specs.Parser.{Finds, made, many};
+ghost use Rattle.lk_wire.specs.Reading.{read_promise};
+ghost use Rattle.lk_wire.specs.Shown.{shown_node};
+ghost use Rattle.lk_wire.specs.Values.{IsPromise, are_votes_above, are_votes_from};
+ghost use Rattle.lk_wire.specs.Views.{votes_in, AreVotes};
 
+use crate::fields::read::{read_ballot, read_position, read_u8, read_vote};
+use crate::fields::skip::{front_of, skip_vote};
+use crate::viewing::message::NodeMessageRef;
 use lk_types::limits::MAX_VOTES;
-use lk_types::{Position, RealBallot, Vote};
+use lk_types::{NoMemory, Position, RealBallot, Vote};
+use std::alloc::Global;
 use std::marker::Model;
 
 /// What an acceptor answers to a Prepare: it will take part in no smaller ballot, and these are the votes that it keeps
 /// from `first` on (Lamport 2001, section 2.2, phase 1b).
 #[derive(Debug, Drop)]
 pub struct Promise {
-    ballot: RealBallot,
-    first: Position,
-    votes: Vec<Vote>,
+    pub(crate) ballot: RealBallot,
+    pub(crate) first: Position,
+    pub(crate) votes: Vec<Vote>,
 }
 
 impl Model for Promise {
@@ -71,6 +81,103 @@ impl Promise {
         })
     }
 
+    /// Each part is in its range, and the votes rise from `first` on. It does nothing.
+    pub fn facts(&self)
+        ensures { IsPromise self.now }
+    {
+        let _first = self.first;
+    }
+}
+
+/// Votes in a datagram, one after another: so many, and the bytes that spell them and nothing else. A contract sees the
+/// list of them.
+#[derive(Drop)]
+pub struct Votes<'a> {
+    count: u8,
+    bytes: &'a [u8],
+}
+
+impl<'a> Model for Votes<'a> {
+    ghost use Rattle.std.specs.Prelude.{List};
+    ghost use Rattle.lk_types.specs.declared.vote.Vote.{Vote};
+    ghost use Rattle.lk_wire.specs.Views.{votes_in, AreVotes};
+
+    ghost Value = { List Vote };
+
+    ghost view = { λ v. votes_in v.count v.bytes.now };
+
+    ghost invariant = { λ v. AreVotes v.count v.bytes.now };
+}
+
+/// Whether so many votes rise strictly by position, the first above `low`, and what stands after them.
+fn end_of(count: u8, low: u64, bytes: &[u8]) -> Option<(bool, &[u8])>
+    ensures { Finds (λ x. (x.0, x.1.now)) result (made (are_votes_above low) (many read_vote count) bytes.now) }
+{
+    let mut low = low;
+    let mut rising = true;
+    let mut rest = bytes;
+    for _ in 0..count {
+        let Some(found) = skip_vote(rest) else {
+            return None;
+        };
+        let position = found.0.get();
+        rising = rising && low < position;
+        low = position;
+        rest = found.1;
+    }
+    Some((rising, rest))
+}
+
+impl<'a> Votes<'a> {
+    /// So many votes, whether they rise strictly by position, the first above `low`, and what stands after them.
+    fn of(count: u8, low: u64, bytes: &'a [u8]) -> Option<(Votes<'a>, bool, &'a [u8])>
+        ensures found { Finds (λ x. (x.0, x.2.now)) result (many read_vote count bytes.now) }
+        ensures rising { IfSome result (λ x. x.1 ≡ are_votes_above low x.0) }
+        ensures count { IfSome result (λ x. length x.0 ≡ count) }
+    {
+        let (rising, rest) = end_of(count, low, bytes)?;
+        let bytes = front_of(bytes, rest);
+        Some((Votes { count, bytes }, rising, rest))
+    }
+
+    /// All of them, in order, as a list that owns them.
+    pub fn to_vec(&self, alloc: Global) -> Result<Vec<Vote>, NoMemory>
+        ensures { IfOk result (λ vs. vs.items ≡ self.now) }
+    {
+        let (count, mut rest) = (self.count, self.bytes);
+        let mut list = Vec::new(alloc);
+        list.reserve(count as usize)?;
+        for _ in 0..count {
+            let Some((vote, after)) = read_vote(rest) else {
+                unreachable!()
+            };
+            list.push(vote)?;
+            rest = after;
+        }
+        Ok(list)
+    }
+}
+
+/// A Promise in a datagram. A contract sees what it sees of the Promise.
+#[derive(Drop)]
+pub struct PromiseRef<'a> {
+    ballot: RealBallot,
+    first: Position,
+    votes: Votes<'a>,
+}
+
+impl<'a> Model for PromiseRef<'a> {
+    ghost use Rattle.std.specs.Prelude.{IsTrue};
+    ghost use Rattle.lk_wire.specs.Values.{PromiseValue, are_votes_from};
+
+    ghost Value = { PromiseValue };
+
+    ghost view = { λ p. record { ballot = p.ballot; first = p.first; votes = p.votes } };
+
+    ghost invariant = { λ p. IsTrue (are_votes_from p.first p.votes) };
+}
+
+impl<'a> PromiseRef<'a> {
     /// The ballot that is promised.
     pub fn ballot(&self) -> RealBallot
         ensures { result ≡ self.now.ballot }
@@ -86,16 +193,40 @@ impl Promise {
     }
 
     /// The votes, rising by position.
-    pub fn votes(&self) -> &[Vote]
+    pub fn votes(&self) -> &Votes<'a>
         ensures { result.now ≡ self.now.votes }
     {
         &self.votes
     }
 
-    /// Each part is in its range, and the votes rise from `first` on. It does nothing.
-    pub fn facts(&self)
-        ensures { IsPromise self.now }
+    /// The same Promise, which owns its votes.
+    pub fn copy(&self, alloc: Global) -> Result<Promise, NoMemory>
+        ensures { IfOk result (λ p. p ≡ self.now) }
     {
-        let _first = self.first;
+        let votes = self.votes.to_vec(alloc)?;
+        Ok(Promise::of(self.ballot, self.first, votes).unwrap())
     }
+}
+
+/// The ballot, the first position, and the votes after their count.
+#[tactic(auto, unfolding(crate::specs::Reading::read_promise, crate::specs::Reading::read_votes))]
+pub fn read_promise(bytes: &[u8]) -> Option<(NodeMessageRef<'_>, &[u8])>
+    ensures { Finds (λ x. (shown_node x.0, x.1.now)) result (made kinds.Promise read_promise bytes.now) }
+{
+    // From just below `first`, so that `first` itself passes.
+    if let Some((ballot, rest)) = read_ballot(bytes)
+        && let Some((first, rest)) = read_position(rest)
+        && let Some((count, rest)) = read_u8(rest)
+        && let Some((votes, rising, rest)) = Votes::of(count, first.get() - 1, rest)
+        && count as usize <= MAX_VOTES
+        && rising
+    {
+        let promise = PromiseRef {
+            ballot,
+            first,
+            votes,
+        };
+        return Some((NodeMessageRef::Promise(promise), rest));
+    }
+    None
 }

@@ -1,31 +1,174 @@
-//! Bytes seen as a message: nothing is copied, and no memory is taken.
+//! Bytes seen as a message: nothing is copied, and no memory is taken. Bytes are read as a message by a view that is
+//! copied.
 
-ghost use Rattle.std.specs.Prelude.{◌≡◌, List, ℕ, IfOk, IsOkAnd};
-ghost use Rattle.lk_wire.specs.Grammar.{Spells};
+ghost use Rattle.std.specs.Prelude.{◌≡◌, ◌⊎◌, List, ℕ, Ok, Err, IfOk, IsOkAnd};
 ghost use Rattle.lk_wire.specs.declared.message.Message.{Message};
-ghost use Rattle.lk_wire.specs.Parser.{Finds};
-ghost use Rattle.lk_wire.specs.Reading.{node_of, read_asked, content_of, read_header, read_message, all_of};
+ghost use Rattle.lk_wire.specs.declared.message.NodeMessage.TheVariants as kinds;
+ghost use Rattle.lk_wire.specs.Grammar.{Spells};
+ghost use Rattle.lk_wire.specs.Parser.{Finds, made};
+ghost use Rattle.lk_wire.specs.Reading.{read_prepare, read_proposal, read_nack, read_want, read_answered, read_elsewhere, read_passed, read_lead, node_of, read_asked, content_of, read_header, read_message, all_of};
 ghost use Rattle.lk_wire.specs.Shown.{shown_node, shown_content, shown, LieAtTheirPlaces};
 
-pub(crate) mod commands;
-pub(crate) mod decided;
-mod front;
-mod kind;
-mod list;
+pub(crate) mod command;
 pub(crate) mod message;
-pub(crate) mod part;
-pub(crate) mod promise;
-pub(crate) mod request;
-pub(crate) mod vote;
-pub(crate) mod votes;
 
-use crate::fault::Bad;
-use crate::fields::number::{read_u8, read_u32, read_u64};
-use kind::small_of;
-use list::{read_decided, read_part, read_promise};
+use crate::decided::read_decided;
+use crate::fault::{Bad, ReadFault};
+use crate::fields::read::{
+    read_answer, read_ballot, read_client, read_executed, read_mark, read_member, read_number,
+    read_position, read_u8, read_u32, read_u64,
+};
+use crate::message::{Answered, Elsewhere, Message, Nack, Passed, Want};
+use crate::part::read_part;
+use crate::promise::read_promise;
+use command::{RequestRef, VoteRef};
 use lk_types::NodeNo;
 use message::{ContentRef, MessageRef, NodeMessageRef};
-use request::RequestRef;
+use std::alloc::Global;
+
+#[tactic(auto, unfolding(crate::specs::Reading::read_prepare))]
+fn read_prepare(bytes: &[u8]) -> Option<(NodeMessageRef<'_>, &[u8])>
+    ensures { Finds (λ x. (shown_node x.0, x.1.now)) result (read_prepare bytes.now) }
+{
+    if let Some((ballot, rest)) = read_ballot(bytes)
+        && let Some((first, rest)) = read_position(rest)
+    {
+        return Some((NodeMessageRef::Prepare(ballot, first), rest));
+    }
+    None
+}
+
+fn read_accept(bytes: &[u8]) -> Option<(NodeMessageRef<'_>, &[u8])>
+    ensures { Finds (λ x. (shown_node x.0, x.1.now)) result (made kinds.Accept read_proposal bytes.now) }
+{
+    let Some((vote, rest)) = VoteRef::of(bytes) else {
+        return None;
+    };
+    Some((NodeMessageRef::Accept(vote), rest))
+}
+
+fn read_accepted(bytes: &[u8]) -> Option<(NodeMessageRef<'_>, &[u8])>
+    ensures { Finds (λ x. (shown_node x.0, x.1.now)) result (made kinds.Accepted read_proposal bytes.now) }
+{
+    let Some((vote, rest)) = VoteRef::of(bytes) else {
+        return None;
+    };
+    Some((NodeMessageRef::Accepted(vote), rest))
+}
+
+#[tactic(auto, unfolding(crate::specs::Reading::read_nack))]
+fn read_nack(bytes: &[u8]) -> Option<(NodeMessageRef<'_>, &[u8])>
+    ensures { Finds (λ x. (shown_node x.0, x.1.now)) result (made kinds.Nack read_nack bytes.now) }
+{
+    if let Some((ballot, rest)) = read_ballot(bytes)
+        && let Some((promised, rest)) = read_mark(rest)
+        && let Some((executed, rest)) = read_executed(rest)
+    {
+        let nack = Nack {
+            ballot,
+            promised,
+            executed,
+        };
+        return Some((NodeMessageRef::Nack(nack), rest));
+    }
+    None
+}
+
+#[tactic(auto, unfolding(crate::specs::Reading::read_want))]
+fn read_want(bytes: &[u8]) -> Option<(NodeMessageRef<'_>, &[u8])>
+    ensures { Finds (λ x. (shown_node x.0, x.1.now)) result (made kinds.Want read_want bytes.now) }
+{
+    if let Some((first, rest)) = read_position(bytes)
+        && let Some((offset, rest)) = read_u32(rest)
+    {
+        return Some((NodeMessageRef::Want(Want::of(first, offset)?), rest));
+    }
+    None
+}
+
+#[tactic(auto, unfolding(crate::specs::Reading::read_answered))]
+fn read_answered(bytes: &[u8]) -> Option<(NodeMessageRef<'_>, &[u8])>
+    ensures { Finds (λ x. (shown_node x.0, x.1.now)) result (made kinds.Answer read_answered bytes.now) }
+{
+    if let Some((client, rest)) = read_client(bytes)
+        && let Some((number, rest)) = read_number(rest)
+        && let Some((answer, rest)) = read_answer(rest)
+    {
+        let answered = Answered {
+            client,
+            number,
+            answer,
+        };
+        return Some((NodeMessageRef::Answer(answered), rest));
+    }
+    None
+}
+
+#[tactic(auto, unfolding(crate::specs::Reading::read_elsewhere))]
+fn read_elsewhere(bytes: &[u8]) -> Option<(NodeMessageRef<'_>, &[u8])>
+    ensures { Finds (λ x. (shown_node x.0, x.1.now)) result (made kinds.Elsewhere read_elsewhere bytes.now) }
+{
+    if let Some((client, rest)) = read_client(bytes)
+        && let Some((number, rest)) = read_number(rest)
+        && let Some((member, rest)) = read_member(rest)
+    {
+        let elsewhere = Elsewhere {
+            client,
+            number,
+            member,
+        };
+        return Some((NodeMessageRef::Elsewhere(elsewhere), rest));
+    }
+    None
+}
+
+#[tactic(auto, unfolding(crate::specs::Reading::read_passed))]
+fn read_passed(bytes: &[u8]) -> Option<(NodeMessageRef<'_>, &[u8])>
+    ensures { Finds (λ x. (shown_node x.0, x.1.now)) result (made kinds.Passed read_passed bytes.now) }
+{
+    if let Some((client, rest)) = read_client(bytes)
+        && let Some((number, rest)) = read_number(rest)
+        && let Some((last, rest)) = read_number(rest)
+    {
+        let passed = Passed::of(client, number, last)?;
+        return Some((NodeMessageRef::Passed(passed), rest));
+    }
+    None
+}
+
+#[tactic(auto, unfolding(crate::specs::Reading::read_lead))]
+fn read_lead(bytes: &[u8]) -> Option<(NodeMessageRef<'_>, &[u8])>
+    ensures { Finds (λ x. (shown_node x.0, x.1.now)) result (read_lead bytes.now) }
+{
+    if let Some((ballot, rest)) = read_ballot(bytes)
+        && let Some((executed, rest)) = read_executed(rest)
+    {
+        return Some((NodeMessageRef::Lead(ballot, executed), rest));
+    }
+    None
+}
+
+/// What a node says, by the kind.
+#[tactic(auto, unfolding(crate::specs::Reading::node_of, crate::specs::Reading::small_of))]
+fn node_of(kind: u8, bytes: &[u8]) -> Option<(NodeMessageRef<'_>, &[u8])>
+    ensures { Finds (λ x. (shown_node x.0, x.1.now)) result (node_of kind bytes.now) }
+{
+    match kind {
+        1 => read_prepare(bytes),
+        2 => read_promise(bytes),
+        3 => read_accept(bytes),
+        4 => read_accepted(bytes),
+        5 => read_nack(bytes),
+        6 => read_decided(bytes),
+        7 => read_want(bytes),
+        8 => read_part(bytes),
+        10 => read_answered(bytes),
+        11 => read_elsewhere(bytes),
+        12 => read_passed(bytes),
+        13 => read_lead(bytes),
+        _ => None,
+    }
+}
 
 /// The kind, the cluster and the sender.
 #[tactic(auto, unfolding(crate::specs::Reading::read_header))]
@@ -43,31 +186,17 @@ fn read_header(bytes: &[u8]) -> Option<(u8, u64, u32, &[u8])>
     }
 }
 
-/// What a node says, by the kind.
-#[tactic(auto, unfolding(crate::specs::Reading::node_of))]
-fn node_of(kind: u8, bytes: &[u8]) -> Option<(NodeMessageRef<'_>, &[u8])>
-    ensures { Finds (λ x. (shown_node x.0, x.1.now)) result (node_of kind bytes.now) }
-{
-    match kind {
-        2 => read_promise(bytes),
-        6 => read_decided(bytes),
-        8 => read_part(bytes),
-        _ => small_of(kind, bytes),
-    }
-}
-
 /// A client's request, which no node sends.
 #[tactic(auto, unfolding(crate::specs::Reading::read_asked))]
 fn read_asked(sender: u32, bytes: &[u8]) -> Option<(ContentRef<'_>, &[u8])>
     ensures { Finds (λ x. (shown_content x.0, x.1.now)) result (read_asked sender bytes.now) }
 {
-    if sender != 0 {
-        return None;
+    if sender == 0
+        && let Some((request, rest)) = RequestRef::of(bytes)
+    {
+        return Some((ContentRef::Request(request), rest));
     }
-    let Some((request, rest)) = RequestRef::of(bytes) else {
-        return None;
-    };
-    Some((ContentRef::Request(request), rest))
+    None
 }
 
 /// What stands after the header.
@@ -78,9 +207,7 @@ fn content_of(kind: u8, sender: u32, bytes: &[u8]) -> Option<(ContentRef<'_>, &[
     if kind == 9 {
         return read_asked(sender, bytes);
     }
-    let Some(node) = NodeNo::of(sender) else {
-        return None;
-    };
+    let node = NodeNo::of(sender)?;
     let Some((message, rest)) = node_of(kind, bytes) else {
         return None;
     };
@@ -116,4 +243,22 @@ pub fn view(bytes: &[u8]) -> Result<MessageRef<'_>, Bad>
         return Err(Bad);
     };
     Ok(message)
+}
+
+/// The message that the bytes spell.
+pub fn read(alloc: Global, bytes: &[u8]) -> Result<Message, ReadFault>
+    // What is read is spelled so.
+    ensures found { IfOk result (λ m. Spells m bytes.now) }
+    // What is spelled so is read, unless memory was refused.
+    ensures only { (m : Message) → Spells m bytes.now → (result ≡ Ok m) ⊎ (result ≡ Err ReadFault.NoMemory) }
+    // The bytes are bad exactly where no message is spelled so.
+    ensures bad { result ≡ Err ReadFault.Bad → (m : Message) → Spells m bytes.now → ⊥ }
+{
+    let Ok(message) = view(bytes) else {
+        return Err(ReadFault::Bad);
+    };
+    match message.copy(alloc) {
+        Ok(message) => Ok(message),
+        Err(NoMemory) => Err(ReadFault::NoMemory),
+    }
 }

@@ -1,29 +1,19 @@
 ghost use Rattle.std.specs.Prelude.{◌≡◌, ◌<◌, ◌+◌, ◌*◌, ◌++◌, length, OnOk, OnErr};
-ghost use Rattle.lk_wire.specs.Rooms.{UsesRoom, mark_room, member_room, command_room, vote_room, answer_room, header_room, node_fields_room, fields_room};
-ghost use Rattle.lk_wire.specs.Grammar.{prepare, votes, promise, proposal, nack, commands, decided, want, part, answered, elsewhere, passed, lead, node_kind, node_fields, fields, header, kind, spelling, Spells};
+ghost use Rattle.lk_wire.specs.Rooms.{UsesRoom, mark_room, command_room, vote_room, header_room, node_fields_room, fields_room};
+ghost use Rattle.lk_wire.specs.Grammar.{votes, promise, proposal, nack, commands, decided, part, node_kind, node_fields, fields, header, kind, spelling, Spells};
 
 use crate::decided::Decided;
+use crate::fields::put::put_request;
 use crate::fields::{
     put_answer, put_ballot, put_client, put_command, put_executed, put_mark, put_member,
-    put_number, put_position, put_request, put_u8, put_u16, put_u32, put_u64, put_vote, room,
+    put_number, put_position, put_u8, put_u16, put_u32, put_u64, put_vote, room,
 };
-use crate::message::{Answered, Content, Elsewhere, Message, Nack, NodeMessage};
+use crate::message::{Content, Message, Nack, NodeMessage};
 use crate::part::Part;
-use crate::passed::Passed;
 use crate::promise::Promise;
-use crate::want::Want;
 use bytes::{BufMut, BytesMut};
-use lk_types::{Command, Executed, NoMemory, Position, RealBallot, Vote};
+use lk_types::{Command, NoMemory, Vote};
 use std::alloc::AllocError;
-
-fn put_prepare(out: &mut BytesMut, ballot: RealBallot, first: Position) -> Result<(), AllocError>
-    ensures ok { OnOk result (out.new.items ≡ out.old.items ++ prepare ballot first) }
-    ensures room { UsesRoom result out.old.spare out.new.spare (mark_room + 8) }
-{
-    put_ballot(out, ballot)?;
-    put_position(out, first)?;
-    Ok(())
-}
 
 fn put_votes(out: &mut BytesMut, list: &[Vote]) -> Result<(), AllocError>
     requires { length list.now < 256 }
@@ -42,10 +32,9 @@ fn put_promise(out: &mut BytesMut, value: &Promise) -> Result<(), AllocError>
     ensures room { UsesRoom result out.old.spare out.new.spare (mark_room + 8 + 1 + vote_room * length value.now.votes) }
 {
     value.facts();
-    put_ballot(out, value.ballot())?;
-    put_position(out, value.first())?;
-    put_votes(out, value.votes())?;
-    Ok(())
+    put_ballot(out, value.ballot)?;
+    put_position(out, value.first)?;
+    put_votes(out, &value.votes)
 }
 
 fn put_proposal(out: &mut BytesMut, value: &Vote) -> Result<(), AllocError>
@@ -54,8 +43,7 @@ fn put_proposal(out: &mut BytesMut, value: &Vote) -> Result<(), AllocError>
 {
     put_ballot(out, value.ballot)?;
     put_position(out, value.position)?;
-    put_command(out, &value.command)?;
-    Ok(())
+    put_command(out, &value.command)
 }
 
 fn put_nack(out: &mut BytesMut, value: &Nack) -> Result<(), AllocError>
@@ -64,8 +52,7 @@ fn put_nack(out: &mut BytesMut, value: &Nack) -> Result<(), AllocError>
 {
     put_ballot(out, value.ballot)?;
     put_mark(out, value.promised)?;
-    put_executed(out, value.executed)?;
-    Ok(())
+    put_executed(out, value.executed)
 }
 
 fn put_commands(out: &mut BytesMut, list: &[Command]) -> Result<(), AllocError>
@@ -85,18 +72,8 @@ fn put_decided(out: &mut BytesMut, value: &Decided) -> Result<(), AllocError>
     ensures room { UsesRoom result out.old.spare out.new.spare (8 + 1 + command_room * length value.now.commands) }
 {
     value.facts();
-    put_position(out, value.first())?;
-    put_commands(out, value.commands())?;
-    Ok(())
-}
-
-fn put_want(out: &mut BytesMut, value: &Want) -> Result<(), AllocError>
-    ensures ok { OnOk result (out.new.items ≡ out.old.items ++ want value.now) }
-    ensures room { UsesRoom result out.old.spare out.new.spare (8 + 4) }
-{
-    put_position(out, value.first())?;
-    put_u32(out, value.offset())?;
-    Ok(())
+    put_position(out, value.first)?;
+    put_commands(out, &value.commands)
 }
 
 fn put_part(out: &mut BytesMut, value: &Part) -> Result<(), AllocError>
@@ -104,52 +81,12 @@ fn put_part(out: &mut BytesMut, value: &Part) -> Result<(), AllocError>
     ensures room { UsesRoom result out.old.spare out.new.spare (8 + 4 + 4 + 2 + length value.now.bytes) }
 {
     value.facts();
-    let bytes = value.bytes();
-    put_position(out, value.position())?;
-    put_u32(out, value.total())?;
-    put_u32(out, value.offset())?;
+    let bytes = &value.bytes;
+    put_position(out, value.position)?;
+    put_u32(out, value.total)?;
+    put_u32(out, value.offset)?;
     put_u16(out, bytes.len() as u16)?;
-    out.put_slice(bytes)?;
-    Ok(())
-}
-
-fn put_answered(out: &mut BytesMut, value: &Answered) -> Result<(), AllocError>
-    ensures ok { OnOk result (out.new.items ≡ out.old.items ++ answered value.now) }
-    ensures room { UsesRoom result out.old.spare out.new.spare (2 + 8 + answer_room) }
-{
-    put_client(out, value.client)?;
-    put_number(out, value.number)?;
-    put_answer(out, value.answer)?;
-    Ok(())
-}
-
-fn put_elsewhere(out: &mut BytesMut, value: &Elsewhere) -> Result<(), AllocError>
-    ensures ok { OnOk result (out.new.items ≡ out.old.items ++ elsewhere value.now) }
-    ensures room { UsesRoom result out.old.spare out.new.spare (2 + 8 + member_room) }
-{
-    put_client(out, value.client)?;
-    put_number(out, value.number)?;
-    put_member(out, value.member)?;
-    Ok(())
-}
-
-fn put_passed(out: &mut BytesMut, value: &Passed) -> Result<(), AllocError>
-    ensures ok { OnOk result (out.new.items ≡ out.old.items ++ passed value.now) }
-    ensures room { UsesRoom result out.old.spare out.new.spare (2 + 8 + 8) }
-{
-    put_client(out, value.client())?;
-    put_number(out, value.number())?;
-    put_number(out, value.last())?;
-    Ok(())
-}
-
-fn put_lead(out: &mut BytesMut, ballot: RealBallot, executed: Executed) -> Result<(), AllocError>
-    ensures ok { OnOk result (out.new.items ≡ out.old.items ++ lead ballot executed) }
-    ensures room { UsesRoom result out.old.spare out.new.spare (mark_room + 8) }
-{
-    put_ballot(out, ballot)?;
-    put_executed(out, executed)?;
-    Ok(())
+    out.put_slice(bytes)
 }
 
 /// The byte that says which message it is.
@@ -177,17 +114,38 @@ fn put_node_fields(out: &mut BytesMut, message: &NodeMessage) -> Result<(), Allo
     ensures room { UsesRoom result out.old.spare out.new.spare (node_fields_room message.now) }
 {
     match message {
-        NodeMessage::Prepare(ballot, first) => put_prepare(out, *ballot, *first),
+        NodeMessage::Prepare(ballot, first) => {
+            put_ballot(out, *ballot)?;
+            put_position(out, *first)
+        }
         NodeMessage::Promise(promise) => put_promise(out, promise),
         NodeMessage::Accept(vote) | NodeMessage::Accepted(vote) => put_proposal(out, vote),
         NodeMessage::Nack(nack) => put_nack(out, nack),
         NodeMessage::Decided(decided) => put_decided(out, decided),
-        NodeMessage::Want(want) => put_want(out, want),
+        NodeMessage::Want(want) => {
+            put_position(out, want.first())?;
+            put_u32(out, want.offset())
+        }
         NodeMessage::Part(part) => put_part(out, part),
-        NodeMessage::Answer(answered) => put_answered(out, answered),
-        NodeMessage::Elsewhere(elsewhere) => put_elsewhere(out, elsewhere),
-        NodeMessage::Passed(passed) => put_passed(out, passed),
-        NodeMessage::Lead(ballot, executed) => put_lead(out, *ballot, *executed),
+        NodeMessage::Answer(answered) => {
+            put_client(out, answered.client)?;
+            put_number(out, answered.number)?;
+            put_answer(out, answered.answer)
+        }
+        NodeMessage::Elsewhere(elsewhere) => {
+            put_client(out, elsewhere.client)?;
+            put_number(out, elsewhere.number)?;
+            put_member(out, elsewhere.member)
+        }
+        NodeMessage::Passed(passed) => {
+            put_client(out, passed.client())?;
+            put_number(out, passed.number())?;
+            put_number(out, passed.last())
+        }
+        NodeMessage::Lead(ballot, executed) => {
+            put_ballot(out, *ballot)?;
+            put_executed(out, *executed)
+        }
     }
 }
 
@@ -197,8 +155,7 @@ fn put_header(out: &mut BytesMut, kind: u8, cluster: u64, sender: u32) -> Result
 {
     out.put_slice(&[0x4c, 0x4b, 1, kind])?;
     put_u64(out, cluster)?;
-    put_u32(out, sender)?;
-    Ok(())
+    put_u32(out, sender)
 }
 
 fn put_message(out: &mut BytesMut, message: &Message) -> Result<(), AllocError>
@@ -227,15 +184,15 @@ fn room_of(content: &Content) -> usize
         Content::Request(_) => room::REQUEST,
         Content::Node(_, NodeMessage::Promise(promise)) => {
             promise.facts();
-            room::MARK + 8 + 1 + room::VOTE * promise.votes().len()
+            room::MARK + 8 + 1 + room::VOTE * promise.votes.len()
         }
         Content::Node(_, NodeMessage::Decided(decided)) => {
             decided.facts();
-            8 + 1 + room::COMMAND * decided.commands().len()
+            8 + 1 + room::COMMAND * decided.commands.len()
         }
         Content::Node(_, NodeMessage::Part(part)) => {
             part.facts();
-            8 + 4 + 4 + 2 + part.bytes().len()
+            8 + 4 + 4 + 2 + part.bytes.len()
         }
         Content::Node(_, _) => room::VOTE,
     }

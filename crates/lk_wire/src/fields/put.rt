@@ -5,7 +5,7 @@ ghost use Rattle.std.specs.Prelude.{◌≡◌, ◌++◌, OnOk, OnErr};
 ghost use Rattle.lk_wire.specs.Fields.{one, two, four, eight, ballot, member, payload, op, request, command, vote, answer, answer_fields, answer_tag};
 ghost use Rattle.lk_wire.specs.Rooms.{UsesRoom, mark_room, member_room, payload_room, op_room, request_room, command_room, vote_room, held_room, answer_room};
 
-use crate::fields::room::{ANSWER, COMMAND, MARK, MEMBER, OP, REQUEST, VOTE};
+use crate::fields::room::{ANSWER, COMMAND, MARK, MEMBER, VOTE};
 use bytes::{BufMut, BytesMut};
 use lk_types::{
     Answer, Ballot, ClientNo, Command, Executed, Fence, LastFence, Member, NodeNo, Op, Payload,
@@ -70,15 +70,6 @@ pub fn put_client(out: &mut BytesMut, client: ClientNo) -> Result<(), AllocError
     put_u16(out, client.get())
 }
 
-/// Writes a port in two bytes.
-pub fn put_port(out: &mut BytesMut, port: Port) -> Result<(), AllocError>
-    ensures ok { OnOk result (out.new.items ≡ out.old.items ++ two port) }
-    ensures err { OnErr result (out.new.items ≡ out.old.items) }
-    ensures room { UsesRoom result out.old.spare out.new.spare 2 }
-{
-    put_u16(out, port.get())
-}
-
 /// Writes a position in eight bytes.
 pub fn put_position(out: &mut BytesMut, position: Position) -> Result<(), AllocError>
     ensures ok { OnOk result (out.new.items ≡ out.old.items ++ eight position) }
@@ -106,15 +97,6 @@ pub fn put_fence(out: &mut BytesMut, fence: Fence) -> Result<(), AllocError>
     put_u64(out, fence.get())
 }
 
-/// Writes a last fence in eight bytes, 0 where there is none.
-pub fn put_last_fence(out: &mut BytesMut, last: LastFence) -> Result<(), AllocError>
-    ensures ok { OnOk result (out.new.items ≡ out.old.items ++ eight last) }
-    ensures err { OnErr result (out.new.items ≡ out.old.items) }
-    ensures room { UsesRoom result out.old.spare out.new.spare 8 }
-{
-    put_u64(out, last.get())
-}
-
 /// Writes how many positions are executed, in eight bytes.
 pub fn put_executed(out: &mut BytesMut, executed: Executed) -> Result<(), AllocError>
     ensures ok { OnOk result (out.new.items ≡ out.old.items ++ eight executed) }
@@ -132,8 +114,7 @@ pub fn put_mark(out: &mut BytesMut, value: Ballot) -> Result<(), AllocError>
 {
     out.reserve(MARK)?;
     put_u64(out, value.round())?;
-    put_u32(out, value.node())?;
-    Ok(())
+    put_u32(out, value.node())
 }
 
 /// Writes a ballot: its round and its node.
@@ -153,8 +134,7 @@ pub fn put_member(out: &mut BytesMut, value: Member) -> Result<(), AllocError>
 {
     out.reserve(MEMBER)?;
     put_node(out, value.node)?;
-    put_port(out, value.port)?;
-    Ok(())
+    put_u16(out, value.port.get())
 }
 
 /// Writes the length of a payload in one byte, and its bytes.
@@ -164,17 +144,14 @@ fn put_payload(out: &mut BytesMut, value: &Payload) -> Result<(), AllocError>
 {
     let bytes = value.as_slice();
     put_u8(out, bytes.len() as u8)?;
-    out.put_slice(bytes)?;
-    Ok(())
+    out.put_slice(bytes)
 }
 
 /// Writes an op after a byte that says which it is.
-pub fn put_op(out: &mut BytesMut, value: &Op) -> Result<(), AllocError>
+fn put_op(out: &mut BytesMut, value: &Op) -> Result<(), AllocError>
     ensures ok { OnOk result (out.new.items ≡ out.old.items ++ op value.now) }
-    ensures err { OnErr result (out.new.items ≡ out.old.items) }
     ensures room { UsesRoom result out.old.spare out.new.spare op_room }
 {
-    out.reserve(OP)?;
     match value {
         Op::Table(payload) => {
             put_u8(out, 0)?;
@@ -183,7 +160,7 @@ pub fn put_op(out: &mut BytesMut, value: &Op) -> Result<(), AllocError>
         Op::Join(node, port) => {
             put_u8(out, 1)?;
             put_node(out, *node)?;
-            put_port(out, *port)?;
+            put_u16(out, port.get())?;
         }
         Op::Leave(node) => {
             put_u8(out, 2)?;
@@ -200,14 +177,11 @@ pub fn put_op(out: &mut BytesMut, value: &Op) -> Result<(), AllocError>
 /// Writes a client, a number and an op.
 pub fn put_request(out: &mut BytesMut, value: &Request) -> Result<(), AllocError>
     ensures ok { OnOk result (out.new.items ≡ out.old.items ++ request value.now) }
-    ensures err { OnErr result (out.new.items ≡ out.old.items) }
     ensures room { UsesRoom result out.old.spare out.new.spare request_room }
 {
-    out.reserve(REQUEST)?;
     put_client(out, value.client)?;
     put_number(out, value.number)?;
-    put_op(out, &value.op)?;
-    Ok(())
+    put_op(out, &value.op)
 }
 
 /// Writes a command after a byte that says whether it is a request.
@@ -236,8 +210,7 @@ pub fn put_vote(out: &mut BytesMut, value: &Vote) -> Result<(), AllocError>
     out.reserve(VOTE)?;
     put_position(out, value.position)?;
     put_ballot(out, value.ballot)?;
-    put_command(out, &value.command)?;
-    Ok(())
+    put_command(out, &value.command)
 }
 
 /// The byte that says which answer it is.
@@ -281,27 +254,12 @@ fn put_answer_fields(out: &mut BytesMut, value: &Answer) -> Result<(), AllocErro
             put_client(out, *holder)?;
             put_fence(out, *fence)?;
         }
-        Answer::Free(fence) => put_last_fence(out, *fence)?,
+        Answer::Free(fence) => put_u64(out, fence.get())?,
         Answer::HeldShared(count, fence) => {
             put_u8(out, count.get())?;
             put_fence(out, *fence)?;
         }
-        Answer::Released
-        | Answer::NotHeld
-        | Answer::Valid
-        | Answer::Stale
-        | Answer::NoRoom
-        | Answer::Bad
-        | Answer::Spent
-        | Answer::Broken
-        | Answer::Joined
-        | Answer::Used
-        | Answer::Full
-        | Answer::Left
-        | Answer::NotMember
-        | Answer::Last
-        | Answer::Raised
-        | Answer::AlreadyRaised => {}
+        _ => {}
     }
     Ok(())
 }
@@ -314,6 +272,5 @@ pub fn put_answer(out: &mut BytesMut, value: Answer) -> Result<(), AllocError>
 {
     out.reserve(ANSWER)?;
     put_u8(out, tag_of(&value))?;
-    put_answer_fields(out, &value)?;
-    Ok(())
+    put_answer_fields(out, &value)
 }

@@ -1,11 +1,12 @@
 // Fields that are stepped over: they are what they are read as, and nothing is built.
-ghost use Rattle.std.specs.Prelude.{◌≡◌};
+ghost use Rattle.std.specs.Prelude.{◌≡◌, ◌-◌, length, take};
 ghost use Rattle.lk_wire.specs.Parser.{Finds, made};
 ghost use Rattle.lk_wire.specs.FieldReading.{read_payload, read_op, read_request, read_command, read_vote};
 ghost use Rattle.lk_wire.specs.Views.{past};
 
-use crate::fields::number::{read_client, read_node, read_number, read_position, read_u8};
-use crate::fields::value::{read_ballot, read_member};
+use crate::fields::read::{
+    read_ballot, read_client, read_member, read_node, read_number, read_position, read_u8,
+};
 use lk_types::Position;
 use lk_types::limits::MAX_PAYLOAD;
 
@@ -53,13 +54,12 @@ fn skip_op(bytes: &[u8]) -> Option<&[u8]>
 pub fn skip_request(bytes: &[u8]) -> Option<&[u8]>
     ensures { Finds (λ x. x.now) result (past read_request bytes.now) }
 {
-    let Some((_, rest)) = read_client(bytes) else {
-        return None;
-    };
-    let Some((_, rest)) = read_number(rest) else {
-        return None;
-    };
-    skip_op(rest)
+    if let Some((_, rest)) = read_client(bytes)
+        && let Some((_, rest)) = read_number(rest)
+    {
+        return skip_op(rest);
+    }
+    None
 }
 
 /// What stands after a command.
@@ -80,14 +80,18 @@ pub fn skip_command(bytes: &[u8]) -> Option<&[u8]>
 pub fn skip_vote(bytes: &[u8]) -> Option<(Position, &[u8])>
     ensures { Finds (λ x. (x.0, x.1.now)) result (made (λ v. v.position) read_vote bytes.now) }
 {
-    let Some((position, rest)) = read_position(bytes) else {
-        return None;
-    };
-    let Some((_, rest)) = read_ballot(rest) else {
-        return None;
-    };
-    let Some(rest) = skip_command(rest) else {
-        return None;
-    };
-    Some((position, rest))
+    if let Some((position, rest)) = read_position(bytes)
+        && let Some((_, rest)) = read_ballot(rest)
+        && let Some(rest) = skip_command(rest)
+    {
+        return Some((position, rest));
+    }
+    None
+}
+
+/// The bytes in front of what is left of them.
+pub fn front_of<'a>(bytes: &'a [u8], rest: &[u8]) -> &'a [u8]
+    ensures { result.now ≡ take (length bytes.now - length rest.now) bytes.now }
+{
+    bytes.split_at(bytes.len().saturating_sub(rest.len())).0
 }

@@ -1,14 +1,11 @@
 ghost use Rattle.std.specs.Prelude.{◌≡◌, IfOk};
 ghost use Rattle.lk_wire.specs.Shown.{shown_node, shown_content, shown};
 
-use crate::message::{Answered, Content, Elsewhere, Message, Nack, NodeMessage};
-use crate::passed::Passed;
-use crate::viewing::decided::DecidedRef;
-use crate::viewing::part::PartRef;
-use crate::viewing::promise::PromiseRef;
-use crate::viewing::request::RequestRef;
-use crate::viewing::vote::VoteRef;
-use crate::want::Want;
+use crate::decided::DecidedRef;
+use crate::message::{Answered, Content, Elsewhere, Message, Nack, NodeMessage, Passed, Want};
+use crate::part::PartRef;
+use crate::promise::PromiseRef;
+use crate::viewing::command::{RequestRef, VoteRef};
 use lk_types::{Executed, NoMemory, NodeNo, Position, RealBallot};
 use std::alloc::Global;
 
@@ -72,13 +69,10 @@ impl<'a> ContentRef<'a> {
     pub fn copy(&self, alloc: Global) -> Result<Content, NoMemory>
         ensures { IfOk result (λ c. c ≡ shown_content self.now) }
     {
-        match self {
-            ContentRef::Request(request) => Ok(Content::Request(request.request())),
-            ContentRef::Node(node, message) => {
-                let message = message.copy(alloc)?;
-                Ok(Content::Node(*node, message))
-            }
-        }
+        Ok(match self {
+            ContentRef::Request(request) => Content::Request(request.request()),
+            ContentRef::Node(node, message) => Content::Node(*node, message.copy(alloc)?),
+        })
     }
 }
 

@@ -1,0 +1,15 @@
+use Rattle.std.proofs.Common.{arith}
+use Rattle.lk_wire.specs.FieldReading.{read_command}
+use Rattle.lk_wire.proofs.FieldLaws.{command_reads}
+use Rattle.lk_wire.proofs.Walks.{cut, stepped}
+use Rattle.lk_wire.proofs.viewing.command.cut_command.Goals as goal
+
+pub returns-clause-one : goal.returns-clause-one
+returns-clause-one c =
+    let a = stepped read_command c.args.bytes.now c.in_ok-rest.rest.now c.in_ok-rest.ensures in
+    (cut read_command _ _ command_reads _ a.0 c.args.bytes.now c.in_ok-rest.rest.now c.front_of.result.now (λ i. omega (arith, c.type_inv.bytes i)) a.1 c.front_of.ensures).0
+
+pub returns-clause-read : goal.returns-clause-read
+returns-clause-read c =
+    let a = stepped read_command c.args.bytes.now c.in_ok-rest.rest.now c.in_ok-rest.ensures in
+    (cut read_command _ _ command_reads _ a.0 c.args.bytes.now c.in_ok-rest.rest.now c.front_of.result.now (λ i. omega (arith, c.type_inv.bytes i)) a.1 c.front_of.ensures).1

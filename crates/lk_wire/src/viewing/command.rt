@@ -1,0 +1,118 @@
+ghost use Rattle.std.specs.Prelude.{◌≡◌, IfSome};
+ghost use Rattle.lk_types.specs.Commands.{IsRequest};
+ghost use Rattle.lk_types.specs.Votes.{IsVote};
+ghost use Rattle.lk_wire.specs.FieldReading.{read_request, read_command};
+ghost use Rattle.lk_wire.specs.Parser.{Finds};
+ghost use Rattle.lk_wire.specs.Reading.{read_proposal};
+ghost use Rattle.lk_wire.specs.Views.{command_in, IsOneCommand};
+
+use crate::fields::read::{read_ballot, read_command, read_position, read_request};
+use crate::fields::skip::{front_of, skip_command, skip_request};
+use lk_types::{Position, RealBallot, Request, Vote};
+use std::marker::Model;
+
+/// A client's request in a datagram: the bytes that spell it and nothing else. A contract sees the request.
+#[derive(Drop)]
+pub struct RequestRef<'a> {
+    bytes: &'a [u8],
+}
+
+impl<'a> Model for RequestRef<'a> {
+    ghost use Rattle.lk_types.specs.declared.command.Request.{Request};
+    ghost use Rattle.lk_wire.specs.Views.{request_in, IsOneRequest};
+
+    ghost Value = { Request };
+
+    ghost view = { λ r. request_in r.bytes.now };
+
+    ghost invariant = { λ r. IsOneRequest r.bytes.now };
+}
+
+impl<'a> RequestRef<'a> {
+    /// The request at the front of some bytes, and what stands after it.
+    pub(crate) fn of(bytes: &'a [u8]) -> Option<(RequestRef<'a>, &'a [u8])>
+        ensures { Finds (λ x. (x.0, x.1.now)) result (read_request bytes.now) }
+    {
+        let rest = skip_request(bytes)?;
+        let bytes = front_of(bytes, rest);
+        Some((RequestRef { bytes }, rest))
+    }
+
+    /// The request.
+    pub fn request(&self) -> Request
+        ensures value { result ≡ self.now }
+        ensures in_range { IsRequest self.now }
+    {
+        let Some((request, _)) = read_request(self.bytes) else {
+            unreachable!()
+        };
+        request
+    }
+}
+
+/// What an Accept proposes or an Accepted tells, in a datagram, its command as the bytes that spell it and nothing else. A
+/// contract sees the vote.
+#[derive(Drop)]
+pub struct VoteRef<'a> {
+    position: Position,
+    ballot: RealBallot,
+    command: &'a [u8],
+}
+
+impl<'a> Model for VoteRef<'a> {
+    ghost use Rattle.lk_types.specs.declared.vote.Vote.{Vote};
+    ghost use Rattle.lk_wire.specs.Views.{command_in, IsOneCommand};
+
+    ghost Value = { Vote };
+
+    ghost view = { λ v. record { position = v.position; ballot = v.ballot; command = command_in v.command.now } };
+
+    ghost invariant = { λ v. IsOneCommand v.command.now };
+}
+
+/// The bytes of the command at the front of some bytes, and what stands after it.
+fn cut_command(bytes: &[u8]) -> Option<(&[u8], &[u8])>
+    ensures read { Finds (λ x. (command_in x.0.now, x.1.now)) result (read_command bytes.now) }
+    ensures one { IfSome result (λ x. IsOneCommand x.0.now) }
+{
+    let rest = skip_command(bytes)?;
+    Some((front_of(bytes, rest), rest))
+}
+
+impl<'a> VoteRef<'a> {
+    /// A ballot, a position and a command, and what stands after them.
+    #[tactic(auto, unfolding(crate::specs::Reading::read_proposal))]
+    pub(crate) fn of(bytes: &'a [u8]) -> Option<(VoteRef<'a>, &'a [u8])>
+        ensures { Finds (λ x. (x.0, x.1.now)) result (read_proposal bytes.now) }
+    {
+        if let Some((ballot, rest)) = read_ballot(bytes)
+            && let Some((position, rest)) = read_position(rest)
+            && let Some((command, rest)) = cut_command(rest)
+        {
+            let vote = VoteRef {
+                position,
+                ballot,
+                command,
+            };
+            return Some((vote, rest));
+        }
+        None
+    }
+
+    /// The vote.
+    pub fn vote(&self) -> Vote
+        ensures value { result ≡ self.now }
+        ensures in_range { IsVote self.now }
+    {
+        let (position, ballot) = (self.position, self.ballot);
+        let Some((command, _)) = read_command(self.command) else {
+            unreachable!()
+        };
+        let _ = (position.get(), ballot.get());
+        Vote {
+            position,
+            ballot,
+            command,
+        }
+    }
+}
