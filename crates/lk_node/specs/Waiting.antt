@@ -16,14 +16,22 @@ next_members (set ∷ sets) = set
 abbrev pub place_of : NodeValue → Option ℕ
 place_of node = position (λ m. m.node == node.header.node) (next_members node.learner.whole.roster.sets)
 
--- so many ticks are enough at this place: four, and four more for each member in front
+-- the first member waits so many ticks for a leader before it begins a ballot, and each other one so many more than the one in front of it
+abbrev pub ticks_a_place : ℕ
+ticks_a_place = 4
+
+-- so long waits the last of seven members, and no more ticks are counted
+abbrev pub max_ticks : ℕ
+max_ticks = 28
+
+-- so many ticks are enough at this place
 abbrev pub is_enough : ℕ → Option ℕ → Bool
 is_enough ticks None = false
-is_enough ticks (Some place) = nat_le (4 + 4 * place) ticks
+is_enough ticks (Some place) = nat_le (ticks_a_place + ticks_a_place * place) ticks
 
 -- one more tick has passed
 abbrev pub ticked : NodeValue → NodeValue
-ticked node = record node { ticks = min (node.ticks + 1) 28 }
+ticked node = record node { ticks = min (node.ticks + 1) max_ticks }
 
 -- Where it has waited long enough, and the round can be raised, the node begins its next ballot.
 abbrev pub BeginsWhereDue : NodeValue → NodeValue → OutboxValue → Type 0

@@ -7,9 +7,10 @@ ghost use Rattle.lk_node.specs.Nearness.{AreNear};
 ghost use Rattle.lk_node.specs.Outboxes.{nothing, with_letter};
 ghost use Rattle.lk_node.specs.Saying.{saying, to_node, port_or_none};
 
-use crate::clock::{SeenRound, TickCount};
 use crate::letter::Letter;
 use crate::outbox::Outbox;
+use crate::seen_round::SeenRound;
+use crate::tick_count::TickCount;
 use crate::to::To;
 use bytes::BytesMut;
 use lk_acceptor::Acceptor;

@@ -8,6 +8,7 @@ ghost use Rattle.lk_node.specs.Waiting.{place_of, is_enough, ticked, BeginsWhere
 
 use crate::node::Node;
 use crate::outbox::Outbox;
+use crate::tick_count::TICKS_A_PLACE;
 use lk_state::Machine;
 use lk_types::NoMemory;
 
@@ -25,9 +26,9 @@ impl<M: Machine> Node<M> {
     fn is_due(&self) -> bool
         ensures { result ≡ is_enough self.now.ticks (place_of self.now) }
     {
-        let ticks = usize::from(self.ticks.get());
+        let ticks = self.ticks.get();
         match self.place() {
-            Some(place) => ticks >= 4 && place <= (ticks - 4) / 4,
+            Some(place) => ticks >= TICKS_A_PLACE && place < usize::from(ticks / TICKS_A_PLACE),
             None => false,
         }
     }

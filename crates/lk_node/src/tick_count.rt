@@ -1,0 +1,63 @@
+// How many ticks have passed since a leader was heard.
+ghost use Rattle.std.specs.Prelude.{◌≡◌, ◌+◌, ◌≤◌, min};
+ghost use Rattle.lk_node.specs.Waiting.{max_ticks};
+
+use std::marker::Model;
+
+/// So many ticks the first member waits for a leader before it begins a ballot, and each other member so many more than the
+/// one in front of it: they seldom begin at once.
+pub const TICKS_A_PLACE: u8 = 4;
+
+// So long waits the last of seven members, the most that there are, so no more are counted.
+const MAX_TICKS: u8 = 28;
+
+/// How many ticks have passed since a leader was heard: 0 to 28, where the count stays.
+#[derive(Clone, Copy, Debug, PartialEq, Eq)]
+pub struct TickCount {
+    count: u8,
+}
+
+impl Model for TickCount {
+    ghost use Rattle.std.specs.Prelude.{ℕ, ◌≤◌};
+
+    ghost Value = { ℕ };
+
+    ghost view = { λ t. t.count };
+
+    ghost inverse = { λ n. record { count = n } };
+
+    ghost invariant = { λ t. t.count ≤ 28 };
+}
+
+impl TickCount {
+    /// No tick has passed.
+    pub fn new() -> TickCount
+        ensures { result ≡ 0 }
+    {
+        TickCount { count: 0 }
+    }
+
+    /// One more tick has passed.
+    pub fn rise(&mut self)
+        ensures { self.new ≡ min (self.old + 1) max_ticks }
+    {
+        if self.count < MAX_TICKS {
+            self.count += 1;
+        }
+    }
+
+    /// A leader was heard.
+    pub fn reset(&mut self)
+        ensures { self.new ≡ 0 }
+    {
+        self.count = 0;
+    }
+
+    /// The count.
+    pub fn get(&self) -> u8
+        ensures value { result ≡ self.now }
+        ensures most { self.now ≤ max_ticks }
+    {
+        self.count
+    }
+}
