@@ -1,5 +1,5 @@
 -- Which calls of a device are made.
-use Rattle.std.proofs.Common.{ℕ, ◌+◌, ◌==◌, ◌≡◌, Bool, true, false, Result, Ok, Err, IsErrAnd, MatchBool, MatchResult, sym, subst}
+use Rattle.std.proofs.Common.{ℕ, ◌+◌, ◌==◌, ◌≡◌, Bool, true, false, Result, Ok, Err, IsErrAnd, IfErr, MatchBool, MatchResult, sym, subst}
 use Rattle.lk_disk.specs.Meters.{Passes, Breaks}
 use Rattle.lk_disk.specs.declared.meter.Meter.{Meter}
 use Rattle.lk_disk.proofs.Devices.{passes_on, breaks_on}
@@ -10,6 +10,14 @@ use Rattle.lk_replica.specs.declared.fault.ReplicaFault.{ReplicaFault}
 pub refused_by : {T : Type 0} (m n : Meter) (Goes : T → Type 0) (r : Result T ReplicaFault) (f : ReplicaFault) → IsErrAnd r (λ e. e ≡ f) → RefusedAfter (fault_number f) m n → MatchResult r Goes (λ e. RefusedAfter (fault_number e) m n)
 refused_by m n Goes (Ok x) f is by = absurd is
 refused_by m n Goes (Err e) f is by = subst (λ x. RefusedAfter (fault_number x) m n) (sym is) by
+
+pub errs_as : {T : Type 0} (r : Result T ReplicaFault) (f : ReplicaFault) (P : ReplicaFault → Type 0) → IsErrAnd r (λ e. e ≡ f) → P f → IsErrAnd r P
+errs_as (Ok x) f P is p = absurd is
+errs_as (Err e) f P is p = subst P (sym is) p
+
+pub also_as : {T : Type 0} (P Q S : ReplicaFault → Type 0) (r : Result T ReplicaFault) (f : ReplicaFault) → IsErrAnd r (λ e. e ≡ f) → S f → IfErr r (λ e. P e × Q e) → IfErr r (λ e. P e × Q e × S e)
+also_as P Q S (Ok x) f is s both = tt
+also_as P Q S (Err e) f is s both = (both.0, both.1, subst S (sym is) s)
 
 after_some : {l m : Meter} (j : ℕ) → Passes l m j → (n : Meter) (b : Bool) → MatchBool b (Breaks m n) ((k : ℕ) × Passes m n k) → MatchBool b (Breaks l n) ((k : ℕ) × Passes l n k)
 after_some j before n true by = breaks_on j before by

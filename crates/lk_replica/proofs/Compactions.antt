@@ -81,9 +81,9 @@ failed_alone (fault.Send notes) is = absurd (omega (arith, is))
 pub refused : {T : Type 0} (m : Meaning) (old new : ReplicaValue) (r : Result T ReplicaFault) → CountsFailure old.store.failures new.store.failures r → PassesOr old.store.meter new.store.meter rebase_calls r
     → (old.failed ≡ true → IsErrOf r fault.Failed) → (old.failed ≡ false → old.store.failed ≡ false → old.store.generation < max_count → IsErrOf r fault.Failed → ⊥) → (old.failed ≡ true → new ≡ old)
     → OnErr r (new.failed ≡ true) → IfErr r (IfSpared (AreSame (disks old.store) (disks new.store))) → IfErr r (λ e. IsStoreFault (fault_number e)) → new.node.halted ≡ old.node.halted
-    → IfErr r (λ e. CompactsTo m old new (Err (fault_number e)))
-refused m old new (Ok x) cause calls failed before stays broken same of_store wakes = tt
-refused m old new (Err e) cause calls failed before stays broken same of_store wakes = (
+    → (max_count ≤ old.store.generation → (new.store ≡ old.store) × IsErrOf r fault.Failed) → IfErr r (λ e. CompactsTo m old new (Err (fault_number e)))
+refused m old new (Ok x) cause calls failed before stays broken same of_store wakes last = tt
+refused m old new (Err e) cause calls failed before stays broken same of_store wakes last = (
   record {
     failures = cause;
     calls = calls;
@@ -95,6 +95,7 @@ refused m old new (Err e) cause calls failed before stays broken same of_store w
     awake = λ was other. wakes ∙ was;
   },
   of_store,
+  λ most. ap fault_number (same_error e fault.Failed (last most).1),
 )
 
 -- the calls of the device that it has made

@@ -1,5 +1,5 @@
 -- What a revival makes of a store that it may have to bring to format 2.
-use Rattle.std.proofs.Common.{◌≡◌, ℕ, zero, suc, ◌+◌, ◌<◌, ◌≤◌, ◌==◌, ◌⊎◌, inl, inr, false, eqb, List, [], ◌∷◌, ◌++◌, take, refl, ap, sym, ◌∙◌, subst, arith, append-nil}
+use Rattle.std.proofs.Common.{◌≡◌, ℕ, zero, suc, ◌+◌, ◌≤◌, inl, inr, false, eqb, List, [], ◌∷◌, ◌++◌, take, refl, ap, sym, ◌∙◌, subst, arith, append-nil}
 use Rattle.std.specs.List.{AllByRecursion}
 use Rattle.std.proofs.lemmas.Bool.{cases_lt, ne_eqb}
 use Rattle.lk_types.specs.Limits.{max_count}
@@ -8,13 +8,12 @@ use Rattle.lk_disk.specs.Meters.{Passes}
 use Rattle.lk_disk.specs.declared.device.Side.{Side}
 use Rattle.lk_disk.specs.declared.meter.Meter.{Meter}
 use Rattle.lk_disk.proofs.Devices.{passes_on}
-use Rattle.lk_log.specs.Causes.{rebase_calls}
 use Rattle.lk_log.specs.Entries.{IsStored}
 use Rattle.lk_log.specs.Formats.{format}
-use Rattle.lk_log.specs.Images.{Image, MayLeaveBoth, IsLive, generation, seen}
+use Rattle.lk_log.specs.Images.{Image, IsLive, seen}
 use Rattle.lk_log.specs.Standings.{HasHeader}
 use Rattle.lk_log.specs.StoreValue.{StoreValue, disks}
-use Rattle.lk_log.specs.Stores.{Holds, KeepsOrIs, next_base, NarrowsOrBegins, Opens}
+use Rattle.lk_log.specs.Stores.{KeepsOrIs, next_base, NarrowsOrBegins, Opens}
 use Rattle.lk_log.specs.Values.{HeaderValue, StandingValue}
 use Rattle.lk_log.specs.declared.stored.Stored.{Stored}
 use Rattle.lk_log.specs.declared.stored.Stored.TheVariants.{Base, Plain}
@@ -26,7 +25,6 @@ use Rattle.lk_node.specs.Holdings.{Holding}
 use Rattle.lk_node.specs.Keeping.{Keeps}
 use Rattle.lk_node.specs.Leavings.{header_of, DisksFit}
 use Rattle.lk_node.specs.NodeValue.{NodeValue}
-use Rattle.lk_node.specs.Packing.{standing_of}
 use Rattle.lk_node.specs.Served.{text}
 use Rattle.lk_node.specs.declared.note.Note.{Note}
 use Rattle.lk_replica.specs.Compacting.{renew_calls}

@@ -1,5 +1,6 @@
 -- What a call of a replica has done that was told to compact.
-use Rattle.std.specs.Prelude.{◌≡◌, ℕ, ◌⊎◌, false, Result, Ok, Err}
+use Rattle.std.specs.Prelude.{◌≡◌, ℕ, ◌≤◌, ◌⊎◌, false, Result, Ok, Err}
+use Rattle.lk_types.specs.Limits.{max_count}
 use Rattle.lk_disk.specs.Memory.{disk_of}
 use Rattle.lk_disk.specs.Meters.{Passes}
 use Rattle.lk_log.specs.Causes.{rebase_calls}
@@ -27,7 +28,7 @@ pub record IsCompacted (m : Meaning) (old new : ReplicaValue) : Type 0 where
 abbrev pub IsStoreFault : ℕ → Type 0
 IsStoreFault number = (number ≡ 7) ⊎ (number ≡ 8) ⊎ (number ≡ 11)
 
--- what the call came to
+-- what the call came to: where no generation is left, it was refused as failed, also where memory was wanting
 abbrev pub CompactsTo : Meaning → ReplicaValue → ReplicaValue → Result (Unit {0}) ℕ → Type 0
 CompactsTo m old new (Ok done) = IsCompacted m old new
-CompactsTo m old new (Err number) = IsRefused old new number × IsStoreFault number
+CompactsTo m old new (Err number) = IsRefused old new number × IsStoreFault number × (max_count ≤ old.store.generation → number ≡ 11)

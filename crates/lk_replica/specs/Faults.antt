@@ -64,6 +64,10 @@ IsOfCalls (fault.Send notes) = Unit {0}
 abbrev pub IsNumberOfCalls : ℕ → Type 0
 IsNumberOfCalls number = (number ≡ 7) ⊎ (number ≡ 8) ⊎ (number ≡ 11) ⊎ (number ≡ 14) ⊎ (number ≡ 15)
 
+-- the device has failed, or the store before, or it has no generation left: a refusal that no want of memory brings
+abbrev pub WantsNoMemory : ℕ → Type 0
+WantsNoMemory number = (number ≡ 7) ⊎ (number ≡ 11)
+
 -- where no call of the device has failed and no datagram was lost, this holds
 abbrev pub IfSpared : Type 0 → ReplicaFault → Type 0
 IfSpared P fault.Device = Unit {0}

@@ -1,5 +1,5 @@
 -- What a call of a replica has done that was not refused: that and nothing else.
-use Rattle.std.specs.Prelude.{◌≡◌, ℕ, ◌+◌, ◌<◌, ⊤, true, false, if◌then◌else◌, Option, Result, Ok, Err, List, [], ◌++◌}
+use Rattle.std.specs.Prelude.{◌≡◌, ℕ, ◌+◌, ◌<◌, ◌≤◌, ⊤, true, false, if◌then◌else◌, Option, Result, Ok, Err, List, [], ◌++◌}
 use Rattle.lk_disk.specs.Meters.{Passes}
 use Rattle.lk_types.specs.Limits.{max_count}
 use Rattle.lk_log.specs.Causes.{put_calls, rebase_calls}
@@ -10,8 +10,8 @@ use Rattle.lk_log.specs.declared.stored.Stored.{Stored}
 use Rattle.lk_node.specs.Calls.{heard_by}
 use Rattle.lk_node.specs.Histories.{Datagram}
 use Rattle.lk_node.specs.Letters.{LetterValue, batch_of}
-use Rattle.lk_replica.specs.Compacting.{AreLeft, Rebases, RebasesWhereDue, CallsWhereDue}
-use Rattle.lk_replica.specs.Faults.{failures_by, RefusedAfter, IsNumberOfCalls}
+use Rattle.lk_replica.specs.Compacting.{AreLeft, IsDue, Rebases, RebasesWhereDue, CallsWhereDue}
+use Rattle.lk_replica.specs.Faults.{failures_by, RefusedAfter, IsNumberOfCalls, WantsNoMemory}
 use Rattle.lk_replica.specs.ReplicaValue.{ReplicaValue}
 use Rattle.lk_node.specs.NodeValue.{NodeValue}
 use Rattle.lk_node.specs.Outboxes.{OutboxValue}
@@ -68,6 +68,10 @@ pub record IsRefused (old new : ReplicaValue) (number : ℕ) : Type 0 where
   pub halts : number ≡ 14 → new.node.halted ≡ true
   pub awake : old.node.halted ≡ false → (number ≡ 14 → ⊥) → new.node.halted ≡ false
 
+-- a rebase is due and no generation is left for it: so it is refused, and for no want of memory
+abbrev pub IsOfLast : ReplicaValue → ℕ → Type 0
+IsOfLast old number = max_count ≤ old.store.generation → IsDue old.node old.store → WantsNoMemory number
+
 -- the replica was given this, and sent these datagrams of its node
 pub record IsTakenAs (m : Meaning) (IsText : List ℕ → Type 0) (old : ReplicaValue) (bytes : Option (List ℕ)) (new : ReplicaValue) (notes : List Note) (sent : List Datagram) : Type 0 where
   pub input : Input
@@ -79,4 +83,4 @@ pub record IsTakenAs (m : Meaning) (IsText : List ℕ → Type 0) (old : Replica
 -- what a call came to
 abbrev pub ComesTo : Meaning → (List ℕ → Type 0) → ReplicaValue → Option (List ℕ) → ReplicaValue → Result (List Note × List Datagram) ℕ → Type 0
 ComesTo m IsText old bytes new (Ok told) = IsTakenAs m IsText old bytes new told.0 told.1
-ComesTo m IsText old bytes new (Err number) = IsRefused old new number × IsNumberOfCalls number
+ComesTo m IsText old bytes new (Err number) = IsRefused old new number × IsNumberOfCalls number × IsOfLast old number

@@ -91,7 +91,9 @@ impl Collected {
     #[tactic(auto, using(lk_node::proofs::Nodes::mapped_append))]
     /// The letters as datagrams of the node.
     pub fn into_datagrams(self, node: NodeNo) -> Result<Vec<Datagram>, NoMemory>
-        ensures { IfOk result (λ ds. ds.items ≡ batch_of node self.letters) }
+        ensures ok { IfOk result (λ ds. ds.items ≡ batch_of node self.letters) }
+        // Memory is wanted only where there are letters.
+        ensures memory { OnErr result (self.letters ≡ [] → ⊥) }
     {
         let Collected {
             alloc,

@@ -1,5 +1,5 @@
 // Writing all that a node holds as the Base of the other file.
-ghost use Rattle.std.specs.Prelude.{◌≡◌, ℕ, ◌+◌, ◌≤◌, ◌<◌, length, List, [], ◌∷◌, false, true, ◌↔◌, IsTrue, OnOk, OnErr, IfOk, IfErr, IsErrOf, MatchResult};
+ghost use Rattle.std.specs.Prelude.{◌≡◌, ℕ, ◌+◌, ◌≤◌, ◌<◌, length, List, [], ◌∷◌, false, true, ◌↔◌, IsTrue, OnOk, OnErr, IfOk, IfErr, IsErrAnd, IsErrOf, MatchResult};
 ghost use Rattle.lk_types.specs.Limits.{max_base, max_count};
 ghost use Rattle.lk_disk.specs.Disk.{contents};
 ghost use Rattle.lk_disk.specs.Meters.{Passes};
@@ -23,7 +23,7 @@ ghost use Rattle.lk_node.specs.Packing.{standing_of, standing_here};
 ghost use Rattle.lk_replica.specs.Compacting.{AllStandAt, AreSame, IsDue, IsSameStore, RebasesWhereDue, CallsWhereDue};
 ghost use Rattle.lk_replica.specs.Compacted.{IsStoreFault};
 ghost use Rattle.lk_replica.specs.Remembering.{Remembers};
-ghost use Rattle.lk_replica.specs.Faults.{fault_number, CountsFailure, RefusedAfter, PassesOr, IfSend, IfSpared, IsOfCalls};
+ghost use Rattle.lk_replica.specs.Faults.{fault_number, CountsFailure, RefusedAfter, PassesOr, IfSend, IfSpared, IsOfCalls, WantsNoMemory};
 
 use crate::fault::ReplicaFault;
 use crate::replica::Replica;
@@ -31,9 +31,11 @@ use lk_disk::LogDisk;
 use lk_log::Store;
 use lk_node::Node;
 use lk_state::Machine;
+use lk_types::limits::MAX_COUNT;
 
 // Writes what the node holds as the Base of the other file, and goes over to it: a snapshot of all that was executed takes
-// the place of the commands and the votes up to there. Nothing is sent.
+// the place of the commands and the votes up to there. Nothing is sent. At generation 2^48 nothing is written, and it refuses with
+// `Failed` (11), also where memory is refused.
 pub fn write_base<M: Machine, D: LogDisk + Drop>(
     node: &mut Node<M>,
     store: &mut Store<D>,
@@ -69,6 +71,7 @@ pub fn write_base<M: Machine, D: LogDisk + Drop>(
     ensures awake { IsErrOf result ReplicaFault.Halted → ⊥ }
     ensures of_store { IfErr result (λ e. IsStoreFault (fault_number e)) }
     ensures failed_before { store.old.failed ≡ false → store.old.generation < max_count → IsErrOf result ReplicaFault.Failed → ⊥ }
+    ensures last { max_count ≤ store.old.generation → (store.new ≡ store.old) × IsErrOf result ReplicaFault.Failed }
     ensures cause { CountsFailure store.old.failures store.new.failures result }
     ensures metered { D.is_metered → D.is_honest → PassesOr store.old.meter store.new.meter rebase_calls result }
     ensures stays { D.is_honest → IfErr result (IfSpared (AreSame (disks store.old) (disks store.new))) }
@@ -76,7 +79,11 @@ pub fn write_base<M: Machine, D: LogDisk + Drop>(
     ensures room { D.is_honest → StaysWithin max_base (disks store.old) (disks store.new) }
     ensures short { D.is_honest → OnOk result (length (contents store.new.live_disk) ≤ max_base) }
 {
-    let standing = node.standing()?;
+    let packed = node.standing();
+    if store.generation() >= MAX_COUNT {
+        return Err(ReplicaFault::Failed);
+    }
+    let standing = packed?;
     store.rebase(&standing)?;
     node.stand_here(standing.snapshot);
     Ok(())
@@ -96,6 +103,7 @@ fn is_due<M: Machine, D: LogDisk + Drop>(
     ensures only { IfErr result (IfSend (λ notes. ⊥)) }
     ensures told { IfErr result IsOfCalls }
     ensures awake { IsErrOf result ReplicaFault.Halted → ⊥ }
+    ensures memory { IfErr result (λ e. WantsNoMemory (fault_number e)) }
     ensures failed_before { store.old.failed ≡ false → IsErrOf result ReplicaFault.Failed → ⊥ }
     ensures cause { CountsFailure store.old.failures store.new.failures result }
     ensures metered { D.is_metered → PassesOr store.old.meter store.new.meter 0 result }
@@ -129,6 +137,8 @@ pub fn rebase_where_due<M: Machine, D: LogDisk + Drop>(
     ensures told { IfErr result IsOfCalls }
     ensures awake { IsErrOf result ReplicaFault.Halted → ⊥ }
     ensures failed_before { store.old.failed ≡ false → store.old.generation < max_count → IsErrOf result ReplicaFault.Failed → ⊥ }
+    // Where a rebase is due at generation 2^48, it answers `Failed`, also where memory is refused, or `Device` where the device fails.
+    ensures last { D.is_honest → max_count ≤ store.old.generation → IsDue node.old store.old → IsErrAnd result (λ e. WantsNoMemory (fault_number e)) }
     ensures cause { CountsFailure store.old.failures store.new.failures result }
     ensures metered { D.is_metered → D.is_honest → MatchResult result
         (λ _. (k : ℕ) × CallsWhereDue node.old store.old k × Passes store.old.meter store.new.meter k)
@@ -177,6 +187,8 @@ impl<M: Machine, D: LogDisk + Drop> Replica<M, D> {
         // Nothing but an earlier refusal, its own or its store's, makes it answer `Failed`, or that no further generation is left.
         ensures failed { self.old.failed ≡ true → IsErrOf result ReplicaFault.Failed }
         ensures failed_before { self.old.failed ≡ false → self.old.store.failed ≡ false → self.old.store.generation < max_count → IsErrOf result ReplicaFault.Failed → ⊥ }
+        // At generation 2^48 it answers `Failed`, also where memory is refused, and leaves its store as it was.
+        ensures last { max_count ≤ self.old.store.generation → (self.new.store ≡ self.old.store) × IsErrOf result ReplicaFault.Failed }
         ensures stays_failed { self.old.failed ≡ true → self.new ≡ self.old }
         // `Device` comes exactly where a call of the device has failed.
         ensures cause { CountsFailure self.old.store.failures self.new.store.failures result }

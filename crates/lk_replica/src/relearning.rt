@@ -1,6 +1,6 @@
 // What a node learns again as it is revived.
 ghost use Rattle.std.specs.Prelude.{◌≡◌, ◌⊎◌, ℕ, ◌+◌, ◌*◌, ◌<◌, ◌≤◌, ◌++◌, [], ◌∷◌, Contains, IsTrue, length, OnOk, IfOk, IfErr, IsErrOf};
-ghost use Rattle.lk_learner.specs.Learners.{Command as TheCommand, Pair, IsLearner, IsNext, IsWanted, executed, keeping, advanced};
+ghost use Rattle.lk_learner.specs.Learners.{Command as CommandValue, Pair, IsLearner, IsNext, IsWanted, executed, keeping, advanced};
 ghost use Rattle.lk_learner.specs.Pairs.{are_pairs_above};
 ghost use Rattle.lk_replica.specs.Revivals.{run_from, notes_of, relearned, reached};
 ghost use Rattle.lk_node.specs.declared.note.Note.TheVariants as note;
@@ -23,8 +23,8 @@ fn run_next<M: Machine>(
 ) -> Result<(), NoMemory>
     ensures runs { IsNext learner.old command.now → OnOk result (learner.new ≡ advanced (meaning M.first M.next M.answer) command.now learner.old) }
     ensures noted { IsNext learner.old command.now → OnOk result (notes.new.items ≡ notes.old.items ++ note.Ran node (executed learner.old + 1) command.now ∷ []) }
-    ensures none { ((v : TheCommand) → IsNext learner.old v → ⊥) → OnOk result (learner.new ≡ learner.old) }
-    ensures silent { ((v : TheCommand) → IsNext learner.old v → ⊥) → OnOk result (notes.new.items ≡ notes.old.items) }
+    ensures none { ((v : CommandValue) → IsNext learner.old v → ⊥) → OnOk result (learner.new ≡ learner.old) }
+    ensures silent { ((v : CommandValue) → IsNext learner.old v → ⊥) → OnOk result (notes.new.items ≡ notes.old.items) }
 {
     if let Some(ran) = learner.execute_next()? {
         notes.push(Note::Ran(node, ran.position, command.copy()))?;
@@ -39,7 +39,7 @@ fn learn<M: Machine>(
     node: NodeNo,
     pair: &(Position, Command),
 ) -> Result<(), ReplicaFault>
-    requires quiet { (v : TheCommand) → IsNext learner.old v → ⊥ }
+    requires quiet { (v : CommandValue) → IsNext learner.old v → ⊥ }
     ensures runs { pair.now.0 ≡ executed learner.old + 1 → OnOk result (learner.new ≡ advanced (meaning M.first M.next M.answer) pair.now.1 (keeping pair.now learner.old)) }
     ensures noted { pair.now.0 ≡ executed learner.old + 1 → OnOk result (notes.new.items ≡ notes.old.items ++ note.Ran node pair.now.0 pair.now.1 ∷ []) }
     ensures keeps { (pair.now.0 ≡ executed learner.old + 1 → ⊥) → OnOk result (learner.new ≡ keeping pair.now learner.old) }
@@ -71,7 +71,7 @@ pub fn relearn<M: Machine>(
     ensures notes { IfOk result (λ r. r.1.items ≡ notes_of node whole.roster.executed (run_from whole.roster.executed pairs.now)) }
     ensures reaches { IfOk result (λ r. executed r.0 ≡ reached whole.roster.executed pairs.now) }
     ensures sets { IfOk result (λ r. length r.0.whole.roster.sets ≡ length whole.roster.sets) }
-    ensures quiet { IfOk result (λ r. (v : TheCommand) → IsNext r.0 v → ⊥) }
+    ensures quiet { IfOk result (λ r. (v : CommandValue) → IsNext r.0 v → ⊥) }
     ensures near { IfOk result (λ r. (p : Pair) → Contains pairs.now p → p.0 ≤ reached whole.roster.executed pairs.now + 2 * length whole.roster.sets) }
     ensures damaged { IsErrOf result ReplicaFault.Damaged → ((p : Pair) → Contains pairs.now p → p.0 ≤ reached whole.roster.executed pairs.now + 2 * length whole.roster.sets) → ⊥ }
     ensures only { IfErr result (λ e. (e ≡ ReplicaFault.Damaged) ⊎ (e ≡ ReplicaFault.NoMemory)) }

@@ -1,5 +1,5 @@
 // Bringing a store to format 2.
-ghost use Rattle.std.specs.Prelude.{◌≡◌, ℕ, ◌<◌, List, false, OnOk, OnErr, IfErr, IsErrOf};
+ghost use Rattle.std.specs.Prelude.{◌≡◌, ℕ, ◌<◌, ◌≤◌, List, false, OnOk, OnErr, IfErr, IsErrOf};
 ghost use Rattle.lk_types.specs.Limits.{max_base, max_count};
 ghost use Rattle.lk_log.specs.Rooms.{StaysWithin};
 ghost use Rattle.lk_log.specs.StoreValue.{disks};
@@ -47,6 +47,8 @@ pub fn renew<M: Machine, D: LogDisk + Drop>(
     ensures alive { store.old.failed ≡ false → OnOk result (store.new.failed ≡ false) }
     ensures of_store { IfErr result (λ e. IsStoreFault (fault_number e)) }
     ensures failed_before { store.old.failed ≡ false → store.old.generation < max_count → IsErrOf result ReplicaFault.Failed → ⊥ }
+    // A store of format 1 that has the last generation is refused with `Failed`, also where memory is refused.
+    ensures last { store.old.format ≡ 1 → max_count ≤ store.old.generation → (store.new ≡ store.old) × IsErrOf result ReplicaFault.Failed }
     ensures cause { CountsFailure store.old.failures store.new.failures result }
     ensures metered { D.is_metered → D.is_honest → PassesOr store.old.meter store.new.meter (renew_calls store.old.format) result }
     // After any exit neither file is longer than it was, or else than a Base.

@@ -1,5 +1,5 @@
 // The replica: a node and its store.
-ghost use Rattle.std.specs.Prelude.{◌≡◌, ◌≢◌, ℕ, ◌+◌, ◌<◌, ◌≤◌, length, ◌++◌, List, [], true, false, Contains, IfOk, IfErr, OnOk, OnErr, IsErrOf, MatchResult};
+ghost use Rattle.std.specs.Prelude.{◌≡◌, ◌≢◌, ℕ, ◌+◌, ◌<◌, ◌≤◌, length, ◌++◌, List, [], true, false, Contains, IfOk, IfErr, OnOk, OnErr, IsErrAnd, IsErrOf, MatchResult};
 ghost use Rattle.lk_types.specs.Limits.{max_count};
 ghost use Rattle.lk_disk.specs.Disk.{contents};
 ghost use Rattle.lk_disk.specs.declared.device.Side.{Side};
@@ -7,7 +7,7 @@ ghost use Rattle.lk_disk.specs.Meters.{Passes, trapped};
 ghost use Rattle.lk_log.specs.Rooms.{StaysWithin};
 ghost use Rattle.lk_log.specs.StoreValue.{StoreValue, disks};
 ghost use Rattle.lk_node.specs.NodeValue.{NodeValue};
-ghost use Rattle.lk_replica.specs.Compacting.{AreLeft, AreSame, RebasesWhereDue};
+ghost use Rattle.lk_replica.specs.Compacting.{AreLeft, AreSame, IsDue, RebasesWhereDue};
 ghost use Rattle.lk_state.specs.Meanings.{meaning};
 ghost use Rattle.lk_wire.specs.Grammar.{Spells};
 ghost use Rattle.lk_history.specs.Datagrams.{NodeMessage, Datagram as DatagramValue, said_by};
@@ -20,7 +20,7 @@ ghost use Rattle.lk_node.specs.Letters.{LetterValue, batch_of};
 ghost use Rattle.lk_replica.specs.Posts.{AreOf, SendsSome, more_by};
 ghost use Rattle.lk_node.specs.Steps.{Steps};
 ghost use Rattle.lk_replica.specs.Taking.{Writes, write_calls, CallsOfStep, IsTaken};
-ghost use Rattle.lk_replica.specs.Faults.{fault_number, CountsFailure, RefusedAfter, IfSend, IfSpared, IsOfCalls};
+ghost use Rattle.lk_replica.specs.Faults.{fault_number, CountsFailure, RefusedAfter, IfSend, IfSpared, IsOfCalls, WantsNoMemory};
 ghost use Rattle.lk_replica.specs.Remembering.{Remembers};
 ghost use Rattle.lk_replica.specs.Rooms.{max_behind};
 
@@ -62,8 +62,8 @@ impl<M: Machine, D: LogDisk + Drop> Replica<M, D> {
     /// Takes a tick or a datagram: what the step tells to write is written, and synced where a promise or a vote is among
     /// it, before anything is sent.
     ///
-    /// It refuses with `Device` (7), `NoMemory` (8) and `Halted` (14); after that each later call answers `Failed` (11).
-    /// With `Send` (15) some datagrams are lost, and the replica goes on.
+    /// It refuses with `Device` (7), `NoMemory` (8) and `Halted` (14), and with `Failed` (11) where it has to rebase at generation
+    /// 2^48; after that each later call answers `Failed` (11). With `Send` (15) some datagrams are lost, and the replica goes on.
     pub fn take<P: Post>(&mut self, input: Input, post: &mut P) -> Result<Vec<Note>, ReplicaFault>
         ensures goes { D.is_honest → P.is_telling → (h : History) (n : ℕ) → NodeFits (meaning M.first M.next M.answer) h n (Stands (meaning M.first M.next M.answer) self.old.node self.old.store h.genesis n) (disks self.old.store) → InputFits h input.entry
             → IfOk result (λ notes. (sent : List LetterValue) × (P.sent post.new ≡ P.sent post.old ++ sent)
@@ -113,6 +113,8 @@ impl<M: Machine, D: LogDisk + Drop> Replica<M, D> {
         // Nothing but an earlier refusal, its own or its store's, makes it answer `Failed`, or a rebase after the last generation:
         // a call makes two at most.
         ensures failed_before { self.old.failed ≡ false → self.old.store.failed ≡ false → self.old.store.generation + 1 < max_count → IsErrOf result ReplicaFault.Failed → ⊥ }
+        // Where a rebase is due at generation 2^48 it answers `Failed`, also where memory is refused, or `Device` where the device fails.
+        ensures last { D.is_honest → max_count ≤ self.old.store.generation → IsDue self.old.node self.old.store → IsErrAnd result (λ e. WantsNoMemory (fault_number e)) }
         ensures store_alive { OnOk result (self.new.store.failed ≡ false) }
         ensures store_sends_on { IfErr result (IfSend (λ notes. self.new.store.failed ≡ false)) }
         ensures stays_failed { self.old.failed ≡ true → self.new ≡ self.old }
@@ -122,7 +124,7 @@ impl<M: Machine, D: LogDisk + Drop> Replica<M, D> {
             return Err(ReplicaFault::Failed);
         }
         self.failed = true;
-        let outbox = write_behind(&mut self.node, &mut self.store, input)?;
+        let outbox = rebase_and_step(&mut self.node, &mut self.store, input)?;
         self.failed = false;
         let Outbox {
             rebase: _,
@@ -200,7 +202,7 @@ impl<M: Machine, D: Trapped + Drop> Replica<M, D> {
 #[tactic(auto, using(crate::proofs::NoSend::store_never_sends))]
 // Steps, and writes what the step tells to write, synced where it says so; or, where it says that, the node's Base in place of
 // it. Nothing is sent.
-fn write<M: Machine, D: LogDisk + Drop>(
+fn step_to_disk<M: Machine, D: LogDisk + Drop>(
     node: &mut Node<M>,
     store: &mut Store<D>,
     input: Input,
@@ -226,6 +228,8 @@ fn write<M: Machine, D: LogDisk + Drop>(
     ensures format { store.new.format ≡ 2 }
     ensures alive { OnOk result (store.new.failed ≡ false) }
     ensures failed_before { store.old.failed ≡ false → store.old.generation < max_count → IsErrOf result ReplicaFault.Failed → ⊥ }
+    // At generation 2^48 no step is done that has to rebase.
+    ensures last { max_count ≤ store.old.generation → IfOk result (λ o. o.rebase ≡ false) }
     ensures cause { CountsFailure store.old.failures store.new.failures result }
     ensures stays { D.is_honest → IfErr result (IfSpared (AreSame (disks store.old) (disks store.new))) }
     ensures room { D.is_honest → length (contents store.old.live_disk) < 131072 → StaysWithin max_behind (disks store.old) (disks store.new) }
@@ -240,7 +244,7 @@ fn write<M: Machine, D: LogDisk + Drop>(
 }
 
 // Rebases where that is due, and then steps and writes as the step tells. Nothing is sent.
-fn write_behind<M: Machine, D: LogDisk + Drop>(
+fn rebase_and_step<M: Machine, D: LogDisk + Drop>(
     node: &mut Node<M>,
     store: &mut Store<D>,
     input: Input,
@@ -268,11 +272,12 @@ fn write_behind<M: Machine, D: LogDisk + Drop>(
     ensures awake { OnOk result (node.new.halted ≡ false) }
     ensures awake_err { node.old.halted ≡ false → IfErr result (λ e. (fault_number e ≡ 14 → ⊥) → node.new.halted ≡ false) }
     ensures failed_before { store.old.failed ≡ false → store.old.generation + 1 < max_count → IsErrOf result ReplicaFault.Failed → ⊥ }
+    ensures last { D.is_honest → max_count ≤ store.old.generation → IsDue node.old store.old → IsErrAnd result (λ e. WantsNoMemory (fault_number e)) }
     ensures cause { CountsFailure store.old.failures store.new.failures result }
     ensures stays { D.is_honest → IfErr result (IfSpared (AreLeft node.old store.old store.new)) }
     ensures room { D.is_honest → StaysWithin max_behind (disks store.old) (disks store.new) }
 {
     rebase_where_due(node, store)?;
-    let outbox = write(node, store, input)?;
+    let outbox = step_to_disk(node, store, input)?;
     Ok(outbox)
 }

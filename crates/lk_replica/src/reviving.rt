@@ -16,7 +16,7 @@ ghost use Rattle.lk_replica.specs.Compacting.{AreSame};
 ghost use Rattle.lk_replica.specs.Remembering.{Remembers};
 ghost use Rattle.lk_replica.specs.Faults.{fault_number, failures_by, RefusedAfter};
 ghost use Rattle.lk_node.specs.Executing.{NothingToRun};
-ghost use Rattle.lk_node.specs.Histories.{History, Genesis as TheGenesis, IsLawful};
+ghost use Rattle.lk_node.specs.Histories.{History, Genesis as GenesisValue, IsLawful};
 ghost use Rattle.lk_node.specs.Keeping.{Stands};
 ghost use Rattle.lk_node.specs.Leavings.{header_of, DisksFit, AllCover};
 ghost use Rattle.lk_replica.specs.Revivals.{Unpacks, MayRevive, Restores, TakesUp, Revives, NoneRevives, CallsOfOpening, CallsOfRevival, IsLastOld, NarrowsOrRenews};
@@ -124,12 +124,12 @@ fn take_up<M: Machine, D: LogDisk + Drop>(
     ensures down { D.is_honest → (h : History) (n : ℕ) → header.now ≡ header_of h.genesis n → IsLawful (meaning M.first M.next M.answer) h → DisksFit (meaning M.first M.next M.answer) h n (D.disk device)
         → IfErr result (λ e. DisksFit (meaning M.first M.next M.answer) h n (D.disk e.device)) }
     // Whatever every image covered, every image covers.
-    ensures covers { D.is_honest → (genesis : TheGenesis) (n : ℕ) (x : NodeMessage) → header.now ≡ header_of genesis n → AllCover (meaning M.first M.next M.answer) genesis n (D.disk device) x
+    ensures covers { D.is_honest → (genesis : GenesisValue) (n : ℕ) (x : NodeMessage) → header.now ≡ header_of genesis n → AllCover (meaning M.first M.next M.answer) genesis n (D.disk device) x
         → IfOk result (λ r. AllCover (meaning M.first M.next M.answer) genesis n (disks r.store) x) }
-    ensures covers_err { D.is_honest → (genesis : TheGenesis) (n : ℕ) (x : NodeMessage) → header.now ≡ header_of genesis n → AllCover (meaning M.first M.next M.answer) genesis n (D.disk device) x
+    ensures covers_err { D.is_honest → (genesis : GenesisValue) (n : ℕ) (x : NodeMessage) → header.now ≡ header_of genesis n → AllCover (meaning M.first M.next M.answer) genesis n (D.disk device) x
         → IfErr result (λ e. AllCover (meaning M.first M.next M.answer) genesis n (D.disk e.device) x) }
     // Its store keeps what its acceptor holds, whatever the disks have been through.
-    ensures remembers { D.is_honest → (genesis : TheGenesis) (n : ℕ) → header.now ≡ header_of genesis n → IfOk result (λ r. Remembers r.node r.store genesis n) }
+    ensures remembers { D.is_honest → (genesis : GenesisValue) (n : ℕ) → header.now ≡ header_of genesis n → IfOk result (λ r. Remembers r.node r.store genesis n) }
     // What the disks stand for is what is revived, and nothing else is executed.
     ensures exact { D.is_honest → IfOk result (λ r. TakesUp (meaning M.first M.next M.answer) M.IsText (D.disk device) header.now r.node r.store r.notes.items) }
     ensures damaged { D.is_honest → IfErr result (λ e. fault_number e.fault ≡ 9 → IsDamaged (seen (D.disk device)) ⊎ NoneRevives (meaning M.first M.next M.answer) M.IsText (D.disk device) header.now) }
@@ -138,7 +138,7 @@ fn take_up<M: Machine, D: LogDisk + Drop>(
     ensures damaged_stays { D.is_honest → IsDamaged (seen (D.disk device)) → IfErr result (λ e. fault_number e.fault ≡ 9 → AreSame (D.disk device) (D.disk e.device)) }
     ensures wrong_stays { D.is_honest → IfErr result (λ e. fault_number e.fault ≡ 10 → AreSame (D.disk device) (D.disk e.device)) }
     // After a refusal each image comes to what an image before it came to, or to a store that is begun.
-    ensures stays_err { D.is_honest → (genesis : TheGenesis) → header.now ≡ header_of genesis header.now.node
+    ensures stays_err { D.is_honest → (genesis : GenesisValue) → header.now ≡ header_of genesis header.now.node
         → IfErr result (λ e. NarrowsOrBegins (D.disk device) (D.disk e.device) header.now (text (meaning M.first M.next M.answer) genesis [])) }
     ensures only { IfErr result (λ e. (7 ≤ fault_number e.fault) × (fault_number e.fault ≤ 10)) }
     // `Device` comes exactly where a call of the device has failed.
@@ -195,12 +195,12 @@ impl<M: Machine, D: LogDisk + Drop> Replica<M, D> {
         ensures down { D.is_honest → (h : History) (n : ℕ) → header.now ≡ header_of h.genesis n → IsLawful (meaning M.first M.next M.answer) h → DisksFit (meaning M.first M.next M.answer) h n (D.disk device)
             → IfErr result (λ e. DisksFit (meaning M.first M.next M.answer) h n (D.disk e.device)) }
         // Whatever every image covered, every image covers.
-        ensures covers { D.is_honest → (genesis : TheGenesis) (n : ℕ) (x : NodeMessage) → header.now ≡ header_of genesis n → AllCover (meaning M.first M.next M.answer) genesis n (D.disk device) x
+        ensures covers { D.is_honest → (genesis : GenesisValue) (n : ℕ) (x : NodeMessage) → header.now ≡ header_of genesis n → AllCover (meaning M.first M.next M.answer) genesis n (D.disk device) x
             → IfOk result (λ r. AllCover (meaning M.first M.next M.answer) genesis n (disks r.replica.store) x) }
-        ensures covers_err { D.is_honest → (genesis : TheGenesis) (n : ℕ) (x : NodeMessage) → header.now ≡ header_of genesis n → AllCover (meaning M.first M.next M.answer) genesis n (D.disk device) x
+        ensures covers_err { D.is_honest → (genesis : GenesisValue) (n : ℕ) (x : NodeMessage) → header.now ≡ header_of genesis n → AllCover (meaning M.first M.next M.answer) genesis n (D.disk device) x
             → IfErr result (λ e. AllCover (meaning M.first M.next M.answer) genesis n (D.disk e.device) x) }
         // Its store keeps what its acceptor holds, whatever the disks have been through.
-        ensures remembers { D.is_honest → (genesis : TheGenesis) (n : ℕ) → header.now ≡ header_of genesis n → IfOk result (λ r. Remembers r.replica.node r.replica.store genesis n) }
+        ensures remembers { D.is_honest → (genesis : GenesisValue) (n : ℕ) → header.now ≡ header_of genesis n → IfOk result (λ r. Remembers r.replica.node r.replica.store genesis n) }
         // What the disks stand for is what is revived, and nothing else is executed.
         ensures exact { D.is_honest → IfOk result (λ r. Revives (meaning M.first M.next M.answer) M.IsText (D.disk device) header.now r.replica r.notes.items) }
         ensures damaged { D.is_honest → IfErr result (λ e. fault_number e.fault ≡ 9 → IsDamaged (seen (D.disk device)) ⊎ NoneRevives (meaning M.first M.next M.answer) M.IsText (D.disk device) header.now) }
@@ -210,7 +210,7 @@ impl<M: Machine, D: LogDisk + Drop> Replica<M, D> {
         ensures wrong_stays { D.is_honest → IfErr result (λ e. fault_number e.fault ≡ 10 → AreSame (D.disk device) (D.disk e.device)) }
         // After a refusal each image comes to what an image before it came to, or to a store that is begun, or to what was found in a
         // file of format 1 or the Base that was to take its place.
-        ensures stays_err { D.is_honest → (genesis : TheGenesis) → header.now ≡ header_of genesis header.now.node
+        ensures stays_err { D.is_honest → (genesis : GenesisValue) → header.now ≡ header_of genesis header.now.node
             → IfErr result (λ e. NarrowsOrRenews (D.disk device) (D.disk e.device) header.now (text (meaning M.first M.next M.answer) genesis [])) }
         // `Failed` comes only where the file has format 1 and no generation is left for a rebase.
         ensures last { D.is_honest → IfErr result (λ e. fault_number e.fault ≡ 11 → IsLastOld (seen (D.disk device))) }

@@ -7,10 +7,11 @@ use Rattle.lk_log.specs.StoreValue.{disks}
 use Rattle.lk_state.specs.Meanings.{Meaning, meaning}
 use Rattle.lk_replica.proofs.Rebasing.{same_holds, same_remembers, same_stands, same_fit, same_cover, same_node_fits, same_room, goes_fits}
 use Rattle.lk_log.proofs.Room.{within_first}
+use Rattle.lk_replica.specs.Faults.{WantsNoMemory, fault_number}
 use Rattle.lk_replica.proofs.compacting.rebase_where_due.Goals as goal
 use Rattle.lk_disk.proofs.Devices.{passes_on}
 use Rattle.lk_log.specs.Causes.{rebase_calls}
-use Rattle.lk_replica.proofs.Calling.{refused_by, refused_on}
+use Rattle.lk_replica.proofs.Calling.{refused_by, refused_on, errs_as}
 use Rattle.lk_replica.proofs.Spared.{spared_all, spared_more, spared_as, same_files, then_same}
 
 pub returns-in_err-due-clause-ends : goal.returns-in_err-due-clause-ends
@@ -140,3 +141,8 @@ pub returns-clause-remembers : goal.returns-clause-remembers
 returns-clause-remembers g c honest genesis n shown =
     c.in_ok-write_base.ensures.remembers honest genesis n
     (same_remembers (meaning g.M.Machine.first g.M.Machine.next g.M.Machine.answer) c.args.store.now c.is_due.new.store (c.is_due.ensures.same honest) c.args.node.now genesis n shown)
+
+-- ---- at the last generation
+
+pub returns-in_err-due-clause-last : goal.returns-in_err-due-clause-last
+returns-in_err-due-clause-last g c honest most due = errs_as _ _ (λ e. WantsNoMemory (fault_number e)) c.from_residual.ensures.1 c.in_err-due.ensures.memory

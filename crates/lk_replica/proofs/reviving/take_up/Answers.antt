@@ -1,4 +1,4 @@
-use Rattle.std.proofs.Common.{◌≡◌, List, ℕ, [], inl, inr, Err, refl, ◌∙◌, ap, subst, sym}
+use Rattle.std.proofs.Common.{◌≡◌, List, ℕ, [], inl, inr, Err, ◌∙◌, ap, subst, sym}
 use Rattle.lk_types.specs.Geneses.{IsGenesis}
 use Rattle.lk_disk.specs.Meters.{Passes, start}
 use Rattle.lk_replica.specs.Faults.{fault_number, RefusedAfter}

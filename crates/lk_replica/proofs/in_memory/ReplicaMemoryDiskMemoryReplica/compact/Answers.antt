@@ -60,7 +60,7 @@ returns-clause-exact g c =
 pub returns-clause-refused : goal.returns-clause-refused
 returns-clause-refused g c =
     let m : Meaning = meaning g.M.Machine.first g.M.Machine.next g.M.Machine.answer in
-    refused m c.args.self.now c.compact.new.self c.compact.result c.compact.ensures.cause (c.compact.ensures.metered tt tt) c.compact.ensures.failed c.compact.ensures.failed_before c.compact.ensures.stays_failed c.compact.ensures.broken (c.compact.ensures.stays tt) c.compact.ensures.of_store c.compact.ensures.wakes
+    refused m c.args.self.now c.compact.new.self c.compact.result c.compact.ensures.cause (c.compact.ensures.metered tt tt) c.compact.ensures.failed c.compact.ensures.failed_before c.compact.ensures.stays_failed c.compact.ensures.broken (c.compact.ensures.stays tt) c.compact.ensures.of_store c.compact.ensures.wakes c.compact.ensures.last
 
 pub returns-clause-calls : goal.returns-clause-calls
 returns-clause-calls g c = calls_ok c.args.self.now.store.meter c.compact.new.self.store.meter rebase_calls c.compact.result (c.compact.ensures.metered tt tt)

@@ -1,4 +1,4 @@
-use Rattle.std.proofs.Common.{◌≡◌, ◌∙◌, List, ◌++◌, Result, Ok, Err, OnErr, Contains, ap, sym, subst}
+use Rattle.std.proofs.Common.{rules, ◌≡◌, ◌∙◌, List, ◌++◌, Result, Ok, Err, IfErr, OnErr, Contains, ap, sym, subst}
 use Rattle.lk_log.specs.StoreValue.{device_of}
 use Rattle.lk_log.specs.Values.{HeaderValue}
 use Rattle.lk_disk.specs.Memory.{disk_of}
@@ -8,7 +8,10 @@ use Rattle.lk_node.specs.Histories.{Datagram}
 use Rattle.lk_node.specs.Keeping.{Stands}
 use Rattle.lk_node.specs.Leavings.{DisksFit, AllCover}
 use Rattle.lk_node.specs.Letters.{batch_of}
+use Rattle.lk_replica.specs.Faults.{fault_number, IsNumberOfCalls}
 use Rattle.lk_replica.specs.Posts.{CollectedValue}
+use Rattle.lk_replica.specs.Taking.{IsOfLast, IsRefused}
+use Rattle.lk_replica.proofs.Calling.{also_as}
 use Rattle.lk_replica.proofs.Going.{remembered}
 use Rattle.lk_replica.proofs.OnDevices.{on_device, off_device}
 use Rattle.lk_replica.proofs.in_memory.ReplicaMemoryDiskMemoryReplica.take.Goals as goal
@@ -24,7 +27,7 @@ returns-in-Ok-clause-goes g c h n fits heard =
     let went = c.in_ok-notes.ensures.goes tt tt h n (off_device (λ d. NodeFits m h n (Stands m own.node own.store h.genesis n) d) own.store fits) heard in
     let letters : c.take.new.post.letters ≡ went.0 = went.1 ∙ ap (λ (p : CollectedValue). p.letters ++ went.0) c.empty_post-post.ensures in
     let is : c.number-node.result ≡ n = c.number-node.ensures ∙ ap (λ (w : HeaderValue). w.node) fits.shown.whose in
-    let batch : c.in-Ok.sent.items ≡ batch_of n went.0 = c.in-Ok.ensures ∙ (λ i. batch_of (is i) (letters i)) in
+    let batch : c.in-Ok.sent.items ≡ batch_of n went.0 = c.in-Ok.ensures.ok ∙ (λ i. batch_of (is i) (letters i)) in
     subst (λ (ds : List Datagram). Goes m h n (Stands m c.take.new.self.node c.take.new.self.store h.genesis n) (disk_of (device_of c.take.new.self.store)) c.in_ok-notes.notes.items ds) (sym batch)
     (on_device (λ d. Goes m h n (Stands m c.take.new.self.node c.take.new.self.store h.genesis n) d c.in_ok-notes.notes.items (batch_of n went.0)) c.take.new.self.store went.2)
 
@@ -34,7 +37,7 @@ returns-in-Ok-clause-syncs g c genesis n held x shown =
     let synced = c.take.ensures.syncs tt tt genesis n x (remembered m genesis n held c.args.self.now.node c.args.self.now.store shown) in
     let letters : c.take.new.post.letters ≡ synced.0 = synced.1 ∙ ap (λ (p : CollectedValue). p.letters ++ synced.0) c.empty_post-post.ensures in
     let is : c.number-node.result ≡ n = c.number-node.ensures ∙ ap (λ (w : HeaderValue). w.node) shown.whose in
-    let batch : c.in-Ok.sent.items ≡ batch_of n synced.0 = c.in-Ok.ensures ∙ (λ i. batch_of (is i) (letters i)) in
+    let batch : c.in-Ok.sent.items ≡ batch_of n synced.0 = c.in-Ok.ensures.ok ∙ (λ i. batch_of (is i) (letters i)) in
     λ d listed said. on_device (λ z. AllCover m genesis n z x) c.take.new.self.store (synced.2 d (subst (λ (ds : List Datagram). Contains ds d) batch listed) said)
 
 -- ---- at every exit
@@ -67,3 +70,10 @@ pub returns-in-Err-clause-covers : goal.returns-in-Err-clause-covers
 returns-in-Err-clause-covers g c genesis n held x shown every =
     let m : Meaning = meaning g.M.Machine.first g.M.Machine.next g.M.Machine.answer in
     on_device (λ d. AllCover m genesis n d x) c.take.new.self.store (c.take.ensures.covers tt genesis n x (remembered m genesis n held c.args.self.now.node c.args.self.now.store shown) (off_device (λ d. AllCover m genesis n d x) c.args.self.now.store every))
+
+pub returns-in_err-notes-clause-refused : goal.returns-in_err-notes-clause-refused
+returns-in_err-notes-clause-refused g c =
+    let own = c.args.self.now in
+    let new = c.take.new.self in
+    let both : IfErr c.from_residual.result (λ e. IsRefused own new (fault_number e) × IsNumberOfCalls (fault_number e)) = search rules in
+    also_as (λ e. IsRefused own new (fault_number e)) (λ e. IsNumberOfCalls (fault_number e)) (λ e. IsOfLast own (fault_number e)) _ _ c.from_residual.ensures.1 (c.in_err-notes.ensures.last tt) both

@@ -1,4 +1,4 @@
-use Rattle.std.proofs.Common.{◌≡◌, ℕ, [], Err, ap, sym, subst, inl, inr}
+use Rattle.std.proofs.Common.{[], Err, ap, sym, subst, inl, inr}
 use Rattle.std.proofs.lemmas.Bool.{cases_lt}
 use Rattle.lk_types.specs.Limits.{max_count}
 use Rattle.lk_disk.specs.declared.meter.Meter.{Meter}
@@ -14,7 +14,7 @@ use Rattle.lk_replica.specs.Faults.{fault_number, RefusedAfter}
 use Rattle.lk_replica.specs.declared.fault.ReplicaFault.{ReplicaFault}
 use Rattle.lk_replica.proofs.Calling.{refused_on}
 use Rattle.lk_replica.proofs.Compactions.{failed_alone}
-use Rattle.lk_replica.proofs.Renewals.{goes_fit, then_goes, taken_keeps, revival_calls, narrow_alone, renew_left, given_renew, last_old}
+use Rattle.lk_replica.proofs.Renewals.{goes_fit, then_goes, taken_keeps, revival_calls, renew_left, given_renew, last_old}
 use Rattle.lk_replica.proofs.Revivals.{given_fit, given_cover, given_room}
 use Rattle.lk_replica.proofs.replica.Replica.revive.Goals as goal
 

@@ -11,7 +11,7 @@ use Rattle.lk_node.specs.NodeValue.{NodeValue}
 use Rattle.lk_node.specs.Outboxes.{OutboxValue}
 use Rattle.lk_replica.proofs.Behind.{still_keeps, still_remembers, sent_is_covered, stepped_fits, installed_goes}
 use Rattle.lk_replica.proofs.Going.{put_leaves, put_goes, remembered, step_keeps, step_remembers, step_syncs, step_covers}
-use Rattle.lk_replica.proofs.replica.write.Goals as goal
+use Rattle.lk_replica.proofs.replica.step_to_disk.Goals as goal
 use Rattle.lk_node.proofs.Nodes.{few_entries}
 use Rattle.lk_disk.specs.Meters.{start}
 use Rattle.lk_replica.specs.declared.fault.ReplicaFault.TheVariants as fault
