@@ -13,7 +13,7 @@ use Rattle.lk_node.specs.declared.note.Note.{Note}
 use Rattle.lk_node.specs.declared.note.Note.TheVariants as note
 use Rattle.lk_replica.specs.Behaviours.{Behaviour}
 use Rattle.lk_replica.specs.ReplicaValue.{ReplicaValue}
-use Rattle.lk_sim.specs.Events.{Turns, AreOwn, Adds, IsGiven, ComesUp, IsCompacted, Brings, Does, IsHalted, LeftBy, LeftByInjection, LeftByRevival, LeftByPacking, Wants, IsRefused}
+use Rattle.lk_sim.specs.Events.{Turns, AreOwn, Adds, IsGiven, ComesUp, IsCompacted, Brings, Does, IsHalted, LeftBy, LeftByRevival, LeftByPacking, Wants, IsRefused}
 use Rattle.lk_sim.specs.Heard.{Asks}
 use Rattle.lk_sim.specs.Refusals.{datagram_at}
 use Rattle.lk_sim.specs.Scenes.{Scene}
@@ -223,7 +223,7 @@ module _ (b : Behaviour ReplicaValue) where
   wants_add old new (event.Compact n) k = k.adds
   wants_add old new (event.Client n r) k = same_adds old new k
   wants_add old new (event.Deliver i) k = elim k [ inl same ↦ same_adds old new same | inr h ↦ h.4.adds ]
-  wants_add old new (event.Inject n bytes) k = elim k [ inl same ↦ same_adds old new same | inr h ↦ h.adds ]
+  wants_add old new (event.Inject n bytes) k = elim k [ inl same ↦ same_adds old new same.0 | inr h ↦ h.adds ]
   wants_add old new (event.Stop n x y) k = absurd k
   wants_add old new (event.FailAt n count) k = absurd k
   wants_add old new (event.Arm n count bytes) k = absurd k
@@ -246,16 +246,16 @@ module _ (b : Behaviour ReplicaValue) where
   wants_falls : (old new : Scene ReplicaValue) (e : Event) → Wants b old e new → MayFall old e new
   wants_falls old new (event.Start n) k = inl (same_seats old new k)
   wants_falls old new (event.Restart n) k = inr (n, refl, halted_falls (LeftByRevival b (header_of old.genesis n)) old new n k)
-  wants_falls old new (event.Tick n) k = inr (n, refl, halted_falls (LeftBy b None []) old new n k)
+  wants_falls old new (event.Tick n) k = inr (n, refl, halted_falls (LeftBy b None) old new n k)
   wants_falls old new (event.Compact n) k = inr (n, refl, halted_falls (LeftByPacking b) old new n k)
   wants_falls old new (event.Client n r) k = inl (same_seats old new k)
   wants_falls old new (event.Deliver i) k = elim k [
     | inl same ↦ inl (same_seats old new same)
-    | inr h ↦ inr (h.0, bound old.sent i h.1 h.0 h.2 h.3, halted_falls (LeftBy b (Some h.1.bytes) []) old new h.0 h.4)
+    | inr h ↦ inr (h.0, bound old.sent i h.1 h.0 h.2 h.3, halted_falls (LeftBy b (Some h.1.bytes)) old new h.0 h.4)
   ]
   wants_falls old new (event.Inject n bytes) k = elim k [
-    | inl same ↦ inl (same_seats old new same)
-    | inr h ↦ inr (n, refl, halted_falls (LeftByInjection b bytes.items) old new n h)
+    | inl same ↦ inl (same_seats old new same.0)
+    | inr h ↦ inr (n, refl, halted_falls (LeftBy b (Some bytes.items)) old new n h)
   ]
   wants_falls old new (event.Stop n x y) k = absurd k
   wants_falls old new (event.FailAt n count) k = absurd k

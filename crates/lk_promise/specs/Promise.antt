@@ -156,7 +156,7 @@ AreTold sent trace = AreReplies sent (filter is_told trace)
 
 -- ---- order
 
--- what was answered before a request was asked takes effect in front of it, in each chosen list: however the trace is separated, of an
+-- what was answered before a request was asked takes effect before it, in each chosen list: however the trace is separated, of an
 -- answer in front and a request that was not asked there. (The real-time order of Herlihy, Wing, Linearizability, 1990)
 abbrev pub IsOrdered : Genesis → List Datagram → List Note → Type 0
 IsOrdered genesis sent trace =

@@ -20,7 +20,7 @@ pub fn apply(world: &mut World<Replicas>, event: Event) -> Result<(), Refused>
     ensures executed { HaveExecuted world.new.genesis world.new.seats world.new.sent }
     // The trace tells, in order, of each answer that was sent.
     ensures told { AreTold world.new.sent world.new.trace }
-    // What was answered before a request was asked takes effect in front of it.
+    // What was answered before a request was asked takes effect before it.
     ensures order { IsOrdered world.new.genesis world.new.sent world.new.trace }
     // Whatever stops may leave, a majority remembers each command of a chosen list.
     ensures kept { AreKept world.new.genesis world.new.seats world.new.sent }
@@ -50,7 +50,7 @@ pub fn run(world: &mut World<Replicas>, events: &[Event]) -> RunEnd
     ensures executed { HaveExecuted world.new.genesis world.new.seats world.new.sent }
     // The trace tells, in order, of each answer that was sent.
     ensures told { AreTold world.new.sent world.new.trace }
-    // What was answered before a request was asked takes effect in front of it.
+    // What was answered before a request was asked takes effect before it.
     ensures order { IsOrdered world.new.genesis world.new.sent world.new.trace }
     // Whatever stops may leave, a majority remembers each command of a chosen list.
     ensures kept { AreKept world.new.genesis world.new.seats world.new.sent }

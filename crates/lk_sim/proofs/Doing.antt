@@ -1,5 +1,5 @@
 -- What an event has done, by what its calls came to.
-use Rattle.std.proofs.Common.{◌≡◌, ℕ, ◌⊎◌, List, [], ◌++◌, length, set, Option, Some, None, Ok, Err, refl, ap, sym, ◌∙◌, subst, subst₂, inl, inr, append_assoc, append-nil}
+use Rattle.std.proofs.Common.{◌≡◌, ℕ, ◌⊎◌, List, [], ◌++◌, length, set, Option, Some, None, Ok, refl, ap, sym, ◌∙◌, subst, subst₂, inl, inr, append_assoc, append-nil}
 use Rattle.std.proofs.lemmas.List.{get_or_default}
 use Rattle.lk_disk.specs.Memory.{Memory}
 use Rattle.lk_disk.specs.Meters.{stopping}
@@ -223,19 +223,15 @@ module _ {R : Type 0} (b : Behaviour R) (old new : Scene R) where
 
 -- whatever a node's call came to of which something was to be kept, a stop leaves of its device what it leaves of the one that the call left
 module _ {R : Type 0} (b : Behaviour R) where
-  pub taken_left : TrapsAlone b → (r : R) (o : Option (List ℕ)) (life : Life R) (t : Seat R) (asked mine : List Note) (batch : List Datagram) (how : Option End) (stop : Option ℕ) → (asked ++ mine ≡ [] → batch ≡ [] → ⊥)
-      → life ≡ Up r → HasTaken b r o t mine batch how stop ⊎ HasFallen (Breaks b r o) t mine batch how stop → StopsOn b (LeftBy b o asked life) t.life
-  taken_left alone r o life t asked mine batch how stop some up cases = elim cases [
+  pub taken_left : TrapsAlone b → (r : R) (o : Option (List ℕ)) (life : Life R) (t : Seat R) (mine : List Note) (batch : List Datagram) (how : Option End) (stop : Option ℕ) → (mine ≡ [] → batch ≡ [] → ⊥)
+      → life ≡ Up r → HasTaken b r o t mine batch how stop ⊎ HasFallen (Breaks b r o) t mine batch how stop → StopsOn b (LeftBy b o life) t.life
+  taken_left alone r o life t mine batch how stop some up cases = elim cases [
     | inl k ↦ (
       b.memory k.replica,
       (r, k.replica, Ok (mine, k.all), up, k.takes, refl, λ silent idle. some silent (nothing_sent b stop k.replica k.after k.all batch k.sends idle)),
       ap (λ (z : Life R). stopped_on 0 0 (device_in b z)) k.up ∙ stopped_sent b alone stop k.replica k.after k.all batch k.sends,
     )
-    | inr f ↦ (
-      f.left,
-      (r, f.ends.0, Err f.number, up, f.ends.1, f.ends.3, inr (λ none. some (ap (λ l. l ++ mine) none ∙ f.no_notes) f.no_batch)),
-      ap (λ (z : Life R). stopped_on 0 0 (device_in b z)) f.down,
-    )
+    | inr f ↦ absurd (some f.no_notes f.no_batch)
   ]
 
   pub revived_left : (d : Memory) (header : HeaderValue) (life : Life R) (t : Seat R) (mine : List Note) (batch : List Datagram) (how : Option End) (stop : Option ℕ) → (mine ≡ [] → batch ≡ [] → ⊥)
@@ -265,20 +261,6 @@ module _ {R : Type 0} (old : Scene R) (Left : Life R → Memory → Type 0) (End
     adds = record { genesis = refl; sent = sym (append-nil old.sent); trace = sym (append-nil old.trace) };
     ended = refl;
   }
-
--- it was stopped so
-pub halted_as : {R : Type 0} (Left Other : Life R → Memory → Type 0) (old new : Scene R) (n : ℕ) → ((life : Life R) (d : Memory) → Left life d → Other life d) → IsHalted Left old new n → IsHalted Other old new n
-halted_as Left Other old new n more h = record {
-  seat = h.seat;
-  number = h.number;
-  next = h.next;
-  turns = h.turns;
-  device = h.device;
-  left = more h.seat.life h.device h.left;
-  down = h.down;
-  adds = h.adds;
-  ended = h.ended;
-}
 
 -- a node is up, or was ended with nothing added
 pub record Ends {R : Type 0} (t : Seat R) (mine : List Note) (batch : List Datagram) : Type 0 where

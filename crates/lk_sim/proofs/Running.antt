@@ -2,14 +2,12 @@
 use Rattle.std.proofs.Common.{◌≡◌, ℕ, suc, List, [], ◌∷◌, ◌++◌, take, slice_get, Some, None, refl, sym, ap, ◌∙◌, subst, inl, inr, append_assoc, append-nil}
 use Rattle.lk_disk.specs.Memory.{Memory, empty}
 use Rattle.lk_replica.specs.Behaviours.{Behaviour}
-use Rattle.std.specs.Prelude.{Option, Result, Ok, Err, Vec, OnOk, IfErr}
+use Rattle.std.specs.Prelude.{Option, Result, Ok, Err, Vec, OnOk, IfErr, IsErrAnd}
 use Rattle.std.specs.Global.{Global}
 use Rattle.lk_node.specs.declared.note.Note.{Note}
-use Rattle.lk_sim.specs.Events.{IsGiven, ComesUp, Brings, Does, Wants, IsRefused, IsRefusedAt, LeftByInjection, Grows}
-use Rattle.lk_sim.specs.Refusals.{NoInjection}
+use Rattle.lk_sim.specs.Events.{IsGiven, ComesUp, Brings, Does, Wants, IsRefused, IsNotInjected, Grows}
 use Rattle.lk_sim.specs.Runs.{Passes, StopsAt, Runs}
 use Rattle.lk_sim.specs.Scenes.{Scene}
-use Rattle.lk_sim.specs.Seats.{IsUp}
 use Rattle.lk_sim.specs.Traces.{asked_note}
 use Rattle.lk_sim.specs.declared.end.RunEnd.{RunEnd}
 use Rattle.lk_sim.specs.declared.event.Event.{Event}
@@ -32,9 +30,14 @@ pub if_err : {A E : Type 0} (P Q : E → Type 0) (r : Result A E) → ((e : E) �
 if_err P Q (Ok x) f p = tt
 if_err P Q (Err e) f p = f e p
 
+-- it was refused so
+pub err_as : {A E : Type 0} (r : Result A E) (f : E) (P : E → Type 0) → IsErrAnd r (λ e. e ≡ f) → P f → IfErr r P
+err_as (Ok x) f P is p = absurd is
+err_as (Err e) f P is p = subst P (sym is) p
+
 -- bytes that were refused are a refused event
 pub injected_refused : {R : Type 0} (b : Behaviour R) (old new : Scene R) (n : ℕ) (bytes : Vec ℕ Global) (r : Refused)
-    → IsRefusedAt (NoInjection old.seats old.sent n bytes.items) (IsUp old.seats n) (LeftByInjection b bytes.items) old n r new → IsRefused b old (event.Inject n bytes) r new
+    → IsNotInjected b old n bytes.items r new → IsRefused b old (event.Inject n bytes) r new
 injected_refused b old new n bytes r k = elim k [
   | inl why ↦ inl why
   | inr wants ↦ inr wants
@@ -79,7 +82,7 @@ module _ {R : Type 0} (b : Behaviour R) where
   wants_grow old new (event.Compact m) k = ([], k.adds.sent)
   wants_grow old new (event.Client m r) k = nothing_more old new k
   wants_grow old new (event.Deliver i) k = elim k [ inl same ↦ nothing_more old new same | inr h ↦ ([], h.4.adds.sent) ]
-  wants_grow old new (event.Inject m bytes) k = elim k [ inl same ↦ nothing_more old new same | inr h ↦ ([], h.adds.sent) ]
+  wants_grow old new (event.Inject m bytes) k = elim k [ inl same ↦ nothing_more old new same.0 | inr h ↦ ([], h.adds.sent) ]
   wants_grow old new (event.Stop m x y) k = absurd k
   wants_grow old new (event.FailAt m count) k = absurd k
   wants_grow old new (event.Arm m count bytes) k = absurd k

@@ -1,5 +1,6 @@
 -- What an event does to a world.
-use Rattle.std.specs.Prelude.{◌≡◌, ℕ, ◌-◌, ◌⊎◌, ◌&&◌, nat_lt, nat_le, true, false, length, take, List, [], ◌∷◌, ◌++◌, Option, Some, None, Result, Ok, Err, set, Contains, if◌then◌else◌}
+use Rattle.std.specs.Prelude.{◌≡◌, ℕ, ◌+◌, ◌<◌, ◌-◌, ◌⊎◌, ◌&&◌, nat_lt, nat_le, true, false, length, take, List, [], ◌∷◌, ◌++◌, Option, Some, None, Result, Ok, Err, set, Contains, if◌then◌else◌, Vec, vec_len, vec_capacity}
+use Rattle.std.specs.Global.{Global}
 use Rattle.lk_disk.specs.Memory.{Memory, empty}
 use Rattle.lk_disk.specs.Meters.{Passes, stopping}
 use Rattle.lk_disk.specs.declared.trap.Trap.{Trap}
@@ -9,7 +10,7 @@ use Rattle.lk_log.specs.Values.{HeaderValue}
 use Rattle.lk_wire.specs.Grammar.{Spells}
 use Rattle.lk_wire.specs.declared.message.Content.TheVariants as content
 use Rattle.lk_history.specs.declared.party.Party.TheVariants as party
-use Rattle.lk_node.specs.Histories.{Datagram, RequestValue}
+use Rattle.lk_node.specs.Histories.{Datagram, Genesis, RequestValue}
 use Rattle.lk_node.specs.Leavings.{header_of}
 use Rattle.lk_node.specs.Served.{IsOfNode}
 use Rattle.lk_node.specs.declared.note.Note.{Note}
@@ -17,9 +18,9 @@ use Rattle.lk_node.specs.declared.note.Note.TheVariants as note
 use Rattle.lk_replica.specs.Behaviours.{Behaviour}
 use Rattle.lk_replica.specs.Faults.{RefusedAfter}
 use Rattle.lk_sim.specs.Heard.{Asks}
-use Rattle.lk_sim.specs.Refusals.{datagram_at, May, MayNot}
+use Rattle.lk_sim.specs.Refusals.{datagram_at, May, MayInject, MayNot, NoInjection}
 use Rattle.lk_sim.specs.Scenes.{Scene}
-use Rattle.lk_sim.specs.Seats.{At, IsUp, stopped_on, rested_on, IsTrapped}
+use Rattle.lk_sim.specs.Seats.{At, stopped_on, rested_on, IsTrapped}
 use Rattle.lk_sim.specs.Traces.{Tells, asked_note}
 use Rattle.lk_sim.specs.declared.end.End.{End}
 use Rattle.lk_sim.specs.declared.end.End.TheVariants.{Fault, Stopped}
@@ -284,19 +285,14 @@ Does b old e new = May old e × Brings b old e new
 
 -- ---- what want of memory leaves
 
--- what a call came to, after a request that was just asked, takes memory: it was refused when out of memory, or there is something to be
--- noted or sent
-abbrev pub TakesMemory : List Note → Result (List Note × List Datagram) ℕ → Memory → Type 0
-TakesMemory asked (Ok told) left = asked ++ told.0 ≡ [] → told.1 ≡ [] → ⊥
-TakesMemory asked (Err number) left = IsWant number left ⊎ (asked ≡ [] → ⊥)
+-- what a call came to takes memory: it was refused when out of memory, or there is something to be noted or sent
+abbrev pub TakesMemory : Result (List Note × List Datagram) ℕ → Memory → Type 0
+TakesMemory (Ok told) left = told.0 ≡ [] → told.1 ≡ [] → ⊥
+TakesMemory (Err number) left = IsWant number left
 
 -- such a call of the replica left this device
-abbrev pub LeftBy : {R : Type 0} → Behaviour R → Option (List ℕ) → List Note → Life R → Memory → Type 0
-LeftBy {R = R} b o asked life left = (r q : R) × (came : Result (List Note × List Datagram) ℕ) × (life ≡ Up r) × b.Takes r o q came × (left ≡ b.memory q) × TakesMemory asked came left
-
--- so with bytes that no node has sent
-abbrev pub LeftByInjection : {R : Type 0} → Behaviour R → List ℕ → Life R → Memory → Type 0
-LeftByInjection b bytes life left = (request : Option RequestValue) × Asks bytes request × LeftBy b (Some bytes) (asked_note request) life left
+abbrev pub LeftBy : {R : Type 0} → Behaviour R → Option (List ℕ) → Life R → Memory → Type 0
+LeftBy {R = R} b o life left = (r q : R) × (came : Result (List Note × List Datagram) ℕ) × (life ≡ Up r) × b.Takes r o q came × (left ≡ b.memory q) × TakesMemory came left
 
 -- this is the device of what a revival came to that takes memory: it was refused when out of memory, or there is something to be noted
 abbrev pub IsOf : {R : Type 0} → Behaviour R → Result (R × List Note) (ℕ × Memory) → Memory → Type 0
@@ -307,6 +303,10 @@ IsOf b (Err came) left = (left ≡ came.1) × IsWant came.0 came.1
 abbrev pub LeftByRevival : {R : Type 0} → Behaviour R → HeaderValue → Life R → Memory → Type 0
 LeftByRevival {R = R} b header life left =
     (d : Memory) × (came : Result (R × List Note) (ℕ × Memory)) × (life ≡ Down d) × b.Revives d header came × IsOf b came left
+
+-- a Start takes memory: there was no room for the node's place, or its revival on empty disks takes memory
+abbrev pub StartWants : {R : Type 0} → Behaviour R → Genesis → ℕ → Vec (Seat R) Global → Type 0
+StartWants b genesis n seats = (vec_capacity seats < vec_len seats + 1) ⊎ ((left : Memory) × LeftByRevival b (header_of genesis n) (Down empty) left)
 
 -- a compaction that was refused when out of memory left this device
 abbrev pub LeftByPacking : {R : Type 0} → Behaviour R → Life R → Memory → Type 0
@@ -324,34 +324,34 @@ pub record IsHalted {R : Type 0} (Left : Life R → Memory → Type 0) (old new 
   pub adds : Adds old new [] []
   pub ended : new.ended ≡ old.ended
 
+-- what want of memory leaves of bytes that no node has sent: they are a request, and there was no room for its note, before its node stepped;
+-- or the node has stopped, and its call takes memory
+abbrev pub WantsInjection : {R : Type 0} → Behaviour R → Scene R → ℕ → List ℕ → Scene R → Type 0
+WantsInjection b old n bytes new = ((new ≡ old) × ((r : RequestValue) × Asks bytes (Some r))) ⊎ IsHalted (LeftBy b (Some bytes)) old new n
+
 -- what want of memory leaves of an event: the node that it steps, or revives, has stopped. Where no node was stepping yet nothing has
--- changed, nor where the node was never started before. A stop, and a trap that is set, take no memory, nor does a call that came to
--- another fault, where no request was to be noted as asked. Nothing was noted or sent
+-- changed, nor where the node was never started before: it is as never started. A stop, and a trap that is set, take no memory, nor does a
+-- call that came to another fault, or that left nothing to be noted or sent. Nothing was noted or sent
 abbrev pub Wants : {R : Type 0} → Behaviour R → Scene R → Event → Scene R → Type 0
 Wants b old (event.Start n) new = new ≡ old
 Wants b old (event.Restart n) new = IsHalted (LeftByRevival b (header_of old.genesis n)) old new n
-Wants b old (event.Tick n) new = IsHalted (LeftBy b None []) old new n
+Wants b old (event.Tick n) new = IsHalted (LeftBy b None) old new n
 Wants b old (event.Compact n) new = IsHalted (LeftByPacking b) old new n
 Wants b old (event.Client n r) new = new ≡ old
 Wants b old (event.Deliver k) new =
-    (new ≡ old) ⊎ ((n : ℕ) × (d : Datagram) × (datagram_at old.sent k ≡ Some d) × (d.to ≡ party.Node n) × IsHalted (LeftBy b (Some d.bytes) []) old new n)
-Wants b old (event.Inject n bytes) new = (new ≡ old) ⊎ IsHalted (LeftByInjection b bytes.items) old new n
+    (new ≡ old) ⊎ ((n : ℕ) × (d : Datagram) × (datagram_at old.sent k ≡ Some d) × (d.to ≡ party.Node n) × IsHalted (LeftBy b (Some d.bytes)) old new n)
+Wants b old (event.Inject n bytes) new = WantsInjection b old n bytes.items new
 Wants b old (event.Stop n x y) new = ⊥
 Wants b old (event.FailAt n count) new = ⊥
 Wants b old (event.Arm n count bytes) new = ⊥
 
--- memory may be wanting where nothing else refuses the event; and to read what is injected
-abbrev pub MayWant : {R : Type 0} → Scene R → Event → Type 0
-MayWant w (event.Inject n bytes) = IsUp w.seats n
-MayWant w e = May w e
-
--- what an event leaves that is refused
+-- what an event leaves that is refused. Memory is wanting only where nothing else refuses it
 abbrev pub IsRefused : {R : Type 0} → Behaviour R → Scene R → Event → Refused → Scene R → Type 0
-IsRefused b old e r new = (MayNot old e r × (new ≡ old)) ⊎ ((r ≡ WorldMemory) × MayWant old e × Wants b old e new)
+IsRefused b old e r new = (MayNot old e r × (new ≡ old)) ⊎ ((r ≡ WorldMemory) × May old e × Wants b old e new)
 
--- so of an event that steps the node of this number, by why not, and where memory may be wanting
-abbrev pub IsRefusedAt : {R : Type 0} → (Refused → Type 0) → Type 0 → (Life R → Memory → Type 0) → Scene R → ℕ → Refused → Scene R → Type 0
-IsRefusedAt Why CanWant Left old n r new = (Why r × (new ≡ old)) ⊎ ((r ≡ WorldMemory) × CanWant × ((new ≡ old) ⊎ IsHalted Left old new n))
+-- so of bytes that no node has sent
+abbrev pub IsNotInjected : {R : Type 0} → Behaviour R → Scene R → ℕ → List ℕ → Refused → Scene R → Type 0
+IsNotInjected b old n bytes r new = (NoInjection old.seats old.sent n bytes r × (new ≡ old)) ⊎ ((r ≡ WorldMemory) × MayInject old n bytes × WantsInjection b old n bytes new)
 
 -- ---- what every event keeps
 

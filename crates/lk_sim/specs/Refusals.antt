@@ -107,6 +107,10 @@ MayTurn w n = IsUp w.seats n × HasRoom w.sent
 abbrev pub MayDeliver : {R : Type 0} → Scene R → ℕ → Type 0
 MayDeliver w k = (d : Datagram) × (n : ℕ) × (datagram_at w.sent k ≡ Some d) × (d.to ≡ party.Node n) × MayTurn w n
 
+-- and the bytes are none that only a node sends
+abbrev pub MayInject : {R : Type 0} → Scene R → ℕ → List ℕ → Type 0
+MayInject w n bytes = MayTurn w n × (IsForged bytes → ⊥)
+
 abbrev pub May : {R : Type 0} → Scene R → Event → Type 0
 May w (event.Start n) = HasNo w.seats n × (length w.seats < 16)
 May w (event.Restart n) = IsDown w.seats n
@@ -114,7 +118,7 @@ May w (event.Tick n) = MayTurn w n
 May w (event.Compact n) = IsUp w.seats n
 May w (event.Client n r) = IsStarted w.seats n × HasRoom w.sent
 May w (event.Deliver k) = MayDeliver w k
-May w (event.Inject n bytes) = MayTurn w n × (IsForged bytes.items → ⊥)
+May w (event.Inject n bytes) = MayInject w n bytes.items
 May w (event.Stop n x y) = IsUp w.seats n
 May w (event.FailAt n count) = IsStarted w.seats n
 May w (event.Arm n count bytes) = IsStarted w.seats n

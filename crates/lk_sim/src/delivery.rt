@@ -1,15 +1,16 @@
 // Nodes are given ticks and datagrams, and clients ask.
-ghost use Rattle.std.specs.Prelude.{◌≡◌, ◌⊎◌, None, Some, IfOk, IfErr, IfSome, OnOk};
+ghost use Rattle.std.specs.Prelude.{◌≡◌, ◌⊎◌, None, Some, IfOk, IfErr, IfSome, OnOk, OnErr};
 ghost use Rattle.lk_history.specs.Datagrams.{Datagram as DatagramValue};
 ghost use Rattle.lk_history.specs.declared.party.Party.TheVariants as party;
 ghost use Rattle.lk_wire.specs.Shown.{shown_content};
 ghost use Rattle.lk_wire.specs.declared.message.Content.TheVariants as content;
 ghost use Rattle.lk_node.specs.Histories.{RequestValue};
 ghost use Rattle.lk_replica.specs.Behaviours.{disks_by};
-ghost use Rattle.lk_sim.specs.Events.{Does, IsInjected, IsRefused, IsRefusedAt, LeftByInjection};
+ghost use Rattle.lk_sim.specs.Events.{Does, IsInjected, IsNotInjected, IsRefused};
 ghost use Rattle.lk_sim.specs.Heard.{Asks, IsForged};
-ghost use Rattle.lk_sim.specs.Refusals.{datagram_at, HasRoom, NoTurn, NoDelivery, NoInjection, MayTurn};
-ghost use Rattle.lk_sim.specs.Seats.{IsUp, IsUpAt};
+ghost use Rattle.lk_sim.specs.Refusals.{datagram_at, HasRoom, NoTurn, NoDelivery, MayInject};
+ghost use Rattle.lk_sim.specs.Rooms.{HasNoteRoom};
+ghost use Rattle.lk_sim.specs.Seats.{IsUpAt};
 ghost use Rattle.lk_sim.specs.Worlds.{PartsHold, scene_of};
 ghost use Rattle.lk_sim.specs.declared.event.Event.TheVariants as event;
 
@@ -18,7 +19,7 @@ use crate::giving::give;
 use crate::parts::Parts;
 use crate::refused::Refused;
 use lk_history::Party;
-use lk_node::Input;
+use lk_node::{Input, Note};
 use lk_replica::{Datagram, MemoryReplica};
 use lk_types::{NoMemory, NodeNo, Request};
 use lk_wire::{ContentRef, view};
@@ -117,7 +118,19 @@ fn request_in(bytes: &[u8]) -> Result<Option<Request>, Refused>
     Ok(Some(request))
 }
 
-/// A node is handed bytes that no node has sent.
+// Room for the note of a request that is asked. Where none is asked it takes no memory.
+fn make_room(trace: &mut Vec<Note>, asked: &Option<Request>) -> Result<(), NoMemory>
+    ensures same { trace.new.items ≡ trace.old.items }
+    ensures room { OnOk result (HasNoteRoom asked.now trace.new) }
+    ensures memory { OnErr result ((r : RequestValue) × (asked.now ≡ Some r)) }
+{
+    if asked.is_some() {
+        trace.reserve(1)?;
+    }
+    Ok(())
+}
+
+/// A node is handed bytes that no node has sent. The room for the note of a request is looked for before the node steps.
 pub fn inject<R: MemoryReplica>(
     parts: &mut Parts<R>,
     number: NodeNo,
@@ -125,14 +138,15 @@ pub fn inject<R: MemoryReplica>(
 ) -> Result<(), Refused>
     requires { PartsHold R.Shows (disks_by R.behaves) R.meaning parts.old }
     ensures holds { PartsHold R.Shows (disks_by R.behaves) R.meaning parts.new }
-    ensures ok { OnOk result (MayTurn (scene_of parts.old) number × (IsForged bytes.now → ⊥) × IsInjected R.behaves (scene_of parts.old) (scene_of parts.new) number bytes.now) }
-    ensures err { IfErr result (λ e. IsRefusedAt (NoInjection parts.old.seats.items parts.old.sent.items number bytes.now) (IsUp parts.old.seats.items number) (LeftByInjection R.behaves bytes.now) (scene_of parts.old) number e (scene_of parts.new)) }
+    ensures ok { OnOk result (MayInject (scene_of parts.old) number bytes.now × IsInjected R.behaves (scene_of parts.old) (scene_of parts.new) number bytes.now) }
+    ensures err { IfErr result (λ e. IsNotInjected R.behaves (scene_of parts.old) number bytes.now e (scene_of parts.new)) }
 {
     let i = find_up(&parts.seats, number)?;
     let asked = request_in(bytes)?;
     if !has_room(&parts.sent) {
         return Err(Refused::WorldFull);
     }
+    make_room(&mut parts.trace, &asked)?;
     give(parts, i, Input::Datagram(bytes), asked)?;
     Ok(())
 }

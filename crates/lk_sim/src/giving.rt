@@ -9,6 +9,7 @@ ghost use Rattle.lk_node.specs.declared.note.Note.{Note as NoteValue};
 ghost use Rattle.lk_replica.specs.Behaviours.{disks_by};
 ghost use Rattle.lk_sim.specs.Events.{IsGiven, IsHalted, IsBack, LeftBy, LeftByRevival};
 ghost use Rattle.lk_sim.specs.Outcomes.{HasAdded, HasSettled, HasGivenUp};
+ghost use Rattle.lk_sim.specs.Rooms.{HasNoteRoom};
 ghost use Rattle.lk_sim.specs.Seats.{IsUpAt, IsDownAt};
 ghost use Rattle.lk_sim.specs.Traces.{happened, asked_note, Tells};
 ghost use Rattle.lk_sim.specs.Worlds.{PartsHold, scene_of};
@@ -55,29 +56,40 @@ fn join(
     Ok(())
 }
 
-// Whether nothing of what a call came to is to be noted or sent, nor a request that was just asked.
-fn is_nothing(asked: &Option<Request>, outcome: &Outcome) -> bool
-    ensures asked { result ≡ true → asked_note asked.now ≡ [] }
+// Whether nothing of what a call came to is to be noted or sent.
+fn is_nothing(outcome: &Outcome) -> bool
     ensures notes { result ≡ true → outcome.now.notes.items ≡ [] }
     ensures sent { result ≡ true → outcome.now.sent.items ≡ [] }
-    ensures some { result ≡ false → asked_note asked.now ++ outcome.now.notes.items ≡ [] → outcome.now.sent.items ≡ [] → ⊥ }
+    ensures some { result ≡ false → outcome.now.notes.items ≡ [] → outcome.now.sent.items ≡ [] → ⊥ }
 {
-    asked.is_none() && outcome.notes.is_empty() && outcome.sent.is_empty()
+    outcome.notes.is_empty() && outcome.sent.is_empty()
 }
 
-/// Keeps what a call came to, after a request that was just asked, or nothing of it. Where there is nothing to keep it takes no
-/// memory.
+// Notes a request that was just asked, for which there is room: it takes no memory.
+fn note_asked(trace: &mut Vec<Note>, asked: Option<Request>)
+    requires room { HasNoteRoom asked trace.old }
+    ensures { trace.new.items ≡ trace.old.items ++ asked_note asked }
+{
+    if let Some(request) = asked {
+        trace.push(Note::Asked(request)).unwrap();
+    }
+}
+
+/// Keeps what a call came to, after a request that was just asked, for whose note there is room, or nothing of it. Where the call
+/// left nothing to keep it takes no memory.
 pub fn add<R: MemoryReplica>(
     parts: &mut Parts<R>,
     asked: Option<Request>,
     outcome: Outcome,
 ) -> Result<(), NoMemory>
+    requires room { HasNoteRoom asked parts.old.trace }
     ensures ok { OnOk result (HasAdded (scene_of parts.old) (scene_of parts.new) (asked_note asked) outcome.notes.items outcome.sent.items outcome.ended) }
     ensures err { OnErr result (scene_of parts.new ≡ scene_of parts.old) }
-    ensures wants { OnErr result (asked_note asked ++ outcome.notes.items ≡ [] → outcome.sent.items ≡ [] → ⊥) }
+    ensures wants { OnErr result (outcome.notes.items ≡ [] → outcome.sent.items ≡ [] → ⊥) }
     ensures seats { parts.new.seats ≡ parts.old.seats }
 {
-    if is_nothing(&asked, &outcome) {
+    if is_nothing(&outcome) {
+        note_asked(&mut parts.trace, asked);
         parts.ended = outcome.ended;
         return Ok(());
     }
@@ -102,9 +114,10 @@ pub fn settle<R: MemoryReplica>(
     outcome: Outcome,
 ) -> Result<(), NoMemory>
     requires place { i < length parts.old.seats.items }
+    requires room { HasNoteRoom asked parts.old.trace }
     ensures ok { OnOk result (HasSettled R.Shows R.behaves R.meaning (scene_of parts.old) i (scene_of parts.new) (asked_note asked) outcome.notes.items outcome.sent.items outcome.ended outcome.stop) }
     ensures err { OnErr result (HasGivenUp R.Shows R.behaves R.meaning (scene_of parts.old) i (scene_of parts.new)) }
-    ensures wants { OnErr result (asked_note asked ++ outcome.notes.items ≡ [] → outcome.sent.items ≡ [] → ⊥) }
+    ensures wants { OnErr result (outcome.notes.items ≡ [] → outcome.sent.items ≡ [] → ⊥) }
 {
     let at = outcome.stop;
     match add(parts, asked, outcome) {
@@ -119,7 +132,7 @@ pub fn settle<R: MemoryReplica>(
     }
 }
 
-/// The node at this place, which is up, takes the input. A request in it is noted as asked.
+/// The node at this place, which is up, takes the input. A request in it is noted as asked: there is room for that note.
 pub fn give<R: MemoryReplica>(
     parts: &mut Parts<R>,
     i: usize,
@@ -128,12 +141,13 @@ pub fn give<R: MemoryReplica>(
 ) -> Result<(), NoMemory>
     requires up { (n : ℕ) × IsUpAt parts.old.seats.items i n }
     requires heard { InputFits (happened parts.old.genesis parts.old.sent.items (parts.old.trace.items ++ asked_note asked)) input }
+    requires room { HasNoteRoom asked parts.old.trace }
     requires holds { PartsHold R.Shows (disks_by R.behaves) R.meaning parts.old }
     ensures holds { PartsHold R.Shows (disks_by R.behaves) R.meaning parts.new }
     ensures given { (n : ℕ) → IsUpAt parts.old.seats.items i n
         → OnOk result (IsGiven R.behaves (scene_of parts.old) (scene_of parts.new) n (heard_by input.entry) (asked_note asked)) }
     ensures halted { (n : ℕ) → IsUpAt parts.old.seats.items i n
-        → OnErr result (IsHalted (LeftBy R.behaves (heard_by input.entry) (asked_note asked)) (scene_of parts.old) (scene_of parts.new) n) }
+        → OnErr result (IsHalted (LeftBy R.behaves (heard_by input.entry)) (scene_of parts.old) (scene_of parts.new) n) }
 {
     let outcome = step(parts.alloc, &mut parts.seats[i], input)?;
     settle(parts, i, asked, outcome)?;

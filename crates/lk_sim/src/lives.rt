@@ -1,10 +1,11 @@
 // Nodes come up and go down.
 ghost use Rattle.std.specs.Prelude.{◌≡◌, IfErr, OnOk, OnErr};
 ghost use Rattle.lk_replica.specs.Behaviours.{disks_by};
-ghost use Rattle.lk_sim.specs.Events.{Does, IsBegun, IsRefused};
+ghost use Rattle.lk_sim.specs.Events.{Does, IsBegun, IsRefused, StartWants};
 ghost use Rattle.lk_sim.specs.Seats.{HasNo};
 ghost use Rattle.lk_sim.specs.Worlds.{PartsHold, scene_of};
 ghost use Rattle.lk_sim.specs.declared.event.Event.TheVariants as event;
+ghost use Rattle.lk_sim.specs.declared.refused.Refused.TheVariants.{WorldMemory};
 
 use crate::finding::{find, find_down, find_up};
 use crate::giving::{add, come_up};
@@ -25,6 +26,8 @@ fn begin<R: MemoryReplica>(parts: &mut Parts<R>, number: NodeNo) -> Result<(), N
     ensures holds { PartsHold R.Shows (disks_by R.behaves) R.meaning parts.new }
     ensures ok { OnOk result (IsBegun R.behaves (scene_of parts.old) (scene_of parts.new) number) }
     ensures err { OnErr result (scene_of parts.new ≡ scene_of parts.old) }
+    // Memory was refused for the node's place, before it was revived, or to what its revival came to.
+    ensures wants { OnErr result (StartWants R.behaves parts.old.genesis number parts.old.seats) }
 {
     let life = Life::Down(MemoryDisk::new(parts.alloc));
     let mut seat = Seat { number, life };
@@ -43,6 +46,7 @@ pub fn start<R: MemoryReplica>(parts: &mut Parts<R>, number: NodeNo) -> Result<(
     ensures holds { PartsHold R.Shows (disks_by R.behaves) R.meaning parts.new }
     ensures ok { OnOk result (Does R.behaves (scene_of parts.old) (event.Start number) (scene_of parts.new)) }
     ensures err { IfErr result (λ e. IsRefused R.behaves (scene_of parts.old) (event.Start number) e (scene_of parts.new)) }
+    ensures wants { IfErr result (λ e. e ≡ WorldMemory → StartWants R.behaves parts.old.genesis number parts.old.seats) }
 {
     if let Some(_) = find(&parts.seats, number) {
         return Err(Refused::AlreadyUp);

@@ -26,7 +26,7 @@ returns-in_err-give-clause-err g c =
     let b = c.in_ok-bytes.ensures in
     let same : c.deref.result.now ≡ c.in_ok-bytes.bytes.items = search rules in
     let bytes : c.deref.result.now ≡ d.0.bytes = same ∙ b.2 ∙ ap (λ (z : Datagram). z.bytes) (one_datagram p.sent.items c.args.k b.0 d.0 b.1 d.1) in
-    let halted = subst (λ l. IsHalted (LeftBy g.R.MemoryReplica.behaves (Some l) []) (scene_of p) (scene_of c.give.new.parts) n) bytes (c.in_err-give.ensures.halted n u.0) in
+    let halted = subst (λ l. IsHalted (LeftBy g.R.MemoryReplica.behaves (Some l)) (scene_of p) (scene_of c.give.new.parts) n) bytes (c.in_err-give.ensures.halted n u.0) in
     let k : IsRefused g.R.MemoryReplica.behaves (scene_of p) (event.Deliver c.args.k) WorldMemory (scene_of c.give.new.parts) =
     inr (refl, (d.0, n, d.1, d.2, ((u.0.1, (c.in_ok-i.i, u.0.0, u.0.2, u.0.3, u.0.4)), u.1)), inr (n, d.0, d.1, d.2, halted)) in
     search rules

@@ -1,13 +1,15 @@
-use Rattle.std.proofs.Common.{rules, Some, refl, inr}
-use Rattle.lk_sim.specs.Events.{IsRefusedAt, LeftBy, LeftByInjection}
+use Rattle.std.proofs.Common.{◌≡◌, rules, List, Some, refl, inl, inr, ap, subst}
+use Rattle.lk_sim.specs.Events.{IsGiven, IsHalted, IsNotInjected, LeftBy}
+use Rattle.lk_node.specs.declared.note.Note.{Note}
 use Rattle.lk_sim.specs.Heard.{Asks}
-use Rattle.lk_sim.specs.Refusals.{NoInjection, HasRoom}
-use Rattle.lk_sim.specs.Seats.{IsUp, IsUpAt}
+use Rattle.lk_sim.specs.Refusals.{HasRoom}
+use Rattle.lk_sim.specs.Scenes.{Scene}
+use Rattle.lk_sim.specs.Seats.{IsUpAt}
+use Rattle.lk_sim.specs.Traces.{asked_note}
 use Rattle.lk_sim.specs.Worlds.{scene_of}
 use Rattle.lk_sim.specs.declared.refused.Refused.TheVariants.{WorldMemory}
-use Rattle.lk_sim.specs.Traces.{asked_note}
-use Rattle.lk_sim.proofs.Doing.{halted_as}
 use Rattle.lk_sim.proofs.Hearing.{heard_asked, asked_unforged}
+use Rattle.lk_sim.proofs.Running.{err_as}
 use Rattle.lk_sim.proofs.delivery.inject.Goals as goal
 
 pub give-requires-clause-up : goal.give-requires-clause-up
@@ -18,20 +20,33 @@ give-requires-clause-up g c =
 pub give-requires-clause-heard : goal.give-requires-clause-heard
 give-requires-clause-heard g c =
     let p = c.args.parts.now in
-    heard_asked p.genesis p.sent.items p.trace.items c.args.bytes.now c.in_ok-asked.asked c.in_ok-asked.ensures.ok
+    heard_asked p.genesis p.sent.items c.make_room.new.trace.items c.args.bytes.now c.in_ok-asked.asked c.in_ok-asked.ensures.ok
+
+pub returns-in_err-make_room-clause-err : goal.returns-in_err-make_room-clause-err
+returns-in_err-make_room-clause-err g c =
+    let p = c.args.parts.now in
+    let n = c.args.number in
+    let l = c.args.bytes.now in
+    let u : IsUpAt p.seats.items c.in_ok-i.i n = search rules in
+    let room : HasRoom p.sent.items = search rules in
+    let a : Asks l c.in_ok-asked.asked = c.in_ok-asked.ensures.ok in
+    let m = c.in_err-make_room.ensures.memory in
+    let new : Scene g.row.R.Denot = record (scene_of p) { trace = c.make_room.new.trace.items } in
+    let same : new ≡ scene_of p = ap (λ (t : List Note). record (scene_of p) { trace = t }) c.make_room.ensures.same in
+    err_as _ WorldMemory (λ e. IsNotInjected g.R.MemoryReplica.behaves (scene_of p) n l e new) c.from_residual-in_err-make_room.ensures.1
+    (inr (refl, (((u.1, (c.in_ok-i.i, u.0, u.2, u.3, u.4)), room), asked_unforged l c.in_ok-asked.asked a), inl (same, (m.0, subst (Asks l) m.1 a))))
 
 pub returns-in_err-give-clause-err : goal.returns-in_err-give-clause-err
 returns-in_err-give-clause-err g c =
     let p = c.args.parts.now in
-    let u : IsUpAt p.seats.items c.in_ok-i.i c.args.number = search rules in
-    let k : IsRefusedAt (NoInjection p.seats.items p.sent.items c.args.number c.args.bytes.now) (IsUp p.seats.items c.args.number) (LeftByInjection g.R.MemoryReplica.behaves c.args.bytes.now) (scene_of p) c.args.number WorldMemory (scene_of c.give.new.parts) =
-    inr (
-      refl,
-      (u.1, (c.in_ok-i.i, u.0, u.2, u.3, u.4)),
-      inr (halted_as (LeftBy g.R.MemoryReplica.behaves (Some c.args.bytes.now) (asked_note c.in_ok-asked.asked)) (LeftByInjection g.R.MemoryReplica.behaves c.args.bytes.now) (scene_of p) (scene_of c.give.new.parts) c.args.number
-          (λ life d left. (c.in_ok-asked.asked, c.in_ok-asked.ensures.ok, left)) (c.in_err-give.ensures.halted c.args.number u)),
-    ) in
-    search rules
+    let n = c.args.number in
+    let l = c.args.bytes.now in
+    let u : IsUpAt p.seats.items c.in_ok-i.i n = search rules in
+    let room : HasRoom p.sent.items = search rules in
+    let new : Scene g.row.R.Denot = scene_of c.give.new.parts in
+    let halted = subst (λ (t : List Note). IsHalted (LeftBy g.R.MemoryReplica.behaves (Some l)) (record (scene_of p) { trace = t }) new n) c.make_room.ensures.same (c.in_err-give.ensures.halted n u) in
+    err_as _ WorldMemory (λ e. IsNotInjected g.R.MemoryReplica.behaves (scene_of p) n l e new) c.from_residual-in_err-give.ensures.1
+    (inr (refl, (((u.1, (c.in_ok-i.i, u.0, u.2, u.3, u.4)), room), asked_unforged l c.in_ok-asked.asked c.in_ok-asked.ensures.ok), inr halted))
 
 pub returns-clause-ok : goal.returns-clause-ok
 returns-clause-ok g c =
@@ -39,11 +54,10 @@ returns-clause-ok g c =
     let u : IsUpAt p.seats.items c.in_ok-i.i c.args.number = search rules in
     let room : HasRoom p.sent.items = search rules in
     let a : Asks c.args.bytes.now c.in_ok-asked.asked = c.in_ok-asked.ensures.ok in (
-      ((u.1, (c.in_ok-i.i, u.0, u.2, u.3, u.4)), room),
-      asked_unforged c.args.bytes.now c.in_ok-asked.asked a,
+      (((u.1, (c.in_ok-i.i, u.0, u.2, u.3, u.4)), room), asked_unforged c.args.bytes.now c.in_ok-asked.asked a),
       record {
         request = c.in_ok-asked.asked;
         asks = a;
-        given = c.in_ok-give.ensures.given c.args.number u;
+        given = subst (λ (l : List Note). IsGiven g.R.MemoryReplica.behaves (record (scene_of p) { trace = l }) (scene_of c.give.new.parts) c.args.number (Some c.args.bytes.now) (asked_note c.in_ok-asked.asked)) c.make_room.ensures.same (c.in_ok-give.ensures.given c.args.number u);
       },
     )

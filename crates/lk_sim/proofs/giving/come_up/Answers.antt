@@ -1,4 +1,4 @@
-use Rattle.std.proofs.Common.{◌≡◌, rules, None, Err, refl, sym, ap, subst}
+use Rattle.std.proofs.Common.{◌≡◌, rules, None, Err, refl, sym, subst}
 use Rattle.lk_node.specs.Leavings.{header_of}
 use Rattle.lk_sim.specs.Events.{LeftByRevival, StaysDown}
 use Rattle.lk_sim.specs.Seats.{At}

@@ -1,8 +1,7 @@
-use Rattle.std.proofs.Common.{◌≡◌, rules, sym, inl, Err}
+use Rattle.std.proofs.Common.{◌≡◌, rules, sym, Err}
 use Rattle.lk_node.specs.Calls.{heard_by}
 use Rattle.lk_sim.specs.Events.{LeftBy, Breaks}
 use Rattle.lk_sim.specs.Seats.{At}
-use Rattle.lk_sim.specs.Traces.{asked_note}
 use Rattle.lk_sim.specs.declared.seat.Life.TheVariants.{Up}
 use Rattle.lk_sim.specs.Worlds.{scene_of}
 use Rattle.lk_sim.proofs.Explaining.{lawful}
@@ -27,8 +26,8 @@ returns-in_err-outcome-clause-halted g c n u =
     let at : At p.seats.items c.args.i s = (search rules, sym c.index_mut.ensures.value) in
     let up : s.life ≡ Up u.1 = rw (at_same _ _ _ _ at u.2) u.4 in
     let k = c.in_err-outcome.ensures.wants u.1 up in
-    let h = wanted (scene_of p) (LeftBy g.R.MemoryReplica.behaves (heard_by c.args.input) (asked_note c.args.asked)) (Breaks g.R.MemoryReplica.behaves u.1 (heard_by c.args.input)) c.args.i n s c.step.new.seat at (rw (at_same _ _ _ _ at u.2) u.3) c.step.ensures.number k
-    (u.1, k.ends.0, Err k.number, up, k.ends.1, k.ends.3, inl k.want) in
+    let h = wanted (scene_of p) (LeftBy g.R.MemoryReplica.behaves (heard_by c.args.input)) (Breaks g.R.MemoryReplica.behaves u.1 (heard_by c.args.input)) c.args.i n s c.step.new.seat at (rw (at_same _ _ _ _ at u.2) u.3) c.step.ensures.number k
+    (u.1, k.ends.0, Err k.number, up, k.ends.1, k.ends.3, k.want) in
     search rules
 
 pub returns-in_err-settle-clause-holds : goal.returns-in_err-settle-clause-holds
@@ -51,7 +50,7 @@ returns-in_err-settle-clause-halted g c n u =
     let s = c.index_mut.result.now in
     let at : At p.seats.items c.args.i s = (search rules, sym c.index_mut.ensures.value) in
     let up : s.life ≡ Up u.1 = rw (at_same _ _ _ _ at u.2) u.4 in
-    let k = given_up g.R.MemoryReplica.behaves (scene_of p) (scene_of c.settle.new.parts) (LeftBy g.R.MemoryReplica.behaves (heard_by c.args.input) (asked_note c.args.asked)) _ _ c.args.i n s c.step.new.seat at (rw (at_same _ _ _ _ at u.2) u.3) c.step.ensures.number (taken_left g.R.MemoryReplica.behaves g.met.R.MemoryReplica.traps_alone u.1 _ _ _ _ _ _ _ _ c.in_err-settle.ensures.wants up (c.in_ok-outcome.ensures.exact u.1 up)) c.in_err-settle.ensures.err in
+    let k = given_up g.R.MemoryReplica.behaves (scene_of p) (scene_of c.settle.new.parts) (LeftBy g.R.MemoryReplica.behaves (heard_by c.args.input)) _ _ c.args.i n s c.step.new.seat at (rw (at_same _ _ _ _ at u.2) u.3) c.step.ensures.number (taken_left g.R.MemoryReplica.behaves g.met.R.MemoryReplica.traps_alone u.1 _ _ _ _ _ _ _ c.in_err-settle.ensures.wants up (c.in_ok-outcome.ensures.exact u.1 up)) c.in_err-settle.ensures.err in
     search rules
 
 pub returns-clause-holds : goal.returns-clause-holds

@@ -1,8 +1,6 @@
 use Rattle.std.proofs.Common.{◌≡◌, ℕ, List, subst}
-use Rattle.std.specs.Prelude.{IfErr, Some}
-use Rattle.lk_sim.specs.Events.{IsRefusedAt, LeftByInjection}
-use Rattle.lk_sim.specs.Refusals.{NoInjection}
-use Rattle.lk_sim.specs.Seats.{IsUp}
+use Rattle.std.specs.Prelude.{IfErr}
+use Rattle.lk_sim.specs.Events.{IsNotInjected}
 use Rattle.lk_sim.specs.Worlds.{scene_of}
 use Rattle.lk_sim.proofs.Running.{if_err, injected_refused}
 use Rattle.lk_sim.proofs.happening.happen.Goals as goal
@@ -17,4 +15,4 @@ returns-in-Inject-clause-err g c =
     let same : c.deref.result.now ≡ c.in-Inject.bytes.items = c.deref.ensures.value in
     rw c.in-Inject.is
     (if_err _ _ c.inject.result (λ e k. injected_refused g.R.MemoryReplica.behaves (scene_of p) (scene_of c.inject.new.parts) n c.in-Inject.bytes e k)
-    (subst (λ (l : List ℕ). IfErr c.inject.result (λ e. IsRefusedAt (NoInjection p.seats.items p.sent.items n l) (IsUp p.seats.items n) (LeftByInjection g.R.MemoryReplica.behaves l) (scene_of p) n e (scene_of c.inject.new.parts))) same c.inject.ensures.err))
+    (subst (λ (l : List ℕ). IfErr c.inject.result (λ e. IsNotInjected g.R.MemoryReplica.behaves (scene_of p) n l e (scene_of c.inject.new.parts))) same c.inject.ensures.err))

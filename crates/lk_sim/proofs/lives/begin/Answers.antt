@@ -1,12 +1,13 @@
-use Rattle.std.proofs.Common.{rules, ◌≡◌, [], ◌∷◌, ◌++◌, length, None, refl, ap, sym, subst, ◌∙◌}
+use Rattle.std.proofs.Common.{rules, ◌≡◌, [], ◌∷◌, ◌++◌, length, None, Result, Ok, Err, OnErr, refl, ap, sym, subst, inr, ◌∙◌}
 use Rattle.lk_disk.specs.Memory.{Memory}
 use Rattle.lk_disk.specs.declared.device.Side.TheVariants.{A, B}
-use Rattle.lk_sim.specs.Events.{ComesUp}
+use Rattle.lk_node.specs.Leavings.{header_of}
+use Rattle.lk_sim.specs.Events.{ComesUp, LeftByRevival, StartWants}
 use Rattle.lk_sim.specs.Scenes.{Scene}
 use Rattle.lk_sim.specs.Worlds.{scene_of}
 use Rattle.lk_sim.specs.declared.seat.Life.TheVariants.{Down}
 use Rattle.lk_sim.specs.declared.seat.Seat.{Seat}
-use Rattle.lk_sim.proofs.Doing.{comes, revived_cases, since, settled_holds}
+use Rattle.lk_sim.proofs.Doing.{comes, revived_cases, revived_left, since, settled_holds}
 use Rattle.lk_sim.proofs.Explaining.{lawful}
 use Rattle.lk_sim.proofs.Lists.{set_last, at_set_here}
 use Rattle.lk_sim.proofs.Starting.{starts, at_end}
@@ -63,3 +64,25 @@ returns-clause-ok g c =
           (comes g.R.MemoryReplica.behaves (scene_of p) new c.revive.new.seat c.rest.new.seat _ c.args.number _ k.told _ _ _ c.revive.ensures.number c.rest.ensures.number c.rest.ensures.rests (λ q up x c. ((goes q up).goes.noted x c).0)
           (record { genesis = k.adds.genesis; sent = k.adds.sent; trace = k.adds.trace }) k.tells k.ended (c.in_ok-outcome.ensures.exact c.new.result refl));
     }
+
+-- ---- what memory was wanted for
+
+on_err : {T E : Type 0} (r : Result T E) (P : Type 0) → P → OnErr r P
+on_err (Ok x) P p = tt
+on_err (Err e) P p = p
+
+pub returns-in_err-outcome-clause-wants : goal.returns-in_err-outcome-clause-wants
+returns-in_err-outcome-clause-wants g c =
+    let p = c.args.parts.now in
+    let b = g.R.MemoryReplica.behaves in
+    let k = c.in_err-outcome.ensures.wants c.new.result refl in
+    on_err c.from_residual-in_err-outcome.result (StartWants b p.genesis c.args.number p.seats)
+    (inr (k.left, subst (λ (z : Memory). LeftByRevival b (header_of p.genesis c.args.number) (Down z) k.left) c.new.ensures (c.new.result, Err (k.number, k.left), refl, k.ends.0, (refl, k.want))))
+
+pub returns-in_err-add-clause-wants : goal.returns-in_err-add-clause-wants
+returns-in_err-add-clause-wants g c =
+    let p = c.args.parts.now in
+    let b = g.R.MemoryReplica.behaves in
+    let k = revived_left b c.new.result (header_of p.genesis c.args.number) (Down c.new.result) c.revive.new.seat _ _ _ _ c.in_err-add.ensures.wants refl (c.in_ok-outcome.ensures.exact c.new.result refl) in
+    on_err c.from_residual-in_err-add.result (StartWants b p.genesis c.args.number p.seats)
+    (inr (k.0, subst (λ (z : Memory). LeftByRevival b (header_of p.genesis c.args.number) (Down z) k.0) c.new.ensures k.1))
