@@ -3,8 +3,8 @@
 ghost use Rattle.std.specs.Prelude.{◌≡◌, ◌⊎◌, ◌++◌, List, length, IfOk, IfErr, IsErrOf};
 ghost use Rattle.std.specs.List.{AllByRecursion};
 ghost use Rattle.lk_types.specs.Commands.{IsCommand};
-ghost use Rattle.lk_members.specs.Counting.{Command as TheCommand};
-ghost use Rattle.lk_members.specs.Rosters.{Genesis as TheGenesis};
+ghost use Rattle.lk_members.specs.Counting.{Command as CommandValue};
+ghost use Rattle.lk_members.specs.Rosters.{Genesis as GenesisValue};
 ghost use Rattle.lk_state.specs.Packed.{Packs};
 ghost use Rattle.lk_state.specs.States.{whole_after};
 ghost use Rattle.lk_replica.specs.Revivals.{run_from};
@@ -38,7 +38,7 @@ pub struct Inspection {
 /// What the snapshot of a standing and the decided commands above it come to, up to the first gap. It refuses with `Damaged`
 /// where the snapshot packs no state at its position, and with `NoMemory`.
 pub fn inspected(alloc: Global, standing: &Standing) -> Result<Inspection, ServiceFault>
-    ensures tells { (genesis : TheGenesis) (L : List TheCommand) → Packs IsText (whole_after table_meaning genesis L) standing.now.snapshot
+    ensures tells { (genesis : GenesisValue) (L : List CommandValue) → Packs IsText (whole_after table_meaning genesis L) standing.now.snapshot
         → AllByRecursion IsCommand (L ++ run_from (length L) standing.now.pairs)
         → IfOk result (Tells genesis (L ++ run_from (length L) standing.now.pairs)) }
     ensures damaged { IsErrOf result ServiceFault.Damaged → CannotStand standing.now }

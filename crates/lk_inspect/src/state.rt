@@ -1,8 +1,8 @@
 //! The state that a standing comes to.
 
 ghost use Rattle.std.specs.Prelude.{◌≡◌, ◌<◌, ◌⊎◌, ◌++◌, List, length, OnOk, IfOk, IfErr, IsErrOf};
-ghost use Rattle.lk_members.specs.Counting.{Command as TheCommand};
-ghost use Rattle.lk_members.specs.Rosters.{Genesis as TheGenesis};
+ghost use Rattle.lk_members.specs.Counting.{Command as CommandValue};
+ghost use Rattle.lk_members.specs.Rosters.{Genesis as GenesisValue};
 ghost use Rattle.lk_types.specs.Limits.{max_count};
 ghost use Rattle.lk_state.specs.Packed.{Packs};
 ghost use Rattle.lk_state.specs.Runs.{ran};
@@ -58,7 +58,7 @@ fn run_on(whole: &mut Whole<LockTable>, pairs: &[(Position, Command)]) -> Result
 /// The state after the snapshot and the decided commands above it, up to the first gap. It refuses with `Damaged` where the
 /// snapshot packs no state at its position, and with `NoMemory`.
 pub fn state_of(alloc: Global, standing: &Standing) -> Result<Whole<LockTable>, ServiceFault>
-    ensures sums { (genesis : TheGenesis) (L : List TheCommand) → Packs IsText (whole_after table_meaning genesis L) standing.now.snapshot
+    ensures sums { (genesis : GenesisValue) (L : List CommandValue) → Packs IsText (whole_after table_meaning genesis L) standing.now.snapshot
         → IfOk result (SumsUp table_meaning genesis (L ++ run_from (length L) standing.now.pairs)) }
     ensures damaged { IsErrOf result ServiceFault.Damaged → CannotStand standing.now }
     ensures only { IfErr result (λ e. (e ≡ ServiceFault.Damaged) ⊎ (e ≡ ServiceFault.NoMemory)) }

@@ -2,7 +2,8 @@ pub mod HexSpelling
 pub mod WordLemmas
 pub mod GenesisLemmas
 pub mod LineLemmas
-pub mod ServerLemmas
+pub mod TableServerLemmas
 pub mod PrintLemmas
+pub mod Following
 pub mod ScriptLemmas
 pub mod OutputLaws

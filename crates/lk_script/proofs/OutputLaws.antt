@@ -1,5 +1,5 @@
 -- By the rules of table mode an input has one output.
-use Rattle.std.proofs.Common.{◌≡◌, ℕ, ◌+◌, ◌≤◌, true, false, List, [], ◌∷◌, ◌++◌, drop, Some, refl, sym, ap, subst, ◌∙◌, arith}
+use Rattle.std.proofs.Common.{◌≡◌, ℕ, ◌+◌, ◌≤◌, true, false, List, [], ◌∷◌, ◌++◌, drop, Some, refl, sym, ap, subst, ◌∙◌, arith, inl, inr}
 use Rattle.std.specs.Prelude.{nat_le, ⊤}
 use Rattle.std.proofs.lemmas.Bool.{eq-eqb, leb-true}
 use Rattle.std.proofs.lemmas.Fmt.{decimal_injective}
@@ -16,8 +16,9 @@ use Rattle.lk_wire.proofs.Spellings.{one_message}
 use Rattle.lk_members.specs.Counting.{Command, RequestValue, Request, Placed, counted, is_at_most, IsLast}
 use Rattle.lk_members.proofs.Memberships.{numbers_count_once}
 use Rattle.lk_locks.specs.Lists.{table_of, table_answer}
+use Rattle.lk_replica.specs.Behaviours.{Behaviour}
 use Rattle.lk_script.specs.Replies.{IsReply, with_request}
-use Rattle.lk_script.specs.Scripts.{Script, begun, table, world, Takes, Refuses, Stop, Runs, OpensWorld}
+use Rattle.lk_script.specs.Scripts.{Script, begun, table, world, IsUnderstood, Takes, Refuses, Stop, Runs, OpensWorld}
 use Rattle.lk_script.specs.Scripts.OpensWorld.{here, later}
 use Rattle.lk_script.specs.TableMode.{Replies, Prints, IsTableLine, from_client, from_node, is_request_to, is_for_table}
 use Rattle.lk_script.specs.TableMode.Replies.{answers, passes}
@@ -103,54 +104,62 @@ cluster_once : (line : List ℕ) (c d : ℕ) → IsTableLine line c → IsTableL
 cluster_once line c d x y = decimal_injective c d x.0 y.0 (ap (λ (t : List ℕ). drop 6 t) (sym x.1 ∙ y.1))
 
 -- no world is set up, nor will be by the next line
-abbrev pub IsPlain : Script → List (List ℕ) → Type 0
+abbrev pub IsPlain : {R : Type 0} → Script R → List (List ℕ) → Type 0
 IsPlain begun lines = OpensWorld lines → ⊥
 IsPlain (table cluster L) lines = ⊤
-IsPlain (world done) lines = ⊥
+IsPlain (world scene done) lines = ⊥
 
-plain_skipped : (s : Script) (lines : List (List ℕ)) → IsPlain s ([] ∷ lines) → IsPlain s lines
+plain_skipped : {R : Type 0} (s : Script R) (lines : List (List ℕ)) → IsPlain s ([] ∷ lines) → IsPlain s lines
 plain_skipped begun lines plain = λ opened. plain (later lines opened)
 plain_skipped (table cluster L) lines plain = tt
-plain_skipped (world done) lines plain = absurd plain
+plain_skipped (world scene done) lines plain = absurd plain
 
-plain_taken : (s after : Script) (line out : List ℕ) (lines : List (List ℕ)) → IsPlain s (line ∷ lines) → Takes s line out after → IsPlain after lines
-plain_taken _ _ line _ lines plain (begins l c first) = tt
-plain_taken _ _ line _ lines plain (opens l c alpha members first) = absurd (plain (here l c alpha members lines first))
-plain_taken _ _ line _ lines plain (prints cluster L l bytes text after spells printed) = tt
-plain_taken _ _ line _ lines plain (happens done l out o spells) = absurd plain
+plain_taken : {R : Type 0} (b : Behaviour R) (s after : Script R) (line out : List ℕ) (lines : List (List ℕ)) → IsPlain s (line ∷ lines) → Takes b s line out after → IsPlain after lines
+plain_taken b _ _ line _ lines plain (begins l c first) = tt
+plain_taken b _ _ line _ lines plain (opens l genesis first) = absurd (plain (here l genesis.cluster genesis.alpha genesis.members lines first))
+plain_taken b _ _ line _ lines plain (prints cluster L l bytes text after spells printed) = tt
+plain_taken b _ _ line _ lines plain (happens old new done l out o spells did) = absurd plain
 
-not_refused : (s : Script) (line out : List ℕ) (r : Refused) (lines : List (List ℕ)) → IsPlain s lines → Refuses s line out r → ⊥
-not_refused begun line out r lines plain refused = refused
-not_refused (table cluster L) line out r lines plain refused = refused
-not_refused (world done) line out r lines plain refused = plain
+not_refused : {R : Type 0} (b : Behaviour R) (s : Script R) (line out : List ℕ) (r : Refused) (lines : List (List ℕ)) → IsPlain s lines → Refuses b s line out r → ⊥
+not_refused b begun line out r lines plain refused = refused
+not_refused b (table cluster L) line out r lines plain refused = refused
+not_refused b (world scene done) line out r lines plain refused = plain
 
-takes_once : (s : Script) (line a b : List ℕ) (after after' : Script) (lines : List (List ℕ)) → IsPlain s (line ∷ lines) → Takes s line a after → Takes s line b after' → (a ≡ b) × (after ≡ after')
-takes_once _ line _ _ _ _ lines plain (begins l c first) (begins l' d first') = (refl, ap (λ (k : ℕ). table k []) (cluster_once line c d first first'))
-takes_once _ line _ _ _ _ lines plain (begins l c first) (opens l' d alpha members first') = absurd (plain (here l' d alpha members lines first'))
-takes_once _ line _ _ _ _ lines plain (opens l c alpha members first) other = absurd (plain (here l c alpha members lines first))
-takes_once _ line _ _ _ _ lines plain (happens done l out o spells) other = absurd plain
-takes_once _ line _ _ _ _ lines plain (prints cluster L l bytes text after spells printed) (prints cluster' L' l' bytes' text' after' spells' printed') =
+takes_once : {R : Type 0} (b : Behaviour R) (s : Script R) (line out out' : List ℕ) (after after' : Script R) (lines : List (List ℕ)) → IsPlain s (line ∷ lines) → Takes b s line out after → Takes b s line out' after' → (out ≡ out') × (after ≡ after')
+takes_once b _ line _ _ _ _ lines plain (begins l c first) (begins l' d first') = (refl, ap (λ (k : ℕ). table k []) (cluster_once line c d first first'))
+takes_once b _ line _ _ _ _ lines plain (begins l c first) (opens l' genesis first') = absurd (plain (here l' genesis.cluster genesis.alpha genesis.members lines first'))
+takes_once b _ line _ _ _ _ lines plain (opens l genesis first) other = absurd (plain (here l genesis.cluster genesis.alpha genesis.members lines first))
+takes_once b _ line _ _ _ _ lines plain (happens old new done l out o spells did) other = absurd plain
+takes_once b _ line _ _ _ _ lines plain (prints cluster L l bytes text after spells printed) (prints cluster' L' l' bytes' text' after' spells' printed') =
     let same : bytes' ≡ bytes = same_bytes line bytes' bytes spells' spells in
     let once = prints_once cluster L bytes text text' after after' printed (subst (λ (t : List ℕ). Prints cluster L t text' after') same printed') in
     (ap (λ (t : List ℕ). t ++ 10 ∷ []) once.0, ap (table cluster) once.1)
 
+-- what is taken is understood
+taken_understood : {R : Type 0} (b : Behaviour R) (s after : Script R) (line out : List ℕ) → Takes b s line out after → IsUnderstood s line
+taken_understood b _ _ line _ (begins l c first) = inl (c, first)
+taken_understood b _ _ line _ (opens l genesis first) = inr (genesis.cluster, genesis.alpha, genesis.members, first)
+taken_understood b _ _ line _ (prints cluster L l bytes text after spells printed) = (bytes, spells)
+taken_understood b _ _ line _ (happens old new done l out o spells did) = (o, spells)
+
 -- ---- the lines of a script print one text
 
-pub runs_once : (s : Script) (n : ℕ) (lines : List (List ℕ)) (a b : List ℕ) (stop end : Stop) → IsPlain s lines → Runs s n lines a stop → Runs s n lines b end → (a ≡ b) × (stop ≡ end)
-runs_once _ _ _ _ _ _ _ plain (ends s n) (ends s' n') = (refl, refl)
-runs_once _ _ _ _ _ _ _ plain (skips s n lines text stop r) (skips s' n' lines' text' stop' r') = runs_once s (n + 1) lines text text' stop stop' (plain_skipped s lines plain) r r'
-runs_once _ _ _ _ _ _ _ plain (skips s n lines text stop r) (takes s' after n' line out lines' text' stop' filled t r') = absurd (filled refl)
-runs_once _ _ _ _ _ _ _ plain (skips s n lines text stop r) (stops s' n' line lines' filled none) = absurd (filled refl)
-runs_once _ _ _ _ _ _ _ plain (skips s n lines text stop r) (refuses s' n' line out why lines' filled refused) = absurd (filled refl)
-runs_once _ _ _ _ _ _ _ plain (takes s after n line out lines text stop filled t r) (skips s' n' lines' text' stop' r') = absurd (filled refl)
-runs_once _ _ _ _ _ _ _ plain (takes s after n line out lines text stop filled t r) (takes s' after' n' line' out' lines' text' stop' filled' t' r') =
-    let line_once = takes_once s line out out' after after' lines plain t t' in
-    let rest = runs_once after (n + 1) lines text text' stop stop' (plain_taken s after line out lines plain t) r (subst (λ (x : Script). Runs x (n + 1) lines text' stop') (sym line_once.1) r') in
+pub runs_once : {R : Type 0} (b : Behaviour R) (s : Script R) (n : ℕ) (lines : List (List ℕ)) (text text' : List ℕ) (stop end : Stop R) → IsPlain s lines → Runs b s n lines text stop → Runs b s n lines text' end
+    → (text ≡ text') × (stop ≡ end)
+runs_once b _ _ _ _ _ _ _ plain (ends s n) (ends s' n') = (refl, refl)
+runs_once b _ _ _ _ _ _ _ plain (skips s n lines text stop r) (skips s' n' lines' text' stop' r') = runs_once b s (n + 1) lines text text' stop stop' (plain_skipped s lines plain) r r'
+runs_once b _ _ _ _ _ _ _ plain (skips s n lines text stop r) (takes s' after n' line out lines' text' stop' filled t r') = absurd (filled refl)
+runs_once b _ _ _ _ _ _ _ plain (skips s n lines text stop r) (stops s' n' line lines' filled none) = absurd (filled refl)
+runs_once b _ _ _ _ _ _ _ plain (skips s n lines text stop r) (refuses s' n' line out why lines' filled refused) = absurd (filled refl)
+runs_once b _ _ _ _ _ _ _ plain (takes s after n line out lines text stop filled t r) (skips s' n' lines' text' stop' r') = absurd (filled refl)
+runs_once b _ _ _ _ _ _ _ plain (takes s after n line out lines text stop filled t r) (takes s' after' n' line' out' lines' text' stop' filled' t' r') =
+    let line_once = takes_once b s line out out' after after' lines plain t t' in
+    let rest = runs_once b after (n + 1) lines text text' stop stop' (plain_taken b s after line out lines plain t) r (subst (λ x. Runs b x (n + 1) lines text' stop') (sym line_once.1) r') in
     (ap (λ (x : List ℕ). x ++ text) line_once.0 ∙ ap (λ (x : List ℕ). out' ++ x) rest.0, rest.1)
-runs_once _ _ _ _ _ _ _ plain (takes s after n line out lines text stop filled t r) (stops s' n' line' lines' filled' none) = absurd (none out after t)
-runs_once _ _ _ _ _ _ _ plain (takes s after n line out lines text stop filled t r) (refuses s' n' line' out' why lines' filled' refused) = absurd (not_refused s line out' why (line ∷ lines) plain refused)
-runs_once _ _ _ _ _ _ _ plain (stops s n line lines filled none) (skips s' n' lines' text' stop' r') = absurd (filled refl)
-runs_once _ _ _ _ _ _ _ plain (stops s n line lines filled none) (takes s' after' n' line' out' lines' text' stop' filled' t' r') = absurd (none out' after' t')
-runs_once _ _ _ _ _ _ _ plain (stops s n line lines filled none) (stops s' n' line' lines' filled' none') = (refl, refl)
-runs_once _ _ _ _ _ _ _ plain (stops s n line lines filled none) (refuses s' n' line' out' why lines' filled' refused) = absurd (not_refused s line out' why (line ∷ lines) plain refused)
-runs_once _ _ _ _ _ _ _ plain (refuses s n line out why lines filled refused) other = absurd (not_refused s line out why (line ∷ lines) plain refused)
+runs_once b _ _ _ _ _ _ _ plain (takes s after n line out lines text stop filled t r) (stops s' n' line' lines' filled' none) = absurd (none (taken_understood b s after line out t))
+runs_once b _ _ _ _ _ _ _ plain (takes s after n line out lines text stop filled t r) (refuses s' n' line' out' why lines' filled' refused) = absurd (not_refused b s line out' why (line ∷ lines) plain refused)
+runs_once b _ _ _ _ _ _ _ plain (stops s n line lines filled none) (skips s' n' lines' text' stop' r') = absurd (filled refl)
+runs_once b _ _ _ _ _ _ _ plain (stops s n line lines filled none) (takes s' after' n' line' out' lines' text' stop' filled' t' r') = absurd (none (taken_understood b s' after' line' out' t'))
+runs_once b _ _ _ _ _ _ _ plain (stops s n line lines filled none) (stops s' n' line' lines' filled' none') = (refl, refl)
+runs_once b _ _ _ _ _ _ _ plain (stops s n line lines filled none) (refuses s' n' line' out' why lines' filled' refused) = absurd (not_refused b s line out' why (line ∷ lines) plain refused)
+runs_once b _ _ _ _ _ _ _ plain (refuses s n line out why lines filled refused) other = absurd (not_refused b s line out why (line ∷ lines) plain refused)

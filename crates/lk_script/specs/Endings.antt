@@ -1,5 +1,6 @@
 -- How the run of a script ends: what it has printed, and what the reader has left.
 use Rattle.std.specs.Prelude.{◌≡◌, ℕ, List, ◌++◌, Option, ⊤}
+use Rattle.lk_replica.specs.Behaviours.{Behaviour}
 use Rattle.lk_script.specs.Lines.{lines_of, TakesWithinLine}
 use Rattle.lk_script.specs.Scripts.{Script, begun, Runs, at_end, at_line, at_refusal, last_line}
 use Rattle.lk_sim.specs.declared.refused.Refused.{Refused}
@@ -7,33 +8,33 @@ use Rattle.lk_script.specs.declared.fault.ScriptFault.{ScriptFault}
 use Rattle.lk_script.specs.declared.fault.ScriptFault.TheVariants.{Read, Write, ScriptMemory, BadLine, Ended}
 
 -- the script's lines print the text, to the last of them, and what stands after it
-pub record PrintsAll (script text : List ℕ) : Type 0 where
-  pub state : Script
+pub record PrintsAll {R : Type 0} (b : Behaviour R) (script text : List ℕ) : Type 0 where
+  pub state : Script R
   pub printed : List ℕ
-  pub runs : Runs begun 1 (lines_of script) printed (at_end state)
+  pub runs : Runs b begun 1 (lines_of script) printed (at_end state)
   pub text_is : text ≡ printed ++ last_line state
 
 -- the lines in front of the line of that number print the text, and that line is the first that is not understood
-abbrev pub EndsAtLine : ℕ → List ℕ → List ℕ → Type 0
-EndsAtLine number script text = Runs begun 1 (lines_of script) text (at_line number)
+abbrev pub EndsAtLine : {R : Type 0} → Behaviour R → ℕ → List ℕ → List ℕ → Type 0
+EndsAtLine b number script text = Runs b begun 1 (lines_of script) text (at_line number)
 
 -- the lines in front of one of which an event was refused print the text, with what that line printed and the refusal
-abbrev pub EndsRefused : Refused → List ℕ → List ℕ → Type 0
-EndsRefused r script text = Runs begun 1 (lines_of script) text (at_refusal r)
+abbrev pub EndsRefused : {R : Type 0} → Behaviour R → Refused → List ℕ → List ℕ → Type 0
+EndsRefused b r script text = Runs b begun 1 (lines_of script) text (at_refusal r)
 
 -- the run broke off at a line: the lines in front of it print the text, and of what stands after these no more than this line was taken
-pub record BreaksOff (script text : List ℕ) (left : Option (List ℕ)) : Type 0 where
+pub record BreaksOff {R : Type 0} (b : Behaviour R) (script text : List ℕ) (left : Option (List ℕ)) : Type 0 where
   pub front : List (List ℕ)
   pub behind : List ℕ
   pub lines : lines_of script ≡ front ++ lines_of behind
-  pub state : Script
-  pub printed : Runs begun 1 front text (at_end state)
+  pub state : Script R
+  pub printed : Runs b begun 1 front text (at_end state)
   pub taken : TakesWithinLine behind left
 
 -- a script that ends by the fault has printed the text, and the reader has this left; of a failed write nothing is said
-abbrev pub EndsBy : ScriptFault → List ℕ → List ℕ → Option (List ℕ) → Type 0
-EndsBy Read script text left = BreaksOff script text left
-EndsBy Write script text left = ⊤
-EndsBy ScriptMemory script text left = BreaksOff script text left
-EndsBy (BadLine number) script text left = EndsAtLine number script text
-EndsBy (Ended r) script text left = EndsRefused r script text
+abbrev pub EndsBy : {R : Type 0} → Behaviour R → ScriptFault → List ℕ → List ℕ → Option (List ℕ) → Type 0
+EndsBy b Read script text left = BreaksOff b script text left
+EndsBy b Write script text left = ⊤
+EndsBy b ScriptMemory script text left = BreaksOff b script text left
+EndsBy b (BadLine number) script text left = EndsAtLine b number script text
+EndsBy b (Ended r) script text left = EndsRefused b r script text

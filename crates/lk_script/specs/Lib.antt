@@ -6,6 +6,6 @@ pub mod WorldLines
 pub mod GenesisLines
 pub mod Worlds
 pub mod Scripts
-pub mod Servers
+pub mod TableServers
 pub mod Faults
 pub mod Endings

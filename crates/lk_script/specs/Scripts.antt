@@ -1,65 +1,91 @@
 -- Scripts of either mode: what each line prints.
-use Rattle.std.specs.Prelude.{◌≡◌, ◌≢◌, ℕ, ◌+◌, List, [], ◌∷◌, ◌++◌}
+use Rattle.std.specs.Prelude.{◌≡◌, ◌≢◌, ◌⊎◌, ℕ, ◌+◌, length, List, [], ◌∷◌, ◌++◌, Some}
 use Rattle.lk_types.specs.declared.member.Member.{Member}
 use Rattle.lk_members.specs.Counting.{Command}
+use Rattle.lk_members.specs.Rosters.{Genesis}
+use Rattle.lk_replica.specs.Behaviours.{Behaviour}
+use Rattle.lk_sim.specs.Runs.{Passes}
+use Rattle.lk_sim.specs.Scenes.{Scene}
 use Rattle.lk_sim.specs.declared.refused.Refused.{Refused}
 use Rattle.lk_script.specs.HexLines.{SpellsBytes}
 use Rattle.lk_script.specs.TableMode.{Prints, IsTableLine}
 use Rattle.lk_script.specs.GenesisLines.{IsGenesisLine}
 use Rattle.lk_script.specs.WorldLines.{SpellsOrder}
-use Rattle.lk_script.specs.Worlds.{events_of, refused_line, done_line}
+use Rattle.lk_script.specs.Worlds.{new_world, events_of, Follows, refused_line, done_line}
 use Rattle.lk_script.specs.declared.order.Order.{Order}
 
--- what a script has set up: nothing yet, a lock table with the list of the requests that counted so far, or a world in
+-- what a script has set up: nothing yet, a lock table with the list of the requests that counted so far, or a world, in
 -- which so many events were done
-pub data Script : Type 0 where
-  begun : Script
-  table : (cluster : ℕ) (L : List Command) → Script
-  world : (done : ℕ) → Script
+pub data Script (R : Type 0) : Type 0 where
+  begun : Script R
+  table : (cluster : ℕ) (L : List Command) → Script R
+  world : (scene : Scene R) (done : ℕ) → Script R
 
--- a line that is understood, what it prints and what is set up after it
-pub data Takes : Script → List ℕ → List ℕ → Script → Type 0 where
+-- the line sets a table up, or a world
+abbrev pub IsFirstLine : List ℕ → Type 0
+IsFirstLine line = ((cluster : ℕ) × IsTableLine line cluster) ⊎ ((cluster : ℕ) × (alpha : ℕ) × (members : List Member) × IsGenesisLine line cluster alpha members)
+
+-- the line is one that may stand there: after the first line a datagram in hex, or an order
+abbrev pub IsUnderstood : {R : Type 0} → Script R → List ℕ → Type 0
+IsUnderstood begun line = IsFirstLine line
+IsUnderstood (table cluster L) line = (bytes : List ℕ) × SpellsBytes line bytes
+IsUnderstood (world scene done) line = (o : Order) × SpellsOrder line o
+
+-- a line that is understood, what it prints and what is set up after it, where the replicas of a world behave so
+pub data Takes {R : Type 0} (b : Behaviour R) : Script R → List ℕ → List ℕ → Script R → Type 0 where
   -- the first line sets a table up
-  begins : (line : List ℕ) (cluster : ℕ) → IsTableLine line cluster → Takes begun line [] (table cluster [])
-  -- or a world
-  opens : (line : List ℕ) (cluster alpha : ℕ) (members : List Member) → IsGenesisLine line cluster alpha members → Takes begun line [] (world 0)
+  begins : (line : List ℕ) (cluster : ℕ) → IsTableLine line cluster → Takes b begun line [] (table cluster [])
+  -- or a world, in which nothing has happened
+  opens : (line : List ℕ) (genesis : Genesis) → IsGenesisLine line genesis.cluster genesis.alpha genesis.members → Takes b begun line [] (world (new_world genesis) 0)
   -- a later line is a datagram in hex
   prints : (cluster : ℕ) (L : List Command) (line bytes text : List ℕ) (after : List Command) → SpellsBytes line bytes → Prints cluster L bytes text after
-      → Takes (table cluster L) line (text ++ 10 ∷ []) (table cluster after)
-  -- or an event of the world, or several, of which none was refused; of what they print nothing is said here
-  happens : (done : ℕ) (line out : List ℕ) (o : Order) → SpellsOrder line o → Takes (world done) line out (world (done + events_of o))
+      → Takes b (table cluster L) line (text ++ 10 ∷ []) (table cluster after)
+  -- or an event of the world, or several, which happen in order; of what they print nothing is said here
+  happens : (old new : Scene R) (done : ℕ) (line out : List ℕ) (o : Order) → SpellsOrder line o → Passes b (events_of o) old new
+      → Takes b (world old done) line out (world new (done + length (events_of o)))
 
--- a line that is understood, of which an event is refused, and what it prints: at last the refusal
-abbrev pub Refuses : Script → List ℕ → List ℕ → Refused → Type 0
-Refuses begun line out r = ⊥
-Refuses (table cluster L) line out r = ⊥
-Refuses (world done) line out r = (o : Order) × (printed : List ℕ) × SpellsOrder line o × (out ≡ printed ++ refused_line r)
+-- a line that is understood, of which an event is refused: those in front of it happen in order, the refusal leaves this world, and
+-- what the line prints ends by it
+pub record IsCutShort {R : Type 0} (b : Behaviour R) (old : Scene R) (line out : List ℕ) (r : Refused) : Type 0 where
+  pub order : Order
+  pub spelled : SpellsOrder line order
+  pub done : ℕ
+  pub new : Scene R
+  pub follows : Follows b old (events_of order) done (Some r) new
+  pub printed : List ℕ
+  pub out_is : out ≡ printed ++ refused_line r
+
+-- only a world refuses
+abbrev pub Refuses : {R : Type 0} → Behaviour R → Script R → List ℕ → List ℕ → Refused → Type 0
+Refuses b begun line out r = ⊥
+Refuses b (table cluster L) line out r = ⊥
+Refuses b (world scene done) line out r = IsCutShort b scene line out r
 
 -- how lines end: all are understood, and this is set up; or this line is not; or an event was refused
-pub data Stop : Type 0 where
-  at_end : Script → Stop
-  at_line : (number : ℕ) → Stop
-  at_refusal : Refused → Stop
+pub data Stop (R : Type 0) : Type 0 where
+  at_end : Script R → Stop R
+  at_line : (number : ℕ) → Stop R
+  at_refusal : Refused → Stop R
 
 -- what the lines print, the first of them of that number, and how they end
-pub data Runs : Script → ℕ → List (List ℕ) → List ℕ → Stop → Type 0 where
+pub data Runs {R : Type 0} (b : Behaviour R) : Script R → ℕ → List (List ℕ) → List ℕ → Stop R → Type 0 where
   -- no line is left
-  ends : (s : Script) (n : ℕ) → Runs s n [] [] (at_end s)
+  ends : (s : Script R) (n : ℕ) → Runs b s n [] [] (at_end s)
   -- an empty line
-  skips : (s : Script) (n : ℕ) (lines : List (List ℕ)) (text : List ℕ) (stop : Stop) → Runs s (n + 1) lines text stop → Runs s n ([] ∷ lines) text stop
+  skips : (s : Script R) (n : ℕ) (lines : List (List ℕ)) (text : List ℕ) (stop : Stop R) → Runs b s (n + 1) lines text stop → Runs b s n ([] ∷ lines) text stop
   -- a line that is understood
-  takes : (s after : Script) (n : ℕ) (line out : List ℕ) (lines : List (List ℕ)) (text : List ℕ) (stop : Stop) → line ≢ [] → Takes s line out after → Runs after (n + 1) lines text stop
-      → Runs s n (line ∷ lines) (out ++ text) stop
+  takes : (s after : Script R) (n : ℕ) (line out : List ℕ) (lines : List (List ℕ)) (text : List ℕ) (stop : Stop R) → line ≢ [] → Takes b s line out after
+      → Runs b after (n + 1) lines text stop → Runs b s n (line ∷ lines) (out ++ text) stop
   -- a line that is not: nothing after it is read
-  stops : (s : Script) (n : ℕ) (line : List ℕ) (lines : List (List ℕ)) → line ≢ [] → ((out : List ℕ) (after : Script) → Takes s line out after → ⊥) → Runs s n (line ∷ lines) [] (at_line n)
+  stops : (s : Script R) (n : ℕ) (line : List ℕ) (lines : List (List ℕ)) → line ≢ [] → (IsUnderstood s line → ⊥) → Runs b s n (line ∷ lines) [] (at_line n)
   -- a refusal: nothing after it is read
-  refuses : (s : Script) (n : ℕ) (line out : List ℕ) (r : Refused) (lines : List (List ℕ)) → line ≢ [] → Refuses s line out r → Runs s n (line ∷ lines) out (at_refusal r)
+  refuses : (s : Script R) (n : ℕ) (line out : List ℕ) (r : Refused) (lines : List (List ℕ)) → line ≢ [] → Refuses b s line out r → Runs b s n (line ∷ lines) out (at_refusal r)
 
 -- what stands last where no line is left
-abbrev pub last_line : Script → List ℕ
+abbrev pub last_line : {R : Type 0} → Script R → List ℕ
 last_line begun = []
 last_line (table cluster L) = []
-last_line (world done) = done_line done
+last_line (world scene done) = done_line done
 
 -- the first line that is not empty begins a world
 pub data OpensWorld : List (List ℕ) → Type 0 where

@@ -1,16 +1,30 @@
 -- World mode: what its lines do.
-use Rattle.std.specs.Prelude.{ℕ, List, [], ◌∷◌, ◌++◌, codes}
+use Rattle.std.specs.Prelude.{ℕ, List, [], ◌∷◌, ◌++◌, replicate, Option, None, codes}
 use Rattle.std.specs.Fmt.{decimal}
+use Rattle.lk_members.specs.Rosters.{Genesis}
+use Rattle.lk_replica.specs.Behaviours.{Behaviour}
 use Rattle.lk_sim.specs.Refusals.{refusal_number}
+use Rattle.lk_sim.specs.Runs.{Runs}
+use Rattle.lk_sim.specs.Scenes.{Scene}
+use Rattle.lk_sim.specs.declared.event.Event.{Event}
+use Rattle.lk_sim.specs.declared.event.Event.TheVariants.{Tick}
 use Rattle.lk_sim.specs.declared.refused.Refused.{Refused}
 use Rattle.lk_sim.specs.declared.refused.Refused.TheVariants.{NoSuchNode, NotUp, AlreadyUp, NoSuchDatagram, Forged, WorldFull, WorldMemory}
 use Rattle.lk_script.specs.declared.order.Order.{Order}
 use Rattle.lk_script.specs.declared.order.Order.TheVariants.{Ticks, Once}
 
--- how many events an order is
-abbrev pub events_of : Order → ℕ
-events_of (Ticks n times) = times
-events_of (Once e) = 1
+-- a world in which nothing has happened
+abbrev pub new_world : {R : Type 0} → Genesis → Scene R
+new_world genesis = record { genesis = genesis; seats = []; sent = []; trace = []; ended = None }
+
+-- the events of an order, one after another
+abbrev pub events_of : Order → List Event
+events_of (Ticks n times) = replicate times (Tick n)
+events_of (Once e) = e ∷ []
+
+-- so many of the events happened in order: all of them, or the next one was refused so
+abbrev pub Follows : {R : Type 0} → Behaviour R → Scene R → List Event → ℕ → Option Refused → Scene R → Type 0
+Follows b old events done refused new = Runs b old events (record { done = done; refused = refused }) new
 
 -- the name of a refusal
 abbrev pub refusal_name : Refused → List ℕ

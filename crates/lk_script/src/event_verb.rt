@@ -1,7 +1,7 @@
 // What a line of world mode asks for, by its first word.
 ghost use Rattle.std.specs.Prelude.{◌≡◌, IfSome, IsNone};
 ghost use Rattle.lk_script.specs.WorldLines.{word_of};
-ghost use Rattle.lk_script.specs.declared.event_verb.EventVerb.{EventVerb as VerbValue};
+ghost use Rattle.lk_script.specs.declared.event_verb.EventVerb.{EventVerb as EventVerbValue};
 
 #[derive(Clone, Copy, Debug, PartialEq, Eq)]
 pub enum EventVerb {
@@ -21,7 +21,7 @@ impl EventVerb {
     /// The verb of that word.
     pub fn of(word: &[u8]) -> Option<EventVerb>
         ensures some { IfSome result (λ v. word.now ≡ word_of v) }
-        ensures none { IsNone result → (v : VerbValue) → word.now ≡ word_of v → ⊥ }
+        ensures none { IsNone result → (v : EventVerbValue) → word.now ≡ word_of v → ⊥ }
     {
         match word {
             b"start" => Some(EventVerb::Start),

@@ -13,7 +13,7 @@ mod mode;
 pub mod order;
 pub mod printing;
 pub mod script;
-pub mod server;
+pub mod table_server;
 pub mod world_line;
 mod world_run;
 mod world_words;

@@ -1,4 +1,4 @@
-use crate::server::Server;
+use crate::table_server::TableServer;
 use crate::world_run::WorldRun;
 use lk_replica::MemoryReplica;
 
@@ -8,7 +8,7 @@ pub enum Mode<R: MemoryReplica> {
     /// Nothing yet.
     Begun,
     /// One lock table.
-    Table(Server),
+    Table(TableServer),
     /// A world of replicas.
     World(WorldRun<R>),
 }

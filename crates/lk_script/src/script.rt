@@ -5,10 +5,10 @@ ghost use Rattle.std.specs.Io.KnownBytes.{Appends};
 ghost use Rattle.lk_types.specs.Limits.{max_count};
 ghost use Rattle.lk_sim.specs.declared.refused.Refused.{Refused as RefusedValue};
 ghost use Rattle.lk_script.specs.TableMode.{IsTableLine};
-ghost use Rattle.lk_script.specs.Worlds.{done_line};
-ghost use Rattle.lk_script.specs.Scripts.{Script, begun, table, world, Takes, Refuses, last_line};
+ghost use Rattle.lk_script.specs.Worlds.{new_world, done_line};
+ghost use Rattle.lk_script.specs.Scripts.{Script, begun, table, world, IsFirstLine, IsUnderstood, Takes, Refuses, last_line};
 ghost use Rattle.lk_script.specs.Endings.{PrintsAll, EndsBy};
-ghost use Rattle.lk_script.specs.Servers.{Fits, done_in};
+ghost use Rattle.lk_script.specs.TableServers.{Fits, done_in};
 
 use crate::buffers::Buffers;
 use crate::ending::end;
@@ -16,7 +16,7 @@ use crate::fault::{LineFault, ScriptFault};
 use crate::genesis_line::read_genesis;
 use crate::lines::next_line;
 use crate::mode::Mode;
-use crate::server::Server;
+use crate::table_server::TableServer;
 use crate::world_run::WorldRun;
 use lk_replica::MemoryReplica;
 use lk_sim::Refused;
@@ -57,12 +57,12 @@ fn table_mode<M: MemoryReplica>(alloc: Global, cluster: u64) -> Mode<M>
     ensures fits { Fits (table cluster []) result }
     ensures done { done_in result ≡ 0 }
 {
-    Mode::Table(Server::new(alloc, cluster))
+    Mode::Table(TableServer::new(alloc, cluster))
 }
 
 /// A world in which nothing has happened.
 fn world_mode<M: MemoryReplica>(alloc: Global, genesis: Genesis) -> Mode<M>
-    ensures fits { Fits (world 0) result }
+    ensures fits { Fits (world (new_world genesis) 0) result }
     ensures done { done_in result ≡ 0 }
 {
     Mode::World(WorldRun::new(alloc, genesis))
@@ -72,9 +72,9 @@ fn world_mode<M: MemoryReplica>(alloc: Global, genesis: Genesis) -> Mode<M>
 /// the place of a new one.
 #[inline(never)]
 fn begin<M: MemoryReplica>(alloc: Global, line: &[u8]) -> Result<Mode<M>, LineFault>
-    ensures ok { IfOk result (λ m. (after : Script) × Takes begun line.now [] after × Fits after m) }
+    ensures ok { IfOk result (λ m. (after : Script M) × Takes M.behaves begun line.now [] after × Fits after m) }
     ensures done { IfOk result (λ m. done_in m ≡ 0) }
-    ensures not_understood { IsErrOf result LineFault.NotUnderstood → (out : List ℕ) (after : Script) → Takes begun line.now out after → ⊥ }
+    ensures not_understood { IsErrOf result LineFault.NotUnderstood → IsFirstLine line.now → ⊥ }
 {
     match cluster_of(alloc, line) {
         Ok(cluster) => Ok(table_mode(alloc, cluster)),
@@ -94,9 +94,9 @@ fn take_line<M: MemoryReplica>(
     buffers: &mut Buffers,
 ) -> Result<Option<Refused>, LineFault>
     requires { done_in mode.old < max_count }
-    ensures ok { result ≡ Ok None → (s : Script) → Fits s mode.old → (after : Script) × Takes s line.now buffers.new.text.items after × Fits after mode.new }
-    ensures refused { (r : RefusedValue) → result ≡ Ok (Some r) → (s : Script) → Fits s mode.old → Refuses s line.now buffers.new.text.items r }
-    ensures not_understood { IsErrOf result LineFault.NotUnderstood → (s : Script) → Fits s mode.old → (out : List ℕ) (after : Script) → Takes s line.now out after → ⊥ }
+    ensures ok { result ≡ Ok None → (s : Script M) → Fits s mode.old → (after : Script M) × Takes M.behaves s line.now buffers.new.text.items after × Fits after mode.new }
+    ensures refused { (r : RefusedValue) → result ≡ Ok (Some r) → (s : Script M) → Fits s mode.old → Refuses M.behaves s line.now buffers.new.text.items r }
+    ensures not_understood { IsErrOf result LineFault.NotUnderstood → (s : Script M) → Fits s mode.old → IsUnderstood s line.now → ⊥ }
     ensures paces { done_in mode.new ≤ done_in mode.old + 65535 }
 {
     match mode {
@@ -137,7 +137,7 @@ fn write_last<M: MemoryReplica, W: Write>(
     mode: &Mode<M>,
     writer: &mut W,
 ) -> Result<(), ScriptFault>
-    ensures ok { OnOk result ((s : Script) → Fits s mode.now → Appends (W.contents writer.old) (W.contents writer.new) (last_line s)) }
+    ensures ok { OnOk result ((s : Script M) → Fits s mode.now → Appends (W.contents writer.old) (W.contents writer.new) (last_line s)) }
     ensures err { IfErr result (λ fault. (fault ≡ ScriptFault.Write) ⊎ ((fault ≡ ScriptFault.ScriptMemory) × (W.contents writer.new ≡ W.contents writer.old))) }
 {
     let Mode::World(run) = mode else {
@@ -173,8 +173,8 @@ pub fn run_script<M: MemoryReplica, R: BufRead, W: Write>(
     reader: &mut R,
     writer: &mut W,
 ) -> Result<(), ScriptFault>
-    ensures ok { result ≡ Ok tt → IfSome (R.remaining reader.old) (λ script. (text : List ℕ) × PrintsAll script text × Appends (W.contents writer.old) (W.contents writer.new) text) }
-    ensures err { IfErr result (λ fault. fault ≢ ScriptFault.Write → IfSome (R.remaining reader.old) (λ script. (text : List ℕ) × EndsBy fault script text (R.remaining reader.new) × Appends (W.contents writer.old) (W.contents writer.new) text)) }
+    ensures ok { result ≡ Ok tt → IfSome (R.remaining reader.old) (λ script. (text : List ℕ) × PrintsAll M.behaves script text × Appends (W.contents writer.old) (W.contents writer.new) text) }
+    ensures err { IfErr result (λ fault. fault ≢ ScriptFault.Write → IfSome (R.remaining reader.old) (λ script. (text : List ℕ) × EndsBy M.behaves fault script text (R.remaining reader.new) × Appends (W.contents writer.old) (W.contents writer.new) text)) }
 {
     let mut line = Vec::new(alloc);
     let mut buffers = Buffers::new(alloc);
@@ -202,7 +202,7 @@ pub fn run_to_end<M: MemoryReplica, R: BufRead, W: Write, E: Write>(
     out: &mut W,
     err: &mut E,
 ) -> u8
-    ensures ok { result ≡ 0 → IfSome (R.remaining reader.old) (λ script. (text : List ℕ) × PrintsAll script text × Appends (W.contents out.old) (W.contents out.new) text) }
+    ensures ok { result ≡ 0 → IfSome (R.remaining reader.old) (λ script. (text : List ℕ) × PrintsAll M.behaves script text × Appends (W.contents out.old) (W.contents out.new) text) }
     ensures quiet { result ≡ 0 → err.new ≡ err.old }
     ensures status { (result ≡ 0) ⊎ (result ≡ 1) }
 {

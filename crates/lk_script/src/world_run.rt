@@ -1,10 +1,12 @@
 // A world that a script runs.
-ghost use Rattle.std.specs.Prelude.{◌≡◌, ◌+◌, ◌*◌, ◌<◌, ◌≤◌, ◌++◌, ℕ, List, Ok, Some, None, IsErrOf};
+ghost use Rattle.std.specs.Prelude.{◌≡◌, ◌+◌, ◌*◌, ◌<◌, ◌≤◌, ◌++◌, ℕ, List, replicate, Ok, Some, None, IfOk, IsErrOf};
+ghost use Rattle.lk_sim.specs.Events.{Does, IsRefused};
+ghost use Rattle.lk_sim.specs.declared.event.Event.TheVariants.{Tick};
 ghost use Rattle.lk_sim.specs.declared.refused.Refused.{Refused as RefusedValue};
 ghost use Rattle.lk_types.specs.Limits.{max_count};
 ghost use Rattle.lk_script.specs.declared.order.Order.{Order as OrderValue};
 ghost use Rattle.lk_script.specs.WorldLines.{SpellsOrder};
-ghost use Rattle.lk_script.specs.Worlds.{events_of, refused_line};
+ghost use Rattle.lk_script.specs.Worlds.{new_world, events_of, Follows, refused_line};
 
 use crate::fault::LineFault;
 use crate::order::Order;
@@ -25,7 +27,8 @@ pub struct WorldRun<R: MemoryReplica> {
 impl<R: MemoryReplica> WorldRun<R> {
     /// A world in which nothing has happened.
     pub fn new(alloc: Global, genesis: Genesis) -> Self
-        ensures { result.done ≡ 0 }
+        ensures world { result.world ≡ new_world genesis }
+        ensures done { result.done ≡ 0 }
     {
         WorldRun {
             world: World::new(alloc, genesis),
@@ -43,7 +46,8 @@ impl<R: MemoryReplica> WorldRun<R> {
     /// One event happens, and what it prints is added to the text. It may be refused.
     fn happen(&mut self, event: Event, text: &mut Vec<u8>) -> Result<Option<Refused>, NoMemory>
         requires { self.old.done < 2 * max_count }
-        ensures ok { result ≡ Ok None → self.new.done ≡ self.old.done + 1 }
+        ensures does { result ≡ Ok None → Does R.behaves self.old.world event self.new.world × (self.new.done ≡ self.old.done + 1) }
+        ensures refused { (r : RefusedValue) → result ≡ Ok (Some r) → IsRefused R.behaves self.old.world event r self.new.world × (self.new.done ≡ self.old.done) }
         ensures paces { self.new.done ≤ self.old.done + 1 }
     {
         let places = (self.world.trace().len(), self.world.datagrams().len());
@@ -64,16 +68,13 @@ impl<R: MemoryReplica> WorldRun<R> {
         text: &mut Vec<u8>,
     ) -> Result<Option<Refused>, NoMemory>
         requires { self.old.done < max_count }
-        ensures ok { result ≡ Ok None → self.new.done ≡ self.old.done + times }
+        ensures follows { IfOk result (λ refused. (k : ℕ) × Follows R.behaves self.old.world (replicate times (Tick node)) k refused self.new.world × (self.new.done ≡ self.old.done + k)) }
         ensures paces { self.new.done ≤ self.old.done + times }
     {
-        let mut left = times;
-        'ticks: while left > 0 {
-            let ended = self.happen(Event::Tick(node), text)?;
-            if ended.is_some() {
-                return Ok(ended);
+        'ticks: for _ in 0..times {
+            if let Some(refused) = self.happen(Event::Tick(node), text)? {
+                return Ok(Some(refused));
             }
-            left -= 1;
         }
         Ok(None)
     }
@@ -81,7 +82,7 @@ impl<R: MemoryReplica> WorldRun<R> {
     /// Does what a line asks for, or as much of it as is not refused, and adds what that prints to the text.
     fn follow(&mut self, order: Order, text: &mut Vec<u8>) -> Result<Option<Refused>, NoMemory>
         requires { self.old.done < max_count }
-        ensures ok { result ≡ Ok None → self.new.done ≡ self.old.done + events_of order }
+        ensures follows { IfOk result (λ refused. (k : ℕ) × Follows R.behaves self.old.world (events_of order) k refused self.new.world × (self.new.done ≡ self.old.done + k)) }
         ensures paces { self.new.done ≤ self.old.done + 65535 }
     {
         match order {
@@ -89,6 +90,7 @@ impl<R: MemoryReplica> WorldRun<R> {
             Order::Once(event) => self.happen(event, text),
         }
     }
+
     /// Does what a line asks for, and makes the text what that prints. An event of it may be refused.
     pub fn print_line(
         &mut self,
@@ -97,9 +99,12 @@ impl<R: MemoryReplica> WorldRun<R> {
         text: &mut Vec<u8>,
     ) -> Result<Option<Refused>, LineFault>
         requires { self.old.done < max_count }
-        ensures done { result ≡ Ok None → (o : OrderValue) × SpellsOrder line.now o × (self.new.done ≡ self.old.done + events_of o) }
-        ensures refused { (r : RefusedValue) → result ≡ Ok (Some r) → (o : OrderValue) × (printed : List ℕ) × SpellsOrder line.now o × (text.new.items ≡ printed ++ refused_line r) }
+        // The events of the line happen in the world, in order, up to the first that is refused; and no others.
+        ensures follows { IfOk result (λ refused. (o : OrderValue) × (k : ℕ) × SpellsOrder line.now o × Follows R.behaves self.old.world (events_of o) k refused self.new.world
+            × (self.new.done ≡ self.old.done + k)) }
+        ensures refused { (r : RefusedValue) → result ≡ Ok (Some r) → (printed : List ℕ) × (text.new.items ≡ printed ++ refused_line r) }
         ensures not_understood { IsErrOf result LineFault.NotUnderstood → (o : OrderValue) → SpellsOrder line.now o → ⊥ }
+        ensures unchanged { IsErrOf result LineFault.NotUnderstood → self.new ≡ self.old }
         ensures paces { self.new.done ≤ self.old.done + 65535 }
     {
         let order = read_order(alloc, line)?;

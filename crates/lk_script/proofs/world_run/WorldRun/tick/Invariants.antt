@@ -1,9 +1,8 @@
-use Rattle.std.proofs.Common.{◌≡◌, ◌+◌, ◌≤◌}
+use Rattle.std.proofs.Common.{◌≡◌, ◌+◌, replicate}
+use Rattle.lk_sim.specs.Runs.{Passes}
+use Rattle.lk_sim.specs.declared.event.Event.TheVariants.{Tick}
 use Rattle.lk_script.proofs.world_run.WorldRun.tick.Given as goal
 
--- what is done and what is left are all ticks
+-- so many ticks are done
 abbrev pub invariant-ticks : goal.invariant-ticks
-invariant-ticks g l = (l.self.done + l.left ≡ l.fn.self.done + l.times) × (l.left ≤ l.times)
-
-abbrev pub decreases-ticks : goal.decreases-ticks
-decreases-ticks g l = l.left
+invariant-ticks g l = (l.self.done ≡ l.fn.self.done + l.counter) × Passes g.R.MemoryReplica.behaves (replicate l.counter (Tick l.fn.node)) l.fn.self.world l.self.world

@@ -1,4 +1,4 @@
--- What a server stands for: the list of the requests that counted so far.
+-- What a table server stands for: the list of the requests that counted so far.
 use Rattle.std.specs.Prelude.{◌≡◌, ℕ, true, List, [], ◌∷◌, ⊤}
 use Rattle.std.specs.List.{AllByRecursion}
 use Rattle.lk_types.specs.Commands.{IsRequest}
@@ -10,7 +10,7 @@ use Rattle.lk_script.specs.TableMode.{is_for_table}
 use Rattle.lk_script.specs.Scripts.{Script, begun, table, world}
 use Rattle.lk_script.specs.declared.mode.Mode.{Mode}
 use Rattle.lk_script.specs.declared.mode.Mode.TheVariants as mode
-use Rattle.lk_script.specs.declared.server.Server.{Server}
+use Rattle.lk_script.specs.declared.table_server.TableServer.{TableServer}
 
 -- the entry is a request that asks something of the lock table
 abbrev pub AsksTable : Command → Type 0
@@ -24,27 +24,27 @@ pub record IsFirst (cluster : ℕ) (genesis : Genesis) : Type 0 where
   pub members : genesis.members ≡ record { node = 1; port = 1 } ∷ []
 
 -- the server's state is that of the list, which asks things of the lock table only
-pub record HasServed (L : List Command) (server : Server) : Type 0 where
+pub record HasServed (L : List Command) (server : TableServer) : Type 0 where
   pub genesis : Genesis
   pub first : IsFirst server.cluster genesis
   pub asked : AllByRecursion AsksTable L
   pub whole : state.SumsUp table_meaning genesis L server.whole
 
 -- how many positions a server has executed
-abbrev pub executed_of : Server → ℕ
+abbrev pub executed_of : TableServer → ℕ
 executed_of server = server.whole.roster.executed
 
 -- what a script has set up so far, as the program keeps it
-abbrev pub Fits : {R : Type 0} → Script → Mode R → Type 0
+abbrev pub Fits : {R : Type 0} → Script R → Mode R → Type 0
 Fits begun mode.Begun = ⊤
 Fits begun (mode.Table server) = ⊥
 Fits begun (mode.World run) = ⊥
 Fits (table cluster L) mode.Begun = ⊥
 Fits (table cluster L) (mode.Table server) = (server.cluster ≡ cluster) × HasServed L server
 Fits (table cluster L) (mode.World run) = ⊥
-Fits (world done) mode.Begun = ⊥
-Fits (world done) (mode.Table server) = ⊥
-Fits (world done) (mode.World run) = run.done ≡ done
+Fits (world scene done) mode.Begun = ⊥
+Fits (world scene done) (mode.Table server) = ⊥
+Fits (world scene done) (mode.World run) = (run.world ≡ scene) × (run.done ≡ done)
 
 -- how many positions, or events, were done for a script so far
 abbrev pub done_in : {R : Type 0} → Mode R → ℕ

@@ -37,29 +37,29 @@ fn is_for_table(op: &Op) -> bool
 
 /// A cluster of node 1 alone, which answers each request to it at once.
 #[derive(Drop)]
-pub struct Server {
+pub struct TableServer {
     cluster: u64,
     whole: Whole<LockTable>,
 }
 
-impl Server {
+impl TableServer {
     ghost use Rattle.lk_wire.specs.declared.message.NodeMessage.TheVariants as reply;
     ghost use Rattle.lk_wire.specs.Grammar.{Spells};
     ghost use Rattle.lk_state.specs.Sessions.{session_of, is_new};
     ghost use Rattle.lk_script.specs.Replies.{with_request};
     ghost use Rattle.lk_script.specs.TableMode.{Replies, Prints};
     ghost use Rattle.lk_script.specs.HexLines.{SpellsBytes};
-    ghost use Rattle.lk_script.specs.Servers.{HasServed, executed_of};
+    ghost use Rattle.lk_script.specs.TableServers.{HasServed, executed_of};
 
     /// The server of a cluster before any request.
-    pub fn new(alloc: Global, cluster: u64) -> Server
+    pub fn new(alloc: Global, cluster: u64) -> TableServer
         ensures cluster { result.cluster ≡ cluster }
         ensures empty { HasServed [] result }
         ensures executed { executed_of result ≡ 0 }
     {
         let genesis = Genesis::of(cluster, 1, &[Member::default()]).unwrap();
         let whole = Whole::begin(alloc, &genesis);
-        Server { cluster, whole }
+        TableServer { cluster, whole }
     }
 
     /// Executes a request that counts, and answers it.

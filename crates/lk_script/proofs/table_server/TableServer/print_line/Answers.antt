@@ -1,5 +1,5 @@
 use Rattle.std.proofs.Common.{rules}
-use Rattle.lk_script.proofs.server.Server.print_line.Goals as goal
+use Rattle.lk_script.proofs.table_server.TableServer.print_line.Goals as goal
 
 pub returns-clause-ok : goal.returns-clause-ok
 returns-clause-ok c = λ L sums.

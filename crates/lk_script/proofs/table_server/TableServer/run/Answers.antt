@@ -1,6 +1,6 @@
 use Rattle.std.proofs.Common.{rules, refl}
-use Rattle.lk_script.proofs.ServerLemmas.{runs}
-use Rattle.lk_script.proofs.server.Server.run.Goals as goal
+use Rattle.lk_script.proofs.TableServerLemmas.{runs}
+use Rattle.lk_script.proofs.table_server.TableServer.run.Goals as goal
 
 pub returns-clause-ok : goal.returns-clause-ok
 returns-clause-ok c = λ L sums.

@@ -1,7 +1,7 @@
 use Rattle.std.proofs.Common.{sym}
-use Rattle.lk_script.proofs.ServerLemmas.{again, passed}
-use Rattle.lk_script.proofs.server.Server.reply.Goals as goal
-use Rattle.lk_script.proofs.server.Server.reply.Goals.{in-New+in_ok-answer-in-New, in-Same}
+use Rattle.lk_script.proofs.TableServerLemmas.{again, passed}
+use Rattle.lk_script.proofs.table_server.TableServer.reply.Goals as goal
+use Rattle.lk_script.proofs.table_server.TableServer.reply.Goals.{in-New+in_ok-answer-in-New, in-Same}
 
 pub returns-in-Passed-clause-ok : goal.returns-in-Passed-clause-ok
 returns-in-Passed-clause-ok c = λ L sums.

@@ -1,7 +1,7 @@
 use Rattle.std.proofs.Common.{rules, ◌≡◌, ◌∙◌, ap, [], ◌∷◌}
 use Rattle.lk_types.specs.declared.member.Member.{Member}
-use Rattle.lk_script.proofs.ServerLemmas.{begins, nothing_executed}
-use Rattle.lk_script.proofs.server.Server.new.Goals as goal
+use Rattle.lk_script.proofs.TableServerLemmas.{begins, nothing_executed}
+use Rattle.lk_script.proofs.table_server.TableServer.new.Goals as goal
 
 pub returns-clause-empty : goal.returns-clause-empty
 returns-clause-empty c =

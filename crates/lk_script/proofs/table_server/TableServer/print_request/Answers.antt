@@ -7,7 +7,7 @@ use Rattle.lk_script.specs.Replies.{with_request}
 use Rattle.lk_script.specs.TableMode.{from_node, Prints}
 use Rattle.lk_script.specs.TableMode.Prints.{not_here, replied}
 use Rattle.lk_script.proofs.PrintLemmas.{on_ok}
-use Rattle.lk_script.proofs.server.Server.print_request.Goals as goal
+use Rattle.lk_script.proofs.table_server.TableServer.print_request.Goals as goal
 
 pub returns-then-not-is_for_table-clause-ok : goal.returns-then-not-is_for_table-clause-ok
 returns-then-not-is_for_table-clause-ok c = on_ok c.print.result _ _ c.print.ensures.ok

@@ -1,4 +1,4 @@
--- What a server replies, by the list that it stands for.
+-- What a table server replies, by the list that it stands for.
 use Rattle.std.proofs.Common.{◌≡◌, ℕ, ◌<◌, ◌≤◌, true, eqb, nat_lt, List, [], ◌∷◌, ◌++◌, Option, Some, None, refl, sym, ap, subst, ◌∙◌, arith, inl, inr}
 use Rattle.std.specs.Prelude.{Contains}
 use Rattle.std.specs.List.{AllByRecursion}
@@ -26,12 +26,12 @@ use Rattle.lk_locks.proofs.Tables.{answer-text_of}
 use Rattle.lk_script.specs.Replies.{IsReply, with_request}
 use Rattle.lk_script.specs.TableMode.{is_for_table, Replies}
 use Rattle.lk_script.specs.TableMode.Replies.{answers, passes}
-use Rattle.lk_script.specs.Servers.{AsksTable, IsFirst, HasServed, executed_of}
-use Rattle.lk_script.specs.declared.server.Server.{Server}
+use Rattle.lk_script.specs.TableServers.{AsksTable, IsFirst, HasServed, executed_of}
+use Rattle.lk_script.specs.declared.table_server.TableServer.{TableServer}
 
 -- ---- before any request
 
-module _ (genesis : Genesis) (server : Server) (whole : StandsFor table_meaning genesis [] server.whole) where
+module _ (genesis : Genesis) (server : TableServer) (whole : StandsFor table_meaning genesis [] server.whole) where
   pub begins : IsFirst server.cluster genesis → HasServed [] server
   begins first = record { genesis = genesis; first = first; asked = tt; whole = whole }
 
@@ -128,7 +128,7 @@ passed_is (Some s) number last e =
 
 -- ---- a request that does not count adds nothing
 
-module _ (L : List Command) (r : RequestValue) (server : Server) (sums : HasServed L server) where
+module _ (L : List Command) (r : RequestValue) (server : TableServer) (sums : HasServed L server) where
   last : last_served table_meaning sums.genesis L r.client ≡ session_of r.client server.whole.sessions
   last = sym (seen_last table_meaning sums.genesis L server.whole r.client sums.whole)
 
@@ -162,7 +162,7 @@ module _ (L : List Command) (r : RequestValue) (server : Server) (sums : HasServ
 -- ---- a request that counts goes to the end
 
 -- what a server that has run it replies
-pub runs : (L : List Command) (r : RequestValue) (a : Answer) (old new : Server) (answered : Option Answer) → IsRequest r → is_for_table r.op ≡ true
+pub runs : (L : List Command) (r : RequestValue) (a : Answer) (old new : TableServer) (answered : Option Answer) → IsRequest r → is_for_table r.op ≡ true
     → is_new (session_of r.client old.whole.sessions) r.number ≡ true → answered ≡ Some a → new.cluster ≡ old.cluster
     → ((genesis : Genesis) (L : List Command) → StandsFor table_meaning genesis L old.whole → StandsFor table_meaning genesis (L ++ Request r ∷ []) new.whole)
     → ((genesis : Genesis) (L : List Command) → StandsFor table_meaning genesis L old.whole → answered ≡ reply_of table_meaning genesis (L ++ Request r ∷ []) (counted L (Request r)))
