@@ -1,5 +1,5 @@
 -- From where clients and nodes wrote last.
-use Rattle.std.specs.Prelude.{ℕ, ◌-◌, ◌==◌, List, [], ◌∷◌, Option, Some, None, if◌then◌else◌, slice_index_or}
+use Rattle.std.specs.Prelude.{ℕ, ◌+◌, ◌-◌, ◌==◌, Bool, false, List, [], ◌∷◌, ◌++◌, Option, Some, None, if◌then◌else◌, length, take, drop, min, slice_index_or}
 use Rattle.std.specs.declared.net.socket_addr.SocketAddr.{SocketAddr}
 
 -- a place for each client, and the places of nodes that wrote, the last one first
@@ -23,3 +23,21 @@ node_in (place ∷ places) node = at_place place node (node_in places node)
 
 abbrev pub node_at : AddressBook → ℕ → Option SocketAddr
 node_at b node = node_in b.nodes node
+
+-- whether a place is the node's
+abbrev pub is_place_of : ℕ → Option (ℕ × SocketAddr) → Bool
+is_place_of node None = false
+is_place_of node (Some p) = p.0 == node
+
+-- how many places stand in front of the node's; all of them where it has none
+abbrev pub place_in : List (Option (ℕ × SocketAddr)) → ℕ → ℕ
+place_in [] node = 0
+place_in (place ∷ places) node = if is_place_of node place then 0 else place_in places node + 1
+
+-- all places but that one
+abbrev pub without : ℕ → List (Option (ℕ × SocketAddr)) → List (Option (ℕ × SocketAddr))
+without at places = take at places ++ drop (at + 1) places
+
+-- the node stands first, and the others stand as they did: its former place is gone, or the last one where it had none
+abbrev pub moved_up : List (Option (ℕ × SocketAddr)) → ℕ → SocketAddr → List (Option (ℕ × SocketAddr))
+moved_up places node from = Some (node, from) ∷ without (min (place_in places node) (length places - 1)) places

@@ -1,13 +1,17 @@
 -- What a server gives to its replica.
-use Rattle.std.specs.Prelude.{◌≡◌, ◌⊎◌, Bool, ◌==◌, ◌%◌, ℕ, List, [], ◌∷◌, ◌++◌, Option, Some, None, if◌then◌else◌}
+use Rattle.std.specs.Prelude.{◌≡◌, ◌⊎◌, Bool, ◌==◌, ◌+◌, ◌%◌, ◌^◌, ℕ, List, [], ◌∷◌, ◌++◌, Option, Some, None, if◌then◌else◌}
 use Rattle.std.specs.declared.net.socket_addr.SocketAddr.{SocketAddr}
+use Rattle.lk_node.specs.Letters.{LetterValue}
 use Rattle.lk_service.specs.Addresses.{AddressBook}
 use Rattle.lk_service.specs.Posts.{Hears}
 
--- the number of its cluster, what its replica was given (the bytes of a datagram, or none at a tick), from where others
--- wrote, how many datagrams came, whether a call has ended the replica, what its socket has sent, and what comes to that next
+-- the number of its cluster and that of its node, what its replica was given (the bytes of a datagram, or none at a tick), the
+-- letters of the node to itself that it has not taken yet, from where others wrote, how many datagrams came, whether a call has
+-- ended the replica, what its socket has sent, and what comes to that next
 pub record ServerValue : Type 0 where
   pub cluster : ℕ
+  pub node : ℕ
+  pub own : List LetterValue
   pub given : List (Option (List ℕ))
   pub addresses : AddressBook
   pub received : ℕ
@@ -26,6 +30,23 @@ EndsBehind bytes old new = (new ≡ old ++ Some bytes ∷ []) ⊎ (new ≡ old +
 -- a datagram was taken
 abbrev pub TakesOne : ServerValue → ServerValue → Type 0
 TakesOne old new = (bytes : List ℕ) × (new.given ≡ old.given ++ inputs new.received bytes)
+
+-- more letters stand behind these
+pub record Grows (old new : List LetterValue) : Type 0 where
+  pub added : List LetterValue
+  pub is : new ≡ old ++ added
+
+-- the first of its letters to itself was taken whole, if the replica tells that, and no other; they keep their order, with what
+-- was written meanwhile behind them. No address is kept by it
+pub record TakesLetter (tells : Type 0) (old new : ServerValue) (letter : LetterValue) (rest : List LetterValue) : Type 0 where
+  pub first : old.own ≡ letter ∷ rest
+  pub given : tells → new.given ≡ old.given ++ inputs new.received letter.bytes
+  pub counted : new.received ≡ (old.received + 1) % 2 ^ 64
+  pub left : Grows rest new.own
+  pub addresses : new.addresses ≡ old.addresses
+
+abbrev pub TakesOwn : Type 0 → ServerValue → ServerValue → Type 0
+TakesOwn tells old new = (letter : LetterValue) × (rest : List LetterValue) × TakesLetter tells old new letter rest
 
 -- that is the datagram that came: it was taken whole, and its sender was heard
 pub record TakesThis (old new : ServerValue) (from : SocketAddr) (bytes : List ℕ) : Type 0 where

@@ -1,8 +1,8 @@
 //! From where clients and nodes wrote last.
 
-ghost use Rattle.std.specs.Prelude.{◌≡◌, ◌≢◌, ◌<◌, ℕ, Some, None};
+ghost use Rattle.std.specs.Prelude.{◌≡◌, ◌≢◌, ℕ, Some, None, min};
 ghost use Rattle.lk_types.specs.Ranges.{IsClient};
-ghost use Rattle.lk_service.specs.Addresses.{client_at, node_at, node_in};
+ghost use Rattle.lk_service.specs.Addresses.{client_at, node_at, node_in, place_in, moved_up};
 
 use lk_types::{ClientNo, NodeNo};
 use std::marker::Model;
@@ -66,7 +66,7 @@ impl Addresses {
     pub fn hear_client(&mut self, client: ClientNo, from: SocketAddr)
         ensures own { client_at self.new client ≡ Some from }
         ensures others { (c : ℕ) → IsClient c → c ≢ client → client_at self.new c ≡ client_at self.old c }
-        ensures nodes { (n : ℕ) → node_at self.new n ≡ node_at self.old n }
+        ensures nodes { self.new.nodes ≡ self.old.nodes }
     {
         self.clients[client.get() as usize - 1] = Some(from);
     }
@@ -80,12 +80,13 @@ impl Addresses {
 
     // The place of a node, or the last one.
     fn place_of(&self, node: NodeNo) -> usize
-        ensures { result < 64 }
+        ensures { result ≡ min (place_in self.now.nodes node) 63 }
     {
-        for (at, place) in self.nodes.iter().enumerate() {
+        let mut at = 0;
+        for place in &self.nodes {
             match place {
                 Some((other, _)) if *other == node => return at,
-                _ => {}
+                _ => at += 1,
             }
         }
         NODES - 1
@@ -94,7 +95,8 @@ impl Addresses {
     /// A node wrote: it stands first from now on. Where all places are taken, the node that wrote longest ago is dropped.
     pub fn hear_node(&mut self, node: NodeNo, from: SocketAddr)
         ensures own { node_at self.new node ≡ Some from }
-        ensures clients { (c : ℕ) → client_at self.new c ≡ client_at self.old c }
+        ensures places { self.new.nodes ≡ moved_up self.old.nodes node from }
+        ensures clients { self.new.clients ≡ self.old.clients }
     {
         let place = self.place_of(node);
         self.nodes[..=place].rotate_right(1);

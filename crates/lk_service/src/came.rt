@@ -1,7 +1,7 @@
 //! What came to a server, for its log.
 
 use lk_types::{ClientNo, NodeNo};
-use lk_wire::NodeMessageRef;
+use lk_wire::{ContentRef, MessageRef, NodeMessageRef, view};
 use std::fmt;
 
 /// What came to a server, as far as it was read.
@@ -40,6 +40,19 @@ pub fn name_of(message: &NodeMessageRef<'_>) -> &'static str {
 }
 
 impl Came {
+    /// What a node wrote to itself.
+    pub fn own(bytes: &[u8]) -> Came {
+        match &view(bytes) {
+            Ok(
+                MessageRef {
+                    content: ContentRef::Node(node, said),
+                    ..
+                },
+            ) => Came::said(*node, said),
+            _ => Came::Bad,
+        }
+    }
+
     /// What a node says.
     pub fn said(node: NodeNo, message: &NodeMessageRef<'_>) -> Came {
         match message {

@@ -2,8 +2,8 @@
 
 ghost use Rattle.std.specs.Prelude.{◌≤◌};
 
-use crate::asking::{Heard, Question, datagram, next_reply, write_reply};
 use crate::fault::ServiceFault;
+use crate::question::{Heard, Question, datagram, next_reply, write_reply};
 use crate::reply::Reply;
 use crate::running::revive;
 use crate::server::Server;

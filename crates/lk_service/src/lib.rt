@@ -2,7 +2,6 @@
 #![tactic(auto)]
 
 pub mod addresses;
-pub mod asking;
 pub mod came;
 pub mod causes;
 pub mod command_words;
@@ -14,6 +13,7 @@ mod hearing;
 pub mod node_replica;
 pub mod notes;
 pub mod post;
+pub mod question;
 pub mod reply;
 pub mod running;
 pub mod server;

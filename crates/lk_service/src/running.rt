@@ -57,7 +57,13 @@ pub fn revive<M: Machine, D: LogDisk + Drop, S: Datagrams + Drop, L: Log>(
     log: &L,
 ) -> Result<Server<Replica<M, D>, S>, ServiceFault> {
     match take_up::<M, D, L>(alloc, header, device, log) {
-        Ok(replica) => Ok(Server::new(header.genesis().cluster, replica, socket)),
+        Ok(replica) => Ok(Server::new(
+            alloc,
+            header.genesis().cluster,
+            header.node(),
+            replica,
+            socket,
+        )),
         Err(refused) => Err(ServiceFault::of_replica(&refused.fault)),
     }
 }
@@ -76,8 +82,9 @@ fn revive_folder<M: Machine, L: Log, E: Write>(
 ) -> Result<FolderServer<M>, ServiceFault> {
     match take_up::<M, _, L>(alloc, &plan.header, device, log) {
         Ok(replica) => {
-            let cluster = plan.header.genesis().cluster;
-            Ok(Server::new(cluster, replica, socket))
+            let header = &plan.header;
+            let cluster = header.genesis().cluster;
+            Ok(Server::new(alloc, cluster, header.node(), replica, socket))
         }
         Err(refused) => {
             let fault = ServiceFault::of_replica(&refused.fault);

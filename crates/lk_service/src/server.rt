@@ -6,7 +6,7 @@ ghost use Rattle.lk_node.specs.Calls.{heard_by};
 ghost use Rattle.lk_replica.specs.Faults.{fault_number, IfSend};
 ghost use Rattle.lk_service.specs.Addresses.{client_at, node_at};
 ghost use Rattle.lk_service.specs.Posts.{Hears};
-ghost use Rattle.lk_service.specs.Servers.{inputs, EndsBehind, TakesOne, TakesNext, TicksIdle};
+ghost use Rattle.lk_service.specs.Servers.{inputs, EndsBehind, Grows, TakesOne, TakesNext, TakesOwn, TicksIdle};
 
 use crate::addresses::Addresses;
 use crate::came::Came;
@@ -17,10 +17,13 @@ use crate::post::SocketPost;
 use crate::socket::Datagrams;
 use crate::strangers::Strangers;
 use crate::watching::{log_carried, log_changes};
-use lk_node::{Input, Note};
+use lk_node::{Input, Letter, Note};
 use lk_replica::ReplicaFault;
+use lk_types::NodeNo;
 use lk_types::limits::MAX_DATAGRAM;
 use log::Log;
+use std::alloc::Global;
+use std::collections::VecDeque;
 use std::marker::Model;
 use std::net::SocketAddr;
 
@@ -30,9 +33,13 @@ const DATAGRAMS_PER_TICK: u64 = 64;
 /// A replica, the socket on which it serves, and from where others wrote to it.
 #[derive(Drop)]
 pub struct Server<R: NodeReplica, S: Datagrams + Drop> {
+    alloc: Global,
     cluster: u64,
+    node: NodeNo,
     replica: R,
     socket: S,
+    // what the node wrote to itself and has not taken yet
+    own: VecDeque<Letter>,
     addresses: Addresses,
     // the datagrams that came, modulo 2^64
     received: u64,
@@ -45,13 +52,15 @@ impl<R: NodeReplica, S: Datagrams + Drop> Model for Server<R, S> {
 
     ghost Value = { ServerValue };
 
-    ghost view = { λ s. record { cluster = s.cluster; given = R.given s.replica; addresses = s.addresses; received = s.received; failed = R.failed s.replica; sent = S.sent s.socket; next = S.next s.socket } };
+    ghost view = { λ s. record { cluster = s.cluster; node = s.node; own = s.own.items; given = R.given s.replica; addresses = s.addresses; received = s.received; failed = R.failed s.replica; sent = S.sent s.socket; next = S.next s.socket } };
 }
 
 impl<R: NodeReplica, S: Datagrams + Drop> Server<R, S> {
-    /// The server of a replica of that cluster, to which nobody has written yet.
-    pub fn new(cluster: u64, replica: R, socket: S) -> Server<R, S>
+    /// The server of that node's replica, of that cluster, to which nobody has written yet.
+    pub fn new(alloc: Global, cluster: u64, node: NodeNo, replica: R, socket: S) -> Server<R, S>
         ensures cluster { result.cluster ≡ cluster }
+        ensures node { result.node ≡ node }
+        ensures own { result.own ≡ [] }
         ensures given { result.given ≡ R.given replica }
         ensures clients { (c : ℕ) → IsClient c → client_at result.addresses c ≡ None }
         ensures nodes { (n : ℕ) → node_at result.addresses n ≡ None }
@@ -61,9 +70,12 @@ impl<R: NodeReplica, S: Datagrams + Drop> Server<R, S> {
         ensures next { result.next ≡ S.next socket }
     {
         Server {
+            alloc,
             cluster,
+            node,
             replica,
             socket,
+            own: VecDeque::new(alloc),
             addresses: Addresses::new(),
             received: 0,
             strangers: Strangers::new(),
@@ -82,9 +94,12 @@ impl<R: NodeReplica, S: Datagrams + Drop> Server<R, S> {
         ensures { R.given result ≡ self.given }
     {
         let Server {
+            alloc: _,
             cluster: _,
+            node: _,
             replica,
             socket: _,
+            own: _,
             addresses: _,
             received: _,
             strangers: _,
@@ -102,15 +117,18 @@ impl<R: NodeReplica, S: Datagrams + Drop> Server<R, S> {
         ensures given { R.is_telling → self.new.given ≡ self.old.given ++ heard_by input.entry ∷ [] }
         ensures addresses { self.new.addresses ≡ self.old.addresses }
         ensures cluster { self.new.cluster ≡ self.old.cluster }
+        ensures node { self.new.node ≡ self.old.node }
+        // What it wrote to itself stands behind what it had written.
+        ensures own { Grows self.old.own self.new.own }
         ensures received { self.new.received ≡ self.old.received }
         ensures alive { OnOk result (self.new.failed ≡ false) }
         ensures sends_on { IfErr result (IfSend (λ notes. self.new.failed ≡ false)) }
         ensures broken { IfErr result (λ e. (fault_number e ≡ 15 → ⊥) → self.new.failed ≡ true) }
     {
         let before = self.replica.sight();
-        let mut post = SocketPost::new(&mut self.socket, &self.addresses);
+        let mut post = SocketPost::new(self.alloc, self.node, &mut self.socket, &self.addresses);
         let taken = self.replica.take(input, &mut post);
-        let carried = post.carried();
+        let carried = post.end(&mut self.own);
         log_changes(log, came, &before, &self.replica.sight());
         log_carried(log, came, &carried, self.socket.cause());
         taken
@@ -121,6 +139,9 @@ impl<R: NodeReplica, S: Datagrams + Drop> Server<R, S> {
         ensures given { R.is_telling → self.new.given ≡ self.old.given ++ heard_by input.entry ∷ [] }
         ensures addresses { self.new.addresses ≡ self.old.addresses }
         ensures cluster { self.new.cluster ≡ self.old.cluster }
+        ensures node { self.new.node ≡ self.old.node }
+        // What it wrote to itself stands behind what it had written.
+        ensures own { Grows self.old.own self.new.own }
         ensures received { self.new.received ≡ self.old.received }
         ensures passes { IfErr result (λ f. f ≡ ServiceFault.Send → ⊥) }
         ensures alive { OnOk result (self.new.failed ≡ false) }
@@ -140,12 +161,42 @@ impl<R: NodeReplica, S: Datagrams + Drop> Server<R, S> {
         ensures given { R.is_telling → self.new.given ≡ self.old.given ++ None ∷ [] }
         ensures addresses { self.new.addresses ≡ self.old.addresses }
         ensures cluster { self.new.cluster ≡ self.old.cluster }
+        ensures node { self.new.node ≡ self.old.node }
+        // What it wrote to itself stands behind what it had written.
+        ensures own { Grows self.old.own self.new.own }
         ensures received { self.new.received ≡ self.old.received }
         ensures passes { IfErr result (λ f. f ≡ ServiceFault.Send → ⊥) }
         ensures alive { OnOk result (self.new.failed ≡ false) }
         ensures broken { OnErr result (self.new.failed ≡ true) }
     {
         self.take(Input::Tick, &Came::Tick, log)
+    }
+
+    #[tactic(auto, using(crate::proofs::Letters::grows_on))]
+    // Its replica takes a datagram, and after every 64th a tick.
+    fn take_counted<L: Log>(
+        &mut self,
+        bytes: &[u8],
+        came: &Came,
+        log: &L,
+    ) -> Result<(), ServiceFault>
+        ensures given { R.is_telling → OnOk result (self.new.given ≡ self.old.given ++ inputs self.new.received bytes.now) }
+        ensures ended { R.is_telling → OnErr result (EndsBehind bytes.now self.old.given self.new.given) }
+        ensures counted { self.new.received ≡ (self.old.received + 1) % 2 ^ 64 }
+        ensures addresses { self.new.addresses ≡ self.old.addresses }
+        ensures cluster { self.new.cluster ≡ self.old.cluster }
+        ensures node { self.new.node ≡ self.old.node }
+        ensures own { Grows self.old.own self.new.own }
+        ensures passes { IfErr result (λ f. f ≡ ServiceFault.Send → ⊥) }
+        ensures alive { OnOk result (self.new.failed ≡ false) }
+        ensures broken { OnErr result (self.new.failed ≡ true) }
+    {
+        self.received = self.received.wrapping_add(1);
+        self.take(Input::Datagram(bytes), came, log)?;
+        if self.received % DATAGRAMS_PER_TICK == 0 {
+            self.tick(log)?;
+        }
+        Ok(())
     }
 
     /// A datagram has come from an address. Every 64th is followed by a tick.
@@ -160,28 +211,41 @@ impl<R: NodeReplica, S: Datagrams + Drop> Server<R, S> {
         ensures heard { Hears self.old.cluster bytes.now from self.old.addresses self.new.addresses }
         ensures counted { self.new.received ≡ (self.old.received + 1) % 2 ^ 64 }
         ensures cluster { self.new.cluster ≡ self.old.cluster }
+        ensures node { self.new.node ≡ self.old.node }
+        ensures own { Grows self.old.own self.new.own }
         ensures passes { IfErr result (λ f. f ≡ ServiceFault.Send → ⊥) }
         ensures alive { OnOk result (self.new.failed ≡ false) }
         ensures broken { OnErr result (self.new.failed ≡ true) }
     {
-        self.received = self.received.wrapping_add(1);
         let came = self.addresses.hear(self.cluster, bytes, from);
         self.strangers.count(&came, log);
-        self.take(Input::Datagram(bytes), &came, log)?;
-        if self.received % DATAGRAMS_PER_TICK == 0 {
-            self.tick(log)?;
-        }
-        Ok(())
+        self.take_counted(bytes, &came, log)
     }
 
-    /// Takes the next datagram, if one comes. Whether one did.
-    pub fn serve_next<L: Log>(&mut self, log: &L) -> Result<bool, ServiceFault>
+    // Takes a letter of the node to itself, as the datagram that it is.
+    fn take_own<L: Log>(&mut self, letter: &Letter, log: &L) -> Result<(), ServiceFault>
+        ensures given { R.is_telling → OnOk result (self.new.given ≡ self.old.given ++ inputs self.new.received letter.now.bytes) }
+        ensures counted { self.new.received ≡ (self.old.received + 1) % 2 ^ 64 }
+        ensures addresses { self.new.addresses ≡ self.old.addresses }
+        ensures cluster { self.new.cluster ≡ self.old.cluster }
+        ensures node { self.new.node ≡ self.old.node }
+        ensures own { Grows self.old.own self.new.own }
+        ensures passes { IfErr result (λ f. f ≡ ServiceFault.Send → ⊥) }
+        ensures alive { OnOk result (self.new.failed ≡ false) }
+        ensures broken { OnErr result (self.new.failed ≡ true) }
+    {
+        let came = Came::own(&letter.bytes);
+        self.take_counted(&letter.bytes, &came, log)
+    }
+
+    // Takes the next datagram from the socket, if one comes. Whether one did.
+    fn serve_socket<L: Log>(&mut self, log: &L) -> Result<bool, ServiceFault>
         ensures given { R.is_telling → IfOk result (λ came. came ≡ true → TakesOne self.old self.new) }
-        // It is the whole of what came, from where it came.
         ensures hands { S.is_telling → R.is_telling → IfOk result (λ came. came ≡ true → TakesNext self.old self.new) }
         ensures idle { S.is_telling → IfOk result (λ came. came ≡ false → self.old.next ≡ None) }
         ensures none { IfOk result (λ came. came ≡ false → record self.new { next = self.old.next } ≡ self.old) }
         ensures cluster { self.new.cluster ≡ self.old.cluster }
+        ensures node { self.new.node ≡ self.old.node }
         ensures passes { IfErr result (λ f. f ≡ ServiceFault.Send → ⊥) }
         ensures alive { IfOk result (λ came. came ≡ true → self.new.failed ≡ false) }
         ensures broken { OnErr result (self.new.failed ≡ true) }
@@ -193,6 +257,32 @@ impl<R: NodeReplica, S: Datagrams + Drop> Server<R, S> {
         self.take_datagram(&buffer[..length], from, log)?;
         Ok(true)
     }
+
+    /// Takes the next datagram, if one comes: the first one that the node wrote to itself, and where there is none that of the socket.
+    /// Whether one did.
+    pub fn serve_next<L: Log>(&mut self, log: &L) -> Result<bool, ServiceFault>
+        ensures given { R.is_telling → IfOk result (λ came. came ≡ true → TakesOne self.old self.new) }
+        // What the node wrote to itself it takes once and in order, and before it looks at the socket.
+        ensures own { IfOk result (λ came. came ≡ true → (self.old.own ≡ []) ⊎ TakesOwn R.is_telling self.old self.new) }
+        // Else it is the whole of what came, from where it came.
+        ensures hands { S.is_telling → R.is_telling → IfOk result (λ came. came ≡ true → self.old.own ≡ [] → TakesNext self.old self.new) }
+        ensures idle { S.is_telling → IfOk result (λ came. came ≡ false → self.old.next ≡ None) }
+        ensures none { IfOk result (λ came. came ≡ false → record self.new { next = self.old.next } ≡ self.old) }
+        ensures none_own { IfOk result (λ came. came ≡ false → self.old.own ≡ []) }
+        ensures cluster { self.new.cluster ≡ self.old.cluster }
+        ensures node { self.new.node ≡ self.old.node }
+        ensures passes { IfErr result (λ f. f ≡ ServiceFault.Send → ⊥) }
+        ensures alive { IfOk result (λ came. came ≡ true → self.new.failed ≡ false) }
+        ensures broken { OnErr result (self.new.failed ≡ true) }
+    {
+        match self.own.pop_front() {
+            Some(letter) => {
+                self.take_own(&letter, log)?;
+                Ok(true)
+            }
+            None => self.serve_socket(log),
+        }
+    }
 }
 
 /// One turn of a server: it takes the next datagram, or a tick where none came.
@@ -201,9 +291,12 @@ pub fn node_turn<R: NodeReplica, S: Datagrams + Drop, L: Log>(
     log: &L,
 ) -> Result<(), ServiceFault>
     ensures given { R.is_telling → OnOk result (TakesOne server.old server.new ⊎ (server.new.given ≡ server.old.given ++ None ∷ [])) }
-    // What it takes is the whole of what came, from where it came, and a tick where nothing did.
-    ensures hands { S.is_telling → R.is_telling → OnOk result (TakesNext server.old server.new ⊎ TicksIdle server.old server.new) }
+    // Where the node wrote to itself it takes the first letter of that, and no tick.
+    ensures own { OnOk result ((server.old.own ≡ []) ⊎ TakesOwn R.is_telling server.old server.new) }
+    // Else it takes the whole of what came, from where it came, and a tick where nothing did.
+    ensures hands { S.is_telling → R.is_telling → OnOk result (server.old.own ≡ [] → TakesNext server.old server.new ⊎ TicksIdle server.old server.new) }
     ensures cluster { server.new.cluster ≡ server.old.cluster }
+    ensures node { server.new.node ≡ server.old.node }
     ensures passes { IfErr result (λ f. f ≡ ServiceFault.Send → ⊥) }
     ensures alive { OnOk result (server.new.failed ≡ false) }
     ensures broken { OnErr result (server.new.failed ≡ true) }

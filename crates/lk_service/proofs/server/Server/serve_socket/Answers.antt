@@ -1,5 +1,5 @@
 use Rattle.std.proofs.Common.{rules, ◌≡◌, ◌∙◌, take}
-use Rattle.lk_service.proofs.server.Server.serve_next.Goals as goal
+use Rattle.lk_service.proofs.server.Server.serve_socket.Goals as goal
 
 pub returns-clause-given : goal.returns-clause-given
 returns-clause-given g c = λ telling _.
