@@ -2,9 +2,9 @@
 ghost use Rattle.std.specs.Prelude.{◌≤◌, length, IfOk};
 ghost use Rattle.lk_fuzz.specs.Drawn.{IsDrawn, IsNear};
 
-use crate::asking::request;
 use crate::draws::Draws;
 use crate::event_kind::EventKind;
+use crate::request::request;
 use lk_replica::Datagram;
 use lk_sim::Event;
 use lk_types::{NoMemory, NodeNo};

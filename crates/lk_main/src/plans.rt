@@ -3,8 +3,8 @@
 use clap::ArgMatches;
 use lk_fuzz::fuzzing::MAX_EVENTS;
 use lk_log::Header;
-use lk_service::asking::Question;
 use lk_service::command_words::operation_of;
+use lk_service::question::Question;
 use lk_service::running::NodePlan;
 use lk_types::limits::{MAX_CLIENT, MAX_COUNT};
 use lk_types::{ClientNo, NodeNo, Op, Port, Request, RequestNumber};

@@ -5,7 +5,6 @@
 #[cfg(test)]
 mod answers;
 #[cfg(test)]
-mod asking;
 #[cfg(test)]
 mod digits;
 #[cfg(test)]
@@ -23,6 +22,7 @@ mod node_turns;
 #[cfg(test)]
 mod parts;
 #[cfg(test)]
+mod questions;
 mod raised;
 #[cfg(test)]
 mod reviving;

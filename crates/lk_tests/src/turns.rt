@@ -136,7 +136,8 @@ fn server(
         sight: sight_of(before)?,
         after: sight_of(after)?,
     };
-    Ok(Server::new(5, told, Waiting))
+    let node = NodeNo::of(1).ok_or("node")?;
+    Ok(Server::new(alloc, 5, node, told, Waiting))
 }
 
 // What a turn logs whose replica ends so, and is seen so before and after it.

@@ -3,8 +3,8 @@ ghost use Rattle.std.specs.Prelude.{[], None};
 
 use crate::digits::bytes_of;
 use lk_replica::SendFault;
-use lk_service::asking::{Question, ask};
 use lk_service::fault::ServiceFault;
+use lk_service::question::{Question, ask};
 use lk_service::socket::{Datagrams, LocalSocket, local};
 use lk_types::{ClientNo, Port, Request, RequestNumber};
 use lk_words::operation::read_operation;
