@@ -1,9 +1,9 @@
 ghost use Rattle.std.specs.Prelude.{◌≡◌, ◌↔◌, ℕ, Option, Some, None, List, [], IsTrue, true, false, OnOk, OnErr, Ok, IsSome, IfSome, MatchOption};
 ghost use Rattle.std.specs.Option.{option_copied, option_map};
 ghost use Rattle.lk_types.specs.Ballots.{IsBelow};
-ghost use Rattle.lk_types.specs.declared.member.Member.{Member as TheMember};
+ghost use Rattle.lk_types.specs.declared.member.Member.{Member as MemberValue};
 ghost use Rattle.lk_leader.specs.Waits.{asked, waiting_of, number_up_to, left_by};
-ghost use Rattle.lk_leader.specs.Terms.{LeaderValue, TermValue, ProposalValue, Command as TheCommand, idle, begun, with_term, with_report, with_proposals, has_promised as is_promiser, IsFirstOf};
+ghost use Rattle.lk_leader.specs.Terms.{LeaderValue, TermValue, ProposalValue, Command as CommandValue, idle, begun, with_term, with_report, with_proposals, has_promised as is_promiser, IsFirstOf};
 ghost use Rattle.lk_leader.specs.Proposing.{LeaderProposes, proposed};
 ghost use Rattle.lk_leader.specs.Counting.{IsVoteFor, heard_at, BecomesCounted, IsOpen};
 
@@ -118,7 +118,7 @@ impl Leader {
     pub fn propose(&mut self, roster: &Roster) -> Option<(Position, Command)>
         ensures some { IfSome result (λ p. LeaderProposes self.old roster.now p.0 p.1) }
         ensures term { IfSome result (λ p. (t : TermValue) → self.old.term ≡ Some t → self.new ≡ with_term (proposed roster.now p.0 p.1 t) self.old) }
-        ensures none { result ≡ None → (self.new ≡ self.old) × ((i : ℕ) (v : TheCommand) → LeaderProposes self.old roster.now i v → ⊥) }
+        ensures none { result ≡ None → (self.new ≡ self.old) × ((i : ℕ) (v : CommandValue) → LeaderProposes self.old roster.now i v → ⊥) }
     {
         let Some(term) = &mut self.term else {
             return None;
@@ -140,9 +140,9 @@ impl Leader {
         command: &Command,
         roster: &Roster,
     ) -> Option<Chosen>
-        ensures heard { (t : TermValue) (set : List TheMember) (p : ProposalValue) → self.old.term ≡ Some t → IsVoteFor t roster.now ballot position command.now set p
+        ensures heard { (t : TermValue) (set : List MemberValue) (p : ProposalValue) → self.old.term ≡ Some t → IsVoteFor t roster.now ballot position command.now set p
             → (self.new ≡ with_term (with_proposals (heard_at set node position t.proposals) t) self.old) × (IsSome result ↔ BecomesCounted set node p) }
-        ensures other { ((t : TermValue) (set : List TheMember) (p : ProposalValue) → self.old.term ≡ Some t → IsVoteFor t roster.now ballot position command.now set p → ⊥)
+        ensures other { ((t : TermValue) (set : List MemberValue) (p : ProposalValue) → self.old.term ≡ Some t → IsVoteFor t roster.now ballot position command.now set p → ⊥)
             → (self.new ≡ self.old) × (result ≡ None) }
         ensures chosen { IfSome result (λ c. c ≡ record { position = position; command = command.now }) }
     {

@@ -1,6 +1,6 @@
 ghost use Rattle.std.specs.Prelude.{◌≡◌, false, ◌≤◌, ◌==◌, ◌+◌, ◌<◌, ◌&&◌, nat_lt, nat_le, length, ◌↔◌, [], IsTrue};
 ghost use Rattle.std.specs.List.{list_any};
-ghost use Rattle.lk_members.specs.Counting.{Request as TheRequest};
+ghost use Rattle.lk_members.specs.Counting.{Request as RequestValue};
 ghost use Rattle.lk_leader.specs.Values.{IsUnderWay};
 ghost use Rattle.lk_leader.specs.Counting.{members_among, IsCounted, heard, BecomesCounted};
 
@@ -56,7 +56,7 @@ impl Proposal {
 
     /// Whether it is for this request, at a position that is not executed.
     pub(crate) fn is_for(&self, request: &Request, executed: Executed) -> bool
-        ensures { IsTrue result ↔ ((executed < self.now.position) × (self.now.command ≡ TheRequest request.now)) }
+        ensures { IsTrue result ↔ ((executed < self.now.position) × (self.now.command ≡ RequestValue request.now)) }
     {
         match &self.command {
             Command::Request(own) => executed.get() < self.position.get() && *own == *request,
@@ -120,7 +120,7 @@ fn members_of(set: &Members, nodes: &[NodeNo]) -> ArrayVec<NodeNo, 7>
 
 /// Whether one of the proposals is for this request, at a position that is not executed.
 pub fn is_under_way(proposals: &[Proposal], request: &Request, executed: Executed) -> bool
-    ensures { IsTrue result ↔ IsUnderWay executed proposals.now (TheRequest request.now) }
+    ensures { IsTrue result ↔ IsUnderWay executed proposals.now (RequestValue request.now) }
 {
     for proposal in proposals {
         if proposal.is_for(request, executed) {

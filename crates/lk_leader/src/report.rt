@@ -1,7 +1,7 @@
 ghost use Rattle.std.specs.Prelude.{◌≡◌, ◌≤◌, ◌==◌, ◌++◌, ◌∷◌, ◌&&◌, [], nat_le, IfOk, IsTrue, Some, List, Option};
 ghost use Rattle.std.specs.List.{list_any};
 ghost use Rattle.lk_members.specs.Rosters.{is_member};
-ghost use Rattle.lk_leader.specs.Values.{Told as TheTold, IsBest, told_by};
+ghost use Rattle.lk_leader.specs.Values.{Told as ToldValue, IsBest, told_by};
 
 use crate::told::{Told, better};
 use lk_types::{Members, NoMemory, NodeNo, Position, Vote};
@@ -41,7 +41,7 @@ impl Report {
 
     /// The best so far, or what it tells of the position where that counts for more.
     pub(crate) fn tell(&self, position: Position, best: Option<Told>) -> Option<Told>
-        ensures { (ts : List TheTold) → IsBest ts best → IsBest (ts ++ told_by position self.now) result }
+        ensures { (ts : List ToldValue) → IsBest ts best → IsBest (ts ++ told_by position self.now) result }
     {
         let mut best = best;
         for vote in &self.votes {

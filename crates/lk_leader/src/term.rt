@@ -1,7 +1,7 @@
 ghost use Rattle.std.specs.Prelude.{◌≡◌, ℕ, ◌<◌, ◌≤◌, ◌↔◌, ◌==◌, ◌&&◌, ◌||◌, nat_le, Option, Some, None, List, length, IsTrue, IsSome, OnOk, OnErr, MatchOption, false, position as position_of};
 ghost use Rattle.std.specs.Option.{option_copied};
 ghost use Rattle.std.specs.List.{list_any};
-ghost use Rattle.lk_leader.specs.Terms.{begun, with_report, with_proposals, proposal_at, ProposalValue, has_promised as is_promiser, BallotValue, Command as TheCommand};
+ghost use Rattle.lk_leader.specs.Terms.{begun, with_report, with_proposals, proposal_at, ProposalValue, has_promised as is_promiser, BallotValue, Command as CommandValue};
 ghost use Rattle.lk_leader.specs.Values.{IsBest, told_at, reports_at, is_reached, is_changing as is_changing_at, IsLeadersValue};
 ghost use Rattle.lk_leader.specs.Proposing.{promisers as those_who_promised, IsNext, Proposes, proposed};
 ghost use Rattle.lk_leader.specs.Counting.{heard_at, BecomesCounted};
@@ -138,7 +138,7 @@ impl Term {
         waiting: &Waiting,
         roster: &Roster,
     ) -> Option<Command>
-        ensures { MatchOption result ((v : TheCommand) → IsLeadersValue self.now waiting.now roster.now set.now position v → ⊥) (λ v. IsLeadersValue self.now waiting.now roster.now set.now position v) }
+        ensures { MatchOption result ((v : CommandValue) → IsLeadersValue self.now waiting.now roster.now set.now position v → ⊥) (λ v. IsLeadersValue self.now waiting.now roster.now set.now position v) }
     {
         if let Some(told) = self.highest(position, set) {
             return Some(told.vote.command.copy());
@@ -151,7 +151,7 @@ impl Term {
 
     /// What it proposes next, and where.
     pub(crate) fn next(&self, waiting: &Waiting, roster: &Roster) -> Option<(Position, Command)>
-        ensures { MatchOption result ((i : ℕ) (v : TheCommand) → Proposes self.now waiting.now roster.now i v → ⊥) (λ p. Proposes self.now waiting.now roster.now p.0 p.1) }
+        ensures { MatchOption result ((i : ℕ) (v : CommandValue) → Proposes self.now waiting.now roster.now i v → ⊥) (λ p. Proposes self.now waiting.now roster.now p.0 p.1) }
     {
         let position = self.next_position(roster)?;
         let set = roster.members_at(position)?;

@@ -1,6 +1,6 @@
 ghost use Rattle.std.specs.Prelude.{◌≡◌, ◌≤◌, ◌↔◌, nat_lt, length, Contains, IsTrue};
 ghost use Rattle.std.specs.List.{prefix_len};
-ghost use Rattle.lk_learner.specs.Pairs.{Command as TheCommand, are_pairs_above};
+ghost use Rattle.lk_learner.specs.Pairs.{Command as CommandValue, are_pairs_above};
 
 use lk_types::{Command, Position};
 use std::marker::Model;
@@ -55,7 +55,7 @@ impl Pair {
 
 /// Whether one of the pairs is of the position.
 pub fn is_kept(pairs: &[Pair], position: Position) -> bool
-    ensures { IsTrue result ↔ ((v : TheCommand) × Contains pairs.now (position, v)) }
+    ensures { IsTrue result ↔ ((v : CommandValue) × Contains pairs.now (position, v)) }
 {
     pairs.iter().any(|pair| pair.position == position)
 }

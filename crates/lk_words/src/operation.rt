@@ -3,7 +3,7 @@
 ghost use Rattle.std.specs.Prelude.{◌≡◌, ◌≤◌, ℕ, List, [], length, IfSome, IsNone};
 ghost use Rattle.std.specs.Fmt.{decimal};
 ghost use Rattle.lk_types.specs.Ranges.{IsNode, IsPort};
-ghost use Rattle.lk_types.specs.declared.command.Op.{Op as Operation};
+ghost use Rattle.lk_types.specs.declared.command.Op.{Op as OpValue};
 ghost use Rattle.lk_words.specs.Operations.{IsNameWord, body, AsksOfName, AsksOfFence, AsksToJoin, AsksToLeave, AsksToRaise, AsksInHex, Asks, SpellsOp};
 
 use crate::number::read_number;
@@ -36,7 +36,7 @@ fn body_of(kind: u8, name: &[u8], rest: &[u8]) -> Option<Payload>
 /// What a name asks for, as a body with this first byte.
 fn of_name(kind: u8, words: &[u8]) -> Option<Op>
     ensures some { IfSome result (AsksOfName kind words.now) }
-    ensures none { IsNone result → (o : Operation) → AsksOfName kind words.now o → ⊥ }
+    ensures none { IsNone result → (o : OpValue) → AsksOfName kind words.now o → ⊥ }
 {
     match body_of(kind, words, &[]) {
         Some(body) => Some(Op::Table(body)),
@@ -48,7 +48,7 @@ fn of_name(kind: u8, words: &[u8]) -> Option<Op>
 #[tactic(auto, unfolding(lk_wire::specs::Fields::eight))]
 fn of_fence(kind: u8, words: &[u8]) -> Option<Op>
     ensures some { IfSome result (AsksOfFence kind words.now) }
-    ensures none { IsNone result → (o : Operation) → AsksOfFence kind words.now o → ⊥ }
+    ensures none { IsNone result → (o : OpValue) → AsksOfFence kind words.now o → ⊥ }
 {
     let (name, word) = split_word(words)?;
     let fence = read_number(word, MAX_COUNT)?;
@@ -79,7 +79,7 @@ pub fn port_of(word: &[u8]) -> Option<Port>
 /// The node and the port that ask to join.
 fn to_join(words: &[u8]) -> Option<Op>
     ensures some { IfSome result (AsksToJoin words.now) }
-    ensures none { IsNone result → (o : Operation) → AsksToJoin words.now o → ⊥ }
+    ensures none { IsNone result → (o : OpValue) → AsksToJoin words.now o → ⊥ }
 {
     let (node, port) = split_word(words)?;
     let Some(node) = node_of(node) else {
@@ -94,7 +94,7 @@ fn to_join(words: &[u8]) -> Option<Op>
 /// The node that asks to leave.
 fn to_leave(words: &[u8]) -> Option<Op>
     ensures some { IfSome result (AsksToLeave words.now) }
-    ensures none { IsNone result → (o : Operation) → AsksToLeave words.now o → ⊥ }
+    ensures none { IsNone result → (o : OpValue) → AsksToLeave words.now o → ⊥ }
 {
     match node_of(words) {
         Some(node) => Some(Op::Leave(node)),
@@ -105,7 +105,7 @@ fn to_leave(words: &[u8]) -> Option<Op>
 /// The version to which the machine is raised.
 fn to_raise(words: &[u8]) -> Option<Op>
     ensures some { IfSome result (AsksToRaise words.now) }
-    ensures none { IsNone result → (o : Operation) → AsksToRaise words.now o → ⊥ }
+    ensures none { IsNone result → (o : OpValue) → AsksToRaise words.now o → ⊥ }
 {
     match words {
         b"2" => Some(Op::Raise),
@@ -116,7 +116,7 @@ fn to_raise(words: &[u8]) -> Option<Op>
 /// The body that hex digits spell.
 fn in_hex(digits: &[u8]) -> Option<Op>
     ensures some { IfSome result (AsksInHex digits.now) }
-    ensures none { IsNone result → (o : Operation) → AsksInHex digits.now o → ⊥ }
+    ensures none { IsNone result → (o : OpValue) → AsksInHex digits.now o → ⊥ }
 {
     let mut bytes = [0; MAX_PAYLOAD];
     let room = bytes.get_mut(..digits.len() / 2)?;
@@ -130,7 +130,7 @@ fn in_hex(digits: &[u8]) -> Option<Op>
 /// What the words after a verb ask for.
 fn asked(verb: Verb, words: &[u8]) -> Option<Op>
     ensures some { IfSome result (Asks verb words.now) }
-    ensures none { IsNone result → (o : Operation) → Asks verb words.now o → ⊥ }
+    ensures none { IsNone result → (o : OpValue) → Asks verb words.now o → ⊥ }
 {
     match verb {
         Verb::Acquire => of_name(1, words),
@@ -154,7 +154,7 @@ fn asked(verb: Verb, words: &[u8]) -> Option<Op>
 /// is 0 to 2^48. Numbers are decimal without leading zeros, and the bytes of a raw body are 1 to 64.
 pub fn read_operation(text: &[u8]) -> Option<Op>
     ensures some { IfSome result (SpellsOp text.now) }
-    ensures none { IsNone result → (o : Operation) → SpellsOp text.now o → ⊥ }
+    ensures none { IsNone result → (o : OpValue) → SpellsOp text.now o → ⊥ }
 {
     let (word, words) = split_word(text)?;
     let verb = Verb::of(word)?;
