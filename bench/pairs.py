@@ -6,7 +6,7 @@ Usage: bench/pairs.py [--pairs N] [--dir FOLDER] [--program PATH]
 Three nodes run as processes on loopback, with their files in fresh folders below FOLDER (the system's folder for temporary files if
 none is given). One client, and then eight at once, acquire and release a name of their own, N times each (1,000 if not given). In the
 same run the limit is measured that they are held against: a request cannot be answered before two datagrams went to and
-fro and one sync was done in the same file system, and a pair is two requests.
+fro and a majority of three processes, which all sync at once in the same file system, has synced; and a pair is two requests.
 """
 import argparse
 import os
@@ -22,12 +22,16 @@ from cluster import Cluster, built
 from locks_client import Client, milliseconds
 
 ECHO = """
-import socket
+import os, socket, sys
 it = socket.socket(socket.AF_INET, socket.SOCK_DGRAM)
 it.bind(("127.0.0.1", 0))
 print(it.getsockname()[1], flush=True)
+file = os.open(sys.argv[1], os.O_WRONLY | os.O_CREAT | os.O_APPEND) if len(sys.argv) > 1 else None
 while True:
     data, place = it.recvfrom(64)
+    if file is not None:
+        os.write(file, b"x" * 64)
+        os.fsync(file)
     it.sendto(data, place)
 """
 
@@ -39,27 +43,35 @@ def timed(what):
     return time.perf_counter() - start
 
 
-def limits(folder, count):
-    """The seconds of so many rounds of two datagrams to an echo and back, and one append and its sync."""
-    echo = subprocess.Popen([sys.executable, "-c", ECHO], stdout=subprocess.PIPE, text=True)
-    place = ("127.0.0.1", int(echo.stdout.readline()))
-    it = socket.socket(socket.AF_INET, socket.SOCK_DGRAM)
-    file = os.open(os.path.join(folder, "limit"), os.O_WRONLY | os.O_CREAT | os.O_APPEND)
+def echo(*file):
+    """A process that echoes datagrams, once it has synced a file if one is given, and where it is reached."""
+    process = subprocess.Popen([sys.executable, "-c", ECHO, *file], stdout=subprocess.PIPE, text=True)
+    return process, ("127.0.0.1", int(process.stdout.readline()))
 
-    def one():
-        for _ in range(2):
-            it.sendto(b"x" * 40, place)
-            it.recv(64)
-        os.write(file, b"x" * 64)
-        os.fsync(file)
+
+def limits(folder, count):
+    """The seconds of so many rounds: a datagram to an echo and back, then one to each of three that write and sync at once, as three nodes do, and back
+    from the first two of them."""
+    leader, *others = echoes = [echo(), *(echo(os.path.join(folder, f"limit-{number}")) for number in range(3))]
+    it = socket.socket(socket.AF_INET, socket.SOCK_DGRAM)
+
+    def round_of(data, asked, wanted):
+        for _, place in asked:
+            it.sendto(data, place)
+        while wanted:
+            wanted -= it.recv(64) == data
+
+    def one(number):
+        round_of(b"to the leader %d" % number, [leader], 1)
+        round_of(b"to three %d" % number, others, 2)
 
     try:
-        return [timed(one) for _ in range(count)]
+        return [timed(lambda: one(number)) for number in range(count)]
     finally:
-        os.close(file)
         it.close()
-        echo.kill()
-        echo.wait()
+        for process, _ in echoes:
+            process.kill()
+            process.wait()
 
 
 def pairs(cluster, ports, number, count):
@@ -99,7 +111,7 @@ def main():
     args = parser.parse_args()
     program = built(args.program)
     with tempfile.TemporaryDirectory(dir=args.dir) as folder, Cluster(program, folder) as cluster:
-        limit = told("two echoes and a sync", limits(folder, args.pairs))
+        limit = told("two echoes, three syncs at once", limits(folder, args.pairs))
         alone, _ = together(cluster, [1], args.pairs)
         median = told("a pair, one client", alone)
         print(f"that is {median / (2 * limit):.2f} times twice the limit")

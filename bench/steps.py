@@ -1,0 +1,87 @@
+#!/usr/bin/env python3
+"""Counts the instructions of a step of a node, by the kind of datagram that it takes.
+
+Usage: bench/steps.py [--times N] [PROGRAM ..]
+
+It asks for valgrind, whose callgrind counts instructions: the same for the same program and script, whatever else the machine does. A script of world mode
+brings three nodes to where a datagram of the kind was sent; then it is delivered N times more (1,000 if not given), and 2 N times more, and the
+difference is that of N lines of a script, N steps and what they send. Each PROGRAM is measured on the same scripts; the built one if none is named.
+"""
+import argparse
+import re
+import subprocess
+
+from cluster import built
+
+SENT = re.compile(r"sent (\d+) (?:c\d+|n(\d)) n(\d) (\w+)")
+
+
+def output(program, lines):
+    """What the script prints, line by line."""
+    done = subprocess.run([program, "sim"], input="".join(f"{line}\n" for line in lines), capture_output=True, text=True, check=True)
+    return done.stdout.splitlines()
+
+
+def sent(program, lines):
+    """The number, sender (0 for a client), receiver and kind of each datagram to a node that the script sends."""
+    return [(int(number), int(here or 0), int(there), kind) for number, here, there, kind in SENT.findall("\n".join(output(program, lines)))]
+
+
+def settled(program, lines, nodes):
+    """The script, after which each datagram among these nodes is delivered once, and so on until none is sent."""
+    lines, delivered = list(lines), {int(line.split()[1]) for line in lines if line.startswith("deliver ")}
+    while True:
+        new = [number for number, here, there, _ in sent(program, lines) if {here, there} <= nodes | {0} and number not in delivered]
+        if not new:
+            return lines
+        delivered.update(new)
+        lines += [f"deliver {number}" for number in new]
+
+
+def last(program, lines, here, there, kind):
+    """The line that delivers the last datagram of the kind from one node to another."""
+    return f"deliver {[it[0] for it in sent(program, lines) if it[1:] == (here, there, kind)][-1]}"
+
+
+def cases(program):
+    """For each kind its script, and the line that is repeated."""
+    begun = ["genesis 5 16 1:7001 2:7002 3:7003", "start 1", "start 2", "start 3", "tick 1 4"]
+    elected = settled(program, begun, {1, 2, 3})
+    yield "Prepare", elected, last(program, elected, 1, 2, "prepare")
+    asked = settled(program, [*elected, "client 1 7 1 acquire db"], {1, 2, 3})
+    yield "Request, answered before", asked, last(program, asked, 0, 1, "request")
+    yield "Accept", asked, last(program, asked, 1, 2, "accept")
+    yield "Accepted", asked, last(program, asked, 2, 1, "accepted")
+    many = elected
+    for client in range(1, 33):
+        many = settled(program, [*many, f"client 1 {client} 1 acquire name-{client}"], {1, 2})
+    told = settled(program, [*many, "tick 1"], {1, 2})
+    told += [last(program, told, 1, 3, "lead")]
+    told += [last(program, told, 3, 1, "want")]
+    told += [last(program, told, 1, 3, "decided")]
+    yield "Decided with 16 commands", told, told[-1]
+    ballot = [*many, "tick 3 12"]
+    ballot += [last(program, ballot, 3, 2, "prepare")]
+    yield "Promise with 32 votes", ballot, last(program, ballot, 2, 3, "promise")
+
+
+def instructions(program, lines):
+    """How many instructions the program takes for a script."""
+    words = ["valgrind", "--tool=callgrind", "--callgrind-out-file=/dev/null", program, "sim"]
+    done = subprocess.run(words, input="".join(f"{line}\n" for line in lines), capture_output=True, text=True, check=True)
+    return int(re.search(r"Collected : (\d+)", done.stderr)[1])
+
+
+def main():
+    parser = argparse.ArgumentParser(description="Counts the instructions of a step, by the kind of datagram.")
+    parser.add_argument("--times", type=int, default=1000, help="how often each is delivered, 1000 if not given")
+    parser.add_argument("program", nargs="*", help="the programs; the wrapper builds one if none is given")
+    args = parser.parse_args()
+    programs = args.program or [built()]
+    for kind, lines, repeated in cases(programs[0]):
+        counts = [instructions(it, lines + [repeated] * 2 * args.times) - instructions(it, lines + [repeated] * args.times) for it in programs]
+        print(f"{kind}: {', '.join(f'{count / args.times:,.0f}' for count in counts)} instructions", flush=True)
+
+
+if __name__ == "__main__":
+    main()
