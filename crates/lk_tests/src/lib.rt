@@ -5,7 +5,6 @@
 #[cfg(test)]
 mod answers;
 #[cfg(test)]
-#[cfg(test)]
 mod digits;
 #[cfg(test)]
 mod faltering;
@@ -23,6 +22,7 @@ mod node_turns;
 mod parts;
 #[cfg(test)]
 mod questions;
+#[cfg(test)]
 mod raised;
 #[cfg(test)]
 mod reviving;
