@@ -2,7 +2,7 @@
 use Rattle.std.proofs.Common.{◌≡◌, ℕ, ◌+◌, ◌-◌, ◌≤◌, min, max, List, [], ◌++◌, length, take, drop, arith, sym, ◌∙◌, ap, append_assoc, length-drop, Option, Some, None}
 use Rattle.std.proofs.Math.Seq.{take-add, take-append-add, take-length}
 use Rattle.std.proofs.lemmas.List.{take_min, take_all, drop_all, append-nil, take-append-drop, length-take-le}
-use Rattle.lk_disk.specs.Disk.{Disk, MayLeave, AppendsSome, CutShort, contents, appended, kept_by}
+use Rattle.lk_disk.specs.Disk.{Disk, MayLeave, AppendsSome, CutShort, contents, appended, cut_to, kept_by}
 use Rattle.lk_disk.specs.Memory.{cut_within}
 use Rattle.lk_disk.specs.Files.{left_of, file_showing}
 
@@ -33,6 +33,10 @@ keeps_image_of n (Some k) d = (
 
 length-front : (k : ℕ) (l : List ℕ) → k ≤ length l → length (take k l ++ []) ≡ k
 length-front k l le = ap length (append-nil (take k l)) ∙ length-take-le k l le
+
+-- a cut leaves as many bytes as it names
+pub cut_length : (n : ℕ) (d : Disk) → n ≤ length (contents d) → n ≡ length (contents (cut_to n d))
+cut_length n d le = sym (length-front n (contents d) le)
 
 -- a stop inside a cut leaves what a failed cut may leave
 pub cut_short : (n bytes : ℕ) (d : Disk) → n ≤ length (contents d) → CutShort n d (cut_within n bytes d)

@@ -1,5 +1,5 @@
 -- A file that grows at its end, what its calls do to it, and what a stop may leave.
-use Rattle.std.specs.Prelude.{◌≡◌, ℕ, ◌<◌, ◌⊎◌, ◌++◌, [], Bool, true, false, Option, Some, None, Result, Ok, Err, length, take, drop}
+use Rattle.std.specs.Prelude.{◌≡◌, ℕ, ◌<◌, ◌⊎◌, ◌++◌, [], Bool, true, false, Option, Some, None, Result, Ok, Err, ⊤, length, take, drop}
 use Rattle.lk_disk.specs.Disk.{Disk, contents, one_more}
 use Rattle.lk_disk.specs.declared.device.Side.{Side}
 use Rattle.lk_disk.specs.declared.device.Side.TheVariants.{A, B}
@@ -40,6 +40,11 @@ unknown = broken (record { synced = []; unsynced = [] })
 -- it is known what it shows, and that is all that a stop may leave
 abbrev pub IsWhole : File → Type 0
 IsWhole f = f ≡ whole (left_of f)
+
+-- where a length is told, the disk has as many bytes
+abbrev pub HasLength : Option ℕ → Disk → Type 0
+HasLength None d = ⊤
+HasLength (Some n) d = n ≡ length (contents d)
 
 -- what a contract sees of a file in memory: how it stands, and how often a call has failed
 pub record CountedFile : Type 0 where

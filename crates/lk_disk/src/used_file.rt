@@ -1,27 +1,37 @@
 // One file that is used until a call of it fails.
-ghost use Rattle.std.specs.Prelude.{◌≡◌, ◌≤◌, ◌<◌, ◌+◌, length, true, false, slice_range, IsTrue, IsFalse, IsOk, OnOk, OnErr, IfOk};
-ghost use Rattle.lk_disk.specs.Disk.{contents, appended, flushed, cut_to, AppendsSome, CutShort};
-ghost use Rattle.lk_disk.specs.Files.{left_of, IsWhole, IsCaused, IsCutCaused};
+ghost use Rattle.std.specs.Prelude.{◌≡◌, ◌≤◌, ◌<◌, ◌+◌, ℕ, List, length, true, false, slice_range, IsTrue, IsFalse, IsOk, OnOk, OnErr, IfOk};
+ghost use Rattle.lk_disk.specs.Disk.{Disk, contents, appended, flushed, cut_to, AppendsSome, CutShort};
+ghost use Rattle.lk_disk.specs.Files.{left_of, HasLength, IsWhole, IsCaused, IsCutCaused};
 
 use crate::append_file::{AppendFile, FileFault};
 use std::marker::Model;
 
-/// A file that refuses all calls after an append, a sync or a cut that failed: what it shows is then not known.
+/// A file that refuses all calls after an append, a sync or a cut that failed: what it shows is then not known. Its length is
+/// asked of the file once, and counted from then on.
 #[derive(Debug, Drop)]
 pub(crate) struct UsedFile<F: AppendFile + Drop> {
     file: F,
+    // the number of its bytes, where it is known
+    length: Option<usize>,
     failed: bool,
+}
+
+// What a length that is known becomes by so many bytes more.
+fn lengthened(known: Option<usize>, more: usize) -> Option<usize>
+    ensures { (d : Disk) (piece : List ℕ) → length piece ≡ more → HasLength known d → HasLength result (appended d piece) }
+{
+    known?.checked_add(more)
 }
 
 impl<F: AppendFile + Drop> Model for UsedFile<F> {
     ghost use Rattle.std.specs.Prelude.{◌≡◌, false};
-    ghost use Rattle.lk_disk.specs.Files.{UsedFile as Used, IsWhole};
+    ghost use Rattle.lk_disk.specs.Files.{UsedFile as Used, left_of, IsWhole, HasLength};
 
     ghost Value = { Used };
 
     ghost view = { λ u. record { file = F.file u.file; failures = F.failures u.file; failed = u.failed } };
 
-    ghost invariant = { λ u. F.is_honest → u.failed ≡ false → IsWhole (F.file u.file) };
+    ghost invariant = { λ u. F.is_honest → u.failed ≡ false → IsWhole (F.file u.file) × HasLength u.length (left_of (F.file u.file)) };
 }
 
 impl<F: AppendFile + Drop> UsedFile<F> {
@@ -33,6 +43,7 @@ impl<F: AppendFile + Drop> UsedFile<F> {
     {
         UsedFile {
             file,
+            length: None,
             failed: false,
         }
     }
@@ -48,7 +59,7 @@ impl<F: AppendFile + Drop> UsedFile<F> {
         ensures file { F.file result ≡ self.file }
         ensures failures { F.failures result ≡ self.failures }
     {
-        let UsedFile { file, failed: _ } = self;
+        let UsedFile { file, .. } = self;
         file
     }
 
@@ -61,7 +72,12 @@ impl<F: AppendFile + Drop> UsedFile<F> {
         if self.failed {
             return Err(FileFault);
         }
-        self.file.length()
+        let length = match self.length {
+            Some(length) => length,
+            None => self.file.length()?,
+        };
+        self.length = Some(length);
+        Ok(length)
     }
 
     pub fn read_into(&mut self, offset: usize, buffer: &mut [u8]) -> Result<(), FileFault>
@@ -77,10 +93,11 @@ impl<F: AppendFile + Drop> UsedFile<F> {
         self.file.read_into(offset, buffer)
     }
 
-    // A changing call begins; until it is over the file counts as failed.
-    fn begin(&mut self) -> Result<(), FileFault>
+    // A changing call begins; until it ends the file counts as failed. The length, where it is known.
+    fn begin(&mut self) -> Result<Option<usize>, FileFault>
         ensures ok { OnOk result (IsFalse self.old.failed × (self.new ≡ record self.old { failed = true })) }
         ensures whole { F.is_honest → OnOk result (IsWhole self.new.file) }
+        ensures known { F.is_honest → IfOk result (λ n. HasLength n (left_of self.new.file)) }
         ensures alive { IsFalse self.old.failed → IsOk result }
         ensures err { OnErr result (self.new ≡ self.old) }
     {
@@ -88,7 +105,16 @@ impl<F: AppendFile + Drop> UsedFile<F> {
             return Err(FileFault);
         }
         self.failed = true;
-        Ok(())
+        Ok(self.length)
+    }
+
+    // A changing call ends, and was made: the file goes on, with this length where it is known.
+    fn end(&mut self, length: Option<usize>)
+        requires { F.is_honest → IsWhole self.old.file × HasLength length (left_of self.old.file) }
+        ensures { self.new ≡ record self.old { failed = false } }
+    {
+        self.length = length;
+        self.failed = false;
     }
 
     pub fn append(&mut self, piece: &[u8]) -> Result<(), FileFault>
@@ -96,9 +122,9 @@ impl<F: AppendFile + Drop> UsedFile<F> {
         ensures err { F.is_honest → OnErr result (AppendsSome piece.now (left_of self.old.file) (left_of self.new.file)) }
         ensures cause { IsCaused self.old self.new result }
     {
-        self.begin()?;
+        let length = self.begin()?;
         self.file.append(piece)?;
-        self.failed = false;
+        self.end(lengthened(length, piece.len()));
         Ok(())
     }
 
@@ -107,9 +133,9 @@ impl<F: AppendFile + Drop> UsedFile<F> {
         ensures err { F.is_honest → OnErr result (left_of self.new.file ≡ left_of self.old.file) }
         ensures cause { IsCaused self.old self.new result }
     {
-        self.begin()?;
+        let length = self.begin()?;
         self.file.sync()?;
-        self.failed = false;
+        self.end(length);
         Ok(())
     }
 
@@ -126,7 +152,7 @@ impl<F: AppendFile + Drop> UsedFile<F> {
         self.begin()?;
         self.file.shorten(len)?;
         self.file.sync()?;
-        self.failed = false;
+        self.end(Some(len));
         Ok(())
     }
 }
