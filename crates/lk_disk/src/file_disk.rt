@@ -12,7 +12,7 @@ use std::marker::Model;
 
 /// Two files as a device. It is honest where the files are.
 ///
-/// Behind an append, a sync or a cut that failed a file is not used again: each further call at its side fails too.
+/// After an append, a sync or a cut that failed a file is not used again: each further call at its side fails too.
 #[derive(Debug, Drop)]
 pub struct FileDisk<F: AppendFile + Drop> {
     a: UsedFile<F>,

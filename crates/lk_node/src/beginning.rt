@@ -45,7 +45,7 @@ impl<M: Machine> Node<M> {
     }
 
     #[tactic(auto, using(crate::proofs::BallotRules::starts_goes_on))]
-    // The same.
+    // As `start`; what it then holds and sends fits every history that the node fitted.
     pub(crate) fn begin(&mut self, ballot: RealBallot) -> Result<Outbox, NoMemory>
         requires below { IsBelow self.old.acceptor.state.promised ballot }
         requires own { ballot.node ≡ self.old.header.node }

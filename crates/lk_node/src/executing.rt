@@ -112,7 +112,7 @@ impl<M: Machine> Node<M> {
         Ok(true)
     }
 
-    // The same.
+    // Executes the next pair that it keeps, where there is one. Whether there was.
     fn execute_one(&mut self, out: &mut Outbox) -> Result<bool, NoMemory>
         ensures exact { IfOk result (λ went. ExecutesOne (meaning M.first M.next M.answer) went self.old out.old self.new out.new) }
         ensures goes_on { OnOk result (GoesOn (meaning M.first M.next M.answer) (λ h. Unit {0}) self.old self.new out.old out.new) }

@@ -143,7 +143,7 @@ impl<M: Machine> Node<M> {
         Ok(())
     }
 
-    // The same.
+    // As `tell_leader`; what it sends fits every history that the node fits.
     pub(crate) fn tell_lead(&self, ballot: RealBallot, out: &mut Outbox) -> Result<(), NoMemory>
         ensures exact { OnOk result (TellsLead self.now ballot out.old out.new) }
         ensures goes_on { OnOk result (GoesOn (meaning M.first M.next M.answer) (λ h. Unit {0}) self.now self.now out.old out.new) }

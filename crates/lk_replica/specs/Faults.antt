@@ -64,7 +64,7 @@ IsOfCalls (fault.Send notes) = Unit {0}
 abbrev pub IsNumberOfCalls : ℕ → Type 0
 IsNumberOfCalls number = (number ≡ 7) ⊎ (number ≡ 8) ⊎ (number ≡ 11) ⊎ (number ≡ 14) ⊎ (number ≡ 15)
 
--- the device has failed, or the store before, or it has no generation left: a refusal that no want of memory brings
+-- the device has failed, or the store before, or it has no generation left: a refusal that refused memory does not bring
 abbrev pub WantsNoMemory : ℕ → Type 0
 WantsNoMemory number = (number ≡ 7) ⊎ (number ≡ 11)
 

@@ -68,7 +68,7 @@ pub record IsRefused (old new : ReplicaValue) (number : ℕ) : Type 0 where
   pub halts : number ≡ 14 → new.node.halted ≡ true
   pub awake : old.node.halted ≡ false → (number ≡ 14 → ⊥) → new.node.halted ≡ false
 
--- a rebase is due and no generation is left for it: so it is refused, and for no want of memory
+-- a rebase is due and no generation is left for it: so it is refused, and not for memory
 abbrev pub IsOfLast : ReplicaValue → ℕ → Type 0
 IsOfLast old number = max_count ≤ old.store.generation → IsDue old.node old.store → WantsNoMemory number
 

@@ -283,7 +283,7 @@ Brings b old (event.Arm n count bytes) new = HasTrap b old new n (Arm count byte
 abbrev pub Does : {R : Type 0} → Behaviour R → Scene R → Event → Scene R → Type 0
 Does b old e new = May old e × Brings b old e new
 
--- ---- what want of memory leaves
+-- ---- what refused memory leaves
 
 -- what a call came to takes memory: it was refused when out of memory, or there is something to be noted or sent
 abbrev pub TakesMemory : Result (List Note × List Datagram) ℕ → Memory → Type 0
@@ -324,12 +324,12 @@ pub record IsHalted {R : Type 0} (Left : Life R → Memory → Type 0) (old new 
   pub adds : Adds old new [] []
   pub ended : new.ended ≡ old.ended
 
--- what want of memory leaves of bytes that no node has sent: they are a request, and there was no room for its note, before its node stepped;
+-- what refused memory leaves of bytes that no node has sent: they are a request, and there was no room for its note, before its node stepped;
 -- or the node has stopped, and its call takes memory
 abbrev pub WantsInjection : {R : Type 0} → Behaviour R → Scene R → ℕ → List ℕ → Scene R → Type 0
 WantsInjection b old n bytes new = ((new ≡ old) × ((r : RequestValue) × Asks bytes (Some r))) ⊎ IsHalted (LeftBy b (Some bytes)) old new n
 
--- what want of memory leaves of an event: the node that it steps, or revives, has stopped. Where no node was stepping yet nothing has
+-- what refused memory leaves of an event: the node that it steps, or revives, has stopped. Where no node was stepping yet nothing has
 -- changed, nor where the node was never started before: it is as never started. A stop, and a trap that is set, take no memory, nor does a
 -- call that came to another fault, or that left nothing to be noted or sent. Nothing was noted or sent
 abbrev pub Wants : {R : Type 0} → Behaviour R → Scene R → Event → Scene R → Type 0

@@ -133,7 +133,7 @@ impl<M: Machine> Whole<M> {
         ensures err { OnErr result (self.new ≡ self.old) }
         ensures free { is_body (counted_now self.old.sessions command.now) ≡ false → IsOk result }
 
-        // Behind a list that it sums up it sums up the list with the command at its end, and tells the reply.
+        // After a list that it sums up it sums up the list with the command at its end, and tells the reply.
         ensures sums { (genesis : Genesis) (L : List Command) → SumsUp (meaning M.first M.next M.answer) genesis L self.old
             → OnOk result (SumsUp (meaning M.first M.next M.answer) genesis (L ++ command.now ∷ []) self.new) }
         ensures reply { (genesis : Genesis) (L : List Command) → SumsUp (meaning M.first M.next M.answer) genesis L self.old

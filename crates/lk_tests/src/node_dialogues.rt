@@ -231,7 +231,7 @@ const DIALOGUES: [Dialogue; 13] = [
             (Tick, NOTHING),
         ],
     ),
-    // Behind the last position no promise is asked for.
+    // Above the last position no promise is asked for.
     (
         Start::TakenUp(&AT_LAST),
         &[
