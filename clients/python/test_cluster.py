@@ -38,6 +38,9 @@ class ClusterTest(unittest.TestCase):
         folder = self.enterContext(tempfile.TemporaryDirectory())
         self.cluster = self.enterContext(Cluster(PROGRAM, folder))
         self.ports = list(self.cluster.ports.values())
+        # A shell lets what it runs in the background ignore an interrupt, and so would what the tests start.
+        before = signal.signal(signal.SIGINT, signal.default_int_handler)
+        self.addCleanup(signal.signal, signal.SIGINT, before)
 
     def client(self, number, **how):
         return self.enterContext(self.cluster.client(number, **how))
