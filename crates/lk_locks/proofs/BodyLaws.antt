@@ -2,10 +2,10 @@
 use Rattle.std.proofs.Common.{◌≡◌, ℕ, List, ◌++◌, Option, Some, None, refl, ap, ◌∙◌}
 use Rattle.std.specs.Prelude.{IfSome}
 use Rattle.lk_types.specs.Ranges.{IsCount}
-use Rattle.lk_wire.specs.Fields.{eight}
-use Rattle.lk_wire.specs.Parser.{tagged, whole}
-use Rattle.lk_wire.specs.FieldReading.{read_count}
-use Rattle.lk_wire.proofs.Spellings.{IsBytes, Reads, both_reads, whole_takes, whole_again, TakesKinds, no_kind_takes, kind_takes, tagged_reads, count_reads}
+use Rattle.lk_fields.specs.Fields.{eight}
+use Rattle.lk_fields.specs.Parser.{tagged, whole}
+use Rattle.lk_fields.specs.FieldReading.{read_count}
+use Rattle.lk_fields.proofs.Spellings.{IsBytes, Reads, both_reads, whole_takes, whole_again, TakesKinds, no_kind_takes, kind_takes, tagged_reads, count_reads}
 use Rattle.lk_locks.specs.Names.{IsName}
 use Rattle.lk_locks.specs.NameLaws.{name_reads}
 use Rattle.lk_locks.specs.Bodies.{lock_name, name_and_fence, body_tag, body_fields, spelling, IsBody, SpellsBody, read_name, read_name_and_fence, fields_of, body_of}

@@ -12,10 +12,10 @@ use Rattle.std.specs.FinMap.Entries.{below_all}
 use Rattle.lk_locks.specs.Plain.{Names, Table}
 use Rattle.lk_locks.specs.Packed.{Entry, entry, entries, read_entry, read_size, read_entries, read_table, text, rise, DoNotRise}
 use Rattle.lk_locks.specs.declared.slot.Slot.{Slot}
-use Rattle.lk_wire.specs.Fields.{two}
-use Rattle.lk_wire.specs.FieldReading.{read_two}
-use Rattle.lk_wire.specs.Parser.{◌>>=◌, many, made, whole}
-use Rattle.lk_wire.proofs.Spellings.{with_front}
+use Rattle.lk_fields.specs.Fields.{two}
+use Rattle.lk_fields.specs.FieldReading.{read_two}
+use Rattle.lk_fields.specs.Parser.{◌>>=◌, many, made, whole}
+use Rattle.lk_fields.proofs.Spellings.{with_front}
 use Rattle.lk_locks.specs.PackedLaws.{decided, entries_rise, empty_entries}
 
 two_hold : (a b : Bool) → (a && b) ≡ true → (a ≡ true) × (b ≡ true)

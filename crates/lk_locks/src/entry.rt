@@ -1,10 +1,10 @@
 //! A name and its slot as bytes, read and written: one way in a table that was raised, another in one that was not.
 ghost use Rattle.std.specs.Prelude.{◌≡◌, ◌<◌, ◌≤◌, [], ◌∷◌, ◌++◌, true, false, length, OnOk, OnErr, IfSome};
 ghost use Rattle.lk_types.specs.Limits.{max_sharers};
-ghost use Rattle.lk_wire.specs.Fields.{two};
-ghost use Rattle.lk_wire.specs.FieldReading.{read_client};
-ghost use Rattle.lk_wire.specs.Parser.{Finds, many, tagged};
-ghost use Rattle.lk_wire.specs.Fronts.{Keeps};
+ghost use Rattle.lk_fields.specs.Fields.{two};
+ghost use Rattle.lk_fields.specs.FieldReading.{read_client};
+ghost use Rattle.lk_fields.specs.Parser.{Finds, many, tagged};
+ghost use Rattle.lk_fields.specs.Fronts.{Keeps};
 ghost use Rattle.lk_locks.specs.Bodies.{lock_name};
 ghost use Rattle.lk_locks.specs.Holders.{is_kept};
 ghost use Rattle.lk_locks.specs.Packed.{holder_number, sharers, holders, slot, entry, read_holder, read_sharers, holders_of, read_holders, read_slot, read_entry};
@@ -15,11 +15,11 @@ use crate::sharers::Sharers;
 use crate::slot::{Holders, Slot};
 use arrayvec::ArrayVec;
 use bytes::{BufMut, BytesMut};
-use lk_types::ClientNo;
-use lk_types::limits::MAX_SHARERS;
-use lk_wire::fields::{
+use lk_fields::{
     put_client, put_fence, put_u8, put_u16, read_client, read_fence, read_u8, read_u16,
 };
+use lk_types::ClientNo;
+use lk_types::limits::MAX_SHARERS;
 use std::alloc::AllocError;
 
 /// A client, or nobody where the number is 0.
@@ -144,7 +144,7 @@ pub fn read_entry(raised: bool, bytes: &[u8]) -> Option<(Name, Slot, &[u8])>
     Some((name, slot, rest))
 }
 
-#[tactic(auto, using(lk_wire::proofs::Spellings::keeps_same, lk_wire::proofs::Spellings::keeps_behind))]
+#[tactic(auto, using(lk_fields::proofs::Spellings::keeps_same, lk_fields::proofs::Spellings::keeps_behind))]
 fn put_name(out: &mut BytesMut, name: &Name) -> Result<(), AllocError>
     ensures ok { OnOk result (out.new.items ≡ out.old.items ++ lock_name name.now) }
     ensures err { OnErr result (Keeps out.old.items out.new.items) }
@@ -156,7 +156,7 @@ fn put_name(out: &mut BytesMut, name: &Name) -> Result<(), AllocError>
 }
 
 /// The holder in two bytes, 0 for nobody.
-#[tactic(auto, using(lk_wire::proofs::Spellings::keeps_same))]
+#[tactic(auto, using(lk_fields::proofs::Spellings::keeps_same))]
 fn put_holder(out: &mut BytesMut, value: &Holders) -> Result<(), AllocError>
     ensures ok { OnOk result (out.new.items ≡ out.old.items ++ two (holder_number value.now)) }
     ensures err { OnErr result (Keeps out.old.items out.new.items) }
@@ -169,7 +169,7 @@ fn put_holder(out: &mut BytesMut, value: &Holders) -> Result<(), AllocError>
     Ok(())
 }
 
-#[tactic(auto, using(lk_wire::proofs::Spellings::keeps_same, lk_wire::proofs::Spellings::keeps_behind))]
+#[tactic(auto, using(lk_fields::proofs::Spellings::keeps_same, lk_fields::proofs::Spellings::keeps_behind))]
 fn put_sharers(out: &mut BytesMut, value: &Sharers) -> Result<(), AllocError>
     ensures ok { OnOk result (out.new.items ≡ out.old.items ++ sharers value.now) }
     ensures err { OnErr result (Keeps out.old.items out.new.items) }
@@ -183,7 +183,7 @@ fn put_sharers(out: &mut BytesMut, value: &Sharers) -> Result<(), AllocError>
 }
 
 /// The mode, and then who holds the name in it.
-#[tactic(auto, using(lk_wire::proofs::Spellings::keeps_same, lk_wire::proofs::Spellings::keeps_behind))]
+#[tactic(auto, using(lk_fields::proofs::Spellings::keeps_same, lk_fields::proofs::Spellings::keeps_behind))]
 fn put_mode(out: &mut BytesMut, value: &Holders) -> Result<(), AllocError>
     ensures ok { OnOk result (out.new.items ≡ out.old.items ++ holders true value.now) }
     ensures err { OnErr result (Keeps out.old.items out.new.items) }
@@ -213,7 +213,7 @@ fn put_holders(out: &mut BytesMut, raised: bool, value: &Holders) -> Result<(), 
     }
 }
 
-#[tactic(auto, using(lk_wire::proofs::Spellings::keeps_same, lk_wire::proofs::Spellings::keeps_behind))]
+#[tactic(auto, using(lk_fields::proofs::Spellings::keeps_same, lk_fields::proofs::Spellings::keeps_behind))]
 fn put_slot(out: &mut BytesMut, raised: bool, value: &Slot) -> Result<(), AllocError>
     ensures ok { OnOk result (out.new.items ≡ out.old.items ++ slot raised value.now) }
     ensures err { OnErr result (Keeps out.old.items out.new.items) }
@@ -224,7 +224,7 @@ fn put_slot(out: &mut BytesMut, raised: bool, value: &Slot) -> Result<(), AllocE
 }
 
 /// Writes a name and its slot. Where memory is refused, a beginning of the two may stand after what stood.
-#[tactic(auto, using(lk_wire::proofs::Spellings::keeps_same, lk_wire::proofs::Spellings::keeps_behind))]
+#[tactic(auto, using(lk_fields::proofs::Spellings::keeps_same, lk_fields::proofs::Spellings::keeps_behind))]
 pub fn put_entry(
     out: &mut BytesMut,
     raised: bool,

@@ -8,7 +8,7 @@ ghost use Rattle.lk_locks.specs.Holders.{is_kept};
 ghost use Rattle.lk_locks.specs.Held.{held_in};
 ghost use Rattle.lk_locks.specs.Packed.{IsTable, rise, entries, text};
 ghost use Rattle.lk_locks.specs.declared.slot.Slot.{Slot};
-ghost use Rattle.lk_wire.specs.Fronts.{Keeps};
+ghost use Rattle.lk_fields.specs.Fronts.{Keeps};
 ghost use Rattle.lk_locks.specs.Plain.{row_in, next_by, answer, next, raise_answer, raised, IsNewName};
 
 use crate::body::Body;
@@ -18,9 +18,9 @@ use crate::row::Row;
 use crate::rows::row;
 use crate::slot::Slot;
 use bytes::BytesMut;
+use lk_fields::put_u16;
 use lk_state::UnpackFault;
 use lk_types::{Answer, ClientNo, NoMemory};
-use lk_wire::fields::put_u16;
 use std::alloc::{AllocError, Global};
 use std::collections::BTreeMap;
 use std::marker::Model;
@@ -130,7 +130,7 @@ impl LockTable {
 
     /// Writes how many names stand, and then each with its slot. Where memory is refused, a beginning of that may stand
     /// after what stood.
-    #[tactic(auto, using(lk_wire::proofs::Spellings::keeps_same, lk_wire::proofs::Spellings::keeps_behind))]
+    #[tactic(auto, using(lk_fields::proofs::Spellings::keeps_same, lk_fields::proofs::Spellings::keeps_behind))]
     fn put_names(&self, out: &mut BytesMut) -> Result<(), AllocError>
         ensures ok { OnOk result (out.new.items ≡ out.old.items ++ entries self.now.raised (map.entries self.now.names)) }
         ensures err { OnErr result (Keeps out.old.items out.new.items) }
@@ -143,7 +143,7 @@ impl LockTable {
     }
 
     /// Writes the packed text. Where memory is refused, a beginning of it may stand after what stood.
-    #[tactic(auto, using(lk_wire::proofs::Spellings::keeps_same, lk_wire::proofs::Spellings::keeps_behind))]
+    #[tactic(auto, using(lk_fields::proofs::Spellings::keeps_same, lk_fields::proofs::Spellings::keeps_behind))]
     pub(crate) fn put(&self, out: &mut BytesMut) -> Result<(), AllocError>
         ensures ok { OnOk result (out.new.items ≡ out.old.items ++ text self.now) }
         ensures err { OnErr result (Keeps out.old.items out.new.items) }

@@ -16,11 +16,11 @@ use Rattle.lk_types.specs.declared.entry.Entry.{Entry}
 use Rattle.lk_types.specs.declared.entry.Entry.TheVariants.{Promise, Vote, Decided}
 use Rattle.lk_types.specs.declared.member.Member.{Member}
 use Rattle.lk_types.specs.declared.vote.Vote.{Vote as VoteValue}
-use Rattle.lk_wire.specs.Fields.{one, two, four, eight, ballot, member, op, command, vote, pair}
-use Rattle.lk_wire.specs.Parser.{◌>>=◌, read_byte, tested, sized, whole}
-use Rattle.lk_wire.specs.FieldReading.{is_from_1_to, read_two, read_four, read_eight, read_node, read_count, read_total, read_ballot, read_mark, read_member, read_vote, read_pair}
+use Rattle.lk_fields.specs.Fields.{one, two, four, eight, ballot, member, op, command, vote, pair}
+use Rattle.lk_fields.specs.Parser.{◌>>=◌, read_byte, tested, sized, whole}
+use Rattle.lk_fields.specs.FieldReading.{is_from_1_to, read_two, read_four, read_eight, read_node, read_count, read_total, read_ballot, read_mark, read_member, read_vote, read_pair}
 use Rattle.lk_wire.specs.Values.{are_votes_above}
-use Rattle.lk_wire.proofs.Spellings.{IsBytes, IsBytes-drop, IsBytes-take, Took, Reads, bind_ok, some_is, fitting, both_reads, made_reads, tested_reads, byte_reads, whole_takes, whole_again, two_reads, four_reads, eight_reads, sized_reads, counted_reads, TakesKinds, no_kind_takes, kind_takes, tagged_reads, ranged_reads, limited_reads, node_reads, count_reads, total_reads, ballot_reads, mark_reads, member_reads, vote_reads, pair_reads}
+use Rattle.lk_fields.proofs.Spellings.{IsBytes, IsBytes-drop, IsBytes-take, Took, Reads, bind_ok, some_is, fitting, both_reads, made_reads, tested_reads, byte_reads, whole_takes, whole_again, two_reads, four_reads, eight_reads, sized_reads, counted_reads, TakesKinds, no_kind_takes, kind_takes, tagged_reads, ranged_reads, limited_reads, node_reads, count_reads, total_reads, ballot_reads, mark_reads, member_reads, vote_reads, pair_reads}
 use Rattle.lk_log.specs.Values.{HeaderValue, StandingValue, BaseValue}
 use Rattle.lk_log.specs.Formats.{IsFormat}
 use Rattle.lk_log.specs.Headers.{IsHeader}

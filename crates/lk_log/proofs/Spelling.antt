@@ -2,8 +2,8 @@
 use Rattle.std.proofs.Common.{◌≡◌, ℕ, zero, suc, ◌+◌, ◌<◌, List, [], ◌∷◌, ◌++◌, length, take, drop, refl, sym, ◌∙◌, ap, arith, append_assoc, length-append, take-append-drop}
 use Rattle.std.specs.List.{AllByRecursion}
 use Rattle.std.proofs.lemmas.List.{append-nil, length-take}
-use Rattle.lk_wire.specs.Fields.{four}
-use Rattle.lk_wire.proofs.Spellings.{one_front}
+use Rattle.lk_fields.specs.Fields.{four}
+use Rattle.lk_fields.proofs.Spellings.{one_front}
 use Rattle.lk_log.specs.Entries.{body, spelling, spelling_of_all, IsStored, SpellsEntry}
 use Rattle.lk_log.specs.Files.{NoneBegins}
 use Rattle.lk_log.specs.Parsing.{read_entry}

@@ -11,7 +11,7 @@ use Rattle.lk_types.specs.declared.entry.Entry.{Entry}
 use Rattle.lk_types.specs.declared.entry.Entry.TheVariants.{Promise, Vote, Decided}
 use Rattle.lk_types.specs.declared.member.Member.{Member}
 use Rattle.lk_types.specs.declared.vote.Vote.{Vote as VoteValue}
-use Rattle.lk_wire.specs.Fields.{one, two, four, eight, ballot, member, vote, pair}
+use Rattle.lk_fields.specs.Fields.{one, two, four, eight, ballot, member, vote, pair}
 use Rattle.lk_wire.specs.Values.{are_votes_above}
 use Rattle.lk_log.specs.Formats.{IsFormat}
 use Rattle.lk_log.specs.Headers.{IsHeader}

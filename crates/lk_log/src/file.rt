@@ -15,8 +15,8 @@ use crate::reading::first_entry;
 use crate::stored::Stored;
 use crate::unread::Unread;
 use lk_disk::{LogDisk, Side};
+use lk_fields::read_u32;
 use lk_types::limits::MAX_TORN;
-use lk_wire::fields::read_u32;
 use std::alloc::Global;
 
 // A file as it was read.
@@ -33,7 +33,7 @@ pub struct File {
 }
 
 // Whether a stop may have left this after whole entries.
-#[tactic(auto, unfolding(crate::specs::Files::told_length, lk_wire::specs::FieldReading::read_four))]
+#[tactic(auto, unfolding(crate::specs::Files::told_length, lk_fields::specs::FieldReading::read_four))]
 fn is_torn(rest: &[u8]) -> bool
     ensures { result ≡ is_torn rest.now }
 {

@@ -2,8 +2,8 @@
 ghost use Rattle.std.specs.Prelude.{◌≡◌, ◌≤◌, ◌++◌, IfSome, IfOk, Err};
 ghost use Rattle.lk_types.specs.Limits.{max_members};
 ghost use Rattle.lk_types.specs.Ranges.{IsAlpha};
-ghost use Rattle.lk_wire.specs.FieldReading.{read_member, read_vote, read_pair};
-ghost use Rattle.lk_wire.specs.Parser.{Finds, many, whole};
+ghost use Rattle.lk_fields.specs.FieldReading.{read_member, read_vote, read_pair};
+ghost use Rattle.lk_fields.specs.Parser.{Finds, many, whole};
 ghost use Rattle.lk_wire.specs.Values.{are_votes_above};
 ghost use Rattle.lk_log.specs.Entries.{are_pairs_above, spelling, IsStored};
 ghost use Rattle.lk_log.specs.Files.{NoneBegins};
@@ -15,12 +15,12 @@ use crate::standing::Standing;
 use crate::stored::Stored;
 use crate::unread::Unread;
 use arrayvec::ArrayVec;
-use lk_types::limits::{MAX_BASE, MAX_VOTES};
-use lk_types::{Command, Entry, Genesis, Member, Members, Position, Vote};
-use lk_wire::fields::{
+use lk_fields::{
     read_ballot, read_command, read_executed, read_mark, read_member, read_node, read_position,
     read_u8, read_u16, read_u32, read_u64, read_vote,
 };
+use lk_types::limits::{MAX_BASE, MAX_VOTES};
+use lk_types::{Command, Entry, Genesis, Member, Members, Position, Vote};
 use std::alloc::Global;
 
 #[tactic(auto, unfolding(crate::specs::Parsing::read_alpha))]
@@ -147,7 +147,7 @@ fn read_votes(alloc: Global, bytes: &[u8]) -> Result<(Vec<Vote>, &[u8]), Unread>
     many_votes(alloc, count, rest)
 }
 
-#[tactic(auto, unfolding(lk_wire::specs::FieldReading::read_pair))]
+#[tactic(auto, unfolding(lk_fields::specs::FieldReading::read_pair))]
 fn read_pair(bytes: &[u8]) -> Option<((Position, Command), &[u8])>
     ensures { Finds (λ x. (x.0, x.1.now)) result (read_pair bytes.now) }
 {

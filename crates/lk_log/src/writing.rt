@@ -4,18 +4,18 @@ ghost use Rattle.std.specs.List.{AllByRecursion};
 ghost use Rattle.lk_types.specs.Limits.{max_members, max_votes, max_base};
 ghost use Rattle.lk_log.specs.Entries.{members, header, snapshot, votes, pairs, standing, base, body, spelling, spelling_of_all, IsStanding, IsBase, IsEntry, IsStored};
 ghost use Rattle.lk_log.specs.Stores.{plain};
-ghost use Rattle.lk_wire.specs.Fields.{four, pair};
+ghost use Rattle.lk_fields.specs.Fields.{four, pair};
 ghost use Rattle.lk_log.specs.declared.stored.Stored.TheVariants.{Base as base_entry, Plain};
 
 use crate::base::Base;
 use crate::header::Header;
 use crate::standing::Standing;
 use bytes::{BufMut, BytesMut};
-use lk_types::{Command, Entry, Member, Position, Vote};
-use lk_wire::fields::{
+use lk_fields::{
     put_ballot, put_command, put_executed, put_mark, put_member, put_node, put_position, put_u8,
     put_u16, put_u32, put_u64, put_vote,
 };
+use lk_types::{Command, Entry, Member, Position, Vote};
 use std::alloc::{AllocError, Global};
 
 fn put_members(out: &mut BytesMut, list: &[Member]) -> Result<(), AllocError>

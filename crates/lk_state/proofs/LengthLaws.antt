@@ -7,7 +7,7 @@ use Rattle.lk_types.specs.declared.answer.Answer.{Answer}
 use Rattle.lk_types.specs.declared.answer.Answer.TheVariants.{Granted, Busy, Free, Held, Shared, HeldShared}
 use Rattle.lk_types.specs.declared.member.Member.{Member}
 use Rattle.lk_types.specs.Rosters.{IsMember}
-use Rattle.lk_wire.specs.Fields.{one, two, four, eight, member, answer}
+use Rattle.lk_fields.specs.Fields.{one, two, four, eight, member, answer}
 use Rattle.lk_members.specs.Sets.{IsSet}
 use Rattle.lk_members.specs.Windows.{RosterValue, IsRoster}
 use Rattle.lk_state.specs.Sessions.{Session, IsSession, AreSessions}

@@ -11,11 +11,11 @@ use crate::machine::Machine;
 use crate::session::Session;
 use crate::whole::Whole;
 use bytes::BytesMut;
-use lk_members::{Roster, Window};
-use lk_types::{Members, NoMemory};
-use lk_wire::fields::{
+use lk_fields::{
     put_answer, put_client, put_executed, put_member, put_node, put_number, put_u8, put_u16,
 };
+use lk_members::{Roster, Window};
+use lk_types::{Members, NoMemory};
 use std::alloc::AllocError;
 
 fn put_set(out: &mut BytesMut, set: &Members) -> Result<(), AllocError>

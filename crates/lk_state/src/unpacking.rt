@@ -2,20 +2,20 @@
 
 ghost use Rattle.std.specs.Prelude.{◌≡◌, ◌<◌, ◌≤◌, length, IfSome};
 ghost use Rattle.lk_types.specs.Limits.{max_alpha, max_client, max_members};
-ghost use Rattle.lk_wire.specs.Parser.{Finds, many};
-ghost use Rattle.lk_wire.specs.FieldReading.{read_member};
+ghost use Rattle.lk_fields.specs.Parser.{Finds, many};
+ghost use Rattle.lk_fields.specs.FieldReading.{read_member};
 ghost use Rattle.lk_state.specs.Reading.{read_set, read_sets, read_roster, read_session, read_sessions, read_front};
 
 use crate::machine::{Machine, UnpackFault};
 use crate::session::{Session, Sessions};
 use crate::whole::Whole;
 use arrayvec::ArrayVec;
+use lk_fields::{
+    read_answer, read_client, read_executed, read_member, read_node, read_number, read_u8, read_u16,
+};
 use lk_members::{Roster, Window};
 use lk_types::limits::{MAX_ALPHA, MAX_CLIENT, MAX_MEMBERS};
 use lk_types::{Member, Members};
-use lk_wire::fields::{
-    read_answer, read_client, read_executed, read_member, read_node, read_number, read_u8, read_u16,
-};
 use std::alloc::Global;
 
 fn many_members(count: u8, bytes: &[u8]) -> Option<(ArrayVec<Member, MAX_MEMBERS>, &[u8])>

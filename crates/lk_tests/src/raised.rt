@@ -1,10 +1,10 @@
 //! The raised table, by the bytes of each op and of what it is answered.
 use crate::digits::bytes_of;
 use bytes::BytesMut;
+use lk_fields::{put_answer, read_op};
 use lk_locks::LockTable;
 use lk_state::Whole;
 use lk_types::{ClientNo, Command, Genesis, Member, Request, RequestNumber};
-use lk_wire::fields::{put_answer, read_op};
 use std::alloc::Global;
 use std::test::Fail;
 

@@ -8,14 +8,12 @@ use Rattle.lk_types.specs.Commands.{IsRequest}
 use Rattle.lk_wire.specs.declared.message.Content.{Content}
 use Rattle.lk_wire.specs.declared.message.Content.TheVariants as content
 use Rattle.lk_wire.specs.declared.message.Message.{Message}
-use Rattle.lk_wire.specs.Fields.{one, four, eight, request}
+use Rattle.lk_fields.specs.Fields.{one, four, eight, request}
 use Rattle.lk_wire.specs.Grammar.{kind, sender, fields, header, spelling, IsContent, IsMessage, Spells}
-use Rattle.lk_wire.specs.Parser.{◌>>=◌, read_byte, both, made}
-use Rattle.lk_wire.specs.FieldReading.{is_from_1_to, read_four, read_eight, read_request}
+use Rattle.lk_fields.specs.Parser.{◌>>=◌, read_byte, both, made}
+use Rattle.lk_fields.specs.FieldReading.{is_from_1_to, read_four, read_eight, read_request}
 use Rattle.lk_wire.specs.Reading.{node_of, read_asked, content_of, read_header, read_message, all_of}
-use Rattle.lk_wire.proofs.Codec.{IsBytes, bind_ok, chosen, some_is, Took, Reads, both_reads, made_as, byte_reads, one_front, whole_takes, whole_again}
-use Rattle.lk_wire.proofs.NumberLaws.{four_reads, eight_reads}
-use Rattle.lk_wire.proofs.FieldLaws.{is_in, passes, request_reads}
+use Rattle.lk_fields.proofs.Spellings.{IsBytes, bind_ok, chosen, some_is, Took, Reads, both_reads, made_as, byte_reads, one_front, whole_takes, whole_again, four_reads, eight_reads, is_in, passes, request_reads}
 use Rattle.lk_wire.proofs.MessageLaws.{node_takes, node_again, kind_fits, kind_other}
 
 -- ---- after the header

@@ -22,7 +22,7 @@ use Rattle.lk_wire.specs.declared.message.NodeMessage.TheVariants as kinds
 use Rattle.lk_wire.specs.declared.message.Content.{Content}
 use Rattle.lk_wire.specs.declared.message.Content.TheVariants as content
 use Rattle.lk_wire.specs.declared.message.Message.{Message}
-use Rattle.lk_wire.specs.Fields.{two, four, eight, ballot, member, op, request, command, vote, pair, answer}
+use Rattle.lk_fields.specs.Fields.{two, four, eight, ballot, member, op, request, command, vote, pair, answer}
 use Rattle.lk_wire.specs.Grammar.{node_fields, fields, header, spelling, kind, sender, IsNodeMessage, IsContent, IsMessage}
 
 pub length-two : (n : ℕ) → length (two n) ≡ 2

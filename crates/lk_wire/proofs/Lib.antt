@@ -1,12 +1,4 @@
-mod Codec
-mod Repeats
-mod NumberLaws
-mod KindLaws
-mod Loop
 mod Walks
-mod FieldLaws
-mod FrontLaws
-mod Appends
 mod MessageLaws
 mod DatagramLaws
 mod Lengths

@@ -19,17 +19,13 @@ use Rattle.lk_wire.specs.declared.message.Answered.{Answered}
 use Rattle.lk_wire.specs.declared.message.Elsewhere.{Elsewhere}
 use Rattle.lk_wire.specs.declared.message.NodeMessage.{NodeMessage}
 use Rattle.lk_wire.specs.declared.message.NodeMessage.TheVariants as kinds
-use Rattle.lk_wire.specs.Fields.{one, two, four, eight, ballot, member, command, vote, answer}
+use Rattle.lk_fields.specs.Fields.{one, two, four, eight, ballot, member, command, vote, answer}
 use Rattle.lk_wire.specs.Grammar.{votes, promise, proposal, nack, IsNack, commands, decided, want, part, answered, IsAnswered, elsewhere, IsElsewhere, passed, node_kind, node_fields, IsNodeMessage}
-use Rattle.lk_wire.specs.Parser.{read_byte, both, made, kind}
-use Rattle.lk_wire.specs.FieldReading.{read_two, read_four, read_client, read_count, read_total, read_ballot, read_mark, read_member, read_command, read_vote, read_answer}
+use Rattle.lk_fields.specs.Parser.{read_byte, both, made, kind}
+use Rattle.lk_fields.specs.FieldReading.{read_two, read_four, read_client, read_count, read_total, read_ballot, read_mark, read_member, read_command, read_vote, read_answer}
 use Rattle.lk_wire.specs.Reading.{read_prepare, read_votes, read_promise, read_proposal, read_nack, read_commands, read_decided, read_want, is_within, read_part, read_answered, read_elsewhere, read_passed, read_lead, small_of, node_of}
-use Rattle.lk_wire.proofs.Codec.{Reads, fitting, both_reads, made_reads, tested_reads, byte_reads}
-use Rattle.lk_wire.proofs.Repeats.{counted_reads}
-use Rattle.lk_wire.proofs.NumberLaws.{two_reads, four_reads, sized_reads}
-use Rattle.lk_wire.proofs.KindLaws.{TakesKinds, no_kind_takes, kind_takes}
+use Rattle.lk_fields.proofs.Spellings.{Reads, fitting, both_reads, made_reads, tested_reads, byte_reads, counted_reads, two_reads, four_reads, sized_reads, TakesKinds, no_kind_takes, kind_takes, at_most, is_at_most, client_reads, count_reads, total_reads, ballot_reads, mark_reads, member_reads, command_reads, vote_reads, answer_reads}
 use Rattle.lk_wire.proofs.Lengths.{few_votes, few_commands}
-use Rattle.lk_wire.proofs.FieldLaws.{at_most, is_at_most, client_reads, count_reads, total_reads, ballot_reads, mark_reads, member_reads, command_reads, vote_reads, answer_reads}
 
 -- ---- the fields of each kind
 

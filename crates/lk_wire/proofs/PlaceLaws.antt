@@ -6,7 +6,7 @@ use Rattle.lk_wire.specs.declared.message.NodeMessage.TheVariants as kinds
 use Rattle.lk_wire.specs.declared.message.Content.{Content}
 use Rattle.lk_wire.specs.declared.message.Content.TheVariants as content
 use Rattle.lk_wire.specs.declared.message.Message.{Message}
-use Rattle.lk_wire.specs.Fields.{two, four, eight, ballot}
+use Rattle.lk_fields.specs.Fields.{two, four, eight, ballot}
 use Rattle.lk_wire.specs.Grammar.{fields, header, kind, sender, Spells}
 use Rattle.lk_wire.specs.Shown.{LieAtTheirPlaces}
 use Rattle.lk_wire.proofs.Lengths.{length-two, length-four, length-eight, length-ballot}

@@ -10,7 +10,7 @@ use Rattle.lk_types.specs.Answers.{IsAnswer}
 use Rattle.lk_types.specs.Rosters.{IsMember}
 use Rattle.lk_types.specs.declared.command.Command.{Command}
 use Rattle.lk_types.specs.declared.vote.Vote.{Vote}
-use Rattle.lk_wire.specs.Fields.{one, two, four, eight, ballot, member, request, command, vote, answer}
+use Rattle.lk_fields.specs.Fields.{one, two, four, eight, ballot, member, request, command, vote, answer}
 use Rattle.lk_wire.specs.Values.{PromiseValue, IsPromise, DecidedValue, IsDecided, WantValue, IsWant, PartValue, IsPart, PassedValue, IsPassed}
 use Rattle.lk_wire.specs.declared.message.Nack.{Nack}
 use Rattle.lk_wire.specs.declared.message.Answered.{Answered}

@@ -1,10 +1,6 @@
-pub mod Fields
 pub mod Values
 pub mod Grammar
-pub mod Parser
-pub mod FieldReading
 pub mod Reading
-pub mod Fronts
 pub mod Faults
 pub mod Rooms
 pub mod Views

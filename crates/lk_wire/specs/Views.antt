@@ -5,12 +5,8 @@ use Rattle.lk_types.specs.declared.command.Request.{Request}
 use Rattle.lk_types.specs.declared.command.Command.{Command}
 use Rattle.lk_types.specs.declared.command.Command.TheVariants.{Noop}
 use Rattle.lk_types.specs.declared.vote.Vote.{Vote}
-use Rattle.lk_wire.specs.Parser.{◌>>=◌, many}
-use Rattle.lk_wire.specs.FieldReading.{read_request, read_command, read_vote}
-
--- what stands after a value that is read
-abbrev pub past : {X : Type 0} → (List ℕ → Option (X × List ℕ)) → List ℕ → Option (List ℕ)
-past p bytes = p bytes >>= λ a. Some a.1
+use Rattle.lk_fields.specs.Parser.{many}
+use Rattle.lk_fields.specs.FieldReading.{read_request, read_command, read_vote}
 
 -- the bytes spell this value and nothing else
 abbrev pub IsAll : {X : Type 0} → (List ℕ → Option (X × List ℕ)) → X → List ℕ → Type 0

@@ -2,16 +2,15 @@ ghost use Rattle.std.specs.Prelude.{◌≡◌, ◌∷◌, ◌≤◌, ◌+◌, �
 ghost use Rattle.std.specs.List.{AllByRecursion};
 ghost use Rattle.lk_types.specs.Commands.{IsCommand};
 ghost use Rattle.lk_wire.specs.declared.message.NodeMessage.TheVariants as kinds;
-ghost use Rattle.lk_wire.specs.FieldReading.{read_command};
-ghost use Rattle.lk_wire.specs.Parser.{Finds, made, many};
+ghost use Rattle.lk_fields.specs.FieldReading.{read_command};
+ghost use Rattle.lk_fields.specs.Parser.{Finds, made, many, past};
 ghost use Rattle.lk_wire.specs.Reading.{read_decided};
 ghost use Rattle.lk_wire.specs.Shown.{shown_node};
 ghost use Rattle.lk_wire.specs.Values.{IsDecided, are_commands_from, is_run};
-ghost use Rattle.lk_wire.specs.Views.{past, commands_in, AreCommands};
+ghost use Rattle.lk_wire.specs.Views.{commands_in, AreCommands};
 
-use crate::fields::read::{read_command, read_position, read_u8};
-use crate::fields::skip::{front_of, skip_command};
 use crate::viewing::message::NodeMessageRef;
+use lk_fields::{front_of, read_command, read_position, read_u8, skip_command};
 use lk_types::limits::{MAX_COMMANDS, MAX_COUNT};
 use lk_types::{Command, NoMemory, Position};
 use std::alloc::Global;

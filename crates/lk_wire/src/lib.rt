@@ -1,10 +1,9 @@
 //! Datagrams as bytes: each message has one spelling, `view` and `read` take these spellings and nothing else, the one in
-//! place and the other into memory, and `fields` reads and writes the parts that stores and packed states are built of too.
+//! place and the other into memory.
 #![tactic(auto)]
 
 mod decided;
 mod fault;
-pub mod fields;
 pub mod laws;
 mod message;
 mod part;

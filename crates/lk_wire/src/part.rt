@@ -1,13 +1,13 @@
 ghost use Rattle.std.specs.Prelude.{◌≡◌, ◌↔◌, IsSome, IfSome, IfOk, IsTrue};
 ghost use Rattle.lk_wire.specs.declared.message.NodeMessage.TheVariants as kinds;
-ghost use Rattle.lk_wire.specs.FieldReading.{read_two};
-ghost use Rattle.lk_wire.specs.Parser.{Finds, made, sized};
+ghost use Rattle.lk_fields.specs.FieldReading.{read_two};
+ghost use Rattle.lk_fields.specs.Parser.{Finds, made, sized};
 ghost use Rattle.lk_wire.specs.Reading.{read_part};
 ghost use Rattle.lk_wire.specs.Shown.{shown_node};
 ghost use Rattle.lk_wire.specs.Values.{IsPart, IsWithin, LieWithin};
 
-use crate::fields::read::{read_position, read_u16, read_u32};
 use crate::viewing::message::NodeMessageRef;
+use lk_fields::{read_position, read_u16, read_u32};
 use lk_types::limits::{MAX_BASE, MAX_PART};
 use lk_types::{NoMemory, Position};
 use std::alloc::Global;

@@ -2,16 +2,15 @@ ghost use Rattle.std.specs.Prelude.{◌≡◌, ◌≤◌, ◌-◌, ◌↔◌, le
 ghost use Rattle.std.specs.List.{AllByRecursion};
 ghost use Rattle.lk_types.specs.Votes.{IsVote};
 ghost use Rattle.lk_wire.specs.declared.message.NodeMessage.TheVariants as kinds;
-ghost use Rattle.lk_wire.specs.FieldReading.{read_vote};
-ghost use Rattle.lk_wire.specs.Parser.{Finds, made, many};
+ghost use Rattle.lk_fields.specs.FieldReading.{read_vote};
+ghost use Rattle.lk_fields.specs.Parser.{Finds, made, many};
 ghost use Rattle.lk_wire.specs.Reading.{read_promise};
 ghost use Rattle.lk_wire.specs.Shown.{shown_node};
 ghost use Rattle.lk_wire.specs.Values.{IsPromise, are_votes_above, are_votes_from};
 ghost use Rattle.lk_wire.specs.Views.{votes_in, AreVotes};
 
-use crate::fields::read::{read_ballot, read_position, read_u8, read_vote};
-use crate::fields::skip::{front_of, skip_vote};
 use crate::viewing::message::NodeMessageRef;
+use lk_fields::{front_of, read_ballot, read_position, read_u8, read_vote, skip_vote};
 use lk_types::limits::MAX_VOTES;
 use lk_types::{NoMemory, Position, RealBallot, Vote};
 use std::alloc::Global;

@@ -5,7 +5,7 @@ ghost use Rattle.std.specs.Prelude.{◌≡◌, ◌⊎◌, List, ℕ, Ok, Err, If
 ghost use Rattle.lk_wire.specs.declared.message.Message.{Message};
 ghost use Rattle.lk_wire.specs.declared.message.NodeMessage.TheVariants as kinds;
 ghost use Rattle.lk_wire.specs.Grammar.{Spells};
-ghost use Rattle.lk_wire.specs.Parser.{Finds, made};
+ghost use Rattle.lk_fields.specs.Parser.{Finds, made};
 ghost use Rattle.lk_wire.specs.Reading.{read_prepare, read_proposal, read_nack, read_want, read_answered, read_elsewhere, read_passed, read_lead, node_of, read_asked, content_of, read_header, read_message, all_of};
 ghost use Rattle.lk_wire.specs.Shown.{shown_node, shown_content, shown, LieAtTheirPlaces};
 
@@ -14,14 +14,14 @@ pub(crate) mod message;
 
 use crate::decided::read_decided;
 use crate::fault::{Bad, ReadFault};
-use crate::fields::read::{
-    read_answer, read_ballot, read_client, read_executed, read_mark, read_member, read_number,
-    read_position, read_u8, read_u32, read_u64,
-};
 use crate::message::{Answered, Elsewhere, Message, Nack, Passed, Want};
 use crate::part::read_part;
 use crate::promise::read_promise;
 use command::{RequestRef, VoteRef};
+use lk_fields::{
+    read_answer, read_ballot, read_client, read_executed, read_mark, read_member, read_number,
+    read_position, read_u8, read_u32, read_u64,
+};
 use lk_types::NodeNo;
 use message::{ContentRef, MessageRef, NodeMessageRef};
 use std::alloc::Global;

@@ -1,17 +1,17 @@
 ghost use Rattle.std.specs.Prelude.{◌≡◌, ◌<◌, ◌+◌, ◌*◌, ◌++◌, length, OnOk, OnErr};
-ghost use Rattle.lk_wire.specs.Rooms.{UsesRoom, mark_room, command_room, vote_room, header_room, node_fields_room, fields_room};
+ghost use Rattle.lk_fields.specs.Rooms.{UsesRoom, mark_room, command_room, vote_room};
+ghost use Rattle.lk_wire.specs.Rooms.{header_room, node_fields_room, fields_room};
 ghost use Rattle.lk_wire.specs.Grammar.{votes, promise, proposal, nack, commands, decided, part, node_kind, node_fields, fields, header, kind, spelling, Spells};
 
 use crate::decided::Decided;
-use crate::fields::put::put_request;
-use crate::fields::{
-    put_answer, put_ballot, put_client, put_command, put_executed, put_mark, put_member,
-    put_number, put_position, put_u8, put_u16, put_u32, put_u64, put_vote, room,
-};
 use crate::message::{Content, Message, Nack, NodeMessage};
 use crate::part::Part;
 use crate::promise::Promise;
 use bytes::{BufMut, BytesMut};
+use lk_fields::{
+    put_answer, put_ballot, put_client, put_command, put_executed, put_mark, put_member,
+    put_number, put_position, put_request, put_u8, put_u16, put_u32, put_u64, put_vote, room,
+};
 use lk_types::{Command, NoMemory, Vote};
 use std::alloc::AllocError;
 
@@ -175,6 +175,9 @@ fn put_message(out: &mut BytesMut, message: &Message) -> Result<(), AllocError>
     Ok(())
 }
 
+/// How many bytes a header takes: two letters and the version, the kind, the cluster and the sender.
+const HEADER_ROOM: usize = 3 + 1 + 8 + 4;
+
 /// How many bytes the fields of a message take at most.
 fn room_of(content: &Content) -> usize
     ensures { result ≡ fields_room content.now }
@@ -207,7 +210,7 @@ pub fn write(message: &Message, out: &mut BytesMut) -> Result<(), NoMemory>
     ensures room { UsesRoom result out.old.spare out.new.spare (header_room + fields_room message.now.content) }
 {
     message.facts();
-    out.reserve(room::HEADER + room_of(&message.content))?;
+    out.reserve(HEADER_ROOM + room_of(&message.content))?;
     put_message(out, message)?;
     Ok(())
 }

@@ -6,7 +6,7 @@ use Rattle.lk_types.specs.Ranges.{IsNode, IsPort, IsTotal}
 use Rattle.lk_types.specs.Payloads.{IsPayload}
 use Rattle.lk_types.specs.declared.command.Op.{Op}
 use Rattle.lk_types.specs.declared.command.Op.TheVariants.{Table, Join, Leave, Raise}
-use Rattle.lk_wire.specs.Fields.{eight}
+use Rattle.lk_fields.specs.Fields.{eight}
 use Rattle.lk_words.specs.Words.{HasNoSpace}
 use Rattle.lk_words.specs.Verbs.{word_of}
 use Rattle.lk_words.specs.declared.verb.Verb.{Verb}

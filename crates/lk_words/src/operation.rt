@@ -45,7 +45,7 @@ fn of_name(kind: u8, words: &[u8]) -> Option<Op>
 }
 
 /// What a name and a fence ask for, as a body with this first byte.
-#[tactic(auto, unfolding(lk_wire::specs::Fields::eight))]
+#[tactic(auto, unfolding(lk_fields::specs::Fields::eight))]
 fn of_fence(kind: u8, words: &[u8]) -> Option<Op>
     ensures some { IfSome result (AsksOfFence kind words.now) }
     ensures none { IsNone result → (o : OpValue) → AsksOfFence kind words.now o → ⊥ }

@@ -1,13 +1,14 @@
 ghost use Rattle.std.specs.Prelude.{◌≡◌, IfSome};
 ghost use Rattle.lk_types.specs.Commands.{IsRequest};
 ghost use Rattle.lk_types.specs.Votes.{IsVote};
-ghost use Rattle.lk_wire.specs.FieldReading.{read_request, read_command};
-ghost use Rattle.lk_wire.specs.Parser.{Finds};
+ghost use Rattle.lk_fields.specs.FieldReading.{read_request, read_command};
+ghost use Rattle.lk_fields.specs.Parser.{Finds};
 ghost use Rattle.lk_wire.specs.Reading.{read_proposal};
 ghost use Rattle.lk_wire.specs.Views.{command_in, IsOneCommand};
 
-use crate::fields::read::{read_ballot, read_command, read_position, read_request};
-use crate::fields::skip::{front_of, skip_command, skip_request};
+use lk_fields::{
+    front_of, read_ballot, read_command, read_position, read_request, skip_command, skip_request,
+};
 use lk_types::{Position, RealBallot, Request, Vote};
 use std::marker::Model;
 

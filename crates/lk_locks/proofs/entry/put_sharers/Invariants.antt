@@ -1,8 +1,8 @@
 -- The count stands there, and the clients so far.
 use Rattle.std.proofs.Common.{◌≡◌, ◌++◌, length, take}
 use Rattle.std.specs.List.{flat_map}
-use Rattle.lk_wire.specs.Fields.{one, two}
-use Rattle.lk_wire.specs.Fronts.{Keeps}
+use Rattle.lk_fields.specs.Fields.{one, two}
+use Rattle.lk_fields.specs.Fronts.{Keeps}
 use Rattle.lk_locks.proofs.entry.put_sharers.Given as goal
 
 abbrev pub invariant-loop-client : goal.invariant-loop-client

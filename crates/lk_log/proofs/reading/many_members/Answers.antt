@@ -1,7 +1,7 @@
 use Rattle.std.proofs.Common.{ap, arith, length, length-append}
-use Rattle.lk_wire.specs.FieldReading.{read_member}
-use Rattle.lk_wire.specs.Parser.{many}
-use Rattle.lk_wire.proofs.Spellings.{goes_on, ends}
+use Rattle.lk_fields.specs.FieldReading.{read_member}
+use Rattle.lk_fields.specs.Parser.{many}
+use Rattle.lk_fields.proofs.Spellings.{goes_on, ends}
 use Rattle.lk_log.proofs.reading.many_members.Goals as goal
 
 pub returns-in_default : goal.returns-in_default

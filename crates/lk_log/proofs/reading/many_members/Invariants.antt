@@ -1,7 +1,7 @@
 use Rattle.std.proofs.Common.{◌≡◌, ◌-◌, length}
-use Rattle.lk_wire.specs.FieldReading.{read_member}
-use Rattle.lk_wire.specs.Parser.{many}
-use Rattle.lk_wire.proofs.Spellings.{with_front}
+use Rattle.lk_fields.specs.FieldReading.{read_member}
+use Rattle.lk_fields.specs.Parser.{many}
+use Rattle.lk_fields.proofs.Spellings.{with_front}
 use Rattle.lk_log.proofs.reading.many_members.Given as goal
 
 abbrev pub invariant-loop : goal.invariant-loop

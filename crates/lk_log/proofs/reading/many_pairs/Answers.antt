@@ -1,6 +1,6 @@
-use Rattle.lk_wire.specs.FieldReading.{read_pair}
-use Rattle.lk_wire.specs.Parser.{many}
-use Rattle.lk_wire.proofs.Spellings.{goes_on, ends}
+use Rattle.lk_fields.specs.FieldReading.{read_pair}
+use Rattle.lk_fields.specs.Parser.{many}
+use Rattle.lk_fields.proofs.Spellings.{goes_on, ends}
 use Rattle.lk_log.proofs.reading.many_pairs.Goals as goal
 
 pub returns-in_default : goal.returns-in_default

@@ -1,6 +1,6 @@
 use Rattle.std.proofs.Common.{◌≡◌, ◌++◌, length, take}
 use Rattle.std.specs.List.{flat_map}
-use Rattle.lk_wire.specs.Fields.{one, member}
+use Rattle.lk_fields.specs.Fields.{one, member}
 use Rattle.lk_log.proofs.writing.put_members.Given as goal
 
 abbrev pub invariant-loop-member : goal.invariant-loop-member

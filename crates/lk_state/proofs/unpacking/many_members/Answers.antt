@@ -1,8 +1,8 @@
 -- Reading goes on where it stopped.
 use Rattle.std.proofs.Common.{ap, ◌∙◌, length-append, ◌+◌}
-use Rattle.lk_wire.specs.Parser.{many}
-use Rattle.lk_wire.specs.FieldReading.{read_member}
-use Rattle.lk_wire.proofs.Spellings.{goes_on}
+use Rattle.lk_fields.specs.Parser.{many}
+use Rattle.lk_fields.specs.FieldReading.{read_member}
+use Rattle.lk_fields.proofs.Spellings.{goes_on}
 use Rattle.lk_state.proofs.unpacking.many_members.Goals as goal
 
 pub loop-preserved : goal.loop-preserved

@@ -1,7 +1,7 @@
 use Rattle.std.proofs.Common.{[], ◌∷◌, ◌++◌}
-use Rattle.lk_wire.specs.FieldReading.{read_command}
-use Rattle.lk_wire.specs.Parser.{many}
-use Rattle.lk_wire.proofs.Loop.{goes_on}
+use Rattle.lk_fields.specs.FieldReading.{read_command}
+use Rattle.lk_fields.specs.Parser.{many}
+use Rattle.lk_fields.proofs.Spellings.{goes_on}
 use Rattle.lk_wire.proofs.Walks.{stepped}
 use Rattle.lk_wire.proofs.decided.end_of.Goals as goal
 

@@ -1,6 +1,6 @@
 use Rattle.std.proofs.Common.{rules, ◌≡◌, ◌∙◌, ◌&&◌, ℕ, Some, ap, sym, ltb}
-use Rattle.lk_wire.specs.FieldReading.{read_vote}
-use Rattle.lk_wire.specs.Parser.{many}
+use Rattle.lk_fields.specs.FieldReading.{read_vote}
+use Rattle.lk_fields.specs.Parser.{many}
 use Rattle.lk_wire.proofs.Walks.{passed}
 use Rattle.lk_wire.proofs.promise.end_of.Goals as goal
 use Rattle.lk_wire.proofs.promise.end_of.Goals.{then-rising, else-rising}

@@ -1,6 +1,6 @@
 use Rattle.std.proofs.Common.{◌≡◌, ◌++◌}
 use Rattle.std.specs.List.{flat_map}
-use Rattle.lk_wire.specs.Fronts.{Keeps}
+use Rattle.lk_fields.specs.Fronts.{Keeps}
 use Rattle.std.specs.FinMap as map
 use Rattle.lk_locks.specs.Packed.{entry, entries}
 use Rattle.lk_locks.proofs.table.LockTable.put_names.Given as goal

@@ -1,6 +1,6 @@
 use Rattle.std.proofs.Common.{[], arith}
-use Rattle.lk_wire.specs.FieldReading.{read_command}
-use Rattle.lk_wire.specs.Parser.{many}
+use Rattle.lk_fields.specs.FieldReading.{read_command}
+use Rattle.lk_fields.specs.Parser.{many}
 use Rattle.lk_wire.proofs.Walks.{cut, stepped, commands_read}
 use Rattle.lk_wire.proofs.decided.Commands.of.Goals as goal
 

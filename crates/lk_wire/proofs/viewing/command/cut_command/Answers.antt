@@ -1,6 +1,6 @@
 use Rattle.std.proofs.Common.{arith}
-use Rattle.lk_wire.specs.FieldReading.{read_command}
-use Rattle.lk_wire.proofs.FieldLaws.{command_reads}
+use Rattle.lk_fields.specs.FieldReading.{read_command}
+use Rattle.lk_fields.proofs.Spellings.{command_reads}
 use Rattle.lk_wire.proofs.Walks.{cut, stepped}
 use Rattle.lk_wire.proofs.viewing.command.cut_command.Goals as goal
 

@@ -1,0 +1,32 @@
+use Rattle.std.proofs.Common.{rules, arith}
+use Rattle.lk_fields.specs.FieldReading.{answer_of}
+use Rattle.lk_fields.proofs.FrontLaws.{answer_front}
+use Rattle.lk_fields.proofs.read.read_answer.Goals as goal
+
+pub returns-in_default-read_held-clause-front : goal.returns-in_default-read_held-clause-front
+unfolding answer_of
+returns-in_default-read_held-clause-front c = answer_front _ _ _ (λ i. omega (arith, c.type_inv.bytes i)) (search rules)
+
+pub returns-in_default-read_held-2-clause-front : goal.returns-in_default-read_held-2-clause-front
+unfolding answer_of
+returns-in_default-read_held-2-clause-front c = answer_front _ _ _ (λ i. omega (arith, c.type_inv.bytes i)) (search rules)
+
+pub returns-in_default-read_sharing-clause-front : goal.returns-in_default-read_sharing-clause-front
+unfolding answer_of
+returns-in_default-read_sharing-clause-front c = answer_front _ _ _ (λ i. omega (arith, c.type_inv.bytes i)) (search rules)
+
+pub returns-in-Some-read_held-clause-front : goal.returns-in-Some-read_held-clause-front
+unfolding answer_of
+returns-in-Some-read_held-clause-front c = answer_front _ _ _ (λ i. omega (arith, c.type_inv.bytes i)) (search rules)
+
+pub returns-in-Some-read_held-2-clause-front : goal.returns-in-Some-read_held-2-clause-front
+unfolding answer_of
+returns-in-Some-read_held-2-clause-front c = answer_front _ _ _ (λ i. omega (arith, c.type_inv.bytes i)) (search rules)
+
+pub returns-in-Some-read_sharing-clause-front : goal.returns-in-Some-read_sharing-clause-front
+unfolding answer_of
+returns-in-Some-read_sharing-clause-front c = answer_front _ _ _ (λ i. omega (arith, c.type_inv.bytes i)) (search rules)
+
+pub returns-in_default-clause-front : goal.returns-in_default-clause-front
+unfolding answer_of
+returns-in_default-clause-front c = answer_front _ _ _ (λ i. omega (arith, c.type_inv.bytes i)) (search rules)

@@ -1,0 +1,72 @@
+-- Reading from the front of a list: a value and the bytes after it. Readers of bigger things are built of smaller ones.
+use Rattle.std.specs.Prelude.{◌≡◌, ℕ, zero, suc, Bool, List, [], ◌∷◌, length, take, drop, Option, Some, None, nat_lt, ◌==◌, if◌then◌else◌}
+use Rattle.std.specs.Int.{Width, byte_len, from_be_bytes}
+
+infixl 10 ◌>>=◌
+abbrev pub ◌>>=◌ : {A B : Type 0} → Option A → (A → Option B) → Option B
+(Some x) >>= f = f x
+None >>= f = None
+
+-- what a function returned, seen by view, is what reading gives
+abbrev pub Finds : {X Y : Type 0} → (X → Y) → Option X → Option Y → Type 0
+Finds view (Some x) read = read ≡ Some (view x)
+Finds view None read = read ≡ None
+
+abbrev pub read_byte : List ℕ → Option (ℕ × List ℕ)
+read_byte [] = None
+read_byte (b ∷ rest) = Some (b, rest)
+
+-- a number of so many bytes
+abbrev pub read_number : Width → List ℕ → Option (ℕ × List ℕ)
+read_number w bytes = if nat_lt (length bytes) (byte_len w) then None else Some (from_be_bytes w (take (byte_len w) bytes), drop (byte_len w) bytes)
+
+-- a length, and so many bytes
+abbrev pub sized : (List ℕ → Option (ℕ × List ℕ)) → List ℕ → Option (List ℕ × List ℕ)
+sized c bytes = c bytes >>= λ n. if nat_lt (length n.1) n.0 then None else Some (take n.0 n.1, drop n.0 n.1)
+
+module _ {X Y : Type 0} where
+  -- one after the other
+  abbrev pub both : (List ℕ → Option (X × List ℕ)) → (List ℕ → Option (Y × List ℕ)) → List ℕ → Option ((X × Y) × List ℕ)
+  both p q bytes = p bytes >>= λ a. q a.1 >>= λ b. Some ((a.0, b.0), b.1)
+
+  -- another view of the value
+  abbrev pub made : (X → Y) → (List ℕ → Option (X × List ℕ)) → List ℕ → Option (Y × List ℕ)
+  made f p bytes = p bytes >>= λ a. Some (f a.0, a.1)
+
+module _ {X : Type 0} where
+  -- only what passes a test
+  abbrev pub tested : (X → Bool) → (List ℕ → Option (X × List ℕ)) → List ℕ → Option (X × List ℕ)
+  tested t p bytes = p bytes >>= λ a. if t a.0 then Some a else None
+
+  -- so many, one after the other
+  abbrev pub many : (List ℕ → Option (X × List ℕ)) → ℕ → List ℕ → Option (List X × List ℕ)
+  many p zero bytes = Some ([], bytes)
+  many p (suc n) bytes = p bytes >>= λ a. many p n a.1 >>= λ b. Some (a.0 ∷ b.0, b.1)
+
+  -- a count, and so many
+  abbrev pub counted : (List ℕ → Option (ℕ × List ℕ)) → (List ℕ → Option (X × List ℕ)) → List ℕ → Option (List X × List ℕ)
+  counted c p bytes = c bytes >>= λ n. many p n.0 n.1
+
+  -- a byte that says what stands after it
+  abbrev pub tagged : (ℕ → List ℕ → Option (X × List ℕ)) → List ℕ → Option (X × List ℕ)
+  tagged q bytes = read_byte bytes >>= λ t. q t.0 t.1
+
+  -- after the tag k this, after another one what the others say
+  abbrev pub kind : ℕ → (List ℕ → Option (X × List ℕ)) → (ℕ → List ℕ → Option (X × List ℕ)) → ℕ → List ℕ → Option (X × List ℕ)
+  kind k p others tag bytes = if tag == k then p bytes else others tag bytes
+
+  -- nothing stands after the tag, which says it all
+  abbrev pub bare : X → List ℕ → Option (X × List ℕ)
+  bare x bytes = Some (x, bytes)
+
+  -- no tag is left
+  abbrev pub no_kind : ℕ → List ℕ → Option (X × List ℕ)
+  no_kind tag bytes = None
+
+  -- all of the bytes
+  abbrev pub whole : (List ℕ → Option (X × List ℕ)) → List ℕ → Option X
+  whole p bytes = p bytes >>= λ a. if nat_lt 0 (length a.1) then None else Some a.0
+
+-- what stands after a value that is read
+abbrev pub past : {X : Type 0} → (List ℕ → Option (X × List ℕ)) → List ℕ → Option (List ℕ)
+past p bytes = p bytes >>= λ a. Some a.1

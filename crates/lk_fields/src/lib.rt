@@ -1,0 +1,19 @@
+//! The fields of which datagrams, store entries and packed states are built, read from the front of some bytes and
+//! written after some.
+#![tactic(auto)]
+
+mod put;
+mod read;
+pub mod room;
+mod skip;
+
+pub use put::{
+    put_answer, put_ballot, put_client, put_command, put_executed, put_fence, put_mark, put_member,
+    put_node, put_number, put_position, put_request, put_u8, put_u16, put_u32, put_u64, put_vote,
+};
+pub use read::{
+    read_answer, read_ballot, read_client, read_command, read_executed, read_fence, read_mark,
+    read_member, read_node, read_number, read_op, read_position, read_request, read_u8, read_u16,
+    read_u32, read_u64, read_vote,
+};
+pub use skip::{front_of, skip_command, skip_request, skip_vote};

@@ -1,0 +1,366 @@
+//! Reading a field from the front of some bytes: a value that fits and is spelled there, with the bytes after it, or
+//! `None` where none is.
+
+ghost use Rattle.std.specs.Prelude.{◌≡◌, ◌<◌, ◌^◌};
+ghost use Rattle.lk_types.specs.Ranges.{IsNode, IsClient, IsPort, IsCount, IsTotal};
+ghost use Rattle.lk_types.specs.Ballots.{IsReal, IsMark};
+ghost use Rattle.lk_types.specs.Rosters.{IsMember};
+ghost use Rattle.lk_types.specs.Commands.{IsOp, IsRequest, IsCommand};
+ghost use Rattle.lk_types.specs.Votes.{IsVote};
+ghost use Rattle.lk_types.specs.Answers.{IsAnswer};
+ghost use Rattle.lk_fields.specs.Fields.{one, two, four, eight, ballot, member, op, request, command, vote, answer};
+ghost use Rattle.lk_fields.specs.Fronts.{ReadsFront};
+ghost use Rattle.lk_fields.specs.Parser.{Finds, read_byte};
+ghost use Rattle.lk_fields.specs.FieldReading.{read_two, read_four, read_eight, read_node, read_client, read_port, read_count, read_total, read_sharer_count, read_ballot, read_mark, read_member, read_payload, read_op, read_request, read_command, read_vote, bare_answer, read_held, read_sharing, read_answer};
+
+use bytes::Buf;
+use lk_types::{
+    Answer, Ballot, ClientNo, Command, Executed, Fence, LastFence, Member, NodeNo, Op, Payload,
+    Port, Position, RealBallot, Request, RequestNumber, Round, SharerCount, Vote,
+};
+
+/// A byte.
+#[tactic(auto, using(crate::proofs::FrontLaws::one_front))]
+pub fn read_u8(bytes: &[u8]) -> Option<(u8, &[u8])>
+    ensures front { ReadsFront (λ x. (x.0, x.1.now)) one (λ n. n < 256) bytes.now result }
+    ensures parsed { Finds (λ x. (x.0, x.1.now)) result (read_byte bytes.now) }
+{
+    let (byte, rest) = bytes.split_first()?;
+    Some((*byte, rest))
+}
+
+/// A number in two bytes.
+#[tactic(auto, using(crate::proofs::FrontLaws::two_front), unfolding(crate::specs::FieldReading::read_two))]
+pub fn read_u16(bytes: &[u8]) -> Option<(u16, &[u8])>
+    ensures front { ReadsFront (λ x. (x.0, x.1.now)) two (λ n. n < 2 ^ 16) bytes.now result }
+    ensures parsed { Finds (λ x. (x.0, x.1.now)) result (read_two bytes.now) }
+{
+    let mut rest = bytes;
+    let number = rest.try_get_u16().ok()?;
+    Some((number, rest))
+}
+
+/// A number in four bytes.
+#[tactic(auto, using(crate::proofs::FrontLaws::four_front), unfolding(crate::specs::FieldReading::read_four))]
+pub fn read_u32(bytes: &[u8]) -> Option<(u32, &[u8])>
+    ensures front { ReadsFront (λ x. (x.0, x.1.now)) four (λ n. n < 2 ^ 32) bytes.now result }
+    ensures parsed { Finds (λ x. (x.0, x.1.now)) result (read_four bytes.now) }
+{
+    let mut rest = bytes;
+    let number = rest.try_get_u32().ok()?;
+    Some((number, rest))
+}
+
+/// A number in eight bytes.
+#[tactic(auto, using(crate::proofs::FrontLaws::eight_front), unfolding(crate::specs::FieldReading::read_eight))]
+pub fn read_u64(bytes: &[u8]) -> Option<(u64, &[u8])>
+    ensures front { ReadsFront (λ x. (x.0, x.1.now)) eight (λ n. n < 2 ^ 64) bytes.now result }
+    ensures parsed { Finds (λ x. (x.0, x.1.now)) result (read_eight bytes.now) }
+{
+    let mut rest = bytes;
+    let number = rest.try_get_u64().ok()?;
+    Some((number, rest))
+}
+
+/// A node in four bytes.
+#[tactic(auto, using(crate::proofs::FrontLaws::node_front), unfolding(crate::specs::FieldReading::read_node))]
+pub fn read_node(bytes: &[u8]) -> Option<(NodeNo, &[u8])>
+    ensures front { ReadsFront (λ x. (x.0, x.1.now)) four IsNode bytes.now result }
+    ensures parsed { Finds (λ x. (x.0, x.1.now)) result (read_node bytes.now) }
+{
+    let (number, rest) = read_u32(bytes)?;
+    Some((NodeNo::of(number)?, rest))
+}
+
+/// A client in two bytes.
+#[tactic(auto, using(crate::proofs::FrontLaws::client_front), unfolding(crate::specs::FieldReading::read_client))]
+pub fn read_client(bytes: &[u8]) -> Option<(ClientNo, &[u8])>
+    ensures front { ReadsFront (λ x. (x.0, x.1.now)) two IsClient bytes.now result }
+    ensures parsed { Finds (λ x. (x.0, x.1.now)) result (read_client bytes.now) }
+{
+    let (number, rest) = read_u16(bytes)?;
+    Some((ClientNo::of(number)?, rest))
+}
+
+/// A position in eight bytes.
+#[tactic(auto, using(crate::proofs::FrontLaws::count_front), unfolding(crate::specs::FieldReading::read_count))]
+pub fn read_position(bytes: &[u8]) -> Option<(Position, &[u8])>
+    ensures front { ReadsFront (λ x. (x.0, x.1.now)) eight IsCount bytes.now result }
+    ensures parsed { Finds (λ x. (x.0, x.1.now)) result (read_count bytes.now) }
+{
+    let (number, rest) = read_u64(bytes)?;
+    Some((Position::of(number)?, rest))
+}
+
+/// A request's number in eight bytes.
+#[tactic(auto, using(crate::proofs::FrontLaws::count_front), unfolding(crate::specs::FieldReading::read_count))]
+pub fn read_number(bytes: &[u8]) -> Option<(RequestNumber, &[u8])>
+    ensures front { ReadsFront (λ x. (x.0, x.1.now)) eight IsCount bytes.now result }
+    ensures parsed { Finds (λ x. (x.0, x.1.now)) result (read_count bytes.now) }
+{
+    let (number, rest) = read_u64(bytes)?;
+    Some((RequestNumber::of(number)?, rest))
+}
+
+/// A fence in eight bytes.
+#[tactic(auto, using(crate::proofs::FrontLaws::count_front), unfolding(crate::specs::FieldReading::read_count))]
+pub fn read_fence(bytes: &[u8]) -> Option<(Fence, &[u8])>
+    ensures front { ReadsFront (λ x. (x.0, x.1.now)) eight IsCount bytes.now result }
+    ensures parsed { Finds (λ x. (x.0, x.1.now)) result (read_count bytes.now) }
+{
+    let (number, rest) = read_u64(bytes)?;
+    Some((Fence::of(number)?, rest))
+}
+
+/// How many positions are executed, in eight bytes.
+#[tactic(auto, using(crate::proofs::FrontLaws::total_front), unfolding(crate::specs::FieldReading::read_total))]
+pub fn read_executed(bytes: &[u8]) -> Option<(Executed, &[u8])>
+    ensures front { ReadsFront (λ x. (x.0, x.1.now)) eight IsTotal bytes.now result }
+    ensures parsed { Finds (λ x. (x.0, x.1.now)) result (read_total bytes.now) }
+{
+    let (number, rest) = read_u64(bytes)?;
+    Some((Executed::of(number)?, rest))
+}
+
+/// A real ballot: its round and its node.
+#[tactic(auto, using(crate::proofs::FrontLaws::ballot_front), unfolding(crate::specs::FieldReading::read_ballot, crate::specs::FieldReading::read_count))]
+pub fn read_ballot(bytes: &[u8]) -> Option<(RealBallot, &[u8])>
+    ensures front { ReadsFront (λ x. (x.0, x.1.now)) ballot IsReal bytes.now result }
+    ensures parsed { Finds (λ x. (x.0, x.1.now)) result (read_ballot bytes.now) }
+{
+    let (round, rest) = read_u64(bytes)?;
+    let round = Round::of(round)?;
+    let Some((node, rest)) = read_node(rest) else {
+        return None;
+    };
+    Some((RealBallot::new(round, node), rest))
+}
+
+/// A ballot, `Ballot::ZERO` too.
+#[tactic(auto, using(crate::proofs::FrontLaws::mark_front), unfolding(crate::specs::FieldReading::read_mark))]
+pub fn read_mark(bytes: &[u8]) -> Option<(Ballot, &[u8])>
+    ensures front { ReadsFront (λ x. (x.0, x.1.now)) ballot IsMark bytes.now result }
+    ensures parsed { Finds (λ x. (x.0, x.1.now)) result (read_mark bytes.now) }
+{
+    let (round, rest) = read_u64(bytes)?;
+    let (node, rest) = read_u32(rest)?;
+    if round == 0 && node == 0 {
+        return Some((Ballot::ZERO, rest));
+    }
+    Some((Ballot::of(round, node)?, rest))
+}
+
+/// A node and its port.
+#[tactic(auto, using(crate::proofs::FrontLaws::member_front), unfolding(crate::specs::FieldReading::read_member, crate::specs::FieldReading::read_port))]
+pub fn read_member(bytes: &[u8]) -> Option<(Member, &[u8])>
+    ensures front { ReadsFront (λ x. (x.0, x.1.now)) member IsMember bytes.now result }
+    ensures parsed { Finds (λ x. (x.0, x.1.now)) result (read_member bytes.now) }
+{
+    let Some((node, rest)) = read_node(bytes) else {
+        return None;
+    };
+    let (port, rest) = read_u16(rest)?;
+    let port = Port::of(port)?;
+    Some((Member { node, port }, rest))
+}
+
+/// What a request asks for, after a byte that says which op it is.
+#[tactic(auto, using(crate::proofs::FrontLaws::op_front), unfolding(crate::specs::FieldReading::op_of, crate::specs::FieldReading::read_version))]
+pub fn read_op(bytes: &[u8]) -> Option<(Op, &[u8])>
+    ensures front { ReadsFront (λ x. (x.0, x.1.now)) op IsOp bytes.now result }
+    ensures parsed { Finds (λ x. (x.0, x.1.now)) result (read_op bytes.now) }
+{
+    let (tag, rest) = read_u8(bytes)?;
+    match tag {
+        0 => {
+            let Some((payload, rest)) = read_payload(rest) else {
+                return None;
+            };
+            Some((Op::Table(payload), rest))
+        }
+        1 => {
+            let Some((member, rest)) = read_member(rest) else {
+                return None;
+            };
+            Some((Op::Join(member.node, member.port), rest))
+        }
+        2 => {
+            let Some((node, rest)) = read_node(rest) else {
+                return None;
+            };
+            Some((Op::Leave(node), rest))
+        }
+        3 => {
+            let (version, rest) = read_u8(rest)?;
+            if version != 2 {
+                return None;
+            }
+            Some((Op::Raise, rest))
+        }
+        _ => None,
+    }
+}
+
+/// A client, a number and an op.
+#[tactic(auto, unfolding(crate::specs::FieldReading::read_request))]
+pub fn read_request(bytes: &[u8]) -> Option<(Request, &[u8])>
+    ensures { Finds (λ x. (x.0, x.1.now)) result (read_request bytes.now) }
+{
+    if let Some((client, rest)) = read_client(bytes)
+        && let Some((number, rest)) = read_number(rest)
+        && let Some((op, rest)) = read_op(rest)
+    {
+        return Some((Request { client, number, op }, rest));
+    }
+    None
+}
+
+/// Nothing or a request, after a byte that says which.
+#[tactic(auto, using(crate::proofs::FrontLaws::command_front), unfolding(crate::specs::FieldReading::command_of))]
+pub fn read_command(bytes: &[u8]) -> Option<(Command, &[u8])>
+    ensures front { ReadsFront (λ x. (x.0, x.1.now)) command IsCommand bytes.now result }
+    ensures parsed { Finds (λ x. (x.0, x.1.now)) result (read_command bytes.now) }
+{
+    let (tag, rest) = read_u8(bytes)?;
+    match tag {
+        0 => Some((Command::Noop, rest)),
+        1 => {
+            let Some((request, rest)) = read_request(rest) else {
+                return None;
+            };
+            Some((Command::Request(request), rest))
+        }
+        _ => None,
+    }
+}
+
+/// A position, a ballot and a command.
+#[tactic(auto, using(crate::proofs::FrontLaws::vote_front), unfolding(crate::specs::FieldReading::read_vote))]
+pub fn read_vote(bytes: &[u8]) -> Option<(Vote, &[u8])>
+    ensures front { ReadsFront (λ x. (x.0, x.1.now)) vote IsVote bytes.now result }
+    ensures parsed { Finds (λ x. (x.0, x.1.now)) result (read_vote bytes.now) }
+{
+    if let Some((position, rest)) = read_position(bytes)
+        && let Some((ballot, rest)) = read_ballot(rest)
+        && let Some((command, rest)) = read_command(rest)
+    {
+        let vote = Vote {
+            position,
+            ballot,
+            command,
+        };
+        return Some((vote, rest));
+    }
+    None
+}
+
+/// What a request is answered, after a byte that says which answer it is.
+#[tactic(auto, using(crate::proofs::FrontLaws::answer_front), unfolding(crate::specs::FieldReading::answer_of, crate::specs::FieldReading::read_total))]
+pub fn read_answer(bytes: &[u8]) -> Option<(Answer, &[u8])>
+    ensures front { ReadsFront (λ x. (x.0, x.1.now)) answer IsAnswer bytes.now result }
+    ensures parsed { Finds (λ x. (x.0, x.1.now)) result (read_answer bytes.now) }
+{
+    let (tag, rest) = read_u8(bytes)?;
+    match tag {
+        1 => {
+            let Some((fence, rest)) = read_fence(rest) else {
+                return None;
+            };
+            Some((Answer::Granted(fence), rest))
+        }
+        2 => {
+            let Some((holder, fence, rest)) = read_held(rest) else {
+                return None;
+            };
+            Some((Answer::Busy(holder, fence), rest))
+        }
+        5 => {
+            let (fence, rest) = read_u64(rest)?;
+            Some((Answer::Free(LastFence::of(fence)?), rest))
+        }
+        6 => {
+            let Some((holder, fence, rest)) = read_held(rest) else {
+                return None;
+            };
+            Some((Answer::Held(holder, fence), rest))
+        }
+        12 => {
+            let Some((fence, rest)) = read_fence(rest) else {
+                return None;
+            };
+            Some((Answer::Shared(fence), rest))
+        }
+        13 => {
+            let Some((count, fence, rest)) = read_sharing(rest) else {
+                return None;
+            };
+            Some((Answer::HeldShared(count, fence), rest))
+        }
+        _ => bare_answer(tag, rest),
+    }
+}
+
+#[tactic(auto, unfolding(crate::specs::FieldReading::read_payload))]
+pub fn read_payload(bytes: &[u8]) -> Option<(Payload, &[u8])>
+    ensures { Finds (λ x. (x.0, x.1.now)) result (read_payload bytes.now) }
+{
+    let (length, rest) = read_u8(bytes)?;
+    let length = length as usize;
+    if rest.len() < length {
+        return None;
+    }
+    let (text, rest) = rest.split_at(length);
+    Some((Payload::of(text)?, rest))
+}
+
+/// The answer of a tag after which nothing stands.
+#[tactic(auto, unfolding(crate::specs::FieldReading::bare_answer))]
+fn bare_answer<'a>(tag: u8, rest: &'a [u8]) -> Option<(Answer, &'a [u8])>
+    ensures { Finds (λ x. (x.0, x.1.now)) result (bare_answer tag rest.now) }
+{
+    let answer = match tag {
+        3 => Answer::Released,
+        4 => Answer::NotHeld,
+        7 => Answer::Valid,
+        8 => Answer::Stale,
+        9 => Answer::NoRoom,
+        10 => Answer::Bad,
+        11 => Answer::Spent,
+        14 => Answer::Broken,
+        32 => Answer::Joined,
+        33 => Answer::Used,
+        34 => Answer::Full,
+        35 => Answer::Left,
+        36 => Answer::NotMember,
+        37 => Answer::Last,
+        38 => Answer::Raised,
+        39 => Answer::AlreadyRaised,
+        _ => return None,
+    };
+    Some((answer, rest))
+}
+
+/// A holder and its fence.
+fn read_held(bytes: &[u8]) -> Option<(ClientNo, Fence, &[u8])>
+    ensures { Finds (λ x. ((x.0, x.1), x.2.now)) result (read_held bytes.now) }
+{
+    if let Some((holder, rest)) = read_client(bytes)
+        && let Some((fence, rest)) = read_fence(rest)
+    {
+        return Some((holder, fence, rest));
+    }
+    None
+}
+
+/// How many share a name, and its fence.
+#[tactic(auto, unfolding(crate::specs::FieldReading::read_sharer_count))]
+fn read_sharing(bytes: &[u8]) -> Option<(SharerCount, Fence, &[u8])>
+    ensures { Finds (λ x. ((x.0, x.1), x.2.now)) result (read_sharing bytes.now) }
+{
+    let (count, rest) = read_u8(bytes)?;
+    let count = SharerCount::of(count)?;
+    let Some((fence, rest)) = read_fence(rest) else {
+        return None;
+    };
+    Some((count, fence, rest))
+}
