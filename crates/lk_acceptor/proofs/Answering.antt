@@ -15,7 +15,8 @@ use Rattle.lk_history.proofs.Histories.{below_self, filtered_may_promise}
 use Rattle.lk_acceptor.specs.AcceptorValue.{AcceptorValue}
 use Rattle.lk_acceptor.specs.Answers.{Refuses, AnswersPrepare, AnswersAccept}
 use Rattle.lk_acceptor.specs.States.{IsOrdered, greater, with_vote, with_entry, with_written}
-use Rattle.lk_acceptor.specs.VoteLists.{votes_with, votes_from}
+use Rattle.lk_votes.specs.VoteLists.{votes_with}
+use Rattle.lk_acceptor.specs.VoteLists.{votes_from}
 use Rattle.lk_acceptor.specs.declared.response.Response.{Response}
 use Rattle.lk_acceptor.proofs.Keeping.{still_kept, takes_vote}
 

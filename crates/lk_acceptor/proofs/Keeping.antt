@@ -12,8 +12,9 @@ use Rattle.lk_history.specs.Changes.{with_promise}
 use Rattle.lk_history.proofs.Histories.{at_most_trans, below_at_most, below_self, cons_cases, contains_more, filter_from, filtered_takes_snapshot, only}
 use Rattle.lk_acceptor.specs.Answers.{Agrees}
 use Rattle.lk_acceptor.specs.States.{IsOrdered, with_vote, without_votes_to}
-use Rattle.lk_acceptor.specs.VoteLists.{votes_with}
-use Rattle.lk_acceptor.proofs.Rising.{first, rising_parts, rising_all, rising_with, above_rises}
+use Rattle.lk_votes.specs.VoteLists.{votes_with}
+use Rattle.lk_votes.proofs.Votes.{rising_parts}
+use Rattle.lk_acceptor.proofs.Rising.{first, rising_all, rising_with, above_rises}
 
 -- ---- the votes with one more
 

@@ -1,4 +1,3 @@
-mod InOrder
 mod Rising
 mod Searching
 mod Keeping

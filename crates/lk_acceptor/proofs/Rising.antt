@@ -6,13 +6,12 @@ use Rattle.lk_types.specs.Ballots.{is_below}
 use Rattle.lk_types.specs.declared.vote.Vote.{Vote}
 use Rattle.lk_wire.specs.Values.{are_votes_above, are_votes_from}
 use Rattle.lk_history.proofs.Histories.{cons_cases, contains_more, filter_from, filter_passes_at}
-use Rattle.lk_acceptor.specs.VoteLists.{votes_with, votes_from, votes_above}
+use Rattle.lk_votes.specs.VoteLists.{votes_with}
+use Rattle.lk_votes.proofs.Votes.{rising_parts}
+use Rattle.lk_acceptor.specs.VoteLists.{votes_from, votes_above}
 
 pub first : (x : Vote) (xs : List Vote) → Contains (x ∷ xs) x
 first x xs = (0, omega arith, refl)
-
-pub rising_parts : (low : ℕ) (v : Vote) (vs : List Vote) → are_votes_above low (v ∷ vs) ≡ true → (low < v.position) × (are_votes_above v.position vs ≡ true)
-rising_parts low v vs e = let b = and_parts (ltb low v.position) (are_votes_above v.position vs) e in (ltb-true low v.position b.0, b.1)
 
 pub rising_from : (low : ℕ) (v : Vote) (vs : List Vote) → low < v.position → are_votes_above v.position vs ≡ true → are_votes_above low (v ∷ vs) ≡ true
 rising_from low v vs less e = and_from (ltb low v.position) (are_votes_above v.position vs) (lt-ltb low v.position less) e

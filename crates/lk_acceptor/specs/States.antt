@@ -12,7 +12,8 @@ use Rattle.lk_wire.specs.Values.{are_votes_above}
 use Rattle.lk_history.specs.Acceptors.{AcceptorState}
 use Rattle.lk_history.specs.Changes.{with_promise}
 use Rattle.lk_acceptor.specs.AcceptorValue.{AcceptorValue}
-use Rattle.lk_acceptor.specs.VoteLists.{votes_with, votes_above}
+use Rattle.lk_votes.specs.VoteLists.{votes_with}
+use Rattle.lk_acceptor.specs.VoteLists.{votes_above}
 
 -- the votes lie above the snapshot, strictly rising by position, and none is in a ballot above the promised one
 pub record IsOrdered (s : AcceptorState) : Type 0 where

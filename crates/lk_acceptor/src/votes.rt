@@ -1,21 +1,14 @@
 // Votes that are kept in the order of their positions.
-ghost use Rattle.std.specs.Prelude.{◌≡◌, ◌≤◌, ◌↔◌, nat_lt, length, vec_len, vec_capacity, Contains, IsTrue, OnOk, OnErr, IfOk, MatchOption};
+ghost use Rattle.std.specs.Prelude.{◌≡◌, ◌↔◌, nat_lt, Contains, IsTrue, OnErr, IfOk, MatchOption};
 ghost use Rattle.std.specs.List.{list_all};
 ghost use Rattle.lk_types.specs.declared.vote.Vote.{Vote as VoteValue};
 ghost use Rattle.lk_acceptor.specs.Answers.{Agrees};
-ghost use Rattle.lk_acceptor.specs.VoteLists.{AreRising, IsVoteAt, votes_below, votes_with, votes_from, votes_above, HasVoteFrom};
+ghost use Rattle.lk_votes.specs.VoteLists.{AreRising};
+ghost use Rattle.lk_acceptor.specs.VoteLists.{IsVoteAt, votes_from, votes_above, HasVoteFrom};
 
 use lk_types::{Executed, NoMemory, Position, Vote};
+use lk_votes::votes_below;
 use std::alloc::Global;
-
-// How many votes of smaller positions are in front.
-fn votes_below(position: Position, votes: &[Vote]) -> usize
-    requires { AreRising votes.now }
-    ensures value { result ≡ votes_below position votes.now }
-    ensures within { result ≤ length votes.now }
-{
-    votes.partition_point(|vote| vote.position < position)
-}
 
 // The vote at a position.
 fn vote_at(votes: &[Vote], position: Position) -> Option<&Vote>
@@ -24,29 +17,6 @@ fn vote_at(votes: &[Vote], position: Position) -> Option<&Vote>
 {
     let vote = votes.get(votes_below(position, votes))?;
     (vote.position == position).then_some(vote)
-}
-
-// Keeps a vote in its place. Of two votes at a position the one of greater ballot is kept.
-#[tactic(auto, using(crate::proofs::InOrder::at_end, crate::proofs::InOrder::at_other, crate::proofs::InOrder::at_below, crate::proofs::InOrder::at_above))]
-pub fn keep_vote(votes: &mut Vec<Vote>, vote: Vote) -> Result<(), NoMemory>
-    requires { AreRising votes.old.items }
-    ensures kept { OnOk result (votes.new.items ≡ votes_with vote votes.old.items) }
-    ensures err { OnErr result (votes.new.items ≡ votes.old.items) }
-    ensures memory { OnErr result (vec_capacity votes.old ≤ vec_len votes.old) }
-{
-    let i = votes_below(vote.position, votes);
-    if i == votes.len() {
-        votes.push(vote)?;
-        return Ok(());
-    }
-    if votes[i].position.get() != vote.position.get() {
-        votes.insert(i, vote)?;
-        return Ok(());
-    }
-    if votes[i].ballot.get().is_below(vote.ballot.get()) {
-        votes[i] = vote;
-    }
-    Ok(())
 }
 
 // The votes at a position and above it.

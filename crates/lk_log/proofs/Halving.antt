@@ -2,11 +2,9 @@
 use Rattle.std.proofs.Common.{◌≡◌, ℕ, zero, suc, ◌<◌, ◌≤◌, Bool, true, false, nat_lt, List, [], ◌∷◌, length, get_or, refl, ap, arith}
 use Rattle.std.specs.List.Sorted.{IsNonDecreasingBy, IsPartitionPoint}
 use Rattle.lk_types.specs.declared.command.Command.{Command}
-use Rattle.lk_types.specs.declared.vote.Vote.{Vote}
-use Rattle.lk_wire.specs.Values.{are_votes_above}
 use Rattle.lk_log.specs.Entries.{are_pairs_above}
-use Rattle.lk_log.specs.Standings.{AreVotesRising, ArePairsRising, below}
-use Rattle.lk_log.proofs.InOrder.{above_low, pairs_low}
+use Rattle.lk_log.specs.Standings.{ArePairsRising, below}
+use Rattle.lk_log.proofs.InOrder.{pairs_low}
 
 module _ {A : Type 0} (key : A → ℕ) (rise : ℕ → List A → Bool)
     (parts : (low : ℕ) (x : A) (xs : List A) → rise low (x ∷ xs) ≡ true → (low < key x) × (rise (key x) xs ≡ true)) where
@@ -23,9 +21,6 @@ module _ {A : Type 0} (key : A → ℕ) (rise : ℕ → List A → Bool)
   never_fall low (x ∷ xs) e zero (suc j) d le short = omega (arith, all_above (key x) xs (parts low x xs e).1 j d (omega arith))
   never_fall low (x ∷ xs) e (suc i) zero d le short = absurd (omega arith)
   never_fall low (x ∷ xs) e (suc i) (suc j) d le short = never_fall (key x) xs (parts low x xs e).1 i j d (omega arith) (omega arith)
-
-pub votes_rise : (vs : List Vote) → AreVotesRising vs → IsNonDecreasingBy (λ (v : Vote). v.position) vs
-votes_rise vs rising = never_fall (λ (v : Vote). v.position) are_votes_above above_low rising.0 vs rising.1
 
 pub pairs_rise : (ps : List (ℕ × Command)) → ArePairsRising ps → IsNonDecreasingBy (λ (p : ℕ × Command). p.0) ps
 pairs_rise ps rising = never_fall (λ (p : ℕ × Command). p.0) are_pairs_above pairs_low rising.0 ps rising.1

@@ -9,7 +9,8 @@ use Rattle.lk_types.specs.declared.vote.Vote.{Vote}
 use Rattle.lk_wire.specs.Values.{are_votes_above}
 use Rattle.lk_log.specs.Entries.{are_pairs_above}
 use Rattle.lk_types.specs.Ballots.{is_below}
-use Rattle.lk_log.specs.Standings.{better, best_from, vote_at, decided_at, votes_below, with_vote, pairs_below, with_pair}
+use Rattle.lk_votes.specs.VoteLists.{votes_below, votes_with}
+use Rattle.lk_log.specs.Standings.{better, best_from, vote_at, decided_at, pairs_below, with_pair}
 
 -- the two ways of a test
 bool_cases : (b : Bool) → (b ≡ true) ⊎ (b ≡ false)
@@ -50,7 +51,7 @@ none_at i low (v ∷ vs) e h =
 abbrev pub vote_then : ℕ → Option Vote → Vote → Option Vote
 vote_then i o v = cond (eqb v.position i) (better o v) o
 
-pub vote_at-with : (i low : ℕ) (v : Vote) (vs : List Vote) → are_votes_above low vs ≡ true → vote_at i (with_vote v vs) ≡ vote_then i (vote_at i vs) v
+pub vote_at-with : (i low : ℕ) (v : Vote) (vs : List Vote) → are_votes_above low vs ≡ true → vote_at i (votes_with v vs) ≡ vote_then i (vote_at i vs) v
 vote_at-with i low v [] e = refl
 vote_at-with i low v (w ∷ ws) e =
     let b = above_low low w ws e in
@@ -82,7 +83,7 @@ vote_at-with i low v (w ∷ ws) e =
           ]
     ]
   where
-    with_same : (i : ℕ) (v w : Vote) (ws : List Vote) → ltb w.position v.position ≡ false → eqb w.position v.position ≡ true → w.position ≡ v.position → vote_at i (with_vote v (w ∷ ws)) ≡ vote_then i (vote_at i (w ∷ ws)) v
+    with_same : (i : ℕ) (v w : Vote) (ws : List Vote) → ltb w.position v.position ≡ false → eqb w.position v.position ≡ true → w.position ≡ v.position → vote_at i (votes_with v (w ∷ ws)) ≡ vote_then i (vote_at i (w ∷ ws)) v
     with_same i v w ws not_less same at =
         elim (bool_cases (is_below w.ballot v.ballot)) [
           | inl below ↦ elim (bool_cases (eqb v.position i)) [
@@ -95,12 +96,12 @@ vote_at-with i low v (w ∷ ws) e =
           ]
         ]
 
-pub rising-with : (low : ℕ) (v : Vote) (vs : List Vote) → are_votes_above low vs ≡ true → low < v.position → are_votes_above low (with_vote v vs) ≡ true
+pub rising-with : (low : ℕ) (v : Vote) (vs : List Vote) → are_votes_above low vs ≡ true → low < v.position → are_votes_above low (votes_with v vs) ≡ true
 rising-with low v [] e less = low_above low v [] less refl
 rising-with low v (w ∷ ws) e less =
     let b = above_low low w ws e in
     elim (bool_cases (ltb w.position v.position)) [
-      | inl before ↦ rw before (low_above low w (with_vote v ws) b.0 (rising-with w.position v ws b.1 (ltb-true w.position v.position before)))
+      | inl before ↦ rw before (low_above low w (votes_with v ws) b.0 (rising-with w.position v ws b.1 (ltb-true w.position v.position before)))
       | inr not_before ↦ elim (bool_cases (eqb w.position v.position)) [
         | inl same ↦
             let at : w.position ≡ v.position = eqb-true w.position v.position same in
@@ -215,66 +216,6 @@ pairs_rise-with low p (q ∷ qs) e less =
             rw (not_before, differs) (low_pairs low p (q ∷ qs) less (low_pairs p.0 q qs (omega arith) b.1))
       ]
     ]
-
--- ---- where a vote is put
-
-module _ (v : Vote) where
-  pub at_end : (vs new : List Vote) → votes_below v.position vs ≡ length vs → new ≡ vs ++ v ∷ [] → new ≡ with_vote v vs
-  at_end vs new e is = is ∙ ends vs e
-    where
-      ends : (vs : List Vote) → votes_below v.position vs ≡ length vs → vs ++ v ∷ [] ≡ with_vote v vs
-      ends [] e = refl
-      ends (w ∷ ws) e = elim (bool_cases (ltb w.position v.position)) [
-        | inl before ↦ let more : suc (votes_below v.position ws) ≡ suc (length ws) = rw before at e in rw before (ap (λ (l : List Vote). w ∷ l) (ends ws (omega (arith, more))))
-        | inr not_before ↦ let none : 0 ≡ suc (length ws) = rw not_before at e in absurd (omega (arith, none))
-      ]
-
-  pub at_other : (vs new : List Vote) (w : Vote) → votes_below v.position vs < length vs → w ≡ get_or vs (votes_below v.position vs) w → w.position ≢ v.position → new ≡ insert vs (votes_below v.position vs) v → new ≡ with_vote v vs
-  at_other vs new w short here ne is = is ∙ others vs short here
-    where
-      others : (vs : List Vote) → votes_below v.position vs < length vs → w ≡ get_or vs (votes_below v.position vs) w → insert vs (votes_below v.position vs) v ≡ with_vote v vs
-      others [] short here = absurd (omega arith)
-      others (x ∷ xs) short here = elim (bool_cases (ltb x.position v.position)) [
-        | inl before ↦
-            let short' : suc (votes_below v.position xs) < suc (length xs) = rw before at short in
-            let here' : w ≡ get_or xs (votes_below v.position xs) w = rw before at here in
-            rw before (ap (λ (l : List Vote). x ∷ l) (others xs (omega (arith, short')) here'))
-        | inr not_before ↦
-            let is_x : w ≡ x = rw not_before at here in
-            let differs : eqb x.position v.position ≡ false = eqb-false x.position v.position (λ same. ne (ap (λ (u : Vote). u.position) is_x ∙ same)) in
-            rw (not_before, differs) refl
-      ]
-
-  pub at_below : (vs new : List Vote) (w : Vote) → votes_below v.position vs < length vs → w ≡ get_or vs (votes_below v.position vs) w → w.position ≡ v.position → is_below w.ballot v.ballot ≡ true → new ≡ set vs (votes_below v.position vs) v → new ≡ with_vote v vs
-  at_below vs new w short here same below is = is ∙ sets vs short here
-    where
-      sets : (vs : List Vote) → votes_below v.position vs < length vs → w ≡ get_or vs (votes_below v.position vs) w → set vs (votes_below v.position vs) v ≡ with_vote v vs
-      sets [] short here = absurd (omega arith)
-      sets (x ∷ xs) short here = elim (bool_cases (ltb x.position v.position)) [
-        | inl before ↦
-            let short' : suc (votes_below v.position xs) < suc (length xs) = rw before at short in
-            let here' : w ≡ get_or xs (votes_below v.position xs) w = rw before at here in
-            rw before (ap (λ (l : List Vote). x ∷ l) (sets xs (omega (arith, short')) here'))
-        | inr not_before ↦
-            let is_x : w ≡ x = rw not_before at here in
-            let too : eqb x.position v.position ≡ true = eq-eqb x.position v.position (sym (ap (λ (u : Vote). u.position) is_x) ∙ same) in
-            let under : is_below x.ballot v.ballot ≡ true = ap (λ (u : Vote). is_below u.ballot v.ballot) (sym is_x) ∙ below in
-            rw (not_before, too, under) refl
-      ]
-
-  pub at_above : (vs : List Vote) (w : Vote) → votes_below v.position vs < length vs → w ≡ get_or vs (votes_below v.position vs) w → w.position ≡ v.position → is_below w.ballot v.ballot ≡ false → vs ≡ with_vote v vs
-  at_above [] w short here same above = absurd (omega arith)
-  at_above (x ∷ xs) w short here same above = elim (bool_cases (ltb x.position v.position)) [
-    | inl before ↦
-        let short' : suc (votes_below v.position xs) < suc (length xs) = rw before at short in
-        let here' : w ≡ get_or xs (votes_below v.position xs) w = rw before at here in
-        rw before (ap (λ (l : List Vote). x ∷ l) (at_above xs w (omega (arith, short')) here' same above))
-    | inr not_before ↦
-        let is_x : w ≡ x = rw not_before at here in
-        let too : eqb x.position v.position ≡ true = eq-eqb x.position v.position (sym (ap (λ (u : Vote). u.position) is_x) ∙ same) in
-        let over : is_below x.ballot v.ballot ≡ false = ap (λ (u : Vote). is_below u.ballot v.ballot) (sym is_x) ∙ above in
-        rw (not_before, too, over) refl
-  ]
 
 -- ---- where a pair is put
 

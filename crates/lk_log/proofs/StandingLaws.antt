@@ -13,7 +13,8 @@ use Rattle.lk_types.specs.declared.vote.Vote.{Vote as VoteValue}
 use Rattle.lk_wire.specs.Values.{are_votes_above}
 use Rattle.lk_log.specs.Entries.{are_pairs_above, IsBase, IsStored}
 use Rattle.lk_log.specs.Images.{has_base, is_misplaced, generation}
-use Rattle.lk_log.specs.Standings.{greater, greatest_of, ballot_of, ballots_in, ballots, votes_in, all_votes, pairs_in, all_pairs, best_vote, vote_at, decided_at, HasSnapshot, StandsFor, Rises, with_vote, with_pair, with_plain, of_base}
+use Rattle.lk_votes.specs.VoteLists.{votes_with}
+use Rattle.lk_log.specs.Standings.{greater, greatest_of, ballot_of, ballots_in, ballots, votes_in, all_votes, pairs_in, all_pairs, best_vote, vote_at, decided_at, HasSnapshot, StandsFor, Rises, with_pair, with_plain, of_base}
 use Rattle.lk_log.specs.Values.{StandingValue, BaseValue}
 use Rattle.lk_log.specs.declared.stored.Stored.{Stored}
 use Rattle.lk_log.specs.declared.stored.Stored.TheVariants.{Base, Plain}
@@ -48,10 +49,10 @@ apart i low j h e = grind (arith, nat_tests)
 
 -- ---- its lists rise
 
-votes_still_rise : (s : StandingValue) (v : VoteValue) → Rises s → are_votes_above s.position (cond (ltb s.position v.position) (with_vote v s.votes) s.votes) ≡ true
+votes_still_rise : (s : StandingValue) (v : VoteValue) → Rises s → are_votes_above s.position (cond (ltb s.position v.position) (votes_with v s.votes) s.votes) ≡ true
 votes_still_rise s v rises = by_test (ltb s.position v.position) refl
   where
-    by_test : (b : Bool) → ltb s.position v.position ≡ b → are_votes_above s.position (cond b (with_vote v s.votes) s.votes) ≡ true
+    by_test : (b : Bool) → ltb s.position v.position ≡ b → are_votes_above s.position (cond b (votes_with v s.votes) s.votes) ≡ true
     by_test true e = rising-with s.position v s.votes rises.0 (ltb-true s.position v.position e)
     by_test false e = rises.0
 
@@ -80,10 +81,10 @@ module _ (es : List Stored) (s : StandingValue) (h : StandsFor es s) where
     pairs_rise = h.pairs_rise;
   }
 
-  vote_found : (v : VoteValue) (i : ℕ) → s.position < i → vote_at i (cond (ltb s.position v.position) (with_vote v s.votes) s.votes) ≡ vote_then i (vote_at i s.votes) v
+  vote_found : (v : VoteValue) (i : ℕ) → s.position < i → vote_at i (cond (ltb s.position v.position) (votes_with v s.votes) s.votes) ≡ vote_then i (vote_at i s.votes) v
   vote_found v i above = by_test (ltb s.position v.position) refl
     where
-      by_test : (b : Bool) → ltb s.position v.position ≡ b → vote_at i (cond b (with_vote v s.votes) s.votes) ≡ vote_then i (vote_at i s.votes) v
+      by_test : (b : Bool) → ltb s.position v.position ≡ b → vote_at i (cond b (votes_with v s.votes) s.votes) ≡ vote_then i (vote_at i s.votes) v
       by_test true e = vote_at-with i s.position v s.votes h.votes_rise
       by_test false e = let other = apart i s.position v.position above e in rw other refl
 

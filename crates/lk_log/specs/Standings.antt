@@ -7,6 +7,7 @@ use Rattle.lk_types.specs.declared.entry.Entry.{Entry}
 use Rattle.lk_types.specs.declared.entry.Entry.TheVariants.{Promise, Vote, Decided}
 use Rattle.lk_types.specs.declared.vote.Vote.{Vote as VoteValue}
 use Rattle.lk_wire.specs.Values.{are_votes_above}
+use Rattle.lk_votes.specs.VoteLists.{votes_with}
 use Rattle.lk_log.specs.Entries.{are_pairs_above}
 use Rattle.lk_log.specs.Values.{HeaderValue, StandingValue, BaseValue}
 use Rattle.lk_log.specs.declared.stored.Stored.{Stored}
@@ -110,9 +111,6 @@ pub record StandsFor (es : List Stored) (s : StandingValue) : Type 0 where
 -- ---- lists that are kept in order
 
 -- their positions rise strictly
-abbrev pub AreVotesRising : List VoteValue → Type 0
-AreVotesRising vs = (low : ℕ) × IsTrue (are_votes_above low vs)
-
 abbrev pub ArePairsRising : List (ℕ × Command) → Type 0
 ArePairsRising ps = (low : ℕ) × IsTrue (are_pairs_above low ps)
 
@@ -125,19 +123,8 @@ abbrev pub below : {A : Type 0} → (A → ℕ) → ℕ → List A → ℕ
 below key i [] = 0
 below key i (x ∷ xs) = if nat_lt (key x) i then suc (below key i xs) else 0
 
-abbrev pub votes_below : ℕ → List VoteValue → ℕ
-votes_below = below (λ v. v.position)
-
 abbrev pub pairs_below : ℕ → List (ℕ × Command) → ℕ
 pairs_below = below (λ p. p.0)
-
--- the votes with a later one, in order
-abbrev pub with_vote : VoteValue → List VoteValue → List VoteValue
-with_vote v [] = v ∷ []
-with_vote v (w ∷ ws) =
-    if nat_lt w.position v.position then w ∷ with_vote v ws
-    else if w.position == v.position then (if is_below w.ballot v.ballot then v else w) ∷ ws
-    else v ∷ w ∷ ws
 
 -- the pairs with a later one, in order
 abbrev pub with_pair : ℕ × Command → List (ℕ × Command) → List (ℕ × Command)
@@ -152,7 +139,7 @@ abbrev pub with_plain : Entry → StandingValue → StandingValue
 with_plain (Promise b) s = record s { promised = greater s.promised b }
 with_plain (Vote v) s = record s {
   promised = greater s.promised v.ballot;
-  votes = if nat_lt s.position v.position then with_vote v s.votes else s.votes;
+  votes = if nat_lt s.position v.position then votes_with v s.votes else s.votes;
 }
 with_plain (Decided position c) s = record s { pairs = if nat_lt s.position position then with_pair (position, c) s.pairs else s.pairs }
 

@@ -3,6 +3,7 @@ ghost use Rattle.lk_log.specs.Causes.{number_of};
 ghost use Rattle.lk_log.specs.declared.fault.StoreFault.TheVariants.{Device as device_fault, NoMemory as memory_fault};
 
 use lk_disk::DeviceFault;
+use lk_types::NoMemory;
 use std::alloc::{AllocError, AllocFailed};
 use thiserror::Error;
 
@@ -41,6 +42,14 @@ impl From<DeviceFault> for StoreFault {
 
     fn from(_: DeviceFault) -> StoreFault {
         StoreFault::Device
+    }
+}
+
+impl From<NoMemory> for StoreFault {
+    ghost from_gives = { λ _ e. e ≡ memory_fault };
+
+    fn from(_: NoMemory) -> StoreFault {
+        StoreFault::NoMemory
     }
 }
 

@@ -1,6 +1,6 @@
 // Gathering what entries stand for.
 ghost use Rattle.std.specs.Prelude.{◌≡◌, ◌≤◌, map, length, OnOk, OnErr, IfOk, IfErr};
-ghost use Rattle.lk_log.specs.Standings.{greater, greatest_of, ballot_of, votes_below, with_vote, pairs_below, with_pair, with_plain, of_base, AreVotesRising, ArePairsRising, Rises, StandsFor};
+ghost use Rattle.lk_log.specs.Standings.{greater, greatest_of, ballot_of, pairs_below, with_pair, with_plain, of_base, ArePairsRising, Rises, StandsFor};
 ghost use Rattle.lk_log.specs.Stores.{MayStand};
 ghost use Rattle.lk_types.specs.declared.entry.Entry.TheVariants.{Vote as vote_entry, Decided as decided_entry};
 ghost use Rattle.lk_log.specs.declared.fault.StoreFault.TheVariants.{NoMemory as memory_fault};
@@ -10,6 +10,7 @@ use crate::fault::StoreFault;
 use crate::standing::Standing;
 use crate::stored::Stored;
 use lk_types::{Ballot, Command, Entry, Executed, Position, Vote};
+use lk_votes::keep_vote;
 use std::alloc::{AllocFailed, Global};
 
 fn greater(a: Ballot, b: Ballot) -> Ballot
@@ -27,38 +28,6 @@ fn greatest_of(ballot: Ballot, votes: &[Vote]) -> Ballot
         greatest = greater(greatest, vote.ballot.get());
     }
     greatest
-}
-
-// How many votes of smaller positions are in front.
-fn votes_below(position: Position, votes: &[Vote]) -> usize
-    requires { AreVotesRising votes.now }
-    ensures value { result ≡ votes_below position votes.now }
-    ensures within { result ≤ length votes.now }
-{
-    votes.partition_point(|vote| vote.position < position)
-}
-
-// Keeps a vote in its place. Of two votes at a position the one of greater ballot is kept, the earlier where they are
-// equal.
-#[tactic(auto, using(crate::proofs::InOrder::at_end, crate::proofs::InOrder::at_other, crate::proofs::InOrder::at_below, crate::proofs::InOrder::at_above))]
-fn keep_vote(votes: &mut Vec<Vote>, vote: Vote) -> Result<(), AllocFailed<Vote>>
-    requires { AreVotesRising votes.old.items }
-    ensures ok { OnOk result (votes.new.items ≡ with_vote vote votes.old.items) }
-    ensures err { OnErr result (votes.new.items ≡ votes.old.items) }
-{
-    let i = votes_below(vote.position, votes);
-    if i == votes.len() {
-        votes.push(vote)?;
-        return Ok(());
-    }
-    if votes[i].position.get() != vote.position.get() {
-        votes.insert(i, vote)?;
-        return Ok(());
-    }
-    if votes[i].ballot.get().is_below(vote.ballot.get()) {
-        votes[i] = vote;
-    }
-    Ok(())
 }
 
 // How many pairs of smaller positions are in front.

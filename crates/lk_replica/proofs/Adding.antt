@@ -8,7 +8,8 @@ use Rattle.lk_types.specs.declared.vote.Vote.{Vote as VoteValue}
 use Rattle.lk_wire.specs.declared.message.NodeMessage.{NodeMessage}
 use Rattle.lk_wire.specs.declared.message.NodeMessage.TheVariants as kinds
 use Rattle.lk_log.specs.Values.{StandingValue}
-use Rattle.lk_log.specs.Standings.{greater, with_vote, with_pair, with_plain}
+use Rattle.lk_votes.specs.VoteLists.{votes_with}
+use Rattle.lk_log.specs.Standings.{greater, with_pair, with_plain}
 use Rattle.lk_log.specs.declared.stored.Stored.{Stored}
 use Rattle.lk_log.specs.declared.stored.Stored.TheVariants.{Plain}
 use Rattle.lk_log.proofs.StoreLaws.{plain_stands, header_more}
@@ -43,12 +44,12 @@ greater_right a b = by_test (is_below a b) refl
 
 -- ---- votes in order
 
-vote_from : (v w : VoteValue) (vs : List VoteValue) → Contains (with_vote v vs) w → (v ≡ w) ⊎ Contains vs w
+vote_from : (v w : VoteValue) (vs : List VoteValue) → Contains (votes_with v vs) w → (v ≡ w) ⊎ Contains vs w
 vote_from v w [] c = cons_cases v [] w c
 vote_from v w (x ∷ xs) c = by_below (λ k. vote_from v w xs k) (ltb x.position v.position) c
   where
-    by_below : (Contains (with_vote v xs) w → (v ≡ w) ⊎ Contains xs w) → (t : Bool) → Contains (cond t (x ∷ with_vote v xs) (cond (eqb x.position v.position) (cond (is_below x.ballot v.ballot) v x ∷ xs) (v ∷ x ∷ xs))) w → (v ≡ w) ⊎ Contains (x ∷ xs) w
-    by_below again true c = elim (cons_cases x (with_vote v xs) w c) [
+    by_below : (Contains (votes_with v xs) w → (v ≡ w) ⊎ Contains xs w) → (t : Bool) → Contains (cond t (x ∷ votes_with v xs) (cond (eqb x.position v.position) (cond (is_below x.ballot v.ballot) v x ∷ xs) (v ∷ x ∷ xs))) w → (v ≡ w) ⊎ Contains (x ∷ xs) w
+    by_below again true c = elim (cons_cases x (votes_with v xs) w c) [
       | inl same ↦ inr (0, omega arith, same)
       | inr rest ↦ elim (again rest) [ inl same ↦ inl same | inr old ↦ inr (contains_more x xs w old) ]
     ]
@@ -69,13 +70,13 @@ Outlasts vs y = (z : VoteValue) × Contains vs z × (z.position ≡ y.position) 
 still : (vs : List VoteValue) (y : VoteValue) → Contains vs y → Outlasts vs y
 still vs y c = (y, c, refl, inl refl)
 
-vote_outlasts : (v y : VoteValue) (vs : List VoteValue) → Contains vs y → Outlasts (with_vote v vs) y
+vote_outlasts : (v y : VoteValue) (vs : List VoteValue) → Contains vs y → Outlasts (votes_with v vs) y
 vote_outlasts v y [] c = absurd (omega (arith, c.1))
 vote_outlasts v y (x ∷ xs) c = by_below (λ k. vote_outlasts v y xs k) (ltb x.position v.position) (cons_cases x xs y c)
   where
-    by_below : (Contains xs y → Outlasts (with_vote v xs) y) → (t : Bool) → (x ≡ y) ⊎ Contains xs y → Outlasts (cond t (x ∷ with_vote v xs) (cond (eqb x.position v.position) (cond (is_below x.ballot v.ballot) v x ∷ xs) (v ∷ x ∷ xs))) y
-    by_below again true (inl same) = still (x ∷ with_vote v xs) y (0, omega arith, same)
-    by_below again true (inr rest) = let z = again rest in (z.0, contains_more x (with_vote v xs) z.0 z.1, z.2, z.3)
+    by_below : (Contains xs y → Outlasts (votes_with v xs) y) → (t : Bool) → (x ≡ y) ⊎ Contains xs y → Outlasts (cond t (x ∷ votes_with v xs) (cond (eqb x.position v.position) (cond (is_below x.ballot v.ballot) v x ∷ xs) (v ∷ x ∷ xs))) y
+    by_below again true (inl same) = still (x ∷ votes_with v xs) y (0, omega arith, same)
+    by_below again true (inr rest) = let z = again rest in (z.0, contains_more x (votes_with v xs) z.0 z.1, z.2, z.3)
     by_below again false old = by_place (eqb x.position v.position) refl old
       where
         by_place : (t : Bool) → eqb x.position v.position ≡ t → (x ≡ y) ⊎ Contains xs y → Outlasts (cond t (cond (is_below x.ballot v.ballot) v x ∷ xs) (v ∷ x ∷ xs)) y
@@ -123,7 +124,7 @@ votes_outlast : (s : StandingValue) (e : Entry) (y : VoteValue) → Contains s.v
 votes_outlast s (Promise b) y c = still s.votes y c
 votes_outlast s (Vote v) y c = by_test (ltb s.position v.position)
   where
-    by_test : (t : Bool) → Outlasts (cond t (with_vote v s.votes) s.votes) y
+    by_test : (t : Bool) → Outlasts (cond t (votes_with v s.votes) s.votes) y
     by_test true = vote_outlasts v y s.votes c
     by_test false = still s.votes y c
 votes_outlast s (Decided i d) y c = still s.votes y c
@@ -170,7 +171,7 @@ module _ (m : Meaning) (h : History) (n : ℕ) where
       kept : Contains s.votes w → WasSent h.genesis h.sent (Accept w) × IsAtMost w.ballot (greater s.promised v.ballot)
       kept d = let o = old w d in (o.0, at_most_trans w.ballot s.promised _ o.1 (greater_left s.promised v.ballot))
 
-      by_test : (t : Bool) → Contains (cond t (with_vote v s.votes) s.votes) w → WasSent h.genesis h.sent (Accept w) × IsAtMost w.ballot (greater s.promised v.ballot)
+      by_test : (t : Bool) → Contains (cond t (votes_with v s.votes) s.votes) w → WasSent h.genesis h.sent (Accept w) × IsAtMost w.ballot (greater s.promised v.ballot)
       by_test true d = elim (vote_from v w s.votes d) [
         | inl same ↦ (subst (λ k. WasSent h.genesis h.sent (Accept k)) same rests, subst (λ (k : VoteValue). IsAtMost k.ballot (greater s.promised v.ballot)) same (greater_right s.promised v.ballot))
         | inr o ↦ kept o

@@ -6,7 +6,7 @@ use Rattle.lk_history.specs.Acceptors.{AcceptorState}
 use Rattle.lk_types.specs.Ballots.{IsAtMost}
 use Rattle.lk_acceptor.specs.AcceptorValue.{AcceptorValue}
 use Rattle.lk_acceptor.specs.States.{IsOrdered, with_state}
-use Rattle.lk_acceptor.specs.VoteLists.{votes_with}
+use Rattle.lk_votes.specs.VoteLists.{votes_with}
 use Rattle.lk_acceptor.proofs.Searching.{ranges_with}
 use Rattle.lk_acceptor.proofs.Keeping.{vote_kept, still_kept}
 use Rattle.lk_acceptor.proofs.acceptor.Acceptor.vote.Goals as goal
@@ -23,7 +23,7 @@ invariant_of-self-2 c =
     let state : AcceptorState = record { promised = c.self.inside.promised; votes = c.self.inside.votes.items; snapshot_position = c.self.inside.snapshot_position } in
     let most = subst (λ (a : AcceptorValue). IsAtMost a.state.promised c.args.vote.now.ballot) (sym c.self.view_is) c.requires.ballot in
     let above = subst (λ (a : AcceptorValue). a.state.snapshot_position < c.args.vote.now.position) (sym c.self.view_is) c.requires.above in
-    let votes = ap (λ (v : Vote). votes_with v c.self.inside.votes.items) (sym c.copy.ensures) ∙ sym c.in_ok-keep_vote.ensures.kept in (
+    let votes = ap (λ (v : Vote). votes_with v c.self.inside.votes.items) (sym c.copy.ensures) ∙ sym c.in_ok-keep_vote.ensures.ok in (
       c.self.invariant.0,
       subst (AllByRecursion IsVote) votes (ranges_with c.args.vote.now c.self.inside.votes.items c.facts.ensures c.self.invariant.1),
       subst IsOrdered (λ i. record { promised = sym c.get-self-inside.ensures.value i; votes = votes i; snapshot_position = c.self.inside.snapshot_position })

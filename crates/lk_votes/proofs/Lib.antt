@@ -1,0 +1,3 @@
+mod InOrder
+mod Halving
+pub mod Votes

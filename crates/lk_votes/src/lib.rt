@@ -1,0 +1,41 @@
+//! Votes that are kept in the order of their positions, at each position the one of greatest ballot: so an acceptor holds
+//! them, and so a store tells what its entries stand for.
+#![tactic(auto)]
+
+ghost use Rattle.std.specs.Prelude.{◌≡◌, ◌≤◌, length, vec_len, vec_capacity, OnOk, OnErr};
+ghost use Rattle.lk_votes.specs.VoteLists.{AreRising, votes_below, votes_with};
+
+use lk_types::{NoMemory, Position, Vote};
+
+/// How many votes of smaller positions are in front.
+pub fn votes_below(position: Position, votes: &[Vote]) -> usize
+    requires { AreRising votes.now }
+    ensures value { result ≡ votes_below position votes.now }
+    ensures within { result ≤ length votes.now }
+{
+    votes.partition_point(|vote| vote.position < position)
+}
+
+/// Keeps a vote in its place. Of two votes at a position the one of greater ballot is kept, the earlier where they are
+/// equal. Memory is asked for only where there is no room; where it is refused nothing has changed.
+#[tactic(auto, using(crate::proofs::InOrder::at_end, crate::proofs::InOrder::at_other, crate::proofs::InOrder::at_below, crate::proofs::InOrder::at_above))]
+pub fn keep_vote(votes: &mut Vec<Vote>, vote: Vote) -> Result<(), NoMemory>
+    requires { AreRising votes.old.items }
+    ensures ok { OnOk result (votes.new.items ≡ votes_with vote votes.old.items) }
+    ensures err { OnErr result (votes.new.items ≡ votes.old.items) }
+    ensures memory { OnErr result (vec_capacity votes.old ≤ vec_len votes.old) }
+{
+    let i = votes_below(vote.position, votes);
+    if i == votes.len() {
+        votes.push(vote)?;
+        return Ok(());
+    }
+    if votes[i].position.get() != vote.position.get() {
+        votes.insert(i, vote)?;
+        return Ok(());
+    }
+    if votes[i].ballot.get().is_below(vote.ballot.get()) {
+        votes[i] = vote;
+    }
+    Ok(())
+}
