@@ -182,6 +182,14 @@ held_at new live side es is h = subst (λ (k : Side). HoldsOn (new k) (new (othe
     at_live A e = e
     at_live B e = e
 
+-- the other side of it is what was left
+pub left_at : (new : Side → Disk) (live side : Side) → side ≡ other live → new live ≡ record { synced = []; unsynced = [] } → new (other side) ≡ record { synced = []; unsynced = [] }
+left_at new live side is e = subst (λ (k : Side). new (other k) ≡ record { synced = []; unsynced = [] }) (sym is) (at_live live e)
+  where
+    at_live : (k : Side) → new k ≡ record { synced = []; unsynced = [] } → new (other (other k)) ≡ record { synced = []; unsynced = [] }
+    at_live A e' = e'
+    at_live B e' = e'
+
 -- ---- a store
 
 -- its disks are those of its device

@@ -1,8 +1,10 @@
 -- Why a call of a store refused, and what the device tells of it.
-use Rattle.std.specs.Prelude.{◌≡◌, ℕ, ◌+◌, ◌⊎◌, Bool, List, [], ◌∷◌, Result, Ok, Err, IfErr, if◌then◌else◌}
+use Rattle.std.specs.Prelude.{◌≡◌, ℕ, ◌+◌, ◌<◌, ◌≤◌, ◌⊎◌, Bool, true, false, List, [], ◌∷◌, Result, Ok, Err, IfErr, IsErrOf, if◌then◌else◌}
+use Rattle.lk_types.specs.Limits.{max_count}
 use Rattle.lk_disk.specs.Disk.{one_more}
 use Rattle.lk_disk.specs.Meters.{Passes, Breaks}
 use Rattle.lk_disk.specs.declared.meter.Meter.{Meter}
+use Rattle.lk_log.specs.StoreValue.{StoreValue}
 use Rattle.lk_log.specs.declared.fault.StoreFault.{StoreFault}
 use Rattle.lk_log.specs.declared.fault.StoreFault.TheVariants.{Device, NoMemory, Damaged, WrongStore, Failed}
 
@@ -31,6 +33,41 @@ IsCounted before now (Err e) = now ≡ failures_after e before
 pub record IsCaused {T : Type 0} (before now : ℕ) (result : Result T StoreFault) : Type 0 where
   pub counted : IsCounted before now result
   pub only : IfErr result (λ e. (e ≡ Device) ⊎ (e ≡ NoMemory))
+
+-- ---- a store that has failed
+
+-- the reason is the device alone
+abbrev pub IsOfDevice : StoreFault → Type 0
+IsOfDevice e = e ≡ Device
+
+-- the reason is the device, or memory that was refused
+abbrev pub IsOfDeviceOrMemory : StoreFault → Type 0
+IsOfDeviceOrMemory e = (e ≡ Device) ⊎ (e ≡ NoMemory)
+
+-- it refuses with `Failed`, and the store is as it was
+abbrev pub DoesNothing : {T : Type 0} → StoreValue → StoreValue → Result T StoreFault → Type 0
+DoesNothing old new result = (new ≡ old) × IsErrOf result Failed
+
+-- a store that has failed does nothing, and another one refuses for such a reason alone
+abbrev pub RefusesFor : {T : Type 0} → (StoreFault → Type 0) → StoreValue → StoreValue → Result T StoreFault → Type 0
+RefusesFor Reason old new result = (old.failed ≡ true → DoesNothing old new result) × (old.failed ≡ false → IfErr result Reason)
+
+-- a store that has failed does nothing, nor does one of the last generation, and another one refuses for such a reason alone
+abbrev pub RefusesOrIsLast : {T : Type 0} → (StoreFault → Type 0) → StoreValue → StoreValue → Result T StoreFault → Type 0
+RefusesOrIsLast Reason old new result =
+    (old.failed ≡ true → DoesNothing old new result)
+    × (max_count ≤ old.generation → DoesNothing old new result)
+    × (old.failed ≡ false → old.generation < max_count → IfErr result Reason)
+
+-- after the call the store has failed exactly where it refused
+abbrev pub FailsByRefusing : {T : Type 0} → StoreValue → Result T StoreFault → Type 0
+FailsByRefusing new (Ok _) = new.failed ≡ false
+FailsByRefusing new (Err e) = new.failed ≡ true
+
+-- so, but for a store of the last generation, which a refusal leaves as it was
+abbrev pub FailsUnlessLast : {T : Type 0} → StoreValue → StoreValue → Result T StoreFault → Type 0
+FailsUnlessLast old new (Ok _) = new.failed ≡ false
+FailsUnlessLast old new (Err e) = old.generation < max_count → new.failed ≡ true
 
 -- ---- which calls of a metered device were made
 

@@ -1,8 +1,8 @@
 -- An open store, and what a stop may leave of it.
-use Rattle.std.specs.Prelude.{◌≡◌, ℕ, ◌+◌, ◌<◌, ◌≤◌, ◌⊎◌, nat_le, Bool, false, IsTrue, List, [], ◌∷◌, ◌++◌, length, take, if◌then◌else◌}
+use Rattle.std.specs.Prelude.{◌≡◌, ℕ, ◌+◌, ◌<◌, ◌≤◌, ◌⊎◌, nat_le, Bool, false, IsTrue, List, [], ◌∷◌, ◌++◌, length, take, Result, Ok, Err, IsErrOf, if◌then◌else◌}
 use Rattle.std.specs.List.{AllByRecursion}
 use Rattle.lk_types.specs.Ballots.{zero_ballot}
-use Rattle.lk_types.specs.Limits.{max_votes}
+use Rattle.lk_types.specs.Limits.{max_base, max_votes}
 use Rattle.lk_types.specs.declared.entry.Entry.{Entry}
 use Rattle.lk_wire.specs.Values.{are_votes_above}
 use Rattle.lk_disk.specs.Disk.{Disk, other, contents, MayLeave}
@@ -10,10 +10,12 @@ use Rattle.lk_disk.specs.declared.device.Side.{Side}
 use Rattle.lk_log.specs.Entries.{spelling_of_all, IsStored, are_pairs_above}
 use Rattle.lk_log.specs.Files.{IsFile}
 use Rattle.lk_log.specs.Formats.{format, is_mixed}
-use Rattle.lk_log.specs.Images.{Image, MayLeaveBoth, is_misplaced, generation, IsLive, IsEmpty, SameMeaning, seen}
+use Rattle.lk_log.specs.Images.{Image, MayLeaveBoth, is_misplaced, generation, IsLive, IsEmpty, IsDamaged, SameMeaning, seen}
 use Rattle.lk_log.specs.Standings.{HasHeader, StandsFor}
 use Rattle.lk_log.specs.StoreValue.{StoreValue, pick}
 use Rattle.lk_log.specs.Values.{HeaderValue, StandingValue, BaseValue}
+use Rattle.lk_log.specs.declared.fault.StoreFault.{StoreFault}
+use Rattle.lk_log.specs.declared.fault.StoreFault.TheVariants.{NoMemory}
 use Rattle.lk_log.specs.declared.stored.Stored.{Stored}
 use Rattle.lk_log.specs.declared.stored.Stored.TheVariants.{Base, Plain}
 
@@ -55,6 +57,20 @@ KeepsAtLeastOn live live_disk other_disk first more = (image : Image) → MayLea
 abbrev pub KeepsAtLeast : StoreValue → List Stored → List Stored → Type 0
 KeepsAtLeast s = KeepsAtLeastOn s.live s.live_disk s.other_disk
 
+-- ---- what a call leaves
+
+-- after the call the same file is live, with the same generation, format and header
+abbrev pub KeepsItsFile : StoreValue → StoreValue → Type 0
+KeepsItsFile old new = (new.live ≡ old.live) × (new.generation ≡ old.generation) × (new.format ≡ old.format) × (new.header ≡ old.header)
+
+-- neither file has changed
+abbrev pub KeepsBothDisks : StoreValue → StoreValue → Type 0
+KeepsBothDisks old new = (new.live_disk ≡ old.live_disk) × (new.other_disk ≡ old.other_disk)
+
+-- the other file has not changed, and where memory was refused the live one has not either
+abbrev pub KeepsOtherDisk : {T : Type 0} → StoreValue → StoreValue → Result T StoreFault → Type 0
+KeepsOtherDisk old new result = (new.other_disk ≡ old.other_disk) × (IsErrOf result NoMemory → new.live_disk ≡ old.live_disk)
+
 -- ---- a rebase
 
 -- bytes of a snapshot that leave room in a Base for a header, 32 votes and 32 pairs
@@ -73,6 +89,15 @@ pub record MayBegin (s : StandingValue) : Type 0 where
 -- the Base of the next generation of a store, which has format 2
 abbrev pub next_base : StoreValue → StandingValue → BaseValue
 next_base s t = record { generation = s.generation + 1; format = 2; header = s.header; standing = t }
+
+-- after a rebase the store has the next generation, format 2 and the same header; after a refusal the same format and header
+abbrev pub GoesOver : {T : Type 0} → StoreValue → StoreValue → Result T StoreFault → Type 0
+GoesOver old new (Ok _) = (new.generation ≡ old.generation + 1) × (new.format ≡ 2) × (new.header ≡ old.header)
+GoesOver old new (Err e) = (new.format ≡ old.format) × (new.header ≡ old.header)
+
+-- the file that was left is empty, and the live one is no longer than a Base
+abbrev pub LeavesEmpty : StoreValue → Type 0
+LeavesEmpty s = (s.other_disk ≡ record { synced = []; unsynced = [] }) × (length (contents s.live_disk) ≤ max_base)
 
 -- each image that a stop may leave of these disks has all of the first entries and a beginning of the others, or the new
 -- Base alone
@@ -99,6 +124,10 @@ first_base h zero = record {
 abbrev pub Found : Image → HeaderValue → List ℕ → List Stored → Type 0
 Found before h zero es = IsLive before es ⊎ (IsEmpty before × (es ≡ Base (first_base h zero) ∷ []))
 
+-- some entries stand for it
+abbrev pub StandsForSome : StandingValue → Type 0
+StandsForSome s = (es : List Stored) × StandsFor es s
+
 -- what an opening finds is held by these disks, all of it synced, under this header, with its format and with this standing
 pub record OpensOn (before : Image) (h : HeaderValue) (zero : List ℕ) (live_disk other_disk : Disk) (number told : ℕ) (standing : StandingValue) : Type 0 where
   pub entries : List Stored
@@ -113,6 +142,10 @@ pub record OpensOn (before : Image) (h : HeaderValue) (zero : List ℕ) (live_di
 abbrev pub Opens : Image → HeaderValue → List ℕ → StoreValue → StandingValue → Type 0
 Opens before h zero s = OpensOn before h zero s.live_disk s.other_disk s.generation s.format
 
+-- whatever the device gave to read, an opened store has not failed and is the one of this header, and some entries stand for the standing
+abbrev pub IsOpened : HeaderValue → StoreValue → StandingValue → Type 0
+IsOpened h s standing = (s.failed ≡ false) × (s.header ≡ h) × StandsForSome standing
+
 -- how many changing calls of the device an opening makes: three where it begins a store, and else a cut, where something is torn,
 -- and a sync
 abbrev pub OpensBy : Image → ℕ → Type 0
@@ -126,13 +159,17 @@ pub record MayStand (es : List Stored) : Type 0 where
   pub placed : is_misplaced es ≡ false
   pub based : 0 < generation es
 
--- some entries stand for it
-abbrev pub StandsForSome : StandingValue → Type 0
-StandsForSome s = (es : List Stored) × StandsFor es s
-
 -- the live file is another node's or another cluster's
 abbrev pub IsWrong : Image → HeaderValue → Type 0
 IsWrong before h = (es : List Stored) × IsLive before es × (HasHeader es h → ⊥)
+
+-- the files are damaged, and stay as they were
+abbrev pub StaysDamaged : (Side → Disk) → (Side → Disk) → Type 0
+StaysDamaged old new = IsDamaged (seen old) × ((s : Side) → new s ≡ old s)
+
+-- the live file is another node's or another cluster's, and the files stay as they were
+abbrev pub StaysWrong : (Side → Disk) → (Side → Disk) → HeaderValue → Type 0
+StaysWrong old new h = IsWrong (seen old) h × ((s : Side) → new s ≡ old s)
 
 -- the live file has this generation, this format and this standing
 pub record Shows (before : Image) (number told : ℕ) (standing : StandingValue) : Type 0 where

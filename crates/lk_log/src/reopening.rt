@@ -11,7 +11,7 @@ ghost use Rattle.lk_log.specs.Images.{IsEmpty, IsDamaged, seen, generation};
 ghost use Rattle.lk_log.specs.Standings.{HasHeader};
 ghost use Rattle.lk_log.specs.Rooms.{StaysWithin};
 ghost use Rattle.lk_log.specs.StoreValue.{disks};
-ghost use Rattle.lk_log.specs.Stores.{first_base, cut_calls, OpensBy, FoundLive, IsWrittenOver, OpensOn, Opens, IsWrong, Shows, NarrowsOrBegins, MayStand, StandsForSome};
+ghost use Rattle.lk_log.specs.Stores.{first_base, cut_calls, OpensBy, FoundLive, IsWrittenOver, OpensOn, Opens, IsOpened, StaysDamaged, StaysWrong, Shows, NarrowsOrBegins, MayStand, StandsForSome};
 ghost use Rattle.lk_log.specs.declared.stored.Stored.{Stored};
 
 use crate::base::Base;
@@ -183,10 +183,8 @@ fn recover<D: LogDisk>(
     ensures room { D.is_honest → StaysWithin max_base (D.disk device.old) (D.disk device.new) }
     ensures begun { D.is_honest → IsEmpty (seen (D.disk device.old)) → IfOk result (λ o. o.live ≡ A) }
     ensures stands { IfOk result (λ o. StandsForSome o.standing) }
-    ensures damaged { D.is_honest → IsErrOf result StoreFault.Damaged → IsDamaged (seen (D.disk device.old)) }
-    ensures damaged_stays { D.is_honest → IsErrOf result StoreFault.Damaged → (s : Side) → D.disk device.new s ≡ D.disk device.old s }
-    ensures wrong { D.is_honest → IsErrOf result StoreFault.WrongStore → IsWrong (seen (D.disk device.old)) header.now }
-    ensures wrong_stays { D.is_honest → IsErrOf result StoreFault.WrongStore → (s : Side) → D.disk device.new s ≡ D.disk device.old s }
+    ensures damaged { D.is_honest → IsErrOf result StoreFault.Damaged → StaysDamaged (D.disk device.old) (D.disk device.new) }
+    ensures wrong { D.is_honest → IsErrOf result StoreFault.WrongStore → StaysWrong (D.disk device.old) (D.disk device.new) header.now }
     ensures failed { IsErrOf result StoreFault.Failed → ⊥ }
     ensures cause { IsCounted (D.failures device.old) (D.failures device.new) result }
     ensures metered { D.is_metered → D.is_honest → MatchResult result
@@ -214,23 +212,18 @@ pub fn reopen<D: LogDisk + Drop>(
     requires room { length zero.now ≤ 49054 }
     // The standing is that of the whole entries of the live file, or of a store that is begun, and all of it is synced.
     ensures ok { D.is_honest → IfOk result (λ r. Opens (seen (D.disk device)) header.now zero.now r.0 r.1) }
-    ensures open { IfOk result (λ r. r.0.failed ≡ false) }
-    ensures whose { IfOk result (λ r. r.0.header ≡ header.now) }
-    // Whatever the device gave to read, some entries stand for it.
-    ensures stands { IfOk result (λ r. StandsForSome r.1) }
+    ensures open { IfOk result (λ r. IsOpened header.now r.0 r.1) }
     // After any exit each image comes to what an image before it came to, or to a store that is begun.
-    ensures stays { D.is_honest → IfOk result (λ r. NarrowsOrBegins (D.disk device) (disks r.0) header.now zero.now) }
-    ensures stays_err { D.is_honest → IfErr result (λ e. NarrowsOrBegins (D.disk device) (D.disk e.device) header.now zero.now) }
+    ensures stays { D.is_honest → MatchResult result
+        (λ r. NarrowsOrBegins (D.disk device) (disks r.0) header.now zero.now)
+        (λ e. NarrowsOrBegins (D.disk device) (D.disk e.device) header.now zero.now) }
     // After any exit neither file is longer than it was, or else than a Base.
-    ensures room { D.is_honest → IfOk result (λ r. StaysWithin max_base (D.disk device) (disks r.0)) }
-    ensures room_err { D.is_honest → IfErr result (λ e. StaysWithin max_base (D.disk device) (D.disk e.device)) }
+    ensures room { D.is_honest → MatchResult result (λ r. StaysWithin max_base (D.disk device) (disks r.0)) (λ e. StaysWithin max_base (D.disk device) (D.disk e.device)) }
     // A store is begun in A.
     ensures begun { D.is_honest → IsEmpty (seen (D.disk device)) → IfOk result (λ r. r.0.live ≡ A) }
     // A damaged store and another's stay as they are.
-    ensures damaged { D.is_honest → IfErr result (λ e. e.fault ≡ StoreFault.Damaged → IsDamaged (seen (D.disk device))) }
-    ensures damaged_stays { D.is_honest → IfErr result (λ e. e.fault ≡ StoreFault.Damaged → (s : Side) → D.disk e.device s ≡ D.disk device s) }
-    ensures wrong { D.is_honest → IfErr result (λ e. e.fault ≡ StoreFault.WrongStore → IsWrong (seen (D.disk device)) header.now) }
-    ensures wrong_stays { D.is_honest → IfErr result (λ e. e.fault ≡ StoreFault.WrongStore → (s : Side) → D.disk e.device s ≡ D.disk device s) }
+    ensures damaged { D.is_honest → IfErr result (λ e. e.fault ≡ StoreFault.Damaged → StaysDamaged (D.disk device) (D.disk e.device)) }
+    ensures wrong { D.is_honest → IfErr result (λ e. e.fault ≡ StoreFault.WrongStore → StaysWrong (D.disk device) (D.disk e.device) header.now) }
     ensures failed { IfErr result (λ e. e.fault ≡ StoreFault.Failed → ⊥) }
     ensures cause { MatchResult result (λ r. r.0.failures ≡ D.failures device) (λ e. D.failures e.device ≡ failures_after e.fault (D.failures device)) }
     // Of a metered device it tells which of its calls were made.

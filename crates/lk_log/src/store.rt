@@ -1,13 +1,13 @@
 // The store: entries after one another in the live file.
-ghost use Rattle.std.specs.Prelude.{◌≡◌, ◌++◌, ◌∷◌, ◌<◌, ◌≤◌, ◌^◌, ◌+◌, ◌-◌, ◌*◌, ◌⊎◌, List, [], length, true, false, IfOk, IfErr, OnOk, OnErr, IsErrOf};
-ghost use Rattle.lk_types.specs.Limits.{max_base, max_count};
+ghost use Rattle.std.specs.Prelude.{◌≡◌, ◌++◌, ◌∷◌, ◌<◌, ◌≤◌, ◌^◌, ◌+◌, ◌-◌, ◌*◌, List, [], length, true, false, IfOk, OnOk, IsErrOf};
+ghost use Rattle.lk_types.specs.Limits.{max_base};
 ghost use Rattle.lk_disk.specs.Disk.{contents, other};
 ghost use Rattle.lk_disk.specs.Meters.{trapped};
 ghost use Rattle.lk_disk.specs.declared.device.Side.{Side};
-ghost use Rattle.lk_log.specs.Causes.{IsCounted, IsMetered, put_calls, rebase_calls};
+ghost use Rattle.lk_log.specs.Causes.{IsCounted, IsOfDevice, IsOfDeviceOrMemory, RefusesFor, RefusesOrIsLast, FailsByRefusing, FailsUnlessLast, IsMetered, put_calls, rebase_calls};
 ghost use Rattle.lk_log.specs.Rooms.{StaysWithin};
 ghost use Rattle.lk_log.specs.StoreValue.{disks};
-ghost use Rattle.lk_log.specs.Stores.{plain, Holds, KeepsAtLeast, MayBegin, next_base, KeepsOrIs};
+ghost use Rattle.lk_log.specs.Stores.{plain, Holds, KeepsAtLeast, KeepsItsFile, KeepsBothDisks, KeepsOtherDisk, MayBegin, next_base, GoesOver, LeavesEmpty, KeepsOrIs};
 ghost use Rattle.lk_log.specs.declared.stored.Stored.{Stored};
 ghost use Rattle.lk_log.specs.declared.stored.Stored.TheVariants.{Base};
 
@@ -69,19 +69,12 @@ impl<D: LogDisk + Drop> Store<D> {
         ensures any { D.is_honest → (ks ls : List Stored) → Holds self.old ks ls
             → KeepsAtLeast self.new ks (ls ++ plain entries.now) }
         // The other file stays as it is, and where memory was refused the live one too.
-        ensures other_disk { D.is_honest → self.new.other_disk ≡ self.old.other_disk }
-        ensures no_memory { D.is_honest → IsErrOf result StoreFault.NoMemory → self.new.live_disk ≡ self.old.live_disk }
+        ensures beside { D.is_honest → KeepsOtherDisk self.old self.new result }
         // After any exit the live file has grown by no more bytes than so many entries have, each at most 102.
         ensures grows { D.is_honest → length (contents self.new.live_disk) ≤ length (contents self.old.live_disk) + 102 * length entries.now }
-        ensures live { self.new.live ≡ self.old.live }
-        ensures generation { self.new.generation ≡ self.old.generation }
-        ensures format { self.new.format ≡ self.old.format }
-        ensures header { self.new.header ≡ self.old.header }
-        ensures err { OnErr result (self.new.failed ≡ true) }
-        ensures alive { OnOk result (self.new.failed ≡ false) }
-        ensures failed { self.old.failed ≡ true → self.new ≡ self.old }
-        ensures refuses { self.old.failed ≡ true → IsErrOf result StoreFault.Failed }
-        ensures only { self.old.failed ≡ false → IfErr result (λ e. (e ≡ StoreFault.Device) ⊎ (e ≡ StoreFault.NoMemory)) }
+        ensures file { KeepsItsFile self.old self.new }
+        ensures failing { FailsByRefusing self.new result }
+        ensures refuses { RefusesFor IsOfDeviceOrMemory self.old self.new result }
         ensures cause { IsCounted self.old.failures self.new.failures result }
         // Of a metered device: an append where there are entries, and a sync where one is asked for.
         ensures metered { D.is_metered → IsMetered self.old.meter self.new.meter (put_calls entries.now sync) result }
@@ -105,24 +98,16 @@ impl<D: LogDisk + Drop> Store<D> {
         // At Ok the Base alone stands there, synced, and the file that was left is empty.
         ensures base { D.is_honest → (ks ls : List Stored) → Holds self.old ks ls
             → OnOk result (Holds self.new (Base (next_base self.old standing.now) ∷ []) []) }
-        ensures left { D.is_honest → OnOk result (self.new.other_disk ≡ record { synced = []; unsynced = [] }) }
+        ensures left { D.is_honest → OnOk result (LeavesEmpty self.new) }
         // After any exit each image that a stop may leave has what it had, or that Base alone.
         ensures any { D.is_honest → (ks ls : List Stored) → Holds self.old ks ls
             → KeepsOrIs (disks self.new) ks ls (next_base self.old standing.now) }
         ensures no_memory { D.is_honest → IsErrOf result StoreFault.NoMemory → (s : Side) → disks self.new s ≡ disks self.old s }
-        // After any exit neither file is longer than it was, or else than a Base; at Ok the live one is no longer than a Base.
+        // After any exit neither file is longer than it was, or else than a Base.
         ensures room { D.is_honest → StaysWithin max_base (disks self.old) (disks self.new) }
-        ensures short { D.is_honest → OnOk result (length (contents self.new.live_disk) ≤ max_base) }
-        ensures generation { OnOk result (self.new.generation ≡ self.old.generation + 1) }
-        ensures format { OnOk result (self.new.format ≡ 2) }
-        ensures format_err { OnErr result (self.new.format ≡ self.old.format) }
-        ensures header { self.new.header ≡ self.old.header }
-        ensures err { self.old.generation < max_count → OnErr result (self.new.failed ≡ true) }
-        ensures alive { OnOk result (self.new.failed ≡ false) }
-        ensures failed { self.old.failed ≡ true → self.new ≡ self.old }
-        ensures refuses { self.old.failed ≡ true → IsErrOf result StoreFault.Failed }
-        ensures last { max_count ≤ self.old.generation → (self.new ≡ self.old) × IsErrOf result StoreFault.Failed }
-        ensures only { self.old.failed ≡ false → self.old.generation < max_count → IfErr result (λ e. (e ≡ StoreFault.Device) ⊎ (e ≡ StoreFault.NoMemory)) }
+        ensures file { GoesOver self.old self.new result }
+        ensures failing { FailsUnlessLast self.old self.new result }
+        ensures refuses { RefusesOrIsLast IsOfDeviceOrMemory self.old self.new result }
         ensures cause { IsCounted self.old.failures self.new.failures result }
         // Of a metered device: four calls.
         ensures metered { D.is_metered → D.is_honest → IsMetered self.old.meter self.new.meter rebase_calls result }
@@ -147,17 +132,10 @@ impl<D: LogDisk + Drop> Store<D> {
     /// It takes no memory, and refuses with `Device` (7) alone; after that each later call answers `Failed` (11).
     pub fn live_length(&mut self) -> Result<usize, StoreFault>
         ensures value { D.is_honest → IfOk result (λ n. n ≡ length (contents self.old.live_disk)) }
-        ensures live_disk { D.is_honest → self.new.live_disk ≡ self.old.live_disk }
-        ensures other_disk { D.is_honest → self.new.other_disk ≡ self.old.other_disk }
-        ensures live { self.new.live ≡ self.old.live }
-        ensures generation { self.new.generation ≡ self.old.generation }
-        ensures format { self.new.format ≡ self.old.format }
-        ensures header { self.new.header ≡ self.old.header }
-        ensures err { OnErr result (self.new.failed ≡ true) }
-        ensures alive { OnOk result (self.new.failed ≡ false) }
-        ensures failed { self.old.failed ≡ true → self.new ≡ self.old }
-        ensures refuses { self.old.failed ≡ true → IsErrOf result StoreFault.Failed }
-        ensures only { self.old.failed ≡ false → IfErr result (λ e. e ≡ StoreFault.Device) }
+        ensures disks { D.is_honest → KeepsBothDisks self.old self.new }
+        ensures file { KeepsItsFile self.old self.new }
+        ensures failing { FailsByRefusing self.new result }
+        ensures refuses { RefusesFor IsOfDevice self.old self.new result }
         ensures cause { IsCounted self.old.failures self.new.failures result }
         ensures metered { D.is_metered → IsMetered self.old.meter self.new.meter 0 result }
     {

@@ -85,12 +85,13 @@ pub refused : {T : Type 0} (m : Meaning) (old new : ReplicaValue) (r : Result T 
 refused m old new (Ok x) cause calls failed before stays broken same of_store wakes last = tt
 refused m old new (Err e) cause calls failed before stays broken same of_store wakes last = (
   record {
+    told = elim of_store [ inl a ↦ inl a | inr (inl a) ↦ inr (inl a) | inr (inr a) ↦ inr (inr (inl a)) ];
     failures = cause;
-    calls = calls;
+    calls = λ metered honest. calls;
     earlier = λ number alive store_alive further. before alive store_alive (omega (arith, further)) (ap Err (failed_alone e number));
     once = λ ended. (ap fault_number (same_error e fault.Failed (failed ended)), stays ended);
     ends = λ other. broken;
-    stays = λ device post. inl (spared_number (AreSame (disks old.store) (disks new.store)) e same device post);
+    stays = λ honest device post. inl (spared_number (AreSame (disks old.store) (disks new.store)) e same device post);
     halts = λ number. absurd (elim of_store [ inl a ↦ omega (arith, a, number) | inr (inl a) ↦ omega (arith, a, number) | inr (inr a) ↦ omega (arith, a, number) ]);
     awake = λ was other. wakes ∙ was;
   },

@@ -7,6 +7,7 @@ mod Images
 mod Standings
 mod Ordered
 mod NoSend
+mod Refusals
 mod Thinning
 mod OnDevices
 mod Calling

@@ -1,5 +1,5 @@
 -- What a revival makes of a store that it may have to bring to format 2.
-use Rattle.std.proofs.Common.{◌≡◌, ℕ, zero, suc, ◌+◌, ◌≤◌, inl, inr, false, eqb, List, [], ◌∷◌, ◌++◌, take, refl, ap, sym, ◌∙◌, subst, arith, append-nil}
+use Rattle.std.proofs.Common.{◌≡◌, ℕ, zero, suc, ◌+◌, ◌<◌, ◌≤◌, inl, inr, false, eqb, Result, Ok, Err, IsErrAnd, IfErr, List, [], ◌∷◌, ◌++◌, take, refl, ap, sym, ◌∙◌, subst, arith, append-nil}
 use Rattle.std.specs.List.{AllByRecursion}
 use Rattle.std.proofs.lemmas.Bool.{cases_lt, ne_eqb}
 use Rattle.lk_types.specs.Limits.{max_count}
@@ -10,7 +10,7 @@ use Rattle.lk_disk.specs.declared.meter.Meter.{Meter}
 use Rattle.lk_disk.proofs.Devices.{passes_on}
 use Rattle.lk_log.specs.Entries.{IsStored}
 use Rattle.lk_log.specs.Formats.{format}
-use Rattle.lk_log.specs.Images.{Image, IsLive, seen}
+use Rattle.lk_log.specs.Images.{Image, IsLive, generation, seen}
 use Rattle.lk_log.specs.Standings.{HasHeader}
 use Rattle.lk_log.specs.StoreValue.{StoreValue, disks}
 use Rattle.lk_log.specs.Stores.{KeepsOrIs, next_base, NarrowsOrBegins, Opens}
@@ -27,7 +27,9 @@ use Rattle.lk_node.specs.Leavings.{header_of, DisksFit}
 use Rattle.lk_node.specs.NodeValue.{NodeValue}
 use Rattle.lk_node.specs.Served.{text}
 use Rattle.lk_node.specs.declared.note.Note.{Note}
+use Rattle.lk_replica.specs.Compacted.{IsStoreFault}
 use Rattle.lk_replica.specs.Compacting.{renew_calls}
+use Rattle.lk_replica.specs.declared.fault.ReplicaFault.{ReplicaFault}
 use Rattle.lk_replica.specs.Revivals.{TakesUp, IsOld, IsLastOld, RenewsBy, CallsOfOpening, CallsOfRevival, NarrowsOrRenews}
 use Rattle.lk_replica.proofs.Revivals.{nothing_later, picked}
 
@@ -111,6 +113,15 @@ module _ (before : Image) (whose : HeaderValue) (zero' : List ℕ) (store : Stor
             subst (λ (f : ℕ). RenewsBy before (renew_calls f)) (sym two) (record { old = λ old. absurd (none_old two old); rests = λ none. refl })
       ]
 
+  -- where the live file is such a one, the store that is opened has format 1 and the last generation
+  pub of_last_old : IsLastOld before → (store.format ≡ 1) × (max_count ≤ store.generation)
+  of_last_old last = elim o.found [
+    | inl live ↦
+        let same : last.0 ≡ o.entries = live_unique before last.0 o.entries last.1 live in
+        (o.format_is ∙ ap format (sym same) ∙ last.2, omega (arith, last.3, ap generation same, o.generation_is))
+    | inr begun ↦ absurd (not_both before last.0 last.1 begun.0)
+  ]
+
   -- no generation is left for it
   pub last_old : (store.format ≡ 2 → ⊥) → max_count ≤ store.generation → IsLastOld before
   last_old other most = let is = old_live other in (o.entries, is.0, is.1, omega (arith, o.generation_is, most))
@@ -120,6 +131,20 @@ module _ (before : Image) (whose : HeaderValue) (zero' : List ℕ) (store : Stor
 pub revival_calls : (d : Side → Disk) (l m n : Meter) (whose : HeaderValue) (zero' : List ℕ) (store : StoreValue) (s : StandingValue) → Opens (seen d) whose zero' store s
     → CallsOfOpening d l m → Passes m n (renew_calls store.format) → CallsOfRevival d l n
 revival_calls d l m n whose zero' store s o c more = (c.0, renew_calls store.format, c.1, renews_by (seen d) whose zero' store s o, passes_on c.0 c.2 (renew_calls store.format) more)
+
+-- ---- which refusal it is
+
+pub not_of_store : (number told : ℕ) → IsStoreFault number → 8 < told → told < 11 → number ≡ told → ⊥
+not_of_store number told by more less is = elim by [
+  | inl device ↦ omega (arith, device, more, is)
+  | inr (inl memory) ↦ omega (arith, memory, more, is)
+  | inr (inr failed) ↦ omega (arith, failed, less, is)
+]
+
+-- it was refused so
+pub if_errs_as : {T : Type 0} (P : ReplicaFault → Type 0) (r : Result T ReplicaFault) (f : ReplicaFault) → IsErrAnd r (λ e. e ≡ f) → P f → IfErr r P
+if_errs_as P (Ok x) f is p = tt
+if_errs_as P (Err e) f is p = subst P (sym is) p
 
 -- ---- what a refusal leaves
 

@@ -124,6 +124,19 @@ damage_only store.Damaged e = refl
 damage_only store.WrongStore e = absurd (omega (arith, e))
 damage_only store.Failed e = absurd (omega (arith, e))
 
+pub failed_only : (f : StoreFault) → fault_number (fault_of f) ≡ 11 → f ≡ store.Failed
+failed_only store.Device e = absurd (omega (arith, e))
+failed_only store.NoMemory e = absurd (omega (arith, e))
+failed_only store.Damaged e = absurd (omega (arith, e))
+failed_only store.WrongStore e = absurd (omega (arith, e))
+failed_only store.Failed e = refl
+
+pub not_failed : (f : ReplicaFault) → (f ≡ fault.Damaged) ⊎ (f ≡ fault.NoMemory) → fault_number f ≡ 11 → ⊥
+not_failed f by eleven = elim by [
+  | inl damaged ↦ let e : 9 ≡ 11 = sym (ap fault_number damaged) ∙ eleven in omega (arith, e)
+  | inr memory ↦ let e : 8 ≡ 11 = sym (ap fault_number memory) ∙ eleven in omega (arith, e)
+]
+
 pub not_wrong : (f : ReplicaFault) → (f ≡ fault.Damaged) ⊎ (f ≡ fault.NoMemory) → fault_number f ≡ 10 → ⊥
 not_wrong f by ten = elim by [
   | inl damaged ↦ let e : 9 ≡ 10 = sym (ap fault_number damaged) ∙ ten in omega (arith, e)

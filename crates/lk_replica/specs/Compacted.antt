@@ -1,5 +1,5 @@
 -- What a call of a replica has done that was told to compact.
-use Rattle.std.specs.Prelude.{◌≡◌, ℕ, ◌≤◌, ◌⊎◌, false, Result, Ok, Err}
+use Rattle.std.specs.Prelude.{◌≡◌, ℕ, ◌≤◌, ◌⊎◌, ⊤, false, Result, Ok, Err}
 use Rattle.lk_types.specs.Limits.{max_count}
 use Rattle.lk_disk.specs.Memory.{disk_of}
 use Rattle.lk_disk.specs.Meters.{Passes}
@@ -31,4 +31,4 @@ IsStoreFault number = (number ≡ 7) ⊎ (number ≡ 8) ⊎ (number ≡ 11)
 -- what the call came to: where no generation is left, it was refused as failed, also where memory was wanting
 abbrev pub CompactsTo : Meaning → ReplicaValue → ReplicaValue → Result (Unit {0}) ℕ → Type 0
 CompactsTo m old new (Ok done) = IsCompacted m old new
-CompactsTo m old new (Err number) = IsRefused old new number × IsStoreFault number × (max_count ≤ old.store.generation → number ≡ 11)
+CompactsTo m old new (Err number) = IsRefused ⊤ ⊤ old new number × IsStoreFault number × (max_count ≤ old.store.generation → number ≡ 11)

@@ -1,5 +1,6 @@
 -- The numbers of a replica's refusals, and those that its store tells.
-use Rattle.std.specs.Prelude.{◌≡◌, ℕ, ◌==◌, ◌⊎◌, List, Result, Ok, Err, MatchBool, MatchResult, if◌then◌else◌}
+use Rattle.std.specs.Prelude.{◌≡◌, ℕ, ◌==◌, ◌⊎◌, List, Result, Ok, Err, Vec, MatchBool, MatchResult, if◌then◌else◌}
+use Rattle.std.specs.Global.{Global}
 use Rattle.lk_disk.specs.Disk.{one_more}
 use Rattle.lk_disk.specs.Meters.{Passes, Breaks}
 use Rattle.lk_disk.specs.declared.meter.Meter.{Meter}
@@ -87,3 +88,7 @@ IfSend P fault.WrongStore = Unit {0}
 IfSend P fault.Failed = Unit {0}
 IfSend P fault.Halted = Unit {0}
 IfSend P (fault.Send notes) = P notes.items
+
+-- where a call goes on, at Ok or where a datagram was not sent, its notes have this
+abbrev pub IfGoesOn : Result (Vec Note Global) ReplicaFault → (List Note → Type 0) → Type 0
+IfGoesOn r P = MatchResult r (λ notes. P notes.items) (IfSend P)

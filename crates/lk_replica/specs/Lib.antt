@@ -8,3 +8,4 @@ pub mod Compacting
 pub mod Compacted
 pub mod Rooms
 pub mod Remembering
+pub mod Renewals

@@ -1,5 +1,5 @@
 -- What is sent of what is to be sent.
-use Rattle.std.specs.Prelude.{◌≡◌, ℕ, zero, suc, ◌+◌, ◌⊎◌, List, [], ◌∷◌, ◌++◌, Contains}
+use Rattle.std.specs.Prelude.{◌≡◌, ◌≢◌, ℕ, zero, suc, ◌+◌, ◌⊎◌, Result, Ok, Err, List, [], ◌∷◌, ◌++◌, Contains}
 use Rattle.lk_disk.specs.Disk.{one_more}
 use Rattle.lk_node.specs.Letters.{LetterValue}
 
@@ -26,6 +26,16 @@ SendsBut lost letters old new = (kept : List LetterValue) × Thins letters lost 
 -- each of them was tried: as many were lost as sends failed, and the others were sent in order
 abbrev pub SendsSome : List LetterValue → (old new : List LetterValue) → (before now : ℕ) → Type 0
 SendsSome letters old new before now = (lost : ℕ) × SendsBut lost letters old new × (now ≡ more_by lost before)
+
+-- at Ok all of them were sent in order, and after a refusal all but as many as sends failed
+abbrev pub SendsAs : {T E : Type 0} → Result T E → List LetterValue → (old new : List LetterValue) → (before now : ℕ) → Type 0
+SendsAs (Ok _) letters old new before now = new ≡ old ++ letters
+SendsAs (Err _) letters old new before now = SendsSome letters old new before now
+
+-- a refusal of this number has sent nothing; but after 15 some of the sends have failed, and the others were made
+pub record RefusesSends (Telling : Type 0) (number : ℕ) (old new : List LetterValue) (before now : ℕ) : Type 0 where
+  pub silent : (number ≡ 15 → ⊥) → Telling → new ≡ old
+  pub some_fail : number ≡ 15 → (lost : ℕ) × (lost ≢ 0) × (now ≡ more_by lost before)
 
 -- the letters that were kept, and how often one was not
 pub record CollectedValue : Type 0 where

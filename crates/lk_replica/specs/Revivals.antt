@@ -22,6 +22,7 @@ use Rattle.lk_state.specs.States.{WholeValue}
 use Rattle.lk_leader.specs.Terms.{idle}
 use Rattle.lk_learner.specs.Learners.{Pair, LearnerValue}
 pub use Rattle.lk_learner.specs.Unpacking.{Unpacks}
+use Rattle.lk_node.specs.Executing.{NothingToRun}
 use Rattle.lk_node.specs.Histories.{Genesis, Command}
 use Rattle.lk_node.specs.Leavings.{header_of, acceptor_of, StandsAs}
 use Rattle.lk_node.specs.NodeValue.{NodeValue}
@@ -97,14 +98,22 @@ pub record TakesUp (m : Meaning) (IsText : List ℕ → Type 0) (disks : Side �
   pub opens : Opens (seen disks) whose (text m genesis []) store standing
   pub restores : Restores m IsText whose standing node notes
 
--- it is revived as this replica, with these notes: where the file has format 1 the store was rebased at once
-pub record Revives (m : Meaning) (IsText : List ℕ → Type 0) (disks : Side → Disk) (whose : HeaderValue) (r : ReplicaValue) (notes : List Note) : Type 0 where
-  pub node : NodeValue
-  pub store : StoreValue
-  pub takes : TakesUp m IsText disks whose node store notes
-  pub renews : Renews node store r.node r.store
+-- what was taken up is of this header and goes on, in whatever format its file has: its store has not failed, its node has not halted, and what
+-- that can execute it has executed
+pub record IsTakenUp (header : HeaderValue) (node : NodeValue) (store : StoreValue) : Type 0 where
+  pub whose : store.header ≡ header
+  pub store_alive : store.failed ≡ false
+  pub awake : node.halted ≡ false
+  pub runs : NothingToRun node
+
+-- the replica goes on: neither it nor its store has failed, its node has not halted, what that can execute it has executed, and the store
+-- has format 2
+pub record MayGoOn (r : ReplicaValue) : Type 0 where
+  pub format : r.store.format ≡ 2
   pub alive : r.failed ≡ false
   pub store_alive : r.store.failed ≡ false
+  pub awake : r.node.halted ≡ false
+  pub runs : NothingToRun r.node
 
 -- the live file has format 1
 abbrev pub IsOld : Image → Type 0
@@ -113,6 +122,17 @@ IsOld image = (es : List Stored) × IsLive image es × (format es ≡ 1)
 -- so, and it has the last generation
 abbrev pub IsLastOld : Image → Type 0
 IsLastOld image = (es : List Stored) × IsLive image es × (format es ≡ 1) × (max_count ≤ generation es)
+
+-- it is revived as this replica, with these notes: where the file has format 1 the store was rebased at once, and so a generation was left for
+-- that
+pub record Revives (m : Meaning) (IsText : List ℕ → Type 0) (disks : Side → Disk) (whose : HeaderValue) (r : ReplicaValue) (notes : List Note) : Type 0 where
+  pub node : NodeValue
+  pub store : StoreValue
+  pub takes : TakesUp m IsText disks whose node store notes
+  pub renews : Renews node store r.node r.store
+  pub further : IsLastOld (seen disks) → ⊥
+  pub alive : r.failed ≡ false
+  pub store_alive : r.store.failed ≡ false
 
 -- how many changing calls of the device bring it to format 2
 pub record RenewsBy (image : Image) (k : ℕ) : Type 0 where
@@ -144,16 +164,21 @@ pub record NoneRevives (m : Meaning) (IsText : List ℕ → Type 0) (disks : Sid
   pub stands : StandsAs whose (text m genesis []) (seen disks) standing
   pub none : (w : WholeValue) → MayRevive IsText whose standing w → ⊥
 
--- a revival was refused with the fault of this number, for its cause, and left that device: damaged files and another's stay as they are, and 11
--- comes only where the file has format 1 and no generation is left for a rebase
+-- a revival of these disks was refused with the fault of this number for its cause, and left those disks: 9 comes where the files are damaged or
+-- what they stand for may not be revived, 10 where they are another's, and 11 where the file has format 1 and no generation is left for a rebase.
+-- Damaged files and another's stay as they are
+pub record IsRefusedFor (m : Meaning) (IsText : List ℕ → Type 0) (old : Side → Disk) (whose : HeaderValue) (number : ℕ) (left : Side → Disk) : Type 0 where
+  pub damaged : number ≡ 9 → IsDamaged (seen old) ⊎ NoneRevives m IsText old whose
+  pub wrong : number ≡ 10 → IsWrong (seen old) whose
+  pub last : number ≡ 11 → IsLastOld (seen old)
+  pub damaged_stays : IsDamaged (seen old) → number ≡ 9 → AreSame old left
+  pub wrong_stays : number ≡ 10 → AreSame old left
+
+-- so by a device in memory: 7 comes exactly where one of its calls has failed, and no other number than 7 to 11 comes
 pub record IsNotRevived (m : Meaning) (IsText : List ℕ → Type 0) (device : Memory) (whose : HeaderValue) (number : ℕ) (left : Memory) : Type 0 where
   pub failures : left.failures ≡ failures_by number device.failures
   pub calls : RefusedAfter number device.meter left.meter
-  pub damaged : number ≡ 9 → IsDamaged (seen (disk_of device)) ⊎ NoneRevives m IsText (disk_of device) whose
-  pub wrong : number ≡ 10 → IsWrong (seen (disk_of device)) whose
-  pub damaged_stays : IsDamaged (seen (disk_of device)) → number ≡ 9 → AreSame (disk_of device) (disk_of left)
-  pub wrong_stays : number ≡ 10 → AreSame (disk_of device) (disk_of left)
-  pub last : number ≡ 11 → IsLastOld (seen (disk_of device))
+  pub cause : IsRefusedFor m IsText (disk_of device) whose number (disk_of left)
   pub only : (7 ≤ number) × (number ≤ 11)
 
 -- what a revival came to

@@ -1,17 +1,27 @@
--- What a call of a replica has done that was not refused: that and nothing else.
+-- What a call of a replica has done, that and nothing else, and what it leaves, also where it was refused.
 use Rattle.std.specs.Prelude.{◌≡◌, ℕ, ◌+◌, ◌<◌, ◌≤◌, ⊤, true, false, if◌then◌else◌, Option, Result, Ok, Err, List, [], ◌++◌}
 use Rattle.lk_disk.specs.Meters.{Passes}
 use Rattle.lk_types.specs.Limits.{max_count}
 use Rattle.lk_log.specs.Causes.{put_calls, rebase_calls}
-use Rattle.lk_log.specs.StoreValue.{StoreValue}
+use Rattle.lk_log.specs.StoreValue.{StoreValue, disks}
 use Rattle.lk_log.specs.Stores.{plain, Holds}
 use Rattle.lk_state.specs.Meanings.{Meaning}
 use Rattle.lk_log.specs.declared.stored.Stored.{Stored}
-use Rattle.lk_node.specs.Calls.{heard_by}
-use Rattle.lk_node.specs.Histories.{Datagram}
+use Rattle.lk_disk.specs.Disk.{Disk}
+use Rattle.lk_disk.specs.declared.device.Side.{Side}
+use Rattle.lk_history.specs.Datagrams.{NodeMessage}
+use Rattle.lk_log.specs.Rooms.{StaysWithin}
+use Rattle.lk_node.specs.Calls.{heard_by, NodeFits}
+use Rattle.lk_node.specs.Executing.{NothingToRun}
+use Rattle.lk_node.specs.Histories.{Datagram, History, Genesis}
+use Rattle.lk_node.specs.Keeping.{Stands}
+use Rattle.lk_node.specs.Leavings.{DisksFit, AllCover}
+use Rattle.lk_replica.specs.Remembering.{Remembers}
 use Rattle.lk_node.specs.Letters.{LetterValue, batch_of}
 use Rattle.lk_replica.specs.Compacting.{AreLeft, IsDue, Rebases, RebasesWhereDue, CallsWhereDue}
-use Rattle.lk_replica.specs.Faults.{failures_by, RefusedAfter, IsNumberOfCalls, WantsNoMemory}
+use Rattle.lk_replica.specs.Faults.{fault_number, failures_by, RefusedAfter, IfSend, IfSpared, IsOfCalls, IsNumberOfCalls, WantsNoMemory}
+use Rattle.lk_replica.specs.declared.fault.ReplicaFault.{ReplicaFault}
+use Rattle.lk_replica.specs.declared.fault.ReplicaFault.TheVariants as fault
 use Rattle.lk_replica.specs.ReplicaValue.{ReplicaValue}
 use Rattle.lk_node.specs.NodeValue.{NodeValue}
 use Rattle.lk_node.specs.Outboxes.{OutboxValue}
@@ -57,16 +67,51 @@ pub record IsTaken (m : Meaning) (IsText : List ℕ → Type 0) (Metered : Type 
 -- a call was refused with the fault of this number, for its cause: 7 exactly where the device has failed once more, 11 only after an
 -- earlier refusal, after which there is no other, or where fewer than two further generations are left: a call rebases twice at most, and
 -- 14 exactly where the node has halted. It has ended the replica, unless it tells that a datagram was lost; and where no call of the device has failed, the files are as they were,
--- or as a rebase that was due left them
-pub record IsRefused (old new : ReplicaValue) (number : ℕ) : Type 0 where
+-- or as a rebase that was due left them. `Honest` says that its device does what it tells, and `Metered` that it counts its calls
+pub record IsRefused (Honest Metered : Type 0) (old new : ReplicaValue) (number : ℕ) : Type 0 where
+  pub told : IsNumberOfCalls number
   pub failures : new.store.failures ≡ failures_by number old.store.failures
-  pub calls : RefusedAfter number old.store.meter new.store.meter
+  pub calls : Metered → Honest → RefusedAfter number old.store.meter new.store.meter
   pub earlier : number ≡ 11 → old.failed ≡ false → old.store.failed ≡ false → old.store.generation + 1 < max_count → ⊥
   pub once : old.failed ≡ true → (number ≡ 11) × (new ≡ old)
   pub ends : (number ≡ 15 → ⊥) → new.failed ≡ true
-  pub stays : (number ≡ 7 → ⊥) → (number ≡ 15 → ⊥) → AreLeft old.node old.store new.store
+  pub stays : Honest → (number ≡ 7 → ⊥) → (number ≡ 15 → ⊥) → AreLeft old.node old.store new.store
   pub halts : number ≡ 14 → new.node.halted ≡ true
   pub awake : old.node.halted ≡ false → (number ≡ 14 → ⊥) → new.node.halted ≡ false
+
+-- the replica goes on: it and its store have not failed, its node has not halted and has executed what it could, and where the store kept
+-- what the acceptor holds, it keeps what it holds now
+pub record StaysUp (Honest : Type 0) (old new : ReplicaValue) : Type 0 where
+  pub alive : new.failed ≡ false
+  pub store_alive : new.store.failed ≡ false
+  pub awake : new.node.halted ≡ false
+  pub runs : NothingToRun new.node
+  pub remembers : Honest → (genesis : Genesis) (n : ℕ) → Remembers old.node old.store genesis n → Remembers new.node new.store genesis n
+
+-- a node and its store go on so: the store has not failed, the node has not halted, it has executed what it could where it had before, and
+-- where the store kept what the acceptor held, it keeps what it holds now
+pub record StepsOn (Honest : Type 0) (node : NodeValue) (store : StoreValue) (new : NodeValue) (after : StoreValue) : Type 0 where
+  pub store_alive : after.failed ≡ false
+  pub awake : new.halted ≡ false
+  pub runs : NothingToRun node → NothingToRun new
+  pub remembers : Honest → (genesis : Genesis) (n : ℕ) → Remembers node store genesis n → Remembers new after genesis n
+
+-- a part of a call was refused so, which rebases so many times at most, and leaves the files so where no call of the device has failed
+pub record IsCutShort (Honest Metered : Type 0) (most : ℕ) (node : NodeValue) (store : StoreValue) (new : NodeValue) (after : StoreValue) (Left : Type 0) (e : ReplicaFault) : Type 0 where
+  pub told : IsOfCalls e
+  pub only : IfSend (λ notes. ⊥) e
+  pub calls : Metered → Honest → RefusedAfter (fault_number e) store.meter after.meter
+  pub earlier : e ≡ fault.Failed → store.failed ≡ false → store.generation + most ≤ max_count → ⊥
+  pub stays : Honest → IfSpared Left e
+  pub halts : e ≡ fault.Halted → new.halted ≡ true
+  pub awake : node.halted ≡ false → (fault_number e ≡ 14 → ⊥) → new.halted ≡ false
+
+-- what a call leaves on the disks, however it ends: where the history has what the call was given, each image that a stop may leave fits the
+-- history as it was; each covers what every image covered; and neither file is longer than it was, or else than so many bytes
+pub record LeavesDisks (m : Meaning) (Hears : History → Type 0) (most : ℕ) (node : NodeValue) (store : StoreValue) (after : Side → Disk) : Type 0 where
+  pub ends : (h : History) (n : ℕ) → NodeFits m h n (Stands m node store h.genesis n) (disks store) → Hears h → DisksFit m h n after
+  pub covers : (genesis : Genesis) (n : ℕ) (x : NodeMessage) → Remembers node store genesis n → AllCover m genesis n (disks store) x → AllCover m genesis n after x
+  pub room : StaysWithin most (disks store) after
 
 -- a rebase is due and no generation is left for it: so it is refused, and not for memory
 abbrev pub IsOfLast : ReplicaValue → ℕ → Type 0
@@ -83,4 +128,4 @@ pub record IsTakenAs (m : Meaning) (IsText : List ℕ → Type 0) (old : Replica
 -- what a call came to
 abbrev pub ComesTo : Meaning → (List ℕ → Type 0) → ReplicaValue → Option (List ℕ) → ReplicaValue → Result (List Note × List Datagram) ℕ → Type 0
 ComesTo m IsText old bytes new (Ok told) = IsTakenAs m IsText old bytes new told.0 told.1
-ComesTo m IsText old bytes new (Err number) = IsRefused old new number × IsNumberOfCalls number × IsOfLast old number
+ComesTo m IsText old bytes new (Err number) = IsRefused ⊤ ⊤ old new number × IsOfLast old number

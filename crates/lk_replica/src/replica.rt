@@ -1,5 +1,5 @@
 // The replica: a node and its store.
-ghost use Rattle.std.specs.Prelude.{◌≡◌, ◌≢◌, ℕ, ◌+◌, ◌<◌, ◌≤◌, length, ◌++◌, List, [], true, false, Contains, IfOk, IfErr, OnOk, OnErr, IsErrAnd, IsErrOf, MatchResult};
+ghost use Rattle.std.specs.Prelude.{◌≡◌, ℕ, ◌+◌, ◌<◌, ◌≤◌, length, ◌++◌, List, [], true, false, Contains, IfOk, IfErr, OnOk, OnErr, IsErrAnd, IsErrOf, MatchResult};
 ghost use Rattle.lk_types.specs.Limits.{max_count};
 ghost use Rattle.lk_disk.specs.Disk.{contents};
 ghost use Rattle.lk_disk.specs.declared.device.Side.{Side};
@@ -17,10 +17,10 @@ ghost use Rattle.lk_node.specs.Histories.{History, Genesis};
 ghost use Rattle.lk_node.specs.Keeping.{Stands};
 ghost use Rattle.lk_node.specs.Leavings.{DisksFit, AllCover};
 ghost use Rattle.lk_node.specs.Letters.{LetterValue, batch_of};
-ghost use Rattle.lk_replica.specs.Posts.{AreOf, SendsSome, more_by};
+ghost use Rattle.lk_replica.specs.Posts.{AreOf, SendsAs, RefusesSends};
 ghost use Rattle.lk_node.specs.Steps.{Steps};
-ghost use Rattle.lk_replica.specs.Taking.{Writes, write_calls, CallsOfStep, IsTaken};
-ghost use Rattle.lk_replica.specs.Faults.{fault_number, CountsFailure, RefusedAfter, IfSend, IfSpared, IsOfCalls, WantsNoMemory};
+ghost use Rattle.lk_replica.specs.Taking.{Writes, write_calls, CallsOfStep, IsTaken, IsRefused, IsCutShort, StaysUp, StepsOn, LeavesDisks};
+ghost use Rattle.lk_replica.specs.Faults.{fault_number, CountsFailure, RefusedAfter, IfGoesOn, IfSend, IfSpared, IsOfCalls, WantsNoMemory};
 ghost use Rattle.lk_replica.specs.Remembering.{Remembers};
 ghost use Rattle.lk_replica.specs.Rooms.{max_behind};
 
@@ -65,60 +65,30 @@ impl<M: Machine, D: LogDisk + Drop> Replica<M, D> {
     /// It refuses with `Device` (7), `NoMemory` (8) and `Halted` (14), and with `Failed` (11) where it has to rebase at generation
     /// 2^48; after that each later call answers `Failed` (11). With `Send` (15) some datagrams are lost, and the replica goes on.
     pub fn take<P: Post>(&mut self, input: Input, post: &mut P) -> Result<Vec<Note>, ReplicaFault>
+        // Where it goes on, all that it notes and sends it may note and send by what it holds.
         ensures goes { D.is_honest → P.is_telling → (h : History) (n : ℕ) → NodeFits (meaning M.first M.next M.answer) h n (Stands (meaning M.first M.next M.answer) self.old.node self.old.store h.genesis n) (disks self.old.store) → InputFits h input.entry
-            → IfOk result (λ notes. (sent : List LetterValue) × (P.sent post.new ≡ P.sent post.old ++ sent)
-            × Goes (meaning M.first M.next M.answer) h n (Stands (meaning M.first M.next M.answer) self.new.node self.new.store h.genesis n) (disks self.new.store) notes.items (batch_of n sent)) }
-        // Under `Send` it has sent some of them, and goes on.
-        ensures sends { D.is_honest → P.is_telling → (h : History) (n : ℕ) → NodeFits (meaning M.first M.next M.answer) h n (Stands (meaning M.first M.next M.answer) self.old.node self.old.store h.genesis n) (disks self.old.store) → InputFits h input.entry
-            → IfErr result (IfSend (λ notes. (sent : List LetterValue) × (P.sent post.new ≡ P.sent post.old ++ sent)
-            × Goes (meaning M.first M.next M.answer) h n (Stands (meaning M.first M.next M.answer) self.new.node self.new.store h.genesis n) (disks self.new.store) notes (batch_of n sent))) }
-        // After any exit each image that a stop may leave fits the history as it was.
-        ensures ends { D.is_honest → (h : History) (n : ℕ) → NodeFits (meaning M.first M.next M.answer) h n (Stands (meaning M.first M.next M.answer) self.old.node self.old.store h.genesis n) (disks self.old.store) → InputFits h input.entry
-            → DisksFit (meaning M.first M.next M.answer) h n (disks self.new.store) }
-        // Sync before send, whatever has happened, and whatever it was revived on: what was sent, and what every image covered,
-        // every image covers, after any exit.
+            → IfGoesOn result (λ notes. (sent : List LetterValue) × (P.sent post.new ≡ P.sent post.old ++ sent)
+            × Goes (meaning M.first M.next M.answer) h n (Stands (meaning M.first M.next M.answer) self.new.node self.new.store h.genesis n) (disks self.new.store) notes (batch_of n sent)) }
+        // It has then written the outbox of its step, given its notes and sent its letters in order, and nothing else. Under
+        // `Send` the letters whose send failed are lost.
+        ensures exact { D.is_honest → P.is_telling → IfGoesOn result (λ notes. IsTaken (meaning M.first M.next M.answer) M.IsText D.is_metered self.old input.entry self.new notes
+            (λ letters. SendsAs result letters (P.sent post.old) (P.sent post.new) (P.failures post.old) (P.failures post.new))) }
+        ensures alive { IfGoesOn result (λ notes. StaysUp D.is_honest self.old self.new) }
+        // Sync before send, whatever has happened, and whatever it was revived on: what was sent every image covers, after any exit.
         ensures syncs { D.is_honest → P.is_telling → (genesis : Genesis) (n : ℕ) (x : NodeMessage) → Remembers self.old.node self.old.store genesis n
             → (sent : List LetterValue) × (P.sent post.new ≡ P.sent post.old ++ sent)
             × ((d : DatagramValue) → Contains (batch_of n sent) d → Spells (said_by genesis n x) d.bytes → AllCover (meaning M.first M.next M.answer) genesis n (disks self.new.store) x) }
-        ensures covers { D.is_honest → (genesis : Genesis) (n : ℕ) (x : NodeMessage) → Remembers self.old.node self.old.store genesis n
-            → AllCover (meaning M.first M.next M.answer) genesis n (disks self.old.store) x → AllCover (meaning M.first M.next M.answer) genesis n (disks self.new.store) x }
-        // Where it goes on its store keeps what its acceptor holds.
-        ensures remembers { D.is_honest → (genesis : Genesis) (n : ℕ) → Remembers self.old.node self.old.store genesis n → OnOk result (Remembers self.new.node self.new.store genesis n) }
-        ensures remembers_on { D.is_honest → (genesis : Genesis) (n : ℕ) → Remembers self.old.node self.old.store genesis n → IfErr result (IfSend (λ notes. Remembers self.new.node self.new.store genesis n)) }
-        // At Ok it has written the outbox of its step, given its notes and sent its letters in order, and nothing else. Under
-        // `Send` the letters whose send failed are lost.
-        ensures exact { D.is_honest → P.is_telling → IfOk result (λ notes. IsTaken (meaning M.first M.next M.answer) M.IsText D.is_metered self.old input.entry self.new notes.items (λ letters. P.sent post.new ≡ P.sent post.old ++ letters)) }
-        ensures exact_send { D.is_honest → P.is_telling → IfErr result (IfSend (λ notes. IsTaken (meaning M.first M.next M.answer) M.IsText D.is_metered self.old input.entry self.new notes (λ letters. SendsSome letters (P.sent post.old) (P.sent post.new) (P.failures post.old) (P.failures post.new)))) }
-        // What it can execute it has executed.
-        ensures runs { OnOk result (NothingToRun self.new.node) }
-        ensures runs_on { IfErr result (IfSend (λ notes. NothingToRun self.new.node)) }
-        ensures sends_on { IfErr result (IfSend (λ notes. self.new.failed ≡ false)) }
-        ensures broken { IfErr result (λ e. (fault_number e ≡ 15 → ⊥) → self.new.failed ≡ true) }
-        // Nothing is sent then.
-        ensures silent { P.is_telling → IfErr result (λ e. (fault_number e ≡ 15 → ⊥) → P.sent post.new ≡ P.sent post.old) }
-        // Nothing but 7, 8, 11, 14 and 15 comes, and 14 exactly where the node has halted.
-        ensures told { IfErr result IsOfCalls }
-        ensures halts { IsErrOf result ReplicaFault.Halted → self.new.node.halted ≡ true }
-        ensures awake { OnOk result (self.new.node.halted ≡ false) }
-        ensures awake_err { self.old.node.halted ≡ false → IfErr result (λ e. (fault_number e ≡ 14 → ⊥) → self.new.node.halted ≡ false) }
-        // After any exit neither file is longer than it was, or else than half of what a file may hold, and a step.
-        ensures room { D.is_honest → StaysWithin max_behind (disks self.old.store) (disks self.new.store) }
-        // Where no call of the device has failed, a refusal leaves both files as they were, or as a rebase that was due left them.
-        ensures stays { D.is_honest → IfErr result (IfSpared (AreLeft self.old.node self.old.store self.new.store)) }
-        // `Device` comes exactly where a call of the device has failed, and `Send` exactly where some of the post's did.
+        // What is on the disks after any exit: neither file has grown above half of what a file may hold, and a step.
+        ensures disks { D.is_honest → LeavesDisks (meaning M.first M.next M.answer) (λ h. InputFits h input.entry) max_behind self.old.node self.old.store (disks self.new.store) }
+        // Nothing but 7, 8, 11, 14 and 15 comes, each for its cause, and all but 15 end it.
+        ensures refused { IfErr result (λ e. IsRefused D.is_honest D.is_metered self.old self.new (fault_number e)) }
+        // Under `Send` some sends have failed, and under another refusal nothing is sent.
+        ensures sends { IfErr result (λ e. RefusesSends P.is_telling (fault_number e) (P.sent post.old) (P.sent post.new) (P.failures post.old) (P.failures post.new)) }
+        // `Device` comes exactly where a call of the device has failed.
         ensures cause { CountsFailure self.old.store.failures self.new.store.failures result }
-        ensures cause_send { IfErr result (IfSend (λ notes. (lost : ℕ) × (lost ≢ 0) × (P.failures post.new ≡ more_by lost (P.failures post.old)))) }
-        ensures metered { D.is_metered → D.is_honest → IfErr result (λ e. RefusedAfter (fault_number e) self.old.store.meter self.new.store.meter) }
         ensures failed { self.old.failed ≡ true → IsErrOf result ReplicaFault.Failed }
-        // Nothing but an earlier refusal, its own or its store's, makes it answer `Failed`, or a rebase after the last generation:
-        // a call makes two at most.
-        ensures failed_before { self.old.failed ≡ false → self.old.store.failed ≡ false → self.old.store.generation + 1 < max_count → IsErrOf result ReplicaFault.Failed → ⊥ }
         // Where a rebase is due at generation 2^48 it answers `Failed`, also where memory is refused, or `Device` where the device fails.
         ensures last { D.is_honest → max_count ≤ self.old.store.generation → IsDue self.old.node self.old.store → IsErrAnd result (λ e. WantsNoMemory (fault_number e)) }
-        ensures store_alive { OnOk result (self.new.store.failed ≡ false) }
-        ensures store_sends_on { IfErr result (IfSend (λ notes. self.new.store.failed ≡ false)) }
-        ensures stays_failed { self.old.failed ≡ true → self.new ≡ self.old }
-        ensures alive { OnOk result (self.new.failed ≡ false) }
     {
         if self.failed {
             return Err(ReplicaFault::Failed);
@@ -252,30 +222,17 @@ fn rebase_and_step<M: Machine, D: LogDisk + Drop>(
     requires { store.old.format ≡ 2 }
     ensures goes { D.is_honest → (h : History) (n : ℕ) → NodeFits (meaning M.first M.next M.answer) h n (Stands (meaning M.first M.next M.answer) node.old store.old h.genesis n) (disks store.old) → InputFits h input.entry
         → IfOk result (λ o. (sent : List LetterValue) → AreOf sent o.letters → Goes (meaning M.first M.next M.answer) h n (Stands (meaning M.first M.next M.answer) node.new store.new h.genesis n) (disks store.new) o.notes (batch_of n sent)) }
-    ensures ends { D.is_honest → (h : History) (n : ℕ) → NodeFits (meaning M.first M.next M.answer) h n (Stands (meaning M.first M.next M.answer) node.old store.old h.genesis n) (disks store.old) → InputFits h input.entry
-        → DisksFit (meaning M.first M.next M.answer) h n (disks store.new) }
     ensures syncs { D.is_honest → (genesis : Genesis) (n : ℕ) (x : NodeMessage) → Remembers node.old store.old genesis n
         → IfOk result (λ o. (d : DatagramValue) → Contains (batch_of n o.letters) d → Spells (said_by genesis n x) d.bytes → AllCover (meaning M.first M.next M.answer) genesis n (disks store.new) x) }
-    ensures covers { D.is_honest → (genesis : Genesis) (n : ℕ) (x : NodeMessage) → Remembers node.old store.old genesis n
-        → AllCover (meaning M.first M.next M.answer) genesis n (disks store.old) x → AllCover (meaning M.first M.next M.answer) genesis n (disks store.new) x }
-    ensures remembers { D.is_honest → (genesis : Genesis) (n : ℕ) → Remembers node.old store.old genesis n → OnOk result (Remembers node.new store.new genesis n) }
     ensures exact { D.is_honest → IfOk result (λ o. (mid : NodeValue) × (between : StoreValue) × RebasesWhereDue node.old store.old mid between
         × (stepped : NodeValue) × Steps (meaning M.first M.next M.answer) M.IsText mid input.entry stepped o × Writes stepped between o node.new store.new) }
     ensures calls { D.is_metered → D.is_honest → IfOk result (λ o. CallsOfStep node.old store.old o store.new) }
-    ensures metered { D.is_metered → D.is_honest → IfErr result (λ e. RefusedAfter (fault_number e) store.old.meter store.new.meter) }
-    ensures runs { NothingToRun node.old → OnOk result (NothingToRun node.new) }
+    ensures alive { OnOk result (StepsOn D.is_honest node.old store.old node.new store.new) }
+    ensures disks { D.is_honest → LeavesDisks (meaning M.first M.next M.answer) (λ h. InputFits h input.entry) max_behind node.old store.old (disks store.new) }
+    ensures refused { IfErr result (IsCutShort D.is_honest D.is_metered 2 node.old store.old node.new store.new (AreLeft node.old store.old store.new)) }
     ensures format { store.new.format ≡ 2 }
-    ensures alive { OnOk result (store.new.failed ≡ false) }
-    ensures only { IfErr result (IfSend (λ notes. ⊥)) }
-    ensures told { IfErr result IsOfCalls }
-    ensures halts { IsErrOf result ReplicaFault.Halted → node.new.halted ≡ true }
-    ensures awake { OnOk result (node.new.halted ≡ false) }
-    ensures awake_err { node.old.halted ≡ false → IfErr result (λ e. (fault_number e ≡ 14 → ⊥) → node.new.halted ≡ false) }
-    ensures failed_before { store.old.failed ≡ false → store.old.generation + 1 < max_count → IsErrOf result ReplicaFault.Failed → ⊥ }
     ensures last { D.is_honest → max_count ≤ store.old.generation → IsDue node.old store.old → IsErrAnd result (λ e. WantsNoMemory (fault_number e)) }
     ensures cause { CountsFailure store.old.failures store.new.failures result }
-    ensures stays { D.is_honest → IfErr result (IfSpared (AreLeft node.old store.old store.new)) }
-    ensures room { D.is_honest → StaysWithin max_behind (disks store.old) (disks store.new) }
 {
     rebase_where_due(node, store)?;
     let outbox = step_to_disk(node, store, input)?;

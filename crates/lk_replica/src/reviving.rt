@@ -1,9 +1,8 @@
 // Reviving what a stop left.
-ghost use Rattle.std.specs.Prelude.{◌≡◌, ◌⊎◌, ℕ, ◌+◌, ◌*◌, ◌≤◌, [], false, length, nat_le, Contains, IfOk, IfErr, IsErrOf, MatchResult};
+ghost use Rattle.std.specs.Prelude.{◌≡◌, ◌⊎◌, ℕ, ◌+◌, ◌*◌, ◌≤◌, [], length, nat_le, Contains, IfOk, IfErr, IsErrOf, MatchResult};
 ghost use Rattle.std.specs.List.{list_all};
 ghost use Rattle.lk_disk.specs.declared.device.Side.{Side};
-ghost use Rattle.lk_log.specs.Images.{IsDamaged, seen};
-ghost use Rattle.lk_log.specs.Stores.{IsWrong, NarrowsOrBegins, StandsForSome};
+ghost use Rattle.lk_log.specs.Stores.{NarrowsOrBegins, StandsForSome};
 ghost use Rattle.lk_log.specs.StoreValue.{disks};
 ghost use Rattle.lk_log.specs.Rooms.{StaysWithin};
 ghost use Rattle.lk_types.specs.Limits.{max_base};
@@ -12,14 +11,13 @@ ghost use Rattle.lk_state.specs.Packed.{Packs};
 ghost use Rattle.lk_state.specs.States.{WholeValue};
 ghost use Rattle.lk_history.specs.Datagrams.{NodeMessage};
 ghost use Rattle.lk_node.specs.Calls.{Goes};
-ghost use Rattle.lk_replica.specs.Compacting.{AreSame};
 ghost use Rattle.lk_replica.specs.Remembering.{Remembers};
 ghost use Rattle.lk_replica.specs.Faults.{fault_number, failures_by, RefusedAfter};
 ghost use Rattle.lk_node.specs.Executing.{NothingToRun};
 ghost use Rattle.lk_node.specs.Histories.{History, Genesis as GenesisValue, IsLawful};
 ghost use Rattle.lk_node.specs.Keeping.{Stands};
 ghost use Rattle.lk_node.specs.Leavings.{header_of, DisksFit, AllCover};
-ghost use Rattle.lk_replica.specs.Revivals.{Unpacks, MayRevive, Restores, TakesUp, Revives, NoneRevives, CallsOfOpening, CallsOfRevival, IsLastOld, NarrowsOrRenews};
+ghost use Rattle.lk_replica.specs.Revivals.{Unpacks, MayRevive, Restores, TakesUp, IsTakenUp, Revives, MayGoOn, IsRefusedFor, CallsOfOpening, CallsOfRevival, NarrowsOrRenews};
 ghost use Rattle.lk_node.specs.Served.{text};
 
 use crate::fault::ReplicaFault;
@@ -119,41 +117,34 @@ fn take_up<M: Machine, D: LogDisk + Drop>(
     device: D,
     header: &Header,
 ) -> Result<TakenUp<M, D>, ReviveFault<D>>
-    ensures up { D.is_honest → (h : History) (n : ℕ) → header.now ≡ header_of h.genesis n → IsLawful (meaning M.first M.next M.answer) h → DisksFit (meaning M.first M.next M.answer) h n (D.disk device)
-        → IfOk result (λ r. Goes (meaning M.first M.next M.answer) h n (Stands (meaning M.first M.next M.answer) r.node r.store h.genesis n) (disks r.store) r.notes.items []) }
-    ensures down { D.is_honest → (h : History) (n : ℕ) → header.now ≡ header_of h.genesis n → IsLawful (meaning M.first M.next M.answer) h → DisksFit (meaning M.first M.next M.answer) h n (D.disk device)
-        → IfErr result (λ e. DisksFit (meaning M.first M.next M.answer) h n (D.disk e.device)) }
+    // Where the disks fit a history, what is taken up goes on in it, and what a refusal leaves fits it.
+    ensures fits { D.is_honest → (h : History) (n : ℕ) → header.now ≡ header_of h.genesis n → IsLawful (meaning M.first M.next M.answer) h → DisksFit (meaning M.first M.next M.answer) h n (D.disk device)
+        → MatchResult result
+        (λ r. Goes (meaning M.first M.next M.answer) h n (Stands (meaning M.first M.next M.answer) r.node r.store h.genesis n) (disks r.store) r.notes.items [])
+        (λ e. DisksFit (meaning M.first M.next M.answer) h n (D.disk e.device)) }
     // Whatever every image covered, every image covers.
     ensures covers { D.is_honest → (genesis : GenesisValue) (n : ℕ) (x : NodeMessage) → header.now ≡ header_of genesis n → AllCover (meaning M.first M.next M.answer) genesis n (D.disk device) x
-        → IfOk result (λ r. AllCover (meaning M.first M.next M.answer) genesis n (disks r.store) x) }
-    ensures covers_err { D.is_honest → (genesis : GenesisValue) (n : ℕ) (x : NodeMessage) → header.now ≡ header_of genesis n → AllCover (meaning M.first M.next M.answer) genesis n (D.disk device) x
-        → IfErr result (λ e. AllCover (meaning M.first M.next M.answer) genesis n (D.disk e.device) x) }
+        → MatchResult result (λ r. AllCover (meaning M.first M.next M.answer) genesis n (disks r.store) x) (λ e. AllCover (meaning M.first M.next M.answer) genesis n (D.disk e.device) x) }
     // Its store keeps what its acceptor holds, whatever the disks have been through.
     ensures remembers { D.is_honest → (genesis : GenesisValue) (n : ℕ) → header.now ≡ header_of genesis n → IfOk result (λ r. Remembers r.node r.store genesis n) }
     // What the disks stand for is what is revived, and nothing else is executed.
     ensures exact { D.is_honest → IfOk result (λ r. TakesUp (meaning M.first M.next M.answer) M.IsText (D.disk device) header.now r.node r.store r.notes.items) }
-    ensures damaged { D.is_honest → IfErr result (λ e. fault_number e.fault ≡ 9 → IsDamaged (seen (D.disk device)) ⊎ NoneRevives (meaning M.first M.next M.answer) M.IsText (D.disk device) header.now) }
-    ensures wrong { D.is_honest → IfErr result (λ e. fault_number e.fault ≡ 10 → IsWrong (seen (D.disk device)) header.now) }
-    // A damaged store and another's stay as they are.
-    ensures damaged_stays { D.is_honest → IsDamaged (seen (D.disk device)) → IfErr result (λ e. fault_number e.fault ≡ 9 → AreSame (D.disk device) (D.disk e.device)) }
-    ensures wrong_stays { D.is_honest → IfErr result (λ e. fault_number e.fault ≡ 10 → AreSame (D.disk device) (D.disk e.device)) }
+    // Nothing of it has failed, and it has executed what it can.
+    ensures ready { IfOk result (λ r. IsTakenUp header.now r.node r.store) }
+    // A refusal has its cause. A damaged store and another's stay as they are.
+    ensures refused { D.is_honest → IfErr result (λ e. IsRefusedFor (meaning M.first M.next M.answer) M.IsText (D.disk device) header.now (fault_number e.fault) (D.disk e.device)) }
     // After a refusal each image comes to what an image before it came to, or to a store that is begun.
     ensures stays_err { D.is_honest → (genesis : GenesisValue) → header.now ≡ header_of genesis header.now.node
         → IfErr result (λ e. NarrowsOrBegins (D.disk device) (D.disk e.device) header.now (text (meaning M.first M.next M.answer) genesis [])) }
-    ensures only { IfErr result (λ e. (7 ≤ fault_number e.fault) × (fault_number e.fault ≤ 10)) }
-    // `Device` comes exactly where a call of the device has failed.
-    ensures cause { MatchResult result (λ r. r.store.failures ≡ D.failures device) (λ e. D.failures e.device ≡ failures_by (fault_number e.fault) (D.failures device)) }
+    // It refuses with 7 to 10, and with `Device` exactly where a call of the device has failed.
+    ensures cause { MatchResult result
+        (λ r. r.store.failures ≡ D.failures device)
+        (λ e. (7 ≤ fault_number e.fault) × (fault_number e.fault ≤ 10) × (D.failures e.device ≡ failures_by (fault_number e.fault) (D.failures device))) }
     ensures metered { D.is_metered → D.is_honest → MatchResult result
         (λ r. CallsOfOpening (D.disk device) (D.meter device) r.store.meter)
         (λ e. RefusedAfter (fault_number e.fault) (D.meter device) (D.meter e.device)) }
     // After any exit neither file is longer than it was, or else than a Base.
-    ensures room { D.is_honest → IfOk result (λ r. StaysWithin max_base (D.disk device) (disks r.store)) }
-    ensures room_err { D.is_honest → IfErr result (λ e. StaysWithin max_base (D.disk device) (D.disk e.device)) }
-    ensures whose { IfOk result (λ r. r.store.header ≡ header.now) }
-    ensures store_alive { IfOk result (λ r. r.store.failed ≡ false) }
-    ensures awake { IfOk result (λ r. r.node.halted ≡ false) }
-    // What it can execute it has executed.
-    ensures runs { IfOk result (λ r. NothingToRun r.node) }
+    ensures room { D.is_honest → MatchResult result (λ r. StaysWithin max_base (D.disk device) (disks r.store)) (λ e. StaysWithin max_base (D.disk device) (D.disk e.device)) }
 {
     header.genesis().facts();
     let Ok(zero) = zero_text::<M>(alloc, header.genesis()) else {
@@ -190,45 +181,36 @@ impl<M: Machine, D: LogDisk + Drop> Replica<M, D> {
         device: D,
         header: &Header,
     ) -> Result<Revived<Replica<M, D>>, ReviveFault<D>>
-        ensures up { D.is_honest → (h : History) (n : ℕ) → header.now ≡ header_of h.genesis n → IsLawful (meaning M.first M.next M.answer) h → DisksFit (meaning M.first M.next M.answer) h n (D.disk device)
-            → IfOk result (λ r. Goes (meaning M.first M.next M.answer) h n (Stands (meaning M.first M.next M.answer) r.replica.node r.replica.store h.genesis n) (disks r.replica.store) r.notes.items []) }
-        ensures down { D.is_honest → (h : History) (n : ℕ) → header.now ≡ header_of h.genesis n → IsLawful (meaning M.first M.next M.answer) h → DisksFit (meaning M.first M.next M.answer) h n (D.disk device)
-            → IfErr result (λ e. DisksFit (meaning M.first M.next M.answer) h n (D.disk e.device)) }
+        // Where the disks fit a history, the replica goes on in it, and what a refusal leaves fits it.
+        ensures fits { D.is_honest → (h : History) (n : ℕ) → header.now ≡ header_of h.genesis n → IsLawful (meaning M.first M.next M.answer) h → DisksFit (meaning M.first M.next M.answer) h n (D.disk device)
+            → MatchResult result
+            (λ r. Goes (meaning M.first M.next M.answer) h n (Stands (meaning M.first M.next M.answer) r.replica.node r.replica.store h.genesis n) (disks r.replica.store) r.notes.items [])
+            (λ e. DisksFit (meaning M.first M.next M.answer) h n (D.disk e.device)) }
         // Whatever every image covered, every image covers.
         ensures covers { D.is_honest → (genesis : GenesisValue) (n : ℕ) (x : NodeMessage) → header.now ≡ header_of genesis n → AllCover (meaning M.first M.next M.answer) genesis n (D.disk device) x
-            → IfOk result (λ r. AllCover (meaning M.first M.next M.answer) genesis n (disks r.replica.store) x) }
-        ensures covers_err { D.is_honest → (genesis : GenesisValue) (n : ℕ) (x : NodeMessage) → header.now ≡ header_of genesis n → AllCover (meaning M.first M.next M.answer) genesis n (D.disk device) x
-            → IfErr result (λ e. AllCover (meaning M.first M.next M.answer) genesis n (D.disk e.device) x) }
+            → MatchResult result (λ r. AllCover (meaning M.first M.next M.answer) genesis n (disks r.replica.store) x) (λ e. AllCover (meaning M.first M.next M.answer) genesis n (D.disk e.device) x) }
         // Its store keeps what its acceptor holds, whatever the disks have been through.
         ensures remembers { D.is_honest → (genesis : GenesisValue) (n : ℕ) → header.now ≡ header_of genesis n → IfOk result (λ r. Remembers r.replica.node r.replica.store genesis n) }
-        // What the disks stand for is what is revived, and nothing else is executed.
+        // What the disks stand for is what is revived, and nothing else is executed. A file of format 1 that has generation 2^48 is never
+        // revived.
         ensures exact { D.is_honest → IfOk result (λ r. Revives (meaning M.first M.next M.answer) M.IsText (D.disk device) header.now r.replica r.notes.items) }
-        ensures damaged { D.is_honest → IfErr result (λ e. fault_number e.fault ≡ 9 → IsDamaged (seen (D.disk device)) ⊎ NoneRevives (meaning M.first M.next M.answer) M.IsText (D.disk device) header.now) }
-        ensures wrong { D.is_honest → IfErr result (λ e. fault_number e.fault ≡ 10 → IsWrong (seen (D.disk device)) header.now) }
-        // A damaged store and another's stay as they are.
-        ensures damaged_stays { D.is_honest → IsDamaged (seen (D.disk device)) → IfErr result (λ e. fault_number e.fault ≡ 9 → AreSame (D.disk device) (D.disk e.device)) }
-        ensures wrong_stays { D.is_honest → IfErr result (λ e. fault_number e.fault ≡ 10 → AreSame (D.disk device) (D.disk e.device)) }
+        // It can take calls: nothing of it has failed, and it has executed what it can.
+        ensures ready { IfOk result (λ r. MayGoOn r.replica) }
+        // A refusal has its cause. A damaged store and another's stay as they are.
+        ensures refused { D.is_honest → IfErr result (λ e. IsRefusedFor (meaning M.first M.next M.answer) M.IsText (D.disk device) header.now (fault_number e.fault) (D.disk e.device)) }
         // After a refusal each image comes to what an image before it came to, or to a store that is begun, or to what was found in a
         // file of format 1 or the Base that was to take its place.
         ensures stays_err { D.is_honest → (genesis : GenesisValue) → header.now ≡ header_of genesis header.now.node
             → IfErr result (λ e. NarrowsOrRenews (D.disk device) (D.disk e.device) header.now (text (meaning M.first M.next M.answer) genesis [])) }
-        // `Failed` comes only where the file has format 1 and no generation is left for a rebase.
-        ensures last { D.is_honest → IfErr result (λ e. fault_number e.fault ≡ 11 → IsLastOld (seen (D.disk device))) }
-        ensures only { IfErr result (λ e. (7 ≤ fault_number e.fault) × (fault_number e.fault ≤ 11)) }
-        // `Device` comes exactly where a call of the device has failed.
-        ensures cause { MatchResult result (λ r. r.replica.store.failures ≡ D.failures device) (λ e. D.failures e.device ≡ failures_by (fault_number e.fault) (D.failures device)) }
+        // It refuses with 7 to 11, and with `Device` exactly where a call of the device has failed.
+        ensures cause { MatchResult result
+            (λ r. r.replica.store.failures ≡ D.failures device)
+            (λ e. (7 ≤ fault_number e.fault) × (fault_number e.fault ≤ 11) × (D.failures e.device ≡ failures_by (fault_number e.fault) (D.failures device))) }
         ensures metered { D.is_metered → D.is_honest → MatchResult result
             (λ r. CallsOfRevival (D.disk device) (D.meter device) r.replica.store.meter)
             (λ e. RefusedAfter (fault_number e.fault) (D.meter device) (D.meter e.device)) }
         // After any exit neither file is longer than it was, or else than a Base.
-        ensures room { D.is_honest → IfOk result (λ r. StaysWithin max_base (D.disk device) (disks r.replica.store)) }
-        ensures room_err { D.is_honest → IfErr result (λ e. StaysWithin max_base (D.disk device) (D.disk e.device)) }
-        ensures format { IfOk result (λ r. r.replica.store.format ≡ 2) }
-        ensures alive { IfOk result (λ r. r.replica.failed ≡ false) }
-        ensures store_alive { IfOk result (λ r. r.replica.store.failed ≡ false) }
-        ensures awake { IfOk result (λ r. r.replica.node.halted ≡ false) }
-        // What it can execute it has executed.
-        ensures runs { IfOk result (λ r. NothingToRun r.replica.node) }
+        ensures room { D.is_honest → MatchResult result (λ r. StaysWithin max_base (D.disk device) (disks r.replica.store)) (λ e. StaysWithin max_base (D.disk device) (D.disk e.device)) }
     {
         let mut up: TakenUp<M, D> = match take_up(alloc, device, header) {
             Ok(up) => up,

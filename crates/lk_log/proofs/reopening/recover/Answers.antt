@@ -1,4 +1,4 @@
-use Rattle.std.proofs.Common.{rules, ap, refl, inl}
+use Rattle.std.proofs.Common.{◌∙◌, rules, ap, refl, inl}
 use Rattle.lk_disk.specs.Disk.{contents, other}
 use Rattle.lk_log.specs.Images.{seen}
 use Rattle.lk_log.proofs.BeginLaws.{begins_same, begins_after}
@@ -44,8 +44,10 @@ returns-in-Some-clause-stays g c honest =
 pub returns-in-Some-clause-wrong : goal.returns-in-Some-clause-wrong
 returns-in-Some-clause-wrong g c honest e =
     let old = g.D.LogDisk.disk c.args.device.now in
-    let found = rw c.in-Some.is at (c.in_ok-live.ensures.live honest) in
-    (c.in-Some.file.entries.items, found_is_live old c.in-Some.live c.in-Some.file.entries.items c.in-Some.file.end c.in-Some.file.size found, c.open.ensures.wrong e)
+    let found = rw c.in-Some.is at (c.in_ok-live.ensures.live honest) in (
+      (c.in-Some.file.entries.items, found_is_live old c.in-Some.live c.in-Some.file.entries.items c.in-Some.file.end c.in-Some.file.size found, c.open.ensures.wrong e),
+      λ s. c.open.ensures.wrong_stays honest e s ∙ c.find.ensures.unchanged honest s,
+    )
 
 pub returns-in-None-clause-opens : goal.returns-in-None-clause-opens
 returns-in-None-clause-opens g c honest =

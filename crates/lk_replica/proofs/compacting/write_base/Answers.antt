@@ -135,7 +135,7 @@ returns-in_err-standing-clause-of_store g c = refused_as _ fault.NoMemory c.from
 pub returns-in_err-rebase-clause-of_store : goal.returns-in_err-rebase-clause-of_store
 returns-in_err-rebase-clause-of_store g c =
     refused_as _ _ c.from_residual-in_err-rebase.ensures.1
-    (rebase_refused c.args.store.now _ c.in_err-rebase.ensures.refuses (λ last. (c.in_err-rebase.ensures.last last).1) c.in_err-rebase.ensures.only)
+    (rebase_refused c.args.store.now _ (λ dead. (c.in_err-rebase.ensures.refuses.0 dead).1) (λ last. (c.in_err-rebase.ensures.refuses.1 last).1) c.in_err-rebase.ensures.refuses.2)
 
 -- ---- what a refusal leaves
 
@@ -145,7 +145,7 @@ returns-in_err-standing-clause-stays g c honest = spared_as _ _ fault.NoMemory c
 pub returns-in_err-rebase-clause-stays : goal.returns-in_err-rebase-clause-stays
 returns-in_err-rebase-clause-stays g c honest =
     spared_as _ _ _ c.from_residual-in_err-rebase.ensures.1
-    (rebase_spares c.args.store.now c.rebase.new.self _ (c.in_err-rebase.ensures.no_memory honest) c.rebase.ensures.failed (λ last. (c.in_err-rebase.ensures.last last).0) c.in_err-rebase.ensures.only)
+    (rebase_spares c.args.store.now c.rebase.new.self _ (c.in_err-rebase.ensures.no_memory honest) (λ dead. (c.rebase.ensures.refuses.0 dead).0) (λ last. (c.in_err-rebase.ensures.refuses.1 last).0) c.in_err-rebase.ensures.refuses.2)
 
 -- ---- what it remembers
 

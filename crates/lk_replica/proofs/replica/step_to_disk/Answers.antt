@@ -88,13 +88,13 @@ pub returns-in_err-put-clause-room : goal.returns-in_err-put-clause-room
 returns-in_err-put-clause-room g c honest small =
     let is : c.deref.result.now ≡ c.in_ok-outbox.outbox.entries = c.deref.ensures.value ∙ ap (λ (o : OutboxValue). o.entries) c.outbox.view_is in
     let few : length c.in_ok-outbox.outbox.entries ≤ 16 = few_entries _ _ c.args.node.now _ c.step.new.self c.in_ok-outbox.outbox c.in_ok-outbox.ensures.steps in
-    behind_room (disks c.args.store.now) c.args.store.now c.put.new.self (within_same 49152 (disks c.args.store.now) (disks c.args.store.now) (λ s. refl)) small c.put.ensures.live (omega (arith, c.put.ensures.grows honest, few, ap length is)) (c.put.ensures.other_disk honest)
+    behind_room (disks c.args.store.now) c.args.store.now c.put.new.self (within_same 49152 (disks c.args.store.now) (disks c.args.store.now) (λ s. refl)) small c.put.ensures.file.0 (omega (arith, c.put.ensures.grows honest, few, ap length is)) (c.put.ensures.beside honest).0
 
 pub returns-clause-room : goal.returns-clause-room
 returns-clause-room g c honest small =
     let is : c.deref.result.now ≡ c.in_ok-outbox.outbox.entries = c.deref.ensures.value ∙ ap (λ (o : OutboxValue). o.entries) c.outbox.view_is in
     let few : length c.in_ok-outbox.outbox.entries ≤ 16 = few_entries _ _ c.args.node.now _ c.step.new.self c.in_ok-outbox.outbox c.in_ok-outbox.ensures.steps in
-    behind_room (disks c.args.store.now) c.args.store.now c.put.new.self (within_same 49152 (disks c.args.store.now) (disks c.args.store.now) (λ s. refl)) small c.put.ensures.live (omega (arith, c.put.ensures.grows honest, few, ap length is)) (c.put.ensures.other_disk honest)
+    behind_room (disks c.args.store.now) c.args.store.now c.put.new.self (within_same 49152 (disks c.args.store.now) (disks c.args.store.now) (λ s. refl)) small c.put.ensures.file.0 (omega (arith, c.put.ensures.grows honest, few, ap length is)) (c.put.ensures.beside honest).0
 
 -- ---- a step that rebases
 
@@ -158,7 +158,7 @@ returns-in_err-outbox-clause-stays g c honest = spared_as _ _ fault.Halted c.fro
 pub returns-in_err-put-clause-stays : goal.returns-in_err-put-clause-stays
 returns-in_err-put-clause-stays g c honest =
     spared_as _ _ _ c.from_residual-in_err-put.ensures.1
-    (put_spares c.args.store.now c.put.new.self _ c.put.ensures.live (c.put.ensures.other_disk honest) (c.in_err-put.ensures.no_memory honest) c.put.ensures.failed c.in_err-put.ensures.only)
+    (put_spares c.args.store.now c.put.new.self _ c.put.ensures.file.0 (c.put.ensures.beside honest).0 (c.in_err-put.ensures.beside honest).1 (λ dead. (c.put.ensures.refuses.0 dead).0) c.in_err-put.ensures.refuses.1)
 
 pub returns-in_err-write_base-clause-stays : goal.returns-in_err-write_base-clause-stays
 returns-in_err-write_base-clause-stays g c honest = spared_as _ _ _ c.from_residual-in_err-write_base.ensures.1 (c.in_err-write_base.ensures.stays honest)

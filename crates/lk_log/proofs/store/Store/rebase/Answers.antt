@@ -5,7 +5,7 @@ use Rattle.lk_log.specs.Values.{BaseValue}
 use Rattle.lk_disk.specs.Disk.{other, contents}
 use Rattle.lk_disk.specs.declared.device.Side.{Side}
 use Rattle.lk_log.specs.declared.stored.Stored.TheVariants.{Base}
-use Rattle.lk_log.proofs.RebaseLaws.{base_fits, keeps_pick, keeps_still, held_at}
+use Rattle.lk_log.proofs.RebaseLaws.{base_fits, keeps_pick, keeps_still, held_at, left_at}
 use Rattle.lk_log.specs.Rooms.{StaysWithin}
 use Rattle.lk_log.proofs.Room.{within_same, within_pick, within_from, spelling_room}
 use Rattle.lk_log.proofs.store.Store.rebase.Goals as goal
@@ -101,13 +101,15 @@ returns-clause-room g c honest =
     subst (λ (s : StoreValue). StaysWithin 49152 (disks s) (pick live (new live) (new (other live)))) c.self.view_is
     (within_from 49152 c.self.inside.live old (pick live (new live) (new (other live))) (within_pick 49152 live old new (c.go_over.ensures.room honest few)))
 
-pub returns-clause-short : goal.returns-clause-short
-returns-clause-short g c honest =
+pub returns-clause-left : goal.returns-clause-left
+returns-clause-left g c honest =
     let new = g.D.LogDisk.disk c.go_over.new.device in
     let b : BaseValue = record { generation = c.self.inside.generation + 1; format = 2; header = c.self.inside.header; standing = c.args.standing.now } in
     let fits = base_fits b refl (omega arith, omega (arith, c.if-self-ge-MAX_COUNT.false)) c.facts.ensures c.facts-2.ensures.promised c.facts-2.ensures.position c.facts-2.ensures.votes c.facts-2.ensures.pairs c.requires in
-    let few : length c.deref.result.now ≤ 49152 = omega (arith, ap length (c.deref.ensures ∙ c.in_ok-bytes.ensures), spelling_room (Base b) fits) in
-    subst (λ (k : Side). length (contents (new k)) ≤ 49152) (sym c.other-self-inside.ensures) (c.in_ok-go_over.ensures.short honest few)
+    let few : length c.deref.result.now ≤ 49152 = omega (arith, ap length (c.deref.ensures ∙ c.in_ok-bytes.ensures), spelling_room (Base b) fits) in (
+      left_at new c.self.inside.live c.other-self-inside.result c.other-self-inside.ensures (c.in_ok-go_over.ensures.left honest),
+      subst (λ (k : Side). length (contents (new k)) ≤ 49152) (sym c.other-self-inside.ensures) (c.in_ok-go_over.ensures.short honest few),
+    )
 
 -- ---- which calls were made
 

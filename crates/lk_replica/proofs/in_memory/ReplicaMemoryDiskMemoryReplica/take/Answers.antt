@@ -1,4 +1,5 @@
-use Rattle.std.proofs.Common.{rules, ◌≡◌, ◌∙◌, List, ◌++◌, Result, Ok, Err, IfErr, OnErr, Contains, ap, sym, subst}
+use Rattle.std.proofs.Common.{◌≡◌, ◌∙◌, List, ◌++◌, Result, Ok, Err, OnErr, Contains, ap, sym, subst}
+use Rattle.std.specs.Prelude.{⊤}
 use Rattle.lk_log.specs.StoreValue.{device_of}
 use Rattle.lk_log.specs.Values.{HeaderValue}
 use Rattle.lk_disk.specs.Memory.{disk_of}
@@ -8,10 +9,10 @@ use Rattle.lk_node.specs.Histories.{Datagram}
 use Rattle.lk_node.specs.Keeping.{Stands}
 use Rattle.lk_node.specs.Leavings.{DisksFit, AllCover}
 use Rattle.lk_node.specs.Letters.{batch_of}
-use Rattle.lk_replica.specs.Faults.{fault_number, IsNumberOfCalls}
+use Rattle.lk_replica.specs.Faults.{fault_number}
 use Rattle.lk_replica.specs.Posts.{CollectedValue}
 use Rattle.lk_replica.specs.Taking.{IsOfLast, IsRefused}
-use Rattle.lk_replica.proofs.Calling.{also_as}
+use Rattle.lk_replica.proofs.Calling.{err_as}
 use Rattle.lk_replica.proofs.Going.{remembered}
 use Rattle.lk_replica.proofs.OnDevices.{on_device, off_device}
 use Rattle.lk_replica.proofs.in_memory.ReplicaMemoryDiskMemoryReplica.take.Goals as goal
@@ -47,33 +48,32 @@ returns-in_err-notes-clause-ends g c h n fits heard =
     let m : Meaning = meaning g.M.Machine.first g.M.Machine.next g.M.Machine.answer in
     let own = c.args.self.now in
     on_err c.from_residual.result _ (on_device (DisksFit m h n) c.take.new.self.store
-    (c.take.ensures.ends tt h n (off_device (λ d. NodeFits m h n (Stands m own.node own.store h.genesis n) d) own.store fits) heard))
+    ((c.take.ensures.disks tt).ends h n (off_device (λ d. NodeFits m h n (Stands m own.node own.store h.genesis n) d) own.store fits) heard))
 
 pub returns-in-Err-clause-ends : goal.returns-in-Err-clause-ends
 returns-in-Err-clause-ends g c h n fits heard =
     let m : Meaning = meaning g.M.Machine.first g.M.Machine.next g.M.Machine.answer in
     let own = c.args.self.now in
     on_device (DisksFit m h n) c.take.new.self.store
-    (c.take.ensures.ends tt h n (off_device (λ d. NodeFits m h n (Stands m own.node own.store h.genesis n) d) own.store fits) heard)
+    ((c.take.ensures.disks tt).ends h n (off_device (λ d. NodeFits m h n (Stands m own.node own.store h.genesis n) d) own.store fits) heard)
 
 pub returns-in_err-notes-clause-covers : goal.returns-in_err-notes-clause-covers
 returns-in_err-notes-clause-covers g c genesis n held x shown every =
     let m : Meaning = meaning g.M.Machine.first g.M.Machine.next g.M.Machine.answer in
-    on_device (λ d. AllCover m genesis n d x) c.take.new.self.store (c.take.ensures.covers tt genesis n x (remembered m genesis n held c.args.self.now.node c.args.self.now.store shown) (off_device (λ d. AllCover m genesis n d x) c.args.self.now.store every))
+    on_device (λ d. AllCover m genesis n d x) c.take.new.self.store ((c.take.ensures.disks tt).covers genesis n x (remembered m genesis n held c.args.self.now.node c.args.self.now.store shown) (off_device (λ d. AllCover m genesis n d x) c.args.self.now.store every))
 
 pub returns-in-Ok-clause-covers : goal.returns-in-Ok-clause-covers
 returns-in-Ok-clause-covers g c genesis n held x shown every =
     let m : Meaning = meaning g.M.Machine.first g.M.Machine.next g.M.Machine.answer in
-    on_device (λ d. AllCover m genesis n d x) c.take.new.self.store (c.take.ensures.covers tt genesis n x (remembered m genesis n held c.args.self.now.node c.args.self.now.store shown) (off_device (λ d. AllCover m genesis n d x) c.args.self.now.store every))
+    on_device (λ d. AllCover m genesis n d x) c.take.new.self.store ((c.take.ensures.disks tt).covers genesis n x (remembered m genesis n held c.args.self.now.node c.args.self.now.store shown) (off_device (λ d. AllCover m genesis n d x) c.args.self.now.store every))
 
 pub returns-in-Err-clause-covers : goal.returns-in-Err-clause-covers
 returns-in-Err-clause-covers g c genesis n held x shown every =
     let m : Meaning = meaning g.M.Machine.first g.M.Machine.next g.M.Machine.answer in
-    on_device (λ d. AllCover m genesis n d x) c.take.new.self.store (c.take.ensures.covers tt genesis n x (remembered m genesis n held c.args.self.now.node c.args.self.now.store shown) (off_device (λ d. AllCover m genesis n d x) c.args.self.now.store every))
+    on_device (λ d. AllCover m genesis n d x) c.take.new.self.store ((c.take.ensures.disks tt).covers genesis n x (remembered m genesis n held c.args.self.now.node c.args.self.now.store shown) (off_device (λ d. AllCover m genesis n d x) c.args.self.now.store every))
 
 pub returns-in_err-notes-clause-refused : goal.returns-in_err-notes-clause-refused
 returns-in_err-notes-clause-refused g c =
     let own = c.args.self.now in
     let new = c.take.new.self in
-    let both : IfErr c.from_residual.result (λ e. IsRefused own new (fault_number e) × IsNumberOfCalls (fault_number e)) = search rules in
-    also_as (λ e. IsRefused own new (fault_number e)) (λ e. IsNumberOfCalls (fault_number e)) (λ e. IsOfLast own (fault_number e)) _ _ c.from_residual.ensures.1 (c.in_err-notes.ensures.last tt) both
+    err_as (λ e. IsRefused ⊤ ⊤ own new (fault_number e) × IsOfLast own (fault_number e)) _ _ c.from_residual.ensures.1 (c.in_err-notes.ensures.refused, c.in_err-notes.ensures.last tt)

@@ -1,4 +1,4 @@
-use Rattle.std.proofs.Common.{[], Err, ap, sym, subst, inl, inr}
+use Rattle.std.proofs.Common.{[], sym, subst, inl, inr, refl, ◌∙◌, arith}
 use Rattle.std.proofs.lemmas.Bool.{cases_lt}
 use Rattle.lk_types.specs.Limits.{max_count}
 use Rattle.lk_disk.specs.declared.meter.Meter.{Meter}
@@ -11,29 +11,27 @@ use Rattle.lk_node.specs.Keeping.{Stands}
 use Rattle.lk_node.specs.Packing.{standing_of}
 use Rattle.lk_node.specs.Served.{text}
 use Rattle.lk_replica.specs.Faults.{fault_number, RefusedAfter}
-use Rattle.lk_replica.specs.declared.fault.ReplicaFault.{ReplicaFault}
 use Rattle.lk_replica.proofs.Calling.{refused_on}
-use Rattle.lk_replica.proofs.Compactions.{failed_alone}
-use Rattle.lk_replica.proofs.Renewals.{goes_fit, then_goes, taken_keeps, revival_calls, renew_left, given_renew, last_old}
+use Rattle.lk_replica.proofs.Renewals.{goes_fit, then_goes, taken_keeps, revival_calls, renew_left, given_renew, last_old, of_last_old, not_of_store}
 use Rattle.lk_replica.proofs.Revivals.{given_fit, given_cover, given_room}
 use Rattle.lk_replica.proofs.replica.Replica.revive.Goals as goal
 
 pub invariant_of-result : goal.invariant_of-result
-invariant_of-result g c = (λ alive. c.in-Ok-renew.ensures.runs c.in-Ok.ensures.runs, c.in-Ok-renew.ensures.format)
+invariant_of-result g c = (λ alive. c.in-Ok-renew.ensures.ready.runs c.in-Ok.ensures.ready.runs, c.in-Ok-renew.ensures.ready.format)
 
-pub returns-in-Ok-renew-clause-up : goal.returns-in-Ok-renew-clause-up
-returns-in-Ok-renew-clause-up g c honest h n is lawful before =
+pub returns-in-Ok-renew-clause-fits : goal.returns-in-Ok-renew-clause-fits
+returns-in-Ok-renew-clause-fits g c honest h n is lawful before =
     let m : Meaning = meaning g.M.Machine.first g.M.Machine.next g.M.Machine.answer in
-    let goes = c.in-Ok.ensures.up honest h n is lawful before in
+    let goes = c.in-Ok.ensures.fits honest h n is lawful before in
     let fits = goes_fit m h n (Stands m c.in-Ok.up.node c.in-Ok.up.store h.genesis n) (disks c.in-Ok.up.store) c.in-Ok.up.notes.items lawful goes in
     then_goes m h n (Stands m c.in-Ok.up.node c.in-Ok.up.store h.genesis n) (Stands m c.renew.new.node c.renew.new.store h.genesis n) (disks c.in-Ok.up.store) (disks c.renew.new.store) c.in-Ok.up.notes.items goes
-    (c.in-Ok-renew.ensures.goes honest h n fits)
+    ((c.in-Ok-renew.ensures.renewed honest).goes h n fits)
 
 pub returns-in-Ok-renew-clause-covers : goal.returns-in-Ok-renew-clause-covers
 returns-in-Ok-renew-clause-covers g c honest genesis n x is every =
     let m : Meaning = meaning g.M.Machine.first g.M.Machine.next g.M.Machine.answer in
-    let keeps = taken_keeps m g.M.Machine.IsText (g.D.LogDisk.disk c.args.device) genesis n c.args.header.now c.in-Ok.up.node c.in-Ok.up.store c.in-Ok.up.notes.items is c.in-Ok.ensures.whose (c.in-Ok.ensures.exact honest) in
-    c.renew.ensures.covers honest genesis n x keeps (c.in-Ok.ensures.covers honest genesis n x is every)
+    let keeps = taken_keeps m g.M.Machine.IsText (g.D.LogDisk.disk c.args.device) genesis n c.args.header.now c.in-Ok.up.node c.in-Ok.up.store c.in-Ok.up.notes.items is c.in-Ok.ensures.ready.whose (c.in-Ok.ensures.exact honest) in
+    (c.renew.ensures.safe honest).covers genesis n x keeps (c.in-Ok.ensures.covers honest genesis n x is every)
 
 pub returns-in-Ok-renew-clause-metered : goal.returns-in-Ok-renew-clause-metered
 returns-in-Ok-renew-clause-metered g c metered honest =
@@ -42,45 +40,75 @@ returns-in-Ok-renew-clause-metered g c metered honest =
     revival_calls (g.D.LogDisk.disk c.args.device) (g.D.LogDisk.meter c.args.device) c.in-Ok.up.store.meter c.renew.new.store.meter c.args.header.now (text m t.genesis []) c.in-Ok.up.store t.standing t.opens
     (c.in-Ok.ensures.metered metered honest) (c.in-Ok-renew.ensures.metered metered honest)
 
-pub returns-in-Ok-renew-clause-runs : goal.returns-in-Ok-renew-clause-runs
-returns-in-Ok-renew-clause-runs g c = c.in-Ok-renew.ensures.runs c.in-Ok.ensures.runs
-
 pub returns-in-Ok-renew-clause-remembers : goal.returns-in-Ok-renew-clause-remembers
-returns-in-Ok-renew-clause-remembers g c honest genesis n is = c.in-Ok-renew.ensures.remembers honest genesis n (c.in-Ok.ensures.remembers honest genesis n is)
+returns-in-Ok-renew-clause-remembers g c honest genesis n is = (c.in-Ok-renew.ensures.renewed honest).remembers genesis n (c.in-Ok.ensures.remembers honest genesis n is)
+
+pub returns-in-Ok-renew-clause-exact : goal.returns-in-Ok-renew-clause-exact
+returns-in-Ok-renew-clause-exact g c honest =
+    let m : Meaning = meaning g.M.Machine.first g.M.Machine.next g.M.Machine.answer in
+    let t = c.in-Ok.ensures.exact honest in
+    record {
+      node = c.in-Ok.up.node;
+      store = c.in-Ok.up.store;
+      takes = t;
+      renews = (c.in-Ok-renew.ensures.renewed honest).renews;
+      further = λ last.
+          let was = of_last_old (seen (g.D.LogDisk.disk c.args.device)) c.args.header.now (text m t.genesis []) c.in-Ok.up.store t.standing t.opens last in
+          absurd (cc (c.in-Ok-renew.ensures.last was.0 was.1).1);
+      alive = refl;
+      store_alive = c.in-Ok-renew.ensures.ready.alive c.in-Ok.ensures.ready.store_alive;
+    }
+
+pub returns-in-Ok-renew-clause-ready : goal.returns-in-Ok-renew-clause-ready
+returns-in-Ok-renew-clause-ready g c = record {
+  format = c.in-Ok-renew.ensures.ready.format;
+  alive = refl;
+  store_alive = c.in-Ok-renew.ensures.ready.alive c.in-Ok.ensures.ready.store_alive;
+  awake = c.renew.ensures.wakes ∙ c.in-Ok.ensures.ready.awake;
+  runs = c.in-Ok-renew.ensures.ready.runs c.in-Ok.ensures.ready.runs;
+}
 
 -- ---- a refused rebase
 
-pub returns-in-Err-renew-clause-down : goal.returns-in-Err-renew-clause-down
-returns-in-Err-renew-clause-down g c honest h n is lawful before =
+pub returns-in-Err-renew-clause-fits : goal.returns-in-Err-renew-clause-fits
+returns-in-Err-renew-clause-fits g c honest h n is lawful before =
     let m : Meaning = meaning g.M.Machine.first g.M.Machine.next g.M.Machine.answer in
-    let fits = goes_fit m h n (Stands m c.in-Ok.up.node c.in-Ok.up.store h.genesis n) (disks c.in-Ok.up.store) c.in-Ok.up.notes.items lawful (c.in-Ok.ensures.up honest h n is lawful before) in
-    given_fit m h n c.renew.new.store (g.D.LogDisk.disk c.into_disks.result) c.into_disks.ensures.live_disk c.into_disks.ensures.other_disk (c.renew.ensures.ends honest h n fits)
+    let fits = goes_fit m h n (Stands m c.in-Ok.up.node c.in-Ok.up.store h.genesis n) (disks c.in-Ok.up.store) c.in-Ok.up.notes.items lawful (c.in-Ok.ensures.fits honest h n is lawful before) in
+    given_fit m h n c.renew.new.store (g.D.LogDisk.disk c.into_disks.result) c.into_disks.ensures.live_disk c.into_disks.ensures.other_disk ((c.renew.ensures.safe honest).fits h n fits)
 
-pub returns-in-Err-renew-clause-covers_err : goal.returns-in-Err-renew-clause-covers_err
-returns-in-Err-renew-clause-covers_err g c honest genesis n x is every =
+pub returns-in-Err-renew-clause-covers : goal.returns-in-Err-renew-clause-covers
+returns-in-Err-renew-clause-covers g c honest genesis n x is every =
     let m : Meaning = meaning g.M.Machine.first g.M.Machine.next g.M.Machine.answer in
-    let keeps = taken_keeps m g.M.Machine.IsText (g.D.LogDisk.disk c.args.device) genesis n c.args.header.now c.in-Ok.up.node c.in-Ok.up.store c.in-Ok.up.notes.items is c.in-Ok.ensures.whose (c.in-Ok.ensures.exact honest) in
+    let keeps = taken_keeps m g.M.Machine.IsText (g.D.LogDisk.disk c.args.device) genesis n c.args.header.now c.in-Ok.up.node c.in-Ok.up.store c.in-Ok.up.notes.items is c.in-Ok.ensures.ready.whose (c.in-Ok.ensures.exact honest) in
     given_cover m genesis n x c.renew.new.store (g.D.LogDisk.disk c.into_disks.result) c.into_disks.ensures.live_disk c.into_disks.ensures.other_disk
-    (c.renew.ensures.covers honest genesis n x keeps (c.in-Ok.ensures.covers honest genesis n x is every))
+    ((c.renew.ensures.safe honest).covers genesis n x keeps (c.in-Ok.ensures.covers honest genesis n x is every))
 
 pub returns-in-Err-renew-clause-stays_err : goal.returns-in-Err-renew-clause-stays_err
 returns-in-Err-renew-clause-stays_err g c honest genesis is =
     let m : Meaning = meaning g.M.Machine.first g.M.Machine.next g.M.Machine.answer in
     let old = g.D.LogDisk.disk c.args.device in
     let t = c.in-Ok.ensures.exact honest in
-    let holds = opens_holds (seen old) c.args.header.now (text m t.genesis []) c.in-Ok.up.store t.standing t.opens c.in-Ok.ensures.whose in
+    let holds = opens_holds (seen old) c.args.header.now (text m t.genesis []) c.in-Ok.up.store t.standing t.opens c.in-Ok.ensures.ready.whose in
     given_renew old c.args.header.now (text m genesis []) c.renew.new.store (g.D.LogDisk.disk c.into_disks.result) c.into_disks.ensures.live_disk c.into_disks.ensures.other_disk
-    (renew_left old (disks c.renew.new.store) c.args.header.now (text m t.genesis []) (text m genesis []) c.in-Ok.up.store t.standing (standing_of c.in-Ok.up.node) t.opens c.in-Err-renew.ensures.old
+    (renew_left old (disks c.renew.new.store) c.args.header.now (text m t.genesis []) (text m genesis []) c.in-Ok.up.store t.standing (standing_of c.in-Ok.up.node) t.opens c.in-Err-renew.ensures.refused.old
     (c.in-Err-renew.ensures.left honest t.opens.entries [] holds))
 
-pub returns-in-Err-renew-clause-last : goal.returns-in-Err-renew-clause-last
-returns-in-Err-renew-clause-last g c honest eleven =
+pub returns-in-Err-renew-clause-refused : goal.returns-in-Err-renew-clause-refused
+returns-in-Err-renew-clause-refused g c honest =
     let m : Meaning = meaning g.M.Machine.first g.M.Machine.next g.M.Machine.answer in
     let t = c.in-Ok.ensures.exact honest in
-    elim (cases_lt c.in-Ok.up.store.generation max_count) [
-      | inl less ↦ absurd (c.in-Err-renew.ensures.failed_before c.in-Ok.ensures.store_alive less (ap (λ (f : ReplicaFault). Err f) (failed_alone c.in-Err-renew.fault eleven)))
-      | inr most ↦ last_old (seen (g.D.LogDisk.disk c.args.device)) c.args.header.now (text m t.genesis []) c.in-Ok.up.store t.standing t.opens c.in-Err-renew.ensures.old most
-    ]
+    let number = fault_number c.in-Err-renew.fault in
+    let by = c.in-Err-renew.ensures.refused.of_store in
+    record {
+      damaged = λ nine. absurd (not_of_store number 9 by (omega arith) (omega arith) nine);
+      wrong = λ ten. absurd (not_of_store number 10 by (omega arith) (omega arith) ten);
+      last = λ eleven. elim (cases_lt c.in-Ok.up.store.generation max_count) [
+        | inl less ↦ absurd (c.in-Err-renew.ensures.refused.earlier c.in-Ok.ensures.ready.store_alive less eleven)
+        | inr most ↦ last_old (seen (g.D.LogDisk.disk c.args.device)) c.args.header.now (text m t.genesis []) c.in-Ok.up.store t.standing t.opens c.in-Err-renew.ensures.refused.old most
+      ];
+      damaged_stays = λ damaged nine. absurd (not_of_store number 9 by (omega arith) (omega arith) nine);
+      wrong_stays = λ ten. absurd (not_of_store number 10 by (omega arith) (omega arith) ten);
+    }
 
 pub returns-in-Err-renew-clause-metered : goal.returns-in-Err-renew-clause-metered
 returns-in-Err-renew-clause-metered g c metered honest =
@@ -88,8 +116,8 @@ returns-in-Err-renew-clause-metered g c metered honest =
     subst (λ (z : Meter). RefusedAfter (fault_number c.in-Err-renew.fault) (g.D.LogDisk.meter c.args.device) z) (sym c.into_disks.ensures.meter)
     (refused_on o.0 o.2 c.renew.new.store.meter (fault_number c.in-Err-renew.fault) (c.in-Err-renew.ensures.metered metered honest))
 
-pub returns-in-Err-renew-clause-room_err : goal.returns-in-Err-renew-clause-room_err
-returns-in-Err-renew-clause-room_err g c honest =
+pub returns-in-Err-renew-clause-room : goal.returns-in-Err-renew-clause-room
+returns-in-Err-renew-clause-room g c honest =
     let old = g.D.LogDisk.disk c.args.device in
     given_room 49152 old c.renew.new.store (g.D.LogDisk.disk c.into_disks.result) c.into_disks.ensures.live_disk c.into_disks.ensures.other_disk
-    (within_first 49152 old (disks c.in-Ok.up.store) (disks c.renew.new.store) (c.in-Ok.ensures.room honest) (c.renew.ensures.room honest))
+    (within_first 49152 old (disks c.in-Ok.up.store) (disks c.renew.new.store) (c.in-Ok.ensures.room honest) (c.renew.ensures.safe honest).room)

@@ -1,24 +1,23 @@
-use Rattle.std.proofs.Common.{◌≡◌, List, ◌++◌, Contains, inl, refl, sym, ◌∙◌, ap, subst}
+use Rattle.std.proofs.Common.{◌≡◌, true, false, List, ◌++◌, Contains, IfErr, inl, inr, refl, sym, ◌∙◌, ap, subst, arith}
 use Rattle.lk_log.specs.StoreValue.{disks}
 use Rattle.lk_state.specs.Meanings.{meaning}
-use Rattle.lk_node.specs.Calls.{NodeFits, Goes}
+use Rattle.lk_node.specs.Calls.{InputFits, NodeFits, Goes}
 use Rattle.lk_node.specs.Keeping.{Stands}
-use Rattle.lk_node.specs.Leavings.{AllCover}
 use Rattle.lk_node.specs.Letters.{LetterValue, batch_of}
 use Rattle.lk_replica.specs.Posts.{SendsSome}
 use Rattle.lk_replica.specs.ReplicaValue.{ReplicaValue}
 use Rattle.lk_node.specs.Outboxes.{OutboxValue}
 use Rattle.lk_replica.specs.Compacting.{RebasesWhereDue}
-use Rattle.lk_replica.specs.Taking.{CallsOfStep}
+use Rattle.lk_replica.specs.Taking.{CallsOfStep, IsRefused, LeavesDisks}
+use Rattle.lk_replica.proofs.NoSend.{goes_not}
+use Rattle.lk_replica.proofs.Refusals.{refused_by_parts}
 use Rattle.lk_node.specs.declared.note.Note.{Note}
 use Rattle.lk_replica.proofs.Thinning.{thins_are_of, batch_among}
-use Rattle.lk_log.specs.Rooms.{StaysWithin}
 use Rattle.lk_log.proofs.Room.{within_same}
 use Rattle.lk_replica.proofs.replica.Replica.take.Goals as goal
 use Rattle.lk_disk.specs.Meters.{start}
-use Rattle.lk_replica.specs.Compacting.{AreLeft}
 use Rattle.lk_replica.specs.Remembering.{Remembers}
-use Rattle.lk_replica.proofs.Spared.{spared_more, spared_as}
+use Rattle.lk_replica.specs.Faults.{fault_number}
 
 pub returns-in-Ok-clause-goes : goal.returns-in-Ok-clause-goes
 returns-in-Ok-clause-goes g c honest telling h n f heard =
@@ -33,8 +32,8 @@ returns-in-Ok-clause-goes g c honest telling h n f heard =
           (c.in_ok-outbox.ensures.goes honest h n fits heard c.in_ok-outbox.outbox.letters (λ l listed. listed))),
     )
 
-pub returns-clause-sends : goal.returns-clause-sends
-returns-clause-sends g c honest telling h n f heard =
+pub returns-clause-goes : goal.returns-clause-goes
+returns-clause-goes g c honest telling h n f heard =
     let m = meaning g.M.Machine.first g.M.Machine.next g.M.Machine.answer in
     let fits : NodeFits m h n (Stands m c.self.inside.node c.self.inside.store h.genesis n) (disks c.self.inside.store) =
     subst (λ (r : ReplicaValue). NodeFits m h n (Stands m r.node r.store h.genesis n) (disks r.store)) (sym c.self.view_is) f in
@@ -46,38 +45,8 @@ returns-clause-sends g c honest telling h n f heard =
           (c.in_ok-outbox.ensures.goes honest h n fits heard kept.0 (subst (λ (all : List LetterValue). (l : LetterValue) → Contains kept.0 l → Contains all l) letters (thins_are_of c.deref.result.now (c.in-Err.ensures.some telling).0 kept.0 kept.1))),
     )
 
-pub returns-clause-ends : goal.returns-clause-ends
-returns-clause-ends g c honest h n f heard =
-    let m = meaning g.M.Machine.first g.M.Machine.next g.M.Machine.answer in
-    c.rebase_and_step.ensures.ends honest h n (subst (λ (r : ReplicaValue). NodeFits m h n (Stands m r.node r.store h.genesis n) (disks r.store)) (sym c.self.view_is) f) heard
-
-pub returns-in_err-outbox-clause-ends : goal.returns-in_err-outbox-clause-ends
-returns-in_err-outbox-clause-ends g c honest h n f heard =
-    let m = meaning g.M.Machine.first g.M.Machine.next g.M.Machine.answer in
-    c.rebase_and_step.ensures.ends honest h n (subst (λ (r : ReplicaValue). NodeFits m h n (Stands m r.node r.store h.genesis n) (disks r.store)) (sym c.self.view_is) f) heard
-
-pub returns-in-Ok-clause-ends : goal.returns-in-Ok-clause-ends
-returns-in-Ok-clause-ends g c honest h n f heard =
-    let m = meaning g.M.Machine.first g.M.Machine.next g.M.Machine.answer in
-    c.rebase_and_step.ensures.ends honest h n (subst (λ (r : ReplicaValue). NodeFits m h n (Stands m r.node r.store h.genesis n) (disks r.store)) (sym c.self.view_is) f) heard
-
-pub returns-in_err-outbox-clause-covers : goal.returns-in_err-outbox-clause-covers
-returns-in_err-outbox-clause-covers g c honest genesis n x shown every =
-    let m = meaning g.M.Machine.first g.M.Machine.next g.M.Machine.answer in
-    c.rebase_and_step.ensures.covers honest genesis n x (subst (λ (r : ReplicaValue). Remembers r.node r.store genesis n) (sym c.self.view_is) shown)
-    (subst (λ (r : ReplicaValue). AllCover m genesis n (disks r.store) x) (sym c.self.view_is) every)
-
-pub returns-in-Ok-clause-covers : goal.returns-in-Ok-clause-covers
-returns-in-Ok-clause-covers g c honest genesis n x shown every =
-    let m = meaning g.M.Machine.first g.M.Machine.next g.M.Machine.answer in
-    c.rebase_and_step.ensures.covers honest genesis n x (subst (λ (r : ReplicaValue). Remembers r.node r.store genesis n) (sym c.self.view_is) shown)
-    (subst (λ (r : ReplicaValue). AllCover m genesis n (disks r.store) x) (sym c.self.view_is) every)
-
-pub returns-clause-covers : goal.returns-clause-covers
-returns-clause-covers g c honest genesis n x shown every =
-    let m = meaning g.M.Machine.first g.M.Machine.next g.M.Machine.answer in
-    c.rebase_and_step.ensures.covers honest genesis n x (subst (λ (r : ReplicaValue). Remembers r.node r.store genesis n) (sym c.self.view_is) shown)
-    (subst (λ (r : ReplicaValue). AllCover m genesis n (disks r.store) x) (sym c.self.view_is) every)
+pub returns-in_err-outbox-clause-goes : goal.returns-in_err-outbox-clause-goes
+returns-in_err-outbox-clause-goes g c honest telling h n f heard = goes_not _ _ _ c.from_residual.ensures.1 c.in_err-outbox.ensures.refused.only
 
 pub returns-in-Ok-clause-syncs : goal.returns-in-Ok-clause-syncs
 returns-in-Ok-clause-syncs g c honest telling genesis n x shown =
@@ -114,12 +83,12 @@ returns-in-Ok-clause-exact g c honest telling =
       sent = c.in-Ok.ensures.all telling ∙ ap (λ (ls : List LetterValue). g.P.Post.sent c.args.post.now ++ ls) letters;
       calls = λ metered. subst (λ (r : ReplicaValue). CallsOfStep r.node r.store c.in_ok-outbox.outbox c.rebase_and_step.new.store) c.self.view_is (c.in_ok-outbox.ensures.calls metered honest);
       alive = refl;
-      store_alive = c.in_ok-outbox.ensures.alive;
-      awake = c.in_ok-outbox.ensures.awake;
+      store_alive = c.in_ok-outbox.ensures.alive.store_alive;
+      awake = c.in_ok-outbox.ensures.alive.awake;
     }
 
-pub returns-clause-exact_send : goal.returns-clause-exact_send
-returns-clause-exact_send g c honest telling =
+pub returns-clause-exact : goal.returns-clause-exact
+returns-clause-exact g c honest telling =
     let letters : c.deref.result.now ≡ c.in_ok-outbox.outbox.letters = c.deref.ensures.value ∙ ap (λ (o : OutboxValue). o.letters) c.outbox.view_is in
     record {
       out = c.in_ok-outbox.outbox;
@@ -133,57 +102,98 @@ returns-clause-exact_send g c honest telling =
       sent = subst (λ (ls : List LetterValue). SendsSome ls (g.P.Post.sent c.args.post.now) (g.P.Post.sent c.deliver.new.post) (g.P.Post.failures c.args.post.now) (g.P.Post.failures c.deliver.new.post)) letters (c.in-Err.ensures.some telling);
       calls = λ metered. subst (λ (r : ReplicaValue). CallsOfStep r.node r.store c.in_ok-outbox.outbox c.rebase_and_step.new.store) c.self.view_is (c.in_ok-outbox.ensures.calls metered honest);
       alive = refl;
-      store_alive = c.in_ok-outbox.ensures.alive;
-      awake = c.in_ok-outbox.ensures.awake;
+      store_alive = c.in_ok-outbox.ensures.alive.store_alive;
+      awake = c.in_ok-outbox.ensures.alive.awake;
     }
 
-pub invariant_of-self-in-Ok : goal.invariant_of-self-in-Ok
-invariant_of-self-in-Ok g c = (λ lives. c.in_ok-outbox.ensures.runs (c.self.invariant.0 c.if-self.false), c.rebase_and_step.ensures.format)
+pub returns-in_err-outbox-clause-exact : goal.returns-in_err-outbox-clause-exact
+returns-in_err-outbox-clause-exact g c honest telling = goes_not _ _ _ c.from_residual.ensures.1 c.in_err-outbox.ensures.refused.only
 
-pub returns-in-Ok-clause-runs : goal.returns-in-Ok-clause-runs
-returns-in-Ok-clause-runs g c = c.in_ok-outbox.ensures.runs (c.self.invariant.0 c.if-self.false)
+-- ---- where it goes on
+
+pub invariant_of-self-in-Ok : goal.invariant_of-self-in-Ok
+invariant_of-self-in-Ok g c = (λ lives. c.in_ok-outbox.ensures.alive.runs (c.self.invariant.0 c.if-self.false), c.rebase_and_step.ensures.format)
 
 pub invariant_of-self-2 : goal.invariant_of-self-2
-invariant_of-self-2 g c = (λ lives. c.in_ok-outbox.ensures.runs (c.self.invariant.0 c.if-self.false), c.rebase_and_step.ensures.format)
+invariant_of-self-2 g c = (λ lives. c.in_ok-outbox.ensures.alive.runs (c.self.invariant.0 c.if-self.false), c.rebase_and_step.ensures.format)
 
-pub returns-clause-runs_on : goal.returns-clause-runs_on
-returns-clause-runs_on g c = c.in_ok-outbox.ensures.runs (c.self.invariant.0 c.if-self.false)
+pub returns-in-Ok-clause-alive : goal.returns-in-Ok-clause-alive
+returns-in-Ok-clause-alive g c = record {
+  alive = refl;
+  store_alive = c.in_ok-outbox.ensures.alive.store_alive;
+  awake = c.in_ok-outbox.ensures.alive.awake;
+  runs = c.in_ok-outbox.ensures.alive.runs (c.self.invariant.0 c.if-self.false);
+  remembers = λ honest genesis n shown. c.in_ok-outbox.ensures.alive.remembers honest genesis n (subst (λ (r : ReplicaValue). Remembers r.node r.store genesis n) (sym c.self.view_is) shown);
+}
 
-pub returns-then-self-clause-room : goal.returns-then-self-clause-room
-returns-then-self-clause-room g c honest = within_same 132704 (disks c.args.self.now.store) (disks c.args.self.now.store) (λ s. refl)
+pub returns-clause-alive : goal.returns-clause-alive
+returns-clause-alive g c = record {
+  alive = refl;
+  store_alive = c.in_ok-outbox.ensures.alive.store_alive;
+  awake = c.in_ok-outbox.ensures.alive.awake;
+  runs = c.in_ok-outbox.ensures.alive.runs (c.self.invariant.0 c.if-self.false);
+  remembers = λ honest genesis n shown. c.in_ok-outbox.ensures.alive.remembers honest genesis n (subst (λ (r : ReplicaValue). Remembers r.node r.store genesis n) (sym c.self.view_is) shown);
+}
 
-pub returns-in_err-outbox-clause-room : goal.returns-in_err-outbox-clause-room
-returns-in_err-outbox-clause-room g c honest = subst (λ (r : ReplicaValue). StaysWithin 132704 (disks r.store) (disks c.rebase_and_step.new.store)) c.self.view_is (c.rebase_and_step.ensures.room honest)
+pub returns-in_err-outbox-clause-alive : goal.returns-in_err-outbox-clause-alive
+returns-in_err-outbox-clause-alive g c = goes_not _ _ _ c.from_residual.ensures.1 c.in_err-outbox.ensures.refused.only
 
-pub returns-in-Ok-clause-room : goal.returns-in-Ok-clause-room
-returns-in-Ok-clause-room g c honest = subst (λ (r : ReplicaValue). StaysWithin 132704 (disks r.store) (disks c.rebase_and_step.new.store)) c.self.view_is (c.rebase_and_step.ensures.room honest)
+-- ---- at every exit
 
-pub returns-clause-room : goal.returns-clause-room
-returns-clause-room g c honest = subst (λ (r : ReplicaValue). StaysWithin 132704 (disks r.store) (disks c.rebase_and_step.new.store)) c.self.view_is (c.rebase_and_step.ensures.room honest)
+pub returns-then-self-clause-disks : goal.returns-then-self-clause-disks
+returns-then-self-clause-disks g c honest = record {
+  ends = λ h n f heard. f.left;
+  covers = λ genesis n x shown every. every;
+  room = within_same 132704 (disks c.args.self.now.store) (disks c.args.self.now.store) (λ s. refl);
+}
 
-pub returns-then-self-clause-metered : goal.returns-then-self-clause-metered
-returns-then-self-clause-metered g c metered honest = (0, start)
+pub returns-in_err-outbox-clause-disks : goal.returns-in_err-outbox-clause-disks
+returns-in_err-outbox-clause-disks g c honest =
+    let m = meaning g.M.Machine.first g.M.Machine.next g.M.Machine.answer in
+    subst (λ (r : ReplicaValue). LeavesDisks m (λ h. InputFits h c.args.input) 132704 r.node r.store (disks c.rebase_and_step.new.store)) c.self.view_is (c.rebase_and_step.ensures.disks honest)
 
-pub returns-clause-metered : goal.returns-clause-metered
-returns-clause-metered g c metered honest =
-    let k = subst (λ (r : ReplicaValue). CallsOfStep r.node r.store c.in_ok-outbox.outbox c.rebase_and_step.new.store) c.self.view_is (c.in_ok-outbox.ensures.calls metered honest) in (_, k.2)
+pub returns-in-Ok-clause-disks : goal.returns-in-Ok-clause-disks
+returns-in-Ok-clause-disks g c honest =
+    let m = meaning g.M.Machine.first g.M.Machine.next g.M.Machine.answer in
+    subst (λ (r : ReplicaValue). LeavesDisks m (λ h. InputFits h c.args.input) 132704 r.node r.store (disks c.rebase_and_step.new.store)) c.self.view_is (c.rebase_and_step.ensures.disks honest)
+
+pub returns-clause-disks : goal.returns-clause-disks
+returns-clause-disks g c honest =
+    let m = meaning g.M.Machine.first g.M.Machine.next g.M.Machine.answer in
+    subst (λ (r : ReplicaValue). LeavesDisks m (λ h. InputFits h c.args.input) 132704 r.node r.store (disks c.rebase_and_step.new.store)) c.self.view_is (c.rebase_and_step.ensures.disks honest)
 
 -- ---- what a refusal leaves
 
-pub returns-then-self-clause-stays : goal.returns-then-self-clause-stays
-returns-then-self-clause-stays g c honest = inl (λ s. refl)
+pub returns-then-self-clause-refused : goal.returns-then-self-clause-refused
+returns-then-self-clause-refused g c = record {
+  told = inr (inr (inl refl));
+  failures = refl;
+  calls = λ metered honest. (0, start);
+  earlier = λ number alive store_alive further. let both : true ≡ false = sym c.if-self.true ∙ ap (λ (r : ReplicaValue). r.failed) c.self.view_is ∙ alive in cc both;
+  once = λ ended. (refl, refl);
+  ends = λ other. sym (ap (λ (r : ReplicaValue). r.failed) c.self.view_is) ∙ c.if-self.true;
+  stays = λ honest device post. inl (λ s. refl);
+  halts = λ number. absurd (omega (arith, number));
+  awake = λ was other. was;
+}
 
-pub returns-in_err-outbox-clause-stays : goal.returns-in_err-outbox-clause-stays
-returns-in_err-outbox-clause-stays g c honest =
-    spared_as _ _ _ c.from_residual.ensures.1
-    (spared_more _ _ _ (λ left. subst (λ (r : ReplicaValue). AreLeft r.node r.store c.rebase_and_step.new.store) c.self.view_is left) (c.in_err-outbox.ensures.stays honest))
+pub returns-in_err-outbox-clause-refused : goal.returns-in_err-outbox-clause-refused
+returns-in_err-outbox-clause-refused g c =
+    let node = c.rebase_and_step.new.node in
+    let store = c.rebase_and_step.new.store in
+    subst (λ (r : ReplicaValue). IfErr c.from_residual.result (λ e. IsRefused g.D.LogDisk.is_honest g.D.LogDisk.is_metered r (record { node = node; store = store; failed = true }) (fault_number e))) c.self.view_is
+    (refused_by_parts g.D.LogDisk.is_honest g.D.LogDisk.is_metered _ _ (record { node = c.self.inside.node; store = c.self.inside.store; failed = c.self.inside.failed }) node store c.from_residual.ensures.1 c.if-self.false c.in_err-outbox.ensures.cause c.in_err-outbox.ensures.refused)
 
--- ---- what it remembers
-
-pub returns-in-Ok-clause-remembers : goal.returns-in-Ok-clause-remembers
-returns-in-Ok-clause-remembers g c honest genesis n shown =
-    c.in_ok-outbox.ensures.remembers honest genesis n (subst (λ (r : ReplicaValue). Remembers r.node r.store genesis n) (sym c.self.view_is) shown)
-
-pub returns-clause-remembers_on : goal.returns-clause-remembers_on
-returns-clause-remembers_on g c honest genesis n shown =
-    c.in_ok-outbox.ensures.remembers honest genesis n (subst (λ (r : ReplicaValue). Remembers r.node r.store genesis n) (sym c.self.view_is) shown)
+pub returns-clause-refused : goal.returns-clause-refused
+returns-clause-refused g c = record {
+  told = inr (inr (inr (inr refl)));
+  failures = c.in_ok-outbox.ensures.cause ∙ ap (λ (r : ReplicaValue). r.store.failures) c.self.view_is;
+  calls = λ metered honest.
+      let k = subst (λ (r : ReplicaValue). CallsOfStep r.node r.store c.in_ok-outbox.outbox c.rebase_and_step.new.store) c.self.view_is (c.in_ok-outbox.ensures.calls metered honest) in (_, k.2);
+  earlier = λ number alive store_alive further. omega (arith, number);
+  once = λ ended. absurd (let both : false ≡ true = sym c.if-self.false ∙ ap (λ (r : ReplicaValue). r.failed) c.self.view_is ∙ ended in cc both);
+  ends = λ other. absurd (other refl);
+  stays = λ honest device post. absurd (post refl);
+  halts = λ number. absurd (omega (arith, number));
+  awake = λ was other. c.in_ok-outbox.ensures.alive.awake;
+}
