@@ -31,6 +31,10 @@ EndsBehind bytes old new = (new ≡ old ++ Some bytes ∷ []) ⊎ (new ≡ old +
 abbrev pub TakesOne : ServerValue → ServerValue → Type 0
 TakesOne old new = (bytes : List ℕ) × (new.given ≡ old.given ++ inputs new.received bytes)
 
+-- no letter of the node to itself waited, none came from the socket, if that tells, and nothing is changed but what comes next
+abbrev pub FindsNone : Type 0 → ServerValue → ServerValue → Type 0
+FindsNone tells old new = (old.own ≡ []) × (tells → old.next ≡ None) × (record new { next = old.next } ≡ old)
+
 -- more letters stand behind these
 pub record Grows (old new : List LetterValue) : Type 0 where
   pub added : List LetterValue

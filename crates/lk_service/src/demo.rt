@@ -2,6 +2,7 @@
 
 ghost use Rattle.std.specs.Prelude.{◌≤◌};
 
+use crate::ear::Ear;
 use crate::fault::ServiceFault;
 use crate::question::{Heard, Question, datagram, next_reply, write_reply};
 use crate::reply::Reply;
@@ -54,6 +55,8 @@ type DemoServer<M, S> = Server<Replica<M, MemoryDisk>, S>;
 struct Cluster<M: Machine, S: Datagrams + Drop> {
     nodes: Vec<DemoServer<M, S>>,
     client: S,
+    // where what comes to any of them is heard
+    ear: Ear,
     // where requests are sent first
     port: Port,
 }
@@ -130,6 +133,7 @@ impl<M: Machine, S: Datagrams + Drop> Cluster<M, S> {
         Ok(Cluster {
             nodes,
             client,
+            ear: Ear::new(),
             port,
         })
     }
@@ -138,7 +142,7 @@ impl<M: Machine, S: Datagrams + Drop> Cluster<M, S> {
     fn serve(&mut self) -> Result<bool, ServiceFault> {
         let mut was_served = false;
         for node in &mut self.nodes {
-            was_served |= node.serve_next(&Discard)?;
+            was_served |= node.serve_next(&mut self.ear, &Discard)?;
         }
         Ok(was_served)
     }
@@ -153,7 +157,7 @@ impl<M: Machine, S: Datagrams + Drop> Cluster<M, S> {
 
     /// What the clients hear next. An Elsewhere is followed.
     fn hear(&mut self, alloc: Global, question: &Question, bytes: &[u8]) -> Heard {
-        match next_reply(alloc, &mut self.client, question) {
+        match next_reply(alloc, &mut self.ear, &mut self.client, question) {
             Heard::Reply(Reply::Elsewhere(member)) => {
                 let _ = self.client.send_to(local(member.port.get()), bytes);
                 Heard::Other

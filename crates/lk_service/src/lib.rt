@@ -7,6 +7,7 @@ pub mod causes;
 pub mod command_words;
 pub mod demo;
 pub mod dump;
+pub mod ear;
 pub mod fault;
 pub mod folder;
 mod hearing;

@@ -2,11 +2,11 @@
 
 ghost use Rattle.std.specs.Prelude.{◌≤◌};
 
+use crate::ear::Ear;
 use crate::fault::ServiceFault;
 use crate::reply::{Reply, read_reply};
 use crate::socket::{Datagrams, local};
 use bytes::BytesMut;
-use lk_types::limits::MAX_DATAGRAM;
 use lk_types::{Port, Request};
 use lk_wire::{Content, Message, write};
 use std::alloc::Global;
@@ -49,17 +49,16 @@ pub enum Heard {
 }
 
 /// What comes next to whoever asked that.
-pub fn next_reply<S: Datagrams>(alloc: Global, socket: &mut S, question: &Question) -> Heard {
-    let mut buffer = [0; MAX_DATAGRAM + 1];
-    let Some((length, _)) = socket.receive(&mut buffer) else {
+pub fn next_reply<S: Datagrams>(
+    alloc: Global,
+    ear: &mut Ear,
+    socket: &mut S,
+    question: &Question,
+) -> Heard {
+    let Some((bytes, _)) = ear.receive(socket) else {
         return Heard::Nothing;
     };
-    match read_reply(
-        alloc,
-        question.cluster,
-        &question.request,
-        &buffer[..length],
-    ) {
+    match read_reply(alloc, question.cluster, &question.request, bytes) {
         Some(reply) => Heard::Reply(reply),
         None => Heard::Other,
     }
@@ -74,9 +73,9 @@ pub fn exchange<S: Datagrams>(
 ) -> Result<Option<Reply>, ServiceFault> {
     let bytes = datagram(alloc, question)?;
     let _ = socket.send_to(local(question.port.get()), &bytes);
-    let mut followed = 0;
+    let (mut ear, mut followed) = (Ear::new(), 0);
     for _ in 0..RECEIVES {
-        match next_reply(alloc, socket, question) {
+        match next_reply(alloc, &mut ear, socket, question) {
             Heard::Reply(Reply::Elsewhere(member)) if followed < FOLLOWED => {
                 followed += 1;
                 let _ = socket.send_to(local(member.port.get()), &bytes);

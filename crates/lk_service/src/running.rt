@@ -4,6 +4,7 @@ ghost use Rattle.std.specs.Prelude.{◌≡◌, ◌≤◌};
 ghost use Rattle.lk_members.specs.Ports.{port_in};
 
 use crate::causes::{open_socket, tell_device};
+use crate::ear::Ear;
 use crate::fault::ServiceFault;
 use crate::folder::{FolderLock, open_device};
 use crate::node_replica::NodeReplica;
@@ -100,8 +101,9 @@ fn take_turns<M: Machine, L: Log, E: Write>(
     log: &L,
     err: &mut E,
 ) -> Result<(), ServiceFault> {
+    let mut ear = Ear::new();
     for _ in 0..TURNS {
-        if let Err(fault) = node_turn(server, log) {
+        if let Err(fault) = node_turn(server, &mut ear, log) {
             return Err(tell_device(fault, server.replica().device(), folder, err));
         }
     }

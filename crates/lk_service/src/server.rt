@@ -6,10 +6,11 @@ ghost use Rattle.lk_node.specs.Calls.{heard_by};
 ghost use Rattle.lk_replica.specs.Faults.{fault_number, IfSend};
 ghost use Rattle.lk_service.specs.Addresses.{client_at, node_at};
 ghost use Rattle.lk_service.specs.Posts.{Hears};
-ghost use Rattle.lk_service.specs.Servers.{inputs, EndsBehind, Grows, TakesOne, TakesNext, TakesOwn, TicksIdle};
+ghost use Rattle.lk_service.specs.Servers.{inputs, EndsBehind, FindsNone, Grows, TakesOne, TakesNext, TakesOwn, TicksIdle};
 
 use crate::addresses::Addresses;
 use crate::came::Came;
+use crate::ear::Ear;
 use crate::fault::ServiceFault;
 use crate::node_replica::NodeReplica;
 use crate::notes::log_notes;
@@ -20,7 +21,6 @@ use crate::watching::{log_carried, log_changes};
 use lk_node::{Input, Letter, Note};
 use lk_replica::ReplicaFault;
 use lk_types::NodeNo;
-use lk_types::limits::MAX_DATAGRAM;
 use log::Log;
 use std::alloc::Global;
 use std::collections::VecDeque;
@@ -239,7 +239,7 @@ impl<R: NodeReplica, S: Datagrams + Drop> Server<R, S> {
     }
 
     // Takes the next datagram from the socket, if one comes. Whether one did.
-    fn serve_socket<L: Log>(&mut self, log: &L) -> Result<bool, ServiceFault>
+    fn serve_socket<L: Log>(&mut self, ear: &mut Ear, log: &L) -> Result<bool, ServiceFault>
         ensures given { R.is_telling → IfOk result (λ came. came ≡ true → TakesOne self.old self.new) }
         ensures hands { S.is_telling → R.is_telling → IfOk result (λ came. came ≡ true → TakesNext self.old self.new) }
         ensures idle { S.is_telling → IfOk result (λ came. came ≡ false → self.old.next ≡ None) }
@@ -250,25 +250,22 @@ impl<R: NodeReplica, S: Datagrams + Drop> Server<R, S> {
         ensures alive { IfOk result (λ came. came ≡ true → self.new.failed ≡ false) }
         ensures broken { OnErr result (self.new.failed ≡ true) }
     {
-        let mut buffer = [0; MAX_DATAGRAM + 1];
-        let Some((length, from)) = self.socket.receive(&mut buffer) else {
+        let Some((bytes, from)) = ear.receive(&mut self.socket) else {
             return Ok(false);
         };
-        self.take_datagram(&buffer[..length], from, log)?;
+        self.take_datagram(bytes, from, log)?;
         Ok(true)
     }
 
     /// Takes the next datagram, if one comes: the first one that the node wrote to itself, and where there is none that of the socket.
     /// Whether one did.
-    pub fn serve_next<L: Log>(&mut self, log: &L) -> Result<bool, ServiceFault>
+    pub fn serve_next<L: Log>(&mut self, ear: &mut Ear, log: &L) -> Result<bool, ServiceFault>
         ensures given { R.is_telling → IfOk result (λ came. came ≡ true → TakesOne self.old self.new) }
         // What the node wrote to itself it takes once and in order, and before it looks at the socket.
         ensures own { IfOk result (λ came. came ≡ true → (self.old.own ≡ []) ⊎ TakesOwn R.is_telling self.old self.new) }
         // Else it is the whole of what came, from where it came.
         ensures hands { S.is_telling → R.is_telling → IfOk result (λ came. came ≡ true → self.old.own ≡ [] → TakesNext self.old self.new) }
-        ensures idle { S.is_telling → IfOk result (λ came. came ≡ false → self.old.next ≡ None) }
-        ensures none { IfOk result (λ came. came ≡ false → record self.new { next = self.old.next } ≡ self.old) }
-        ensures none_own { IfOk result (λ came. came ≡ false → self.old.own ≡ []) }
+        ensures none { IfOk result (λ came. came ≡ false → FindsNone S.is_telling self.old self.new) }
         ensures cluster { self.new.cluster ≡ self.old.cluster }
         ensures node { self.new.node ≡ self.old.node }
         ensures passes { IfErr result (λ f. f ≡ ServiceFault.Send → ⊥) }
@@ -280,7 +277,7 @@ impl<R: NodeReplica, S: Datagrams + Drop> Server<R, S> {
                 self.take_own(&letter, log)?;
                 Ok(true)
             }
-            None => self.serve_socket(log),
+            None => self.serve_socket(ear, log),
         }
     }
 }
@@ -288,6 +285,7 @@ impl<R: NodeReplica, S: Datagrams + Drop> Server<R, S> {
 /// One turn of a server: it takes the next datagram, or a tick where none came.
 pub fn node_turn<R: NodeReplica, S: Datagrams + Drop, L: Log>(
     server: &mut Server<R, S>,
+    ear: &mut Ear,
     log: &L,
 ) -> Result<(), ServiceFault>
     ensures given { R.is_telling → OnOk result (TakesOne server.old server.new ⊎ (server.new.given ≡ server.old.given ++ None ∷ [])) }
@@ -301,7 +299,7 @@ pub fn node_turn<R: NodeReplica, S: Datagrams + Drop, L: Log>(
     ensures alive { OnOk result (server.new.failed ≡ false) }
     ensures broken { OnErr result (server.new.failed ≡ true) }
 {
-    if server.serve_next(log)? {
+    if server.serve_next(ear, log)? {
         return Ok(());
     }
     server.tick(log)

@@ -4,6 +4,7 @@ use lk_disk::{FileDisk, MemoryDisk};
 use lk_locks::LockTable;
 use lk_log::Header;
 use lk_replica::Replica;
+use lk_service::ear::Ear;
 use lk_service::fault::ServiceFault;
 use lk_service::node_replica::NodeReplica;
 use lk_service::running::revive;
@@ -101,8 +102,9 @@ fn begun<R: Net>(rt: &R, alloc: Global) -> Result<Cluster, Fail> {
 
 // A turn of each node.
 fn round<R: NodeReplica>(nodes: &mut [Server<R, LocalSocket>]) -> Result<(), ServiceFault> {
+    let mut ear = Ear::new();
     for node in nodes {
-        node_turn(node, &Discard)?;
+        node_turn(node, &mut ear, &Discard)?;
     }
     Ok(())
 }

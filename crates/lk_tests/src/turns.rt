@@ -5,6 +5,7 @@ use lk_locks::LockTable;
 use lk_node::{Input, Note};
 use lk_replica::{Post, ReplicaFault, SendFault};
 use lk_service::demo::{Sockets, play};
+use lk_service::ear::Ear;
 use lk_service::node_replica::NodeReplica;
 use lk_service::server::{Server, node_turn};
 use lk_service::sight::Sight;
@@ -144,7 +145,7 @@ fn server(
 fn logged(alloc: Global, end: End, before: Seen, after: Seen) -> Result<Vec<u8>, Fail> {
     let memory = Memory::new(alloc);
     let mut server = server(alloc, end, before, after)?;
-    let _ = node_turn(&mut server, &memory);
+    let _ = node_turn(&mut server, &mut Ear::new(), &memory);
     let mut text = Vec::new(alloc);
     for line in memory.into_lines().as_slice() {
         text.extend_from_slice(line.as_bytes())?;

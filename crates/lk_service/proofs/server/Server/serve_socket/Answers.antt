@@ -1,10 +1,10 @@
-use Rattle.std.proofs.Common.{rules, ◌≡◌, ◌∙◌, take}
+use Rattle.std.proofs.Common.{rules, ◌≡◌, ◌∙◌}
 use Rattle.lk_service.proofs.server.Server.serve_socket.Goals as goal
 
 pub returns-clause-given : goal.returns-clause-given
 returns-clause-given g c = λ telling _.
     let viewed : c.args.self.now.given ≡ g.R.NodeReplica.given c.self.inside.replica = search rules in
-    (take c.in-Some.length c.receive.new.buffer, rw viewed (c.in_ok-take_datagram.ensures.given telling))
+    (c.in-Some.bytes.now, rw viewed (c.in_ok-take_datagram.ensures.given telling))
 
 pub returns-clause-hands : goal.returns-clause-hands
 returns-clause-hands g c = λ tells telling _.
@@ -13,7 +13,7 @@ returns-clause-hands g c = λ tells telling _.
     let cluster : c.args.self.now.cluster ≡ c.self.inside.cluster = search rules in
     let addresses : c.args.self.now.addresses ≡ c.self.inside.addresses = search rules in (
       c.in-Some.from,
-      take c.in-Some.length c.receive.new.buffer,
+      c.in-Some.bytes.now,
       record {
         comes = next ∙ c.in-Some.ensures.some tells;
         given = rw viewed (c.in_ok-take_datagram.ensures.given telling);
