@@ -96,8 +96,8 @@ impl<M: Machine> Learner<M> {
         executed < position.get() && position.get() <= farthest
     }
 
-    /// Whether a pair of the position is to be kept.
-    fn is_wanted(&self, position: Position) -> bool
+    /// Whether a pair of the position is to be kept: it is one of the next, up to twice alpha, and none of it is kept.
+    pub fn is_wanted(&self, position: Position) -> bool
         ensures { IsTrue result ↔ IsWanted self.now position }
     {
         self.is_near(position) && !is_kept(self.pairs.as_slice(), position)

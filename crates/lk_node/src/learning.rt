@@ -14,7 +14,7 @@ use crate::node::Node;
 use crate::outbox::Outbox;
 use lk_state::Machine;
 use lk_types::{Command, Entry, NoMemory, Position};
-use lk_wire::DecidedRef;
+use lk_wire::{CommandRef, DecidedRef};
 
 // The position that lies so far after the first.
 fn position_behind(first: Position, offset: usize) -> Position
@@ -70,6 +70,22 @@ impl<M: Machine> Node<M> {
         Ok(())
     }
 
+    // A command is told that is decided at the position. It is read only where it is wanted.
+    fn hear_pair(
+        &mut self,
+        position: Position,
+        told: &CommandRef<'_>,
+        out: &mut Outbox,
+    ) -> Result<(), NoMemory>
+        ensures exact { OnOk result (TakesPair (meaning M.first M.next M.answer) (position, told.now) self.old out.old self.new out.new) }
+        ensures goes_on { OnOk result (GoesOn (meaning M.first M.next M.answer) (λ h. ChosenAt h.genesis h.sent position told.now) self.old self.new out.old out.new) }
+    {
+        if !self.learner.is_wanted(position) {
+            return self.execute(out);
+        }
+        self.take_pair(position, &told.command(), out)
+    }
+
     // Decided commands are told: they are taken in order.
     pub(crate) fn hear_decided(&mut self, decided: &DecidedRef<'_>) -> Result<Outbox, NoMemory>
         ensures exact { IfOk result (λ o. TakesPairs (meaning M.first M.next M.answer) decided.now.first decided.now.commands self.old nothing (length decided.now.commands) self.new o) }
@@ -83,7 +99,7 @@ impl<M: Machine> Node<M> {
                 return Ok(out);
             };
             let position = position_behind(decided.first(), index);
-            self.take_pair(position, &next.0, &mut out)?;
+            self.hear_pair(position, &next.0, &mut out)?;
             rest = next.1;
         }
         Ok(out)

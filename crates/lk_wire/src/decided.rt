@@ -9,8 +9,9 @@ ghost use Rattle.lk_wire.specs.Shown.{shown_node};
 ghost use Rattle.lk_wire.specs.Values.{IsDecided, are_commands_from, is_run};
 ghost use Rattle.lk_wire.specs.Views.{commands_in, AreCommands};
 
+use crate::viewing::command::CommandRef;
 use crate::viewing::message::NodeMessageRef;
-use lk_fields::{front_of, read_command, read_position, read_u8, skip_command};
+use lk_fields::{front_of, read_position, read_u8, skip_command};
 use lk_types::limits::{MAX_COMMANDS, MAX_COUNT};
 use lk_types::{Command, NoMemory, Position};
 use std::alloc::Global;
@@ -139,14 +140,14 @@ impl<'a> Commands<'a> {
     }
 
     /// The first of them, and the others.
-    pub fn next(&self) -> Option<(Command, Commands<'a>)>
+    pub fn next(&self) -> Option<(CommandRef<'a>, Commands<'a>)>
         ensures some { IfSome result (λ x. self.now ≡ x.0 ∷ x.1) }
         ensures none { result ≡ None → self.now ≡ [] }
     {
         if self.count == 0 {
             return None;
         }
-        let Some((command, rest)) = read_command(self.bytes) else {
+        let Some((command, rest)) = CommandRef::of(self.bytes) else {
             return None;
         };
         let others = Commands {
@@ -167,7 +168,7 @@ impl<'a> Commands<'a> {
             let Some((command, others)) = rest.next() else {
                 return Ok(list);
             };
-            list.push(command)?;
+            list.push(command.command())?;
             rest = others;
         }
         Ok(list)

@@ -1,15 +1,14 @@
-ghost use Rattle.std.specs.Prelude.{◌≡◌, IfSome};
-ghost use Rattle.lk_types.specs.Commands.{IsRequest};
+ghost use Rattle.std.specs.Prelude.{◌≡◌};
+ghost use Rattle.lk_types.specs.Commands.{IsCommand, IsRequest};
 ghost use Rattle.lk_types.specs.Votes.{IsVote};
 ghost use Rattle.lk_fields.specs.FieldReading.{read_request, read_command};
 ghost use Rattle.lk_fields.specs.Parser.{Finds};
 ghost use Rattle.lk_wire.specs.Reading.{read_proposal};
-ghost use Rattle.lk_wire.specs.Views.{command_in, IsOneCommand};
 
 use lk_fields::{
     front_of, read_ballot, read_command, read_position, read_request, skip_command, skip_request,
 };
-use lk_types::{Position, RealBallot, Request, Vote};
+use lk_types::{Command, Position, RealBallot, Request, Vote};
 use std::marker::Model;
 
 /// A client's request in a datagram: the bytes that spell it and nothing else. A contract sees the request.
@@ -51,33 +50,59 @@ impl<'a> RequestRef<'a> {
     }
 }
 
-/// What an Accept proposes or an Accepted tells, in a datagram, its command as the bytes that spell it and nothing else. A
-/// contract sees the vote.
+/// A command in a datagram: the bytes that spell it and nothing else. A contract sees the command.
+#[derive(Drop)]
+pub struct CommandRef<'a> {
+    bytes: &'a [u8],
+}
+
+impl<'a> Model for CommandRef<'a> {
+    ghost use Rattle.lk_types.specs.declared.command.Command.{Command};
+    ghost use Rattle.lk_wire.specs.Views.{command_in, IsOneCommand};
+
+    ghost Value = { Command };
+
+    ghost view = { λ c. command_in c.bytes.now };
+
+    ghost invariant = { λ c. IsOneCommand c.bytes.now };
+}
+
+impl<'a> CommandRef<'a> {
+    /// The command at the front of some bytes, and what stands after it.
+    pub(crate) fn of(bytes: &'a [u8]) -> Option<(CommandRef<'a>, &'a [u8])>
+        ensures { Finds (λ x. (x.0, x.1.now)) result (read_command bytes.now) }
+    {
+        let rest = skip_command(bytes)?;
+        let bytes = front_of(bytes, rest);
+        Some((CommandRef { bytes }, rest))
+    }
+
+    /// The command.
+    pub fn command(&self) -> Command
+        ensures value { result ≡ self.now }
+        ensures in_range { IsCommand self.now }
+    {
+        let Some((command, _)) = read_command(self.bytes) else {
+            unreachable!()
+        };
+        command
+    }
+}
+
+/// What an Accept proposes or an Accepted tells, in a datagram. A contract sees the vote.
 #[derive(Drop)]
 pub struct VoteRef<'a> {
     position: Position,
     ballot: RealBallot,
-    command: &'a [u8],
+    command: CommandRef<'a>,
 }
 
 impl<'a> Model for VoteRef<'a> {
     ghost use Rattle.lk_types.specs.declared.vote.Vote.{Vote};
-    ghost use Rattle.lk_wire.specs.Views.{command_in, IsOneCommand};
 
     ghost Value = { Vote };
 
-    ghost view = { λ v. record { position = v.position; ballot = v.ballot; command = command_in v.command.now } };
-
-    ghost invariant = { λ v. IsOneCommand v.command.now };
-}
-
-/// The bytes of the command at the front of some bytes, and what stands after it.
-fn cut_command(bytes: &[u8]) -> Option<(&[u8], &[u8])>
-    ensures read { Finds (λ x. (command_in x.0.now, x.1.now)) result (read_command bytes.now) }
-    ensures one { IfSome result (λ x. IsOneCommand x.0.now) }
-{
-    let rest = skip_command(bytes)?;
-    Some((front_of(bytes, rest), rest))
+    ghost view = { λ v. record { position = v.position; ballot = v.ballot; command = v.command } };
 }
 
 impl<'a> VoteRef<'a> {
@@ -88,7 +113,7 @@ impl<'a> VoteRef<'a> {
     {
         if let Some((ballot, rest)) = read_ballot(bytes)
             && let Some((position, rest)) = read_position(rest)
-            && let Some((command, rest)) = cut_command(rest)
+            && let Some((command, rest)) = CommandRef::of(rest)
         {
             let vote = VoteRef {
                 position,
@@ -106,10 +131,8 @@ impl<'a> VoteRef<'a> {
         ensures in_range { IsVote self.now }
     {
         let (position, ballot) = (self.position, self.ballot);
-        let Some((command, _)) = read_command(self.command) else {
-            unreachable!()
-        };
         let _ = (position.get(), ballot.get());
+        let command = self.command.command();
         Vote {
             position,
             ballot,

@@ -23,8 +23,8 @@ pairs-preserved g c =
     let place : c.position_behind-position.result ≡ c.args.decided.now.first + c.pairs.index = c.position_behind-position.ensures ∙ ap (λ (i : ℕ). i + c.pairs.index) c.first.ensures in
     let many : c.len-index-end.result ≡ length c.args.decided.now.commands = c.len-index-end.ensures ∙ ap (λ (l : List Command). length l) c.commands-2.ensures in
     let went = walked c.args.decided.now.commands c.pairs.rest c.in-Some.next.1 c.pairs.index c.in-Some.next.0 c.pairs.invariant.2 (omega (arith, many, c.pairs-test.true)) c.in-Some.ensures.some in (
-      takes_more _ c.args.decided.now c.pairs.index c.position_behind-position.result c.in-Some.next.0 _ c.pairs.self _ _ c.pairs.out _ place went.0 c.pairs.invariant.0 c.in_ok-take_pair.ensures.exact,
-      λ from. told_goes_on _ from c.args.decided.now c.pairs.index c.position_behind-position.result c.in-Some.next.0 _ c.pairs.self _ _ c.pairs.out _ place went.0 (c.pairs.invariant.1 from) c.in_ok-take_pair.ensures.goes_on,
+      takes_more _ c.args.decided.now c.pairs.index c.position_behind-position.result c.in-Some.next.0 _ c.pairs.self _ _ c.pairs.out _ place went.0 c.pairs.invariant.0 c.in_ok-hear_pair.ensures.exact,
+      λ from. told_goes_on _ from c.args.decided.now c.pairs.index c.position_behind-position.result c.in-Some.next.0 _ c.pairs.self _ _ c.pairs.out _ place went.0 (c.pairs.invariant.1 from) c.in_ok-hear_pair.ensures.goes_on,
       went.1,
     )
 
