@@ -106,7 +106,7 @@ fn take_line<M: MemoryReplica>(
             Ok(None)
         }
         Mode::Table(server) => {
-            server.print_line(alloc, line, buffers)?;
+            server.print_line(line, buffers)?;
             Ok(None)
         }
         Mode::World(run) => run.print_line(alloc, line, &mut buffers.text),

@@ -1,8 +1,11 @@
 //! One unreplicated lock table: a cluster of node 1 alone, which executes each request at once.
 
-ghost use Rattle.std.specs.Prelude.{◌≡◌, ◌+◌, ◌<◌, ◌≤◌, ◌++◌, ◌∷◌, [], List, ℕ, Some, None, true, false, OnOk, IfOk, IfSome, IsNone, IsErrOf};
+ghost use Rattle.std.specs.Prelude.{◌≡◌, ◌+◌, ◌<◌, ◌≤◌, ◌++◌, ◌∷◌, [], List, ℕ, Some, None, true, false, OnOk, IfOk, IfErr, IfSome, IsNone, IsErrOf};
 ghost use Rattle.lk_types.specs.Limits.{max_count};
 ghost use Rattle.lk_members.specs.Counting.{Command as CommandValue};
+ghost use Rattle.lk_wire.specs.Grammar.{Spells};
+ghost use Rattle.lk_wire.specs.Shown.{shown};
+ghost use Rattle.lk_wire.specs.declared.message.Message.{Message as MessageValue};
 ghost use Rattle.lk_script.specs.TableMode.{from_client, is_request_to, is_for_table};
 
 use crate::buffers::Buffers;
@@ -11,18 +14,28 @@ use crate::hex_line::read_bytes;
 use lk_locks::LockTable;
 use lk_state::{Seen, Whole};
 use lk_types::{Answer, Command, Genesis, Member, NoMemory, NodeNo, Op, Request};
-use lk_wire::{Answered, Content, Message, NodeMessage, Passed, ReadFault, read};
+use lk_wire::{Answered, Bad, Content, ContentRef, Message, MessageRef, NodeMessage, Passed, view};
 use std::alloc::Global;
 
-/// The request that a message is, where it is one to the cluster.
-fn request_to(cluster: u64, message: &Message) -> Option<&Request>
-    ensures some { IfSome result (λ r. message.now ≡ from_client cluster r.now) }
-    ensures none { IsNone result → is_request_to cluster message.now ≡ false }
+/// The request that a message in a datagram is, where it is one to the cluster.
+fn request_to(cluster: u64, message: &MessageRef<'_>) -> Option<Request>
+    ensures some { IfSome result (λ r. shown message.now ≡ from_client cluster r) }
+    ensures none { IsNone result → is_request_to cluster (shown message.now) ≡ false }
 {
     match &message.content {
-        Content::Request(request) if message.cluster == cluster => Some(request),
+        ContentRef::Request(request) if message.cluster == cluster => Some(request.request()),
         _ => None,
     }
+}
+
+/// The request that some bytes spell, where they are a datagram and it is a request to the cluster.
+fn read_request(cluster: u64, bytes: &[u8]) -> Result<Option<Request>, Bad>
+    ensures request { IfOk result (λ found. IfSome found (λ r. Spells (from_client cluster r) bytes.now)) }
+    ensures other { IfOk result (λ found. IsNone found → (m : MessageValue) × Spells m bytes.now × (is_request_to cluster m ≡ false)) }
+    ensures bad { IfErr result (λ e. (m : MessageValue) → Spells m bytes.now → ⊥) }
+{
+    let message = view(bytes)?;
+    Ok(request_to(cluster, &message))
 }
 
 /// Whether an op asks something of the lock table, and not of the members.
@@ -122,42 +135,23 @@ impl TableServer {
         buffers.print_message(&message)
     }
 
-    /// Makes the text what a message prints.
-    fn print_message(&mut self, message: &Message, buffers: &mut Buffers) -> Result<(), NoMemory>
-        requires { executed_of self.old < max_count }
-        ensures ok { OnOk result ((bytes : List ℕ) (L : List CommandValue) → Spells message.now bytes → HasServed L self.old
-            → (after : List CommandValue) × Prints self.old.cluster L bytes buffers.new.text.items after × HasServed after self.new) }
-        ensures cluster { self.new.cluster ≡ self.old.cluster }
-        ensures paces { executed_of self.new ≤ executed_of self.old + 1 }
-    {
-        match request_to(self.cluster, message) {
-            Some(request) => self.print_request(request, buffers),
-            None => buffers.print("not a request"),
-        }
-    }
-
     /// Makes the text what the bytes of a datagram print.
-    fn print(&mut self, alloc: Global, buffers: &mut Buffers) -> Result<(), NoMemory>
+    fn print(&mut self, buffers: &mut Buffers) -> Result<(), NoMemory>
         requires { executed_of self.old < max_count }
         ensures ok { OnOk result ((L : List CommandValue) → HasServed L self.old
             → (after : List CommandValue) × Prints self.old.cluster L buffers.old.bytes.items buffers.new.text.items after × HasServed after self.new) }
         ensures cluster { self.new.cluster ≡ self.old.cluster }
         ensures paces { executed_of self.new ≤ executed_of self.old + 1 }
     {
-        match read(alloc, &buffers.bytes) {
-            Ok(message) => self.print_message(&message, buffers),
-            Err(ReadFault::Bad) => buffers.print("bad"),
-            Err(ReadFault::NoMemory) => Err(NoMemory),
+        match read_request(self.cluster, &buffers.bytes) {
+            Ok(Some(request)) => self.print_request(&request, buffers),
+            Ok(None) => buffers.print("not a request"),
+            Err(Bad) => buffers.print("bad"),
         }
     }
 
     /// Makes the text what a line of table mode prints.
-    pub fn print_line(
-        &mut self,
-        alloc: Global,
-        line: &[u8],
-        buffers: &mut Buffers,
-    ) -> Result<(), LineFault>
+    pub fn print_line(&mut self, line: &[u8], buffers: &mut Buffers) -> Result<(), LineFault>
         requires { executed_of self.old < max_count }
         ensures ok { OnOk result ((L : List CommandValue) → HasServed L self.old
             → (bytes : List ℕ) × (printed : List ℕ) × (after : List CommandValue) × SpellsBytes line.now bytes × Prints self.old.cluster L bytes printed after
@@ -167,7 +161,7 @@ impl TableServer {
         ensures paces { executed_of self.new ≤ executed_of self.old + 1 }
     {
         read_bytes(line, &mut buffers.bytes)?;
-        self.print(alloc, buffers)?;
+        self.print(buffers)?;
         buffers.text.push(b'\n')?;
         Ok(())
     }
