@@ -1,8 +1,8 @@
 #!/usr/bin/env python3
 """cost.py CRATE [WORDS ..]: what each function of a crate costs the prover, the dearest last.
 
-It runs `rt check --jobs 1 WORDS ..` in crates/CRATE, of `lk_tests` with `--test`. A check names each function as it ends; the processor seconds
-that were spent since the line before are its own, but for shares of functions that end later, so a figure that
+It runs `rt check --jobs 1 WORDS ..` in crates/CRATE, of `lk_tests` with `--test`. A check names some functions as they end; the processor seconds
+that were spent since the line before are those of the functions that it has checked since then, the named one the last of them, so a figure that
 surprises is looked at again by `rt check --only`. What is kept costs nothing: for all figures remove crates/CRATE/out."""
 import os, pathlib, re, subprocess, sys
 
@@ -25,18 +25,18 @@ def spent(session):
 def main():
     crate, *words = sys.argv[1:]
     words = ["--test"] * (crate == "lk_tests") + words
-    costs, before = [], 0.0
+    costs, before, checked = [], 0.0, 0
     how = {"stdin": subprocess.DEVNULL, "stdout": subprocess.PIPE, "stderr": subprocess.STDOUT, "text": True, "start_new_session": True}
     with subprocess.Popen(["rt", "check", "--jobs", "1", *words], cwd=TOP / "crates" / crate, **how) as check:
         for line in check.stdout:
             now = spent(check.pid)
-            named = re.match(rf"fn {crate}::(\S+): (.*)", line)
+            named = re.match(rf"checked {crate}::(.*), (\d+) of \d+", line)
             if named:
-                costs.append((now - before, named[1], named[2]))
-            before = now
-    for seconds, name, said in sorted(costs):
-        print(f"{seconds:8.1f}  {name}  {said}")
-    print(f"{before:8.1f}  in all: {line.strip()[:100]}")
+                costs.append((now - before, int(named[2]) - checked, named[1]))
+                before, checked = now, int(named[2])
+    for seconds, many, name in sorted(costs):
+        print(f"{seconds:8.1f}  {name}" + f", and {many - 1} before it" * (many > 1))
+    print(f"{now:8.1f}  in all: {line.strip()[:100]}")
     sys.exit(check.returncode)
 
 

@@ -2,8 +2,8 @@
 """gate_cost.py [COMMAND ..]: what each crate costs in a run of the gate, `./check` if no command is given.
 
 It runs the command and looks twice a second at the processor time of each process of the prover that the command started: which crate it checks, and
-whether its proof, its tests or its wrong bodies. What a process spent since it was last seen is lost, a second or so of each. At the end it prints a
-table in minutes of a processor, as docs/GATE.md has it, with the machine's load and the share of time that the host took away (`steal`)."""
+whether its proof, its tests or its wrong bodies. What a process spent since it was last seen is lost, a second or so of each; one that has ended and waits
+for its parent has no words left, and is not looked at again. At the end it prints a table in minutes of a processor, as docs/GATE.md has it, with the machine's load and the share of time that the host took away (`steal`)."""
 import collections, os, pathlib, re, subprocess, sys, threading, time
 
 TOP = pathlib.Path(__file__).resolve().parent.parent
@@ -19,7 +19,8 @@ def processes():
             where = os.readlink(folder / "cwd")
         except OSError:
             continue
-        yield int(folder.name), int(fields[1]), int(fields[11]) + int(fields[12]), words, where
+        if any(words):
+            yield int(folder.name), int(fields[1]), int(fields[11]) + int(fields[12]), words, where
 
 
 def below(top):
