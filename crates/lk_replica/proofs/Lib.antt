@@ -11,6 +11,7 @@ mod Refusals
 mod Thinning
 mod OnDevices
 mod Calling
+mod Carrying
 mod Compactions
 mod Spared
 mod Going

@@ -1,7 +1,19 @@
--- What is sent of what is to be sent.
-use Rattle.std.specs.Prelude.{◌≡◌, ◌≢◌, ℕ, zero, suc, ◌+◌, ◌⊎◌, Result, Ok, Err, List, [], ◌∷◌, ◌++◌, Contains}
+-- What was given to a post, and what is sent of that.
+use Rattle.std.specs.Prelude.{◌≡◌, ◌≢◌, ℕ, zero, suc, ◌+◌, ◌⊎◌, Bool, true, false, Result, Ok, Err, List, [], ◌∷◌, ◌++◌, Contains}
 use Rattle.lk_disk.specs.Disk.{one_more}
 use Rattle.lk_node.specs.Letters.{LetterValue}
+
+-- these letters were given to a post one after another, in order, and nothing else was. `Carries` says what becomes of it by one of
+-- them: as it was, the letter, whether that was sent, and as it is then
+abbrev pub CarriesAll : {P : Type 0} → (P → LetterValue → Bool → P → Type 0) → P → List LetterValue → P → Type 0
+CarriesAll {P} Carries old [] new = new ≡ old
+CarriesAll {P} Carries old (l ∷ letters) new = (is_sent : Bool) × (mid : P) × Carries old l is_sent mid × CarriesAll Carries mid letters new
+
+-- letters of which this holds were given to it so
+pub record GivesLetters {P : Type 0} (Carries : P → LetterValue → Bool → P → Type 0) (old new : P) (Holds : List LetterValue → Type 0) : Type 0 where
+  pub letters : List LetterValue
+  pub carried : CarriesAll Carries old letters new
+  pub holds : Holds letters
 
 -- the first letters are some of the others
 abbrev pub AreOf : List LetterValue → List LetterValue → Type 0
@@ -32,12 +44,17 @@ abbrev pub SendsAs : {T E : Type 0} → Result T E → List LetterValue → (old
 SendsAs (Ok _) letters old new before now = new ≡ old ++ letters
 SendsAs (Err _) letters old new before now = SendsSome letters old new before now
 
--- a refusal of this number has sent nothing; but after 15 some of the sends have failed, and the others were made
-pub record RefusesSends (Telling : Type 0) (number : ℕ) (old new : List LetterValue) (before now : ℕ) : Type 0 where
-  pub silent : (number ≡ 15 → ⊥) → Telling → new ≡ old
+-- a refusal of this number has given nothing to the post, but for 15, after which some of the sends have failed
+pub record RefusesSends {P : Type 0} (number : ℕ) (old new : P) (before now : ℕ) : Type 0 where
+  pub silent : (number ≡ 15 → ⊥) → new ≡ old
   pub some_fail : number ≡ 15 → (lost : ℕ) × (lost ≢ 0) × (now ≡ more_by lost before)
 
 -- the letters that were kept, and how often one was not
 pub record CollectedValue : Type 0 where
   pub letters : List LetterValue
   pub failures : ℕ
+
+-- a post that keeps letters has this one after the others, or memory was refused for it, which is counted
+abbrev pub KeepsLetter : CollectedValue → LetterValue → Bool → CollectedValue → Type 0
+KeepsLetter old letter true new = new ≡ record { letters = old.letters ++ letter ∷ []; failures = old.failures }
+KeepsLetter old letter false new = new ≡ record { letters = old.letters; failures = one_more old.failures }

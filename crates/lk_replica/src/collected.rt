@@ -27,11 +27,15 @@ impl Model for Collected {
 }
 
 impl Post for Collected {
+    ghost use Rattle.lk_replica.specs.Posts.{KeepsLetter};
+
     ghost sent = { λ c. c.letters };
 
     ghost is_telling = { Unit {0} };
 
     ghost failures = { λ c. c.failures };
+
+    ghost Carries = { KeepsLetter };
 
     fn send(&mut self, to: To, bytes: &[u8]) -> Result<(), SendFault> {
         match self.keep(to, bytes) {

@@ -1,13 +1,14 @@
 // Sending what a step tells to send. No device is in its reach.
 ghost use Rattle.std.specs.Prelude.{◌≡◌, ◌≢◌, ℕ, true, false, [], ◌∷◌, ◌++◌, OnOk, OnErr};
 ghost use Rattle.lk_disk.specs.Disk.{one_more};
-ghost use Rattle.lk_replica.specs.Posts.{SendsSome, more_by};
+ghost use Rattle.lk_replica.specs.Posts.{CarriesAll, SendsSome, more_by};
 
 use crate::post::{Post, SendFault};
 use lk_node::Letter;
 
 // Sends a letter, and tells whether it was sent.
 fn is_sent<P: Post>(letter: &Letter, post: &mut P) -> bool
+    ensures carries { P.Carries post.old letter.now result post.new }
     ensures sent { P.is_telling → result ≡ true → P.sent post.new ≡ P.sent post.old ++ letter.now ∷ [] }
     ensures lost { P.is_telling → result ≡ false → P.sent post.new ≡ P.sent post.old }
     ensures same { result ≡ true → P.failures post.new ≡ P.failures post.old }
@@ -21,6 +22,7 @@ fn is_sent<P: Post>(letter: &Letter, post: &mut P) -> bool
 
 // Sends the letters in order. Those whose send fails are lost, and the others are sent all the same: each of them is tried.
 pub fn deliver<P: Post>(letters: &[Letter], post: &mut P) -> Result<(), SendFault>
+    ensures carries { CarriesAll P.Carries post.old letters.now post.new }
     ensures all { P.is_telling → OnOk result (P.sent post.new ≡ P.sent post.old ++ letters.now) }
     ensures some { P.is_telling → OnErr result (SendsSome letters.now (P.sent post.old) (P.sent post.new) (P.failures post.old) (P.failures post.new)) }
     ensures cause { OnOk result (P.failures post.new ≡ P.failures post.old) }

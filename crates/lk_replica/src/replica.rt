@@ -17,7 +17,7 @@ ghost use Rattle.lk_node.specs.Histories.{History, Genesis};
 ghost use Rattle.lk_node.specs.Keeping.{Stands};
 ghost use Rattle.lk_node.specs.Leavings.{DisksFit, AllCover};
 ghost use Rattle.lk_node.specs.Letters.{LetterValue, batch_of};
-ghost use Rattle.lk_replica.specs.Posts.{AreOf, SendsAs, RefusesSends};
+ghost use Rattle.lk_replica.specs.Posts.{AreOf, GivesLetters, SendsAs, RefusesSends};
 ghost use Rattle.lk_node.specs.Steps.{Steps};
 ghost use Rattle.lk_replica.specs.Taking.{Writes, write_calls, CallsOfStep, IsTaken, IsRefused, IsCutShort, StaysUp, StepsOn, LeavesDisks};
 ghost use Rattle.lk_replica.specs.Faults.{fault_number, CountsFailure, RefusedAfter, IfGoesOn, IfSend, IfSpared, IsOfCalls, WantsNoMemory};
@@ -69,10 +69,10 @@ impl<M: Machine, D: LogDisk + Drop> Replica<M, D> {
         ensures goes { D.is_honest → P.is_telling → (h : History) (n : ℕ) → NodeFits (meaning M.first M.next M.answer) h n (Stands (meaning M.first M.next M.answer) self.old.node self.old.store h.genesis n) (disks self.old.store) → InputFits h input.entry
             → IfGoesOn result (λ notes. (sent : List LetterValue) × (P.sent post.new ≡ P.sent post.old ++ sent)
             × Goes (meaning M.first M.next M.answer) h n (Stands (meaning M.first M.next M.answer) self.new.node self.new.store h.genesis n) (disks self.new.store) notes (batch_of n sent)) }
-        // It has then written the outbox of its step, given its notes and sent its letters in order, and nothing else. Under
-        // `Send` the letters whose send failed are lost.
-        ensures exact { D.is_honest → P.is_telling → IfGoesOn result (λ notes. IsTaken (meaning M.first M.next M.answer) M.IsText D.is_metered self.old input.entry self.new notes
-            (λ letters. SendsAs result letters (P.sent post.old) (P.sent post.new) (P.failures post.old) (P.failures post.new))) }
+        // Letters were given to the post in order, each once, and nothing else. Where it goes on it has then written the outbox of its step,
+        // given its notes, and these are its letters. Under `Send` those whose send failed are lost.
+        ensures exact { GivesLetters P.Carries post.old post.new (λ letters. D.is_honest → IfGoesOn result (λ notes. IsTaken (meaning M.first M.next M.answer) M.IsText D.is_metered self.old input.entry self.new notes
+            (λ all. (all ≡ letters) × (P.is_telling → SendsAs result all (P.sent post.old) (P.sent post.new) (P.failures post.old) (P.failures post.new))))) }
         ensures alive { IfGoesOn result (λ notes. StaysUp D.is_honest self.old self.new) }
         // Sync before send, whatever has happened, and whatever it was revived on: what was sent every image covers, after any exit.
         ensures syncs { D.is_honest → P.is_telling → (genesis : Genesis) (n : ℕ) (x : NodeMessage) → Remembers self.old.node self.old.store genesis n
@@ -82,8 +82,8 @@ impl<M: Machine, D: LogDisk + Drop> Replica<M, D> {
         ensures disks { D.is_honest → LeavesDisks (meaning M.first M.next M.answer) (λ h. InputFits h input.entry) max_behind self.old.node self.old.store (disks self.new.store) }
         // Nothing but 7, 8, 11, 14 and 15 comes, each for its cause, and all but 15 end it.
         ensures refused { IfErr result (λ e. IsRefused D.is_honest D.is_metered self.old self.new (fault_number e)) }
-        // Under `Send` some sends have failed, and under another refusal nothing is sent.
-        ensures sends { IfErr result (λ e. RefusesSends P.is_telling (fault_number e) (P.sent post.old) (P.sent post.new) (P.failures post.old) (P.failures post.new)) }
+        // Under `Send` some sends have failed, and under another refusal nothing was given to the post.
+        ensures sends { IfErr result (λ e. RefusesSends (fault_number e) post.old post.new (P.failures post.old) (P.failures post.new)) }
         // `Device` comes exactly where a call of the device has failed.
         ensures cause { CountsFailure self.old.store.failures self.new.store.failures result }
         ensures failed { self.old.failed ≡ true → IsErrOf result ReplicaFault.Failed }

@@ -21,6 +21,8 @@ impl Post for Falters {
 
     ghost failures = { λ p. p.failures };
 
+    ghost Carries = { λ _ _ _ _. Unit {0} };
+
     fn send(&mut self, _to: To, _bytes: &[u8]) -> Result<(), SendFault> {
         if self.failures == 0 {
             self.failures = 1;

@@ -1,4 +1,4 @@
-use Rattle.std.proofs.Common.{◌≡◌, ◌∙◌, List, ◌++◌, Result, Ok, Err, OnErr, Contains, ap, sym, subst}
+use Rattle.std.proofs.Common.{◌≡◌, ◌∙◌, List, ◌++◌, Result, Ok, Err, OnErr, Contains, refl, ap, sym, subst}
 use Rattle.std.specs.Prelude.{⊤}
 use Rattle.lk_log.specs.StoreValue.{device_of}
 use Rattle.lk_log.specs.Values.{HeaderValue}
@@ -40,6 +40,32 @@ returns-in-Ok-clause-syncs g c genesis n held x shown =
     let is : c.number-node.result ≡ n = c.number-node.ensures ∙ ap (λ (w : HeaderValue). w.node) shown.whose in
     let batch : c.in-Ok.sent.items ≡ batch_of n synced.0 = c.in-Ok.ensures.ok ∙ (λ i. batch_of (is i) (letters i)) in
     λ d listed said. on_device (λ z. AllCover m genesis n z x) c.take.new.self.store (synced.2 d (subst (λ (ds : List Datagram). Contains ds d) batch listed) said)
+
+pub returns-in-Ok-clause-exact : goal.returns-in-Ok-clause-exact
+returns-in-Ok-clause-exact g c =
+    let taken = c.in_ok-notes.ensures.exact.holds tt in
+    let letters : c.take.new.post.letters ≡ taken.out.letters = taken.sent.1 tt ∙ ap (λ (p : CollectedValue). p.letters ++ taken.out.letters) c.empty_post-post.ensures in
+    record {
+      input = c.args.input;
+      given = refl;
+      letters = taken.out.letters;
+      batch = c.in-Ok.ensures.ok ∙ (λ i. batch_of (c.number-node.ensures i) (letters i));
+      taken = record {
+        mid = taken.mid;
+        between = taken.between;
+        rebases = taken.rebases;
+        stepped = taken.stepped;
+        out = taken.out;
+        steps = taken.steps;
+        writes = taken.writes;
+        noted = taken.noted;
+        sent = refl;
+        calls = taken.calls;
+        alive = taken.alive;
+        store_alive = taken.store_alive;
+        awake = taken.awake;
+      };
+    }
 
 -- ---- at every exit
 

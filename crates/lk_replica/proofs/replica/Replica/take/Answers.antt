@@ -1,10 +1,10 @@
-use Rattle.std.proofs.Common.{◌≡◌, true, false, List, ◌++◌, Contains, IfErr, inl, inr, refl, sym, ◌∙◌, ap, subst, arith}
+use Rattle.std.proofs.Common.{◌≡◌, true, false, List, [], ◌++◌, Contains, IfErr, inl, inr, refl, sym, ◌∙◌, ap, subst, arith}
 use Rattle.lk_log.specs.StoreValue.{disks}
 use Rattle.lk_state.specs.Meanings.{meaning}
 use Rattle.lk_node.specs.Calls.{InputFits, NodeFits, Goes}
 use Rattle.lk_node.specs.Keeping.{Stands}
 use Rattle.lk_node.specs.Letters.{LetterValue, batch_of}
-use Rattle.lk_replica.specs.Posts.{SendsSome}
+use Rattle.lk_replica.specs.Posts.{CarriesAll, SendsSome}
 use Rattle.lk_replica.specs.ReplicaValue.{ReplicaValue}
 use Rattle.lk_node.specs.Outboxes.{OutboxValue}
 use Rattle.lk_replica.specs.Compacting.{RebasesWhereDue}
@@ -68,46 +68,57 @@ returns-clause-syncs g c honest telling genesis n x shown =
           (subst (λ (ls : List LetterValue). Contains (batch_of n ls) d) letters (batch_among n kept.0 c.deref.result.now (thins_are_of c.deref.result.now (c.in-Err.ensures.some telling).0 kept.0 kept.1) d listed)) said,
     )
 
+pub returns-then-self-clause-exact : goal.returns-then-self-clause-exact
+returns-then-self-clause-exact g c = record { letters = []; carried = refl; holds = λ honest. tt }
+
+pub returns-in_err-outbox-clause-exact : goal.returns-in_err-outbox-clause-exact
+returns-in_err-outbox-clause-exact g c = record { letters = []; carried = refl; holds = λ honest. goes_not _ _ _ c.from_residual.ensures.1 c.in_err-outbox.ensures.refused.only }
+
 pub returns-in-Ok-clause-exact : goal.returns-in-Ok-clause-exact
-returns-in-Ok-clause-exact g c honest telling =
+returns-in-Ok-clause-exact g c =
     let letters : c.deref.result.now ≡ c.in_ok-outbox.outbox.letters = c.deref.ensures.value ∙ ap (λ (o : OutboxValue). o.letters) c.outbox.view_is in
     record {
-      out = c.in_ok-outbox.outbox;
-      mid = (c.in_ok-outbox.ensures.exact honest).0;
-      between = (c.in_ok-outbox.ensures.exact honest).1;
-      rebases = subst (λ (r : ReplicaValue). RebasesWhereDue r.node r.store (c.in_ok-outbox.ensures.exact honest).0 (c.in_ok-outbox.ensures.exact honest).1) c.self.view_is (c.in_ok-outbox.ensures.exact honest).2;
-      stepped = (c.in_ok-outbox.ensures.exact honest).3;
-      steps = (c.in_ok-outbox.ensures.exact honest).4;
-      writes = (c.in_ok-outbox.ensures.exact honest).5;
-      noted = ap (λ (o : OutboxValue). o.notes) c.outbox.view_is;
-      sent = c.in-Ok.ensures.all telling ∙ ap (λ (ls : List LetterValue). g.P.Post.sent c.args.post.now ++ ls) letters;
-      calls = λ metered. subst (λ (r : ReplicaValue). CallsOfStep r.node r.store c.in_ok-outbox.outbox c.rebase_and_step.new.store) c.self.view_is (c.in_ok-outbox.ensures.calls metered honest);
-      alive = refl;
-      store_alive = c.in_ok-outbox.ensures.alive.store_alive;
-      awake = c.in_ok-outbox.ensures.alive.awake;
+      letters = c.in_ok-outbox.outbox.letters;
+      carried = subst (λ (ls : List LetterValue). CarriesAll g.P.Post.Carries c.args.post.now ls c.deliver.new.post) letters c.deliver.ensures.carries;
+      holds = λ honest. record {
+        out = c.in_ok-outbox.outbox;
+        mid = (c.in_ok-outbox.ensures.exact honest).0;
+        between = (c.in_ok-outbox.ensures.exact honest).1;
+        rebases = subst (λ (r : ReplicaValue). RebasesWhereDue r.node r.store (c.in_ok-outbox.ensures.exact honest).0 (c.in_ok-outbox.ensures.exact honest).1) c.self.view_is (c.in_ok-outbox.ensures.exact honest).2;
+        stepped = (c.in_ok-outbox.ensures.exact honest).3;
+        steps = (c.in_ok-outbox.ensures.exact honest).4;
+        writes = (c.in_ok-outbox.ensures.exact honest).5;
+        noted = ap (λ (o : OutboxValue). o.notes) c.outbox.view_is;
+        sent = (refl, λ telling. c.in-Ok.ensures.all telling ∙ ap (λ (ls : List LetterValue). g.P.Post.sent c.args.post.now ++ ls) letters);
+        calls = λ metered. subst (λ (r : ReplicaValue). CallsOfStep r.node r.store c.in_ok-outbox.outbox c.rebase_and_step.new.store) c.self.view_is (c.in_ok-outbox.ensures.calls metered honest);
+        alive = refl;
+        store_alive = c.in_ok-outbox.ensures.alive.store_alive;
+        awake = c.in_ok-outbox.ensures.alive.awake;
+      };
     }
 
 pub returns-clause-exact : goal.returns-clause-exact
-returns-clause-exact g c honest telling =
+returns-clause-exact g c =
     let letters : c.deref.result.now ≡ c.in_ok-outbox.outbox.letters = c.deref.ensures.value ∙ ap (λ (o : OutboxValue). o.letters) c.outbox.view_is in
     record {
-      out = c.in_ok-outbox.outbox;
-      mid = (c.in_ok-outbox.ensures.exact honest).0;
-      between = (c.in_ok-outbox.ensures.exact honest).1;
-      rebases = subst (λ (r : ReplicaValue). RebasesWhereDue r.node r.store (c.in_ok-outbox.ensures.exact honest).0 (c.in_ok-outbox.ensures.exact honest).1) c.self.view_is (c.in_ok-outbox.ensures.exact honest).2;
-      stepped = (c.in_ok-outbox.ensures.exact honest).3;
-      steps = (c.in_ok-outbox.ensures.exact honest).4;
-      writes = (c.in_ok-outbox.ensures.exact honest).5;
-      noted = ap (λ (o : OutboxValue). o.notes) c.outbox.view_is;
-      sent = subst (λ (ls : List LetterValue). SendsSome ls (g.P.Post.sent c.args.post.now) (g.P.Post.sent c.deliver.new.post) (g.P.Post.failures c.args.post.now) (g.P.Post.failures c.deliver.new.post)) letters (c.in-Err.ensures.some telling);
-      calls = λ metered. subst (λ (r : ReplicaValue). CallsOfStep r.node r.store c.in_ok-outbox.outbox c.rebase_and_step.new.store) c.self.view_is (c.in_ok-outbox.ensures.calls metered honest);
-      alive = refl;
-      store_alive = c.in_ok-outbox.ensures.alive.store_alive;
-      awake = c.in_ok-outbox.ensures.alive.awake;
+      letters = c.in_ok-outbox.outbox.letters;
+      carried = subst (λ (ls : List LetterValue). CarriesAll g.P.Post.Carries c.args.post.now ls c.deliver.new.post) letters c.deliver.ensures.carries;
+      holds = λ honest. record {
+        out = c.in_ok-outbox.outbox;
+        mid = (c.in_ok-outbox.ensures.exact honest).0;
+        between = (c.in_ok-outbox.ensures.exact honest).1;
+        rebases = subst (λ (r : ReplicaValue). RebasesWhereDue r.node r.store (c.in_ok-outbox.ensures.exact honest).0 (c.in_ok-outbox.ensures.exact honest).1) c.self.view_is (c.in_ok-outbox.ensures.exact honest).2;
+        stepped = (c.in_ok-outbox.ensures.exact honest).3;
+        steps = (c.in_ok-outbox.ensures.exact honest).4;
+        writes = (c.in_ok-outbox.ensures.exact honest).5;
+        noted = ap (λ (o : OutboxValue). o.notes) c.outbox.view_is;
+        sent = (refl, λ telling. subst (λ (ls : List LetterValue). SendsSome ls (g.P.Post.sent c.args.post.now) (g.P.Post.sent c.deliver.new.post) (g.P.Post.failures c.args.post.now) (g.P.Post.failures c.deliver.new.post)) letters (c.in-Err.ensures.some telling));
+        calls = λ metered. subst (λ (r : ReplicaValue). CallsOfStep r.node r.store c.in_ok-outbox.outbox c.rebase_and_step.new.store) c.self.view_is (c.in_ok-outbox.ensures.calls metered honest);
+        alive = refl;
+        store_alive = c.in_ok-outbox.ensures.alive.store_alive;
+        awake = c.in_ok-outbox.ensures.alive.awake;
+      };
     }
-
-pub returns-in_err-outbox-clause-exact : goal.returns-in_err-outbox-clause-exact
-returns-in_err-outbox-clause-exact g c honest telling = goes_not _ _ _ c.from_residual.ensures.1 c.in_err-outbox.ensures.refused.only
 
 -- ---- where it goes on
 
