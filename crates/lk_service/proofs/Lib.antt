@@ -1,2 +1,3 @@
 mod Books
-mod Letters
+mod Carrying
+mod Sayings

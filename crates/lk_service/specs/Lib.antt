@@ -4,3 +4,4 @@ pub mod Posts
 pub mod Replies
 pub mod Servers
 pub mod Sights
+pub mod Sayings

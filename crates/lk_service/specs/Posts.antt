@@ -1,8 +1,9 @@
 -- Where a letter goes, and what a contract sees of a post that has a socket.
-use Rattle.std.specs.Prelude.{◌≡◌, ◌≢◌, ◌==◌, ℕ, List, [], ◌∷◌, ◌++◌, Option, Some, None, MatchBool, IfSome, IsSome}
+use Rattle.std.specs.Prelude.{◌≡◌, ◌≢◌, ◌⊎◌, ◌==◌, ℕ, Bool, true, false, List, [], ◌∷◌, ◌++◌, Option, Some, None, MatchBool, IfSome, IsSome}
 use Rattle.std.specs.Net.Socket.{socket_port}
 use Rattle.std.specs.declared.net.socket_addr.SocketAddr.{SocketAddr}
 use Rattle.lk_types.specs.Ranges.{IsClient}
+use Rattle.lk_disk.specs.Disk.{one_more}
 use Rattle.lk_wire.specs.Grammar.{Spells}
 use Rattle.lk_wire.specs.declared.message.Message.{Message}
 use Rattle.lk_wire.specs.declared.message.Content.{Content}
@@ -12,14 +13,25 @@ use Rattle.lk_node.specs.declared.to.To.{To}
 use Rattle.lk_node.specs.declared.to.To.TheVariants.{Node, Client}
 use Rattle.lk_service.specs.Addresses.{AddressBook, client_at, node_at, moved_up}
 
--- whose it is, what the socket has sent, the letters of the node to itself that it keeps, from where others wrote, and how many
--- sends failed
+-- whose it is, from where others wrote, the letters of the node to itself that are kept, what the socket has sent, how often a send
+-- of the socket has failed and how often in this step, and what comes to the socket next
 pub record PostValue : Type 0 where
   pub node : ℕ
-  pub sent : List (SocketAddr × List ℕ)
-  pub own : List LetterValue
   pub addresses : AddressBook
+  pub own : List LetterValue
+  pub sent : List (SocketAddr × List ℕ)
+  pub socket_failures : ℕ
   pub failures : ℕ
+  pub next : Option (SocketAddr × List ℕ)
+
+-- what a letter may change: the letters of the node to itself that are kept, what the socket has sent, and how many of its sends have failed
+pub record Tray : Type 0 where
+  pub own : List LetterValue
+  pub sent : List (SocketAddr × List ℕ)
+  pub failures : ℕ
+
+abbrev pub tray_of : PostValue → Tray
+tray_of p = record { own = p.own; sent = p.sent; failures = p.socket_failures }
 
 -- a client gets it where it wrote last, a node at its port, and where that is 0 where it wrote last
 abbrev pub IsRoute : AddressBook → To → Option SocketAddr → Type 0
@@ -36,16 +48,35 @@ abbrev pub IsBoundFor : ℕ → To → Type 0
 IsBoundFor node (Client c) = ⊥
 IsBoundFor node (Node n port) = n ≡ node
 
--- a letter of the node to itself is kept behind those that are, and nothing is sent
-pub record Keeps (to : To) (bytes : List ℕ) (old new : PostValue) : Type 0 where
-  pub bound : IsBoundFor old.node to
-  pub own : new.own ≡ old.own ++ record { to = to; bytes = bytes } ∷ []
+-- a letter of the node to itself is kept after those that are, and nothing is sent
+pub record Keeps (node : ℕ) (l : LetterValue) (old new : Tray) : Type 0 where
+  pub bound : IsBoundFor node l.to
+  pub own : new.own ≡ old.own ++ l ∷ []
   pub sent : new.sent ≡ old.sent
+  pub failures : new.failures ≡ old.failures
 
--- it is sent where it goes, if the socket tells that, and no letter is kept
-pub record Sends (tells : Type 0) (to : To) (bytes : List ℕ) (old new : PostValue) : Type 0 where
+-- it is sent where it goes, whole and once, if the socket tells that, and no letter is kept
+pub record Sends (tells : Type 0) (book : AddressBook) (l : LetterValue) (old new : Tray) : Type 0 where
   pub own : new.own ≡ old.own
-  pub sent : tells → (place : Option SocketAddr) × IsRoute old.addresses to place × (new.sent ≡ old.sent ++ carried place bytes)
+  pub sent : tells → (place : Option SocketAddr) × IsRoute book l.to place × (new.sent ≡ old.sent ++ carried place l.bytes)
+  pub failures : tells → new.failures ≡ old.failures
+
+-- it is lost: one more send has failed, if the socket tells that, nothing is sent and no letter is kept
+pub record Loses (tells : Type 0) (old new : Tray) : Type 0 where
+  pub own : new.own ≡ old.own
+  pub sent : tells → new.sent ≡ old.sent
+  pub failures : tells → new.failures ≡ one_more old.failures
+
+-- what becomes of a letter of that node by these addresses: it is kept or sent, or its send has failed
+abbrev pub Becomes : Type 0 → ℕ → AddressBook → Tray → LetterValue → Bool → Tray → Type 0
+Becomes tells node book old l true new = Keeps node l old new ⊎ Sends tells book l old new
+Becomes tells node book old l false new = Loses tells old new
+
+-- so at a post, of which nothing else is changed by a letter but how often a send has failed in this step
+pub record CarriesLetter (tells : Type 0) (old : PostValue) (l : LetterValue) (is_sent : Bool) (new : PostValue) : Type 0 where
+  pub node : new.node ≡ old.node
+  pub addresses : new.addresses ≡ old.addresses
+  pub becomes : Becomes tells old.node old.addresses (tray_of old) l is_sent (tray_of new)
 
 -- that client's address is kept in place of its last one, and no other changes
 pub record HearsClient (client : ℕ) (from : SocketAddr) (old new : AddressBook) : Type 0 where

@@ -27,6 +27,7 @@ impl Ear {
         ensures some { S.is_telling → IfSome result (λ r. S.next socket.old ≡ Some (r.1, r.0.now)) }
         ensures none { S.is_telling → IsNone result → S.next socket.old ≡ None }
         ensures unchanged { S.sent socket.new ≡ S.sent socket.old }
+        ensures spares { S.failures socket.new ≡ S.failures socket.old }
     {
         let Some((length, from)) = socket.receive(&mut self.buffer) else {
             return None;

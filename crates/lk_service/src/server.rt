@@ -1,14 +1,13 @@
 //! A node that serves on a socket.
 
-ghost use Rattle.std.specs.Prelude.{◌≡◌, ◌⊎◌, ℕ, ◌+◌, ◌%◌, ◌^◌, ◌++◌, ◌∷◌, [], None, true, false, OnOk, OnErr, IfOk, IfErr};
+ghost use Rattle.std.specs.Prelude.{◌≡◌, ◌⊎◌, ℕ, ◌+◌, ◌%◌, ◌^◌, ◌++◌, ◌∷◌, [], None, true, false, drop, OnOk, OnErr, IfOk, IfErr};
 ghost use Rattle.lk_types.specs.Ranges.{IsClient};
 ghost use Rattle.lk_node.specs.Calls.{heard_by};
 ghost use Rattle.lk_replica.specs.Faults.{fault_number, IfSend};
 ghost use Rattle.lk_service.specs.Addresses.{client_at, node_at};
 ghost use Rattle.lk_service.specs.Posts.{Hears};
-ghost use Rattle.lk_service.specs.Servers.{inputs, EndsBehind, FindsNone, Grows, TakesOne, TakesNext, TakesOwn, TicksIdle};
+ghost use Rattle.lk_service.specs.Servers.{inputs, EndsBehind, FindsNone, HandsOn, Runs, ServesOn, TakesOne, TakesNext, TakesOwn, TicksIdle};
 
-use crate::addresses::Addresses;
 use crate::came::Came;
 use crate::ear::Ear;
 use crate::fault::ServiceFault;
@@ -23,24 +22,19 @@ use lk_replica::ReplicaFault;
 use lk_types::NodeNo;
 use log::Log;
 use std::alloc::Global;
-use std::collections::VecDeque;
 use std::marker::Model;
 use std::net::SocketAddr;
 
 /// So many datagrams bring a tick, however fast they come.
 const DATAGRAMS_PER_TICK: u64 = 64;
 
-/// A replica, the socket on which it serves, and from where others wrote to it.
+/// A replica, and the post with the socket on which it serves.
 #[derive(Drop)]
 pub struct Server<R: NodeReplica, S: Datagrams + Drop> {
-    alloc: Global,
     cluster: u64,
-    node: NodeNo,
     replica: R,
-    socket: S,
-    // what the node wrote to itself and has not taken yet
-    own: VecDeque<Letter>,
-    addresses: Addresses,
+    // what the node wrote to itself and has not taken yet is kept there
+    post: SocketPost<S>,
     // the datagrams that came, modulo 2^64
     received: u64,
     // those of them that say nothing to it
@@ -50,9 +44,9 @@ pub struct Server<R: NodeReplica, S: Datagrams + Drop> {
 impl<R: NodeReplica, S: Datagrams + Drop> Model for Server<R, S> {
     ghost use Rattle.lk_service.specs.Servers.{ServerValue};
 
-    ghost Value = { ServerValue };
+    ghost Value = { ServerValue R };
 
-    ghost view = { λ s. record { cluster = s.cluster; node = s.node; own = s.own.items; given = R.given s.replica; addresses = s.addresses; received = s.received; failed = R.failed s.replica; sent = S.sent s.socket; next = S.next s.socket } };
+    ghost view = { λ s. record { cluster = s.cluster; node = s.post.node; replica = s.replica; own = s.post.own; given = R.given s.replica; addresses = s.post.addresses; received = s.received; failed = R.failed s.replica; sent = s.post.sent; socket_failures = s.post.socket_failures; next = s.post.next } };
 }
 
 impl<R: NodeReplica, S: Datagrams + Drop> Server<R, S> {
@@ -60,23 +54,17 @@ impl<R: NodeReplica, S: Datagrams + Drop> Server<R, S> {
     pub fn new(alloc: Global, cluster: u64, node: NodeNo, replica: R, socket: S) -> Server<R, S>
         ensures cluster { result.cluster ≡ cluster }
         ensures node { result.node ≡ node }
+        ensures replica { Runs replica (R.given replica) (R.failed replica) result }
         ensures own { result.own ≡ [] }
-        ensures given { result.given ≡ R.given replica }
         ensures clients { (c : ℕ) → IsClient c → client_at result.addresses c ≡ None }
         ensures nodes { (n : ℕ) → node_at result.addresses n ≡ None }
         ensures received { result.received ≡ 0 }
-        ensures failed { result.failed ≡ R.failed replica }
-        ensures sent { result.sent ≡ S.sent socket }
-        ensures next { result.next ≡ S.next socket }
+        ensures socket { ServesOn (S.sent socket) (S.failures socket) (S.next socket) result }
     {
         Server {
-            alloc,
             cluster,
-            node,
             replica,
-            socket,
-            own: VecDeque::new(alloc),
-            addresses: Addresses::new(),
+            post: SocketPost::new(alloc, node, socket),
             received: 0,
             strangers: Strangers::new(),
         }
@@ -84,23 +72,21 @@ impl<R: NodeReplica, S: Datagrams + Drop> Server<R, S> {
 
     /// The replica.
     pub fn replica(&self) -> &R
-        ensures { R.given result.now ≡ self.now.given }
+        ensures is { result.now ≡ self.now.replica }
+        ensures given { R.given result.now ≡ self.now.given }
     {
         &self.replica
     }
 
     /// The replica, as the server leaves it.
     pub fn into_replica(self) -> R
-        ensures { R.given result ≡ self.given }
+        ensures is { result ≡ self.replica }
+        ensures given { R.given result ≡ self.given }
     {
         let Server {
-            alloc: _,
             cluster: _,
-            node: _,
             replica,
-            socket: _,
-            own: _,
-            addresses: _,
+            post: _,
             received: _,
             strangers: _,
         } = self;
@@ -118,19 +104,18 @@ impl<R: NodeReplica, S: Datagrams + Drop> Server<R, S> {
         ensures addresses { self.new.addresses ≡ self.old.addresses }
         ensures cluster { self.new.cluster ≡ self.old.cluster }
         ensures node { self.new.node ≡ self.old.node }
-        // What it wrote to itself stands behind what it had written.
-        ensures own { Grows self.old.own self.new.own }
+        // What the replica said was sent or kept, or a send of it failed, and nothing else was sent.
+        ensures hands_on { HandsOn R.Says S.is_telling R.is_telling self.old.own self.old self.new }
         ensures received { self.new.received ≡ self.old.received }
         ensures alive { OnOk result (self.new.failed ≡ false) }
         ensures sends_on { IfErr result (IfSend (λ notes. self.new.failed ≡ false)) }
         ensures broken { IfErr result (λ e. (fault_number e ≡ 15 → ⊥) → self.new.failed ≡ true) }
     {
         let before = self.replica.sight();
-        let mut post = SocketPost::new(self.alloc, self.node, &mut self.socket, &self.addresses);
-        let taken = self.replica.take(input, &mut post);
-        let carried = post.end(&mut self.own);
+        self.post.begin();
+        let taken = self.replica.take(input, &mut self.post);
         log_changes(log, came, &before, &self.replica.sight());
-        log_carried(log, came, &carried, self.socket.cause());
+        log_carried(log, came, &self.post.carried(), self.post.cause());
         taken
     }
 
@@ -140,8 +125,8 @@ impl<R: NodeReplica, S: Datagrams + Drop> Server<R, S> {
         ensures addresses { self.new.addresses ≡ self.old.addresses }
         ensures cluster { self.new.cluster ≡ self.old.cluster }
         ensures node { self.new.node ≡ self.old.node }
-        // What it wrote to itself stands behind what it had written.
-        ensures own { Grows self.old.own self.new.own }
+        // What the replica said was sent or kept, or a send of it failed, and nothing else was sent.
+        ensures hands_on { HandsOn R.Says S.is_telling R.is_telling self.old.own self.old self.new }
         ensures received { self.new.received ≡ self.old.received }
         ensures passes { IfErr result (λ f. f ≡ ServiceFault.Send → ⊥) }
         ensures alive { OnOk result (self.new.failed ≡ false) }
@@ -162,8 +147,8 @@ impl<R: NodeReplica, S: Datagrams + Drop> Server<R, S> {
         ensures addresses { self.new.addresses ≡ self.old.addresses }
         ensures cluster { self.new.cluster ≡ self.old.cluster }
         ensures node { self.new.node ≡ self.old.node }
-        // What it wrote to itself stands behind what it had written.
-        ensures own { Grows self.old.own self.new.own }
+        // What the replica said was sent or kept, or a send of it failed, and nothing else was sent.
+        ensures hands_on { HandsOn R.Says S.is_telling R.is_telling self.old.own self.old self.new }
         ensures received { self.new.received ≡ self.old.received }
         ensures passes { IfErr result (λ f. f ≡ ServiceFault.Send → ⊥) }
         ensures alive { OnOk result (self.new.failed ≡ false) }
@@ -172,7 +157,6 @@ impl<R: NodeReplica, S: Datagrams + Drop> Server<R, S> {
         self.take(Input::Tick, &Came::Tick, log)
     }
 
-    #[tactic(auto, using(crate::proofs::Letters::grows_on))]
     // Its replica takes a datagram, and after every 64th a tick.
     fn take_counted<L: Log>(
         &mut self,
@@ -186,7 +170,7 @@ impl<R: NodeReplica, S: Datagrams + Drop> Server<R, S> {
         ensures addresses { self.new.addresses ≡ self.old.addresses }
         ensures cluster { self.new.cluster ≡ self.old.cluster }
         ensures node { self.new.node ≡ self.old.node }
-        ensures own { Grows self.old.own self.new.own }
+        ensures hands_on { HandsOn R.Says S.is_telling R.is_telling self.old.own self.old self.new }
         ensures passes { IfErr result (λ f. f ≡ ServiceFault.Send → ⊥) }
         ensures alive { OnOk result (self.new.failed ≡ false) }
         ensures broken { OnErr result (self.new.failed ≡ true) }
@@ -212,12 +196,12 @@ impl<R: NodeReplica, S: Datagrams + Drop> Server<R, S> {
         ensures counted { self.new.received ≡ (self.old.received + 1) % 2 ^ 64 }
         ensures cluster { self.new.cluster ≡ self.old.cluster }
         ensures node { self.new.node ≡ self.old.node }
-        ensures own { Grows self.old.own self.new.own }
+        ensures hands_on { HandsOn R.Says S.is_telling R.is_telling self.old.own self.old self.new }
         ensures passes { IfErr result (λ f. f ≡ ServiceFault.Send → ⊥) }
         ensures alive { OnOk result (self.new.failed ≡ false) }
         ensures broken { OnErr result (self.new.failed ≡ true) }
     {
-        let came = self.addresses.hear(self.cluster, bytes, from);
+        let came = self.post.hear(self.cluster, bytes, from);
         self.strangers.count(&came, log);
         self.take_counted(bytes, &came, log)
     }
@@ -229,7 +213,7 @@ impl<R: NodeReplica, S: Datagrams + Drop> Server<R, S> {
         ensures addresses { self.new.addresses ≡ self.old.addresses }
         ensures cluster { self.new.cluster ≡ self.old.cluster }
         ensures node { self.new.node ≡ self.old.node }
-        ensures own { Grows self.old.own self.new.own }
+        ensures hands_on { HandsOn R.Says S.is_telling R.is_telling self.old.own self.old self.new }
         ensures passes { IfErr result (λ f. f ≡ ServiceFault.Send → ⊥) }
         ensures alive { OnOk result (self.new.failed ≡ false) }
         ensures broken { OnErr result (self.new.failed ≡ true) }
@@ -244,13 +228,14 @@ impl<R: NodeReplica, S: Datagrams + Drop> Server<R, S> {
         ensures hands { S.is_telling → R.is_telling → IfOk result (λ came. came ≡ true → TakesNext self.old self.new) }
         ensures idle { S.is_telling → IfOk result (λ came. came ≡ false → self.old.next ≡ None) }
         ensures none { IfOk result (λ came. came ≡ false → record self.new { next = self.old.next } ≡ self.old) }
+        ensures hands_on { HandsOn R.Says S.is_telling R.is_telling self.old.own self.old self.new }
         ensures cluster { self.new.cluster ≡ self.old.cluster }
         ensures node { self.new.node ≡ self.old.node }
         ensures passes { IfErr result (λ f. f ≡ ServiceFault.Send → ⊥) }
         ensures alive { IfOk result (λ came. came ≡ true → self.new.failed ≡ false) }
         ensures broken { OnErr result (self.new.failed ≡ true) }
     {
-        let Some((bytes, from)) = ear.receive(&mut self.socket) else {
+        let Some((bytes, from)) = self.post.receive(ear) else {
             return Ok(false);
         };
         self.take_datagram(bytes, from, log)?;
@@ -266,13 +251,15 @@ impl<R: NodeReplica, S: Datagrams + Drop> Server<R, S> {
         // Else it is the whole of what came, from where it came.
         ensures hands { S.is_telling → R.is_telling → IfOk result (λ came. came ≡ true → self.old.own ≡ [] → TakesNext self.old self.new) }
         ensures none { IfOk result (λ came. came ≡ false → FindsNone S.is_telling self.old self.new) }
+        // What the replica said by that was sent or kept, or a send of it failed, in order, and nothing else was sent.
+        ensures hands_on { HandsOn R.Says S.is_telling R.is_telling (drop 1 self.old.own) self.old self.new }
         ensures cluster { self.new.cluster ≡ self.old.cluster }
         ensures node { self.new.node ≡ self.old.node }
         ensures passes { IfErr result (λ f. f ≡ ServiceFault.Send → ⊥) }
         ensures alive { IfOk result (λ came. came ≡ true → self.new.failed ≡ false) }
         ensures broken { OnErr result (self.new.failed ≡ true) }
     {
-        match self.own.pop_front() {
+        match self.post.next_own() {
             Some(letter) => {
                 self.take_own(&letter, log)?;
                 Ok(true)
@@ -293,6 +280,9 @@ pub fn node_turn<R: NodeReplica, S: Datagrams + Drop, L: Log>(
     ensures own { OnOk result ((server.old.own ≡ []) ⊎ TakesOwn R.is_telling server.old server.new) }
     // Else it takes the whole of what came, from where it came, and a tick where nothing did.
     ensures hands { S.is_telling → R.is_telling → OnOk result (server.old.own ≡ [] → TakesNext server.old server.new ⊎ TicksIdle server.old server.new) }
+    // The letters that the replica said in this turn were each sent where they go, kept for the node itself, or lost by a send that failed,
+    // in order, and nothing else was sent.
+    ensures hands_on { HandsOn R.Says S.is_telling R.is_telling (drop 1 server.old.own) server.old server.new }
     ensures cluster { server.new.cluster ≡ server.old.cluster }
     ensures node { server.new.node ≡ server.old.node }
     ensures passes { IfErr result (λ f. f ≡ ServiceFault.Send → ⊥) }

@@ -3,6 +3,7 @@
 ghost use Rattle.std.specs.Prelude.{◌≡◌, ◌≤◌, ◌++◌, ◌∷◌, [], List, ℕ, Option, Some, None, length, take, IfSome, IsNone, OnOk, OnErr};
 ghost use Rattle.std.specs.Net.Socket.{socket_port};
 ghost use Rattle.std.specs.declared.net.socket_addr.SocketAddr.{SocketAddr as Address};
+ghost use Rattle.lk_disk.specs.Disk.{HasCause};
 
 use crate::fault::ServiceFault;
 use lk_replica::SendFault;
@@ -28,13 +29,17 @@ pub trait Datagrams {
     /// What comes next: from which address, and the bytes.
     ghost next: { Self → Option (Address × List ℕ) };
 
-    /// It tells what was sent, and what comes next. It is a fact of its kind, so no call can end it.
+    /// How often a send has failed.
+    ghost failures: { Self → ℕ };
+
+    /// It tells what was sent, how often that failed, and what comes next. It is a fact of its kind, so no call can end it.
     ghost is_telling: { Type 0 };
 
-    /// Sends a datagram. A failed call sends nothing.
+    /// Sends a datagram. A failed call sends nothing, and is counted.
     fn send_to(&mut self, to: SocketAddr, bytes: &[u8]) -> Result<(), SendFault>
         ensures ok { is_telling → OnOk result (sent self.new ≡ sent self.old ++ (to, bytes.now) ∷ []) }
-        ensures err { is_telling → OnErr result (sent self.new ≡ sent self.old) };
+        ensures err { is_telling → OnErr result (sent self.new ≡ sent self.old) }
+        ensures cause { is_telling → HasCause (failures self.old) (failures self.new) result };
 
     /// Puts the next datagram into the buffer, and tells its length and from where it came. What does not fit is lost.
     /// `None` where none came within 100 ms, or the receive failed.
@@ -42,7 +47,8 @@ pub trait Datagrams {
         ensures within { IfSome result (λ r. r.0 ≤ length buffer.new) }
         ensures some { is_telling → IfSome result (λ r. next self.old ≡ Some (r.1, take r.0 buffer.new)) }
         ensures none { is_telling → IsNone result → next self.old ≡ None }
-        ensures unchanged { sent self.new ≡ sent self.old };
+        ensures unchanged { sent self.new ≡ sent self.old }
+        ensures spares { failures self.new ≡ failures self.old };
 
     /// Why the last send that failed did, where the system told it.
     fn cause(&self) -> Option<io::Error>;
@@ -89,6 +95,8 @@ impl Datagrams for LocalSocket {
     ghost sent = { λ _. [] };
 
     ghost next = { λ _. None };
+
+    ghost failures = { λ _. 0 };
 
     ghost is_telling = { ⊥ };
 

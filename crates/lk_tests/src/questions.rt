@@ -26,6 +26,8 @@ impl Datagrams for Scripted {
 
     ghost next = { λ _. None };
 
+    ghost failures = { λ _. 0 };
+
     ghost is_telling = { ⊥ };
 
     fn send_to(&mut self, to: SocketAddr, _bytes: &[u8]) -> Result<(), SendFault> {

@@ -1,5 +1,5 @@
 //! What a turn logs, and a demonstration that nobody answers.
-ghost use Rattle.std.specs.Prelude.{[], None};
+ghost use Rattle.std.specs.Prelude.{◌≡◌, [], None};
 
 use lk_locks::LockTable;
 use lk_node::{Input, Note};
@@ -55,6 +55,8 @@ impl NodeReplica for Told {
 
     ghost failed = { λ t. t.failed };
 
+    ghost Says = { λ _ _ letters _. letters ≡ [] };
+
     fn take<P: Post>(&mut self, _input: Input, _post: &mut P) -> Result<Vec<Note>, ReplicaFault> {
         self.failed = true;
         self.sight = self.after;
@@ -82,6 +84,8 @@ impl Datagrams for Waiting {
     ghost sent = { λ _. [] };
 
     ghost next = { λ _. None };
+
+    ghost failures = { λ _. 0 };
 
     ghost is_telling = { ⊥ };
 

@@ -9,9 +9,9 @@ returns-clause-given g c = λ telling _.
 pub returns-clause-hands : goal.returns-clause-hands
 returns-clause-hands g c = λ tells telling _.
     let viewed : c.args.self.now.given ≡ g.R.NodeReplica.given c.self.inside.replica = search rules in
-    let next : c.args.self.now.next ≡ g.S.Datagrams.next c.self.inside.socket = search rules in
+    let next : c.args.self.now.next ≡ c.self.inside.post.next = search rules in
     let cluster : c.args.self.now.cluster ≡ c.self.inside.cluster = search rules in
-    let addresses : c.args.self.now.addresses ≡ c.self.inside.addresses = search rules in (
+    let addresses : c.args.self.now.addresses ≡ c.receive.new.self.addresses = search rules in (
       c.in-Some.from,
       c.in-Some.bytes.now,
       record {
