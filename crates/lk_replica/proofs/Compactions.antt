@@ -1,45 +1,35 @@
 -- A call that was told to compact, by what it came to.
-use Rattle.std.proofs.Common.{◌≡◌, ◌∙◌, ℕ, ◌<◌, ◌≤◌, ◌⊎◌, List, [], ◌∷◌, Bool, true, false, Result, Ok, Err, OnOk, OnErr, refl, sym, ap, subst, inl, inr, arith}
+use Rattle.std.proofs.Common.{◌≡◌, ◌∙◌, ℕ, ◌<◌, ◌≤◌, ◌⊎◌, Bool, true, false, Result, Ok, Err, OnOk, refl, sym, ap, subst, inl, inr, arith}
 use Rattle.std.proofs.lemmas.Bool.{cases_lt}
-use Rattle.std.specs.Prelude.{IfErr, IsErrAnd, IsErrOf}
+use Rattle.std.specs.Prelude.{⊤, IfErr, IsErrAnd, IsErrOf}
 use Rattle.lk_types.specs.Limits.{max_count}
 use Rattle.lk_disk.specs.Meters.{Passes}
-use Rattle.lk_disk.specs.declared.meter.Meter.{Meter}
 use Rattle.lk_log.specs.Causes.{rebase_calls}
-use Rattle.lk_log.specs.StoreValue.{StoreValue, disks}
-use Rattle.lk_log.specs.Stores.{Holds, next_base}
+use Rattle.lk_log.specs.StoreValue.{StoreValue}
 use Rattle.lk_log.specs.declared.fault.StoreFault.{StoreFault}
 use Rattle.lk_log.specs.declared.fault.StoreFault.TheVariants as store
-use Rattle.lk_log.specs.declared.stored.Stored.{Stored}
-use Rattle.lk_log.specs.declared.stored.Stored.TheVariants.{Base}
 use Rattle.lk_learner.specs.Learners.{executed}
 use Rattle.lk_state.specs.Meanings.{Meaning}
-use Rattle.lk_node.specs.Histories.{Genesis}
-use Rattle.lk_node.specs.Holdings.{Holding}
-use Rattle.lk_node.specs.Keeping.{Stands}
-use Rattle.lk_node.specs.Packing.{standing_of, standing_here}
-use Rattle.lk_replica.specs.Compacted.{IsCompacted, IsStoreFault, CompactsTo}
-use Rattle.lk_replica.specs.Compacting.{AllStandAt, AreSame}
-use Rattle.lk_replica.specs.Faults.{fault_number, fault_of, CountsFailure, RefusedAfter, PassesOr, IfSpared}
+use Rattle.lk_replica.specs.Compacted.{IsCompacted, IsStoreFault, IsNotCompacted, CompactsTo}
+use Rattle.lk_replica.specs.Compacting.{AllStandAt}
+use Rattle.lk_replica.specs.Rebased.{StandsOnBase, HasGoneOver}
+use Rattle.lk_replica.specs.Faults.{fault_number, fault_of, CountsFailure, RefusedAfter}
 use Rattle.lk_replica.specs.ReplicaValue.{ReplicaValue}
 use Rattle.lk_replica.specs.declared.fault.ReplicaFault.{ReplicaFault}
 use Rattle.lk_replica.specs.declared.fault.ReplicaFault.TheVariants as fault
 use Rattle.lk_replica.proofs.OnDevices.{on_device}
-use Rattle.lk_replica.proofs.Spared.{spared_number}
 
 -- it has compacted
-pub compacted : {T : Type 0} (m : Meaning) (old new : ReplicaValue) (r : Result T ReplicaFault) → OnOk r (new.node ≡ standing_here old.node)
-    → ((ks ls : List Stored) → Holds old.store ks ls → OnOk r (Holds new.store (Base (next_base old.store (standing_of old.node)) ∷ []) []))
-    → ((genesis : Genesis) (n : ℕ) (x : Holding) → Stands m old.node old.store genesis n x → OnOk r (AllStandAt m genesis n (disks new.store) (executed new.node.learner) x.view.done))
-    → PassesOr old.store.meter new.store.meter rebase_calls r → OnOk r (new.failed ≡ false) → OnOk r (new.store.failed ≡ false) → OnOk r (IsCompacted m old new)
-compacted m old new (Ok done) becomes writes stands calls alive store_alive = record {
-  rebases = record { becomes = becomes; writes = writes };
-  stands = λ genesis n x shown. on_device (λ d. AllStandAt m genesis n d (executed new.node.learner) x.view.done) new.store (stands genesis n x shown);
-  calls = calls;
+pub compacted : {T : Type 0} (m : Meaning) (old new : ReplicaValue) (r : Result T ReplicaFault) → OnOk r (HasGoneOver m ⊤ old.node old.store new.node new.store) → OnOk r (StandsOnBase old.node old.store new.node new.store) → OnOk r (new.failed ≡ false)
+    → OnOk r (IsCompacted m old new)
+compacted m old new (Ok x) done becomes alive = record {
+  rebases = done.rebases;
+  stands = λ genesis n x shown. on_device (λ d. AllStandAt m genesis n d (executed new.node.learner) x.view.done) new.store (done.stands genesis n x shown);
+  calls = done.calls tt;
   alive = alive;
-  store_alive = store_alive;
+  store_alive = becomes.store_alive;
 }
-compacted m old new (Err e) becomes writes stands calls alive store_alive = tt
+compacted m old new (Err e) done becomes alive = tt
 
 -- one error
 same_error : {T E : Type 0} (e f : E) → ◌≡◌ {A = Result T E} (Err e) (Err f) → e ≡ f
@@ -63,6 +53,14 @@ rebase_refused old f before last otherwise = by_state old.failed refl
     by_state true is = failed_so f (same_error f store.Failed (before is))
     by_state false is = elim (cases_lt old.generation max_count) [ inl less ↦ refused_so f (otherwise is less) | inr most ↦ failed_so f (same_error f store.Failed (last most)) ]
 
+-- and a put
+pub put_refused : (old : StoreValue) (f : StoreFault) → (old.failed ≡ true → IsErrOf {T = Unit {0}} (Err f) store.Failed) → (old.failed ≡ false → (f ≡ store.Device) ⊎ (f ≡ store.NoMemory)) → IsStoreFault (fault_number (fault_of f))
+put_refused old f before otherwise = by_state old.failed refl
+  where
+    by_state : (b : Bool) → old.failed ≡ b → IsStoreFault (fault_number (fault_of f))
+    by_state true is = failed_so f (same_error f store.Failed (before is))
+    by_state false is = refused_so f (otherwise is)
+
 -- it was refused so
 pub refused_as : {T : Type 0} (r : Result T ReplicaFault) (f : ReplicaFault) → IsErrAnd r (λ e. e ≡ f) → IsStoreFault (fault_number f) → IfErr r (λ e. IsStoreFault (fault_number e))
 refused_as (Ok x) f is so = absurd is
@@ -78,32 +76,30 @@ failed_alone fault.Halted is = absurd (omega (arith, is))
 failed_alone (fault.Send notes) is = absurd (omega (arith, is))
 
 -- it was refused, for a cause
-pub refused : {T : Type 0} (m : Meaning) (old new : ReplicaValue) (r : Result T ReplicaFault) → CountsFailure old.store.failures new.store.failures r → PassesOr old.store.meter new.store.meter rebase_calls r
-    → (old.failed ≡ true → IsErrOf r fault.Failed) → (old.failed ≡ false → old.store.failed ≡ false → old.store.generation < max_count → IsErrOf r fault.Failed → ⊥) → (old.failed ≡ true → new ≡ old)
-    → OnErr r (new.failed ≡ true) → IfErr r (IfSpared (AreSame (disks old.store) (disks new.store))) → IfErr r (λ e. IsStoreFault (fault_number e)) → new.node.halted ≡ old.node.halted
+pub refused : {T : Type 0} (m : Meaning) (old new : ReplicaValue) (r : Result T ReplicaFault) → CountsFailure old.store.failures new.store.failures r → IfErr r (λ e. IsNotCompacted ⊤ ⊤ old new (fault_number e)) → new.node.halted ≡ old.node.halted
     → (max_count ≤ old.store.generation → (new.store ≡ old.store) × IsErrOf r fault.Failed) → IfErr r (λ e. CompactsTo m old new (Err (fault_number e)))
-refused m old new (Ok x) cause calls failed before stays broken same of_store wakes last = tt
-refused m old new (Err e) cause calls failed before stays broken same of_store wakes last = (
+refused m old new (Ok x) cause why wakes last = tt
+refused m old new (Err e) cause why wakes last = (
   record {
-    told = elim of_store [ inl a ↦ inl a | inr (inl a) ↦ inr (inl a) | inr (inr a) ↦ inr (inr (inl a)) ];
+    told = elim why.of_store [ inl a ↦ inl a | inr (inl a) ↦ inr (inl a) | inr (inr a) ↦ inr (inr (inl a)) ];
     failures = cause;
-    calls = λ metered honest. calls;
-    earlier = λ number alive store_alive further. before alive store_alive (omega (arith, further)) (ap Err (failed_alone e number));
-    once = λ ended. (ap fault_number (same_error e fault.Failed (failed ended)), stays ended);
-    ends = λ other. broken;
-    stays = λ honest device post. inl (spared_number (AreSame (disks old.store) (disks new.store)) e same device post);
-    halts = λ number. absurd (elim of_store [ inl a ↦ omega (arith, a, number) | inr (inl a) ↦ omega (arith, a, number) | inr (inr a) ↦ omega (arith, a, number) ]);
+    calls = why.calls;
+    earlier = λ number alive store_alive further. why.earlier number alive store_alive (omega (arith, further));
+    once = why.once;
+    ends = λ other. why.ends;
+    stays = λ honest device post. inl (why.stays honest device);
+    halts = λ number. absurd (elim why.of_store [ inl a ↦ omega (arith, a, number) | inr (inl a) ↦ omega (arith, a, number) | inr (inr a) ↦ omega (arith, a, number) ]);
     awake = λ was other. wakes ∙ was;
   },
-  of_store,
+  why.of_store,
   λ most. ap fault_number (same_error e fault.Failed (last most).1),
 )
 
 -- the calls of the device that it has made
-pub calls_ok : {T : Type 0} (m n : Meter) (k : ℕ) (r : Result T ReplicaFault) → PassesOr m n k r → OnOk r (Passes m n k)
-calls_ok m n k (Ok x) calls = calls
-calls_ok m n k (Err e) calls = tt
+pub calls_ok : {T : Type 0} (m : Meaning) (old new : ReplicaValue) (r : Result T ReplicaFault) → OnOk r (HasGoneOver m ⊤ old.node old.store new.node new.store) → OnOk r (Passes old.store.meter new.store.meter rebase_calls)
+calls_ok m old new (Ok x) done = done.calls tt
+calls_ok m old new (Err e) done = tt
 
-pub calls_err : {T : Type 0} (m n : Meter) (k : ℕ) (r : Result T ReplicaFault) → PassesOr m n k r → IfErr r (λ e. RefusedAfter (fault_number e) m n)
-calls_err m n k (Ok x) calls = tt
-calls_err m n k (Err e) calls = calls
+pub calls_err : {T : Type 0} (old new : ReplicaValue) (r : Result T ReplicaFault) → IfErr r (λ e. IsNotCompacted ⊤ ⊤ old new (fault_number e)) → IfErr r (λ e. RefusedAfter (fault_number e) old.store.meter new.store.meter)
+calls_err old new (Ok x) why = tt
+calls_err old new (Err e) why = why.calls tt tt

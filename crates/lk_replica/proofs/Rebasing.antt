@@ -1,5 +1,6 @@
 -- What a rebase leaves of a node and its store: the new Base covers what the old entries covered, and fits as they did.
-use Rattle.std.proofs.Common.{◌≡◌, ℕ, ◌≤◌, inl, inr, Bool, true, false, cond, List, [], ◌∷◌, map, length, Contains, refl, sym, ◌∙◌, ap, subst, subst₂, arith}
+use Rattle.std.proofs.Common.{◌≡◌, ℕ, ◌+◌, ◌<◌, ◌≤◌, inl, inr, Bool, true, false, cond, List, [], ◌∷◌, map, length, Contains, refl, sym, ◌∙◌, ap, subst, subst₂, arith}
+use Rattle.std.specs.Prelude.{⊤}
 use Rattle.lk_types.specs.BallotValue.{BallotValue}
 use Rattle.lk_types.specs.Ballots.{IsAtMost, is_below}
 use Rattle.lk_types.specs.declared.vote.Vote.{Vote}
@@ -7,14 +8,17 @@ use Rattle.lk_types.proofs.Values.{below_by_test}
 use Rattle.lk_wire.specs.declared.message.NodeMessage.{NodeMessage}
 use Rattle.lk_wire.specs.declared.message.NodeMessage.TheVariants as kinds
 use Rattle.lk_log.specs.Standings.{greater, greatest_of, ballot_of, of_base, HasHeader, StandsFor}
-use Rattle.lk_disk.specs.Disk.{Disk}
+use Rattle.lk_disk.specs.Disk.{Disk, contents}
+use Rattle.lk_disk.specs.Meters.{Passes}
+use Rattle.lk_disk.proofs.Devices.{passes_on}
+use Rattle.lk_log.specs.Causes.{rebase_calls}
 use Rattle.lk_log.specs.StoreValue.{StoreValue, pick, disks}
 use Rattle.lk_log.specs.Stores.{plain, HoldsOn, Holds, MayBegin, next_base, KeepsOrIs}
 use Rattle.lk_log.specs.Values.{BaseValue}
 use Rattle.lk_log.specs.declared.stored.Stored.{Stored}
 use Rattle.lk_log.specs.declared.stored.Stored.TheVariants.{Base}
 use Rattle.lk_log.specs.Rooms.{StaysWithin}
-use Rattle.lk_log.proofs.Room.{within_same}
+use Rattle.lk_log.proofs.Room.{within_same, within_first}
 use Rattle.lk_log.proofs.StoreLaws.{rising_stands, one_standing, one_header, of_every, synced_live, rebase_every}
 use Rattle.lk_state.specs.Meanings.{Meaning}
 use Rattle.lk_state.specs.Packed.{packed}
@@ -35,8 +39,10 @@ use Rattle.lk_node.specs.NodeValue.{NodeValue}
 use Rattle.lk_node.specs.Packing.{standing_of, standing_here}
 use Rattle.lk_node.specs.Served.{text}
 use Rattle.lk_node.proofs.Nodes.{contains_more}
-use Rattle.lk_replica.specs.Compacting.{AllStandAt, IsSameStore}
+use Rattle.lk_replica.specs.Compacting.{AllStandAt, IsDue, IsSameStore}
+use Rattle.lk_replica.specs.Rebased.{HasGoneOver, StaysSafe, IsReadyToStep}
 use Rattle.lk_replica.specs.Remembering.{Remembers}
+use Rattle.lk_replica.specs.Taking.{LeavesDisks}
 use Rattle.lk_replica.proofs.Adding.{adds}
 use Rattle.lk_replica.proofs.Going.{known_rests}
 use Rattle.lk_replica.proofs.Images.{EntriesCover, fit_entries, entries_fit, cover_entries, entries_cover, cover_disks, none_asked, cover_more}
@@ -278,3 +284,88 @@ module _ (m : Meaning) (old new : StoreValue) (same : IsSameStore old new) where
 -- a node that went on with nothing noted and nothing sent fits again
 pub goes_fits : (m : Meaning) (h : History) (n : ℕ) (node : NodeValue) (store : StoreValue) → IsLawful m h → DisksFit m h n (disks store) → Goes m h n (Stands m node store h.genesis n) (disks store) [] [] → NodeFits m h n (Stands m node store h.genesis n) (disks store)
 goes_fits m h n node store lawful left g = record { lawful = lawful; holding = g.holding; shown = g.shown; fits = g.fits; left = left }
+
+-- ---- what a rebase comes to
+
+module _ (m : Meaning) (node : NodeValue) (old new : StoreValue) (may : MayBegin (standing_of node)) (within : node.acceptor.state.snapshot_position ≤ executed node.learner)
+    (any : (ks ls : List Stored) → Holds old ks ls → KeepsOrIs (disks new) ks ls (next_base old (standing_of node))) where
+  -- after any exit
+  pub stays_safe : StaysWithin 49152 (disks old) (disks new) → StaysSafe m node old new
+  stays_safe room = record {
+    fits = λ h n f. rebase_fits m h n node old new f.holding f.shown may within f.lawful f.fits (any f.shown.keeps.entries (plain f.shown.keeps.loose) f.shown.keeps.holds) f.left;
+    covers = λ genesis n x keeps every. rebase_covers m genesis n node old new keeps may within (any keeps.entries (plain keeps.loose) keeps.holds) x every;
+    room = room;
+  }
+
+  -- where it was made
+  pub gone_over : (Metered : Type 0) → ((ks ls : List Stored) → Holds old ks ls → Holds new (Base (next_base old (standing_of node)) ∷ []) []) → (Metered → Passes old.meter new.meter rebase_calls) → length (contents new.live_disk) ≤ 49152
+      → HasGoneOver m Metered node old (standing_here node) new
+  gone_over Metered writes calls short = record {
+    rebases = record { becomes = refl; writes = writes };
+    calls = calls;
+    short = short;
+    goes = λ h n f.
+        rebase_goes m h n node old new f.holding f.shown may within f.lawful f.fits (writes f.shown.keeps.entries (plain f.shown.keeps.loose) f.shown.keeps.holds)
+        (rebase_fits m h n node old new f.holding f.shown may within f.lawful f.fits (any f.shown.keeps.entries (plain f.shown.keeps.loose) f.shown.keeps.holds) f.left);
+    shows = λ genesis n held shown. (
+      here m genesis n node old new held shown may within,
+      rebase_stands m genesis n node old new held shown may within (writes shown.keeps.entries (plain shown.keeps.loose) shown.keeps.holds),
+    );
+    remembers = λ genesis n shown. rebase_keeps m genesis n node old new shown.keeps may within shown.whose (writes shown.keeps.entries (plain shown.keeps.loose) shown.keeps.holds);
+    syncs = λ genesis n x keeps covers. rebase_syncs m genesis n node old new keeps may within (writes keeps.entries (plain keeps.loose) keeps.holds) x covers;
+    stands = λ genesis n held shown. all_stand m genesis n node old new held shown may within (writes shown.keeps.entries (plain shown.keeps.loose) shown.keeps.holds);
+  }
+
+-- what it leaves on the disks
+pub leaves_safe : (m : Meaning) (node : NodeValue) (old new : StoreValue) → StaysSafe m node old new → LeavesDisks m (λ h. ⊤) 49152 node old (disks new)
+leaves_safe m node old new safe = record {
+  ends = λ h n f heard. safe.fits h n f;
+  covers = λ genesis n x shown every. safe.covers genesis n x shown.keeps every;
+  room = safe.room;
+}
+
+-- ---- one that is made where it is due, once the store was asked how long its live file is
+
+module _ (m : Meaning) (node : NodeValue) (old mid : StoreValue) (same : IsSameStore old mid) where
+  pub ready_as_was : (Metered : Type 0) → (IsDue node old → ⊥) → (Metered → Passes old.meter mid.meter 0) → length (contents mid.live_disk) < 131072 → IsReadyToStep m Metered node old node mid
+  ready_as_was Metered none calls short = record {
+    rebases = record { due = λ due. absurd (none due); rests = λ other. (refl, same) };
+    calls = λ metered. (0, record { due = λ due. absurd (none due); rests = λ other. refl }, calls metered);
+    short = short;
+    fits = λ h n f. same_node_fits m old mid same node h n f;
+    shows = λ genesis n held shown. (held, same_stands m old mid same node genesis n held shown);
+    remembers = λ genesis n shown. same_remembers m old mid same node genesis n shown;
+  }
+
+  pub leaves_as_was : LeavesDisks m (λ h. ⊤) 49152 node old (disks mid)
+  leaves_as_was = record {
+    ends = λ h n f heard. same_fit m old mid same h n f.left;
+    covers = λ genesis n x shown every. same_cover m old mid same genesis n x every;
+    room = same_room m old mid same;
+  }
+
+  same_base : next_base mid (standing_of node) ≡ next_base old (standing_of node)
+  same_base = λ i. record { generation = same.generation i + 1; format = 2; header = same.header i; standing = standing_of node }
+
+  pub ready_by_rebase : (Metered : Type 0) (new : NodeValue) (after : StoreValue) → IsDue node old → (Metered → Passes old.meter mid.meter 0) → HasGoneOver m Metered node mid new after → StaysSafe m node mid after → IsReadyToStep m Metered node old new after
+  ready_by_rebase Metered new after due calls done safe = record {
+    rebases = record {
+      due = λ _. record {
+        becomes = done.rebases.becomes;
+        writes = λ ks ls h. subst (λ (b : BaseValue). Holds after (Base b ∷ []) []) same_base (done.rebases.writes ks ls (same_holds m old mid same ks ls h));
+      };
+      rests = λ other. absurd (other due);
+    };
+    calls = λ metered. (rebase_calls, record { due = λ _. refl; rests = λ other. absurd (other due) }, passes_on 0 (calls metered) rebase_calls (done.calls metered));
+    short = omega (arith, done.short);
+    fits = λ h n f. let between = same_node_fits m old mid same node h n f in goes_fits m h n new after f.lawful (safe.fits h n between) (done.goes h n between);
+    shows = λ genesis n held shown. done.shows genesis n held (same_stands m old mid same node genesis n held shown);
+    remembers = λ genesis n shown. done.remembers genesis n (same_remembers m old mid same node genesis n shown);
+  }
+
+  pub leaves_by_rebase : (after : StoreValue) → StaysSafe m node mid after → LeavesDisks m (λ h. ⊤) 49152 node old (disks after)
+  leaves_by_rebase after safe = record {
+    ends = λ h n f heard. safe.fits h n (same_node_fits m old mid same node h n f);
+    covers = λ genesis n x shown every. safe.covers genesis n x (same_remembers m old mid same node genesis n shown).keeps (same_cover m old mid same genesis n x every);
+    room = within_first 49152 (disks old) (disks mid) (disks after) (same_room m old mid same) safe.room;
+  }

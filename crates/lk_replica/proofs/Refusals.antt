@@ -1,13 +1,16 @@
 -- What a refused call of a replica leaves.
-use Rattle.std.proofs.Common.{◌≡◌, arith, true, false, Result, IsErrAnd, refl, sym, ◌∙◌}
+use Rattle.std.proofs.Common.{◌≡◌, ℕ, ◌<◌, inl, inr, arith, true, false, Result, IsErrAnd, refl, sym, ap, ◌∙◌}
 use Rattle.std.specs.Prelude.{IfErr}
-use Rattle.lk_log.specs.StoreValue.{StoreValue}
+use Rattle.lk_log.specs.StoreValue.{StoreValue, disks}
 use Rattle.lk_node.specs.NodeValue.{NodeValue}
-use Rattle.lk_replica.specs.Compacting.{AreLeft}
-use Rattle.lk_replica.specs.Faults.{fault_number, failures_by}
+use Rattle.lk_replica.specs.Compacted.{IsStoreFault, IsNotCompacted}
+use Rattle.lk_replica.specs.Compacting.{AreLeft, AreSame}
+use Rattle.lk_replica.specs.Faults.{fault_number, failures_by, IsOfCalls, IfSend}
+use Rattle.lk_replica.specs.Rebased.{IsNotRebased}
 use Rattle.lk_replica.specs.ReplicaValue.{ReplicaValue}
 use Rattle.lk_replica.specs.Taking.{IsCutShort, IsRefused}
 use Rattle.lk_replica.specs.declared.fault.ReplicaFault.{ReplicaFault}
+use Rattle.lk_replica.specs.declared.fault.ReplicaFault.TheVariants as fault
 use Rattle.lk_replica.proofs.Calling.{err_as, number_of_calls, halted_alone}
 use Rattle.lk_replica.proofs.Compactions.{failed_alone}
 use Rattle.lk_replica.proofs.Spared.{spared_number}
@@ -31,3 +34,47 @@ refused_by_parts Honest Metered r f old node store is alive failures cut =
       awake = cut.awake;
     } in
     err_as (λ e. IsRefused Honest Metered old (record { node = node; store = store; failed = true }) (fault_number e)) r f is kept
+
+-- ---- of a store
+
+other_fault : (number : ℕ) → IsStoreFault number → 8 < number → (number ≡ 11 → ⊥) → ⊥
+other_fault number by more other = elim by [ inl device ↦ omega (arith, device, more) | inr (inl memory) ↦ omega (arith, memory, more) | inr (inr failed) ↦ other failed ]
+
+-- a refusal of the store is one of the calls, and none of the post or the node
+pub store_told : (e : ReplicaFault) → IsStoreFault (fault_number e) → IsOfCalls e
+store_told fault.Device by = tt
+store_told fault.NoMemory by = tt
+store_told fault.Damaged by = other_fault 9 by (omega arith) (λ is. omega (arith, is))
+store_told fault.WrongStore by = other_fault 10 by (omega arith) (λ is. omega (arith, is))
+store_told fault.Failed by = tt
+store_told fault.Halted by = tt
+store_told (fault.Send notes) by = tt
+
+pub store_only : (e : ReplicaFault) → IsStoreFault (fault_number e) → IfSend (λ notes. ⊥) e
+store_only fault.Device by = tt
+store_only fault.NoMemory by = tt
+store_only fault.Damaged by = tt
+store_only fault.WrongStore by = tt
+store_only fault.Failed by = tt
+store_only fault.Halted by = tt
+store_only (fault.Send notes) by = other_fault 15 by (omega arith) (λ is. omega (arith, is))
+
+pub store_awake : (e : ReplicaFault) → IsStoreFault (fault_number e) → e ≡ fault.Halted → ⊥
+store_awake e by is = other_fault (fault_number e) by (omega (arith, ap fault_number is)) (λ failed. omega (arith, ap fault_number is, failed))
+
+-- ---- of a compaction
+
+-- that of a replica that had not failed, by what it did to the node and the store
+pub not_compacted_by_parts : {T : Type 0} (Honest Metered : Type 0) (r : Result T ReplicaFault) (f : ReplicaFault) (old : ReplicaValue) (node : NodeValue) (store : StoreValue)
+    → IsErrAnd r (λ e. e ≡ f) → old.failed ≡ false → IsNotRebased Honest Metered old.store store f → IfErr r (λ e. IsNotCompacted Honest Metered old (record { node = node; store = store; failed = true }) (fault_number e))
+not_compacted_by_parts Honest Metered r f old node store is alive why =
+    let kept : IsNotCompacted Honest Metered old (record { node = node; store = store; failed = true }) (fault_number f) =
+    record {
+      of_store = why.of_store;
+      calls = why.calls;
+      earlier = λ number before store_alive further. why.earlier (failed_alone f number) store_alive further;
+      once = λ ended. absurd (let both : false ≡ true = sym alive ∙ ended in cc both);
+      ends = refl;
+      stays = λ honest device. spared_number (AreSame (disks old.store) (disks store)) f (why.stays honest) device (λ post. other_fault (fault_number f) why.of_store (omega (arith, post)) (λ failed. omega (arith, post, failed)));
+    } in
+    err_as (λ e. IsNotCompacted Honest Metered old (record { node = node; store = store; failed = true }) (fault_number e)) r f is kept

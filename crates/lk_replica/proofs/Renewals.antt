@@ -1,5 +1,5 @@
 -- What a revival makes of a store that it may have to bring to format 2.
-use Rattle.std.proofs.Common.{◌≡◌, ℕ, zero, suc, ◌+◌, ◌<◌, ◌≤◌, inl, inr, false, eqb, Result, Ok, Err, IsErrAnd, IfErr, List, [], ◌∷◌, ◌++◌, take, refl, ap, sym, ◌∙◌, subst, arith, append-nil}
+use Rattle.std.proofs.Common.{◌≡◌, ℕ, zero, suc, ◌+◌, ◌<◌, ◌≤◌, inl, inr, false, eqb, Result, Ok, Err, IsErrAnd, IfErr, OnErr, List, [], ◌∷◌, ◌++◌, take, refl, ap, sym, ◌∙◌, subst, arith, append-nil}
 use Rattle.std.specs.List.{AllByRecursion}
 use Rattle.std.proofs.lemmas.Bool.{cases_lt, ne_eqb}
 use Rattle.lk_types.specs.Limits.{max_count}
@@ -147,6 +147,10 @@ if_errs_as P (Ok x) f is p = tt
 if_errs_as P (Err e) f is p = subst P (sym is) p
 
 -- ---- what a refusal leaves
+
+pub on_err : {T E : Type 0} (r : Result T E) (P : Type 0) → P → OnErr r P
+on_err (Ok x) P p = tt
+on_err (Err e) P p = p
 
 pub narrow_alone : (old new : Side → Disk) (whose : HeaderValue) (zero' : List ℕ) → NarrowsOrBegins old new whose zero' → NarrowsOrRenews old new whose zero'
 narrow_alone old new whose zero' n image left = elim (n image left) [ inl was ↦ inl was | inr begun ↦ inr (inl begun) ]

@@ -131,6 +131,13 @@ failed_only store.Damaged e = absurd (omega (arith, e))
 failed_only store.WrongStore e = absurd (omega (arith, e))
 failed_only store.Failed e = refl
 
+-- a refusal for such a reason is not `Failed`
+pub not_failed_so : (f : StoreFault) → (f ≡ store.Device) ⊎ (f ≡ store.NoMemory) → fault_of f ≡ fault.Failed → ⊥
+not_failed_so f by is = elim by [
+  | inl device ↦ let e : 7 ≡ 11 = sym (ap (λ z. fault_number (fault_of z)) device) ∙ ap fault_number is in omega (arith, e)
+  | inr memory ↦ let e : 8 ≡ 11 = sym (ap (λ z. fault_number (fault_of z)) memory) ∙ ap fault_number is in omega (arith, e)
+]
+
 pub not_failed : (f : ReplicaFault) → (f ≡ fault.Damaged) ⊎ (f ≡ fault.NoMemory) → fault_number f ≡ 11 → ⊥
 not_failed f by eleven = elim by [
   | inl damaged ↦ let e : 9 ≡ 11 = sym (ap fault_number damaged) ∙ eleven in omega (arith, e)

@@ -1,15 +1,16 @@
 -- What a call of a replica has done that was told to compact.
-use Rattle.std.specs.Prelude.{◌≡◌, ℕ, ◌≤◌, ◌⊎◌, ⊤, false, Result, Ok, Err}
+use Rattle.std.specs.Prelude.{◌≡◌, ℕ, ◌<◌, ◌≤◌, ◌⊎◌, ⊤, true, false, Result, Ok, Err}
 use Rattle.lk_types.specs.Limits.{max_count}
 use Rattle.lk_disk.specs.Memory.{disk_of}
 use Rattle.lk_disk.specs.Meters.{Passes}
 use Rattle.lk_log.specs.Causes.{rebase_calls}
-use Rattle.lk_log.specs.StoreValue.{device_of}
+use Rattle.lk_log.specs.StoreValue.{disks, device_of}
 use Rattle.lk_learner.specs.Learners.{executed}
 use Rattle.lk_node.specs.Histories.{Genesis}
 use Rattle.lk_node.specs.Holdings.{Holding}
 use Rattle.lk_node.specs.Keeping.{Stands}
-use Rattle.lk_replica.specs.Compacting.{AllStandAt, Rebases}
+use Rattle.lk_replica.specs.Compacting.{AllStandAt, AreSame, Rebases}
+use Rattle.lk_replica.specs.Faults.{RefusedAfter}
 use Rattle.lk_replica.specs.ReplicaValue.{ReplicaValue}
 use Rattle.lk_replica.specs.Taking.{IsRefused}
 use Rattle.lk_state.specs.Meanings.{Meaning}
@@ -27,6 +28,17 @@ pub record IsCompacted (m : Meaning) (old new : ReplicaValue) : Type 0 where
 -- the device has failed, memory was wanting, or it has failed before
 abbrev pub IsStoreFault : ℕ → Type 0
 IsStoreFault number = (number ≡ 7) ⊎ (number ≡ 8) ⊎ (number ≡ 11)
+
+-- the call was refused with the fault of this number, for its cause: 11 only after an earlier refusal, after which there is no other and nothing changes,
+-- or where no generation is left. It has ended the replica; and where no call of the device has failed, the files are as they were. `Honest` says
+-- that its device does what it tells, and `Metered` that it counts its calls
+pub record IsNotCompacted (Honest Metered : Type 0) (old new : ReplicaValue) (number : ℕ) : Type 0 where
+  pub of_store : IsStoreFault number
+  pub calls : Metered → Honest → RefusedAfter number old.store.meter new.store.meter
+  pub earlier : number ≡ 11 → old.failed ≡ false → old.store.failed ≡ false → old.store.generation < max_count → ⊥
+  pub once : old.failed ≡ true → (number ≡ 11) × (new ≡ old)
+  pub ends : new.failed ≡ true
+  pub stays : Honest → (number ≡ 7 → ⊥) → AreSame (disks old.store) (disks new.store)
 
 -- what the call came to: where no generation is left, it was refused as failed, also where memory was wanting
 abbrev pub CompactsTo : Meaning → ReplicaValue → ReplicaValue → Result (Unit {0}) ℕ → Type 0

@@ -6,6 +6,7 @@ pub mod Posts
 pub mod Behaviours
 pub mod Compacting
 pub mod Compacted
+pub mod Rebased
 pub mod Rooms
 pub mod Remembering
 pub mod Renewals

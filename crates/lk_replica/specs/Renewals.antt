@@ -1,15 +1,12 @@
 -- What a call has done that brings a store to format 2.
 use Rattle.std.specs.Prelude.{◌≡◌, ℕ, ◌<◌, false}
-use Rattle.lk_types.specs.Limits.{max_base, max_count}
-use Rattle.lk_log.specs.Rooms.{StaysWithin}
+use Rattle.lk_types.specs.Limits.{max_count}
 use Rattle.lk_log.specs.StoreValue.{StoreValue, disks}
 use Rattle.lk_state.specs.Meanings.{Meaning}
-use Rattle.lk_history.specs.Datagrams.{NodeMessage}
 use Rattle.lk_node.specs.Calls.{NodeFits}
 use Rattle.lk_node.specs.Executing.{NothingToRun}
 use Rattle.lk_node.specs.Histories.{History, Genesis}
-use Rattle.lk_node.specs.Keeping.{Keeps, Stands}
-use Rattle.lk_node.specs.Leavings.{header_of, DisksFit, AllCover}
+use Rattle.lk_node.specs.Keeping.{Stands}
 use Rattle.lk_node.specs.NodeValue.{NodeValue}
 use Rattle.lk_replica.specs.Compacted.{IsStoreFault}
 use Rattle.lk_replica.specs.Compacting.{Renews}
@@ -27,13 +24,6 @@ pub record HasFormatTwo (node : NodeValue) (store : StoreValue) (new : NodeValue
   pub format : after.format ≡ 2
   pub alive : store.failed ≡ false → after.failed ≡ false
   pub runs : NothingToRun node → NothingToRun new
-
--- each image that a stop may leave of the store fits each history that the node fitted, and covers what every image covered; neither file is
--- longer than it was, or else than a Base
-pub record StaysSafe (m : Meaning) (node : NodeValue) (store after : StoreValue) : Type 0 where
-  pub fits : (h : History) (n : ℕ) → NodeFits m h n (Stands m node store h.genesis n) (disks store) → DisksFit m h n (disks after)
-  pub covers : (genesis : Genesis) (n : ℕ) (x : NodeMessage) → Keeps (header_of genesis n) store node.acceptor.state → AllCover m genesis n (disks store) x → AllCover m genesis n (disks after) x
-  pub room : StaysWithin max_base (disks store) (disks after)
 
 -- a store that has not format 2 was refused with the fault of this number: the device has failed, memory was wanting, or, where it has
 -- failed before or no generation is left, with 11

@@ -1,5 +1,5 @@
 -- What a call of a replica has done, that and nothing else, and what it leaves, also where it was refused.
-use Rattle.std.specs.Prelude.{◌≡◌, ℕ, ◌+◌, ◌<◌, ◌≤◌, ⊤, true, false, if◌then◌else◌, Option, Result, Ok, Err, List, [], ◌++◌}
+use Rattle.std.specs.Prelude.{◌≡◌, ℕ, ◌+◌, ◌<◌, ◌≤◌, ⊤, true, false, if◌then◌else◌, Option, Result, Ok, Err, List, [], ◌++◌, length}
 use Rattle.lk_disk.specs.Meters.{Passes}
 use Rattle.lk_types.specs.Limits.{max_count}
 use Rattle.lk_log.specs.Causes.{put_calls, rebase_calls}
@@ -7,7 +7,7 @@ use Rattle.lk_log.specs.StoreValue.{StoreValue, disks}
 use Rattle.lk_log.specs.Stores.{plain, Holds}
 use Rattle.lk_state.specs.Meanings.{Meaning}
 use Rattle.lk_log.specs.declared.stored.Stored.{Stored}
-use Rattle.lk_disk.specs.Disk.{Disk}
+use Rattle.lk_disk.specs.Disk.{Disk, contents}
 use Rattle.lk_disk.specs.declared.device.Side.{Side}
 use Rattle.lk_history.specs.Datagrams.{NodeMessage}
 use Rattle.lk_log.specs.Rooms.{StaysWithin}
@@ -46,6 +46,13 @@ write_calls out = if out.rebase then rebase_calls else put_calls out.entries out
 -- the calls of a metered device in which a step's outbox was written, after a rebase that was due
 abbrev pub CallsOfStep : NodeValue → StoreValue → OutboxValue → StoreValue → Type 0
 CallsOfStep node store out new = (k : ℕ) × CallsWhereDue node store k × Passes store.meter new.meter (k + write_calls out)
+
+-- a step was taken, and what its outbox says is written, in the calls that this takes of a device that counts them (`Metered`)
+pub record StepsToDisk (m : Meaning) (IsText : List ℕ → Type 0) (Metered : Type 0) (node : NodeValue) (store : StoreValue) (i : Input) (out : OutboxValue) (new : NodeValue) (after : StoreValue) : Type 0 where
+  pub stepped : NodeValue
+  pub steps : Steps m IsText node i stepped out
+  pub writes : Writes stepped store out new after
+  pub calls : Metered → Passes store.meter after.meter (write_calls out)
 
 -- the replica has rebased where that was due, taken a step, written what the outbox says, given its notes, and sent its letters, and
 -- goes on. `Metered` says that its device is
@@ -112,6 +119,12 @@ pub record LeavesDisks (m : Meaning) (Hears : History → Type 0) (most : ℕ) (
   pub ends : (h : History) (n : ℕ) → NodeFits m h n (Stands m node store h.genesis n) (disks store) → Hears h → DisksFit m h n after
   pub covers : (genesis : Genesis) (n : ℕ) (x : NodeMessage) → Remembers node store genesis n → AllCover m genesis n (disks store) x → AllCover m genesis n after x
   pub room : StaysWithin most (disks store) after
+
+-- so of a step alone: the files are no longer than that where the live one was shorter than what makes a rebase due
+pub record StepLeavesDisks (m : Meaning) (Hears : History → Type 0) (most : ℕ) (node : NodeValue) (store : StoreValue) (after : Side → Disk) : Type 0 where
+  pub ends : (h : History) (n : ℕ) → NodeFits m h n (Stands m node store h.genesis n) (disks store) → Hears h → DisksFit m h n after
+  pub covers : (genesis : Genesis) (n : ℕ) (x : NodeMessage) → Remembers node store genesis n → AllCover m genesis n (disks store) x → AllCover m genesis n after x
+  pub room : length (contents store.live_disk) < 131072 → StaysWithin most (disks store) after
 
 -- a rebase is due and no generation is left for it: so it is refused, and not for memory
 abbrev pub IsOfLast : ReplicaValue → ℕ → Type 0

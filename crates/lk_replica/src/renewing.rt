@@ -8,7 +8,8 @@ ghost use Rattle.lk_state.specs.Meanings.{meaning};
 ghost use Rattle.lk_node.specs.Packing.{standing_of};
 ghost use Rattle.lk_replica.specs.Compacting.{renew_calls};
 ghost use Rattle.lk_replica.specs.Faults.{fault_number, CountsFailure, PassesOr};
-ghost use Rattle.lk_replica.specs.Renewals.{IsRenewed, HasFormatTwo, StaysSafe, IsNotRenewed};
+ghost use Rattle.lk_replica.specs.Rebased.{StaysSafe};
+ghost use Rattle.lk_replica.specs.Renewals.{IsRenewed, HasFormatTwo, IsNotRenewed};
 
 use crate::compacting::write_base;
 use crate::fault::ReplicaFault;

@@ -1,10 +1,8 @@
 // The replica: a node and its store.
-ghost use Rattle.std.specs.Prelude.{◌≡◌, ℕ, ◌+◌, ◌<◌, ◌≤◌, length, ◌++◌, List, [], true, false, Contains, IfOk, IfErr, OnOk, OnErr, IsErrAnd, IsErrOf, MatchResult};
+ghost use Rattle.std.specs.Prelude.{◌≡◌, ℕ, ◌+◌, ◌<◌, ◌≤◌, ◌++◌, List, true, false, Contains, IfOk, IfErr, OnOk, IsErrAnd, IsErrOf, ◌↔◌};
 ghost use Rattle.lk_types.specs.Limits.{max_count};
-ghost use Rattle.lk_disk.specs.Disk.{contents};
 ghost use Rattle.lk_disk.specs.declared.device.Side.{Side};
-ghost use Rattle.lk_disk.specs.Meters.{Passes, trapped};
-ghost use Rattle.lk_log.specs.Rooms.{StaysWithin};
+ghost use Rattle.lk_disk.specs.Meters.{trapped};
 ghost use Rattle.lk_log.specs.StoreValue.{StoreValue, disks};
 ghost use Rattle.lk_node.specs.NodeValue.{NodeValue};
 ghost use Rattle.lk_replica.specs.Compacting.{AreLeft, AreSame, IsDue, RebasesWhereDue};
@@ -15,12 +13,12 @@ ghost use Rattle.lk_node.specs.Calls.{InputFits, NodeFits, Goes};
 ghost use Rattle.lk_node.specs.Executing.{NothingToRun};
 ghost use Rattle.lk_node.specs.Histories.{History, Genesis};
 ghost use Rattle.lk_node.specs.Keeping.{Stands};
-ghost use Rattle.lk_node.specs.Leavings.{DisksFit, AllCover};
+ghost use Rattle.lk_node.specs.Leavings.{AllCover};
 ghost use Rattle.lk_node.specs.Letters.{LetterValue, batch_of};
 ghost use Rattle.lk_replica.specs.Posts.{AreOf, GivesLetters, SendsAs, RefusesSends};
 ghost use Rattle.lk_node.specs.Steps.{Steps};
-ghost use Rattle.lk_replica.specs.Taking.{Writes, write_calls, CallsOfStep, IsTaken, IsRefused, IsCutShort, StaysUp, StepsOn, LeavesDisks};
-ghost use Rattle.lk_replica.specs.Faults.{fault_number, CountsFailure, RefusedAfter, IfGoesOn, IfSend, IfSpared, IsOfCalls, WantsNoMemory};
+ghost use Rattle.lk_replica.specs.Taking.{Writes, CallsOfStep, IsTaken, IsRefused, IsCutShort, StaysUp, StepsOn, LeavesDisks, StepsToDisk, StepLeavesDisks};
+ghost use Rattle.lk_replica.specs.Faults.{fault_number, CountsFailure, IfGoesOn, WantsNoMemory};
 ghost use Rattle.lk_replica.specs.Remembering.{Remembers};
 ghost use Rattle.lk_replica.specs.Rooms.{max_behind};
 
@@ -180,29 +178,17 @@ fn step_to_disk<M: Machine, D: LogDisk + Drop>(
     requires { store.old.format ≡ 2 }
     ensures goes { D.is_honest → (h : History) (n : ℕ) → NodeFits (meaning M.first M.next M.answer) h n (Stands (meaning M.first M.next M.answer) node.old store.old h.genesis n) (disks store.old) → InputFits h input.entry
         → IfOk result (λ o. (sent : List LetterValue) → AreOf sent o.letters → Goes (meaning M.first M.next M.answer) h n (Stands (meaning M.first M.next M.answer) node.new store.new h.genesis n) (disks store.new) o.notes (batch_of n sent)) }
-    ensures ends { D.is_honest → (h : History) (n : ℕ) → NodeFits (meaning M.first M.next M.answer) h n (Stands (meaning M.first M.next M.answer) node.old store.old h.genesis n) (disks store.old) → InputFits h input.entry
-        → DisksFit (meaning M.first M.next M.answer) h n (disks store.new) }
     ensures syncs { D.is_honest → (genesis : Genesis) (n : ℕ) (x : NodeMessage) → Remembers node.old store.old genesis n
         → IfOk result (λ o. (d : DatagramValue) → Contains (batch_of n o.letters) d → Spells (said_by genesis n x) d.bytes → AllCover (meaning M.first M.next M.answer) genesis n (disks store.new) x) }
-    ensures covers { D.is_honest → (genesis : Genesis) (n : ℕ) (x : NodeMessage) → Remembers node.old store.old genesis n
-        → AllCover (meaning M.first M.next M.answer) genesis n (disks store.old) x → AllCover (meaning M.first M.next M.answer) genesis n (disks store.new) x }
-    ensures remembers { D.is_honest → (genesis : Genesis) (n : ℕ) → Remembers node.old store.old genesis n → OnOk result (Remembers node.new store.new genesis n) }
-    ensures exact { D.is_honest → IfOk result (λ o. (stepped : NodeValue) × Steps (meaning M.first M.next M.answer) M.IsText node.old input.entry stepped o × Writes stepped store.old o node.new store.new) }
-    ensures metered { D.is_metered → D.is_honest → MatchResult result (λ o. Passes store.old.meter store.new.meter (write_calls o)) (λ e. RefusedAfter (fault_number e) store.old.meter store.new.meter) }
-    ensures runs { NothingToRun node.old → OnOk result (NothingToRun node.new) }
-    ensures only { IfErr result (IfSend (λ notes. ⊥)) }
-    ensures told { IfErr result IsOfCalls }
-    ensures halts { IsErrOf result ReplicaFault.Halted → node.new.halted ≡ true }
-    ensures awake { OnOk result (node.new.halted ≡ false) }
-    ensures awake_err { IfErr result (λ e. (fault_number e ≡ 14 → ⊥) → node.new.halted ≡ false) }
+    ensures exact { D.is_honest → IfOk result (λ o. StepsToDisk (meaning M.first M.next M.answer) M.IsText D.is_metered node.old store.old input.entry o node.new store.new) }
+    ensures alive { OnOk result (StepsOn D.is_honest node.old store.old node.new store.new) }
+    ensures disks { D.is_honest → StepLeavesDisks (meaning M.first M.next M.answer) (λ h. InputFits h input.entry) max_behind node.old store.old (disks store.new) }
+    ensures refused { IfErr result (IsCutShort D.is_honest D.is_metered 1 node.old store.old node.new store.new (AreSame (disks store.old) (disks store.new))) }
+    ensures halts { IsErrOf result ReplicaFault.Halted ↔ (node.new.halted ≡ true) }
     ensures format { store.new.format ≡ 2 }
-    ensures alive { OnOk result (store.new.failed ≡ false) }
-    ensures failed_before { store.old.failed ≡ false → store.old.generation < max_count → IsErrOf result ReplicaFault.Failed → ⊥ }
     // At generation 2^48 no step is done that has to rebase.
     ensures last { max_count ≤ store.old.generation → IfOk result (λ o. o.rebase ≡ false) }
     ensures cause { CountsFailure store.old.failures store.new.failures result }
-    ensures stays { D.is_honest → IfErr result (IfSpared (AreSame (disks store.old) (disks store.new))) }
-    ensures room { D.is_honest → length (contents store.old.live_disk) < 131072 → StaysWithin max_behind (disks store.old) (disks store.new) }
 {
     let outbox = node.step(input)?;
     if outbox.rebase {

@@ -1,4 +1,8 @@
-use Rattle.std.proofs.Common.{◌≡◌, ℕ, Err, refl, ap, arith, sym, subst}
+use Rattle.std.proofs.Common.{◌≡◌, ℕ, Bool, false, eqb, refl, arith, sym, subst}
+use Rattle.std.specs.Prelude.{if◌then◌else◌}
+use Rattle.std.proofs.lemmas.Bool.{ne_eqb}
+use Rattle.lk_log.specs.Causes.{rebase_calls}
+use Rattle.lk_replica.proofs.Calling.{refused_by}
 use Rattle.lk_disk.specs.Meters.{Passes, start}
 use Rattle.lk_log.proofs.Room.{within_same}
 use Rattle.lk_log.specs.StoreValue.{disks}
@@ -6,10 +10,9 @@ use Rattle.lk_state.specs.Meanings.{Meaning, meaning}
 use Rattle.lk_replica.specs.Compacting.{renew_calls}
 use Rattle.lk_replica.specs.Faults.{fault_number}
 use Rattle.lk_replica.specs.Renewals.{IsNotRenewed}
-use Rattle.lk_replica.specs.declared.fault.ReplicaFault.{ReplicaFault}
 use Rattle.lk_replica.proofs.Compactions.{failed_alone}
 use Rattle.lk_replica.proofs.Rebasing.{goes_fits}
-use Rattle.lk_replica.proofs.Renewals.{if_errs_as}
+use Rattle.lk_replica.proofs.Renewals.{if_errs_as, on_err}
 use Rattle.lk_replica.proofs.renewing.renew.Goals as goal
 
 -- ---- a store of format 2
@@ -45,32 +48,42 @@ returns-then-format-eq2-clause-metered g c metered honest =
 pub returns-clause-renewed : goal.returns-clause-renewed
 returns-clause-renewed g c honest =
     let m : Meaning = meaning g.M.Machine.first g.M.Machine.next g.M.Machine.answer in
+    let done = c.in_ok-write_base.ensures.done honest in
     record {
-      renews = record {
-        rebases = λ one. record { becomes = c.in_ok-write_base.ensures.becomes; writes = λ ks ls h. c.in_ok-write_base.ensures.writes honest ks ls h };
-        rests = λ is. absurd (omega (arith, is, c.if-format-eq2.false, c.format.ensures));
-      };
-      goes = λ h n f. goes_fits m h n c.write_base.new.node c.write_base.new.store f.lawful (c.write_base.ensures.ends honest h n f) (c.in_ok-write_base.ensures.goes honest h n f);
-      remembers = λ genesis n r. c.in_ok-write_base.ensures.remembers honest genesis n r;
+      renews = record { rebases = λ one. done.rebases; rests = λ is. absurd (omega (arith, is, c.if-format-eq2.false, c.format.ensures)) };
+      goes = λ h n f. goes_fits m h n c.write_base.new.node c.write_base.new.store f.lawful ((c.write_base.ensures.disks honest).fits h n f) (done.goes h n f);
+      remembers = done.remembers;
     }
 
 pub returns-clause-ready : goal.returns-clause-ready
 returns-clause-ready g c = record {
-  format = c.in_ok-write_base.ensures.format;
-  alive = λ alive. c.in_ok-write_base.ensures.alive;
-  runs = λ runs. c.in_ok-write_base.ensures.runs runs;
+  format = c.in_ok-write_base.ensures.becomes.format;
+  alive = λ alive. c.in_ok-write_base.ensures.becomes.store_alive;
+  runs = c.in_ok-write_base.ensures.becomes.runs;
 }
 
 pub returns-clause-safe : goal.returns-clause-safe
-returns-clause-safe g c honest = record { fits = c.write_base.ensures.ends honest; covers = c.write_base.ensures.covers honest; room = c.write_base.ensures.room honest }
+returns-clause-safe g c honest = c.write_base.ensures.disks honest
 
 pub returns-in_err-write_base-clause-safe : goal.returns-in_err-write_base-clause-safe
-returns-in_err-write_base-clause-safe g c honest = record { fits = c.write_base.ensures.ends honest; covers = c.write_base.ensures.covers honest; room = c.write_base.ensures.room honest }
+returns-in_err-write_base-clause-safe g c honest = c.write_base.ensures.disks honest
+
+pub returns-clause-metered : goal.returns-clause-metered
+returns-clause-metered g c metered honest =
+    let other : eqb c.args.store.now.format 2 ≡ false = ne_eqb c.args.store.now.format 2 (λ two. omega (arith, two, c.if-format-eq2.false, c.format.ensures)) in
+    subst (λ (b : Bool). Passes c.args.store.now.meter c.write_base.new.store.meter (if b then 0 else rebase_calls)) (sym other) ((c.in_ok-write_base.ensures.done honest).calls metered)
+
+pub returns-in_err-write_base-clause-metered : goal.returns-in_err-write_base-clause-metered
+returns-in_err-write_base-clause-metered g c metered honest = refused_by _ _ _ _ _ c.from_residual.ensures.1 (c.in_err-write_base.ensures.refused.calls metered honest)
 
 pub returns-in_err-write_base-clause-refused : goal.returns-in_err-write_base-clause-refused
 returns-in_err-write_base-clause-refused g c =
+    let was = c.in_err-write_base.ensures.refused in
     if_errs_as (λ e. IsNotRenewed c.args.store.now (fault_number e)) _ _ c.from_residual.ensures.1 (record {
-      of_store = c.in_err-write_base.ensures.of_store;
+      of_store = was.of_store;
       old = λ two. omega (arith, two, c.if-format-eq2.false, c.format.ensures);
-      earlier = λ alive less eleven. c.in_err-write_base.ensures.failed_before alive less (ap (λ (f : ReplicaFault). Err f) (failed_alone _ eleven));
+      earlier = λ alive less eleven. was.earlier (failed_alone _ eleven) alive less;
     })
+
+pub returns-in_err-write_base-clause-left : goal.returns-in_err-write_base-clause-left
+returns-in_err-write_base-clause-left g c honest ks ls holds = on_err _ _ (c.write_base.ensures.any honest ks ls holds)

@@ -1,8 +1,8 @@
-use Rattle.std.proofs.Common.{◌≡◌, true, false, List, [], ◌++◌, ◌∙◌, ◌≤◌, length, refl, sym, ap, subst, arith}
+use Rattle.std.proofs.Common.{◌≡◌, ℕ, ◌+◌, true, false, List, [], ◌++◌, ◌∙◌, ◌≤◌, length, refl, sym, ap, subst, arith}
 use Rattle.lk_types.specs.declared.entry.Entry.{Entry}
 use Rattle.lk_log.specs.StoreValue.{disks}
 use Rattle.lk_log.specs.Stores.{plain, Holds, KeepsAtLeast}
-use Rattle.lk_log.proofs.Room.{within_same, behind_room}
+use Rattle.lk_log.proofs.Room.{within_same, behind_room, refused_room}
 use Rattle.lk_state.specs.Meanings.{Meaning, meaning}
 use Rattle.lk_node.specs.Calls.{Goes}
 use Rattle.lk_node.specs.Keeping.{Stands}
@@ -13,28 +13,14 @@ use Rattle.lk_replica.proofs.Behind.{still_keeps, still_remembers, sent_is_cover
 use Rattle.lk_replica.proofs.Going.{put_leaves, put_goes, remembered, step_keeps, step_remembers, step_syncs, step_covers}
 use Rattle.lk_replica.proofs.replica.step_to_disk.Goals as goal
 use Rattle.lk_node.proofs.Nodes.{few_entries}
-use Rattle.lk_disk.specs.Meters.{start}
+use Rattle.lk_disk.specs.Meters.{Passes, start}
 use Rattle.lk_replica.specs.declared.fault.ReplicaFault.TheVariants as fault
-use Rattle.lk_replica.proofs.Calling.{refused_by}
-use Rattle.lk_replica.proofs.Spared.{spared_as, put_spares}
+use Rattle.lk_replica.proofs.Calling.{err_as, refused_after, put_written, base_written}
+use Rattle.lk_replica.proofs.Compactions.{put_refused}
+use Rattle.lk_replica.proofs.Refusals.{store_told, store_only, store_awake}
+use Rattle.lk_replica.proofs.Spared.{put_spares, not_failed_so}
 
-pub returns-in_err-outbox-clause-ends : goal.returns-in_err-outbox-clause-ends
-returns-in_err-outbox-clause-ends g c honest h n f heard = f.left
-
-pub returns-in_err-outbox-clause-covers : goal.returns-in_err-outbox-clause-covers
-returns-in_err-outbox-clause-covers g c honest genesis n x shown every = every
-
-pub returns-in_err-put-clause-ends : goal.returns-in_err-put-clause-ends
-returns-in_err-put-clause-ends g c honest h n f heard =
-    let is : c.deref.result.now ≡ c.in_ok-outbox.outbox.entries = c.deref.ensures.value ∙ ap (λ (o : OutboxValue). o.entries) c.outbox.view_is in
-    put_leaves _ h n c.args.node.now c.step.new.self c.args.store.now c.put.new.self c.args.input c.in_ok-outbox.outbox f heard c.in_ok-outbox.ensures.goes_on
-    (subst (λ (es : List Entry). KeepsAtLeast c.put.new.self f.shown.keeps.entries (plain f.shown.keeps.loose ++ plain es)) is (c.put.ensures.any honest f.shown.keeps.entries (plain f.shown.keeps.loose) f.shown.keeps.holds))
-
-pub returns-in_err-put-clause-covers : goal.returns-in_err-put-clause-covers
-returns-in_err-put-clause-covers g c honest genesis n x shown every =
-    let is : c.deref.result.now ≡ c.in_ok-outbox.outbox.entries = c.deref.ensures.value ∙ ap (λ (o : OutboxValue). o.entries) c.outbox.view_is in
-    step_covers _ genesis n c.args.node.now c.step.new.self c.args.store.now c.put.new.self _ c.in_ok-outbox.outbox shown c.in_ok-outbox.ensures.goes_on
-    (subst (λ (es : List Entry). KeepsAtLeast c.put.new.self shown.keeps.entries (plain shown.keeps.loose ++ plain es)) is (c.put.ensures.any honest shown.keeps.entries (plain shown.keeps.loose) shown.keeps.holds)) x every
+-- ---- a step whose entries were put
 
 pub returns-clause-goes : goal.returns-clause-goes
 returns-clause-goes g c honest h n f heard =
@@ -55,24 +41,13 @@ returns-clause-syncs g c honest genesis n x shown d listed said =
     (λ yes'. subst (λ (es : List Entry). Holds c.put.new.self (shown.keeps.entries ++ (plain shown.keeps.loose ++ plain es)) []) is (c.in_ok-put.ensures.synced honest (ap (λ (o : OutboxValue). o.sync) c.outbox.view_is ∙ yes') shown.keeps.entries (plain shown.keeps.loose) shown.keeps.holds))).keeps
     x d listed said
 
-pub returns-clause-covers : goal.returns-clause-covers
-returns-clause-covers g c honest genesis n x shown every =
-    let is : c.deref.result.now ≡ c.in_ok-outbox.outbox.entries = c.deref.ensures.value ∙ ap (λ (o : OutboxValue). o.entries) c.outbox.view_is in
-    step_covers _ genesis n c.args.node.now c.step.new.self c.args.store.now c.put.new.self _ c.in_ok-outbox.outbox shown c.in_ok-outbox.ensures.goes_on
-    (subst (λ (es : List Entry). KeepsAtLeast c.put.new.self shown.keeps.entries (plain shown.keeps.loose ++ plain es)) is (c.put.ensures.any honest shown.keeps.entries (plain shown.keeps.loose) shown.keeps.holds)) x every
-
-pub returns-clause-ends : goal.returns-clause-ends
-returns-clause-ends g c honest h n f heard =
-    let is : c.deref.result.now ≡ c.in_ok-outbox.outbox.entries = c.deref.ensures.value ∙ ap (λ (o : OutboxValue). o.entries) c.outbox.view_is in
-    put_leaves _ h n c.args.node.now c.step.new.self c.args.store.now c.put.new.self c.args.input c.in_ok-outbox.outbox f heard c.in_ok-outbox.ensures.goes_on
-    (subst (λ (es : List Entry). KeepsAtLeast c.put.new.self f.shown.keeps.entries (plain f.shown.keeps.loose ++ plain es)) is (c.put.ensures.any honest f.shown.keeps.entries (plain f.shown.keeps.loose) f.shown.keeps.holds))
-
 pub returns-clause-exact : goal.returns-clause-exact
 returns-clause-exact g c honest =
-    let is : c.deref.result.now ≡ c.in_ok-outbox.outbox.entries = c.deref.ensures.value ∙ ap (λ (o : OutboxValue). o.entries) c.outbox.view_is in (
-      c.step.new.self,
-      c.in_ok-outbox.ensures.steps,
-      record {
+    let is : c.deref.result.now ≡ c.in_ok-outbox.outbox.entries = c.deref.ensures.value ∙ ap (λ (o : OutboxValue). o.entries) c.outbox.view_is in
+    record {
+      stepped = c.step.new.self;
+      steps = c.in_ok-outbox.ensures.steps;
+      writes = record {
         rebases = λ yes. absurd (let both : false ≡ true = sym c.if-outbox.false ∙ ap (λ (o : OutboxValue). o.rebase) c.outbox.view_is ∙ yes in cc both);
         puts = λ no. (
           refl,
@@ -81,99 +56,162 @@ returns-clause-exact g c honest =
             λ yes'. subst (λ (es : List Entry). Holds c.put.new.self (ks ++ (ls ++ plain es)) []) is (c.in_ok-put.ensures.synced honest (ap (λ (o : OutboxValue). o.sync) c.outbox.view_is ∙ yes') ks ls holds),
           ),
         );
-      },
-    )
+      };
+      calls = λ metered.
+          put_written _ _ c.in_ok-outbox.outbox _ _ is (ap (λ (o : OutboxValue). o.sync) c.outbox.view_is) (sym (ap (λ (o : OutboxValue). o.rebase) c.outbox.view_is) ∙ c.if-outbox.false) (c.in_ok-put.ensures.metered metered);
+    }
 
-pub returns-in_err-put-clause-room : goal.returns-in_err-put-clause-room
-returns-in_err-put-clause-room g c honest small =
+pub returns-clause-alive : goal.returns-clause-alive
+returns-clause-alive g c =
     let is : c.deref.result.now ≡ c.in_ok-outbox.outbox.entries = c.deref.ensures.value ∙ ap (λ (o : OutboxValue). o.entries) c.outbox.view_is in
-    let few : length c.in_ok-outbox.outbox.entries ≤ 16 = few_entries _ _ c.args.node.now _ c.step.new.self c.in_ok-outbox.outbox c.in_ok-outbox.ensures.steps in
-    behind_room (disks c.args.store.now) c.args.store.now c.put.new.self (within_same 49152 (disks c.args.store.now) (disks c.args.store.now) (λ s. refl)) small c.put.ensures.file.0 (omega (arith, c.put.ensures.grows honest, few, ap length is)) (c.put.ensures.beside honest).0
+    record {
+      store_alive = c.in_ok-put.ensures.failing;
+      awake = c.in_ok-outbox.ensures.awake;
+      runs = c.in_ok-outbox.ensures.runs;
+      remembers = λ honest genesis n shown.
+          step_remembers _ genesis n c.args.node.now c.step.new.self c.args.store.now c.put.new.self _ c.in_ok-outbox.outbox shown c.in_ok-outbox.ensures.goes_on
+          (step_keeps _ genesis n c.args.node.now c.step.new.self c.args.store.now c.put.new.self _ c.in_ok-outbox.outbox shown c.in_ok-outbox.ensures.goes_on
+          (λ no'. subst (λ (es : List Entry). Holds c.put.new.self shown.keeps.entries (plain shown.keeps.loose ++ plain es)) is (c.in_ok-put.ensures.added honest (ap (λ (o : OutboxValue). o.sync) c.outbox.view_is ∙ no') shown.keeps.entries (plain shown.keeps.loose) shown.keeps.holds))
+          (λ yes'. subst (λ (es : List Entry). Holds c.put.new.self (shown.keeps.entries ++ (plain shown.keeps.loose ++ plain es)) []) is (c.in_ok-put.ensures.synced honest (ap (λ (o : OutboxValue). o.sync) c.outbox.view_is ∙ yes') shown.keeps.entries (plain shown.keeps.loose) shown.keeps.holds)));
+    }
 
-pub returns-clause-room : goal.returns-clause-room
-returns-clause-room g c honest small =
-    let is : c.deref.result.now ≡ c.in_ok-outbox.outbox.entries = c.deref.ensures.value ∙ ap (λ (o : OutboxValue). o.entries) c.outbox.view_is in
-    let few : length c.in_ok-outbox.outbox.entries ≤ 16 = few_entries _ _ c.args.node.now _ c.step.new.self c.in_ok-outbox.outbox c.in_ok-outbox.ensures.steps in
-    behind_room (disks c.args.store.now) c.args.store.now c.put.new.self (within_same 49152 (disks c.args.store.now) (disks c.args.store.now) (λ s. refl)) small c.put.ensures.file.0 (omega (arith, c.put.ensures.grows honest, few, ap length is)) (c.put.ensures.beside honest).0
-
--- ---- a step that rebases
-
-pub returns-in_err-write_base-clause-ends : goal.returns-in_err-write_base-clause-ends
-returns-in_err-write_base-clause-ends g c honest h n f heard =
-    let is : c.in_ok-outbox.outbox.rebase ≡ true = sym (ap (λ (o : OutboxValue). o.rebase) c.outbox.view_is) ∙ c.if-outbox.true in
-    c.write_base.ensures.ends honest h n (stepped_fits _ h n c.args.node.now c.step.new.self c.args.store.now c.args.input c.in_ok-outbox.outbox f heard c.in_ok-outbox.ensures.goes_on is)
-
-pub returns-in_err-write_base-clause-covers : goal.returns-in_err-write_base-clause-covers
-returns-in_err-write_base-clause-covers g c honest genesis n x shown every =
-    let is : c.in_ok-outbox.outbox.rebase ≡ true = sym (ap (λ (o : OutboxValue). o.rebase) c.outbox.view_is) ∙ c.if-outbox.true in
-    c.write_base.ensures.covers honest genesis n x (still_keeps _ _ genesis n c.args.node.now c.step.new.self c.args.store.now shown.whose shown.keeps c.in_ok-outbox.outbox c.in_ok-outbox.ensures.goes_on is) every
-
-pub returns-then-outbox-clause-ends : goal.returns-then-outbox-clause-ends
-returns-then-outbox-clause-ends g c honest h n f heard =
-    let is : c.in_ok-outbox.outbox.rebase ≡ true = sym (ap (λ (o : OutboxValue). o.rebase) c.outbox.view_is) ∙ c.if-outbox.true in
-    c.write_base.ensures.ends honest h n (stepped_fits _ h n c.args.node.now c.step.new.self c.args.store.now c.args.input c.in_ok-outbox.outbox f heard c.in_ok-outbox.ensures.goes_on is)
-
-pub returns-then-outbox-clause-covers : goal.returns-then-outbox-clause-covers
-returns-then-outbox-clause-covers g c honest genesis n x shown every =
-    let is : c.in_ok-outbox.outbox.rebase ≡ true = sym (ap (λ (o : OutboxValue). o.rebase) c.outbox.view_is) ∙ c.if-outbox.true in
-    c.write_base.ensures.covers honest genesis n x (still_keeps _ _ genesis n c.args.node.now c.step.new.self c.args.store.now shown.whose shown.keeps c.in_ok-outbox.outbox c.in_ok-outbox.ensures.goes_on is) every
+-- ---- one that rebases
 
 pub returns-then-outbox-clause-goes : goal.returns-then-outbox-clause-goes
 returns-then-outbox-clause-goes g c honest h n f heard sent among =
     let m : Meaning = meaning g.M.Machine.first g.M.Machine.next g.M.Machine.answer in
     let is : c.in_ok-outbox.outbox.rebase ≡ true = sym (ap (λ (o : OutboxValue). o.rebase) c.outbox.view_is) ∙ c.if-outbox.true in
-    let holds = c.in_ok-write_base.ensures.writes honest f.shown.keeps.entries (plain f.shown.keeps.loose) f.shown.keeps.holds in
-    subst (λ (k : NodeValue). Goes m h n (Stands m k c.write_base.new.store h.genesis n) (disks c.write_base.new.store) c.in_ok-outbox.outbox.notes (batch_of n sent)) (sym c.in_ok-write_base.ensures.becomes)
-    (installed_goes m h n c.args.node.now c.step.new.self c.args.store.now c.args.input c.in_ok-outbox.outbox f heard c.in_ok-outbox.ensures.goes_on is c.write_base.new.store c.in_ok-write_base.ensures.begins c.write_base.ensures.within holds sent among)
+    let base = c.in_ok-write_base.ensures.becomes in
+    let holds = (c.in_ok-write_base.ensures.done honest).rebases.writes f.shown.keeps.entries (plain f.shown.keeps.loose) f.shown.keeps.holds in
+    subst (λ (k : NodeValue). Goes m h n (Stands m k c.write_base.new.store h.genesis n) (disks c.write_base.new.store) c.in_ok-outbox.outbox.notes (batch_of n sent)) (sym base.becomes)
+    (installed_goes m h n c.args.node.now c.step.new.self c.args.store.now c.args.input c.in_ok-outbox.outbox f heard c.in_ok-outbox.ensures.goes_on is c.write_base.new.store base.begins c.write_base.ensures.within holds sent among)
 
 pub returns-then-outbox-clause-syncs : goal.returns-then-outbox-clause-syncs
 returns-then-outbox-clause-syncs g c honest genesis n x shown d listed said =
     let is : c.in_ok-outbox.outbox.rebase ≡ true = sym (ap (λ (o : OutboxValue). o.rebase) c.outbox.view_is) ∙ c.if-outbox.true in
-    c.in_ok-write_base.ensures.syncs honest genesis n x (still_keeps _ _ genesis n c.args.node.now c.step.new.self c.args.store.now shown.whose shown.keeps c.in_ok-outbox.outbox c.in_ok-outbox.ensures.goes_on is)
+    (c.in_ok-write_base.ensures.done honest).syncs genesis n x (still_keeps _ _ genesis n c.args.node.now c.step.new.self c.args.store.now shown.whose shown.keeps c.in_ok-outbox.outbox c.in_ok-outbox.ensures.goes_on is)
     (sent_is_covered _ _ genesis n c.args.node.now c.step.new.self c.args.store.now shown.whose shown.keeps c.in_ok-outbox.outbox c.in_ok-outbox.ensures.goes_on is x d listed said)
 
 pub returns-then-outbox-clause-exact : goal.returns-then-outbox-clause-exact
-returns-then-outbox-clause-exact g c honest = (
-  c.step.new.self,
-  c.in_ok-outbox.ensures.steps,
-  record {
-    rebases = λ yes. record { becomes = c.in_ok-write_base.ensures.becomes; writes = c.in_ok-write_base.ensures.writes honest };
-    puts = λ no. absurd (let both : true ≡ false = sym c.if-outbox.true ∙ ap (λ (o : OutboxValue). o.rebase) c.outbox.view_is ∙ no in cc both);
-  },
-)
+returns-then-outbox-clause-exact g c honest =
+    let is : c.in_ok-outbox.outbox.rebase ≡ true = sym (ap (λ (o : OutboxValue). o.rebase) c.outbox.view_is) ∙ c.if-outbox.true in
+    let done = c.in_ok-write_base.ensures.done honest in
+    record {
+      stepped = c.step.new.self;
+      steps = c.in_ok-outbox.ensures.steps;
+      writes = record { rebases = λ yes. done.rebases; puts = λ no. absurd (let both : true ≡ false = sym is ∙ no in cc both) };
+      calls = λ metered. base_written _ _ c.in_ok-outbox.outbox is (done.calls metered);
+    }
 
-pub returns-then-outbox-clause-runs : goal.returns-then-outbox-clause-runs
-returns-then-outbox-clause-runs g c none = c.in_ok-write_base.ensures.runs (c.in_ok-outbox.ensures.runs none)
+pub returns-then-outbox-clause-alive : goal.returns-then-outbox-clause-alive
+returns-then-outbox-clause-alive g c =
+    let is : c.in_ok-outbox.outbox.rebase ≡ true = sym (ap (λ (o : OutboxValue). o.rebase) c.outbox.view_is) ∙ c.if-outbox.true in
+    record {
+      store_alive = c.in_ok-write_base.ensures.becomes.store_alive;
+      awake = c.write_base.ensures.wakes ∙ c.in_ok-outbox.ensures.awake;
+      runs = λ none. c.in_ok-write_base.ensures.becomes.runs (c.in_ok-outbox.ensures.runs none);
+      remembers = λ honest genesis n shown.
+          (c.in_ok-write_base.ensures.done honest).remembers genesis n (still_remembers _ _ genesis n c.args.node.now c.step.new.self c.args.store.now shown.whose shown.keeps c.in_ok-outbox.outbox c.in_ok-outbox.ensures.goes_on is);
+    }
 
--- ---- which calls were made
+-- ---- at every exit
 
-pub returns-in_err-outbox-clause-metered : goal.returns-in_err-outbox-clause-metered
-returns-in_err-outbox-clause-metered g c metered honest = refused_by _ _ _ _ fault.Halted c.from_residual.ensures.1 (0, start)
+pub returns-in_err-outbox-clause-disks : goal.returns-in_err-outbox-clause-disks
+returns-in_err-outbox-clause-disks g c honest = record {
+  ends = λ h n f heard. f.left;
+  covers = λ genesis n x shown every. every;
+  room = λ small. within_same 132704 (disks c.args.store.now) (disks c.args.store.now) (λ s. refl);
+}
+
+pub returns-in_err-put-clause-disks : goal.returns-in_err-put-clause-disks
+returns-in_err-put-clause-disks g c honest =
+    let is : c.deref.result.now ≡ c.in_ok-outbox.outbox.entries = c.deref.ensures.value ∙ ap (λ (o : OutboxValue). o.entries) c.outbox.view_is in
+    let few : length c.in_ok-outbox.outbox.entries ≤ 16 = few_entries _ _ c.args.node.now _ c.step.new.self c.in_ok-outbox.outbox c.in_ok-outbox.ensures.steps in
+    record {
+      ends = λ h n f heard.
+          put_leaves _ h n c.args.node.now c.step.new.self c.args.store.now c.put.new.self c.args.input c.in_ok-outbox.outbox f heard c.in_ok-outbox.ensures.goes_on
+          (subst (λ (es : List Entry). KeepsAtLeast c.put.new.self f.shown.keeps.entries (plain f.shown.keeps.loose ++ plain es)) is (c.put.ensures.any honest f.shown.keeps.entries (plain f.shown.keeps.loose) f.shown.keeps.holds));
+      covers = λ genesis n x shown every.
+          step_covers _ genesis n c.args.node.now c.step.new.self c.args.store.now c.put.new.self _ c.in_ok-outbox.outbox shown c.in_ok-outbox.ensures.goes_on
+          (subst (λ (es : List Entry). KeepsAtLeast c.put.new.self shown.keeps.entries (plain shown.keeps.loose ++ plain es)) is (c.put.ensures.any honest shown.keeps.entries (plain shown.keeps.loose) shown.keeps.holds)) x every;
+      room = λ small.
+          behind_room (disks c.args.store.now) c.args.store.now c.put.new.self (within_same 49152 (disks c.args.store.now) (disks c.args.store.now) (λ s. refl)) small c.put.ensures.file.0 (omega (arith, c.put.ensures.grows honest, few, ap length is)) (c.put.ensures.beside honest).0;
+    }
+
+pub returns-clause-disks : goal.returns-clause-disks
+returns-clause-disks g c honest =
+    let is : c.deref.result.now ≡ c.in_ok-outbox.outbox.entries = c.deref.ensures.value ∙ ap (λ (o : OutboxValue). o.entries) c.outbox.view_is in
+    let few : length c.in_ok-outbox.outbox.entries ≤ 16 = few_entries _ _ c.args.node.now _ c.step.new.self c.in_ok-outbox.outbox c.in_ok-outbox.ensures.steps in
+    record {
+      ends = λ h n f heard.
+          put_leaves _ h n c.args.node.now c.step.new.self c.args.store.now c.put.new.self c.args.input c.in_ok-outbox.outbox f heard c.in_ok-outbox.ensures.goes_on
+          (subst (λ (es : List Entry). KeepsAtLeast c.put.new.self f.shown.keeps.entries (plain f.shown.keeps.loose ++ plain es)) is (c.put.ensures.any honest f.shown.keeps.entries (plain f.shown.keeps.loose) f.shown.keeps.holds));
+      covers = λ genesis n x shown every.
+          step_covers _ genesis n c.args.node.now c.step.new.self c.args.store.now c.put.new.self _ c.in_ok-outbox.outbox shown c.in_ok-outbox.ensures.goes_on
+          (subst (λ (es : List Entry). KeepsAtLeast c.put.new.self shown.keeps.entries (plain shown.keeps.loose ++ plain es)) is (c.put.ensures.any honest shown.keeps.entries (plain shown.keeps.loose) shown.keeps.holds)) x every;
+      room = λ small.
+          behind_room (disks c.args.store.now) c.args.store.now c.put.new.self (within_same 49152 (disks c.args.store.now) (disks c.args.store.now) (λ s. refl)) small c.put.ensures.file.0 (omega (arith, c.put.ensures.grows honest, few, ap length is)) (c.put.ensures.beside honest).0;
+    }
+
+pub returns-in_err-write_base-clause-disks : goal.returns-in_err-write_base-clause-disks
+returns-in_err-write_base-clause-disks g c honest =
+    let is : c.in_ok-outbox.outbox.rebase ≡ true = sym (ap (λ (o : OutboxValue). o.rebase) c.outbox.view_is) ∙ c.if-outbox.true in
+    let safe = c.write_base.ensures.disks honest in
+    record {
+      ends = λ h n f heard. safe.fits h n (stepped_fits _ h n c.args.node.now c.step.new.self c.args.store.now c.args.input c.in_ok-outbox.outbox f heard c.in_ok-outbox.ensures.goes_on is);
+      covers = λ genesis n x shown every.
+          safe.covers genesis n x (still_keeps _ _ genesis n c.args.node.now c.step.new.self c.args.store.now shown.whose shown.keeps c.in_ok-outbox.outbox c.in_ok-outbox.ensures.goes_on is) every;
+      room = λ small. refused_room (disks c.args.store.now) (disks c.write_base.new.store) safe.room;
+    }
+
+pub returns-then-outbox-clause-disks : goal.returns-then-outbox-clause-disks
+returns-then-outbox-clause-disks g c honest =
+    let is : c.in_ok-outbox.outbox.rebase ≡ true = sym (ap (λ (o : OutboxValue). o.rebase) c.outbox.view_is) ∙ c.if-outbox.true in
+    let safe = c.write_base.ensures.disks honest in
+    record {
+      ends = λ h n f heard. safe.fits h n (stepped_fits _ h n c.args.node.now c.step.new.self c.args.store.now c.args.input c.in_ok-outbox.outbox f heard c.in_ok-outbox.ensures.goes_on is);
+      covers = λ genesis n x shown every.
+          safe.covers genesis n x (still_keeps _ _ genesis n c.args.node.now c.step.new.self c.args.store.now shown.whose shown.keeps c.in_ok-outbox.outbox c.in_ok-outbox.ensures.goes_on is) every;
+      room = λ small. refused_room (disks c.args.store.now) (disks c.write_base.new.store) safe.room;
+    }
 
 -- ---- what a refusal leaves
 
-pub returns-in_err-outbox-clause-stays : goal.returns-in_err-outbox-clause-stays
-returns-in_err-outbox-clause-stays g c honest = spared_as _ _ fault.Halted c.from_residual.ensures.1 (λ s. refl)
+pub returns-in_err-outbox-clause-refused : goal.returns-in_err-outbox-clause-refused
+returns-in_err-outbox-clause-refused g c =
+    err_as _ _ fault.Halted c.from_residual.ensures.1 (record {
+      told = tt;
+      only = tt;
+      calls = λ metered honest. (0, start);
+      earlier = λ is alive further. cc is;
+      stays = λ honest s. refl;
+      halts = λ is. c.in_err-outbox.ensures.halts;
+      awake = λ was other. absurd (other refl);
+    })
 
-pub returns-in_err-put-clause-stays : goal.returns-in_err-put-clause-stays
-returns-in_err-put-clause-stays g c honest =
-    spared_as _ _ _ c.from_residual-in_err-put.ensures.1
-    (put_spares c.args.store.now c.put.new.self _ c.put.ensures.file.0 (c.put.ensures.beside honest).0 (c.in_err-put.ensures.beside honest).1 (λ dead. (c.put.ensures.refuses.0 dead).0) c.in_err-put.ensures.refuses.1)
+pub returns-in_err-put-clause-refused : goal.returns-in_err-put-clause-refused
+returns-in_err-put-clause-refused g c =
+    let was = c.in_err-put.ensures in
+    let of_store = put_refused c.args.store.now _ (λ dead. (was.refuses.0 dead).1) was.refuses.1 in
+    err_as _ _ _ c.from_residual-in_err-put.ensures.1 (record {
+      told = store_told _ of_store;
+      only = store_only _ of_store;
+      calls = λ metered honest. refused_after _ _ _ (was.metered metered);
+      earlier = λ is alive further. not_failed_so _ (was.refuses.1 alive) is;
+      stays = λ honest. put_spares c.args.store.now c.put.new.self _ c.put.ensures.file.0 (c.put.ensures.beside honest).0 (was.beside honest).1 (λ dead. (c.put.ensures.refuses.0 dead).0) was.refuses.1;
+      halts = λ is. absurd (store_awake _ of_store is);
+      awake = λ wakes other. c.in_ok-outbox.ensures.awake;
+    })
 
-pub returns-in_err-write_base-clause-stays : goal.returns-in_err-write_base-clause-stays
-returns-in_err-write_base-clause-stays g c honest = spared_as _ _ _ c.from_residual-in_err-write_base.ensures.1 (c.in_err-write_base.ensures.stays honest)
-
--- ---- what it remembers
-
-pub returns-clause-remembers : goal.returns-clause-remembers
-returns-clause-remembers g c honest genesis n shown =
-    let is : c.deref.result.now ≡ c.in_ok-outbox.outbox.entries = c.deref.ensures.value ∙ ap (λ (o : OutboxValue). o.entries) c.outbox.view_is in
-    step_remembers _ genesis n c.args.node.now c.step.new.self c.args.store.now c.put.new.self _ c.in_ok-outbox.outbox shown c.in_ok-outbox.ensures.goes_on
-    (step_keeps _ genesis n c.args.node.now c.step.new.self c.args.store.now c.put.new.self _ c.in_ok-outbox.outbox shown c.in_ok-outbox.ensures.goes_on
-    (λ no'. subst (λ (es : List Entry). Holds c.put.new.self shown.keeps.entries (plain shown.keeps.loose ++ plain es)) is (c.in_ok-put.ensures.added honest (ap (λ (o : OutboxValue). o.sync) c.outbox.view_is ∙ no') shown.keeps.entries (plain shown.keeps.loose) shown.keeps.holds))
-    (λ yes'. subst (λ (es : List Entry). Holds c.put.new.self (shown.keeps.entries ++ (plain shown.keeps.loose ++ plain es)) []) is (c.in_ok-put.ensures.synced honest (ap (λ (o : OutboxValue). o.sync) c.outbox.view_is ∙ yes') shown.keeps.entries (plain shown.keeps.loose) shown.keeps.holds)))
-
-pub returns-then-outbox-clause-remembers : goal.returns-then-outbox-clause-remembers
-returns-then-outbox-clause-remembers g c honest genesis n shown =
-    let is : c.in_ok-outbox.outbox.rebase ≡ true = sym (ap (λ (o : OutboxValue). o.rebase) c.outbox.view_is) ∙ c.if-outbox.true in
-    c.in_ok-write_base.ensures.remembers honest genesis n (still_remembers _ _ genesis n c.args.node.now c.step.new.self c.args.store.now shown.whose shown.keeps c.in_ok-outbox.outbox c.in_ok-outbox.ensures.goes_on is)
+pub returns-in_err-write_base-clause-refused : goal.returns-in_err-write_base-clause-refused
+returns-in_err-write_base-clause-refused g c =
+    let was = c.in_err-write_base.ensures.refused in
+    err_as _ _ _ c.from_residual-in_err-write_base.ensures.1 (record {
+      told = store_told _ was.of_store;
+      only = store_only _ was.of_store;
+      calls = was.calls;
+      earlier = λ is alive further. was.earlier is alive (omega (arith, further));
+      stays = was.stays;
+      halts = λ is. absurd (store_awake _ was.of_store is);
+      awake = λ wakes other. c.write_base.ensures.wakes ∙ c.in_ok-outbox.ensures.awake;
+    })

@@ -1,5 +1,4 @@
 use Rattle.std.proofs.Common.{[], Result, Ok, Err, OnOk}
-use Rattle.lk_log.specs.Causes.{rebase_calls}
 use Rattle.lk_log.specs.Rooms.{StaysWithin}
 use Rattle.lk_log.specs.StoreValue.{disks, device_of}
 use Rattle.lk_disk.specs.Memory.{disk_of}
@@ -24,46 +23,49 @@ returns-clause-goes g c h n fits =
     let m : Meaning = meaning g.M.Machine.first g.M.Machine.next g.M.Machine.answer in
     let own = c.args.self.now in
     on_ok _ _ c.compact.result
-    (on_device (λ d. Goes m h n (Stands m c.compact.new.self.node c.compact.new.self.store h.genesis n) d [] []) c.compact.new.self.store)
-    (c.compact.ensures.goes tt h n (off_device (λ d. NodeFits m h n (Stands m own.node own.store h.genesis n) d) own.store fits))
+    (λ done. on_device (λ d. Goes m h n (Stands m c.compact.new.self.node c.compact.new.self.store h.genesis n) d [] []) c.compact.new.self.store
+    (done.goes h n (off_device (λ d. NodeFits m h n (Stands m own.node own.store h.genesis n) d) own.store fits)))
+    (c.compact.ensures.done tt)
 
 pub returns-clause-ends : goal.returns-clause-ends
 returns-clause-ends g c h n fits =
     let m : Meaning = meaning g.M.Machine.first g.M.Machine.next g.M.Machine.answer in
     let own = c.args.self.now in
     on_device (DisksFit m h n) c.compact.new.self.store
-    (c.compact.ensures.ends tt h n (off_device (λ d. NodeFits m h n (Stands m own.node own.store h.genesis n) d) own.store fits))
+    ((c.compact.ensures.disks tt).ends h n (off_device (λ d. NodeFits m h n (Stands m own.node own.store h.genesis n) d) own.store fits) tt)
 
 pub returns-clause-covers : goal.returns-clause-covers
 returns-clause-covers g c genesis n held x shown every =
     let m : Meaning = meaning g.M.Machine.first g.M.Machine.next g.M.Machine.answer in
-    on_device (λ d. AllCover m genesis n d x) c.compact.new.self.store (c.compact.ensures.covers tt genesis n x (remembered m genesis n held c.args.self.now.node c.args.self.now.store shown) (off_device (λ d. AllCover m genesis n d x) c.args.self.now.store every))
+    on_device (λ d. AllCover m genesis n d x) c.compact.new.self.store
+    ((c.compact.ensures.disks tt).covers genesis n x (remembered m genesis n held c.args.self.now.node c.args.self.now.store shown) (off_device (λ d. AllCover m genesis n d x) c.args.self.now.store every))
 
 pub returns-clause-stands : goal.returns-clause-stands
 returns-clause-stands g c genesis n held shown =
     let m : Meaning = meaning g.M.Machine.first g.M.Machine.next g.M.Machine.answer in
     on_ok _ _ c.compact.result
-    (on_device (λ d. AllStandAt m genesis n d (executed c.compact.new.self.node.learner) held.view.done) c.compact.new.self.store)
-    (c.compact.ensures.stands tt genesis n held shown)
+    (λ done. on_device (λ d. AllStandAt m genesis n d (executed c.compact.new.self.node.learner) held.view.done) c.compact.new.self.store (done.stands genesis n held shown))
+    (c.compact.ensures.done tt)
 
 pub returns-clause-room : goal.returns-clause-room
 returns-clause-room g c =
     on_device (λ d. StaysWithin 49152 (disk_of (device_of c.args.self.now.store)) d) c.compact.new.self.store
-    (on_device (λ d. StaysWithin 49152 d (disks c.compact.new.self.store)) c.args.self.now.store (c.compact.ensures.room tt))
+    (on_device (λ d. StaysWithin 49152 d (disks c.compact.new.self.store)) c.args.self.now.store (c.compact.ensures.disks tt).room)
 
 pub returns-clause-exact : goal.returns-clause-exact
 returns-clause-exact g c =
     let m : Meaning = meaning g.M.Machine.first g.M.Machine.next g.M.Machine.answer in
-    compacted m c.args.self.now c.compact.new.self c.compact.result c.compact.ensures.becomes (λ ks ls. c.compact.ensures.writes tt ks ls) (λ genesis n x. c.compact.ensures.stands tt genesis n x)
-    (c.compact.ensures.metered tt tt) c.compact.ensures.alive c.compact.ensures.store_alive
+    compacted m c.args.self.now c.compact.new.self c.compact.result (c.compact.ensures.done tt) c.compact.ensures.becomes c.compact.ensures.alive
 
 pub returns-clause-refused : goal.returns-clause-refused
 returns-clause-refused g c =
     let m : Meaning = meaning g.M.Machine.first g.M.Machine.next g.M.Machine.answer in
-    refused m c.args.self.now c.compact.new.self c.compact.result c.compact.ensures.cause (c.compact.ensures.metered tt tt) c.compact.ensures.failed c.compact.ensures.failed_before c.compact.ensures.stays_failed c.compact.ensures.broken (c.compact.ensures.stays tt) c.compact.ensures.of_store c.compact.ensures.wakes c.compact.ensures.last
+    refused m c.args.self.now c.compact.new.self c.compact.result c.compact.ensures.cause c.compact.ensures.refused c.compact.ensures.wakes c.compact.ensures.last
 
 pub returns-clause-calls : goal.returns-clause-calls
-returns-clause-calls g c = calls_ok c.args.self.now.store.meter c.compact.new.self.store.meter rebase_calls c.compact.result (c.compact.ensures.metered tt tt)
+returns-clause-calls g c =
+    let m : Meaning = meaning g.M.Machine.first g.M.Machine.next g.M.Machine.answer in
+    calls_ok m c.args.self.now c.compact.new.self c.compact.result (c.compact.ensures.done tt)
 
 pub returns-clause-calls_err : goal.returns-clause-calls_err
-returns-clause-calls_err g c = calls_err c.args.self.now.store.meter c.compact.new.self.store.meter rebase_calls c.compact.result (c.compact.ensures.metered tt tt)
+returns-clause-calls_err g c = calls_err c.args.self.now c.compact.new.self c.compact.result c.compact.ensures.refused

@@ -1,83 +1,65 @@
-use Rattle.std.proofs.Common.{[], ◌∷◌, refl, sym, subst}
+use Rattle.std.proofs.Common.{◌≡◌, ◌∙◌, true, false, refl, sym, ap, subst, inl, inr}
+use Rattle.std.specs.Prelude.{⊤, IfErr}
 use Rattle.lk_log.specs.StoreValue.{disks}
-use Rattle.lk_log.specs.Stores.{Holds, next_base}
-use Rattle.lk_log.specs.declared.stored.Stored.TheVariants.{Base}
-use Rattle.lk_node.specs.Packing.{standing_of}
 use Rattle.lk_state.specs.Meanings.{Meaning, meaning}
-use Rattle.lk_node.specs.Calls.{NodeFits}
-use Rattle.lk_node.specs.Keeping.{Stands}
-use Rattle.lk_node.specs.Leavings.{AllCover}
-use Rattle.lk_replica.specs.ReplicaValue.{ReplicaValue}
-use Rattle.lk_log.specs.Rooms.{StaysWithin}
 use Rattle.lk_log.proofs.Room.{within_same}
-use Rattle.lk_replica.proofs.replica.Replica.compact.Goals as goal
 use Rattle.lk_disk.specs.Meters.{start}
-use Rattle.lk_replica.specs.Compacting.{AreSame}
-use Rattle.lk_replica.specs.Remembering.{Remembers}
-use Rattle.lk_replica.proofs.Spared.{spared_more, spared_as}
+use Rattle.lk_replica.specs.Compacted.{IsNotCompacted}
+use Rattle.lk_replica.specs.Faults.{fault_number}
+use Rattle.lk_replica.specs.Rebased.{StandsOnBase, HasGoneOver}
+use Rattle.lk_replica.specs.ReplicaValue.{ReplicaValue}
+use Rattle.lk_replica.specs.Taking.{LeavesDisks}
+use Rattle.lk_replica.proofs.Rebasing.{leaves_safe}
+use Rattle.lk_replica.proofs.Refusals.{not_compacted_by_parts}
+use Rattle.lk_replica.proofs.replica.Replica.compact.Goals as goal
 
-pub returns-in_err-write_base-clause-ends : goal.returns-in_err-write_base-clause-ends
-returns-in_err-write_base-clause-ends g c honest h n f =
-    let m : Meaning = meaning g.M.Machine.first g.M.Machine.next g.M.Machine.answer in
-    c.write_base.ensures.ends honest h n (subst (λ (r : ReplicaValue). NodeFits m h n (Stands m r.node r.store h.genesis n) (disks r.store)) (sym c.self.view_is) f)
+-- ---- where it has gone over
 
-pub returns-in_err-write_base-clause-covers : goal.returns-in_err-write_base-clause-covers
-returns-in_err-write_base-clause-covers g c honest genesis n x shown every =
+pub returns-clause-done : goal.returns-clause-done
+returns-clause-done g c honest =
     let m : Meaning = meaning g.M.Machine.first g.M.Machine.next g.M.Machine.answer in
-    c.write_base.ensures.covers honest genesis n x (subst (λ (r : ReplicaValue). Remembers r.node r.store genesis n) (sym c.self.view_is) shown).keeps
-    (subst (λ (r : ReplicaValue). AllCover m genesis n (disks r.store) x) (sym c.self.view_is) every)
+    subst (λ (r : ReplicaValue). HasGoneOver m g.D.LogDisk.is_metered r.node r.store c.write_base.new.node c.write_base.new.store) c.self.view_is (c.in_ok-write_base.ensures.done honest)
 
-pub returns-clause-ends : goal.returns-clause-ends
-returns-clause-ends g c honest h n f =
-    let m : Meaning = meaning g.M.Machine.first g.M.Machine.next g.M.Machine.answer in
-    c.write_base.ensures.ends honest h n (subst (λ (r : ReplicaValue). NodeFits m h n (Stands m r.node r.store h.genesis n) (disks r.store)) (sym c.self.view_is) f)
-
-pub returns-clause-covers : goal.returns-clause-covers
-returns-clause-covers g c honest genesis n x shown every =
-    let m : Meaning = meaning g.M.Machine.first g.M.Machine.next g.M.Machine.answer in
-    c.write_base.ensures.covers honest genesis n x (subst (λ (r : ReplicaValue). Remembers r.node r.store genesis n) (sym c.self.view_is) shown).keeps
-    (subst (λ (r : ReplicaValue). AllCover m genesis n (disks r.store) x) (sym c.self.view_is) every)
-
-pub returns-clause-goes : goal.returns-clause-goes
-returns-clause-goes g c honest h n f =
-    let m : Meaning = meaning g.M.Machine.first g.M.Machine.next g.M.Machine.answer in
-    c.in_ok-write_base.ensures.goes honest h n (subst (λ (r : ReplicaValue). NodeFits m h n (Stands m r.node r.store h.genesis n) (disks r.store)) (sym c.self.view_is) f)
-
-pub returns-clause-stands : goal.returns-clause-stands
-returns-clause-stands g c honest genesis n held shown =
-    let m : Meaning = meaning g.M.Machine.first g.M.Machine.next g.M.Machine.answer in
-    c.in_ok-write_base.ensures.stands honest genesis n held (subst (λ (r : ReplicaValue). Stands m r.node r.store genesis n held) (sym c.self.view_is) shown)
+pub returns-clause-becomes : goal.returns-clause-becomes
+returns-clause-becomes g c = subst (λ (r : ReplicaValue). StandsOnBase r.node r.store c.write_base.new.node c.write_base.new.store) c.self.view_is c.in_ok-write_base.ensures.becomes
 
 pub invariant_of-self-2 : goal.invariant_of-self-2
-invariant_of-self-2 g c = (λ alive. c.in_ok-write_base.ensures.runs (c.self.invariant.0 c.if-self.false), c.write_base.ensures.format_stays c.self.invariant.1)
+invariant_of-self-2 g c = (λ alive. c.in_ok-write_base.ensures.becomes.runs (c.self.invariant.0 c.if-self.false), c.write_base.ensures.format_stays c.self.invariant.1)
 
-pub returns-then-self-clause-room : goal.returns-then-self-clause-room
-returns-then-self-clause-room g c honest = within_same 49152 (disks c.args.self.now.store) (disks c.args.self.now.store) (λ s. refl)
+-- ---- at every exit
 
-pub returns-in_err-write_base-clause-room : goal.returns-in_err-write_base-clause-room
-returns-in_err-write_base-clause-room g c honest = subst (λ (r : ReplicaValue). StaysWithin 49152 (disks r.store) (disks c.write_base.new.store)) c.self.view_is (c.write_base.ensures.room honest)
+pub returns-then-self-clause-disks : goal.returns-then-self-clause-disks
+returns-then-self-clause-disks g c honest = record {
+  ends = λ h n f heard. f.left;
+  covers = λ genesis n x shown every. every;
+  room = within_same 49152 (disks c.args.self.now.store) (disks c.args.self.now.store) (λ s. refl);
+}
 
-pub returns-clause-room : goal.returns-clause-room
-returns-clause-room g c honest = subst (λ (r : ReplicaValue). StaysWithin 49152 (disks r.store) (disks c.write_base.new.store)) c.self.view_is (c.write_base.ensures.room honest)
+pub returns-in_err-write_base-clause-disks : goal.returns-in_err-write_base-clause-disks
+returns-in_err-write_base-clause-disks g c honest =
+    let m : Meaning = meaning g.M.Machine.first g.M.Machine.next g.M.Machine.answer in
+    subst (λ (r : ReplicaValue). LeavesDisks m (λ h. ⊤) 49152 r.node r.store (disks c.write_base.new.store)) c.self.view_is (leaves_safe m c.self.inside.node c.self.inside.store c.write_base.new.store (c.write_base.ensures.disks honest))
 
-pub returns-then-self-clause-metered : goal.returns-then-self-clause-metered
-returns-then-self-clause-metered g c metered honest = (0, start)
+pub returns-clause-disks : goal.returns-clause-disks
+returns-clause-disks g c honest =
+    let m : Meaning = meaning g.M.Machine.first g.M.Machine.next g.M.Machine.answer in
+    subst (λ (r : ReplicaValue). LeavesDisks m (λ h. ⊤) 49152 r.node r.store (disks c.write_base.new.store)) c.self.view_is (leaves_safe m c.self.inside.node c.self.inside.store c.write_base.new.store (c.write_base.ensures.disks honest))
 
-pub returns-clause-writes : goal.returns-clause-writes
-returns-clause-writes g c honest ks ls held =
-    subst (λ (r : ReplicaValue). Holds c.write_base.new.store (Base (next_base r.store (standing_of r.node)) ∷ []) []) c.self.view_is
-    (c.in_ok-write_base.ensures.writes honest ks ls (subst (λ (r : ReplicaValue). Holds r.store ks ls) (sym c.self.view_is) held))
+-- ---- where it was refused
 
--- ---- what a refusal leaves
+pub returns-then-self-clause-refused : goal.returns-then-self-clause-refused
+returns-then-self-clause-refused g c = record {
+  of_store = inr (inr refl);
+  calls = λ metered honest. (0, start);
+  earlier = λ number alive store_alive less. let both : true ≡ false = sym c.if-self.true ∙ ap (λ (r : ReplicaValue). r.failed) c.self.view_is ∙ alive in cc both;
+  once = λ ended. (refl, refl);
+  ends = sym (ap (λ (r : ReplicaValue). r.failed) c.self.view_is) ∙ c.if-self.true;
+  stays = λ honest device s. refl;
+}
 
-pub returns-then-self-clause-stays : goal.returns-then-self-clause-stays
-returns-then-self-clause-stays g c honest = λ s. refl
-
-pub returns-in_err-write_base-clause-stays : goal.returns-in_err-write_base-clause-stays
-returns-in_err-write_base-clause-stays g c honest =
-    spared_as _ _ _ c.from_residual.ensures.1
-    (spared_more _ _ _ (λ same. subst (λ (r : ReplicaValue). AreSame (disks r.store) (disks c.write_base.new.store)) c.self.view_is same) (c.in_err-write_base.ensures.stays honest))
-
-pub returns-clause-remembers : goal.returns-clause-remembers
-returns-clause-remembers g c honest genesis n shown =
-    c.in_ok-write_base.ensures.remembers honest genesis n (subst (λ (r : ReplicaValue). Remembers r.node r.store genesis n) (sym c.self.view_is) shown)
+pub returns-in_err-write_base-clause-refused : goal.returns-in_err-write_base-clause-refused
+returns-in_err-write_base-clause-refused g c =
+    let node = c.write_base.new.node in
+    let store = c.write_base.new.store in
+    subst (λ (r : ReplicaValue). IfErr c.from_residual.result (λ e. IsNotCompacted g.D.LogDisk.is_honest g.D.LogDisk.is_metered r (record { node = node; store = store; failed = true }) (fault_number e))) c.self.view_is
+    (not_compacted_by_parts g.D.LogDisk.is_honest g.D.LogDisk.is_metered _ _ (record { node = c.self.inside.node; store = c.self.inside.store; failed = c.self.inside.failed }) node store c.from_residual.ensures.1 c.if-self.false c.in_err-write_base.ensures.refused)

@@ -1,0 +1,85 @@
+-- What a rebase of a node and its store has done, what it leaves, and why it was refused.
+use Rattle.std.specs.Prelude.{◌≡◌, ℕ, ◌+◌, ◌<◌, ◌≤◌, false, [], length}
+use Rattle.lk_types.specs.Limits.{max_base, max_count}
+use Rattle.lk_disk.specs.Disk.{contents}
+use Rattle.lk_disk.specs.Meters.{Passes}
+use Rattle.lk_log.specs.Causes.{rebase_calls}
+use Rattle.lk_log.specs.Rooms.{StaysWithin}
+use Rattle.lk_log.specs.StoreValue.{StoreValue, disks}
+use Rattle.lk_log.specs.Stores.{MayBegin}
+use Rattle.lk_state.specs.Meanings.{Meaning}
+use Rattle.lk_history.specs.Acceptors.{Covers}
+use Rattle.lk_history.specs.Datagrams.{NodeMessage}
+use Rattle.lk_learner.specs.Learners.{executed}
+use Rattle.lk_node.specs.Calls.{NodeFits, Goes}
+use Rattle.lk_node.specs.Executing.{NothingToRun}
+use Rattle.lk_node.specs.Histories.{History, Genesis}
+use Rattle.lk_node.specs.Holdings.{Holding}
+use Rattle.lk_node.specs.Keeping.{Keeps, Stands}
+use Rattle.lk_node.specs.Leavings.{header_of, DisksFit, AllCover}
+use Rattle.lk_node.specs.NodeValue.{NodeValue}
+use Rattle.lk_node.specs.Packing.{standing_of, standing_here}
+use Rattle.lk_replica.specs.Compacted.{IsStoreFault}
+use Rattle.lk_replica.specs.Compacting.{AllStandAt, AreSame, Rebases, RebasesWhereDue, CallsWhereDue}
+use Rattle.lk_replica.specs.Faults.{fault_number, RefusedAfter, IfSpared}
+use Rattle.lk_replica.specs.Remembering.{Remembers}
+use Rattle.lk_replica.specs.declared.fault.ReplicaFault.{ReplicaFault}
+use Rattle.lk_replica.specs.declared.fault.ReplicaFault.TheVariants as fault
+
+-- ---- a rebase
+
+-- the node stands on its Base, which its disks may begin with, and has executed what it could where it had before; and the store has the next
+-- generation and format 2, and has not failed
+pub record StandsOnBase (node : NodeValue) (store : StoreValue) (new : NodeValue) (after : StoreValue) : Type 0 where
+  pub becomes : new ≡ standing_here node
+  pub begins : MayBegin (standing_of node)
+  pub runs : NothingToRun node → NothingToRun new
+  pub generation : after.generation ≡ store.generation + 1
+  pub format : after.format ≡ 2
+  pub store_alive : after.failed ≡ false
+
+-- the node's Base stands alone in the store, written in so many calls of a device that counts them (`Metered`), and is no longer than a Base may be.
+-- In each history that the node fitted it goes on, and sends and notes nothing; it holds something where it did, and the store keeps what the acceptor
+-- holds where it did; whatever a stop may leave of the disks covers what the node does, and stands for a snapshot of all that is executed
+pub record HasGoneOver (m : Meaning) (Metered : Type 0) (node : NodeValue) (store : StoreValue) (new : NodeValue) (after : StoreValue) : Type 0 where
+  pub rebases : Rebases node store new after
+  pub calls : Metered → Passes store.meter after.meter rebase_calls
+  pub short : length (contents after.live_disk) ≤ max_base
+  pub goes : (h : History) (n : ℕ) → NodeFits m h n (Stands m node store h.genesis n) (disks store) → Goes m h n (Stands m new after h.genesis n) (disks after) [] []
+  pub shows : (genesis : Genesis) (n : ℕ) (held : Holding) → Stands m node store genesis n held → (x : Holding) × Stands m new after genesis n x
+  pub remembers : (genesis : Genesis) (n : ℕ) → Remembers node store genesis n → Remembers new after genesis n
+  pub syncs : (genesis : Genesis) (n : ℕ) (x : NodeMessage) → Keeps (header_of genesis n) store node.acceptor.state → Covers node.acceptor.state x → AllCover m genesis n (disks after) x
+  pub stands : (genesis : Genesis) (n : ℕ) (held : Holding) → Stands m node store genesis n held → AllStandAt m genesis n (disks after) (executed new.learner) held.view.done
+
+-- each image that a stop may leave of the store fits each history that the node fitted, and covers what every image covered; neither file is
+-- longer than it was, or else than a Base
+pub record StaysSafe (m : Meaning) (node : NodeValue) (store after : StoreValue) : Type 0 where
+  pub fits : (h : History) (n : ℕ) → NodeFits m h n (Stands m node store h.genesis n) (disks store) → DisksFit m h n (disks after)
+  pub covers : (genesis : Genesis) (n : ℕ) (x : NodeMessage) → Keeps (header_of genesis n) store node.acceptor.state → AllCover m genesis n (disks store) x → AllCover m genesis n (disks after) x
+  pub room : StaysWithin max_base (disks store) (disks after)
+
+-- it was refused with this fault, for its cause: the device has failed, memory was wanting, or, where the store has failed before or no generation is
+-- left, with `Failed`; and where no call of the device has failed, the files are as they were
+pub record IsNotRebased (Honest Metered : Type 0) (store after : StoreValue) (e : ReplicaFault) : Type 0 where
+  pub of_store : IsStoreFault (fault_number e)
+  pub calls : Metered → Honest → RefusedAfter (fault_number e) store.meter after.meter
+  pub earlier : e ≡ fault.Failed → store.failed ≡ false → store.generation < max_count → ⊥
+  pub stays : Honest → IfSpared (AreSame (disks store) (disks after)) e
+
+-- ---- one that is made where it is due
+
+-- the store has not failed and is one generation further at most, and the node has executed what it could where it had before
+pub record StaysAlive (node : NodeValue) (store : StoreValue) (new : NodeValue) (after : StoreValue) : Type 0 where
+  pub store_alive : after.failed ≡ false
+  pub further : after.generation ≤ store.generation + 1
+  pub runs : NothingToRun node → NothingToRun new
+
+-- what was due was done, in the calls that this takes of a device that counts them (`Metered`), and none is due for the length of the live file. The
+-- node fits each history that it fitted; it holds something where it did, and the store keeps what the acceptor holds where it did
+pub record IsReadyToStep (m : Meaning) (Metered : Type 0) (node : NodeValue) (store : StoreValue) (new : NodeValue) (after : StoreValue) : Type 0 where
+  pub rebases : RebasesWhereDue node store new after
+  pub calls : Metered → (k : ℕ) × CallsWhereDue node store k × Passes store.meter after.meter k
+  pub short : length (contents after.live_disk) < 131072
+  pub fits : (h : History) (n : ℕ) → NodeFits m h n (Stands m node store h.genesis n) (disks store) → NodeFits m h n (Stands m new after h.genesis n) (disks after)
+  pub shows : (genesis : Genesis) (n : ℕ) (held : Holding) → Stands m node store genesis n held → (x : Holding) × Stands m new after genesis n x
+  pub remembers : (genesis : Genesis) (n : ℕ) → Remembers node store genesis n → Remembers new after genesis n
