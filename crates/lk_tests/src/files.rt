@@ -1,7 +1,5 @@
 //! Two files of a folder as a device, and files whose calls fail.
-use lk_disk::{
-    AppendFile, CannotOpen, DeviceFault, FileDisk, FileFault, FileInMemory, LogDisk, Side,
-};
+use lk_disk::{AppendFile, DeviceFault, FileDisk, FileFault, FileInMemory, LogDisk, Side};
 use std::alloc::Global;
 use std::fs;
 use std::fs::Files;
@@ -151,43 +149,5 @@ fn files_of_a_folder_are_a_device(rt: HostRuntime) -> Result<(), Fail> {
     let is_used = used(&rt, rt.alloc(), folder)?;
     fs::remove_dir_all(&rt, folder)?;
     assert!(rt; is_used);
-    Ok(())
-}
-
-// Whether a folder and files that are missing are told, and which files are made. The folder is fresh.
-fn opened<R: Files>(rt: &R, alloc: Global, folder: &str) -> Result<bool, Fail> {
-    let is_none = FileDisk::look_at(rt, alloc, folder).is_err();
-    let is_made = fs::exists(rt, "lk_tests_opening/a")?;
-    FileDisk::open(rt, alloc, folder)?;
-    let mut disk = FileDisk::look_at(rt, alloc, folder)?;
-    let is_empty = lengths(&mut disk)? == (0, 0);
-    let was_told = disk.cause(Side::A).is_some();
-    let is_written = disk.append(Side::A, b"x").is_ok();
-    let is_told = disk.cause(Side::A).is_some() && disk.cause(Side::B).is_none();
-    Ok(is_none && !is_made && is_empty && !is_written && !was_told && is_told)
-}
-
-#[test]
-fn looking_makes_no_file(rt: HostRuntime) -> Result<(), Fail> {
-    let folder = "lk_tests_opening";
-    fresh(&rt, folder)?;
-    let is_so = opened(&rt, rt.alloc(), folder)?;
-    fs::remove_dir_all(&rt, folder)?;
-    assert!(rt; is_so);
-    Ok(())
-}
-
-#[test]
-fn a_missing_folder_is_not_made(rt: HostRuntime) -> Result<(), Fail> {
-    let missing = "lk_tests_missing";
-    assert_eq!(rt;
-        FileDisk::open(&rt, rt.alloc(), missing).err(),
-        Some(CannotOpen)
-    );
-    assert_eq!(rt;
-        FileDisk::look_at(&rt, rt.alloc(), missing).err(),
-        Some(CannotOpen)
-    );
-    assert!(rt; !fs::exists(&rt, missing)?);
     Ok(())
 }

@@ -3,17 +3,11 @@
 #![tactic(auto)]
 
 #[cfg(test)]
-mod answers;
-#[cfg(test)]
 mod digits;
 #[cfg(test)]
 mod faltering;
 #[cfg(test)]
 mod files;
-#[cfg(test)]
-mod hostile;
-#[cfg(test)]
-mod lengths;
 #[cfg(test)]
 mod node_dialogues;
 #[cfg(test)]
@@ -21,17 +15,7 @@ mod node_turns;
 #[cfg(test)]
 mod parts;
 #[cfg(test)]
-mod questions;
-#[cfg(test)]
 mod raised;
-#[cfg(test)]
-mod reviving;
-#[cfg(test)]
-mod schedules;
-#[cfg(test)]
-mod second;
-#[cfg(test)]
-mod serving;
 #[cfg(test)]
 mod starving;
 #[cfg(test)]
