@@ -122,6 +122,15 @@ class DatagramTest(unittest.TestCase):
                 taken, refused = self.served([bytes_of(front, good, rest), bytes_of(front, bad, rest)])
                 self.assertEqual((taken == "bad", refused), (False, "bad"))
 
+    def test_a_world_refuses_what_only_a_node_sends(self):
+        for data in datagrams():
+            for it in (data, of_cluster_6(data)):
+                with self.subTest(data=it.hex()):
+                    script = f"genesis 5 1 1:7001\nstart 1\ninject 1 {it.hex()}\n"
+                    ran = subprocess.run([PROGRAM, "sim"], input=script, capture_output=True, text=True, timeout=60)
+                    is_forged = ran.stdout == "refused 20 Forged\n"
+                    self.assertEqual((is_forged, ran.returncode, ran.stderr), (data[3] != 9, int(data[3] != 9), ""))
+
     def test_another_cluster_is_dropped(self):
         node = self.enterContext(Node(PROGRAM, self.enterContext(tempfile.TemporaryDirectory())))
         node.start()

@@ -15,13 +15,7 @@ mod node_turns;
 #[cfg(test)]
 mod parts;
 #[cfg(test)]
-mod raised;
-#[cfg(test)]
-mod starving;
-#[cfg(test)]
 mod state;
-#[cfg(test)]
-mod streams;
 #[cfg(test)]
 mod turns;
 #[cfg(test)]

@@ -95,16 +95,16 @@ fn spelled(alloc: Global, sender: &str, kind: &str, fields: &str) -> Result<Vec<
     bytes_of(alloc, &["4c4b01", kind, "0000000000000005", sender, fields])
 }
 
-/// What the replica sends for what it takes.
-pub fn take(replica: &mut Locks, input: Input) -> Result<Vec<Datagram>, Fail> {
+// What the replica sends for what it takes.
+fn take(replica: &mut Locks, input: Input) -> Result<Vec<Datagram>, Fail> {
     match MemoryReplica::take(replica, input) {
         Ok(taken) => Ok(taken.sent),
         Err(_) => Err("taken")?,
     }
 }
 
-/// What the replica sends for what it hears.
-pub fn hear(alloc: Global, replica: &mut Locks, heard: Heard<'_>) -> Result<Vec<Datagram>, Fail> {
+// What the replica sends for what it hears.
+fn hear(alloc: Global, replica: &mut Locks, heard: Heard<'_>) -> Result<Vec<Datagram>, Fail> {
     match heard {
         Heard::Tick => take(replica, Input::Tick),
         Heard::Said(sender, kind, fields) => {
