@@ -1,5 +1,6 @@
 """Tests of nodes as processes, of what a test within one process cannot show: LOCKS_PROGRAM=PATH python3 -m unittest discover clients/python"""
 import os
+import socket
 import subprocess
 import sys
 import tempfile
@@ -45,6 +46,13 @@ class NodesTest(unittest.TestCase):
         first.wait()
         self.start(self.ports[0])
         self.wait_until_up()
+
+    def test_a_port_that_is_taken_cannot_be_opened(self):
+        with socket.socket(socket.AF_INET, socket.SOCK_DGRAM) as taken:
+            taken.bind(("127.0.0.1", self.ports[0]))
+            node = self.start(self.ports[0])
+            self.assertIn("cannot open", node.communicate(timeout=30)[1].splitlines())
+        self.assertEqual((node.returncode, os.listdir(self.folder)), (1, []))
 
     def test_a_node_at_another_port_says_so(self):
         node = self.start(self.ports[1])
