@@ -42,7 +42,6 @@ impl<M: Machine> Learner<M> {
     ghost use Rattle.std.specs.Option.{option_copied};
     ghost use Rattle.lk_members.specs.Counting.{Command, counted};
     ghost use Rattle.lk_members.specs.Rosters.{Genesis};
-    ghost use Rattle.lk_state.specs.Meanings.{meaning};
     ghost use Rattle.lk_state.specs.States.{SumsUp, reply_of};
     ghost use Rattle.lk_state.specs.Runs.{run_answer};
     ghost use Rattle.lk_learner.specs.Learners.{IsLearner, executed, alpha, begun, IsWanted, keeping, IsNext, advanced, standing_here, IsServed, news_from, gathered_bytes, wanted};
@@ -135,14 +134,14 @@ impl<M: Machine> Learner<M> {
     /// Executes the command of the next position, where it is kept, and keeps it no longer. Memory is wanted for the list
     /// of what is served and for a body that the machine runs; a refused call changes nothing.
     pub fn execute_next(&mut self) -> Result<Option<Ran>, NoMemory>
-        ensures next { (v : Command) → IsNext self.old v → OnOk result (self.new ≡ advanced (meaning M.first M.next M.answer) v self.old) }
+        ensures next { (v : Command) → IsNext self.old v → OnOk result (self.new ≡ advanced M.meaning v self.old) }
         ensures ran { (v : Command) → IsNext self.old v
-            → IfOk result (λ r. r ≡ Some (record { position = executed self.old + 1; answer = run_answer (meaning M.first M.next M.answer) v self.old.whole })) }
+            → IfOk result (λ r. r ≡ Some (record { position = executed self.old + 1; answer = run_answer M.meaning v self.old.whole })) }
         ensures none { ((v : Command) → IsNext self.old v → ⊥) → (self.new ≡ self.old) × (result ≡ Ok None) }
         ensures err { OnErr result (self.new ≡ self.old) }
         ensures memory { OnErr result ((v : Command) × IsNext self.old v) }
-        ensures reply { (genesis : Genesis) (L : List Command) (v : Command) → SumsUp (meaning M.first M.next M.answer) genesis L self.old.whole → IsNext self.old v
-            → IfOk result (λ r. r ≡ Some (record { position = executed self.old + 1; answer = reply_of (meaning M.first M.next M.answer) genesis (L ++ v ∷ []) (counted L v) })) }
+        ensures reply { (genesis : Genesis) (L : List Command) (v : Command) → SumsUp M.meaning genesis L self.old.whole → IsNext self.old v
+            → IfOk result (λ r. r ≡ Some (record { position = executed self.old + 1; answer = reply_of M.meaning genesis (L ++ v ∷ []) (counted L v) })) }
     {
         if !self.is_next_kept() {
             return Ok(None);

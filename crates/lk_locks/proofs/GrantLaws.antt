@@ -16,7 +16,7 @@ use Rattle.lk_types.specs.declared.command.Op.{Op}
 use Rattle.lk_types.specs.declared.command.Op.TheVariants.{Table as TableOp, Join, Leave, Raise}
 use Rattle.lk_members.specs.Counting.{Command, RequestValue, Request, counted, counting}
 use Rattle.lk_members.proofs.Memberships.{added, counting-push}
-use Rattle.lk_state.specs.Meanings.{Task, Body as BodyTask, Raising}
+use Rattle.lk_state.specs.Meanings.{Task, Running, Raising}
 use Rattle.lk_locks.specs.declared.body.Body.{Body}
 use Rattle.lk_locks.specs.declared.body.Body.TheVariants.{Acquire, Release, Ask, Check, Share, Break}
 use Rattle.lk_locks.specs.declared.row.Row.{Row}
@@ -178,7 +178,7 @@ known_goes q raised_now client (Some body) m = elim (decided (is_known raised_no
     nothing false = refl
 
 task_goes : (client : ℕ) (task : Task) (t : Table) (q : List ℕ) → Goes (last_fence (map.get t.names q)) (last_fence (map.get (next_by_task client task t).names q)) (cond (asks_for q task) (fences (task_answer client task t)) [])
-task_goes client (BodyTask bytes) t q = known_goes q t.raised client (body_of bytes) t.names
+task_goes client (Running bytes) t q = known_goes q t.raised client (body_of bytes) t.names
 task_goes client Raising t q = stays _ _ refl
 
 -- ---- all calls
@@ -246,7 +246,7 @@ pub each_fence_is_listed : (name : List ℕ) (L : List Command) (r : RequestValu
     → body_of bytes ≡ Some body → name_of body ≡ name → fences (answer r.client bytes (table_of L)) ≡ fence ∷ [] → fences_in name (L ++ Request r ∷ []) ≡ fences_in name L ++ fence ∷ []
 unfolding table_of
 each_fence_is_listed name L r bytes body fence counts of_table asks is told =
-    let call : Call = (r.client, BodyTask bytes) in
+    let call : Call = (r.client, Running bytes) in
     let calls : calls_of (L ++ Request r ∷ []) ≡ calls_of L ++ call ∷ [] = calls_of-push L r counts ∙ ap (λ (op : Op). calls_of L ++ call_of r op) of_table in
     let table : table_of L ≡ behind empty (calls_of L) = behind_calls (counting L) empty in
     let told_so : fences (answer r.client bytes (behind empty (calls_of L))) ≡ fence ∷ [] = ap (λ (t : Table). fences (answer r.client bytes t)) (sym table) ∙ told in

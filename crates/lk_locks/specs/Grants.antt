@@ -8,7 +8,7 @@ use Rattle.lk_types.specs.declared.answer.Answer.TheVariants.{Granted, Shared}
 use Rattle.lk_types.specs.declared.command.Op.{Op}
 use Rattle.lk_types.specs.declared.command.Op.TheVariants.{Table, Join, Leave, Raise}
 use Rattle.lk_members.specs.Counting.{Command, RequestValue, counting}
-use Rattle.lk_state.specs.Meanings.{Task, Body as BodyTask, Raising}
+use Rattle.lk_state.specs.Meanings.{Task, Running, Raising}
 use Rattle.lk_locks.specs.Bodies.{body_of, name_of}
 use Rattle.lk_locks.specs.Meaning.{next_by_task, task_answer}
 use Rattle.lk_locks.specs.Plain.{Table as Locks, empty}
@@ -24,7 +24,7 @@ is_for name (Some body) = eq_by_cmp (slice_cmp nat_cmp) name (name_of body)
 is_for name None = false
 
 abbrev pub asks_for : List ℕ → Task → Bool
-asks_for name (BodyTask bytes) = is_for name (body_of bytes)
+asks_for name (Running bytes) = is_for name (body_of bytes)
 asks_for name Raising = false
 
 -- the fence at which an answer gives a name, alone or together with others, if it gives one
@@ -53,7 +53,7 @@ grants name calls = once (fences_from name empty calls)
 
 -- what a request asks of the table, if it is of the table
 abbrev pub call_of : RequestValue → Op → List Call
-call_of request (Table body) = (request.client, BodyTask body) ∷ []
+call_of request (Table body) = (request.client, Running body) ∷ []
 call_of request (Join node port) = []
 call_of request (Leave node) = []
 call_of request Raise = (request.client, Raising) ∷ []

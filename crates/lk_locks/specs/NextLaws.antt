@@ -26,7 +26,7 @@ use Rattle.lk_locks.specs.declared.slot.Slot.{Slot}
 use Rattle.lk_locks.specs.PackedLaws.{decided, text_is, insert_are_names, raised_are_names}
 use Rattle.lk_types.specs.declared.answer.Answer.TheVariants.{Granted, Shared, NoRoom, Spent, Raised, AlreadyRaised}
 use Rattle.lk_types.specs.declared.answer.Answer.{Answer}
-use Rattle.lk_state.specs.Meanings.{Task, Body as BodyTask, Raising}
+use Rattle.lk_state.specs.Meanings.{Task, Running, Raising}
 use Rattle.lk_locks.specs.Meaning.{table_meaning}
 
 -- ---- the name of whatever is read as a body is one
@@ -249,7 +249,7 @@ raised_is_table t fits = raised_are_names t.raised t.names fits
 
 -- the text after a task, by the text before it
 pub next_is_text : (client : ℕ) (task : Task) (before : List ℕ) → IsClient client → IsText before → IsText (table_meaning.next client task before)
-next_is_text client (BodyTask body) before is_client t =
+next_is_text client (Running body) before is_client t =
     let is = text_is before t in
     (next client body (table_in before), next_is_table client body (table_in before) is_client (subst IsTable (sym is.3) is.1), refl)
 next_is_text client Raising before is_client t =
@@ -340,7 +340,7 @@ raise_answers false = tt
 
 -- what a client is answered, by the text before its task
 pub answer_is_answer : (client : ℕ) (task : Task) (before : List ℕ) → IsClient client → IsText before → IsAnswer (table_meaning.answer client task before)
-answer_is_answer client (BodyTask body) before is_client t =
+answer_is_answer client (Running body) before is_client t =
     let is = text_is before t in
     let now : Table = table_in before in
     answers_fit now.raised client (known now.raised (body_of body)) now.names (subst IsTable (sym is.3) is.1)

@@ -80,7 +80,7 @@ impl Machine for LockTable {
     ghost use Rattle.lk_locks.specs.Plain.{IsNewName};
     ghost use Rattle.lk_locks.specs.Packed.{text as table_text, IsText as IsTableText};
     ghost use Rattle.lk_locks.specs.Meaning.{table_meaning};
-    ghost use Rattle.lk_state.specs.Meanings.{Body};
+    ghost use Rattle.lk_state.specs.Meanings.{Running};
     ghost use Rattle.lk_locks.specs.PackedLaws.{empty_is_text, at_most_36000};
     ghost use Rattle.lk_locks.specs.NextLaws.{next_is_text, answer_is_answer};
 
@@ -88,11 +88,7 @@ impl Machine for LockTable {
 
     ghost IsText = { IsTableText };
 
-    ghost first = { table_meaning.first };
-
-    ghost next = { table_meaning.next };
-
-    ghost answer = { table_meaning.answer };
+    ghost meaning = { table_meaning };
 
     /// The table that knows no name.
     fn begin(alloc: Global) -> Self {
@@ -101,8 +97,8 @@ impl Machine for LockTable {
 
     /// Answers what a client asks, and does it: `run`, seen by the packed texts.
     fn apply(&mut self, client: ClientNo, body: &[u8]) -> Result<Answer, NoMemory>
-        ensures ok { OnOk result (table_text self.new ≡ table_meaning.next client (Body body.now) (table_text self.old)) }
-        ensures answer { IfOk result (λ a. a ≡ table_meaning.answer client (Body body.now) (table_text self.old)) }
+        ensures ok { OnOk result (table_text self.new ≡ table_meaning.next client (Running body.now) (table_text self.old)) }
+        ensures answer { IfOk result (λ a. a ≡ table_meaning.answer client (Running body.now) (table_text self.old)) }
         ensures err { OnErr result (table_text self.new ≡ table_text self.old) }
         ensures memory { OnErr result (IsNewName (known self.old.raised (body_of body.now)) self.old.names) }
     {

@@ -4,7 +4,6 @@ ghost use Rattle.lk_wire.specs.Grammar.{IsMessage};
 ghost use Rattle.lk_wire.specs.declared.message.NodeMessage.TheVariants as kinds;
 ghost use Rattle.lk_acceptor.specs.Answers.{AnswersPrepare, AnswersAccept};
 ghost use Rattle.lk_history.specs.Datagrams.{HasSent};
-ghost use Rattle.lk_state.specs.Meanings.{meaning};
 ghost use Rattle.lk_node.specs.Answering.{is_granted, replied, reply_to, Responds};
 ghost use Rattle.lk_node.specs.Outboxes.{nothing};
 ghost use Rattle.lk_node.specs.Saying.{saying};
@@ -78,7 +77,7 @@ impl<M: Machine> Node<M> {
         first: Position,
     ) -> Result<Outbox, NoMemory>
         ensures exact { IfOk result (λ o. Responds self.old from (AnswersPrepare self.old.acceptor self.old.learner.whole.roster.executed ballot first) self.new o) }
-        ensures goes_on { IfOk result (λ o. GoesOn (meaning M.first M.next M.answer) (λ h. Unit {0}) self.old self.new nothing o) }
+        ensures goes_on { IfOk result (λ o. GoesOn M.meaning (λ h. Unit {0}) self.old self.new nothing o) }
     {
         let out = self.answer_prepare(from, ballot, first)?;
         Ok(out)
@@ -87,7 +86,7 @@ impl<M: Machine> Node<M> {
     // An Accept is answered, and its ballot's round is seen.
     pub(crate) fn accept(&mut self, from: NodeNo, vote: Vote) -> Result<Outbox, NoMemory>
         ensures exact { IfOk result (λ o. Responds (with_round vote.ballot self.old) from (AnswersAccept self.old.acceptor self.old.learner.whole.roster.executed vote) self.new o) }
-        ensures goes_on { IfOk result (λ o. GoesOn (meaning M.first M.next M.answer) (λ h. HasSent h.genesis h.sent from (kinds.Accept vote)) self.old self.new nothing o) }
+        ensures goes_on { IfOk result (λ o. GoesOn M.meaning (λ h. HasSent h.genesis h.sent from (kinds.Accept vote)) self.old self.new nothing o) }
     {
         self.acceptor.facts();
         self.see_round(vote.ballot.get());

@@ -1,6 +1,5 @@
 // What a node does with a client's request.
 ghost use Rattle.std.specs.Prelude.{◌≡◌, Contains, IfOk};
-ghost use Rattle.lk_state.specs.Meanings.{meaning};
 ghost use Rattle.lk_node.specs.Asking.{leader_in, PointsTo, TakesNew, HearsRequest};
 ghost use Rattle.lk_node.specs.Outboxes.{nothing};
 ghost use Rattle.lk_node.specs.Serving.{GoesOn};
@@ -72,7 +71,7 @@ impl<M: Machine> Node<M> {
     // A client asks.
     pub(crate) fn hear_request(&mut self, request: &Request) -> Result<Outbox, NoMemory>
         ensures exact { IfOk result (λ o. HearsRequest self.old request.now self.new o) }
-        ensures goes_on { IfOk result (λ o. GoesOn (meaning M.first M.next M.answer) (λ h. Contains h.asked request.now) self.old self.new nothing o) }
+        ensures goes_on { IfOk result (λ o. GoesOn M.meaning (λ h. Contains h.asked request.now) self.old self.new nothing o) }
     {
         let out = self.take_request(request)?;
         Ok(out)

@@ -3,7 +3,6 @@ ghost use Rattle.std.specs.Prelude.{◌≡◌, ◌<◌, ◌≤◌, Contains, IfO
 ghost use Rattle.lk_wire.specs.Grammar.{IsMessage};
 ghost use Rattle.lk_wire.specs.Values.{PartValue};
 ghost use Rattle.lk_wire.specs.declared.message.NodeMessage.TheVariants as kinds;
-ghost use Rattle.lk_state.specs.Meanings.{meaning};
 ghost use Rattle.lk_node.specs.CatchingUp.{sending_parts, FeedsParts, Feeds, HearsWant, AsksOn, Levels, HearsNack, following, AsksWhereMore, refusal, HearsLead};
 ghost use Rattle.lk_node.specs.Outboxes.{nothing};
 ghost use Rattle.lk_node.specs.Replying.{SaysAlone};
@@ -78,7 +77,7 @@ impl<M: Machine> Node<M> {
     // A node wants commands, or a snapshot.
     pub(crate) fn hear_want(&mut self, from: NodeNo, want: &Want) -> Result<Outbox, NoMemory>
         ensures exact { IfOk result (λ o. HearsWant self.old from want.now self.new o) }
-        ensures goes_on { IfOk result (λ o. GoesOn (meaning M.first M.next M.answer) (λ h. Unit {0}) self.old self.new nothing o) }
+        ensures goes_on { IfOk result (λ o. GoesOn M.meaning (λ h. Unit {0}) self.old self.new nothing o) }
     {
         let out = self.feed(from, want.first(), want.offset())?;
         Ok(out)
@@ -97,7 +96,7 @@ impl<M: Machine> Node<M> {
     // A node refuses a ballot.
     pub(crate) fn hear_nack(&mut self, from: NodeNo, nack: &Nack) -> Result<Outbox, NoMemory>
         ensures exact { IfOk result (λ o. HearsNack self.old from nack.now self.new o) }
-        ensures goes_on { IfOk result (λ o. GoesOn (meaning M.first M.next M.answer) (λ h. Unit {0}) self.old self.new nothing o) }
+        ensures goes_on { IfOk result (λ o. GoesOn M.meaning (λ h. Unit {0}) self.old self.new nothing o) }
     {
         let out = self.answer_nack(from, nack)?;
         Ok(out)
@@ -163,7 +162,7 @@ impl<M: Machine> Node<M> {
         executed: Executed,
     ) -> Result<Outbox, NoMemory>
         ensures exact { IfOk result (λ o. HearsLead self.old from ballot executed self.new o) }
-        ensures goes_on { IfOk result (λ o. GoesOn (meaning M.first M.next M.answer) (λ h. Unit {0}) self.old self.new nothing o) }
+        ensures goes_on { IfOk result (λ o. GoesOn M.meaning (λ h. Unit {0}) self.old self.new nothing o) }
     {
         let out = self.answer_lead(from, ballot, executed)?;
         Ok(out)

@@ -4,7 +4,6 @@ ghost use Rattle.lk_wire.specs.declared.message.NodeMessage.TheVariants as kinds
 ghost use Rattle.lk_history.specs.Chosen.{ChosenAt};
 ghost use Rattle.lk_history.specs.Datagrams.{HasSent};
 ghost use Rattle.lk_leader.specs.Proposing.{AreMembersAt};
-ghost use Rattle.lk_state.specs.Meanings.{meaning};
 ghost use Rattle.lk_node.specs.Counting.{HearsVote, news_of, AreNews, Counts, HearsAccepted};
 ghost use Rattle.lk_node.specs.Outboxes.{nothing};
 ghost use Rattle.lk_node.specs.Serving.{GoesOn};
@@ -72,8 +71,8 @@ impl<M: Machine> Node<M> {
         command: &Command,
         out: &mut Outbox,
     ) -> Result<(), NoMemory>
-        ensures exact { OnOk result (Counts (meaning M.first M.next M.answer) members (position, command.now) self.old out.old self.new out.new) }
-        ensures goes_on { AreMembersAt self.old.learner.whole.roster position members → OnOk result (GoesOn (meaning M.first M.next M.answer) (λ h. ChosenAt h.genesis h.sent position command.now) self.old self.new out.old out.new) }
+        ensures exact { OnOk result (Counts M.meaning members (position, command.now) self.old out.old self.new out.new) }
+        ensures goes_on { AreMembersAt self.old.learner.whole.roster position members → OnOk result (GoesOn M.meaning (λ h. ChosenAt h.genesis h.sent position command.now) self.old self.new out.old out.new) }
     {
         out.note(Note::Counted(self.header.node(), position, members, command.copy()))?;
         let news = self.news_to_others(position, command)?;
@@ -85,8 +84,8 @@ impl<M: Machine> Node<M> {
 
     // A node was heard to accept.
     pub(crate) fn hear_accepted(&mut self, from: NodeNo, vote: &Vote) -> Result<Outbox, NoMemory>
-        ensures exact { IfOk result (λ o. HearsAccepted (meaning M.first M.next M.answer) from vote.now self.old self.new o) }
-        ensures goes_on { IfOk result (λ o. GoesOn (meaning M.first M.next M.answer) (λ h. HasSent h.genesis h.sent from (kinds.Accepted vote.now)) self.old self.new nothing o) }
+        ensures exact { IfOk result (λ o. HearsAccepted M.meaning from vote.now self.old self.new o) }
+        ensures goes_on { IfOk result (λ o. GoesOn M.meaning (λ h. HasSent h.genesis h.sent from (kinds.Accepted vote.now)) self.old self.new nothing o) }
     {
         let mut out = Outbox::new(self.alloc);
         let Some(members) = self.hear_vote(from, vote) else {

@@ -1,6 +1,5 @@
 // What a node executes, and which clients it answers by that.
 ghost use Rattle.std.specs.Prelude.{◌≡◌, IfOk, OnOk};
-ghost use Rattle.lk_state.specs.Meanings.{meaning};
 ghost use Rattle.lk_node.specs.Executing.{told, Settles, SettlesAny, session_by, RunsNext, has_term, is_outside, while_named, ExecutesOne, RunsAll};
 ghost use Rattle.lk_node.specs.Serving.{GoesOn};
 
@@ -87,7 +86,7 @@ impl<M: Machine> Node<M> {
 
     // Runs the command of the next position, if it is kept, and gives it.
     fn run_next(&mut self) -> Result<Option<(Command, Ran)>, NoMemory>
-        ensures { IfOk result (λ r. RunsNext (meaning M.first M.next M.answer) self.old self.new r) }
+        ensures { IfOk result (λ r. RunsNext M.meaning self.old self.new r) }
     {
         self.learner.facts();
         let Some(ran) = self.learner.execute_next()? else {
@@ -101,7 +100,7 @@ impl<M: Machine> Node<M> {
 
     // Executes the command of the next position, if it is kept. Whether it was.
     fn run_one(&mut self, out: &mut Outbox) -> Result<bool, NoMemory>
-        ensures { IfOk result (λ went. ExecutesOne (meaning M.first M.next M.answer) went self.old out.old self.new out.new) }
+        ensures { IfOk result (λ went. ExecutesOne M.meaning went self.old out.old self.new out.new) }
     {
         let Some((command, ran)) = self.run_next()? else {
             return Ok(false);
@@ -114,8 +113,8 @@ impl<M: Machine> Node<M> {
 
     // Executes the next pair that it keeps, where there is one. Whether there was.
     fn execute_one(&mut self, out: &mut Outbox) -> Result<bool, NoMemory>
-        ensures exact { IfOk result (λ went. ExecutesOne (meaning M.first M.next M.answer) went self.old out.old self.new out.new) }
-        ensures goes_on { OnOk result (GoesOn (meaning M.first M.next M.answer) (λ h. Unit {0}) self.old self.new out.old out.new) }
+        ensures exact { IfOk result (λ went. ExecutesOne M.meaning went self.old out.old self.new out.new) }
+        ensures goes_on { OnOk result (GoesOn M.meaning (λ h. Unit {0}) self.old self.new out.old out.new) }
     {
         self.learner.facts();
         let went = self.run_one(out)?;
@@ -124,8 +123,8 @@ impl<M: Machine> Node<M> {
 
     // Executes positions in order, as long as the command of the next one is kept.
     pub(crate) fn execute(&mut self, out: &mut Outbox) -> Result<(), NoMemory>
-        ensures exact { OnOk result (RunsAll (meaning M.first M.next M.answer) self.old out.old self.new out.new) }
-        ensures goes_on { OnOk result (GoesOn (meaning M.first M.next M.answer) (λ h. Unit {0}) self.old self.new out.old out.new) }
+        ensures exact { OnOk result (RunsAll M.meaning self.old out.old self.new out.new) }
+        ensures goes_on { OnOk result (GoesOn M.meaning (λ h. Unit {0}) self.old self.new out.old out.new) }
     {
         'positions: loop {
             if !self.execute_one(out)? {

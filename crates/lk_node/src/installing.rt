@@ -2,7 +2,6 @@
 ghost use Rattle.std.specs.Prelude.{◌≡◌, ℕ, IfOk, OnOk};
 ghost use Rattle.lk_wire.specs.declared.message.NodeMessage.TheVariants as kinds;
 ghost use Rattle.lk_history.specs.Datagrams.{HasSent};
-ghost use Rattle.lk_state.specs.Meanings.{meaning};
 ghost use Rattle.lk_node.specs.Installing.{Gathers, SettlesAll, TakesUp, HearsPart};
 ghost use Rattle.lk_node.specs.Outboxes.{nothing};
 ghost use Rattle.lk_node.specs.Serving.{GoesOn};
@@ -37,8 +36,8 @@ impl<M: Machine> Node<M> {
 
     // The learner stands on an installed state: waiting requests are answered from it, and what can be is executed.
     fn take_up(&mut self) -> Result<Outbox, NoMemory>
-        ensures exact { IfOk result (λ o. TakesUp (meaning M.first M.next M.answer) self.old self.new o) }
-        ensures goes_on { IfOk result (λ o. GoesOn (meaning M.first M.next M.answer) (λ h. Unit {0}) self.old self.new nothing o) }
+        ensures exact { IfOk result (λ o. TakesUp M.meaning self.old self.new o) }
+        ensures goes_on { IfOk result (λ o. GoesOn M.meaning (λ h. Unit {0}) self.old self.new nothing o) }
     {
         self.learner.whole().facts();
         let mut out = Outbox::new(self.alloc);
@@ -51,8 +50,8 @@ impl<M: Machine> Node<M> {
 
     // A part of another node's snapshot was heard.
     pub(crate) fn hear_part(&mut self, part: &PartRef<'_>) -> Result<Outbox, NoMemory>
-        ensures exact { IfOk result (λ o. HearsPart (meaning M.first M.next M.answer) M.IsText self.old part.now self.new o) }
-        ensures goes_on { (from : ℕ) → IfOk result (λ o. GoesOn (meaning M.first M.next M.answer) (λ h. HasSent h.genesis h.sent from (kinds.Part part.now)) self.old self.new nothing o) }
+        ensures exact { IfOk result (λ o. HearsPart M.meaning M.IsText self.old part.now self.new o) }
+        ensures goes_on { (from : ℕ) → IfOk result (λ o. GoesOn M.meaning (λ h. HasSent h.genesis h.sent from (kinds.Part part.now)) self.old self.new nothing o) }
     {
         self.header.genesis().facts();
         if !self.gather(part)? {

@@ -5,7 +5,6 @@ ghost use Rattle.lk_wire.specs.Grammar.{IsMessage};
 ghost use Rattle.lk_wire.specs.declared.message.NodeMessage.TheVariants as kinds;
 ghost use Rattle.lk_history.specs.Datagrams.{HasSent};
 ghost use Rattle.lk_leader.specs.Proposing.{AreMembersAt};
-ghost use Rattle.lk_state.specs.Meanings.{meaning};
 ghost use Rattle.lk_node.specs.Leading.{KeepsPromise, DropsPromise, HearsPromise, ProposesVote, having_proposed, NothingOpen, nodes_of, ProposesNext, ProposesOpen};
 ghost use Rattle.lk_node.specs.Outboxes.{nothing};
 ghost use Rattle.lk_node.specs.Promised.{HasPromised};
@@ -40,7 +39,7 @@ impl<M: Machine> Node<M> {
         promise: &PromiseRef<'_>,
     ) -> Result<Outbox, NoMemory>
         ensures exact { IfOk result (λ o. HearsPromise self.old from promise.now self.new o) }
-        ensures goes_on { IfOk result (λ o. GoesOn (meaning M.first M.next M.answer) (λ h. HasSent h.genesis h.sent from (kinds.Promise promise.now)) self.old self.new nothing o) }
+        ensures goes_on { IfOk result (λ o. GoesOn M.meaning (λ h. HasSent h.genesis h.sent from (kinds.Promise promise.now)) self.old self.new nothing o) }
     {
         self.keep_promise(from, promise)?;
         Ok(Outbox::new(self.alloc))
@@ -101,7 +100,7 @@ impl<M: Machine> Node<M> {
     // Proposes what comes next, and tells the members of its position. Whether there was anything.
     fn propose_next(&mut self, out: &mut Outbox) -> Result<bool, NoMemory>
         ensures exact { IfOk result (λ more. ProposesNext more self.old self.new out.old out.new) }
-        ensures goes_on { OnOk result (GoesOn (meaning M.first M.next M.answer) (λ h. Unit {0}) self.old self.new out.old out.new) }
+        ensures goes_on { OnOk result (GoesOn M.meaning (λ h. Unit {0}) self.old self.new out.old out.new) }
     {
         self.facts();
         let Some(vote) = self.next_vote() else {
@@ -115,7 +114,7 @@ impl<M: Machine> Node<M> {
     pub(crate) fn propose(&mut self, out: &mut Outbox) -> Result<(), NoMemory>
         ensures exact { OnOk result (ProposesOpen self.old self.new out.old out.new) }
         ensures done { OnOk result (NothingOpen self.new) }
-        ensures goes_on { OnOk result (GoesOn (meaning M.first M.next M.answer) (λ h. Unit {0}) self.old self.new out.old out.new) }
+        ensures goes_on { OnOk result (GoesOn M.meaning (λ h. Unit {0}) self.old self.new out.old out.new) }
     {
         'votes: while self.propose_next(out)? {}
         Ok(())

@@ -4,7 +4,6 @@ ghost use Rattle.lk_types.specs.Limits.{max_count};
 ghost use Rattle.lk_wire.specs.declared.message.NodeMessage.TheVariants as kinds;
 ghost use Rattle.lk_history.specs.Chosen.{ChosenAt};
 ghost use Rattle.lk_history.specs.Datagrams.{HasSent};
-ghost use Rattle.lk_state.specs.Meanings.{meaning};
 ghost use Rattle.lk_node.specs.DecidedPairs.{TakesPair, TakesPairs};
 ghost use Rattle.lk_node.specs.Learning.{Learns};
 ghost use Rattle.lk_node.specs.Outboxes.{nothing};
@@ -49,7 +48,7 @@ impl<M: Machine> Node<M> {
         out: &mut Outbox,
     ) -> Result<(), NoMemory>
         ensures exact { OnOk result (Learns (position, command.now) self.old out.old self.new out.new) }
-        ensures goes_on { OnOk result (GoesOn (meaning M.first M.next M.answer) (λ h. ChosenAt h.genesis h.sent position command.now) self.old self.new out.old out.new) }
+        ensures goes_on { OnOk result (GoesOn M.meaning (λ h. ChosenAt h.genesis h.sent position command.now) self.old self.new out.old out.new) }
     {
         self.keep(position, command, out)?;
         Ok(())
@@ -62,8 +61,8 @@ impl<M: Machine> Node<M> {
         command: &Command,
         out: &mut Outbox,
     ) -> Result<(), NoMemory>
-        ensures exact { OnOk result (TakesPair (meaning M.first M.next M.answer) (position, command.now) self.old out.old self.new out.new) }
-        ensures goes_on { OnOk result (GoesOn (meaning M.first M.next M.answer) (λ h. ChosenAt h.genesis h.sent position command.now) self.old self.new out.old out.new) }
+        ensures exact { OnOk result (TakesPair M.meaning (position, command.now) self.old out.old self.new out.new) }
+        ensures goes_on { OnOk result (GoesOn M.meaning (λ h. ChosenAt h.genesis h.sent position command.now) self.old self.new out.old out.new) }
     {
         self.learn(position, command, out)?;
         self.execute(out)?;
@@ -77,8 +76,8 @@ impl<M: Machine> Node<M> {
         told: &CommandRef<'_>,
         out: &mut Outbox,
     ) -> Result<(), NoMemory>
-        ensures exact { OnOk result (TakesPair (meaning M.first M.next M.answer) (position, told.now) self.old out.old self.new out.new) }
-        ensures goes_on { OnOk result (GoesOn (meaning M.first M.next M.answer) (λ h. ChosenAt h.genesis h.sent position told.now) self.old self.new out.old out.new) }
+        ensures exact { OnOk result (TakesPair M.meaning (position, told.now) self.old out.old self.new out.new) }
+        ensures goes_on { OnOk result (GoesOn M.meaning (λ h. ChosenAt h.genesis h.sent position told.now) self.old self.new out.old out.new) }
     {
         if !self.learner.is_wanted(position) {
             return self.execute(out);
@@ -88,8 +87,8 @@ impl<M: Machine> Node<M> {
 
     // Decided commands are told: they are taken in order.
     pub(crate) fn hear_decided(&mut self, decided: &DecidedRef<'_>) -> Result<Outbox, NoMemory>
-        ensures exact { IfOk result (λ o. TakesPairs (meaning M.first M.next M.answer) decided.now.first decided.now.commands self.old nothing (length decided.now.commands) self.new o) }
-        ensures goes_on { (from : ℕ) → IfOk result (λ o. GoesOn (meaning M.first M.next M.answer) (λ h. HasSent h.genesis h.sent from (kinds.Decided decided.now)) self.old self.new nothing o) }
+        ensures exact { IfOk result (λ o. TakesPairs M.meaning decided.now.first decided.now.commands self.old nothing (length decided.now.commands) self.new o) }
+        ensures goes_on { (from : ℕ) → IfOk result (λ o. GoesOn M.meaning (λ h. HasSent h.genesis h.sent from (kinds.Decided decided.now)) self.old self.new nothing o) }
     {
         decided.facts();
         let mut out = Outbox::new(self.alloc);

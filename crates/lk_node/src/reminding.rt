@@ -1,7 +1,6 @@
 // What a node with a term tells again as time passes.
 ghost use Rattle.std.specs.Prelude.{◌≡◌, ◌+◌, not, ◌==◌, IfOk, OnOk};
 ghost use Rattle.std.specs.List.{list_any};
-ghost use Rattle.lk_state.specs.Meanings.{meaning};
 ghost use Rattle.lk_node.specs.Leading.{NothingOpen};
 ghost use Rattle.lk_node.specs.Outboxes.{nothing};
 ghost use Rattle.lk_node.specs.Reminding.{IsTermOf, keeps_promise, AreSilent, AsksAgain, unheard, OffersAgain, OffersAll, TellsLead, Reminds};
@@ -60,7 +59,7 @@ impl<M: Machine> Node<M> {
     fn ask_again(&self, ballot: RealBallot, out: &mut Outbox) -> Result<(), NoMemory>
         requires { IsTermOf ballot self.now.leader }
         ensures exact { OnOk result (AsksAgain self.now ballot out.old out.new) }
-        ensures goes_on { OnOk result (GoesOn (meaning M.first M.next M.answer) (λ h. Unit {0}) self.now self.now out.old out.new) }
+        ensures goes_on { OnOk result (GoesOn M.meaning (λ h. Unit {0}) self.now self.now out.old out.new) }
     {
         self.facts();
         self.ask_silent(ballot, out)?;
@@ -111,7 +110,7 @@ impl<M: Machine> Node<M> {
     ) -> Result<(), NoMemory>
         requires { IsTermOf ballot self.now.leader }
         ensures exact { OnOk result (OffersAgain self.now ballot position out.old out.new) }
-        ensures goes_on { OnOk result (GoesOn (meaning M.first M.next M.answer) (λ h. Unit {0}) self.now self.now out.old out.new) }
+        ensures goes_on { OnOk result (GoesOn M.meaning (λ h. Unit {0}) self.now self.now out.old out.new) }
     {
         self.facts();
         self.offer(ballot, position, out)?;
@@ -122,7 +121,7 @@ impl<M: Machine> Node<M> {
     fn offer_all(&self, ballot: RealBallot, out: &mut Outbox) -> Result<(), NoMemory>
         requires { IsTermOf ballot self.now.leader }
         ensures exact { OnOk result (OffersAll self.now ballot out.old out.new) }
-        ensures goes_on { OnOk result (GoesOn (meaning M.first M.next M.answer) (λ h. Unit {0}) self.now self.now out.old out.new) }
+        ensures goes_on { OnOk result (GoesOn M.meaning (λ h. Unit {0}) self.now self.now out.old out.new) }
     {
         let next = self.learner.whole().executed().get() + 1;
         'ahead: for ahead in 0..self.roster().alpha() {
@@ -146,7 +145,7 @@ impl<M: Machine> Node<M> {
     // As `tell_leader`; what it sends fits every history that the node fits.
     pub(crate) fn tell_lead(&self, ballot: RealBallot, out: &mut Outbox) -> Result<(), NoMemory>
         ensures exact { OnOk result (TellsLead self.now ballot out.old out.new) }
-        ensures goes_on { OnOk result (GoesOn (meaning M.first M.next M.answer) (λ h. Unit {0}) self.now self.now out.old out.new) }
+        ensures goes_on { OnOk result (GoesOn M.meaning (λ h. Unit {0}) self.now self.now out.old out.new) }
     {
         self.tell_leader(ballot, out)?;
         Ok(())
@@ -157,7 +156,7 @@ impl<M: Machine> Node<M> {
         requires { IsTermOf ballot self.old.leader }
         ensures exact { IfOk result (λ o. Reminds ballot self.old self.new o) }
         ensures done { OnOk result (NothingOpen self.new) }
-        ensures goes_on { IfOk result (λ o. GoesOn (meaning M.first M.next M.answer) (λ h. Unit {0}) self.old self.new nothing o) }
+        ensures goes_on { IfOk result (λ o. GoesOn M.meaning (λ h. Unit {0}) self.old self.new nothing o) }
     {
         let mut out = Outbox::new(self.alloc);
         self.ask_again(ballot, &mut out)?;

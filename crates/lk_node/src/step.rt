@@ -2,7 +2,6 @@
 ghost use Rattle.std.specs.Prelude.{◌≡◌, true, false, IfOk, OnOk, OnErr, IsErr};
 ghost use Rattle.lk_wire.specs.Shown.{shown_node, shown_content};
 ghost use Rattle.lk_history.specs.Datagrams.{HasSent};
-ghost use Rattle.lk_state.specs.Meanings.{meaning};
 ghost use Rattle.lk_node.specs.Calls.{InputFits};
 ghost use Rattle.lk_node.specs.Executing.{NothingToRun};
 ghost use Rattle.lk_node.specs.Histories.{IsHeard};
@@ -22,8 +21,8 @@ impl<M: Machine> Node<M> {
     #[tactic(auto, using(crate::proofs::Serving::rests_here))]
     // Does with a node's message what is to be done.
     fn hear_node(&mut self, from: NodeNo, message: &NodeMessageRef<'_>) -> Result<Outbox, NoMemory>
-        ensures exact { IfOk result (λ o. HearsNode (meaning M.first M.next M.answer) M.IsText self.old from (shown_node message.now) self.new o) }
-        ensures goes_on { IfOk result (λ o. GoesOn (meaning M.first M.next M.answer) (λ h. HasSent h.genesis h.sent from (shown_node message.now)) self.old self.new nothing o) }
+        ensures exact { IfOk result (λ o. HearsNode M.meaning M.IsText self.old from (shown_node message.now) self.new o) }
+        ensures goes_on { IfOk result (λ o. GoesOn M.meaning (λ h. HasSent h.genesis h.sent from (shown_node message.now)) self.old self.new nothing o) }
     {
         match message {
             NodeMessageRef::Prepare(ballot, first) => self.prepare(from, *ballot, *first),
@@ -42,8 +41,8 @@ impl<M: Machine> Node<M> {
     #[tactic(auto, using(crate::proofs::Serving::rests_here))]
     // Does with a message of the cluster what is to be done.
     fn hear(&mut self, content: &ContentRef<'_>) -> Result<Outbox, NoMemory>
-        ensures exact { IfOk result (λ o. Hears (meaning M.first M.next M.answer) M.IsText self.old (shown_content content.now) self.new o) }
-        ensures goes_on { IfOk result (λ o. GoesOn (meaning M.first M.next M.answer) (λ h. WasHeard h (shown_content content.now)) self.old self.new nothing o) }
+        ensures exact { IfOk result (λ o. Hears M.meaning M.IsText self.old (shown_content content.now) self.new o) }
+        ensures goes_on { IfOk result (λ o. GoesOn M.meaning (λ h. WasHeard h (shown_content content.now)) self.old self.new nothing o) }
     {
         match content {
             ContentRef::Request(request) => self.hear_request(&request.request()),
@@ -54,8 +53,8 @@ impl<M: Machine> Node<M> {
     #[tactic(auto, using(crate::proofs::Serving::rests_here, crate::proofs::Serving::bytes_go_on))]
     // Does with any bytes what is to be done.
     fn take_bytes(&mut self, bytes: &[u8]) -> Result<Outbox, NoMemory>
-        ensures exact { IfOk result (λ o. TakesBytes (meaning M.first M.next M.answer) M.IsText self.old bytes.now self.new o) }
-        ensures goes_on { IfOk result (λ o. GoesOn (meaning M.first M.next M.answer) (λ h. IsHeard h bytes.now) self.old self.new nothing o) }
+        ensures exact { IfOk result (λ o. TakesBytes M.meaning M.IsText self.old bytes.now self.new o) }
+        ensures goes_on { IfOk result (λ o. GoesOn M.meaning (λ h. IsHeard h bytes.now) self.old self.new nothing o) }
     {
         let Ok(message) = view(bytes) else {
             return Ok(Outbox::new(self.alloc));
@@ -69,9 +68,9 @@ impl<M: Machine> Node<M> {
 
     // Does with any bytes what is to be done, and then proposes what can be.
     fn take_datagram(&mut self, bytes: &[u8]) -> Result<Outbox, NoMemory>
-        ensures exact { IfOk result (λ o. TakesDatagram (meaning M.first M.next M.answer) M.IsText self.old bytes.now self.new o) }
+        ensures exact { IfOk result (λ o. TakesDatagram M.meaning M.IsText self.old bytes.now self.new o) }
         ensures done { OnOk result (NothingOpen self.new) }
-        ensures goes_on { IfOk result (λ o. GoesOn (meaning M.first M.next M.answer) (λ h. IsHeard h bytes.now) self.old self.new nothing o) }
+        ensures goes_on { IfOk result (λ o. GoesOn M.meaning (λ h. IsHeard h bytes.now) self.old self.new nothing o) }
     {
         let mut out = self.take_bytes(bytes)?;
         self.propose(&mut out)?;
@@ -80,8 +79,8 @@ impl<M: Machine> Node<M> {
 
     #[tactic(auto, using(crate::proofs::Serving::rests_here))]
     fn serve(&mut self, input: Input) -> Result<Outbox, NoMemory>
-        ensures exact { IfOk result (λ o. Steps (meaning M.first M.next M.answer) M.IsText self.old input.entry self.new o) }
-        ensures goes_on { IfOk result (λ o. GoesOn (meaning M.first M.next M.answer) (λ h. InputFits h input.entry) self.old self.new nothing o) }
+        ensures exact { IfOk result (λ o. Steps M.meaning M.IsText self.old input.entry self.new o) }
+        ensures goes_on { IfOk result (λ o. GoesOn M.meaning (λ h. InputFits h input.entry) self.old self.new nothing o) }
     {
         match input {
             Input::Tick => self.tick(),
@@ -95,8 +94,8 @@ impl<M: Machine> Node<M> {
     ///
     /// It refuses with `Halted` where memory is refused; after that each later call answers `Halted`.
     pub fn step(&mut self, input: Input) -> Result<Outbox, Halted>
-        ensures steps { IfOk result (λ o. Steps (meaning M.first M.next M.answer) M.IsText self.old input.entry self.new o) }
-        ensures goes_on { IfOk result (λ o. GoesOn (meaning M.first M.next M.answer) (λ h. InputFits h input.entry) self.old self.new nothing o) }
+        ensures steps { IfOk result (λ o. Steps M.meaning M.IsText self.old input.entry self.new o) }
+        ensures goes_on { IfOk result (λ o. GoesOn M.meaning (λ h. InputFits h input.entry) self.old self.new nothing o) }
         ensures runs { NothingToRun self.old → OnOk result (NothingToRun self.new) }
         ensures done { OnOk result (NothingOpen self.new) }
         ensures halts { OnErr result (self.new.halted ≡ true) }

@@ -1,6 +1,5 @@
 // What a node does as time passes.
 ghost use Rattle.std.specs.Prelude.{◌≡◌, IfOk};
-ghost use Rattle.lk_state.specs.Meanings.{meaning};
 ghost use Rattle.lk_node.specs.Outboxes.{nothing};
 ghost use Rattle.lk_node.specs.Reminding.{Ticks};
 ghost use Rattle.lk_node.specs.Serving.{GoesOn};
@@ -37,7 +36,7 @@ impl<M: Machine> Node<M> {
     // Begins a ballot where it has waited long enough.
     fn begin_where_due(&mut self) -> Result<Outbox, NoMemory>
         ensures exact { IfOk result (λ o. BeginsWhereDue self.old self.new o) }
-        ensures goes_on { IfOk result (λ o. GoesOn (meaning M.first M.next M.answer) (λ h. Unit {0}) self.old self.new nothing o) }
+        ensures goes_on { IfOk result (λ o. GoesOn M.meaning (λ h. Unit {0}) self.old self.new nothing o) }
     {
         if !self.is_due() {
             return Ok(Outbox::new(self.alloc));
@@ -53,7 +52,7 @@ impl<M: Machine> Node<M> {
     // A tick without a term is counted.
     fn wait(&mut self) -> Result<Outbox, NoMemory>
         ensures exact { IfOk result (λ o. BeginsWhereDue (ticked self.old) self.new o) }
-        ensures goes_on { IfOk result (λ o. GoesOn (meaning M.first M.next M.answer) (λ h. Unit {0}) self.old self.new nothing o) }
+        ensures goes_on { IfOk result (λ o. GoesOn M.meaning (λ h. Unit {0}) self.old self.new nothing o) }
     {
         self.ticks.rise();
         let out = self.begin_where_due()?;
@@ -63,7 +62,7 @@ impl<M: Machine> Node<M> {
     // Some time has passed.
     pub(crate) fn tick(&mut self) -> Result<Outbox, NoMemory>
         ensures exact { IfOk result (λ o. Ticks self.old self.new o) }
-        ensures goes_on { IfOk result (λ o. GoesOn (meaning M.first M.next M.answer) (λ h. Unit {0}) self.old self.new nothing o) }
+        ensures goes_on { IfOk result (λ o. GoesOn M.meaning (λ h. Unit {0}) self.old self.new nothing o) }
     {
         match self.leader.ballot() {
             Some(ballot) => self.remind(ballot),

@@ -10,7 +10,7 @@ use Rattle.lk_types.specs.declared.genesis.Genesis.{Genesis}
 use Rattle.lk_members.specs.Counting.{Command, RequestValue, counted}
 use Rattle.lk_members.specs.Rosters.{PlainRoster, roster_of, join_answer, leave_answer}
 use Rattle.lk_members.proofs.Memberships.{placed_entries_stand, counted_behind}
-use Rattle.lk_state.specs.Meanings.{Body, Raising}
+use Rattle.lk_state.specs.Meanings.{Running, Raising}
 use Rattle.lk_state.specs.States.{text_of, op_answer, session_in, reply}
 use Rattle.lk_state.specs.declared.session.Session.{Session}
 use Rattle.lk_state.proofs.Wholes.{replies_stand}
@@ -57,7 +57,7 @@ raise_agrees s = elim (cases_Bool s.raised) [ inl is ↦ rw is refl | inr not_ye
 
 op_answered : (genesis : Genesis) (L : List Command) (s : State) → Leaves genesis L s → AllByRecursion IsCommand L → (client : ℕ) (op : Op)
     → op_answer table_meaning (roster_of genesis L) (text_of table_meaning L) client op ≡ (serve client op s).0
-op_answered genesis L s now all client (Table body) = answer-text_of L all client (Body body) ∙ ap (plain.answer client body) now.locks ∙ (locks_agree client s.raised (body_of body) s.locks).0
+op_answered genesis L s now all client (Table body) = answer-text_of L all client (Running body) ∙ ap (plain.answer client body) now.locks ∙ (locks_agree client s.raised (body_of body) s.locks).0
 op_answered genesis L s now all client (Join node port) = ap (λ (x : PlainRoster). join_answer x node) now.roster ∙ (join_agrees node port s).answer_is
 op_answered genesis L s now all client (Leave node) = ap (λ (x : PlainRoster). leave_answer x node) now.roster ∙ (leave_agrees node s).answer_is
 op_answered genesis L s now all client Raise = answer-text_of L all client Raising ∙ ap plain.raise_answer now.locks ∙ raise_agrees s

@@ -5,7 +5,6 @@ ghost use Rattle.lk_disk.specs.Disk.{contents};
 ghost use Rattle.lk_log.specs.StoreValue.{disks};
 ghost use Rattle.lk_log.specs.Stores.{Holds, KeepsOrIs, next_base};
 ghost use Rattle.lk_log.specs.declared.stored.Stored.{Stored};
-ghost use Rattle.lk_state.specs.Meanings.{meaning};
 ghost use Rattle.lk_learner.specs.Learners.{executed};
 ghost use Rattle.lk_node.specs.Packing.{standing_of};
 ghost use Rattle.lk_replica.specs.Compacting.{IsDue, IsSameStore};
@@ -30,11 +29,11 @@ pub fn write_base<M: Machine, D: LogDisk + Drop>(
     store: &mut Store<D>,
 ) -> Result<(), ReplicaFault>
     // At Ok it has gone over: its Base alone stands there, the node stands on it, and goes on.
-    ensures done { D.is_honest → OnOk result (HasGoneOver (meaning M.first M.next M.answer) D.is_metered node.old store.old node.new store.new) }
+    ensures done { D.is_honest → OnOk result (HasGoneOver M.meaning D.is_metered node.old store.old node.new store.new) }
     ensures becomes { OnOk result (StandsOnBase node.old store.old node.new store.new) }
     // After any exit each image that a stop may leave fits, and covers what every image covered, and neither file is longer than it was, or
     // else than a Base.
-    ensures disks { D.is_honest → StaysSafe (meaning M.first M.next M.answer) node.old store.old store.new }
+    ensures disks { D.is_honest → StaysSafe M.meaning node.old store.old store.new }
     // After any exit each image has what it had, or the Base alone.
     ensures any { D.is_honest → (ks ls : List Stored) → Holds store.old ks ls → KeepsOrIs (disks store.new) ks ls (next_base store.old (standing_of node.old)) }
     ensures within { node.old.acceptor.state.snapshot_position ≤ executed node.old.learner }
@@ -80,10 +79,10 @@ pub fn rebase_where_due<M: Machine, D: LogDisk + Drop>(
     node: &mut Node<M>,
     store: &mut Store<D>,
 ) -> Result<(), ReplicaFault>
-    ensures done { D.is_honest → OnOk result (IsReadyToStep (meaning M.first M.next M.answer) D.is_metered node.old store.old node.new store.new) }
+    ensures done { D.is_honest → OnOk result (IsReadyToStep M.meaning D.is_metered node.old store.old node.new store.new) }
     ensures alive { OnOk result (StaysAlive node.old store.old node.new store.new) }
     // What is on the disks after any exit: neither file is longer than it was, or else than a Base.
-    ensures disks { D.is_honest → LeavesDisks (meaning M.first M.next M.answer) (λ h. ⊤) max_base node.old store.old (disks store.new) }
+    ensures disks { D.is_honest → LeavesDisks M.meaning (λ h. ⊤) max_base node.old store.old (disks store.new) }
     ensures wakes { node.new.halted ≡ node.old.halted }
     ensures format_stays { store.old.format ≡ 2 → store.new.format ≡ 2 }
     ensures refused { IfErr result (IsNotRebased D.is_honest D.is_metered store.old store.new) }
@@ -107,11 +106,11 @@ impl<M: Machine, D: LogDisk + Drop> Replica<M, D> {
     pub fn compact(&mut self) -> Result<(), ReplicaFault>
         // At Ok it has gone over to its Base in four calls of the device: the node goes on, and each image stands for a snapshot of all that
         // is executed.
-        ensures done { D.is_honest → OnOk result (HasGoneOver (meaning M.first M.next M.answer) D.is_metered self.old.node self.old.store self.new.node self.new.store) }
+        ensures done { D.is_honest → OnOk result (HasGoneOver M.meaning D.is_metered self.old.node self.old.store self.new.node self.new.store) }
         ensures becomes { OnOk result (StandsOnBase self.old.node self.old.store self.new.node self.new.store) }
         ensures alive { OnOk result (self.new.failed ≡ false) }
         // What is on the disks after any exit: neither file is longer than it was, or else than a Base.
-        ensures disks { D.is_honest → LeavesDisks (meaning M.first M.next M.answer) (λ h. ⊤) max_base self.old.node self.old.store (disks self.new.store) }
+        ensures disks { D.is_honest → LeavesDisks M.meaning (λ h. ⊤) max_base self.old.node self.old.store (disks self.new.store) }
         ensures wakes { self.new.node.halted ≡ self.old.node.halted }
         // Nothing but 7, 8 and 11 comes, each for its cause, and each ends it.
         ensures refused { IfErr result (λ e. IsNotCompacted D.is_honest D.is_metered self.old self.new (fault_number e)) }

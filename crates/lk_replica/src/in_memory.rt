@@ -2,7 +2,6 @@
 ghost use Rattle.std.specs.Prelude.{◌≡◌, [], refl};
 ghost use Rattle.lk_disk.specs.Meters.{trapped};
 ghost use Rattle.lk_log.specs.StoreValue.{device_of};
-ghost use Rattle.lk_state.specs.Meanings.{meaning};
 ghost use Rattle.lk_node.specs.Keeping.{Stands};
 ghost use Rattle.lk_replica.specs.Compacted.{CompactsTo};
 ghost use Rattle.lk_replica.specs.Revivals.{RevivesTo};
@@ -36,16 +35,16 @@ impl<M: Machine, D: LogDisk + Drop> Replica<M, D> {
 }
 
 impl<M: Machine> MemoryReplica for Replica<M, MemoryDisk> {
-    ghost meaning = { meaning M.first M.next M.answer };
+    ghost meaning = { M.meaning };
 
-    ghost Shows = { λ r genesis n x. Stands (meaning M.first M.next M.answer) r.node r.store genesis n x };
+    ghost Shows = { λ r genesis n x. Stands M.meaning r.node r.store genesis n x };
 
     ghost behaves = { record {
       memory = λ r. device_of r.store;
       with_trap = λ t r. record r { store = record r.store { meter = trapped t r.store.meter } };
-      Takes = λ old bytes new came. ComesTo (meaning M.first M.next M.answer) M.IsText old bytes new came;
-      Revives = λ device whose came. RevivesTo (meaning M.first M.next M.answer) M.IsText device whose came;
-      Compacts = λ old new came. CompactsTo (meaning M.first M.next M.answer) old new came;
+      Takes = λ old bytes new came. ComesTo M.meaning M.IsText old bytes new came;
+      Revives = λ device whose came. RevivesTo M.meaning M.IsText device whose came;
+      Compacts = λ old new came. CompactsTo M.meaning old new came;
     } };
 
     ghost whole = { λ r. r.node.learner.whole };

@@ -4,7 +4,6 @@ ghost use Rattle.lk_learner.specs.Learners.{Command as CommandValue, Pair, IsLea
 ghost use Rattle.lk_learner.specs.Pairs.{are_pairs_above};
 ghost use Rattle.lk_replica.specs.Revivals.{run_from, notes_of, relearned, reached};
 ghost use Rattle.lk_node.specs.declared.note.Note.TheVariants as note;
-ghost use Rattle.lk_state.specs.Meanings.{meaning};
 ghost use Rattle.lk_state.specs.Packed.{packed};
 
 use crate::fault::ReplicaFault;
@@ -21,7 +20,7 @@ fn run_next<M: Machine>(
     node: NodeNo,
     command: &Command,
 ) -> Result<(), NoMemory>
-    ensures runs { IsNext learner.old command.now → OnOk result (learner.new ≡ advanced (meaning M.first M.next M.answer) command.now learner.old) }
+    ensures runs { IsNext learner.old command.now → OnOk result (learner.new ≡ advanced M.meaning command.now learner.old) }
     ensures noted { IsNext learner.old command.now → OnOk result (notes.new.items ≡ notes.old.items ++ note.Ran node (executed learner.old + 1) command.now ∷ []) }
     ensures none { ((v : CommandValue) → IsNext learner.old v → ⊥) → OnOk result (learner.new ≡ learner.old) }
     ensures silent { ((v : CommandValue) → IsNext learner.old v → ⊥) → OnOk result (notes.new.items ≡ notes.old.items) }
@@ -40,7 +39,7 @@ fn learn<M: Machine>(
     pair: &(Position, Command),
 ) -> Result<(), ReplicaFault>
     requires quiet { (v : CommandValue) → IsNext learner.old v → ⊥ }
-    ensures runs { pair.now.0 ≡ executed learner.old + 1 → OnOk result (learner.new ≡ advanced (meaning M.first M.next M.answer) pair.now.1 (keeping pair.now learner.old)) }
+    ensures runs { pair.now.0 ≡ executed learner.old + 1 → OnOk result (learner.new ≡ advanced M.meaning pair.now.1 (keeping pair.now learner.old)) }
     ensures noted { pair.now.0 ≡ executed learner.old + 1 → OnOk result (notes.new.items ≡ notes.old.items ++ note.Ran node pair.now.0 pair.now.1 ∷ []) }
     ensures keeps { (pair.now.0 ≡ executed learner.old + 1 → ⊥) → OnOk result (learner.new ≡ keeping pair.now learner.old) }
     ensures silent { (pair.now.0 ≡ executed learner.old + 1 → ⊥) → OnOk result (notes.new.items ≡ notes.old.items) }
@@ -67,7 +66,7 @@ pub fn relearn<M: Machine>(
 ) -> Result<(Learner<M>, Vec<Note>), ReplicaFault>
     requires text { snapshot.items ≡ packed whole }
     requires rising { IsTrue (are_pairs_above whole.roster.executed pairs.now) }
-    ensures learner { IfOk result (λ r. r.0 ≡ relearned (meaning M.first M.next M.answer) whole pairs.now) }
+    ensures learner { IfOk result (λ r. r.0 ≡ relearned M.meaning whole pairs.now) }
     ensures notes { IfOk result (λ r. r.1.items ≡ notes_of node whole.roster.executed (run_from whole.roster.executed pairs.now)) }
     ensures reaches { IfOk result (λ r. executed r.0 ≡ reached whole.roster.executed pairs.now) }
     ensures sets { IfOk result (λ r. length r.0.whole.roster.sets ≡ length whole.roster.sets) }

@@ -4,7 +4,6 @@ ghost use Rattle.lk_types.specs.Limits.{max_count};
 ghost use Rattle.lk_log.specs.StoreValue.{disks};
 ghost use Rattle.lk_log.specs.Stores.{Holds, KeepsOrIs, next_base};
 ghost use Rattle.lk_log.specs.declared.stored.Stored.{Stored};
-ghost use Rattle.lk_state.specs.Meanings.{meaning};
 ghost use Rattle.lk_node.specs.Packing.{standing_of};
 ghost use Rattle.lk_replica.specs.Compacting.{renew_calls};
 ghost use Rattle.lk_replica.specs.Faults.{fault_number, CountsFailure, PassesOr};
@@ -24,11 +23,11 @@ pub fn renew<M: Machine, D: LogDisk + Drop>(
     store: &mut Store<D>,
 ) -> Result<(), ReplicaFault>
     // A store of format 1 was rebased, one of format 2 is as it was, and the node goes on.
-    ensures renewed { D.is_honest → OnOk result (IsRenewed (meaning M.first M.next M.answer) node.old store.old node.new store.new) }
+    ensures renewed { D.is_honest → OnOk result (IsRenewed M.meaning node.old store.old node.new store.new) }
     ensures ready { OnOk result (HasFormatTwo node.old store.old node.new store.new) }
     // After any exit each image that a stop may leave fits, and covers what every image covered, and neither file is longer than it was, or
     // else than a Base.
-    ensures safe { D.is_honest → StaysSafe (meaning M.first M.next M.answer) node.old store.old store.new }
+    ensures safe { D.is_honest → StaysSafe M.meaning node.old store.old store.new }
     ensures wakes { node.new.halted ≡ node.old.halted }
     // After a refusal each image has what it had, or the Base alone.
     ensures left { D.is_honest → (ks ls : List Stored) → Holds store.old ks ls → OnErr result (KeepsOrIs (disks store.new) ks ls (next_base store.old (standing_of node.old))) }

@@ -6,7 +6,6 @@ ghost use Rattle.lk_disk.specs.Meters.{trapped};
 ghost use Rattle.lk_log.specs.StoreValue.{StoreValue, disks};
 ghost use Rattle.lk_node.specs.NodeValue.{NodeValue};
 ghost use Rattle.lk_replica.specs.Compacting.{AreLeft, AreSame, IsDue, RebasesWhereDue};
-ghost use Rattle.lk_state.specs.Meanings.{meaning};
 ghost use Rattle.lk_wire.specs.Grammar.{Spells};
 ghost use Rattle.lk_history.specs.Datagrams.{NodeMessage, Datagram as DatagramValue, said_by};
 ghost use Rattle.lk_node.specs.Calls.{InputFits, NodeFits, Goes};
@@ -64,20 +63,20 @@ impl<M: Machine, D: LogDisk + Drop> Replica<M, D> {
     /// 2^48; after that each later call answers `Failed` (11). With `Send` (15) some datagrams are lost, and the replica goes on.
     pub fn take<P: Post>(&mut self, input: Input, post: &mut P) -> Result<Vec<Note>, ReplicaFault>
         // Where it goes on, all that it notes and sends it may note and send by what it holds.
-        ensures goes { D.is_honest → P.is_telling → (h : History) (n : ℕ) → NodeFits (meaning M.first M.next M.answer) h n (Stands (meaning M.first M.next M.answer) self.old.node self.old.store h.genesis n) (disks self.old.store) → InputFits h input.entry
+        ensures goes { D.is_honest → P.is_telling → (h : History) (n : ℕ) → NodeFits M.meaning h n (Stands M.meaning self.old.node self.old.store h.genesis n) (disks self.old.store) → InputFits h input.entry
             → IfGoesOn result (λ notes. (sent : List LetterValue) × (P.sent post.new ≡ P.sent post.old ++ sent)
-            × Goes (meaning M.first M.next M.answer) h n (Stands (meaning M.first M.next M.answer) self.new.node self.new.store h.genesis n) (disks self.new.store) notes (batch_of n sent)) }
+            × Goes M.meaning h n (Stands M.meaning self.new.node self.new.store h.genesis n) (disks self.new.store) notes (batch_of n sent)) }
         // Letters were given to the post in order, each once, and nothing else. Where it goes on it has then written the outbox of its step,
         // given its notes, and these are its letters. Under `Send` those whose send failed are lost.
-        ensures exact { GivesLetters P.Carries post.old post.new (λ letters. D.is_honest → IfGoesOn result (λ notes. IsTaken (meaning M.first M.next M.answer) M.IsText D.is_metered self.old input.entry self.new notes
+        ensures exact { GivesLetters P.Carries post.old post.new (λ letters. D.is_honest → IfGoesOn result (λ notes. IsTaken M.meaning M.IsText D.is_metered self.old input.entry self.new notes
             (λ all. (all ≡ letters) × (P.is_telling → SendsAs result all (P.sent post.old) (P.sent post.new) (P.failures post.old) (P.failures post.new))))) }
         ensures alive { IfGoesOn result (λ notes. StaysUp D.is_honest self.old self.new) }
         // Sync before send, whatever has happened, and whatever it was revived on: what was sent every image covers, after any exit.
         ensures syncs { D.is_honest → P.is_telling → (genesis : Genesis) (n : ℕ) (x : NodeMessage) → Remembers self.old.node self.old.store genesis n
             → (sent : List LetterValue) × (P.sent post.new ≡ P.sent post.old ++ sent)
-            × ((d : DatagramValue) → Contains (batch_of n sent) d → Spells (said_by genesis n x) d.bytes → AllCover (meaning M.first M.next M.answer) genesis n (disks self.new.store) x) }
+            × ((d : DatagramValue) → Contains (batch_of n sent) d → Spells (said_by genesis n x) d.bytes → AllCover M.meaning genesis n (disks self.new.store) x) }
         // What is on the disks after any exit: neither file has grown above half of what a file may hold, and a step.
-        ensures disks { D.is_honest → LeavesDisks (meaning M.first M.next M.answer) (λ h. InputFits h input.entry) max_behind self.old.node self.old.store (disks self.new.store) }
+        ensures disks { D.is_honest → LeavesDisks M.meaning (λ h. InputFits h input.entry) max_behind self.old.node self.old.store (disks self.new.store) }
         // Nothing but 7, 8, 11, 14 and 15 comes, each for its cause, and all but 15 end it.
         ensures refused { IfErr result (λ e. IsRefused D.is_honest D.is_metered self.old self.new (fault_number e)) }
         // Under `Send` some sends have failed, and under another refusal nothing was given to the post.
@@ -176,13 +175,13 @@ fn step_to_disk<M: Machine, D: LogDisk + Drop>(
     input: Input,
 ) -> Result<Outbox, ReplicaFault>
     requires { store.old.format ≡ 2 }
-    ensures goes { D.is_honest → (h : History) (n : ℕ) → NodeFits (meaning M.first M.next M.answer) h n (Stands (meaning M.first M.next M.answer) node.old store.old h.genesis n) (disks store.old) → InputFits h input.entry
-        → IfOk result (λ o. (sent : List LetterValue) → AreOf sent o.letters → Goes (meaning M.first M.next M.answer) h n (Stands (meaning M.first M.next M.answer) node.new store.new h.genesis n) (disks store.new) o.notes (batch_of n sent)) }
+    ensures goes { D.is_honest → (h : History) (n : ℕ) → NodeFits M.meaning h n (Stands M.meaning node.old store.old h.genesis n) (disks store.old) → InputFits h input.entry
+        → IfOk result (λ o. (sent : List LetterValue) → AreOf sent o.letters → Goes M.meaning h n (Stands M.meaning node.new store.new h.genesis n) (disks store.new) o.notes (batch_of n sent)) }
     ensures syncs { D.is_honest → (genesis : Genesis) (n : ℕ) (x : NodeMessage) → Remembers node.old store.old genesis n
-        → IfOk result (λ o. (d : DatagramValue) → Contains (batch_of n o.letters) d → Spells (said_by genesis n x) d.bytes → AllCover (meaning M.first M.next M.answer) genesis n (disks store.new) x) }
-    ensures exact { D.is_honest → IfOk result (λ o. StepsToDisk (meaning M.first M.next M.answer) M.IsText D.is_metered node.old store.old input.entry o node.new store.new) }
+        → IfOk result (λ o. (d : DatagramValue) → Contains (batch_of n o.letters) d → Spells (said_by genesis n x) d.bytes → AllCover M.meaning genesis n (disks store.new) x) }
+    ensures exact { D.is_honest → IfOk result (λ o. StepsToDisk M.meaning M.IsText D.is_metered node.old store.old input.entry o node.new store.new) }
     ensures alive { OnOk result (StepsOn D.is_honest node.old store.old node.new store.new) }
-    ensures disks { D.is_honest → StepLeavesDisks (meaning M.first M.next M.answer) (λ h. InputFits h input.entry) max_behind node.old store.old (disks store.new) }
+    ensures disks { D.is_honest → StepLeavesDisks M.meaning (λ h. InputFits h input.entry) max_behind node.old store.old (disks store.new) }
     ensures refused { IfErr result (IsCutShort D.is_honest D.is_metered 1 node.old store.old node.new store.new (AreSame (disks store.old) (disks store.new))) }
     ensures halts { IsErrOf result ReplicaFault.Halted ↔ (node.new.halted ≡ true) }
     ensures format { store.new.format ≡ 2 }
@@ -206,15 +205,15 @@ fn rebase_and_step<M: Machine, D: LogDisk + Drop>(
     input: Input,
 ) -> Result<Outbox, ReplicaFault>
     requires { store.old.format ≡ 2 }
-    ensures goes { D.is_honest → (h : History) (n : ℕ) → NodeFits (meaning M.first M.next M.answer) h n (Stands (meaning M.first M.next M.answer) node.old store.old h.genesis n) (disks store.old) → InputFits h input.entry
-        → IfOk result (λ o. (sent : List LetterValue) → AreOf sent o.letters → Goes (meaning M.first M.next M.answer) h n (Stands (meaning M.first M.next M.answer) node.new store.new h.genesis n) (disks store.new) o.notes (batch_of n sent)) }
+    ensures goes { D.is_honest → (h : History) (n : ℕ) → NodeFits M.meaning h n (Stands M.meaning node.old store.old h.genesis n) (disks store.old) → InputFits h input.entry
+        → IfOk result (λ o. (sent : List LetterValue) → AreOf sent o.letters → Goes M.meaning h n (Stands M.meaning node.new store.new h.genesis n) (disks store.new) o.notes (batch_of n sent)) }
     ensures syncs { D.is_honest → (genesis : Genesis) (n : ℕ) (x : NodeMessage) → Remembers node.old store.old genesis n
-        → IfOk result (λ o. (d : DatagramValue) → Contains (batch_of n o.letters) d → Spells (said_by genesis n x) d.bytes → AllCover (meaning M.first M.next M.answer) genesis n (disks store.new) x) }
+        → IfOk result (λ o. (d : DatagramValue) → Contains (batch_of n o.letters) d → Spells (said_by genesis n x) d.bytes → AllCover M.meaning genesis n (disks store.new) x) }
     ensures exact { D.is_honest → IfOk result (λ o. (mid : NodeValue) × (between : StoreValue) × RebasesWhereDue node.old store.old mid between
-        × (stepped : NodeValue) × Steps (meaning M.first M.next M.answer) M.IsText mid input.entry stepped o × Writes stepped between o node.new store.new) }
+        × (stepped : NodeValue) × Steps M.meaning M.IsText mid input.entry stepped o × Writes stepped between o node.new store.new) }
     ensures calls { D.is_metered → D.is_honest → IfOk result (λ o. CallsOfStep node.old store.old o store.new) }
     ensures alive { OnOk result (StepsOn D.is_honest node.old store.old node.new store.new) }
-    ensures disks { D.is_honest → LeavesDisks (meaning M.first M.next M.answer) (λ h. InputFits h input.entry) max_behind node.old store.old (disks store.new) }
+    ensures disks { D.is_honest → LeavesDisks M.meaning (λ h. InputFits h input.entry) max_behind node.old store.old (disks store.new) }
     ensures refused { IfErr result (IsCutShort D.is_honest D.is_metered 2 node.old store.old node.new store.new (AreLeft node.old store.old store.new)) }
     ensures format { store.new.format ≡ 2 }
     ensures last { D.is_honest → max_count ≤ store.old.generation → IsDue node.old store.old → IsErrAnd result (λ e. WantsNoMemory (fault_number e)) }

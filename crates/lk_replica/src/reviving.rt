@@ -6,7 +6,6 @@ ghost use Rattle.lk_log.specs.Stores.{NarrowsOrBegins, StandsForSome};
 ghost use Rattle.lk_log.specs.StoreValue.{disks};
 ghost use Rattle.lk_log.specs.Rooms.{StaysWithin};
 ghost use Rattle.lk_types.specs.Limits.{max_base};
-ghost use Rattle.lk_state.specs.Meanings.{meaning};
 ghost use Rattle.lk_state.specs.Packed.{Packs};
 ghost use Rattle.lk_state.specs.States.{WholeValue};
 ghost use Rattle.lk_history.specs.Datagrams.{NodeMessage};
@@ -36,7 +35,7 @@ use std::alloc::Global;
 
 // The packed text of what stands before any command is executed.
 fn zero_text<M: Machine>(alloc: Global, genesis: &Genesis) -> Result<BytesMut, NoMemory>
-    ensures text { IfOk result (λ t. t.items ≡ text (meaning M.first M.next M.answer) genesis.now []) }
+    ensures text { IfOk result (λ t. t.items ≡ text M.meaning genesis.now []) }
     ensures some { IfOk result (λ t. 1 ≤ length t.items) }
     ensures room { IfOk result (λ t. length t.items ≤ 42087) }
 {
@@ -82,7 +81,7 @@ fn restored<M: Machine>(
 ) -> Result<(Node<M>, Vec<Note>), ReplicaFault>
     requires stands { StandsForSome standing }
     ensures runs { IfOk result (λ r. NothingToRun r.0) }
-    ensures restores { IfOk result (λ r. Restores (meaning M.first M.next M.answer) M.IsText header.now standing r.0 r.1.items) }
+    ensures restores { IfOk result (λ r. Restores M.meaning M.IsText header.now standing r.0 r.1.items) }
     ensures damaged { IsErrOf result ReplicaFault.Damaged → (w : WholeValue) → MayRevive M.IsText header.now standing w → ⊥ }
     ensures only { IfErr result (λ e. (e ≡ ReplicaFault.Damaged) ⊎ (e ≡ ReplicaFault.NoMemory)) }
 {
@@ -118,24 +117,24 @@ fn take_up<M: Machine, D: LogDisk + Drop>(
     header: &Header,
 ) -> Result<TakenUp<M, D>, ReviveFault<D>>
     // Where the disks fit a history, what is taken up goes on in it, and what a refusal leaves fits it.
-    ensures fits { D.is_honest → (h : History) (n : ℕ) → header.now ≡ header_of h.genesis n → IsLawful (meaning M.first M.next M.answer) h → DisksFit (meaning M.first M.next M.answer) h n (D.disk device)
+    ensures fits { D.is_honest → (h : History) (n : ℕ) → header.now ≡ header_of h.genesis n → IsLawful M.meaning h → DisksFit M.meaning h n (D.disk device)
         → MatchResult result
-        (λ r. Goes (meaning M.first M.next M.answer) h n (Stands (meaning M.first M.next M.answer) r.node r.store h.genesis n) (disks r.store) r.notes.items [])
-        (λ e. DisksFit (meaning M.first M.next M.answer) h n (D.disk e.device)) }
+        (λ r. Goes M.meaning h n (Stands M.meaning r.node r.store h.genesis n) (disks r.store) r.notes.items [])
+        (λ e. DisksFit M.meaning h n (D.disk e.device)) }
     // Whatever every image covered, every image covers.
-    ensures covers { D.is_honest → (genesis : GenesisValue) (n : ℕ) (x : NodeMessage) → header.now ≡ header_of genesis n → AllCover (meaning M.first M.next M.answer) genesis n (D.disk device) x
-        → MatchResult result (λ r. AllCover (meaning M.first M.next M.answer) genesis n (disks r.store) x) (λ e. AllCover (meaning M.first M.next M.answer) genesis n (D.disk e.device) x) }
+    ensures covers { D.is_honest → (genesis : GenesisValue) (n : ℕ) (x : NodeMessage) → header.now ≡ header_of genesis n → AllCover M.meaning genesis n (D.disk device) x
+        → MatchResult result (λ r. AllCover M.meaning genesis n (disks r.store) x) (λ e. AllCover M.meaning genesis n (D.disk e.device) x) }
     // Its store keeps what its acceptor holds, whatever the disks have been through.
     ensures remembers { D.is_honest → (genesis : GenesisValue) (n : ℕ) → header.now ≡ header_of genesis n → IfOk result (λ r. Remembers r.node r.store genesis n) }
     // What the disks stand for is what is revived, and nothing else is executed.
-    ensures exact { D.is_honest → IfOk result (λ r. TakesUp (meaning M.first M.next M.answer) M.IsText (D.disk device) header.now r.node r.store r.notes.items) }
+    ensures exact { D.is_honest → IfOk result (λ r. TakesUp M.meaning M.IsText (D.disk device) header.now r.node r.store r.notes.items) }
     // Nothing of it has failed, and it has executed what it can.
     ensures ready { IfOk result (λ r. IsTakenUp header.now r.node r.store) }
     // A refusal has its cause. A damaged store and another's stay as they are.
-    ensures refused { D.is_honest → IfErr result (λ e. IsRefusedFor (meaning M.first M.next M.answer) M.IsText (D.disk device) header.now (fault_number e.fault) (D.disk e.device)) }
+    ensures refused { D.is_honest → IfErr result (λ e. IsRefusedFor M.meaning M.IsText (D.disk device) header.now (fault_number e.fault) (D.disk e.device)) }
     // After a refusal each image comes to what an image before it came to, or to a store that is begun.
     ensures stays_err { D.is_honest → (genesis : GenesisValue) → header.now ≡ header_of genesis header.now.node
-        → IfErr result (λ e. NarrowsOrBegins (D.disk device) (D.disk e.device) header.now (text (meaning M.first M.next M.answer) genesis [])) }
+        → IfErr result (λ e. NarrowsOrBegins (D.disk device) (D.disk e.device) header.now (text M.meaning genesis [])) }
     // It refuses with 7 to 10, and with `Device` exactly where a call of the device has failed.
     ensures cause { MatchResult result
         (λ r. r.store.failures ≡ D.failures device)
@@ -182,26 +181,26 @@ impl<M: Machine, D: LogDisk + Drop> Replica<M, D> {
         header: &Header,
     ) -> Result<Revived<Replica<M, D>>, ReviveFault<D>>
         // Where the disks fit a history, the replica goes on in it, and what a refusal leaves fits it.
-        ensures fits { D.is_honest → (h : History) (n : ℕ) → header.now ≡ header_of h.genesis n → IsLawful (meaning M.first M.next M.answer) h → DisksFit (meaning M.first M.next M.answer) h n (D.disk device)
+        ensures fits { D.is_honest → (h : History) (n : ℕ) → header.now ≡ header_of h.genesis n → IsLawful M.meaning h → DisksFit M.meaning h n (D.disk device)
             → MatchResult result
-            (λ r. Goes (meaning M.first M.next M.answer) h n (Stands (meaning M.first M.next M.answer) r.replica.node r.replica.store h.genesis n) (disks r.replica.store) r.notes.items [])
-            (λ e. DisksFit (meaning M.first M.next M.answer) h n (D.disk e.device)) }
+            (λ r. Goes M.meaning h n (Stands M.meaning r.replica.node r.replica.store h.genesis n) (disks r.replica.store) r.notes.items [])
+            (λ e. DisksFit M.meaning h n (D.disk e.device)) }
         // Whatever every image covered, every image covers.
-        ensures covers { D.is_honest → (genesis : GenesisValue) (n : ℕ) (x : NodeMessage) → header.now ≡ header_of genesis n → AllCover (meaning M.first M.next M.answer) genesis n (D.disk device) x
-            → MatchResult result (λ r. AllCover (meaning M.first M.next M.answer) genesis n (disks r.replica.store) x) (λ e. AllCover (meaning M.first M.next M.answer) genesis n (D.disk e.device) x) }
+        ensures covers { D.is_honest → (genesis : GenesisValue) (n : ℕ) (x : NodeMessage) → header.now ≡ header_of genesis n → AllCover M.meaning genesis n (D.disk device) x
+            → MatchResult result (λ r. AllCover M.meaning genesis n (disks r.replica.store) x) (λ e. AllCover M.meaning genesis n (D.disk e.device) x) }
         // Its store keeps what its acceptor holds, whatever the disks have been through.
         ensures remembers { D.is_honest → (genesis : GenesisValue) (n : ℕ) → header.now ≡ header_of genesis n → IfOk result (λ r. Remembers r.replica.node r.replica.store genesis n) }
         // What the disks stand for is what is revived, and nothing else is executed. A file of format 1 that has generation 2^48 is never
         // revived.
-        ensures exact { D.is_honest → IfOk result (λ r. Revives (meaning M.first M.next M.answer) M.IsText (D.disk device) header.now r.replica r.notes.items) }
+        ensures exact { D.is_honest → IfOk result (λ r. Revives M.meaning M.IsText (D.disk device) header.now r.replica r.notes.items) }
         // It can take calls: nothing of it has failed, and it has executed what it can.
         ensures ready { IfOk result (λ r. MayGoOn r.replica) }
         // A refusal has its cause. A damaged store and another's stay as they are.
-        ensures refused { D.is_honest → IfErr result (λ e. IsRefusedFor (meaning M.first M.next M.answer) M.IsText (D.disk device) header.now (fault_number e.fault) (D.disk e.device)) }
+        ensures refused { D.is_honest → IfErr result (λ e. IsRefusedFor M.meaning M.IsText (D.disk device) header.now (fault_number e.fault) (D.disk e.device)) }
         // After a refusal each image comes to what an image before it came to, or to a store that is begun, or to what was found in a
         // file of format 1 or the Base that was to take its place.
         ensures stays_err { D.is_honest → (genesis : GenesisValue) → header.now ≡ header_of genesis header.now.node
-            → IfErr result (λ e. NarrowsOrRenews (D.disk device) (D.disk e.device) header.now (text (meaning M.first M.next M.answer) genesis [])) }
+            → IfErr result (λ e. NarrowsOrRenews (D.disk device) (D.disk e.device) header.now (text M.meaning genesis [])) }
         // It refuses with 7 to 11, and with `Device` exactly where a call of the device has failed.
         ensures cause { MatchResult result
             (λ r. r.replica.store.failures ≡ D.failures device)

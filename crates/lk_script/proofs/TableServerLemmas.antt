@@ -13,7 +13,7 @@ use Rattle.lk_members.specs.Counting.{Command, RequestValue, Noop, Request, Plac
 use Rattle.lk_members.specs.Rosters.{Genesis, roster_of}
 use Rattle.lk_members.specs.Windows.{roster_after}
 use Rattle.lk_members.proofs.Memberships.{AllByRecursion-push, placed_entries_stand, counted_behind, IsLast-new}
-use Rattle.lk_state.specs.Meanings.{Body, Raising}
+use Rattle.lk_state.specs.Meanings.{Running, Raising}
 use Rattle.lk_state.specs.Sessions.{session_of, is_new}
 use Rattle.lk_state.specs.States.{WholeValue, op_answer, session_in, text_of, reply, reply_of, last_served, whole_after, SumsUp as StandsFor}
 use Rattle.lk_state.specs.Runs.{seen_as}
@@ -56,7 +56,7 @@ parts_of (b ∷ before) c rest asked = let parts = parts_of before c rest asked.
 -- what the machine answers at a place, if it asks the table, the plain table answers
 table_answer-op_answer : (genesis : Genesis) (before : List Command) (client : ℕ) (op : Op) → AllByRecursion IsCommand before → is_for_table op ≡ true
     → table_answer client op (table_of before) ≡ Some (op_answer table_meaning (roster_of genesis before) (text_of table_meaning before) client op)
-table_answer-op_answer genesis before client (Table body) commands table = ap Some (sym (answer-text_of before commands client (Body body)))
+table_answer-op_answer genesis before client (Table body) commands table = ap Some (sym (answer-text_of before commands client (Running body)))
 table_answer-op_answer genesis before client (Join node port) commands table = absurd cc
 table_answer-op_answer genesis before client (Leave node) commands table = absurd cc
 table_answer-op_answer genesis before client Raise commands table = ap Some (sym (answer-text_of before commands client Raising))

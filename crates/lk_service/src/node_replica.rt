@@ -3,7 +3,6 @@
 ghost use Rattle.std.specs.Prelude.{◌≡◌, ◌++◌, ◌∷◌, ℕ, List, [], Option, Bool, true, false, OnOk, IfErr};
 ghost use Rattle.lk_node.specs.Calls.{heard_by};
 ghost use Rattle.lk_node.specs.Letters.{LetterValue};
-ghost use Rattle.lk_state.specs.Meanings.{meaning};
 ghost use Rattle.lk_replica.specs.Faults.{fault_number, IfSend};
 ghost use Rattle.lk_replica.specs.Posts.{GivesLetters};
 ghost use Rattle.lk_service.specs.Sayings.{SaysOf};
@@ -50,7 +49,7 @@ impl<M: Machine, D: LogDisk + Drop> NodeReplica for Replica<M, D> {
 
     ghost failed = { λ r. r.failed };
 
-    ghost Says = { λ old bytes letters new. D.is_honest → SaysOf (meaning M.first M.next M.answer) M.IsText D.is_metered old bytes letters new };
+    ghost Says = { λ old bytes letters new. D.is_honest → SaysOf M.meaning M.IsText D.is_metered old bytes letters new };
 
     fn take<P: Post>(&mut self, input: Input, post: &mut P) -> Result<Vec<Note>, ReplicaFault> {
         Replica::take(self, input, post)

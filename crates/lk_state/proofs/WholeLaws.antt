@@ -10,7 +10,7 @@ use Rattle.lk_members.specs.Counting.{Command, RequestValue, Noop, Request}
 use Rattle.lk_members.specs.Rosters.{Genesis, Op, Table, Join, Leave, Raise, PlainRoster, join_answer, leave_answer, is_member, is_nobody, others}
 use Rattle.lk_members.specs.Windows.{newest_roster, roster_after}
 use Rattle.lk_members.proofs.Memberships.{first_fits, passed_fits, changed_fits}
-use Rattle.lk_state.specs.Meanings.{Meaning, Body, Raising, KeepsTexts}
+use Rattle.lk_state.specs.Meanings.{Meaning, Running, Raising, KeepsTexts}
 use Rattle.lk_state.specs.Packed.{IsWhole}
 use Rattle.lk_state.specs.Sessions.{session_of, is_new}
 use Rattle.lk_state.specs.States.{WholeValue, op_answer, next_text, whole_after}
@@ -46,7 +46,7 @@ all_front P (x ∷ xs) y all = let rest = all_front P xs y all.1 in ((all.0, res
 
 module _ (IsText : List ℕ → Type 0) (m : Meaning) (keeps : KeepsTexts IsText m) where
   op_fits : (r : PlainRoster) (text : List ℕ) (client : ℕ) (op : Op) → IsClient client → IsText text → IsAnswer (op_answer m r text client op) × IsText (next_text m text client op)
-  op_fits r text client (Table body) c t = (keeps.answer client (Body body) text c t, keeps.next client (Body body) text c t)
+  op_fits r text client (Table body) c t = (keeps.answer client (Running body) text c t, keeps.next client (Running body) text c t)
   op_fits r text client (Join node port) c t = (join_fits r node, t)
   op_fits r text client (Leave node) c t = (leave_fits r node, t)
   op_fits r text client Raise c t = (keeps.answer client Raising text c t, keeps.next client Raising text c t)

@@ -6,7 +6,7 @@ use Rattle.lk_types.specs.declared.answer.Answer.{Answer}
 
 -- what a request asks of the machine: that it run the body, or that it be raised
 pub data Task : Type 0 where
-  Body : List ℕ → Task
+  Running : List ℕ → Task
   Raising : Task
 
 -- the text of a machine that has run nothing, the text after a task of a client, and what the client is answered
@@ -14,9 +14,6 @@ pub record Meaning : Type 0 where
   pub first : List ℕ
   pub next : ℕ → Task → List ℕ → List ℕ
   pub answer : ℕ → Task → List ℕ → Answer
-
-abbrev pub meaning : List ℕ → (ℕ → Task → List ℕ → List ℕ) → (ℕ → Task → List ℕ → Answer) → Meaning
-meaning first next answer = record { first = first; next = next; answer = answer }
 
 -- it begins as a text, a text stays one, and what is answered is in its range
 pub record KeepsTexts (IsText : List ℕ → Type 0) (m : Meaning) : Type 0 where

@@ -6,19 +6,19 @@ use Rattle.lk_types.specs.declared.answer.Answer.{Answer}
 use Rattle.lk_members.specs.Counting.{Command, RequestValue, Placed, placed, counted, counting}
 use Rattle.lk_members.specs.Rosters.{Genesis, PlainRoster, Op, Table, Join, Leave, Raise, join_answer, leave_answer, roster_of}
 use Rattle.lk_members.specs.Windows.{RosterValue, roster_after}
-use Rattle.lk_state.specs.Meanings.{Meaning, Body, Raising}
+use Rattle.lk_state.specs.Meanings.{Meaning, Running, Raising}
 use Rattle.lk_state.specs.Sessions.{Session, with_session}
 
 -- the machine's text after an op: joins and leaves are none of its own
 abbrev pub next_text : Meaning → List ℕ → ℕ → Op → List ℕ
-next_text m text client (Table body) = m.next client (Body body) text
+next_text m text client (Table body) = m.next client (Running body) text
 next_text m text client (Join node port) = text
 next_text m text client (Leave node) = text
 next_text m text client Raise = m.next client Raising text
 
 -- what an op is answered by a roster and a machine
 abbrev pub op_answer : Meaning → PlainRoster → List ℕ → ℕ → Op → Answer
-op_answer m roster text client (Table body) = m.answer client (Body body) text
+op_answer m roster text client (Table body) = m.answer client (Running body) text
 op_answer m roster text client (Join node port) = join_answer roster node
 op_answer m roster text client (Leave node) = leave_answer roster node
 op_answer m roster text client Raise = m.answer client Raising text

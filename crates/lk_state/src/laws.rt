@@ -7,7 +7,7 @@ ghost use Rattle.lk_types.specs.Geneses.{IsGenesis};
 ghost use Rattle.lk_types.specs.declared.answer.Answer.{Answer};
 ghost use Rattle.lk_members.specs.Counting.{Command, RequestValue, Request, Placed, placed, counted, is_of_another, IsLast};
 ghost use Rattle.lk_members.specs.Rosters.{Genesis};
-ghost use Rattle.lk_state.specs.Meanings.{Meaning, meaning};
+ghost use Rattle.lk_state.specs.Meanings.{Meaning};
 ghost use Rattle.lk_state.specs.Sessions.{Session, is_new};
 ghost use Rattle.lk_state.specs.States.{served, reply, last_served, sessions_of, whole_after};
 ghost use Rattle.lk_state.specs.Packed.{IsWhole};
@@ -56,5 +56,5 @@ pub fn sessions_are_last()
 
 /// What stands once a list in range was run may be held, and so packed and unpacked again.
 pub fn states_fit<M: Machine>()
-    ensures { (genesis : Genesis) (L : List Command) → IsGenesis genesis → AllByRecursion IsCommand L → length L ≤ max_count → IsWhole M.IsText (whole_after (meaning M.first M.next M.answer) genesis L) }
+    ensures { (genesis : Genesis) (L : List Command) → IsGenesis genesis → AllByRecursion IsCommand L → length L ≤ max_count → IsWhole M.IsText (whole_after M.meaning genesis L) }
 {}

@@ -1,10 +1,9 @@
 ghost use Rattle.std.specs.Prelude.{◌≡◌, ◌≤◌, ◌++◌, ℕ, List, length, OnOk, OnErr, IfOk, IsErrOf};
 ghost use Rattle.lk_types.specs.Limits.{max_machine};
-ghost use Rattle.lk_types.specs.declared.answer.Answer.{Answer as AnswerValue};
 ghost use Rattle.lk_types.specs.Ranges.{IsClient};
 ghost use Rattle.lk_types.specs.Answers.{IsAnswer};
 ghost use Rattle.lk_state.specs.Faults.{unpack_number};
-ghost use Rattle.lk_state.specs.Meanings.{Task, Body, Raising};
+ghost use Rattle.lk_state.specs.Meanings.{Meaning, Task, Running, Raising};
 
 use bytes::BytesMut;
 use lk_types::{Answer, ClientNo, NoMemory};
@@ -70,29 +69,23 @@ pub trait Machine: Sized + Drop {
     // which bytes are packed texts
     ghost IsText: { List ℕ → Type 0 };
 
-    // the text of a machine that has run nothing
-    ghost first: { List ℕ };
-
-    // the text after a task of a client, by the text before it
-    ghost next: { ℕ → Task → List ℕ → List ℕ };
-
-    // what the client is answered, by the text before its task
-    ghost answer: { ℕ → Task → List ℕ → AnswerValue };
+    // the text of a machine that has run nothing, the text after a task of a client, and what the client is answered
+    ghost meaning: { Meaning };
 
     /// A machine that has run nothing. It takes no memory.
     fn begin(alloc: Global) -> Self
-        ensures { text result ≡ first };
+        ensures { text result ≡ meaning.first };
 
     /// Runs the body of a client's request and answers it.
     fn apply(&mut self, client: ClientNo, body: &[u8]) -> Result<Answer, NoMemory>
-        ensures ok { OnOk result (text self.new ≡ next client (Body body.now) (text self.old)) }
-        ensures answer { IfOk result (λ a. a ≡ answer client (Body body.now) (text self.old)) }
+        ensures ok { OnOk result (text self.new ≡ meaning.next client (Running body.now) (text self.old)) }
+        ensures answer { IfOk result (λ a. a ≡ meaning.answer client (Running body.now) (text self.old)) }
         ensures err { OnErr result (text self.new ≡ text self.old) };
 
     /// Raises the machine, and answers whether it was raised before. Who asks does not matter. It takes no memory.
     fn raise(&mut self) -> Answer
-        ensures next { (client : ℕ) → text self.new ≡ next client Raising (text self.old) }
-        ensures answer { (client : ℕ) → result ≡ answer client Raising (text self.old) };
+        ensures next { (client : ℕ) → text self.new ≡ meaning.next client Raising (text self.old) }
+        ensures answer { (client : ℕ) → result ≡ meaning.answer client Raising (text self.old) };
 
     /// Adds the packed text, or nothing where memory is refused.
     fn pack(&self, out: &mut BytesMut) -> Result<(), NoMemory>
@@ -107,13 +100,13 @@ pub trait Machine: Sized + Drop {
         ensures not_packed { IsErrOf result UnpackFault.NotPacked → IsText bytes.now → ⊥ };
 
     // a machine begins as a text
-    ghost first_is_text: { IsText first };
+    ghost first_is_text: { IsText meaning.first };
 
     // a text stays one
-    ghost next_is_text: { (client : ℕ) (task : Task) (before : List ℕ) → IsClient client → IsText before → IsText (next client task before) };
+    ghost next_is_text: { (client : ℕ) (task : Task) (before : List ℕ) → IsClient client → IsText before → IsText (meaning.next client task before) };
 
     // what a client is answered is in its range
-    ghost answer_is_answer: { (client : ℕ) (task : Task) (before : List ℕ) → IsClient client → IsText before → IsAnswer (answer client task before) };
+    ghost answer_is_answer: { (client : ℕ) (task : Task) (before : List ℕ) → IsClient client → IsText before → IsAnswer (meaning.answer client task before) };
 
     // no text is long
     ghost short: { (bytes : List ℕ) → IsText bytes → length bytes ≤ max_machine };

@@ -58,14 +58,13 @@ impl<M: Machine> Whole<M> {
     ghost use Rattle.lk_members.specs.Counting.{Command, counted};
     ghost use Rattle.lk_members.specs.Rosters.{Genesis};
     ghost use Rattle.lk_members.specs.Windows.{newest_roster, changed_by};
-    ghost use Rattle.lk_state.specs.Meanings.{meaning};
     ghost use Rattle.lk_state.specs.Sessions.{session_of, is_new, with_session};
     ghost use Rattle.lk_state.specs.States.{SumsUp, next_text, op_answer, reply_of, last_served};
     ghost use Rattle.lk_state.specs.Runs.{counted_now, served_by, ran, run_answer, is_table, is_body, seen_as};
 
     /// What stands before any command is executed. It takes no memory.
     pub fn begin(alloc: Global, genesis: &Genesis) -> Whole<M>
-        ensures { SumsUp (meaning M.first M.next M.answer) genesis.now [] result }
+        ensures { SumsUp M.meaning genesis.now [] result }
     {
         let roster = Roster::begin(genesis);
         roster.facts();
@@ -108,7 +107,7 @@ impl<M: Machine> Whole<M> {
     /// Where a request of this client stands to its last one that counted.
     pub fn seen(&self, client: ClientNo, number: RequestNumber) -> Seen
         ensures value { result ≡ seen_as (session_of client self.now.sessions) number }
-        ensures last { (genesis : Genesis) (L : List Command) → SumsUp (meaning M.first M.next M.answer) genesis L self.now → result ≡ seen_as (last_served (meaning M.first M.next M.answer) genesis L client) number }
+        ensures last { (genesis : Genesis) (L : List Command) → SumsUp M.meaning genesis L self.now → result ≡ seen_as (last_served M.meaning genesis L client) number }
     {
         stand(self.sessions.get(client), number)
     }
@@ -127,17 +126,17 @@ impl<M: Machine> Whole<M> {
     /// changes nothing.
     pub fn run(&mut self, command: &Command) -> Result<Ran, NoMemory>
         requires { self.old.roster.executed < max_count }
-        ensures ok { OnOk result (self.new ≡ ran (meaning M.first M.next M.answer) command.now self.old) }
+        ensures ok { OnOk result (self.new ≡ ran M.meaning command.now self.old) }
         ensures position { IfOk result (λ r. r.position ≡ self.old.roster.executed + 1) }
-        ensures answer { IfOk result (λ r. r.answer ≡ run_answer (meaning M.first M.next M.answer) command.now self.old) }
+        ensures answer { IfOk result (λ r. r.answer ≡ run_answer M.meaning command.now self.old) }
         ensures err { OnErr result (self.new ≡ self.old) }
         ensures free { is_body (counted_now self.old.sessions command.now) ≡ false → IsOk result }
 
         // After a list that it sums up it sums up the list with the command at its end, and tells the reply.
-        ensures sums { (genesis : Genesis) (L : List Command) → SumsUp (meaning M.first M.next M.answer) genesis L self.old
-            → OnOk result (SumsUp (meaning M.first M.next M.answer) genesis (L ++ command.now ∷ []) self.new) }
-        ensures reply { (genesis : Genesis) (L : List Command) → SumsUp (meaning M.first M.next M.answer) genesis L self.old
-            → IfOk result (λ r. r.answer ≡ reply_of (meaning M.first M.next M.answer) genesis (L ++ command.now ∷ []) (counted L command.now)) }
+        ensures sums { (genesis : Genesis) (L : List Command) → SumsUp M.meaning genesis L self.old
+            → OnOk result (SumsUp M.meaning genesis (L ++ command.now ∷ []) self.new) }
+        ensures reply { (genesis : Genesis) (L : List Command) → SumsUp M.meaning genesis L self.old
+            → IfOk result (λ r. r.answer ≡ reply_of M.meaning genesis (L ++ command.now ∷ []) (counted L command.now)) }
     {
         let position = self.next_position();
         let answer = self.run_command(command)?;
@@ -155,8 +154,8 @@ impl<M: Machine> Whole<M> {
     /// One position on with a command, and what it is answered where it counts.
     fn run_command(&mut self, command: &Command) -> Result<Option<Answer>, NoMemory>
         requires { self.old.roster.executed < max_count }
-        ensures ok { OnOk result (self.new ≡ ran (meaning M.first M.next M.answer) command.now self.old) }
-        ensures answer { IfOk result (λ a. a ≡ run_answer (meaning M.first M.next M.answer) command.now self.old) }
+        ensures ok { OnOk result (self.new ≡ ran M.meaning command.now self.old) }
+        ensures answer { IfOk result (λ a. a ≡ run_answer M.meaning command.now self.old) }
         ensures err { OnErr result (self.new ≡ self.old) }
         ensures free { is_body (counted_now self.old.sessions command.now) ≡ false → IsOk result }
     {
@@ -172,8 +171,8 @@ impl<M: Machine> Whole<M> {
     /// One position on with an op that counts, and what it is answered.
     fn run_op(&mut self, client: ClientNo, op: &Op) -> Result<Answer, NoMemory>
         requires { self.old.roster.executed < max_count }
-        ensures ok { OnOk result (self.new ≡ record { roster = changed_by op.now self.old.roster; sessions = self.old.sessions; text = next_text (meaning M.first M.next M.answer) self.old.text client op.now }) }
-        ensures answer { IfOk result (λ a. a ≡ op_answer (meaning M.first M.next M.answer) (newest_roster self.old.roster) self.old.text client op.now) }
+        ensures ok { OnOk result (self.new ≡ record { roster = changed_by op.now self.old.roster; sessions = self.old.sessions; text = next_text M.meaning self.old.text client op.now }) }
+        ensures answer { IfOk result (λ a. a ≡ op_answer M.meaning (newest_roster self.old.roster) self.old.text client op.now) }
         ensures err { OnErr result (self.new ≡ self.old) }
         ensures free { is_table op.now ≡ false → IsOk result }
     {
@@ -202,8 +201,8 @@ impl<M: Machine> Whole<M> {
     /// One position on with a request, and what it is answered where it counts.
     fn run_request(&mut self, request: &Request) -> Result<Option<Answer>, NoMemory>
         requires { self.old.roster.executed < max_count }
-        ensures ok { OnOk result (self.new ≡ ran (meaning M.first M.next M.answer) (Command.Request request.now) self.old) }
-        ensures answer { IfOk result (λ a. a ≡ run_answer (meaning M.first M.next M.answer) (Command.Request request.now) self.old) }
+        ensures ok { OnOk result (self.new ≡ ran M.meaning (Command.Request request.now) self.old) }
+        ensures answer { IfOk result (λ a. a ≡ run_answer M.meaning (Command.Request request.now) self.old) }
         ensures err { OnErr result (self.new ≡ self.old) }
         ensures free { is_body (counted_now self.old.sessions (Command.Request request.now)) ≡ false → IsOk result }
     {
@@ -224,7 +223,7 @@ impl<M: Machine> Whole<M> {
     /// One position on with nothing that counts.
     fn pass(&mut self)
         requires { self.old.roster.executed < max_count }
-        ensures { self.new ≡ served_by (meaning M.first M.next M.answer) self.old None }
+        ensures { self.new ≡ served_by M.meaning self.old None }
     {
         self.roster.pass();
         self.roster.facts();

@@ -1,6 +1,6 @@
 use Rattle.std.proofs.Common.{◌≡◌, ◌∙◌, Err, arith, rules, true, false, refl, sym, ap, inl, inr}
 use Rattle.lk_log.specs.StoreValue.{disks}
-use Rattle.lk_state.specs.Meanings.{Meaning, meaning}
+use Rattle.lk_state.specs.Meanings.{Meaning}
 use Rattle.lk_replica.specs.Faults.{WantsNoMemory, fault_number}
 use Rattle.lk_replica.proofs.compacting.rebase_where_due.Goals as goal
 use Rattle.lk_replica.proofs.Calling.{err_as, errs_as, refused_on}
@@ -11,14 +11,14 @@ use Rattle.lk_replica.proofs.Spared.{spared_all, spared_more, same_files, then_s
 
 pub returns-then-not-due-clause-done : goal.returns-then-not-due-clause-done
 returns-then-not-due-clause-done g c honest =
-    let m : Meaning = meaning g.M.Machine.first g.M.Machine.next g.M.Machine.answer in
+    let m : Meaning = g.M.Machine.meaning in
     ready_as_was m c.args.node.now c.args.store.now c.is_due.new.store (c.is_due.ensures.same honest) g.D.LogDisk.is_metered
     (λ is. let yes : c.in_ok-due.due ≡ true = (c.in_ok-due.ensures.value honest).1 is in let both : false ≡ true = sym (search rules) ∙ yes in cc both) c.in_ok-due.ensures.metered
     (c.in_ok-due.ensures.small honest (search rules))
 
 pub returns-clause-done : goal.returns-clause-done
 returns-clause-done g c honest =
-    let m : Meaning = meaning g.M.Machine.first g.M.Machine.next g.M.Machine.answer in
+    let m : Meaning = g.M.Machine.meaning in
     ready_by_rebase m c.args.node.now c.args.store.now c.is_due.new.store (c.is_due.ensures.same honest) g.D.LogDisk.is_metered c.write_base.new.node c.write_base.new.store
     ((c.in_ok-due.ensures.value honest).0 (search rules)) c.in_ok-due.ensures.metered (c.in_ok-write_base.ensures.done honest) (c.write_base.ensures.disks honest)
 
@@ -36,22 +36,22 @@ returns-clause-alive g c = record {
 
 pub returns-in_err-due-clause-disks : goal.returns-in_err-due-clause-disks
 returns-in_err-due-clause-disks g c honest =
-    let m : Meaning = meaning g.M.Machine.first g.M.Machine.next g.M.Machine.answer in
+    let m : Meaning = g.M.Machine.meaning in
     leaves_as_was m c.args.node.now c.args.store.now c.is_due.new.store (c.is_due.ensures.same honest)
 
 pub returns-then-not-due-clause-disks : goal.returns-then-not-due-clause-disks
 returns-then-not-due-clause-disks g c honest =
-    let m : Meaning = meaning g.M.Machine.first g.M.Machine.next g.M.Machine.answer in
+    let m : Meaning = g.M.Machine.meaning in
     leaves_as_was m c.args.node.now c.args.store.now c.is_due.new.store (c.is_due.ensures.same honest)
 
 pub returns-in_err-write_base-clause-disks : goal.returns-in_err-write_base-clause-disks
 returns-in_err-write_base-clause-disks g c honest =
-    let m : Meaning = meaning g.M.Machine.first g.M.Machine.next g.M.Machine.answer in
+    let m : Meaning = g.M.Machine.meaning in
     leaves_by_rebase m c.args.node.now c.args.store.now c.is_due.new.store (c.is_due.ensures.same honest) c.write_base.new.store (c.write_base.ensures.disks honest)
 
 pub returns-clause-disks : goal.returns-clause-disks
 returns-clause-disks g c honest =
-    let m : Meaning = meaning g.M.Machine.first g.M.Machine.next g.M.Machine.answer in
+    let m : Meaning = g.M.Machine.meaning in
     leaves_by_rebase m c.args.node.now c.args.store.now c.is_due.new.store (c.is_due.ensures.same honest) c.write_base.new.store (c.write_base.ensures.disks honest)
 
 -- ---- where it was refused

@@ -3,7 +3,7 @@ use Rattle.lk_log.specs.StoreValue.{disks}
 use Rattle.lk_log.specs.Stores.{Holds, MayBegin, next_base, KeepsOrIs}
 use Rattle.lk_log.specs.Values.{StandingValue}
 use Rattle.lk_log.specs.declared.stored.Stored.TheVariants.{Base}
-use Rattle.lk_state.specs.Meanings.{Meaning, meaning}
+use Rattle.lk_state.specs.Meanings.{Meaning}
 use Rattle.lk_learner.specs.Learners.{Command, IsNext}
 use Rattle.lk_node.specs.NodeValue.{NodeValue}
 use Rattle.lk_node.specs.Packing.{standing_of}
@@ -22,7 +22,7 @@ use Rattle.lk_replica.proofs.Spared.{rebase_spares, not_failed_so}
 
 pub returns-clause-done : goal.returns-clause-done
 returns-clause-done g c honest =
-    let m : Meaning = meaning g.M.Machine.first g.M.Machine.next g.M.Machine.answer in
+    let m : Meaning = g.M.Machine.meaning in
     let is : c.in_ok-standing.standing ≡ standing_of c.args.node.now = search rules in
     let fits : MayBegin c.in_ok-standing.standing = search rules in
     let may = subst MayBegin is fits in
@@ -66,7 +66,7 @@ returns-in_err-standing-clause-disks g c honest = record {
 
 pub returns-in_err-rebase-clause-disks : goal.returns-in_err-rebase-clause-disks
 returns-in_err-rebase-clause-disks g c honest =
-    let m : Meaning = meaning g.M.Machine.first g.M.Machine.next g.M.Machine.answer in
+    let m : Meaning = g.M.Machine.meaning in
     let is : c.in_ok-standing.standing ≡ standing_of c.args.node.now = search rules in
     let fits : MayBegin c.in_ok-standing.standing = search rules in
     let may = subst MayBegin is fits in
@@ -75,7 +75,7 @@ returns-in_err-rebase-clause-disks g c honest =
 
 pub returns-clause-disks : goal.returns-clause-disks
 returns-clause-disks g c honest =
-    let m : Meaning = meaning g.M.Machine.first g.M.Machine.next g.M.Machine.answer in
+    let m : Meaning = g.M.Machine.meaning in
     let is : c.in_ok-standing.standing ≡ standing_of c.args.node.now = search rules in
     let fits : MayBegin c.in_ok-standing.standing = search rules in
     let may = subst MayBegin is fits in

@@ -1,6 +1,5 @@
 use Rattle.std.proofs.Common.{◌≡◌, ◌∙◌, ◌+◌, ◌++◌, ◌∷◌, [], ℕ, ap, sym, subst, rules}
 use Rattle.lk_learner.specs.Learners.{Command, LearnerValue, IsNext, executed, keeping, advanced}
-use Rattle.lk_state.specs.Meanings.{meaning}
 use Rattle.lk_node.specs.declared.note.Note.TheVariants as note
 use Rattle.lk_replica.proofs.Rerunning.{next_kept, none_next}
 use Rattle.lk_replica.proofs.relearning.learn.Goals as goal
@@ -9,7 +8,7 @@ pub returns-clause-runs : goal.returns-clause-runs
 returns-clause-runs g c is =
     let kept : c.decided.new.self ≡ keeping c.args.pair.now c.args.learner.now = c.if-not-decided.ensures.kept (search rules) in
     c.in_ok-run_next.ensures.runs (subst (λ (l : LearnerValue). IsNext l c.args.pair.now.1) (sym kept) (next_kept c.args.pair.now c.args.learner.now is))
-    ∙ ap (advanced (meaning g.M.Machine.first g.M.Machine.next g.M.Machine.answer) c.args.pair.now.1) kept
+    ∙ ap (advanced g.M.Machine.meaning c.args.pair.now.1) kept
 
 pub returns-clause-noted : goal.returns-clause-noted
 returns-clause-noted g c is =

@@ -2,7 +2,7 @@ use Rattle.std.proofs.Common.{ℕ, ◌+◌, ◌++◌, ◌∷◌, [], List, eqb, 
 use Rattle.std.proofs.lemmas.Bool.{cases_Bool, eqb-true, eqb-false}
 use Rattle.lk_learner.specs.Learners.{Pair, LearnerValue, executed, keeping, advanced}
 use Rattle.lk_node.specs.declared.note.Note.{Note}
-use Rattle.lk_state.specs.Meanings.{Meaning, meaning}
+use Rattle.lk_state.specs.Meanings.{Meaning}
 use Rattle.lk_state.specs.States.{WholeValue}
 use Rattle.lk_replica.proofs.Rerunning.{Comes, comes_kept, comes_run, comes_reached, comes_noted, comes_to, comes_near, comes_far, drop_next}
 use Rattle.lk_replica.proofs.relearning.relearn.Goals as goal
@@ -13,7 +13,7 @@ ended {m} {node} {w} {pairs} {l} {notes} ps k le = subst (λ (rest : List Pair).
 
 pub pairs-preserved : goal.pairs-preserved
 pairs-preserved g c =
-    let m : Meaning = meaning g.M.Machine.first g.M.Machine.next g.M.Machine.answer in
+    let m : Meaning = g.M.Machine.meaning in
     let l : LearnerValue = c.pairs.learner in
     let p : Pair = c.pair-item.result in
     let rest : List Pair = drop (c.pairs.pair-index + 1) c.args.pairs.now in
@@ -38,7 +38,7 @@ pairs-preserved g c =
 
 pub returns-in_err-learn-clause-damaged : goal.returns-in_err-learn-clause-damaged
 returns-in_err-learn-clause-damaged g c is all =
-    let m : Meaning = meaning g.M.Machine.first g.M.Machine.next g.M.Machine.answer in
+    let m : Meaning = g.M.Machine.meaning in
     let l : LearnerValue = c.pairs.learner in
     let p : Pair = c.pair-item.result in
     let rest : List Pair = drop (c.pairs.pair-index + 1) c.args.pairs.now in

@@ -6,7 +6,7 @@ use Rattle.lk_replica.proofs.Calling.{refused_by}
 use Rattle.lk_disk.specs.Meters.{Passes, start}
 use Rattle.lk_log.proofs.Room.{within_same}
 use Rattle.lk_log.specs.StoreValue.{disks}
-use Rattle.lk_state.specs.Meanings.{Meaning, meaning}
+use Rattle.lk_state.specs.Meanings.{Meaning}
 use Rattle.lk_replica.specs.Compacting.{renew_calls}
 use Rattle.lk_replica.specs.Faults.{fault_number}
 use Rattle.lk_replica.specs.Renewals.{IsNotRenewed}
@@ -47,7 +47,7 @@ returns-then-format-eq2-clause-metered g c metered honest =
 
 pub returns-clause-renewed : goal.returns-clause-renewed
 returns-clause-renewed g c honest =
-    let m : Meaning = meaning g.M.Machine.first g.M.Machine.next g.M.Machine.answer in
+    let m : Meaning = g.M.Machine.meaning in
     let done = c.in_ok-write_base.ensures.done honest in
     record {
       renews = record { rebases = λ one. done.rebases; rests = λ is. absurd (omega (arith, is, c.if-format-eq2.false, c.format.ensures)) };

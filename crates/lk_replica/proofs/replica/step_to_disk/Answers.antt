@@ -3,7 +3,7 @@ use Rattle.lk_types.specs.declared.entry.Entry.{Entry}
 use Rattle.lk_log.specs.StoreValue.{disks}
 use Rattle.lk_log.specs.Stores.{plain, Holds, KeepsAtLeast}
 use Rattle.lk_log.proofs.Room.{within_same, behind_room, refused_room}
-use Rattle.lk_state.specs.Meanings.{Meaning, meaning}
+use Rattle.lk_state.specs.Meanings.{Meaning}
 use Rattle.lk_node.specs.Calls.{Goes}
 use Rattle.lk_node.specs.Keeping.{Stands}
 use Rattle.lk_node.specs.Letters.{batch_of}
@@ -79,7 +79,7 @@ returns-clause-alive g c =
 
 pub returns-then-outbox-clause-goes : goal.returns-then-outbox-clause-goes
 returns-then-outbox-clause-goes g c honest h n f heard sent among =
-    let m : Meaning = meaning g.M.Machine.first g.M.Machine.next g.M.Machine.answer in
+    let m : Meaning = g.M.Machine.meaning in
     let is : c.in_ok-outbox.outbox.rebase ≡ true = sym (ap (λ (o : OutboxValue). o.rebase) c.outbox.view_is) ∙ c.if-outbox.true in
     let base = c.in_ok-write_base.ensures.becomes in
     let holds = (c.in_ok-write_base.ensures.done honest).rebases.writes f.shown.keeps.entries (plain f.shown.keeps.loose) f.shown.keeps.holds in

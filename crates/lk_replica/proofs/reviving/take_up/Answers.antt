@@ -6,7 +6,7 @@ use Rattle.lk_log.specs.Images.{seen}
 use Rattle.lk_log.specs.StoreValue.{disks}
 use Rattle.lk_log.specs.Stores.{Opens}
 use Rattle.lk_log.specs.Values.{HeaderValue}
-use Rattle.lk_state.specs.Meanings.{Meaning, meaning, KeepsTexts}
+use Rattle.lk_state.specs.Meanings.{Meaning, KeepsTexts}
 use Rattle.lk_replica.specs.Faults.{fault_number}
 use Rattle.lk_replica.specs.declared.fault.ReplicaFault.{ReplicaFault}
 use Rattle.lk_node.specs.Histories.{Genesis}
@@ -22,7 +22,7 @@ use Rattle.lk_replica.proofs.Spared.{given_narrow, damage_only, failed_only, not
 
 pub returns-in-Ok-restored-clause-fits : goal.returns-in-Ok-restored-clause-fits
 returns-in-Ok-restored-clause-fits g c honest h n is lawful before =
-    let m : Meaning = meaning g.M.Machine.first g.M.Machine.next g.M.Machine.answer in
+    let m : Meaning = g.M.Machine.meaning in
     let keeps : KeepsTexts g.M.Machine.IsText m = record { first = g.met.M.Machine.first_is_text; next = g.met.M.Machine.next_is_text; answer = g.met.M.Machine.answer_is_answer } in
     let same = began c.genesis-2.result.now h.genesis c.args.header.now n c.genesis-2.ensures.cluster c.genesis-2.ensures.alpha c.genesis-2.ensures.members is in
     let fits = subst IsGenesis (began c.genesis.result.now h.genesis c.args.header.now n c.genesis.ensures.cluster c.genesis.ensures.alpha c.genesis.ensures.members is) c.facts.ensures in
@@ -35,14 +35,14 @@ returns-in-Ok-restored-clause-fits g c honest h n is lawful before =
 
 pub returns-in-Ok-restored-clause-covers : goal.returns-in-Ok-restored-clause-covers
 returns-in-Ok-restored-clause-covers g c honest genesis n x is every =
-    let m : Meaning = meaning g.M.Machine.first g.M.Machine.next g.M.Machine.answer in
+    let m : Meaning = g.M.Machine.meaning in
     let same = began c.genesis-2.result.now genesis c.args.header.now n c.genesis-2.ensures.cluster c.genesis-2.ensures.alpha c.genesis-2.ensures.members is in
     let begins : c.as_slice.result.now ≡ text m genesis [] = c.as_slice.ensures ∙ c.in-Ok.ensures.text ∙ ap (λ (k : Genesis). text m k []) same in
     opening_covers_as m genesis n c.args.header.now c.as_slice.result.now is begins (g.D.LogDisk.disk c.args.device) (disks c.in-Ok-reopen.store) x (c.in-Ok-reopen.ensures.stays honest) every
 
 pub returns-in-Ok-restored-clause-exact : goal.returns-in-Ok-restored-clause-exact
 returns-in-Ok-restored-clause-exact g c honest =
-    let m : Meaning = meaning g.M.Machine.first g.M.Machine.next g.M.Machine.answer in
+    let m : Meaning = g.M.Machine.meaning in
     let own = own_header c.genesis-2.result.now c.args.header.now c.genesis-2.ensures.cluster c.genesis-2.ensures.alpha c.genesis-2.ensures.members in
     let begins : c.as_slice.result.now ≡ text m c.genesis-2.result.now [] = c.as_slice.ensures ∙ c.in-Ok.ensures.text in
     record {
@@ -55,7 +55,7 @@ returns-in-Ok-restored-clause-exact g c honest =
 
 pub returns-in-Ok-reopen-clause-fits : goal.returns-in-Ok-reopen-clause-fits
 returns-in-Ok-reopen-clause-fits g c honest h n is lawful before =
-    let m : Meaning = meaning g.M.Machine.first g.M.Machine.next g.M.Machine.answer in
+    let m : Meaning = g.M.Machine.meaning in
     let same = began c.genesis-2.result.now h.genesis c.args.header.now n c.genesis-2.ensures.cluster c.genesis-2.ensures.alpha c.genesis-2.ensures.members is in
     let begins : c.as_slice.result.now ≡ text m h.genesis [] = c.as_slice.ensures ∙ c.in-Ok.ensures.text ∙ ap (λ (k : Genesis). text m k []) same in
     let after : DisksFit m h n (disks c.in-Ok-reopen.store) =
@@ -64,7 +64,7 @@ returns-in-Ok-reopen-clause-fits g c honest h n is lawful before =
 
 pub returns-in-Ok-reopen-clause-covers : goal.returns-in-Ok-reopen-clause-covers
 returns-in-Ok-reopen-clause-covers g c honest genesis n x is every =
-    let m : Meaning = meaning g.M.Machine.first g.M.Machine.next g.M.Machine.answer in
+    let m : Meaning = g.M.Machine.meaning in
     let same = began c.genesis-2.result.now genesis c.args.header.now n c.genesis-2.ensures.cluster c.genesis-2.ensures.alpha c.genesis-2.ensures.members is in
     let begins : c.as_slice.result.now ≡ text m genesis [] = c.as_slice.ensures ∙ c.in-Ok.ensures.text ∙ ap (λ (k : Genesis). text m k []) same in
     let after : AllCover m genesis n (disks c.in-Ok-reopen.store) x =
@@ -73,14 +73,14 @@ returns-in-Ok-reopen-clause-covers g c honest genesis n x is every =
 
 pub returns-clause-fits : goal.returns-clause-fits
 returns-clause-fits g c honest h n is lawful before =
-    let m : Meaning = meaning g.M.Machine.first g.M.Machine.next g.M.Machine.answer in
+    let m : Meaning = g.M.Machine.meaning in
     let same = began c.genesis-2.result.now h.genesis c.args.header.now n c.genesis-2.ensures.cluster c.genesis-2.ensures.alpha c.genesis-2.ensures.members is in
     let begins : c.as_slice.result.now ≡ text m h.genesis [] = c.as_slice.ensures ∙ c.in-Ok.ensures.text ∙ ap (λ (k : Genesis). text m k []) same in
     opening_fits_as m h n c.args.header.now c.as_slice.result.now is begins (g.D.LogDisk.disk c.args.device) (g.D.LogDisk.disk c.in-Err.e.device) (c.in-Err.ensures.stays honest) before
 
 pub returns-clause-covers : goal.returns-clause-covers
 returns-clause-covers g c honest genesis n x is every =
-    let m : Meaning = meaning g.M.Machine.first g.M.Machine.next g.M.Machine.answer in
+    let m : Meaning = g.M.Machine.meaning in
     let same = began c.genesis-2.result.now genesis c.args.header.now n c.genesis-2.ensures.cluster c.genesis-2.ensures.alpha c.genesis-2.ensures.members is in
     let begins : c.as_slice.result.now ≡ text m genesis [] = c.as_slice.ensures ∙ c.in-Ok.ensures.text ∙ ap (λ (k : Genesis). text m k []) same in
     opening_covers_as m genesis n c.args.header.now c.as_slice.result.now is begins (g.D.LogDisk.disk c.args.device) (g.D.LogDisk.disk c.in-Err.e.device) x (c.in-Err.ensures.stays honest) every
@@ -112,7 +112,7 @@ returns-in_default-clause-stays_err g c honest genesis is image left = inl (imag
 
 pub returns-in-Ok-reopen-clause-stays_err : goal.returns-in-Ok-reopen-clause-stays_err
 returns-in-Ok-reopen-clause-stays_err g c honest genesis is =
-    let m : Meaning = meaning g.M.Machine.first g.M.Machine.next g.M.Machine.answer in
+    let m : Meaning = g.M.Machine.meaning in
     let same = began c.genesis-2.result.now genesis c.args.header.now c.args.header.now.node c.genesis-2.ensures.cluster c.genesis-2.ensures.alpha c.genesis-2.ensures.members is in
     let begins : c.as_slice.result.now ≡ text m genesis [] = c.as_slice.ensures ∙ c.in-Ok.ensures.text ∙ ap (λ (k : Genesis). text m k []) same in
     given_narrow (g.D.LogDisk.disk c.args.device) c.args.header.now (text m genesis []) c.in-Ok-reopen.store (g.D.LogDisk.disk c.into_disks.result) c.into_disks.ensures.live_disk c.into_disks.ensures.other_disk
@@ -120,7 +120,7 @@ returns-in-Ok-reopen-clause-stays_err g c honest genesis is =
 
 pub returns-clause-stays_err : goal.returns-clause-stays_err
 returns-clause-stays_err g c honest genesis is =
-    let m : Meaning = meaning g.M.Machine.first g.M.Machine.next g.M.Machine.answer in
+    let m : Meaning = g.M.Machine.meaning in
     let same = began c.genesis-2.result.now genesis c.args.header.now c.args.header.now.node c.genesis-2.ensures.cluster c.genesis-2.ensures.alpha c.genesis-2.ensures.members is in
     let begins : c.as_slice.result.now ≡ text m genesis [] = c.as_slice.ensures ∙ c.in-Ok.ensures.text ∙ ap (λ (k : Genesis). text m k []) same in
     subst (λ (t : List ℕ). NarrowsOrBegins (g.D.LogDisk.disk c.args.device) (g.D.LogDisk.disk c.in-Err.e.device) c.args.header.now t) begins (c.in-Err.ensures.stays honest)
@@ -129,7 +129,7 @@ returns-clause-stays_err g c honest genesis is =
 
 pub returns-in-Ok-restored-clause-remembers : goal.returns-in-Ok-restored-clause-remembers
 returns-in-Ok-restored-clause-remembers g c honest genesis n is =
-    let m : Meaning = meaning g.M.Machine.first g.M.Machine.next g.M.Machine.answer in
+    let m : Meaning = g.M.Machine.meaning in
     let same = began c.genesis-2.result.now genesis c.args.header.now n c.genesis-2.ensures.cluster c.genesis-2.ensures.alpha c.genesis-2.ensures.members is in
     let begins : c.as_slice.result.now ≡ text m genesis [] = c.as_slice.ensures ∙ c.in-Ok.ensures.text ∙ ap (λ (k : Genesis). text m k []) same in
     let old = g.D.LogDisk.disk c.args.device in
@@ -160,7 +160,7 @@ returns-in_default-clause-refused g c honest = record {
 
 pub returns-in-Ok-reopen-clause-refused : goal.returns-in-Ok-reopen-clause-refused
 returns-in-Ok-reopen-clause-refused g c honest =
-    let m : Meaning = meaning g.M.Machine.first g.M.Machine.next g.M.Machine.answer in
+    let m : Meaning = g.M.Machine.meaning in
     let begins : c.as_slice.result.now ≡ text m c.genesis-2.result.now [] = c.as_slice.ensures ∙ c.in-Ok.ensures.text in
     let k = c.in-Ok-reopen.ensures.ok honest in
     let o : Opens (seen (g.D.LogDisk.disk c.args.device)) c.args.header.now (text m c.genesis-2.result.now []) c.in-Ok-reopen.store c.in-Ok-reopen.standing =

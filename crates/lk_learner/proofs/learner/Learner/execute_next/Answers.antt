@@ -2,7 +2,7 @@
 use Rattle.std.proofs.Common.{◌≡◌, ◌∙◌, ℕ, ◌+◌, Some, None, List, [], ◌∷◌, ◌++◌, get_or, Contains, ap, sym, subst}
 use Rattle.std.specs.Prelude.{slice_get}
 use Rattle.lk_members.specs.Counting.{counted}
-use Rattle.lk_state.specs.Meanings.{Meaning, meaning}
+use Rattle.lk_state.specs.Meanings.{Meaning}
 use Rattle.lk_state.specs.States.{reply_of}
 use Rattle.lk_state.specs.Runs.{ran, run_answer}
 use Rattle.lk_learner.specs.Pairs.{without}
@@ -22,7 +22,7 @@ returns-clause-none g c = λ none. let n = c.is_next_kept.ensures.next.0 c.if-no
 
 pub returns-clause-ran : goal.returns-clause-ran
 returns-clause-ran g c = λ v h.
-    let m : Meaning = meaning g.M.Machine.first g.M.Machine.next g.M.Machine.answer in
+    let m : Meaning = g.M.Machine.meaning in
     let e : ℕ = c.self.inside.whole.roster.executed in
     let ps : List Pair = c.self.inside.pairs.items in
     let kept : Contains ps (e + 1, v) = subst (λ (x : LearnerValue). IsNext x v) (sym c.self.view_is) h in
@@ -36,7 +36,7 @@ returns-clause-ran g c = λ v h.
 
 pub returns-clause-next : goal.returns-clause-next
 returns-clause-next g c = λ v h.
-    let m : Meaning = meaning g.M.Machine.first g.M.Machine.next g.M.Machine.answer in
+    let m : Meaning = g.M.Machine.meaning in
     let e : ℕ = c.self.inside.whole.roster.executed in
     let ps : List Pair = c.self.inside.pairs.items in
     let kept : Contains ps (e + 1, v) = subst (λ (x : LearnerValue). IsNext x v) (sym c.self.view_is) h in
@@ -57,7 +57,7 @@ invariant_of-self-2 g c =
     let n = c.is_next_kept.ensures.next.0 c.if-not-is_next_kept.false in
     let v : Command = n.0 in
     let h : IsNext c.args.self.now v = n.1 in
-    let m : Meaning = meaning g.M.Machine.first g.M.Machine.next g.M.Machine.answer in
+    let m : Meaning = g.M.Machine.meaning in
     let e : ℕ = c.self.inside.whole.roster.executed in
     let ps : List Pair = c.self.inside.pairs.items in
     let kept : Contains ps (e + 1, v) = subst (λ (x : LearnerValue). IsNext x v) (sym c.self.view_is) h in
@@ -76,7 +76,7 @@ invariant_of-self-2 g c =
 
 pub returns-clause-reply : goal.returns-clause-reply
 returns-clause-reply g c = λ genesis L v sums h.
-    let m : Meaning = meaning g.M.Machine.first g.M.Machine.next g.M.Machine.answer in
+    let m : Meaning = g.M.Machine.meaning in
     let e : ℕ = c.self.inside.whole.roster.executed in
     let ps : List Pair = c.self.inside.pairs.items in
     let kept : Contains ps (e + 1, v) = subst (λ (x : LearnerValue). IsNext x v) (sym c.self.view_is) h in

@@ -1,5 +1,5 @@
 use Rattle.std.proofs.Common.{◌≡◌, ◌∙◌, ap, sym, subst}
-use Rattle.lk_state.specs.Meanings.{Meaning, meaning}
+use Rattle.lk_state.specs.Meanings.{Meaning}
 use Rattle.lk_history.specs.Chosen.{Command, ChosenAt}
 use Rattle.lk_node.specs.Learning.{Learns}
 use Rattle.lk_node.specs.Outboxes.{OutboxValue, with_note}
@@ -10,7 +10,7 @@ use Rattle.lk_node.proofs.node.Node.count.Goals as goal
 
 pub returns-clause-goes_on : goal.returns-clause-goes_on
 returns-clause-goes_on g c = λ at.
-    let m : Meaning = meaning g.M.Machine.first g.M.Machine.next g.M.Machine.answer in
+    let m : Meaning = g.M.Machine.meaning in
     let noted : c.note.new.self ≡ with_note (note.Counted c.node.result c.args.position c.args.members c.args.command.now) c.args.out.now =
     c.in_ok-note.ensures ∙ ap (λ (v : Command). with_note (note.Counted c.node.result c.args.position c.args.members v) c.args.out.now) c.copy.ensures in
     subst (λ (o : OutboxValue). GoesOn m (λ h. ChosenAt h.genesis h.sent c.args.position c.args.command.now) c.args.self.now c.execute.new.self c.args.out.now o) (sym c.in_ok-post.ensures)

@@ -1,6 +1,6 @@
 use Rattle.std.proofs.Common.{sym, subst}
 use Rattle.lk_wire.specs.declared.message.NodeMessage.TheVariants as kinds
-use Rattle.lk_state.specs.Meanings.{Meaning, meaning}
+use Rattle.lk_state.specs.Meanings.{Meaning}
 use Rattle.lk_history.specs.Chosen.{ChosenAt}
 use Rattle.lk_history.specs.Datagrams.{HasSent}
 use Rattle.lk_node.specs.Counting.{Counts}
@@ -11,19 +11,19 @@ use Rattle.lk_node.proofs.node.Node.hear_accepted.Goals as goal
 
 pub returns-in_default-clause-goes_on : goal.returns-in_default-clause-goes_on
 returns-in_default-clause-goes_on g c =
-    let m : Meaning = meaning g.M.Machine.first g.M.Machine.next g.M.Machine.answer in
+    let m : Meaning = g.M.Machine.meaning in
     subst (λ (o : OutboxValue). GoesOn m (λ h. HasSent h.genesis h.sent c.args.from (kinds.Accepted c.args.vote.now)) c.args.self.now c.hear_vote.new.self nothing o) (sym c.new-out.ensures)
     (only_heard_goes_on m c.args.from c.args.vote.now c.args.self.now c.hear_vote.new.self nothing c.in_default.ensures)
 
 pub returns-clause-exact : goal.returns-clause-exact
 returns-clause-exact g c =
-    let m : Meaning = meaning g.M.Machine.first g.M.Machine.next g.M.Machine.answer in
+    let m : Meaning = g.M.Machine.meaning in
     hears_accepted m c.args.from c.args.vote.now c.args.self.now c.hear_vote.new.self c.count.new.self c.in-Some.members c.count.new.out c.in-Some.ensures
     (subst (λ (o : OutboxValue). Counts m c.in-Some.members (c.args.vote.now.position, c.args.vote.now.command) c.hear_vote.new.self o c.count.new.self c.count.new.out) c.new-out.ensures c.in_ok-count.ensures.exact)
 
 pub returns-clause-goes_on : goal.returns-clause-goes_on
 returns-clause-goes_on g c =
-    let m : Meaning = meaning g.M.Machine.first g.M.Machine.next g.M.Machine.answer in
+    let m : Meaning = g.M.Machine.meaning in
     accepted_goes_on m c.args.from c.args.vote.now c.args.self.now c.hear_vote.new.self c.count.new.self c.in-Some.members nothing c.count.new.out c.in-Some.ensures
     (subst (λ (o : OutboxValue). GoesOn m (λ h. ChosenAt h.genesis h.sent c.args.vote.now.position c.args.vote.now.command) c.hear_vote.new.self c.count.new.self o c.count.new.out) c.new-out.ensures
     (c.in_ok-count.ensures.goes_on (are_members c.args.from c.args.vote.now c.args.self.now c.hear_vote.new.self c.in-Some.members c.in-Some.ensures)))

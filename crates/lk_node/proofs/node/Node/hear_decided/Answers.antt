@@ -1,7 +1,7 @@
 use Rattle.std.proofs.Common.{◌≡◌, ◌∙◌, ℕ, ◌+◌, List, length, refl, ap, sym, subst, arith}
 use Rattle.lk_types.specs.declared.command.Command.{Command}
 use Rattle.lk_wire.specs.declared.message.NodeMessage.TheVariants as kinds
-use Rattle.lk_state.specs.Meanings.{Meaning, meaning}
+use Rattle.lk_state.specs.Meanings.{Meaning}
 use Rattle.lk_history.specs.Datagrams.{HasSent}
 use Rattle.lk_node.specs.DecidedPairs.{TakesPairs, none_yet}
 use Rattle.lk_node.specs.Outboxes.{OutboxValue, nothing}
@@ -12,7 +12,7 @@ use Rattle.lk_node.proofs.node.Node.hear_decided.Goals as goal
 
 pub pairs-init : goal.pairs-init
 pairs-init g c =
-    let m : Meaning = meaning g.M.Machine.first g.M.Machine.next g.M.Machine.answer in (
+    let m : Meaning = g.M.Machine.meaning in (
       subst (λ (o : OutboxValue). TakesPairs m c.args.decided.now.first c.args.decided.now.commands c.args.self.now nothing 0 c.args.self.now o) (sym c.new-out.ensures) none_yet,
       λ from. subst (λ (o : OutboxValue). GoesOn m (λ h. HasSent h.genesis h.sent from (kinds.Decided c.args.decided.now)) c.args.self.now c.args.self.now nothing o) (sym c.new-out.ensures) (rests_here m _ c.args.self.now nothing),
       c.copy-rest.ensures ∙ c.commands.ensures,

@@ -1,6 +1,5 @@
 use Rattle.std.proofs.Common.{◌≡◌, ℕ, drop}
 use Rattle.lk_wire.specs.declared.message.NodeMessage.TheVariants as kinds
-use Rattle.lk_state.specs.Meanings.{meaning}
 use Rattle.lk_history.specs.Datagrams.{HasSent}
 use Rattle.lk_node.specs.DecidedPairs.{TakesPairs}
 use Rattle.lk_node.specs.Outboxes.{nothing}
@@ -9,6 +8,6 @@ use Rattle.lk_node.proofs.node.Node.hear_decided.Given as goal
 
 abbrev pub invariant-pairs : goal.invariant-pairs
 invariant-pairs g l =
-    TakesPairs (meaning g.M.Machine.first g.M.Machine.next g.M.Machine.answer) l.decided.first l.decided.commands l.fn.self nothing l.index l.self l.out
-    × ((from : ℕ) → GoesOn (meaning g.M.Machine.first g.M.Machine.next g.M.Machine.answer) (λ h. HasSent h.genesis h.sent from (kinds.Decided l.decided)) l.fn.self l.self nothing l.out)
+    TakesPairs g.M.Machine.meaning l.decided.first l.decided.commands l.fn.self nothing l.index l.self l.out
+    × ((from : ℕ) → GoesOn g.M.Machine.meaning (λ h. HasSent h.genesis h.sent from (kinds.Decided l.decided)) l.fn.self l.self nothing l.out)
     × (l.rest ≡ drop l.index l.decided.commands)

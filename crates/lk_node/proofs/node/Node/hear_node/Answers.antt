@@ -3,7 +3,7 @@ use Rattle.std.specs.Prelude.{IfOk}
 use Rattle.lk_wire.specs.Shown.{shown_node}
 use Rattle.lk_wire.specs.declared.viewing.message.NodeMessageRef.{NodeMessageRef}
 use Rattle.lk_history.specs.Datagrams.{HasSent}
-use Rattle.lk_state.specs.Meanings.{Meaning, meaning}
+use Rattle.lk_state.specs.Meanings.{Meaning}
 use Rattle.lk_types.specs.declared.vote.Vote.{Vote}
 use Rattle.lk_node.specs.Counting.{HearsAccepted}
 use Rattle.lk_node.specs.Outboxes.{nothing}
@@ -13,17 +13,17 @@ use Rattle.lk_node.proofs.node.Node.hear_node.Goals as goal
 
 pub returns-in-Decided-clause-goes_on : goal.returns-in-Decided-clause-goes_on
 returns-in-Decided-clause-goes_on g c =
-    subst (λ (x : NodeMessageRef). IfOk c.hear_decided.result (λ o. GoesOn (meaning g.M.Machine.first g.M.Machine.next g.M.Machine.answer) (λ h. HasSent h.genesis h.sent c.args.from (shown_node x)) c.args.self.now c.hear_decided.new.self nothing o))
+    subst (λ (x : NodeMessageRef). IfOk c.hear_decided.result (λ o. GoesOn g.M.Machine.meaning (λ h. HasSent h.genesis h.sent c.args.from (shown_node x)) c.args.self.now c.hear_decided.new.self nothing o))
     (sym c.in-Decided.is) (c.hear_decided.ensures.goes_on c.args.from)
 
 pub returns-in-Part-clause-goes_on : goal.returns-in-Part-clause-goes_on
 returns-in-Part-clause-goes_on g c =
-    subst (λ (x : NodeMessageRef). IfOk c.hear_part.result (λ o. GoesOn (meaning g.M.Machine.first g.M.Machine.next g.M.Machine.answer) (λ h. HasSent h.genesis h.sent c.args.from (shown_node x)) c.args.self.now c.hear_part.new.self nothing o))
+    subst (λ (x : NodeMessageRef). IfOk c.hear_part.result (λ o. GoesOn g.M.Machine.meaning (λ h. HasSent h.genesis h.sent c.args.from (shown_node x)) c.args.self.now c.hear_part.new.self nothing o))
     (sym c.in-Part.is) (c.hear_part.ensures.goes_on c.args.from)
 
 pub returns-in-Accepted-clause-exact : goal.returns-in-Accepted-clause-exact
 returns-in-Accepted-clause-exact g c =
-    let m : Meaning = meaning g.M.Machine.first g.M.Machine.next g.M.Machine.answer in
+    let m : Meaning = g.M.Machine.meaning in
     let vote : Vote = c.in-Accepted.vote in
     let heard : IfOk c.hear_accepted.result (λ o. HearsAccepted m c.args.from vote c.args.self.now c.hear_accepted.new.self o) =
     subst (λ (v : Vote). IfOk c.hear_accepted.result (λ o. HearsAccepted m c.args.from v c.args.self.now c.hear_accepted.new.self o)) c.vote-in-Accepted.ensures.value c.hear_accepted.ensures.exact in

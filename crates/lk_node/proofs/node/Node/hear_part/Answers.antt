@@ -1,7 +1,7 @@
 use Rattle.std.proofs.Common.{◌∙◌, ap, sym, subst}
 use Rattle.lk_wire.specs.declared.message.NodeMessage.TheVariants as kinds
 use Rattle.lk_history.specs.Datagrams.{HasSent}
-use Rattle.lk_state.specs.Meanings.{Meaning, meaning, KeepsTexts}
+use Rattle.lk_state.specs.Meanings.{Meaning, KeepsTexts}
 use Rattle.lk_node.specs.Histories.{History}
 use Rattle.lk_node.specs.NodeValue.{NodeValue}
 use Rattle.lk_node.specs.Outboxes.{OutboxValue, nothing}
@@ -13,7 +13,7 @@ use Rattle.lk_node.proofs.node.Node.hear_part.Goals as goal
 
 pub returns-then-not-branch-clause-goes_on : goal.returns-then-not-branch-clause-goes_on
 returns-then-not-branch-clause-goes_on g c = λ from.
-    let m : Meaning = meaning g.M.Machine.first g.M.Machine.next g.M.Machine.answer in
+    let m : Meaning = g.M.Machine.meaning in
     let keeps : KeepsTexts g.M.Machine.IsText m = record { first = g.met.M.Machine.first_is_text; next = g.met.M.Machine.next_is_text; answer = g.met.M.Machine.answer_is_answer } in
     let began : BeganWell c.args.self.now = (λ k n is. began_well c.genesis.result.now k c.self.inside.header n c.genesis.ensures.cluster c.genesis.ensures.alpha c.genesis.ensures.members
     c.facts.ensures (ap (λ (node : NodeValue). node.header) c.self.view_is ∙ is)) in
@@ -22,7 +22,7 @@ returns-then-not-branch-clause-goes_on g c = λ from.
 
 pub returns-clause-goes_on : goal.returns-clause-goes_on
 returns-clause-goes_on g c = λ from.
-    let m : Meaning = meaning g.M.Machine.first g.M.Machine.next g.M.Machine.answer in
+    let m : Meaning = g.M.Machine.meaning in
     let keeps : KeepsTexts g.M.Machine.IsText m = record { first = g.met.M.Machine.first_is_text; next = g.met.M.Machine.next_is_text; answer = g.met.M.Machine.answer_is_answer } in
     let began : BeganWell c.args.self.now = (λ k n is. began_well c.genesis.result.now k c.self.inside.header n c.genesis.ensures.cluster c.genesis.ensures.alpha c.genesis.ensures.members
     c.facts.ensures (ap (λ (node : NodeValue). node.header) c.self.view_is ∙ is)) in

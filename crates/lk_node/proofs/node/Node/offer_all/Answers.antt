@@ -1,6 +1,6 @@
 use Rattle.std.proofs.Common.{◌≡◌, ◌∙◌, ℕ, ◌+◌, ◌≤◌, inl, inr, refl, sym, ap, subst, arith}
 use Rattle.lk_types.specs.Limits.{max_count}
-use Rattle.lk_state.specs.Meanings.{Meaning, meaning}
+use Rattle.lk_state.specs.Meanings.{Meaning}
 use Rattle.lk_state.specs.States.{WholeValue}
 use Rattle.lk_learner.specs.Learners.{executed}
 use Rattle.lk_node.specs.NodeValue.{NodeValue}
@@ -16,7 +16,7 @@ ahead-init g c = (none_yet, rests_here _ _ c.args.self.now c.args.out.now)
 
 pub ahead-preserved : goal.ahead-preserved
 ahead-preserved g c =
-    let m : Meaning = meaning g.M.Machine.first g.M.Machine.next g.M.Machine.answer in
+    let m : Meaning = g.M.Machine.meaning in
     let So : OutboxValue → Type 0 = λ o. OffersFirst c.args.self.now c.args.ballot c.args.out.now (c.ahead.ahead + 1) o × GoesOn m (λ h. Unit {0}) c.args.self.now c.args.self.now c.args.out.now o in
     let next : c.get-next.result ≡ executed c.args.self.now.learner =
     c.get-next.ensures.value ∙ c.executed.ensures ∙ ap (λ (w : WholeValue). w.roster.executed) c.whole.ensures ∙ ap (λ (k : NodeValue). executed k.learner) c.self.view_is in

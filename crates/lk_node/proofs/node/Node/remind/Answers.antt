@@ -1,5 +1,5 @@
 use Rattle.std.proofs.Common.{subst}
-use Rattle.lk_state.specs.Meanings.{Meaning, meaning}
+use Rattle.lk_state.specs.Meanings.{Meaning}
 use Rattle.lk_node.specs.Histories.{History}
 use Rattle.lk_node.specs.Outboxes.{OutboxValue, nothing}
 use Rattle.lk_node.specs.Serving.{GoesOn}
@@ -8,7 +8,7 @@ use Rattle.lk_node.proofs.node.Node.remind.Goals as goal
 
 pub returns-clause-goes_on : goal.returns-clause-goes_on
 returns-clause-goes_on g c =
-    let m : Meaning = meaning g.M.Machine.first g.M.Machine.next g.M.Machine.answer in
+    let m : Meaning = g.M.Machine.meaning in
     let Any : History → Type 0 = λ h. Unit {0} in
     then_goes_on m Any c.args.self.now c.propose.new.self c.propose.new.self nothing c.propose.new.out c.tell_lead.new.out
     (then_goes_on m Any c.args.self.now c.args.self.now c.propose.new.self nothing c.offer_all.new.out c.propose.new.out

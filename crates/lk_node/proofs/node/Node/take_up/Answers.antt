@@ -1,5 +1,5 @@
 use Rattle.std.proofs.Common.{◌∙◌, ap, subst}
-use Rattle.lk_state.specs.Meanings.{Meaning, meaning}
+use Rattle.lk_state.specs.Meanings.{Meaning}
 use Rattle.lk_state.specs.Sessions.{AreSessions}
 use Rattle.lk_state.specs.States.{WholeValue}
 use Rattle.lk_node.specs.Installing.{SettlesAll}
@@ -11,7 +11,7 @@ use Rattle.lk_node.proofs.node.Node.take_up.Goals as goal
 
 pub returns-clause-goes_on : goal.returns-clause-goes_on
 returns-clause-goes_on g c =
-    let m : Meaning = meaning g.M.Machine.first g.M.Machine.next g.M.Machine.answer in
+    let m : Meaning = g.M.Machine.meaning in
     let are : AreSessions c.args.self.now.learner.whole.sessions =
     subst (λ (node : NodeValue). AreSessions node.learner.whole.sessions) c.self.view_is (subst (λ (w : WholeValue). AreSessions w.sessions) c.whole.ensures c.facts.ensures.fits.sessions) in
     takes_up_goes_on m (λ h. Unit {0}) c.args.self.now c.settle_sessions.new.self c.execute.new.self c.settle_sessions.new.out c.execute.new.out are

@@ -3,7 +3,7 @@ use Rattle.lk_log.specs.Rooms.{StaysWithin}
 use Rattle.lk_log.specs.StoreValue.{disks, device_of}
 use Rattle.lk_disk.specs.Memory.{disk_of}
 use Rattle.lk_learner.specs.Learners.{executed}
-use Rattle.lk_state.specs.Meanings.{Meaning, meaning}
+use Rattle.lk_state.specs.Meanings.{Meaning}
 use Rattle.lk_node.specs.Calls.{NodeFits, Goes}
 use Rattle.lk_node.specs.Keeping.{Stands}
 use Rattle.lk_node.specs.Leavings.{DisksFit, AllCover}
@@ -20,7 +20,7 @@ on_ok P Q (Err e) f p = tt
 
 pub returns-clause-goes : goal.returns-clause-goes
 returns-clause-goes g c h n fits =
-    let m : Meaning = meaning g.M.Machine.first g.M.Machine.next g.M.Machine.answer in
+    let m : Meaning = g.M.Machine.meaning in
     let own = c.args.self.now in
     on_ok _ _ c.compact.result
     (λ done. on_device (λ d. Goes m h n (Stands m c.compact.new.self.node c.compact.new.self.store h.genesis n) d [] []) c.compact.new.self.store
@@ -29,20 +29,20 @@ returns-clause-goes g c h n fits =
 
 pub returns-clause-ends : goal.returns-clause-ends
 returns-clause-ends g c h n fits =
-    let m : Meaning = meaning g.M.Machine.first g.M.Machine.next g.M.Machine.answer in
+    let m : Meaning = g.M.Machine.meaning in
     let own = c.args.self.now in
     on_device (DisksFit m h n) c.compact.new.self.store
     ((c.compact.ensures.disks tt).ends h n (off_device (λ d. NodeFits m h n (Stands m own.node own.store h.genesis n) d) own.store fits) tt)
 
 pub returns-clause-covers : goal.returns-clause-covers
 returns-clause-covers g c genesis n held x shown every =
-    let m : Meaning = meaning g.M.Machine.first g.M.Machine.next g.M.Machine.answer in
+    let m : Meaning = g.M.Machine.meaning in
     on_device (λ d. AllCover m genesis n d x) c.compact.new.self.store
     ((c.compact.ensures.disks tt).covers genesis n x (remembered m genesis n held c.args.self.now.node c.args.self.now.store shown) (off_device (λ d. AllCover m genesis n d x) c.args.self.now.store every))
 
 pub returns-clause-stands : goal.returns-clause-stands
 returns-clause-stands g c genesis n held shown =
-    let m : Meaning = meaning g.M.Machine.first g.M.Machine.next g.M.Machine.answer in
+    let m : Meaning = g.M.Machine.meaning in
     on_ok _ _ c.compact.result
     (λ done. on_device (λ d. AllStandAt m genesis n d (executed c.compact.new.self.node.learner) held.view.done) c.compact.new.self.store (done.stands genesis n held shown))
     (c.compact.ensures.done tt)
@@ -54,17 +54,17 @@ returns-clause-room g c =
 
 pub returns-clause-exact : goal.returns-clause-exact
 returns-clause-exact g c =
-    let m : Meaning = meaning g.M.Machine.first g.M.Machine.next g.M.Machine.answer in
+    let m : Meaning = g.M.Machine.meaning in
     compacted m c.args.self.now c.compact.new.self c.compact.result (c.compact.ensures.done tt) c.compact.ensures.becomes c.compact.ensures.alive
 
 pub returns-clause-refused : goal.returns-clause-refused
 returns-clause-refused g c =
-    let m : Meaning = meaning g.M.Machine.first g.M.Machine.next g.M.Machine.answer in
+    let m : Meaning = g.M.Machine.meaning in
     refused m c.args.self.now c.compact.new.self c.compact.result c.compact.ensures.cause c.compact.ensures.refused c.compact.ensures.wakes c.compact.ensures.last
 
 pub returns-clause-calls : goal.returns-clause-calls
 returns-clause-calls g c =
-    let m : Meaning = meaning g.M.Machine.first g.M.Machine.next g.M.Machine.answer in
+    let m : Meaning = g.M.Machine.meaning in
     calls_ok m c.args.self.now c.compact.new.self c.compact.result (c.compact.ensures.done tt)
 
 pub returns-clause-calls_err : goal.returns-clause-calls_err

@@ -7,7 +7,7 @@ use Rattle.lk_disk.specs.Memory.{Memory, disk_of}
 use Rattle.lk_disk.specs.Meters.{Passes}
 use Rattle.lk_disk.specs.declared.device.Side.{Side}
 use Rattle.lk_disk.specs.declared.meter.Meter.{Meter}
-use Rattle.lk_state.specs.Meanings.{Meaning, meaning}
+use Rattle.lk_state.specs.Meanings.{Meaning}
 use Rattle.lk_node.specs.Calls.{Goes}
 use Rattle.lk_node.specs.Keeping.{Stands}
 use Rattle.lk_node.specs.Leavings.{AllCover}
@@ -48,7 +48,7 @@ returns-clause-calls g c = passed (disk_of c.args.device) c.args.device.meter (�
 
 pub returns-clause-up : goal.returns-clause-up
 returns-clause-up g c h n whose lawful fits =
-    let m : Meaning = meaning g.M.Machine.first g.M.Machine.next g.M.Machine.answer in
+    let m : Meaning = g.M.Machine.meaning in
     if_ok _ _ _ c.revive.result
     (λ r goes. on_device (λ d. Goes m h n (Stands m r.replica.node r.replica.store h.genesis n) d r.notes.items []) r.replica.store goes)
     (c.revive.ensures.fits tt h n whose lawful fits)
@@ -58,7 +58,7 @@ returns-clause-down g c h n whose lawful fits = if_err _ _ c.revive.result (c.re
 
 pub returns-clause-covers : goal.returns-clause-covers
 returns-clause-covers g c genesis n x whose every =
-    let m : Meaning = meaning g.M.Machine.first g.M.Machine.next g.M.Machine.answer in
+    let m : Meaning = g.M.Machine.meaning in
     if_ok _ _ _ c.revive.result (λ r cover. on_device (λ d. AllCover m genesis n d x) r.replica.store cover) (c.revive.ensures.covers tt genesis n x whose every)
 
 pub returns-clause-covers_err : goal.returns-clause-covers_err
@@ -76,5 +76,5 @@ returns-clause-room_err g c = if_err _ _ c.revive.result (c.revive.ensures.room 
 pub returns-clause-refused : goal.returns-clause-refused
 returns-clause-refused g c =
     let e = c.revive.ensures in
-    not_revived (meaning g.M.Machine.first g.M.Machine.next g.M.Machine.answer) g.M.Machine.IsText c.args.device c.args.header.now c.revive.result (λ e. fault_number e.fault) (λ e. e.device) _ _
+    not_revived g.M.Machine.meaning g.M.Machine.IsText c.args.device c.args.header.now c.revive.result (λ e. fault_number e.fault) (λ e. e.device) _ _
     e.cause (e.metered tt tt) (e.refused tt)

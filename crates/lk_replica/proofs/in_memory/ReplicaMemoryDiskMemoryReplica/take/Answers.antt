@@ -3,7 +3,7 @@ use Rattle.std.specs.Prelude.{⊤}
 use Rattle.lk_log.specs.StoreValue.{device_of}
 use Rattle.lk_log.specs.Values.{HeaderValue}
 use Rattle.lk_disk.specs.Memory.{disk_of}
-use Rattle.lk_state.specs.Meanings.{Meaning, meaning}
+use Rattle.lk_state.specs.Meanings.{Meaning}
 use Rattle.lk_node.specs.Calls.{NodeFits, Goes}
 use Rattle.lk_node.specs.Histories.{Datagram}
 use Rattle.lk_node.specs.Keeping.{Stands}
@@ -23,7 +23,7 @@ on_err (Err e) P p = p
 
 pub returns-in-Ok-clause-goes : goal.returns-in-Ok-clause-goes
 returns-in-Ok-clause-goes g c h n fits heard =
-    let m : Meaning = meaning g.M.Machine.first g.M.Machine.next g.M.Machine.answer in
+    let m : Meaning = g.M.Machine.meaning in
     let own = c.args.self.now in
     let went = c.in_ok-notes.ensures.goes tt tt h n (off_device (λ d. NodeFits m h n (Stands m own.node own.store h.genesis n) d) own.store fits) heard in
     let letters : c.take.new.post.letters ≡ went.0 = went.1 ∙ ap (λ (p : CollectedValue). p.letters ++ went.0) c.empty_post-post.ensures in
@@ -34,7 +34,7 @@ returns-in-Ok-clause-goes g c h n fits heard =
 
 pub returns-in-Ok-clause-syncs : goal.returns-in-Ok-clause-syncs
 returns-in-Ok-clause-syncs g c genesis n held x shown =
-    let m : Meaning = meaning g.M.Machine.first g.M.Machine.next g.M.Machine.answer in
+    let m : Meaning = g.M.Machine.meaning in
     let synced = c.take.ensures.syncs tt tt genesis n x (remembered m genesis n held c.args.self.now.node c.args.self.now.store shown) in
     let letters : c.take.new.post.letters ≡ synced.0 = synced.1 ∙ ap (λ (p : CollectedValue). p.letters ++ synced.0) c.empty_post-post.ensures in
     let is : c.number-node.result ≡ n = c.number-node.ensures ∙ ap (λ (w : HeaderValue). w.node) shown.whose in
@@ -71,31 +71,31 @@ returns-in-Ok-clause-exact g c =
 
 pub returns-in_err-notes-clause-ends : goal.returns-in_err-notes-clause-ends
 returns-in_err-notes-clause-ends g c h n fits heard =
-    let m : Meaning = meaning g.M.Machine.first g.M.Machine.next g.M.Machine.answer in
+    let m : Meaning = g.M.Machine.meaning in
     let own = c.args.self.now in
     on_err c.from_residual.result _ (on_device (DisksFit m h n) c.take.new.self.store
     ((c.take.ensures.disks tt).ends h n (off_device (λ d. NodeFits m h n (Stands m own.node own.store h.genesis n) d) own.store fits) heard))
 
 pub returns-in-Err-clause-ends : goal.returns-in-Err-clause-ends
 returns-in-Err-clause-ends g c h n fits heard =
-    let m : Meaning = meaning g.M.Machine.first g.M.Machine.next g.M.Machine.answer in
+    let m : Meaning = g.M.Machine.meaning in
     let own = c.args.self.now in
     on_device (DisksFit m h n) c.take.new.self.store
     ((c.take.ensures.disks tt).ends h n (off_device (λ d. NodeFits m h n (Stands m own.node own.store h.genesis n) d) own.store fits) heard)
 
 pub returns-in_err-notes-clause-covers : goal.returns-in_err-notes-clause-covers
 returns-in_err-notes-clause-covers g c genesis n held x shown every =
-    let m : Meaning = meaning g.M.Machine.first g.M.Machine.next g.M.Machine.answer in
+    let m : Meaning = g.M.Machine.meaning in
     on_device (λ d. AllCover m genesis n d x) c.take.new.self.store ((c.take.ensures.disks tt).covers genesis n x (remembered m genesis n held c.args.self.now.node c.args.self.now.store shown) (off_device (λ d. AllCover m genesis n d x) c.args.self.now.store every))
 
 pub returns-in-Ok-clause-covers : goal.returns-in-Ok-clause-covers
 returns-in-Ok-clause-covers g c genesis n held x shown every =
-    let m : Meaning = meaning g.M.Machine.first g.M.Machine.next g.M.Machine.answer in
+    let m : Meaning = g.M.Machine.meaning in
     on_device (λ d. AllCover m genesis n d x) c.take.new.self.store ((c.take.ensures.disks tt).covers genesis n x (remembered m genesis n held c.args.self.now.node c.args.self.now.store shown) (off_device (λ d. AllCover m genesis n d x) c.args.self.now.store every))
 
 pub returns-in-Err-clause-covers : goal.returns-in-Err-clause-covers
 returns-in-Err-clause-covers g c genesis n held x shown every =
-    let m : Meaning = meaning g.M.Machine.first g.M.Machine.next g.M.Machine.answer in
+    let m : Meaning = g.M.Machine.meaning in
     on_device (λ d. AllCover m genesis n d x) c.take.new.self.store ((c.take.ensures.disks tt).covers genesis n x (remembered m genesis n held c.args.self.now.node c.args.self.now.store shown) (off_device (λ d. AllCover m genesis n d x) c.args.self.now.store every))
 
 pub returns-in_err-notes-clause-refused : goal.returns-in_err-notes-clause-refused

@@ -1,7 +1,7 @@
 use Rattle.std.proofs.Common.{◌≡◌, ◌∙◌, true, false, refl, sym, ap, subst, inl, inr}
 use Rattle.std.specs.Prelude.{⊤, IfErr}
 use Rattle.lk_log.specs.StoreValue.{disks}
-use Rattle.lk_state.specs.Meanings.{Meaning, meaning}
+use Rattle.lk_state.specs.Meanings.{Meaning}
 use Rattle.lk_log.proofs.Room.{within_same}
 use Rattle.lk_disk.specs.Meters.{start}
 use Rattle.lk_replica.specs.Compacted.{IsNotCompacted}
@@ -17,7 +17,7 @@ use Rattle.lk_replica.proofs.replica.Replica.compact.Goals as goal
 
 pub returns-clause-done : goal.returns-clause-done
 returns-clause-done g c honest =
-    let m : Meaning = meaning g.M.Machine.first g.M.Machine.next g.M.Machine.answer in
+    let m : Meaning = g.M.Machine.meaning in
     subst (λ (r : ReplicaValue). HasGoneOver m g.D.LogDisk.is_metered r.node r.store c.write_base.new.node c.write_base.new.store) c.self.view_is (c.in_ok-write_base.ensures.done honest)
 
 pub returns-clause-becomes : goal.returns-clause-becomes
@@ -37,12 +37,12 @@ returns-then-self-clause-disks g c honest = record {
 
 pub returns-in_err-write_base-clause-disks : goal.returns-in_err-write_base-clause-disks
 returns-in_err-write_base-clause-disks g c honest =
-    let m : Meaning = meaning g.M.Machine.first g.M.Machine.next g.M.Machine.answer in
+    let m : Meaning = g.M.Machine.meaning in
     subst (λ (r : ReplicaValue). LeavesDisks m (λ h. ⊤) 49152 r.node r.store (disks c.write_base.new.store)) c.self.view_is (leaves_safe m c.self.inside.node c.self.inside.store c.write_base.new.store (c.write_base.ensures.disks honest))
 
 pub returns-clause-disks : goal.returns-clause-disks
 returns-clause-disks g c honest =
-    let m : Meaning = meaning g.M.Machine.first g.M.Machine.next g.M.Machine.answer in
+    let m : Meaning = g.M.Machine.meaning in
     subst (λ (r : ReplicaValue). LeavesDisks m (λ h. ⊤) 49152 r.node r.store (disks c.write_base.new.store)) c.self.view_is (leaves_safe m c.self.inside.node c.self.inside.store c.write_base.new.store (c.write_base.ensures.disks honest))
 
 -- ---- where it was refused

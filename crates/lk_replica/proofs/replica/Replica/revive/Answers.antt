@@ -6,7 +6,7 @@ use Rattle.lk_log.proofs.Room.{within_first}
 use Rattle.lk_log.proofs.StoreLaws.{opens_holds}
 use Rattle.lk_log.specs.Images.{seen}
 use Rattle.lk_log.specs.StoreValue.{disks}
-use Rattle.lk_state.specs.Meanings.{Meaning, meaning}
+use Rattle.lk_state.specs.Meanings.{Meaning}
 use Rattle.lk_node.specs.Keeping.{Stands}
 use Rattle.lk_node.specs.Packing.{standing_of}
 use Rattle.lk_node.specs.Served.{text}
@@ -21,7 +21,7 @@ invariant_of-result g c = (λ alive. c.in-Ok-renew.ensures.ready.runs c.in-Ok.en
 
 pub returns-in-Ok-renew-clause-fits : goal.returns-in-Ok-renew-clause-fits
 returns-in-Ok-renew-clause-fits g c honest h n is lawful before =
-    let m : Meaning = meaning g.M.Machine.first g.M.Machine.next g.M.Machine.answer in
+    let m : Meaning = g.M.Machine.meaning in
     let goes = c.in-Ok.ensures.fits honest h n is lawful before in
     let fits = goes_fit m h n (Stands m c.in-Ok.up.node c.in-Ok.up.store h.genesis n) (disks c.in-Ok.up.store) c.in-Ok.up.notes.items lawful goes in
     then_goes m h n (Stands m c.in-Ok.up.node c.in-Ok.up.store h.genesis n) (Stands m c.renew.new.node c.renew.new.store h.genesis n) (disks c.in-Ok.up.store) (disks c.renew.new.store) c.in-Ok.up.notes.items goes
@@ -29,13 +29,13 @@ returns-in-Ok-renew-clause-fits g c honest h n is lawful before =
 
 pub returns-in-Ok-renew-clause-covers : goal.returns-in-Ok-renew-clause-covers
 returns-in-Ok-renew-clause-covers g c honest genesis n x is every =
-    let m : Meaning = meaning g.M.Machine.first g.M.Machine.next g.M.Machine.answer in
+    let m : Meaning = g.M.Machine.meaning in
     let keeps = taken_keeps m g.M.Machine.IsText (g.D.LogDisk.disk c.args.device) genesis n c.args.header.now c.in-Ok.up.node c.in-Ok.up.store c.in-Ok.up.notes.items is c.in-Ok.ensures.ready.whose (c.in-Ok.ensures.exact honest) in
     (c.renew.ensures.safe honest).covers genesis n x keeps (c.in-Ok.ensures.covers honest genesis n x is every)
 
 pub returns-in-Ok-renew-clause-metered : goal.returns-in-Ok-renew-clause-metered
 returns-in-Ok-renew-clause-metered g c metered honest =
-    let m : Meaning = meaning g.M.Machine.first g.M.Machine.next g.M.Machine.answer in
+    let m : Meaning = g.M.Machine.meaning in
     let t = c.in-Ok.ensures.exact honest in
     revival_calls (g.D.LogDisk.disk c.args.device) (g.D.LogDisk.meter c.args.device) c.in-Ok.up.store.meter c.renew.new.store.meter c.args.header.now (text m t.genesis []) c.in-Ok.up.store t.standing t.opens
     (c.in-Ok.ensures.metered metered honest) (c.in-Ok-renew.ensures.metered metered honest)
@@ -45,7 +45,7 @@ returns-in-Ok-renew-clause-remembers g c honest genesis n is = (c.in-Ok-renew.en
 
 pub returns-in-Ok-renew-clause-exact : goal.returns-in-Ok-renew-clause-exact
 returns-in-Ok-renew-clause-exact g c honest =
-    let m : Meaning = meaning g.M.Machine.first g.M.Machine.next g.M.Machine.answer in
+    let m : Meaning = g.M.Machine.meaning in
     let t = c.in-Ok.ensures.exact honest in
     record {
       node = c.in-Ok.up.node;
@@ -72,20 +72,20 @@ returns-in-Ok-renew-clause-ready g c = record {
 
 pub returns-in-Err-renew-clause-fits : goal.returns-in-Err-renew-clause-fits
 returns-in-Err-renew-clause-fits g c honest h n is lawful before =
-    let m : Meaning = meaning g.M.Machine.first g.M.Machine.next g.M.Machine.answer in
+    let m : Meaning = g.M.Machine.meaning in
     let fits = goes_fit m h n (Stands m c.in-Ok.up.node c.in-Ok.up.store h.genesis n) (disks c.in-Ok.up.store) c.in-Ok.up.notes.items lawful (c.in-Ok.ensures.fits honest h n is lawful before) in
     given_fit m h n c.renew.new.store (g.D.LogDisk.disk c.into_disks.result) c.into_disks.ensures.live_disk c.into_disks.ensures.other_disk ((c.renew.ensures.safe honest).fits h n fits)
 
 pub returns-in-Err-renew-clause-covers : goal.returns-in-Err-renew-clause-covers
 returns-in-Err-renew-clause-covers g c honest genesis n x is every =
-    let m : Meaning = meaning g.M.Machine.first g.M.Machine.next g.M.Machine.answer in
+    let m : Meaning = g.M.Machine.meaning in
     let keeps = taken_keeps m g.M.Machine.IsText (g.D.LogDisk.disk c.args.device) genesis n c.args.header.now c.in-Ok.up.node c.in-Ok.up.store c.in-Ok.up.notes.items is c.in-Ok.ensures.ready.whose (c.in-Ok.ensures.exact honest) in
     given_cover m genesis n x c.renew.new.store (g.D.LogDisk.disk c.into_disks.result) c.into_disks.ensures.live_disk c.into_disks.ensures.other_disk
     ((c.renew.ensures.safe honest).covers genesis n x keeps (c.in-Ok.ensures.covers honest genesis n x is every))
 
 pub returns-in-Err-renew-clause-stays_err : goal.returns-in-Err-renew-clause-stays_err
 returns-in-Err-renew-clause-stays_err g c honest genesis is =
-    let m : Meaning = meaning g.M.Machine.first g.M.Machine.next g.M.Machine.answer in
+    let m : Meaning = g.M.Machine.meaning in
     let old = g.D.LogDisk.disk c.args.device in
     let t = c.in-Ok.ensures.exact honest in
     let holds = opens_holds (seen old) c.args.header.now (text m t.genesis []) c.in-Ok.up.store t.standing t.opens c.in-Ok.ensures.ready.whose in
@@ -95,7 +95,7 @@ returns-in-Err-renew-clause-stays_err g c honest genesis is =
 
 pub returns-in-Err-renew-clause-refused : goal.returns-in-Err-renew-clause-refused
 returns-in-Err-renew-clause-refused g c honest =
-    let m : Meaning = meaning g.M.Machine.first g.M.Machine.next g.M.Machine.answer in
+    let m : Meaning = g.M.Machine.meaning in
     let t = c.in-Ok.ensures.exact honest in
     let number = fault_number c.in-Err-renew.fault in
     let by = c.in-Err-renew.ensures.refused.of_store in

@@ -1,6 +1,5 @@
 use Rattle.std.proofs.Common.{◌≡◌, true, false, List, [], ◌++◌, Contains, IfErr, inl, inr, refl, sym, ◌∙◌, ap, subst, arith}
 use Rattle.lk_log.specs.StoreValue.{disks}
-use Rattle.lk_state.specs.Meanings.{meaning}
 use Rattle.lk_node.specs.Calls.{InputFits, NodeFits, Goes}
 use Rattle.lk_node.specs.Keeping.{Stands}
 use Rattle.lk_node.specs.Letters.{LetterValue, batch_of}
@@ -21,7 +20,7 @@ use Rattle.lk_replica.specs.Faults.{fault_number}
 
 pub returns-in-Ok-clause-goes : goal.returns-in-Ok-clause-goes
 returns-in-Ok-clause-goes g c honest telling h n f heard =
-    let m = meaning g.M.Machine.first g.M.Machine.next g.M.Machine.answer in
+    let m = g.M.Machine.meaning in
     let fits : NodeFits m h n (Stands m c.self.inside.node c.self.inside.store h.genesis n) (disks c.self.inside.store) =
     subst (λ (r : ReplicaValue). NodeFits m h n (Stands m r.node r.store h.genesis n) (disks r.store)) (sym c.self.view_is) f in
     let letters : c.in_ok-outbox.outbox.letters ≡ c.deref.result.now = sym (c.deref.ensures.value ∙ ap (λ (o : OutboxValue). o.letters) c.outbox.view_is) in (
@@ -34,7 +33,7 @@ returns-in-Ok-clause-goes g c honest telling h n f heard =
 
 pub returns-clause-goes : goal.returns-clause-goes
 returns-clause-goes g c honest telling h n f heard =
-    let m = meaning g.M.Machine.first g.M.Machine.next g.M.Machine.answer in
+    let m = g.M.Machine.meaning in
     let fits : NodeFits m h n (Stands m c.self.inside.node c.self.inside.store h.genesis n) (disks c.self.inside.store) =
     subst (λ (r : ReplicaValue). NodeFits m h n (Stands m r.node r.store h.genesis n) (disks r.store)) (sym c.self.view_is) f in
     let letters : c.deref.result.now ≡ c.in_ok-outbox.outbox.letters = c.deref.ensures.value ∙ ap (λ (o : OutboxValue). o.letters) c.outbox.view_is in
@@ -50,7 +49,7 @@ returns-in_err-outbox-clause-goes g c honest telling h n f heard = goes_not _ _ 
 
 pub returns-in-Ok-clause-syncs : goal.returns-in-Ok-clause-syncs
 returns-in-Ok-clause-syncs g c honest telling genesis n x shown =
-    let m = meaning g.M.Machine.first g.M.Machine.next g.M.Machine.answer in
+    let m = g.M.Machine.meaning in
     let letters : c.deref.result.now ≡ c.in_ok-outbox.outbox.letters = c.deref.ensures.value ∙ ap (λ (o : OutboxValue). o.letters) c.outbox.view_is in (
       c.deref.result.now,
       c.in-Ok.ensures.all telling,
@@ -59,7 +58,7 @@ returns-in-Ok-clause-syncs g c honest telling genesis n x shown =
 
 pub returns-clause-syncs : goal.returns-clause-syncs
 returns-clause-syncs g c honest telling genesis n x shown =
-    let m = meaning g.M.Machine.first g.M.Machine.next g.M.Machine.answer in
+    let m = g.M.Machine.meaning in
     let letters : c.deref.result.now ≡ c.in_ok-outbox.outbox.letters = c.deref.ensures.value ∙ ap (λ (o : OutboxValue). o.letters) c.outbox.view_is in
     let kept = (c.in-Err.ensures.some telling).1 in (
       kept.0,
@@ -160,17 +159,17 @@ returns-then-self-clause-disks g c honest = record {
 
 pub returns-in_err-outbox-clause-disks : goal.returns-in_err-outbox-clause-disks
 returns-in_err-outbox-clause-disks g c honest =
-    let m = meaning g.M.Machine.first g.M.Machine.next g.M.Machine.answer in
+    let m = g.M.Machine.meaning in
     subst (λ (r : ReplicaValue). LeavesDisks m (λ h. InputFits h c.args.input) 132704 r.node r.store (disks c.rebase_and_step.new.store)) c.self.view_is (c.rebase_and_step.ensures.disks honest)
 
 pub returns-in-Ok-clause-disks : goal.returns-in-Ok-clause-disks
 returns-in-Ok-clause-disks g c honest =
-    let m = meaning g.M.Machine.first g.M.Machine.next g.M.Machine.answer in
+    let m = g.M.Machine.meaning in
     subst (λ (r : ReplicaValue). LeavesDisks m (λ h. InputFits h c.args.input) 132704 r.node r.store (disks c.rebase_and_step.new.store)) c.self.view_is (c.rebase_and_step.ensures.disks honest)
 
 pub returns-clause-disks : goal.returns-clause-disks
 returns-clause-disks g c honest =
-    let m = meaning g.M.Machine.first g.M.Machine.next g.M.Machine.answer in
+    let m = g.M.Machine.meaning in
     subst (λ (r : ReplicaValue). LeavesDisks m (λ h. InputFits h c.args.input) 132704 r.node r.store (disks c.rebase_and_step.new.store)) c.self.view_is (c.rebase_and_step.ensures.disks honest)
 
 -- ---- what a refusal leaves

@@ -1,6 +1,5 @@
 -- The client's session is its last request that counts.
 use Rattle.std.proofs.Common.{◌∙◌, Option, ap}
-use Rattle.lk_state.specs.Meanings.{meaning}
 use Rattle.lk_state.specs.Sessions.{Session, session_of}
 use Rattle.lk_state.specs.States.{WholeValue}
 use Rattle.lk_state.specs.Runs.{seen_as}
@@ -10,5 +9,5 @@ use Rattle.lk_state.proofs.whole.Whole.seen.Goals as goal
 pub returns-clause-last : goal.returns-clause-last
 returns-clause-last g c = λ genesis L e.
     let sessions_is = ap (λ (w : WholeValue). w.sessions) c.self.view_is in
-    let last = seen_last (meaning g.M.Machine.first g.M.Machine.next g.M.Machine.answer) genesis L c.args.self.now c.args.client e in
+    let last = seen_last g.M.Machine.meaning genesis L c.args.self.now c.args.client e in
     c.stand.ensures ∙ ap (λ (o : Option Session). seen_as o c.args.number) (c.get.ensures ∙ ap (session_of c.args.client) sessions_is ∙ last)
