@@ -1,6 +1,6 @@
 -- What is drawn.
 use Rattle.std.specs.Prelude.{ℕ, ◌<◌, ◌≤◌, ◌+◌}
-use Rattle.lk_members.specs.Counting.{RequestValue}
+use Rattle.lk_members.specs.Effects.{RequestValue}
 use Rattle.lk_sim.specs.declared.event.Event.{Event}
 use Rattle.lk_sim.specs.declared.event.Event.TheVariants as event
 

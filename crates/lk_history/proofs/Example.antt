@@ -6,7 +6,7 @@ use Rattle.lk_types.specs.declared.command.Command.TheVariants.{Noop, Request}
 use Rattle.lk_wire.specs.Grammar.{IsNodeMessage, IsMessage, spelling}
 use Rattle.lk_wire.specs.Values.{PromiseValue}
 use Rattle.lk_members.specs.Rosters.{members, roster_of}
-use Rattle.lk_members.specs.Counting.{placed, counting}
+use Rattle.lk_members.specs.Effects.{placed, effects}
 use Rattle.lk_history.specs.declared.party.Party.TheVariants as party
 use Rattle.lk_history.specs.Ballots.{BallotValue}
 use Rattle.lk_history.specs.Datagrams.{Genesis, Vote, NodeMessage, Datagram, said_by, Promise, Accept, Accepted, HasSent, WasSent}
@@ -119,7 +119,7 @@ abbrev one_heard : Term
 one_heard = record { ballot = ballot; reports = report 1 1 ∷ []; proposals = []; accepted = [] }
 
 first_choice : MayPropose alone [] one_heard 1 join
-unfolding members roster_of counting placed
+unfolding members roster_of effects placed
 first_choice = record {
   new = λ w h. omega (arith, h.1);
   reaches = omega arith;
@@ -150,7 +150,7 @@ abbrev second_proposed : Term
 second_proposed = record { ballot = ballot; reports = both_reports; proposals = (1, join) ∷ (2, Noop) ∷ []; accepted = [] }
 
 second_choice : MayPropose alone (join ∷ []) both_heard 2 Noop
-unfolding members roster_of counting placed
+unfolding members roster_of effects placed
 second_choice = record {
   new = λ w h. elsewhere w (only (1, join) (2, w) h);
   reaches = omega arith;
@@ -176,7 +176,7 @@ nothing_chosen sent zero v at = absurd cc
 nothing_chosen sent (suc k) v at = absurd cc
 
 first_accepted : (sent : List Datagram) (L : List Command) → Contains sent (say 1 (Accepted first_vote)) → IsAcceptedIn alone sent (members alone L 1) ballot 1 join
-unfolding members roster_of counting placed
+unfolding members roster_of effects placed
 first_accepted sent L h = record {
   nodes = 1 ∷ [];
   majority = record { within = refl; more_than_half = omega arith };
@@ -348,7 +348,7 @@ abbrev pub last : World
 last = w18
 
 second_accepted : IsAcceptedIn alone all_sent (members alone two_commands 2) ballot 2 Noop
-unfolding members roster_of counting placed
+unfolding members roster_of effects placed
 second_accepted = record {
   nodes = 1 ∷ 2 ∷ [];
   majority = record { within = refl; more_than_half = omega arith };
@@ -367,5 +367,5 @@ two_chosen (suc (suc zero)) v at = let same : Noop ≡ v = cc at in
 two_chosen (suc (suc (suc k))) v at = absurd (cc at)
 
 pub change : MembersChange alone last two_commands
-unfolding members roster_of counting placed
+unfolding members roster_of effects placed
 change = record { reached = reach18; chosen = two_chosen; two = refl; one_member = refl; both = refl }

@@ -5,7 +5,7 @@ pub use Rattle.lk_history.proofs.Agree.{command_within, entry_chosen, one_chosen
 pub use Rattle.lk_history.proofs.Ranges.{chosen_was_accepted, chosen_at_fits, chosen_fits, chosen_short}
 pub use Rattle.lk_history.proofs.Grow.{still_sent, still_was, still_chosen, still_chosen_at, still_chosen_from, still_stems, chosen_push, chosen_take}
 pub use Rattle.lk_history.proofs.VoteLists.{pushed_takes_vote, filtered_takes_snapshot, filtered_may_promise}
-pub use Rattle.lk_history.proofs.Views.{change_fits, changes_fit, restart_fits, counted_is_chosen}
+pub use Rattle.lk_history.proofs.Views.{change_fits, changes_fit, restart_fits, accepted_is_chosen}
 pub use Rattle.lk_history.proofs.Runs.{start_fits, covers_both, batch_fits, covers_elsewhere, asked_fits, with_view_fits, kept_by_majority}
 pub use Rattle.lk_history.proofs.Slices.{same_length_same, slices_join, whole_slice, still_slice, beginning_slice}
 pub use Rattle.lk_history.proofs.Lists.{cons_cases, contains_more, filter_from, filter_passes_at, only}

@@ -54,7 +54,7 @@ pub fn chosen_commands_are_kept()
 {}
 
 /// What a term has counted from a majority of the members that the executed list names is chosen.
-pub fn what_is_counted_is_chosen()
+pub fn what_a_majority_accepted_is_chosen()
     ensures { (genesis : Genesis) (sent : List Datagram) (n : ℕ) (w : View) (t : Term) (i : ℕ) (v : Command) (nodes : List ℕ)
         → ViewFits genesis sent n w → w.term ≡ Some t → i ≤ length w.done + genesis.alpha → IsMajority nodes (members genesis w.done i)
         → ((k : ℕ) → Contains nodes k → Contains t.accepted (record { node = k; position = i; command = v }))

@@ -2,7 +2,7 @@
 use Rattle.std.specs.Prelude.{◌≡◌, ◌+◌, List, length}
 use Rattle.std.specs.FinMap as map
 use Rattle.lk_log.specs.Values.{StandingValue}
-use Rattle.lk_members.specs.Counting.{Command}
+use Rattle.lk_members.specs.Effects.{Command}
 use Rattle.lk_members.specs.Rosters.{Genesis}
 use Rattle.lk_members.specs.Windows.{sets_from}
 use Rattle.lk_state.specs.Packed.{Packs}

@@ -3,7 +3,7 @@
 ghost use Rattle.std.specs.Prelude.{◌≡◌, ◌⊎◌, ◌++◌, List, length, IfOk, IfErr, IsErrOf};
 ghost use Rattle.std.specs.List.{AllByRecursion};
 ghost use Rattle.lk_types.specs.Commands.{IsCommand};
-ghost use Rattle.lk_members.specs.Counting.{Command as CommandValue};
+ghost use Rattle.lk_members.specs.Effects.{Command as CommandValue};
 ghost use Rattle.lk_members.specs.Rosters.{Genesis as GenesisValue};
 ghost use Rattle.lk_state.specs.Packed.{Packs};
 ghost use Rattle.lk_state.specs.States.{whole_after};

@@ -1,7 +1,7 @@
 //! The state that a standing comes to.
 
 ghost use Rattle.std.specs.Prelude.{◌≡◌, ◌<◌, ◌⊎◌, ◌++◌, List, length, OnOk, IfOk, IfErr, IsErrOf};
-ghost use Rattle.lk_members.specs.Counting.{Command as CommandValue};
+ghost use Rattle.lk_members.specs.Effects.{Command as CommandValue};
 ghost use Rattle.lk_members.specs.Rosters.{Genesis as GenesisValue};
 ghost use Rattle.lk_types.specs.Limits.{max_count};
 ghost use Rattle.lk_state.specs.Packed.{Packs};

@@ -7,7 +7,7 @@ use Rattle.lk_types.specs.Ballots.{IsBelow}
 use Rattle.lk_types.specs.declared.member.Member.{Member}
 use Rattle.lk_types.specs.declared.vote.Vote.{Vote}
 use Rattle.lk_leader.specs.Terms.{Report}
-use Rattle.lk_leader.specs.Values.{Told, IsNotAbove, IsBest, told_by, told_at, counts_at, reports_at}
+use Rattle.lk_leader.specs.Values.{Told, IsNotAbove, IsBest, told_by, told_at, speaks_at, reports_at}
 use Rattle.lk_leader.proofs.MemberLaws.{map-push, filter-more, filter-same}
 
 below-trans : (a b c : BallotValue) → IsBelow a b → IsBelow b c → IsBelow a c
@@ -72,11 +72,11 @@ told-single i r = simp append-nil
 
 module _ (set : List Member) (i : ℕ) (rs : List Report) (k : ℕ) (r : Report) (in' : k < length rs) (is : r ≡ get_or rs k r) where
   -- one promise more, where it counts
-  pub told_at-more : counts_at set i r ≡ true → told_at i (reports_at set i (take (k + 1) rs)) ≡ told_at i (reports_at set i (take k rs)) ++ told_by i r
+  pub told_at-more : speaks_at set i r ≡ true → told_at i (reports_at set i (take (k + 1) rs)) ≡ told_at i (reports_at set i (take k rs)) ++ told_by i r
   told_at-more t =
-      ap (told_at i) (filter-more (counts_at set i) rs k r in' is t)
+      ap (told_at i) (filter-more (speaks_at set i) rs k r in' is t)
       ∙ flat_map-append (told_by i) (reports_at set i (take k rs)) (r ∷ [])
       ∙ ap (λ l. told_at i (reports_at set i (take k rs)) ++ l) (told-single i r)
 
-  pub told_at-same : counts_at set i r ≡ false → told_at i (reports_at set i (take (k + 1) rs)) ≡ told_at i (reports_at set i (take k rs))
-  told_at-same f = ap (told_at i) (filter-same (counts_at set i) rs k r in' is f)
+  pub told_at-same : speaks_at set i r ≡ false → told_at i (reports_at set i (take (k + 1) rs)) ≡ told_at i (reports_at set i (take k rs))
+  told_at-same f = ap (told_at i) (filter-same (speaks_at set i) rs k r in' is f)

@@ -1,4 +1,4 @@
--- What a leader proposes and counts is allowed to the term for which it stands, and it goes on standing for it.
+-- What a leader proposes and finds accepted is allowed to the term for which it stands, and it goes on standing for it.
 use Rattle.std.proofs.Common.{◌≡◌, ◌∙◌, ◌⊎◌, ℕ, ◌+◌, ◌-◌, ◌≤◌, ◌==◌, ◌&&◌, Bool, true, eqb, nat_le, nat_lt, Some, List, [], ◌∷◌, ◌++◌, length, Contains, filter, refl, ap, sym, subst, inl, inr, arith, eqb-true, eq-eqb}
 use Rattle.std.specs.List.{list_any}
 use Rattle.std.proofs.lemmas.Bool.{cases_Bool, and_parts, and_from, leb-true, le-leb, lt-ltb}
@@ -7,7 +7,7 @@ use Rattle.lk_types.specs.BallotValue.{BallotValue}
 use Rattle.lk_types.specs.Ballots.{IsAtMost}
 use Rattle.lk_types.specs.declared.member.Member.{Member}
 use Rattle.lk_types.specs.declared.vote.Vote.{Vote}
-use Rattle.lk_members.specs.Counting.{Command, RequestValue, Noop, Request}
+use Rattle.lk_members.specs.Effects.{Command, RequestValue, Noop, Request}
 use Rattle.lk_members.specs.Rosters.{Genesis, is_member, members}
 use Rattle.lk_members.specs.Majorities.{IsMajority}
 use Rattle.lk_members.specs.Windows.{RosterValue, RosterSumsUp, roster_after}
@@ -17,9 +17,9 @@ use Rattle.lk_history.specs.Nodes.{Term, new_term, Acceptance}
 use Rattle.lk_history.specs.Changes.{MayPropose, with_report, with_proposal, with_acceptance}
 use Rattle.lk_leader.specs.Terms as terms
 use Rattle.lk_leader.specs.Terms.{Report, ProposalValue, TermValue, proposal_at, in_window, with_proposals, begun}
-use Rattle.lk_leader.specs.Values.{Told, IsNotAbove, told_by, told_at, counts_at, reports_at, IsLeadersValue, highest, first_new, fills}
+use Rattle.lk_leader.specs.Values.{Told, IsNotAbove, told_by, told_at, speaks_at, reports_at, IsLeadersValue, highest, first_new, fills}
 use Rattle.lk_leader.specs.Proposing.{promisers, IsNext, AreMembersAt, Proposes, proposed}
-use Rattle.lk_leader.specs.Counting.{members_among, heard, heard_at, IsVoteFor, BecomesCounted}
+use Rattle.lk_leader.specs.Acceptances.{members_among, heard, heard_at, IsVoteFor, GainsMajority}
 use Rattle.lk_leader.specs.Standing.{StandsFor}
 use Rattle.lk_leader.proofs.Elements.{cons_cases, contains_more, filter_has, filter_from, filter_passes_at, map_has, map_from, any_from, find_from, find_none}
 
@@ -77,7 +77,7 @@ promisers_report set i reports n h =
     let parts = and_parts (r.node == m.node) (nat_le r.first i) found.2 in
     let same : r.node ≡ m.node = eqb-true r.node m.node parts.0 in
     let is : is_member r.node set ≡ true = member_of r.node set m listed (sym same) in
-    (r, filter_has (counts_at set i) reports r found.1 (and_from (is_member r.node set) (nat_le r.first i) is parts.1), same ∙ from.2)
+    (r, filter_has (speaks_at set i) reports r found.1 (and_from (is_member r.node set) (nat_le r.first i) is parts.1), same ∙ from.2)
   where
     member_of : (n : ℕ) (ms : List Member) (m : Member) → Contains ms m → m.node ≡ n → is_member n ms ≡ true
     member_of n [] m h e = absurd (omega (arith, h.1))
@@ -116,7 +116,7 @@ proposes_allowed genesis done t k waiting roster i v sums stands p =
       new = λ w h. (let kept = stands.kept i w h p.next.above in find_none (λ (q : ProposalValue). q.position == i) k.proposals kept.0 p.next.new kept.1 (eq-eqb kept.0.position i kept.2));
       reaches = omega (arith, p.next.reaches, e, a);
       reports = reports_at p.set i k.reports;
-      among = λ r h. (stands.reports r (filter_from (counts_at p.set i) k.reports r h), leb-true r.first i (and_parts (is_member r.node p.set) (nat_le r.first i) (filter_passes_at (counts_at p.set i) k.reports r h)).1);
+      among = λ r h. (stands.reports r (filter_from (speaks_at p.set i) k.reports r h), leb-true r.first i (and_parts (is_member r.node p.set) (nat_le r.first i) (filter_passes_at (speaks_at p.set i) k.reports r h)).1);
       nodes = promisers p.set i k.reports;
       majority = subst (IsMajority (promisers p.set i k.reports)) named p.promised;
       reporters = λ n h. promisers_report p.set i k.reports n h;
@@ -130,12 +130,12 @@ pub proposes_asked : (executed alpha : ℕ) (t : Term) (k : TermValue) (waiting 
 proposes_asked executed alpha t k waiting roster set i v stands (highest h best) =
     let from = told_from i (reports_at set i k.reports) h best.among in
     let r : Report = from.0.0 in
-    inl (h.vote, (r, stands.reports r (filter_from (counts_at set i) k.reports r from.0.1), from.0.2), refl)
+    inl (h.vote, (r, stands.reports r (filter_from (speaks_at set i) k.reports r from.0.1), from.0.2), refl)
 proposes_asked executed alpha t k waiting roster set i v stands (first_new q none first) =
     inr (inl (q, subst (λ (l : List RequestValue). Contains l q) (sym first.parts) (Contains-append_right first.before (q ∷ first.behind) q (0, omega arith, refl)), refl))
 proposes_asked executed alpha t k waiting roster set i v stands (fills none new gap) = inr (inr refl)
 
--- ---- what is counted
+-- ---- what a majority has accepted
 
 heard_from : (set : List Member) (node : ℕ) (p : ProposalValue) (n : ℕ) → Contains (heard set node p).accepted n → Contains p.accepted n ⊎ (node ≡ n)
 heard_from set node p n h =
@@ -160,22 +160,22 @@ vote_of t roster b i v set p vote =
     (found.0, eqb-true p.position i found.1)
 
 -- the members that have accepted it, with this node
-abbrev pub counted_by : List Member → ℕ → ProposalValue → List ℕ
-counted_by set node p = members_among set (heard set node p).accepted
+abbrev pub accepted_by : List Member → ℕ → ProposalValue → List ℕ
+accepted_by set node p = members_among set (heard set node p).accepted
 
-pub counted_rests : (genesis : Genesis) (done : List Command) (t : Term) (k : TermValue) (roster : RosterValue) (b : BallotValue) (node i : ℕ) (v : Command) (set : List Member) (p : ProposalValue)
-    → RosterSumsUp genesis done roster → i ≤ roster.executed + length roster.sets → StandsFor roster.executed (length roster.sets) t k → IsVoteFor k roster b i v set p → BecomesCounted set node p
-    → (i ≤ length done + genesis.alpha) × IsMajority (counted_by set node p) (members genesis done i)
-    × ((n : ℕ) → Contains (counted_by set node p) n → Contains (with_acceptance t (record { node = node; position = i; command = v })).accepted (record { node = n; position = i; command = v }))
+pub majority_rests : (genesis : Genesis) (done : List Command) (t : Term) (k : TermValue) (roster : RosterValue) (b : BallotValue) (node i : ℕ) (v : Command) (set : List Member) (p : ProposalValue)
+    → RosterSumsUp genesis done roster → i ≤ roster.executed + length roster.sets → StandsFor roster.executed (length roster.sets) t k → IsVoteFor k roster b i v set p → GainsMajority set node p
+    → (i ≤ length done + genesis.alpha) × IsMajority (accepted_by set node p) (members genesis done i)
+    × ((n : ℕ) → Contains (accepted_by set node p) n → Contains (with_acceptance t (record { node = node; position = i; command = v })).accepted (record { node = n; position = i; command = v }))
 unfolding roster_after
-counted_rests genesis done t k roster b node i v set p sums reaches stands vote becomes =
+majority_rests genesis done t k roster b node i v set p sums reaches stands vote becomes =
     let e : roster.executed ≡ length done = ap (λ (r : RosterValue). r.executed) sums in
     let a : length roster.sets ≡ genesis.alpha = length_of_window genesis done roster sums in
     let named : set ≡ members genesis done i = set_named genesis done roster i set sums vote.members reaches in
     let own = vote_of k roster b i v set p vote in
     let make : ℕ → ℕ → Command → Acceptance = λ (n j : ℕ) (w : Command). record { node = n; position = j; command = w } in (
       omega (arith, reaches, e, a),
-      subst (IsMajority (counted_by set node p)) named becomes.1,
+      subst (IsMajority (accepted_by set node p)) named becomes.1,
       λ n h. elim (heard_from set node p n (among_from set (heard set node p).accepted n h)) [
         | inl old ↦ Contains-append_left t.accepted (make node i v ∷ []) (make n i v)
             (subst (λ (w : Command). Contains t.accepted (make n i w)) vote.command (subst (λ (j : ℕ). Contains t.accepted (make n j p.command)) own.1 (stands.accepted p n own.0 old)))
@@ -284,10 +284,10 @@ heard_has set node i (r ∷ ps) p h =
       ])
     ]
 
-pub counted_stands : (executed alpha : ℕ) (t : Term) (k : TermValue) (roster : RosterValue) (b : BallotValue) (node i : ℕ) (v : Command) (set : List Member) (p : ProposalValue)
+pub majority_stands : (executed alpha : ℕ) (t : Term) (k : TermValue) (roster : RosterValue) (b : BallotValue) (node i : ℕ) (v : Command) (set : List Member) (p : ProposalValue)
     → IsVoteFor k roster b i v set p → StandsFor executed alpha t k
     → StandsFor executed alpha (with_acceptance t (record { node = node; position = i; command = v })) (with_proposals (heard_at set node i k.proposals) k)
-counted_stands executed alpha t k roster b node i v set p vote h =
+majority_stands executed alpha t k roster b node i v set p vote h =
     let own = vote_of k roster b i v set p vote in
     let a : Acceptance = record { node = node; position = i; command = v } in
     let make : ℕ → ProposalValue → Acceptance = λ (n : ℕ) (q : ProposalValue). record { node = n; position = q.position; command = q.command } in

@@ -10,7 +10,7 @@ use Rattle.std.proofs.lemmas.Map.Keys.{IsDistinct-push}
 use Rattle.std.proofs.lemmas.Map.Made.{length-le_from_is_member}
 use Rattle.lk_types.specs.declared.member.Member.{Member}
 use Rattle.lk_leader.specs.Terms.{ProposalValue, proposal_at, in_window}
-use Rattle.lk_leader.specs.Counting.{heard, heard_at}
+use Rattle.lk_leader.specs.Acceptances.{heard, heard_at}
 use Rattle.lk_leader.proofs.MemberLaws.{map-push}
 
 abbrev pub positions : List ProposalValue → List ℕ

@@ -4,7 +4,7 @@ use Rattle.std.specs.Prelude.{MatchOption, slice_get}
 use Rattle.std.specs.Bool.{then_some}
 use Rattle.std.proofs.lemmas.List.Elements.{Contains-append_right}
 use Rattle.lk_types.specs.declared.member.Member.{Member}
-use Rattle.lk_members.specs.Counting.{Command, RequestValue, Noop, Request}
+use Rattle.lk_members.specs.Effects.{Command, RequestValue, Noop, Request}
 use Rattle.lk_members.specs.Windows.{RosterValue}
 use Rattle.lk_leader.specs.Terms.{TermValue, ProposalValue}
 use Rattle.lk_leader.specs.Values.{IsUnderWay, IsFirstNew, NoneIsNew, told_at, reports_at, is_reached, is_changing, IsLeadersValue, highest, first_new, fills}

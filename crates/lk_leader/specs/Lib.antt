@@ -2,5 +2,5 @@ pub mod Waits
 pub mod Terms
 pub mod Values
 pub mod Proposing
-pub mod Counting
+pub mod Acceptances
 pub mod Standing

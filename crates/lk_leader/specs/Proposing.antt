@@ -2,7 +2,7 @@
 use Rattle.std.specs.Prelude.{◌≡◌, ℕ, ◌==◌, ◌+◌, ◌-◌, ◌<◌, ◌≤◌, ◌&&◌, nat_le, Some, None, IsSome, List, [], ◌∷◌, ◌++◌, length, map, filter, slice_get}
 use Rattle.std.specs.List.{list_any}
 use Rattle.lk_types.specs.declared.member.Member.{Member}
-use Rattle.lk_members.specs.Counting.{Command, RequestValue}
+use Rattle.lk_members.specs.Effects.{Command, RequestValue}
 use Rattle.lk_members.specs.Majorities.{IsMajority}
 use Rattle.lk_members.specs.Windows.{RosterValue}
 use Rattle.lk_leader.specs.Terms.{Report, ProposalValue, TermValue, LeaderValue, proposal_at, in_window, with_proposals}

@@ -1,6 +1,6 @@
 -- What a contract sees of a leader.
 pub use Rattle.lk_types.specs.BallotValue.{BallotValue}
-pub use Rattle.lk_members.specs.Counting.{Command, RequestValue}
+pub use Rattle.lk_members.specs.Effects.{Command, RequestValue}
 pub use Rattle.lk_history.specs.Soundness.{Report}
 use Rattle.std.specs.List.{list_any}
 use Rattle.lk_members.specs.Ports.{is_named}

@@ -3,19 +3,19 @@ use Rattle.std.specs.Prelude.{◌≡◌, ◌⊎◌, ℕ, ◌==◌, ◌+◌, ◌<
 use Rattle.std.specs.List.{flat_map, list_any}
 use Rattle.lk_types.specs.Ballots.{IsBelow}
 use Rattle.lk_types.specs.declared.member.Member.{Member}
-use Rattle.lk_members.specs.Counting.{Command, RequestValue, Noop, Request}
+use Rattle.lk_members.specs.Effects.{Command, RequestValue, Noop, Request}
 use Rattle.lk_members.specs.Rosters.{is_member}
 use Rattle.lk_members.specs.Windows.{RosterValue}
 use Rattle.lk_leader.specs.Terms.{Report, ProposalValue, TermValue}
 pub use Rattle.lk_leader.specs.declared.told.Told.{Told}
 
--- a promise counts at a position of this set: a member gave it, from the position or one before it on
-abbrev pub counts_at : List Member → ℕ → Report → Bool
-counts_at set i r = is_member r.node set && nat_le r.first i
+-- a promise speaks for a position of this set: a member gave it, from the position or one before it on
+abbrev pub speaks_at : List Member → ℕ → Report → Bool
+speaks_at set i r = is_member r.node set && nat_le r.first i
 
 -- those of the promises that do
 abbrev pub reports_at : List Member → ℕ → List Report → List Report
-reports_at set i reports = filter (counts_at set i) reports
+reports_at set i reports = filter (speaks_at set i) reports
 
 -- what a promise tells of the position
 abbrev pub told_by : ℕ → Report → List Told

@@ -3,7 +3,7 @@ ghost use Rattle.std.specs.Prelude.{◌≡◌, ◌⊎◌, ◌+◌, ◌≤◌, �
 ghost use Rattle.lk_types.specs.BallotValue.{BallotValue};
 ghost use Rattle.lk_types.specs.declared.member.Member.{Member};
 ghost use Rattle.lk_types.specs.declared.vote.Vote.{Vote};
-ghost use Rattle.lk_members.specs.Counting.{Command, RequestValue, Noop, Request};
+ghost use Rattle.lk_members.specs.Effects.{Command, RequestValue, Noop, Request};
 ghost use Rattle.lk_members.specs.Rosters.{Genesis, members};
 ghost use Rattle.lk_members.specs.Majorities.{IsMajority};
 ghost use Rattle.lk_members.specs.Windows.{RosterValue, RosterSumsUp};
@@ -14,7 +14,7 @@ ghost use Rattle.lk_leader.specs.Terms.{Report, ProposalValue, TermValue, begun,
 ghost use Rattle.lk_leader.specs.Terms as terms;
 ghost use Rattle.lk_leader.specs.Values.{IsLeadersValue};
 ghost use Rattle.lk_leader.specs.Proposing.{IsNext, Proposes, proposed};
-ghost use Rattle.lk_leader.specs.Counting.{members_among, heard, heard_at, IsVoteFor, BecomesCounted};
+ghost use Rattle.lk_leader.specs.Acceptances.{members_among, heard, heard_at, IsVoteFor, GainsMajority};
 ghost use Rattle.lk_leader.specs.Waits.{asked, left_by, AreOneEach};
 ghost use Rattle.lk_leader.specs.Standing.{StandsFor};
 
@@ -30,22 +30,22 @@ pub fn what_is_proposed_is_allowed()
 
 /// What a leader calls chosen was accepted by a majority of the members that the executed list names for the position, and
 /// the term has their acceptances.
-pub fn what_is_counted_was_accepted()
+pub fn what_gains_a_majority_was_accepted()
     ensures { (genesis : Genesis) (done : List Command) (t : Term) (k : TermValue) (roster : RosterValue) (b : BallotValue) (node i : ℕ) (v : Command) (set : List Member) (p : ProposalValue)
-        → RosterSumsUp genesis done roster → i ≤ roster.executed + length roster.sets → StandsFor roster.executed (length roster.sets) t k → IsVoteFor k roster b i v set p → BecomesCounted set node p
+        → RosterSumsUp genesis done roster → i ≤ roster.executed + length roster.sets → StandsFor roster.executed (length roster.sets) t k → IsVoteFor k roster b i v set p → GainsMajority set node p
         → (i ≤ length done + genesis.alpha) × IsMajority (members_among set (heard set node p).accepted) (members genesis done i)
         × ((n : ℕ) → Contains (members_among set (heard set node p).accepted) n
         → Contains (with_acceptance t (record { node = node; position = i; command = v })).accepted (record { node = n; position = i; command = v })) }
 {}
 
-/// A leader goes on standing for its term, whatever it hears, proposes or counts, and as more is executed.
+/// A leader goes on standing for its term, whatever it hears, proposes or decides, and as more is executed.
 pub fn a_leader_stands_for_its_term()
     ensures begins { (executed alpha : ℕ) (b : BallotValue) → StandsFor executed alpha (new_term b) (begun b) }
     ensures later { (executed later alpha : ℕ) (t : Term) (k : TermValue) → executed ≤ later → StandsFor executed alpha t k → StandsFor later alpha t k }
     ensures hears { (executed alpha : ℕ) (t : Term) (k : TermValue) (r : Report) → StandsFor executed alpha t k → StandsFor executed alpha (with_report t r) (terms.with_report r k) }
     ensures proposes { (t : Term) (k : TermValue) (roster : RosterValue) (i : ℕ) (v : Command) → IsNext roster k.proposals i → StandsFor roster.executed (length roster.sets) t k
         → StandsFor roster.executed (length roster.sets) (with_proposal t (i, v)) (proposed roster i v k) }
-    ensures counts { (executed alpha : ℕ) (t : Term) (k : TermValue) (roster : RosterValue) (b : BallotValue) (node i : ℕ) (v : Command) (set : List Member) (p : ProposalValue)
+    ensures gains { (executed alpha : ℕ) (t : Term) (k : TermValue) (roster : RosterValue) (b : BallotValue) (node i : ℕ) (v : Command) (set : List Member) (p : ProposalValue)
         → IsVoteFor k roster b i v set p → StandsFor executed alpha t k
         → StandsFor executed alpha (with_acceptance t (record { node = node; position = i; command = v })) (with_proposals (heard_at set node i k.proposals) k) }
 {}

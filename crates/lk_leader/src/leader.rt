@@ -5,7 +5,7 @@ ghost use Rattle.lk_types.specs.declared.member.Member.{Member as MemberValue};
 ghost use Rattle.lk_leader.specs.Waits.{asked, waiting_of, number_up_to, left_by};
 ghost use Rattle.lk_leader.specs.Terms.{LeaderValue, TermValue, ProposalValue, Command as CommandValue, idle, begun, with_term, with_report, with_proposals, has_promised as is_promiser, IsFirstOf};
 ghost use Rattle.lk_leader.specs.Proposing.{LeaderProposes, proposed};
-ghost use Rattle.lk_leader.specs.Counting.{IsVoteFor, heard_at, BecomesCounted, IsOpen};
+ghost use Rattle.lk_leader.specs.Acceptances.{IsVoteFor, heard_at, GainsMajority, IsOpen};
 
 use crate::report::Report;
 use crate::term::Term;
@@ -25,7 +25,7 @@ pub struct Chosen {
     pub command: Command,
 }
 
-/// A command that is proposed and not counted yet, and the members that were heard to accept it.
+/// A command that is proposed and not decided yet, and the members that were heard to accept it.
 #[derive(Debug, Drop)]
 pub struct Open<'a> {
     pub command: &'a Command,
@@ -131,7 +131,7 @@ impl Leader {
     }
 
     /// A node was heard to accept a command. It counts where the term has proposed that command at that position, in this
-    /// ballot, and the position is in the window. Chosen is what is counted by that and was not before.
+    /// ballot, and the position is in the window. Chosen is what a majority has accepted by that and had not before.
     pub fn accepted(
         &mut self,
         node: NodeNo,
@@ -141,7 +141,7 @@ impl Leader {
         roster: &Roster,
     ) -> Option<Chosen>
         ensures heard { (t : TermValue) (set : List MemberValue) (p : ProposalValue) → self.old.term ≡ Some t → IsVoteFor t roster.now ballot position command.now set p
-            → (self.new ≡ with_term (with_proposals (heard_at set node position t.proposals) t) self.old) × (IsSome result ↔ BecomesCounted set node p) }
+            → (self.new ≡ with_term (with_proposals (heard_at set node position t.proposals) t) self.old) × (IsSome result ↔ GainsMajority set node p) }
         ensures other { ((t : TermValue) (set : List MemberValue) (p : ProposalValue) → self.old.term ≡ Some t → IsVoteFor t roster.now ballot position command.now set p → ⊥)
             → (self.new ≡ self.old) × (result ≡ None) }
         ensures chosen { IfSome result (λ c. c ≡ record { position = position; command = command.now }) }
@@ -215,7 +215,7 @@ impl Leader {
         }
     }
 
-    /// What is proposed at the position and not counted, where the position is in the window.
+    /// What is proposed at the position and not decided, where the position is in the window.
     pub fn open_at(&self, position: Position, roster: &Roster) -> Option<Open<'_>>
         ensures { MatchOption result ((p : ProposalValue) → IsOpen self.now roster.now position p → ⊥)
             (λ o. (p : ProposalValue) × IsOpen self.now roster.now position p × (p.command ≡ o.command.now) × (p.accepted ≡ o.accepted.now)) }
@@ -223,7 +223,7 @@ impl Leader {
         let set = roster.members_at(position)?;
         let term = self.term.as_ref()?;
         let proposal = term.proposal_at(position)?;
-        if proposal.is_counted(set) {
+        if proposal.has_majority(set) {
             return None;
         }
         Some(Open {

@@ -1,4 +1,4 @@
-//! The leader's part of a node: which command its ballot proposes at which position, when a position is counted, and
+//! The leader's part of a node: which command its ballot proposes at which position, when a position is decided, and
 //! which requests wait. No disk, no socket, no bytes, and no call but `ask` and `promise` takes memory.
 #![tactic(auto)]
 

@@ -1,8 +1,8 @@
 ghost use Rattle.std.specs.Prelude.{◌≡◌, false, ◌≤◌, ◌==◌, ◌+◌, ◌<◌, ◌&&◌, nat_lt, nat_le, length, ◌↔◌, [], IsTrue};
 ghost use Rattle.std.specs.List.{list_any};
-ghost use Rattle.lk_members.specs.Counting.{Request as RequestValue};
+ghost use Rattle.lk_members.specs.Effects.{Request as RequestValue};
 ghost use Rattle.lk_leader.specs.Values.{IsUnderWay};
-ghost use Rattle.lk_leader.specs.Counting.{members_among, IsCounted, heard, BecomesCounted};
+ghost use Rattle.lk_leader.specs.Acceptances.{members_among, HasMajority, heard, GainsMajority};
 
 use arrayvec::ArrayVec;
 use lk_members::{Roster, is_majority};
@@ -65,28 +65,28 @@ impl Proposal {
     }
 
     /// Whether a majority of the set has accepted it.
-    pub(crate) fn is_counted(&self, set: &Members) -> bool
-        ensures { IsTrue result ↔ IsCounted set.now self.now }
+    pub(crate) fn has_majority(&self, set: &Members) -> bool
+        ensures { IsTrue result ↔ HasMajority set.now self.now }
     {
         is_majority(set, members_of(set, self.accepted.as_slice()).as_slice())
     }
 
-    /// The node was heard to accept it. Whether the position is counted by that, and was not before.
+    /// The node was heard to accept it. Whether a majority of the set has by that, and had not before.
     fn accept(&mut self, node: NodeNo, set: &Members) -> bool
         ensures heard { self.new ≡ heard set.now node self.old }
-        ensures counted { IsTrue result ↔ BecomesCounted set.now node self.old }
+        ensures gains { IsTrue result ↔ GainsMajority set.now node self.old }
     {
-        let was_counted = self.is_counted(set);
+        let had_majority = self.has_majority(set);
         let mut nodes: ArrayVec<NodeNo, 8> = ArrayVec::try_from(self.accepted.as_slice()).unwrap();
         nodes.push(node);
         self.accepted = members_of(set, nodes.as_slice());
-        !was_counted && self.is_counted(set)
+        !had_majority && self.has_majority(set)
     }
 
-    /// The node was heard to accept this command: it changes nothing where it is another. Whether the position is
-    /// counted by that, and was not before.
+    /// The node was heard to accept this command: it changes nothing where it is another. Whether a majority of
+    /// the set has accepted by that, and had not before.
     pub(crate) fn hear(&mut self, node: NodeNo, command: &Command, set: &Members) -> bool
-        ensures same { self.old.command ≡ command.now → (self.new ≡ heard set.now node self.old) × (IsTrue result ↔ BecomesCounted set.now node self.old) }
+        ensures same { self.old.command ≡ command.now → (self.new ≡ heard set.now node self.old) × (IsTrue result ↔ GainsMajority set.now node self.old) }
         ensures position { self.new.position ≡ self.old.position }
         ensures other { (self.old.command ≡ command.now → ⊥) → (self.new ≡ self.old) × (result ≡ false) }
     {

@@ -66,8 +66,8 @@ impl Report {
         self.node == node && self.first <= position
     }
 
-    /// Whether it counts for a position with these members: a member gave it, from the position or one before it on.
-    pub(crate) fn counts(&self, position: Position, set: &Members) -> bool
+    /// Whether it speaks for a position with these members: a member gave it, from the position or one before it on.
+    pub(crate) fn speaks_for(&self, position: Position, set: &Members) -> bool
         ensures { result ≡ (is_member self.now.node set.now && nat_le self.now.first position) }
     {
         is_one_of(set, self.node) && self.first <= position

@@ -4,7 +4,7 @@ ghost use Rattle.std.specs.List.{list_any};
 ghost use Rattle.lk_leader.specs.Terms.{begun, with_report, with_proposals, proposal_at, ProposalValue, has_promised as is_promiser, BallotValue, Command as CommandValue};
 ghost use Rattle.lk_leader.specs.Values.{IsBest, told_at, reports_at, is_reached, is_changing as is_changing_at, IsLeadersValue};
 ghost use Rattle.lk_leader.specs.Proposing.{promisers as those_who_promised, IsNext, Proposes, proposed};
-ghost use Rattle.lk_leader.specs.Counting.{heard_at, BecomesCounted};
+ghost use Rattle.lk_leader.specs.Acceptances.{heard_at, GainsMajority};
 ghost use Rattle.lk_members.specs.Majorities.{IsMajority};
 
 use crate::proposal::Proposal;
@@ -109,7 +109,7 @@ impl Term {
     {
         let mut best = None;
         for report in &self.reports {
-            if report.counts(position, set) {
+            if report.speaks_for(position, set) {
                 best = report.tell(position, best);
             }
         }
@@ -183,7 +183,7 @@ impl Term {
     }
 
     /// The node was heard to accept the command at the position: it changes nothing where another is proposed there, or
-    /// none. Whether the position is counted by that, and was not before.
+    /// none. Whether a majority has accepted by that, and had not before.
     pub(crate) fn hear(
         &mut self,
         node: NodeNo,
@@ -192,7 +192,7 @@ impl Term {
         set: &Members,
     ) -> bool
         ensures proposed { (p : ProposalValue) → proposal_at position self.old.proposals ≡ Some p → p.command ≡ command.now
-            → (self.new ≡ with_proposals (heard_at set.now node position self.old.proposals) self.old) × (IsTrue result ↔ BecomesCounted set.now node p) }
+            → (self.new ≡ with_proposals (heard_at set.now node position self.old.proposals) self.old) × (IsTrue result ↔ GainsMajority set.now node p) }
         ensures other { ((p : ProposalValue) → proposal_at position self.old.proposals ≡ Some p → p.command ≡ command.now → ⊥)
             → (self.new ≡ self.old) × (result ≡ false) }
     {

@@ -4,12 +4,12 @@ use Rattle.std.proofs.lemmas.Bool.{and_from, le-leb}
 use Rattle.std.proofs.lemmas.List.{length-take, length-drop}
 use Rattle.lk_types.specs.declared.answer.Answer.{Answer}
 use Rattle.lk_wire.specs.Values.{are_commands_from}
-use Rattle.lk_members.specs.Counting.{RequestValue}
+use Rattle.lk_members.specs.Effects.{RequestValue}
 use Rattle.lk_members.specs.Rosters.{PlainRoster, next_roster}
 use Rattle.lk_members.specs.Windows.{RosterValue, moved, newest_roster, changed_by}
 use Rattle.lk_state.specs.Meanings.{Meaning}
 use Rattle.lk_state.specs.Packed.{packed}
-use Rattle.lk_state.specs.Runs.{ran, served_by, counted_now}
+use Rattle.lk_state.specs.Runs.{ran, served_by, in_effect_now}
 use Rattle.lk_state.specs.declared.whole.Ran.{Ran}
 use Rattle.lk_learner.specs.Pairs.{without}
 use Rattle.lk_learner.specs.Learners.{Command, Pair, WholeValue, LearnerValue, IsLearner, executed, alpha, IsWanted, keeping, advanced, IsServed, news_from}
@@ -29,7 +29,7 @@ served_moves m w (Some r) some = (refl, moved_sets (next_roster (newest_roster w
 -- a command that is run moves the state one position on, and leaves as many sets
 pub ran_moves : (m : Meaning) (v : Command) (w : WholeValue) → 1 ≤ length w.roster.sets
     → ((ran m v w).roster.executed ≡ w.roster.executed + 1) × (length (ran m v w).roster.sets ≡ length w.roster.sets)
-ran_moves m v w some = served_moves m w (counted_now w.sessions v) some
+ran_moves m v w some = served_moves m w (in_effect_now w.sessions v) some
 
 pub advanced_fits : (m : Meaning) (v : Command) (l : LearnerValue) → IsLearner l → IsLearner (advanced m v l)
 advanced_fits m v l f =

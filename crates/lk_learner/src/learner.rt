@@ -40,7 +40,7 @@ impl<M: Machine> Learner<M> {
     ghost use Rattle.std.specs.Prelude.{◌≡◌, ◌↔◌, ◌+◌, ◌-◌, ◌*◌, ◌<◌, ◌≤◌, ◌++◌, Some, None, false, List, [], ◌∷◌, IsTrue, OnOk, OnErr, IfOk, MatchOption, Ok, slice_get, length, take, drop};
     ghost use Rattle.lk_state.specs.Packed.{packed};
     ghost use Rattle.std.specs.Option.{option_copied};
-    ghost use Rattle.lk_members.specs.Counting.{Command, counted};
+    ghost use Rattle.lk_members.specs.Effects.{Command, in_effect};
     ghost use Rattle.lk_members.specs.Rosters.{Genesis};
     ghost use Rattle.lk_state.specs.States.{SumsUp, reply_of};
     ghost use Rattle.lk_state.specs.Runs.{run_answer};
@@ -141,7 +141,7 @@ impl<M: Machine> Learner<M> {
         ensures err { OnErr result (self.new ≡ self.old) }
         ensures memory { OnErr result ((v : Command) × IsNext self.old v) }
         ensures reply { (genesis : Genesis) (L : List Command) (v : Command) → SumsUp M.meaning genesis L self.old.whole → IsNext self.old v
-            → IfOk result (λ r. r ≡ Some (record { position = executed self.old + 1; answer = reply_of M.meaning genesis (L ++ v ∷ []) (counted L v) })) }
+            → IfOk result (λ r. r ≡ Some (record { position = executed self.old + 1; answer = reply_of M.meaning genesis (L ++ v ∷ []) (in_effect L v) })) }
     {
         if !self.is_next_kept() {
             return Ok(None);

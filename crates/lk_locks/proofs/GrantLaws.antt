@@ -14,8 +14,8 @@ use Rattle.lk_types.specs.declared.answer.Answer.{Answer}
 use Rattle.lk_types.specs.declared.answer.Answer.TheVariants.{Granted, Shared, Valid, Stale, Broken}
 use Rattle.lk_types.specs.declared.command.Op.{Op}
 use Rattle.lk_types.specs.declared.command.Op.TheVariants.{Table as TableOp, Join, Leave, Raise}
-use Rattle.lk_members.specs.Counting.{Command, RequestValue, Request, counted, counting}
-use Rattle.lk_members.proofs.Memberships.{added, counting-push}
+use Rattle.lk_members.specs.Effects.{Command, RequestValue, Request, in_effect, effects}
+use Rattle.lk_members.proofs.Memberships.{added, effects-push}
 use Rattle.lk_state.specs.Meanings.{Task, Running, Raising}
 use Rattle.lk_locks.specs.declared.body.Body.{Body}
 use Rattle.lk_locks.specs.declared.body.Body.TheVariants.{Acquire, Release, Ask, Check, Share, Break}
@@ -234,21 +234,21 @@ behind_calls (r ∷ rs) t = rw (flat_map-cons (λ (r : RequestValue). call_of r 
     by_op (Leave node) rest = rest t
     by_op Raise rest = rest (raised t)
 
-calls_of-push : (L : List Command) (r : RequestValue) → counted L (Request r) ≡ Some r → calls_of (L ++ Request r ∷ []) ≡ calls_of L ++ call_of r r.op
+calls_of-push : (L : List Command) (r : RequestValue) → in_effect L (Request r) ≡ Some r → calls_of (L ++ Request r ∷ []) ≡ calls_of L ++ call_of r r.op
 calls_of-push L r counts =
     let calls : RequestValue → List Call = λ r. call_of r r.op in
-    ap (flat_map calls) (counting-push L (Request r) ∙ ap (λ (o : Option RequestValue). counting L ++ added o) counts)
-    ∙ flat_map-append calls (counting L) (r ∷ [])
-    ∙ ap (λ (l : List Call). flat_map calls (counting L) ++ l) (flat_map-cons calls r [] ∙ append-nil (call_of r r.op))
+    ap (flat_map calls) (effects-push L (Request r) ∙ ap (λ (o : Option RequestValue). effects L ++ added o) counts)
+    ∙ flat_map-append calls (effects L) (r ∷ [])
+    ∙ ap (λ (l : List Call). flat_map calls (effects L) ++ l) (flat_map-cons calls r [] ∙ append-nil (call_of r r.op))
 
 -- a request that counts and is given a name adds its fence to those of the name
-pub each_fence_is_listed : (name : List ℕ) (L : List Command) (r : RequestValue) (bytes : List ℕ) (body : Body) (fence : ℕ) → counted L (Request r) ≡ Some r → r.op ≡ TableOp bytes
+pub each_fence_is_listed : (name : List ℕ) (L : List Command) (r : RequestValue) (bytes : List ℕ) (body : Body) (fence : ℕ) → in_effect L (Request r) ≡ Some r → r.op ≡ TableOp bytes
     → body_of bytes ≡ Some body → name_of body ≡ name → fences (answer r.client bytes (table_of L)) ≡ fence ∷ [] → fences_in name (L ++ Request r ∷ []) ≡ fences_in name L ++ fence ∷ []
 unfolding table_of
 each_fence_is_listed name L r bytes body fence counts of_table asks is told =
     let call : Call = (r.client, Running bytes) in
     let calls : calls_of (L ++ Request r ∷ []) ≡ calls_of L ++ call ∷ [] = calls_of-push L r counts ∙ ap (λ (op : Op). calls_of L ++ call_of r op) of_table in
-    let table : table_of L ≡ behind empty (calls_of L) = behind_calls (counting L) empty in
+    let table : table_of L ≡ behind empty (calls_of L) = behind_calls (effects L) empty in
     let told_so : fences (answer r.client bytes (behind empty (calls_of L))) ≡ fence ∷ [] = ap (λ (t : Table). fences (answer r.client bytes t)) (sym table) ∙ told in
     let mine : is_for name (body_of bytes) ≡ true = ap (is_for name) asks ∙ (is_for_its_name name body).1 is in
     let last : fences_from name (behind empty (calls_of L)) (call ∷ []) ≡ fence ∷ [] = rw (mine, told_so) refl in

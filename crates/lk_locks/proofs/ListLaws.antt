@@ -6,8 +6,8 @@ use Rattle.lk_types.specs.Ranges.{IsClient}
 use Rattle.lk_types.specs.Commands.{IsCommand}
 use Rattle.lk_types.specs.declared.command.Op.{Op}
 use Rattle.lk_types.specs.declared.command.Op.TheVariants.{Table as TableOp, Join, Leave, Raise}
-use Rattle.lk_members.specs.Counting.{Command, RequestValue, Noop, Request, is_older, counted, placed, counting}
-use Rattle.lk_members.proofs.Memberships.{added, counting-push}
+use Rattle.lk_members.specs.Effects.{Command, RequestValue, Noop, Request, is_older, in_effect, placed, effects}
+use Rattle.lk_members.proofs.Memberships.{added, effects-push}
 use Rattle.lk_state.specs.Meanings.{KeepsTexts}
 use Rattle.lk_state.specs.States.{next_text, text_of}
 use Rattle.lk_state.proofs.Wholes.{by_pushes, text_behind, text_of-push}
@@ -30,12 +30,12 @@ table_added : (m : Table) (o : Option RequestValue) → fold (λ (m : Table) (r 
 table_added m None = refl
 table_added m (Some r) = refl
 
-pub table_of-push : (L : List Command) (c : Command) → table_of (L ++ c ∷ []) ≡ table_behind (table_of L) (counted L c)
+pub table_of-push : (L : List Command) (c : Command) → table_of (L ++ c ∷ []) ≡ table_behind (table_of L) (in_effect L c)
 unfolding table_of
 table_of-push L c =
-    ap (fold (λ (m : Table) (r : RequestValue). table_after r.client r.op m) empty) (counting-push L c)
-    ∙ fold-append (λ (m : Table) (r : RequestValue). table_after r.client r.op m) empty (counting L) (added (counted L c))
-    ∙ table_added (table_of L) (counted L c)
+    ap (fold (λ (m : Table) (r : RequestValue). table_after r.client r.op m) empty) (effects-push L c)
+    ∙ fold-append (λ (m : Table) (r : RequestValue). table_after r.client r.op m) empty (effects L) (added (in_effect L c))
+    ∙ table_added (table_of L) (in_effect L c)
 
 all-front : {X : Type 0} (P : X → Type 0) (xs : List X) (y : X) → AllByRecursion P (xs ++ y ∷ []) → AllByRecursion P xs × P y
 all-front P [] y all = (tt, all.0)
@@ -47,9 +47,9 @@ abbrev IsOfClient : Option RequestValue → Type 0
 IsOfClient None = Unit {0}
 IsOfClient (Some r) = IsClient r.client
 
-counted_is_of_client : (L : List Command) (c : Command) → IsCommand c → IsOfClient (counted L c)
-counted_is_of_client L Noop fits = tt
-counted_is_of_client L (Request r) fits = elim (list_all (is_older r) L) as (λ b. IsOfClient (cond b (Some r) None)) [ true ↦ fits.0 | false ↦ tt ]
+in_effect_is_of_client : (L : List Command) (c : Command) → IsCommand c → IsOfClient (in_effect L c)
+in_effect_is_of_client L Noop fits = tt
+in_effect_is_of_client L (Request r) fits = elim (list_all (is_older r) L) as (λ b. IsOfClient (cond b (Some r) None)) [ true ↦ fits.0 | false ↦ tt ]
 
 -- ---- the text keeps step with the table
 
@@ -63,24 +63,24 @@ op_keeps client (Join node port) m is_client fits = (fits, refl)
 op_keeps client (Leave node) m is_client fits = (fits, refl)
 op_keeps client Raise m is_client fits = (raised_is_table m fits, ap (λ (t : Table). text (raised t)) (again m fits))
 
-counted_keeps : (o : Option RequestValue) (m : Table) → IsOfClient o → IsTable m → IsTextOf (table_behind m o) (text_behind table_meaning (text m) o)
-counted_keeps None m is_client fits = (fits, refl)
-counted_keeps (Some r) m is_client fits = op_keeps r.client r.op m is_client fits
+in_effect_keeps : (o : Option RequestValue) (m : Table) → IsOfClient o → IsTable m → IsTextOf (table_behind m o) (text_behind table_meaning (text m) o)
+in_effect_keeps None m is_client fits = (fits, refl)
+in_effect_keeps (Some r) m is_client fits = op_keeps r.client r.op m is_client fits
 
 -- the text after the list is that of the plain table
 abbrev TextIsPlain : List Command → Type 0
 TextIsPlain L = AllByRecursion IsCommand L → IsTextOf (table_of L) (text_of table_meaning L)
 
 none_is_plain : TextIsPlain []
-unfolding table_of text_of counting placed
+unfolding table_of text_of effects placed
 none_is_plain all = (empty_are_names false, refl)
 
 more_is_plain : (L : List Command) (c : Command) → TextIsPlain L → TextIsPlain (L ++ c ∷ [])
 more_is_plain L c so_far all =
     let parts = all-front IsCommand L c all in
     let before = so_far parts.0 in
-    let o : Option RequestValue = counted L c in
-    let behind = counted_keeps o (table_of L) (counted_is_of_client L c parts.1) before.0 in (
+    let o : Option RequestValue = in_effect L c in
+    let behind = in_effect_keeps o (table_of L) (in_effect_is_of_client L c parts.1) before.0 in (
       subst IsTable (sym (table_of-push L c)) behind.0,
       text_of-push table_meaning L c ∙ ap (λ (t : List ℕ). text_behind table_meaning t o) before.1 ∙ behind.1 ∙ ap text (sym (table_of-push L c)),
     )

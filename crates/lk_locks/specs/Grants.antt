@@ -7,7 +7,7 @@ use Rattle.lk_types.specs.declared.answer.Answer.{Answer}
 use Rattle.lk_types.specs.declared.answer.Answer.TheVariants.{Granted, Shared}
 use Rattle.lk_types.specs.declared.command.Op.{Op}
 use Rattle.lk_types.specs.declared.command.Op.TheVariants.{Table, Join, Leave, Raise}
-use Rattle.lk_members.specs.Counting.{Command, RequestValue, counting}
+use Rattle.lk_members.specs.Effects.{Command, RequestValue, effects}
 use Rattle.lk_state.specs.Meanings.{Task, Running, Raising}
 use Rattle.lk_locks.specs.Bodies.{body_of, name_of}
 use Rattle.lk_locks.specs.Meaning.{next_by_task, task_answer}
@@ -60,7 +60,7 @@ call_of request Raise = (request.client, Raising) ∷ []
 
 -- what the entries of a list that count ask of the table, in order
 abbrev pub calls_of : List Command → List Call
-calls_of L = flat_map (λ request. call_of request request.op) (counting L)
+calls_of L = flat_map (λ request. call_of request request.op) (effects L)
 
 -- the fences of the Granted and Shared answers of the entries that count for the name, in order
 abbrev pub fences_in : List ℕ → List Command → List ℕ

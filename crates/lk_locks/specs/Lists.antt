@@ -3,7 +3,7 @@ use Rattle.std.specs.Prelude.{ℕ, Option, Some, None, List, fold}
 use Rattle.lk_types.specs.declared.answer.Answer.{Answer}
 use Rattle.lk_types.specs.declared.command.Op.{Op}
 use Rattle.lk_types.specs.declared.command.Op.TheVariants.{Table, Join, Leave, Raise}
-use Rattle.lk_members.specs.Counting.{Command, counting}
+use Rattle.lk_members.specs.Effects.{Command, effects}
 use Rattle.lk_locks.specs.Plain as plain
 
 -- the lock table after an op of a client
@@ -22,4 +22,4 @@ table_answer client Raise t = Some (plain.raise_answer t)
 
 -- the lock table after a list: the requests that count, in order
 unfoldable pub table_of : List Command → plain.Table
-table_of L = fold (λ t r. table_after r.client r.op t) plain.empty (counting L)
+table_of L = fold (λ t r. table_after r.client r.op t) plain.empty (effects L)

@@ -5,7 +5,7 @@ ghost use Rattle.std.specs.FinMap as map;
 ghost use Rattle.lk_types.specs.declared.answer.Answer.TheVariants.{Valid, Stale};
 ghost use Rattle.lk_types.specs.declared.command.Op.TheVariants.{Table as TableOp};
 ghost use Rattle.lk_types.specs.Commands.{IsCommand};
-ghost use Rattle.lk_members.specs.Counting.{Command, RequestValue, Request, counted};
+ghost use Rattle.lk_members.specs.Effects.{Command, RequestValue, Request, in_effect};
 ghost use Rattle.lk_state.specs.States.{text_of};
 ghost use Rattle.lk_locks.specs.declared.body.Body.{Body};
 ghost use Rattle.lk_locks.specs.declared.body.Body.TheVariants.{Check, Break};
@@ -63,7 +63,7 @@ pub fn bodies_are_for_their_names()
 
 /// An entry that counts and is given a name, alone or to share, adds its fence to those of the name.
 pub fn each_fence_is_listed()
-    ensures { (name : List ℕ) (L : List Command) (r : RequestValue) (bytes : List ℕ) (body : Body) (fence : ℕ) → counted L (Request r) ≡ Some r → r.op ≡ TableOp bytes → body_of bytes ≡ Some body → name_of body ≡ name → fences (answer r.client bytes (table_of L)) ≡ fence ∷ [] → fences_in name (L ++ Request r ∷ []) ≡ fences_in name L ++ fence ∷ [] }
+    ensures { (name : List ℕ) (L : List Command) (r : RequestValue) (bytes : List ℕ) (body : Body) (fence : ℕ) → in_effect L (Request r) ≡ Some r → r.op ≡ TableOp bytes → body_of bytes ≡ Some body → name_of body ≡ name → fences (answer r.client bytes (table_of L)) ≡ fence ∷ [] → fences_in name (L ++ Request r ∷ []) ≡ fences_in name L ++ fence ∷ [] }
 {}
 
 /// A Check is valid exactly where the name is held at its fence, alone or together, and else stale.

@@ -25,13 +25,13 @@ failures_after WrongStore n = n
 failures_after Failed n = n
 
 -- so of a call
-abbrev pub IsCounted : {T : Type 0} → ℕ → ℕ → Result T StoreFault → Type 0
-IsCounted before now (Ok _) = now ≡ before
-IsCounted before now (Err e) = now ≡ failures_after e before
+abbrev pub FailuresRise : {T : Type 0} → ℕ → ℕ → Result T StoreFault → Type 0
+FailuresRise before now (Ok _) = now ≡ before
+FailuresRise before now (Err e) = now ≡ failures_after e before
 
 -- and nothing but 7 and 8 comes
 pub record IsCaused {T : Type 0} (before now : ℕ) (result : Result T StoreFault) : Type 0 where
-  pub counted : IsCounted before now result
+  pub counted : FailuresRise before now result
   pub only : IfErr result (λ e. (e ≡ Device) ⊎ (e ≡ NoMemory))
 
 -- ---- a store that has failed

@@ -1,7 +1,7 @@
 // Opening a store that a stop may have left.
 ghost use Rattle.std.specs.Prelude.{◌≡◌, ◌+◌, List, [], ◌∷◌, false, length, IfOk, IfErr, IfSome, OnOk, IsErrOf, Ok};
 ghost use Rattle.lk_disk.specs.Disk.{contents, other, flushed, HasCause};
-ghost use Rattle.lk_log.specs.Causes.{IsCaused, IsCounted, ComesBy, IsMetered};
+ghost use Rattle.lk_log.specs.Causes.{IsCaused, FailuresRise, ComesBy, IsMetered};
 ghost use Rattle.lk_log.specs.Entries.{spelling_of_all};
 ghost use Rattle.lk_log.specs.Files.{IsFile};
 ghost use Rattle.lk_log.specs.Rooms.{StaysWithin};
@@ -54,7 +54,7 @@ pub fn find<D: LogDisk>(alloc: Global, device: &mut D) -> Result<Option<(Side, F
     ensures stands { IfOk result (λ found. IfSome found (λ f. MayStand f.1.entries.items)) }
     ensures wrong { IsErrOf result StoreFault.WrongStore → ⊥ }
     ensures failed { IsErrOf result StoreFault.Failed → ⊥ }
-    ensures cause { IsCounted (D.failures device.old) (D.failures device.new) result }
+    ensures cause { FailuresRise (D.failures device.old) (D.failures device.new) result }
     ensures metered { D.is_metered → D.is_honest → IsMetered (D.meter device.old) (D.meter device.new) 0 result }
 {
     let a = read_file(alloc, device, Side::A)?;

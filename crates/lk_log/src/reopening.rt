@@ -5,7 +5,7 @@ ghost use Rattle.lk_disk.specs.Meters.{Passes};
 ghost use Rattle.lk_disk.specs.declared.device.Side.{Side};
 ghost use Rattle.lk_disk.specs.declared.device.Side.TheVariants.{A, B};
 ghost use Rattle.lk_types.specs.Limits.{max_base};
-ghost use Rattle.lk_log.specs.Causes.{IsCaused, IsCounted, failures_after, IsMetered, IsRefusedBy};
+ghost use Rattle.lk_log.specs.Causes.{IsCaused, FailuresRise, failures_after, IsMetered, IsRefusedBy};
 ghost use Rattle.lk_log.specs.Headers.{IsHeader};
 ghost use Rattle.lk_log.specs.Images.{IsEmpty, IsDamaged, seen, generation};
 ghost use Rattle.lk_log.specs.Standings.{HasHeader};
@@ -143,7 +143,7 @@ fn open<D: LogDisk>(
     ensures wrong_stays { D.is_honest → IsErrOf result StoreFault.WrongStore → (s : Side) → D.disk device.new s ≡ D.disk device.old s }
     ensures damaged { IsErrOf result StoreFault.Damaged → ⊥ }
     ensures failed { IsErrOf result StoreFault.Failed → ⊥ }
-    ensures cause { IsCounted (D.failures device.old) (D.failures device.new) result }
+    ensures cause { FailuresRise (D.failures device.old) (D.failures device.new) result }
     ensures metered { D.is_metered → D.is_honest → FoundLive (D.disk device.old) live file.entries.items file.end file.size
         → IsMetered (D.meter device.old) (D.meter device.new) (cut_calls file.end file.size + 1) result }
 {
@@ -186,7 +186,7 @@ fn recover<D: LogDisk>(
     ensures damaged { D.is_honest → IsErrOf result StoreFault.Damaged → StaysDamaged (D.disk device.old) (D.disk device.new) }
     ensures wrong { D.is_honest → IsErrOf result StoreFault.WrongStore → StaysWrong (D.disk device.old) (D.disk device.new) header.now }
     ensures failed { IsErrOf result StoreFault.Failed → ⊥ }
-    ensures cause { IsCounted (D.failures device.old) (D.failures device.new) result }
+    ensures cause { FailuresRise (D.failures device.old) (D.failures device.new) result }
     ensures metered { D.is_metered → D.is_honest → MatchResult result
         (λ _. (k : ℕ) × OpensBy (seen (D.disk device.old)) k × Passes (D.meter device.old) (D.meter device.new) k)
         (λ e. IsRefusedBy (D.meter device.old) (D.meter device.new) e) }
@@ -274,7 +274,7 @@ pub fn look<D: LogDisk>(alloc: Global, device: &mut D) -> Result<Option<LiveFile
     ensures damaged { D.is_honest → IsErrOf result StoreFault.Damaged → IsDamaged (seen (D.disk device.old)) }
     ensures wrong { IsErrOf result StoreFault.WrongStore → ⊥ }
     ensures failed { IsErrOf result StoreFault.Failed → ⊥ }
-    ensures cause { IsCounted (D.failures device.old) (D.failures device.new) result }
+    ensures cause { FailuresRise (D.failures device.old) (D.failures device.new) result }
     // Of a metered device: no changing call.
     ensures metered { D.is_metered → D.is_honest → IsMetered (D.meter device.old) (D.meter device.new) 0 result }
 {

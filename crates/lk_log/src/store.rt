@@ -4,7 +4,7 @@ ghost use Rattle.lk_types.specs.Limits.{max_base};
 ghost use Rattle.lk_disk.specs.Disk.{contents, other};
 ghost use Rattle.lk_disk.specs.Meters.{trapped};
 ghost use Rattle.lk_disk.specs.declared.device.Side.{Side};
-ghost use Rattle.lk_log.specs.Causes.{IsCounted, IsOfDevice, IsOfDeviceOrMemory, RefusesFor, RefusesOrIsLast, FailsByRefusing, FailsUnlessLast, IsMetered, put_calls, rebase_calls};
+ghost use Rattle.lk_log.specs.Causes.{FailuresRise, IsOfDevice, IsOfDeviceOrMemory, RefusesFor, RefusesOrIsLast, FailsByRefusing, FailsUnlessLast, IsMetered, put_calls, rebase_calls};
 ghost use Rattle.lk_log.specs.Rooms.{StaysWithin};
 ghost use Rattle.lk_log.specs.StoreValue.{disks};
 ghost use Rattle.lk_log.specs.Stores.{plain, Holds, KeepsAtLeast, KeepsItsFile, KeepsBothDisks, KeepsOtherDisk, MayBegin, next_base, GoesOver, LeavesEmpty, KeepsOrIs};
@@ -75,7 +75,7 @@ impl<D: LogDisk + Drop> Store<D> {
         ensures file { KeepsItsFile self.old self.new }
         ensures failing { FailsByRefusing self.new result }
         ensures refuses { RefusesFor IsOfDeviceOrMemory self.old self.new result }
-        ensures cause { IsCounted self.old.failures self.new.failures result }
+        ensures cause { FailuresRise self.old.failures self.new.failures result }
         // Of a metered device: an append where there are entries, and a sync where one is asked for.
         ensures metered { D.is_metered → IsMetered self.old.meter self.new.meter (put_calls entries.now sync) result }
     {
@@ -108,7 +108,7 @@ impl<D: LogDisk + Drop> Store<D> {
         ensures file { GoesOver self.old self.new result }
         ensures failing { FailsUnlessLast self.old self.new result }
         ensures refuses { RefusesOrIsLast IsOfDeviceOrMemory self.old self.new result }
-        ensures cause { IsCounted self.old.failures self.new.failures result }
+        ensures cause { FailuresRise self.old.failures self.new.failures result }
         // Of a metered device: four calls.
         ensures metered { D.is_metered → D.is_honest → IsMetered self.old.meter self.new.meter rebase_calls result }
     {
@@ -136,7 +136,7 @@ impl<D: LogDisk + Drop> Store<D> {
         ensures file { KeepsItsFile self.old self.new }
         ensures failing { FailsByRefusing self.new result }
         ensures refuses { RefusesFor IsOfDevice self.old self.new result }
-        ensures cause { IsCounted self.old.failures self.new.failures result }
+        ensures cause { FailuresRise self.old.failures self.new.failures result }
         ensures metered { D.is_metered → IsMetered self.old.meter self.new.meter 0 result }
     {
         if self.failed {

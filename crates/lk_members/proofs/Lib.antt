@@ -1,7 +1,7 @@
 mod Pushes
 mod WindowLaws
 mod SetLaws
-mod CountingLaws
+mod EffectLaws
 mod MajorityLaws
 mod PortLaws
 mod RosterLaws

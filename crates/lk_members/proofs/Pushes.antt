@@ -3,7 +3,7 @@ use Rattle.std.proofs.Common.{◌≡◌, ◌+◌, cond, List, [], ◌∷◌, ◌
 use Rattle.std.specs.List.{filter_map}
 use Rattle.std.proofs.lemmas.List.Sums.{fold-append}
 use Rattle.std.proofs.lemmas.List.Elements.{filter_map-append}
-use Rattle.lk_members.specs.Counting.{Command, RequestValue, Placed, counted, placed_behind, placed, counting}
+use Rattle.lk_members.specs.Effects.{Command, RequestValue, Placed, in_effect, placed_behind, placed, effects}
 use Rattle.lk_members.specs.Rosters.{Genesis, PlainRoster, next_roster, first_roster, roster_of, is_granted_change, is_change, last_change}
 
 placed_behind-push : (before rest : List Command) (c : Command) → placed_behind before (rest ++ c ∷ []) ≡ placed_behind before rest ++ record { before = before ++ rest; entry = c } ∷ []
@@ -22,17 +22,17 @@ abbrev pub added : Option RequestValue → List RequestValue
 added None = []
 added (Some r) = r ∷ []
 
-added_is : (o : Option RequestValue) (p : Placed) → counted p.before p.entry ≡ o → filter_map (λ (p : Placed). counted p.before p.entry) (p ∷ []) ≡ added o
+added_is : (o : Option RequestValue) (p : Placed) → in_effect p.before p.entry ≡ o → filter_map (λ (p : Placed). in_effect p.before p.entry) (p ∷ []) ≡ added o
 added_is None p e = rw e refl
 added_is (Some r) p e = rw e refl
 
-pub counting-push : (L : List Command) (c : Command) → counting (L ++ c ∷ []) ≡ counting L ++ added (counted L c)
-unfolding counting
-counting-push L c =
+pub effects-push : (L : List Command) (c : Command) → effects (L ++ c ∷ []) ≡ effects L ++ added (in_effect L c)
+unfolding effects
+effects-push L c =
     let p : Placed = record { before = L; entry = c } in
-    ap (filter_map (λ (p : Placed). counted p.before p.entry)) (placed-push L c)
-    ∙ filter_map-append (λ (p : Placed). counted p.before p.entry) (placed L) (p ∷ [])
-    ∙ ap (λ (rs : List RequestValue). counting L ++ rs) (added_is (counted L c) p refl)
+    ap (filter_map (λ (p : Placed). in_effect p.before p.entry)) (placed-push L c)
+    ∙ filter_map-append (λ (p : Placed). in_effect p.before p.entry) (placed L) (p ∷ [])
+    ∙ ap (λ (rs : List RequestValue). effects L ++ rs) (added_is (in_effect L c) p refl)
 
 -- the roster after a request that counts, or none
 abbrev pub roster_behind : PlainRoster → Option RequestValue → PlainRoster
@@ -43,14 +43,14 @@ fold_added : (r : PlainRoster) (o : Option RequestValue) → fold (λ (r : Plain
 fold_added r None = refl
 fold_added r (Some q) = refl
 
-pub roster_of-push : (genesis : Genesis) (L : List Command) (c : Command) → roster_of genesis (L ++ c ∷ []) ≡ roster_behind (roster_of genesis L) (counted L c)
+pub roster_of-push : (genesis : Genesis) (L : List Command) (c : Command) → roster_of genesis (L ++ c ∷ []) ≡ roster_behind (roster_of genesis L) (in_effect L c)
 unfolding roster_of
 roster_of-push genesis L c =
-    ap (fold (λ (r : PlainRoster) (q : RequestValue). next_roster r q.op) (first_roster genesis)) (counting-push L c)
-    ∙ fold-append (λ (r : PlainRoster) (q : RequestValue). next_roster r q.op) (first_roster genesis) (counting L) (added (counted L c))
-    ∙ fold_added (roster_of genesis L) (counted L c)
+    ap (fold (λ (r : PlainRoster) (q : RequestValue). next_roster r q.op) (first_roster genesis)) (effects-push L c)
+    ∙ fold-append (λ (r : PlainRoster) (q : RequestValue). next_roster r q.op) (first_roster genesis) (effects L) (added (in_effect L c))
+    ∙ fold_added (roster_of genesis L) (in_effect L c)
 
-pub last_change-push : (genesis : Genesis) (L : List Command) (c : Command) → last_change genesis (L ++ c ∷ []) ≡ cond (is_granted_change (roster_of genesis L) (counted L c)) (length L + 1) (last_change genesis L)
+pub last_change-push : (genesis : Genesis) (L : List Command) (c : Command) → last_change genesis (L ++ c ∷ []) ≡ cond (is_granted_change (roster_of genesis L) (in_effect L c)) (length L + 1) (last_change genesis L)
 unfolding last_change
 last_change-push genesis L c =
     let p : Placed = record { before = L; entry = c } in

@@ -6,7 +6,7 @@ use Rattle.std.proofs.Math.Seq.{take-length, take-nil}
 use Rattle.std.proofs.lemmas.Bool.{and_from}
 use Rattle.std.proofs.lemmas.List.{take-append-le}
 use Rattle.std.proofs.lemmas.Option.{slice_get_within, get_or_from_slice_get}
-use Rattle.lk_members.specs.Counting.{Command, RequestValue, Request, counted, placed, counting}
+use Rattle.lk_members.specs.Effects.{Command, RequestValue, Request, in_effect, placed, effects}
 use Rattle.lk_members.specs.Rosters.{Member, Genesis, PlainRoster, Op, Answer, Table, Join, Leave, Raise, greatest_node, next_roster, roster_answer, is_granted, is_granted_change, members, roster_of, last_change}
 use Rattle.lk_members.specs.Sets.{newest, are_at_most}
 use Rattle.lk_members.specs.Windows.{RosterValue, sets_from, roster_after, newest_roster, moved, moved_unchanged, changed_by}
@@ -81,7 +81,7 @@ newest_roster-roster_after genesis L h =
 
 -- one entry more
 pub roster_after-push : (genesis : Genesis) (L : List Command) (c : Command) → 0 < genesis.alpha
-    → roster_after genesis (L ++ c ∷ []) ≡ moved (roster_behind (newest_roster (roster_after genesis L)) (counted L c)) (cond (is_granted_change (newest_roster (roster_after genesis L)) (counted L c)) (length L + 1) (last_change genesis L)) (roster_after genesis L)
+    → roster_after genesis (L ++ c ∷ []) ≡ moved (roster_behind (newest_roster (roster_after genesis L)) (in_effect L c)) (cond (is_granted_change (newest_roster (roster_after genesis L)) (in_effect L c)) (length L + 1) (last_change genesis L)) (roster_after genesis L)
 unfolding roster_after
 roster_after-push genesis L c h =
     let K : List Command = L ++ c ∷ [] in
@@ -89,11 +89,11 @@ roster_after-push genesis L c h =
     let plain : PlainRoster = newest_roster (roster_after genesis L) in
     let plain_is : plain ≡ roster_of genesis L = newest_roster-roster_after genesis L h in
     let sets = windows genesis L c genesis.alpha refl h in
-    let behind : roster_of genesis K ≡ roster_behind plain (counted L c) = roster_of-push genesis L c ∙ ap (λ (r : PlainRoster). roster_behind r (counted L c)) (sym plain_is) in
-    let changed : last_change genesis K ≡ cond (is_granted_change plain (counted L c)) (length L + 1) (last_change genesis L) = last_change-push genesis L c ∙ ap (λ (r : PlainRoster). cond (is_granted_change r (counted L c)) (length L + 1) (last_change genesis L)) (sym plain_is) in
+    let behind : roster_of genesis K ≡ roster_behind plain (in_effect L c) = roster_of-push genesis L c ∙ ap (λ (r : PlainRoster). roster_behind r (in_effect L c)) (sym plain_is) in
+    let changed : last_change genesis K ≡ cond (is_granted_change plain (in_effect L c)) (length L + 1) (last_change genesis L) = last_change-push genesis L c ∙ ap (λ (r : PlainRoster). cond (is_granted_change r (in_effect L c)) (length L + 1) (last_change genesis L)) (sym plain_is) in
     let rest : List (List Member) = drop 1 (sets_from genesis L (length L + 1) genesis.alpha) in
-    let sets_is : sets_from genesis K (length K + 1) genesis.alpha ≡ rest ++ (roster_behind plain (counted L c)).members ∷ [] = sets ∙ ap (λ (r : PlainRoster). rest ++ r.members ∷ []) behind in
-    let greatest_is : (roster_of genesis K).greatest ≡ (roster_behind plain (counted L c)).greatest = ap (λ (r : PlainRoster). r.greatest) behind in
+    let sets_is : sets_from genesis K (length K + 1) genesis.alpha ≡ rest ++ (roster_behind plain (in_effect L c)).members ∷ [] = sets ∙ ap (λ (r : PlainRoster). rest ++ r.members ∷ []) behind in
+    let greatest_is : (roster_of genesis K).greatest ≡ (roster_behind plain (in_effect L c)).greatest = ap (λ (r : PlainRoster). r.greatest) behind in
     cc
 
 behind_no_grant : (r : PlainRoster) (op : Op) → is_granted (roster_answer r op) ≡ false → next_roster r op ≡ r
@@ -107,15 +107,15 @@ no_grant r None e = refl
 no_grant r (Some q) e = behind_no_grant r q.op e
 
 -- an entry that is granted no change
-pub unchanged-sums_up : (genesis : Genesis) (L : List Command) (c : Command) → 0 < genesis.alpha → is_granted_change (roster_of genesis L) (counted L c) ≡ false
+pub unchanged-sums_up : (genesis : Genesis) (L : List Command) (c : Command) → 0 < genesis.alpha → is_granted_change (roster_of genesis L) (in_effect L c) ≡ false
     → moved_unchanged (roster_after genesis L) ≡ roster_after genesis (L ++ c ∷ [])
 unfolding roster_after
 unchanged-sums_up genesis L c h none =
     let plain : PlainRoster = newest_roster (roster_after genesis L) in
     let plain_is : plain ≡ roster_of genesis L = newest_roster-roster_after genesis L h in
-    let none_here : is_granted_change plain (counted L c) ≡ false = rw plain_is none in
+    let none_here : is_granted_change plain (in_effect L c) ≡ false = rw plain_is none in
     let step = roster_after-push genesis L c h in
-    let stays = no_grant plain (counted L c) none_here in
+    let stays = no_grant plain (in_effect L c) none_here in
     sym (step ∙ rw (stays, none_here) refl)
 
 -- what a join or a leave is answered
@@ -127,7 +127,7 @@ change_answered v op known answer is told genesis L e =
 
 -- a join or a leave that counts
 pub change_sums_up : (v w : RosterValue) (op known : Op) → op ≡ known → w ≡ changed_by known v
-    → (genesis : Genesis) (L : List Command) (r : RequestValue) → v ≡ roster_after genesis L → r.op ≡ op → counted L (Request r) ≡ Some r → w ≡ roster_after genesis (L ++ Request r ∷ [])
+    → (genesis : Genesis) (L : List Command) (r : RequestValue) → v ≡ roster_after genesis L → r.op ≡ op → in_effect L (Request r) ≡ Some r → w ≡ roster_after genesis (L ++ Request r ∷ [])
 unfolding roster_after
 change_sums_up v w op known is next genesis L r e same counts =
     let push : roster_after genesis (L ++ Request r ∷ []) ≡ changed_by r.op (roster_after genesis L) = roster_after-push genesis L (Request r) genesis.in_range.0 ∙ rw counts refl in
@@ -143,7 +143,7 @@ sets_from-get genesis L i k set sets e at is =
     sym (get_or_from_slice_get all k set [] here) ∙ get_or-sets_from genesis L (length L + 1) genesis.alpha k [] within ∙ ap (members genesis L) (sym is)
 
 pub members-begin : (genesis : Genesis) (i : ℕ) → members genesis [] i ≡ genesis.members
-unfolding members roster_of counting placed
+unfolding members roster_of effects placed
 members-begin genesis i = ap (λ (l : List Command). (roster_of genesis l).members) (take-nil (i - genesis.alpha))
 
 -- one more set of a cluster that has executed nothing
@@ -158,7 +158,7 @@ are_at_most-begin genesis i (suc n) =
 
 -- what stands before anything is run
 pub roster_after-begin : (genesis : Genesis) → roster_after genesis [] ≡ record { executed = 0; sets = sets_from genesis [] 1 genesis.alpha; greatest = greatest_node genesis.members; changed = 0 }
-unfolding roster_after roster_of counting placed last_change
+unfolding roster_after roster_of effects placed last_change
 roster_after-begin genesis = refl
 
 -- the set that decides a position is at its index of the window

@@ -1,4 +1,4 @@
-pub mod Counting
+pub mod Effects
 pub mod Rosters
 pub mod Majorities
 pub mod Ports

@@ -7,7 +7,7 @@ pub use Rattle.lk_types.specs.declared.answer.Answer.{Answer}
 pub use Rattle.lk_types.specs.declared.answer.Answer.TheVariants.{Joined, Used, Full, Left, NotMember, Last}
 use Rattle.std.specs.Prelude.{ℕ, ◌+◌, ◌-◌, max, Bool, true, false, not, ◌==◌, nat_le, if◌then◌else◌, Option, Some, None, List, [], ◌∷◌, ◌++◌, length, take, fold, filter}
 use Rattle.std.specs.List.{list_any}
-use Rattle.lk_members.specs.Counting.{Command, RequestValue, Placed, placed, counted, counting}
+use Rattle.lk_members.specs.Effects.{Command, RequestValue, Placed, placed, in_effect, effects}
 
 -- the members, rising by node, and the greatest number that was ever a member
 pub record PlainRoster : Type 0 where
@@ -79,7 +79,7 @@ next_roster r Raise = r
 
 -- the roster after the requests that count, in order
 unfoldable pub roster_of : Genesis → List Command → PlainRoster
-roster_of genesis L = fold (λ r q. next_roster r q.op) (first_roster genesis) (counting L)
+roster_of genesis L = fold (λ r q. next_roster r q.op) (first_roster genesis) (effects L)
 
 -- the members that decide position i: those after the first i - alpha entries
 unfoldable pub members : Genesis → List Command → ℕ → List Member
@@ -91,7 +91,7 @@ is_granted_change r None = false
 is_granted_change r (Some q) = is_granted (roster_answer r q.op)
 
 abbrev pub is_change : Genesis → Placed → Bool
-is_change genesis p = is_granted_change (roster_of genesis p.before) (counted p.before p.entry)
+is_change genesis p = is_granted_change (roster_of genesis p.before) (in_effect p.before p.entry)
 
 -- the position of the last change that was granted, 0 where there is none
 unfoldable pub last_change : Genesis → List Command → ℕ

@@ -1,7 +1,7 @@
 -- What a roster tells of a list that was run: the members of the next positions.
 use Rattle.std.specs.Prelude.{◌≡◌, ℕ, zero, suc, ◌+◌, ◌≤◌, if◌then◌else◌, List, [], ◌∷◌, ◌++◌, length, drop, IsTrue}
 use Rattle.lk_types.specs.Ranges.{IsTotal, IsNode}
-use Rattle.lk_members.specs.Counting.{Command}
+use Rattle.lk_members.specs.Effects.{Command}
 use Rattle.lk_members.specs.Sets.{IsWindow, newest, are_at_most}
 use Rattle.lk_members.specs.Rosters.{Member, Genesis, Op, PlainRoster, roster_answer, next_roster, is_granted, members, roster_of, last_change}
 

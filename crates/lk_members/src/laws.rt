@@ -1,6 +1,6 @@
 //! Laws of the definitions alone.
 ghost use Rattle.std.specs.Prelude.{◌≡◌, ℕ, ◌+◌, ◌≤◌, ◌∷◌, ◌++◌, Some, List, length, Contains};
-ghost use Rattle.lk_members.specs.Counting.{Command, RequestValue, Placed, placed, counted};
+ghost use Rattle.lk_members.specs.Effects.{Command, RequestValue, Placed, placed, in_effect};
 ghost use Rattle.lk_members.specs.Rosters.{Genesis, Member, members};
 ghost use Rattle.lk_members.specs.Majorities.{IsMajority};
 
@@ -10,8 +10,8 @@ pub fn placed_entries_stand()
 {}
 
 /// At most one entry of a list counts for a client's number.
-pub fn numbers_count_once()
-    ensures { (L : List Command) (p q : Placed) (r s : RequestValue) → Contains (placed L) p → Contains (placed L) q → counted p.before p.entry ≡ Some r → counted q.before q.entry ≡ Some s → r.client ≡ s.client → r.number ≡ s.number → p ≡ q }
+pub fn numbers_take_effect_once()
+    ensures { (L : List Command) (p q : Placed) (r s : RequestValue) → Contains (placed L) p → Contains (placed L) q → in_effect p.before p.entry ≡ Some r → in_effect q.before q.entry ≡ Some s → r.client ≡ s.client → r.number ≡ s.number → p ≡ q }
 {}
 
 /// Two majorities of one set share a node.

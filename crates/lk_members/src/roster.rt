@@ -34,7 +34,7 @@ impl Roster {
     ghost use Rattle.std.specs.List.{list_all};
     ghost use Rattle.lk_types.specs.Ranges.{IsAlpha};
     ghost use Rattle.lk_types.specs.Rosters.{AreMembers};
-    ghost use Rattle.lk_members.specs.Counting.{Command, RequestValue, Request, counted};
+    ghost use Rattle.lk_members.specs.Effects.{Command, RequestValue, Request, in_effect};
     ghost use Rattle.lk_members.specs.Rosters.{Genesis, Op as OpValue, Join, Leave, IsChange, members, roster_of, roster_answer, join_answer, leave_answer, is_granted_change};
     ghost use Rattle.lk_members.specs.Sets.{newest, are_at_most};
     ghost use Rattle.lk_members.specs.Windows.{RosterSumsUp, IsRoster, newest_roster, moved, moved_unchanged, changed_by};
@@ -176,7 +176,7 @@ impl Roster {
         requires { self.old.executed < max_count }
         ensures next { self.new ≡ moved_unchanged self.old }
         ensures sums { (genesis : Genesis) (L : List Command) (entry : Command) → RosterSumsUp genesis L self.old
-            → is_granted_change (roster_of genesis L) (counted L entry) ≡ false → RosterSumsUp genesis (L ++ entry ∷ []) self.new }
+            → is_granted_change (roster_of genesis L) (in_effect L entry) ≡ false → RosterSumsUp genesis (L ++ entry ∷ []) self.new }
     {
         let set = self.newest().copy();
         let (greatest, changed) = (self.greatest(), self.changed());
@@ -255,7 +255,7 @@ impl Roster {
         ensures next { self.new ≡ changed_by op.now self.old }
         ensures answers { (genesis : Genesis) (L : List Command) → RosterSumsUp genesis L self.old → roster_answer (roster_of genesis L) op.now ≡ Some result }
         ensures sums { (genesis : Genesis) (L : List Command) (request : RequestValue) → RosterSumsUp genesis L self.old → request.op ≡ op.now
-            → counted L (Request request) ≡ Some request → RosterSumsUp genesis (L ++ Request request ∷ []) self.new }
+            → in_effect L (Request request) ≡ Some request → RosterSumsUp genesis (L ++ Request request ∷ []) self.new }
     {
         match op {
             Op::Join(node, port) => self.join(*node, *port),

@@ -7,7 +7,7 @@ use Rattle.lk_types.specs.declared.entry.Entry.TheVariants as entry
 use Rattle.lk_wire.specs.Grammar.{spelling, IsMessage}
 use Rattle.lk_wire.specs.declared.message.NodeMessage.{NodeMessage}
 use Rattle.lk_wire.specs.declared.message.NodeMessage.TheVariants as kinds
-use Rattle.lk_members.specs.Counting.{RequestValue, Noop, Request}
+use Rattle.lk_members.specs.Effects.{RequestValue, Noop, Request}
 use Rattle.lk_history.specs.Changes.{with_done}
 use Rattle.lk_history.specs.Chosen.{Command, command_at}
 use Rattle.lk_history.specs.Datagrams.{Genesis, Datagram}

@@ -9,8 +9,8 @@ mod LevelRules
 mod AskingRules
 mod LearnerRules
 mod ExecutionRules
-mod Deciding
-mod CountingRules
+mod Decisions
+mod DecidingRules
 mod BallotRules
 mod NearRules
 mod InstallRules

@@ -22,7 +22,7 @@ use Rattle.lk_learner.specs.Learners.{Command, LearnerValue, IsNext}
 use Rattle.lk_node.specs.Answering.{is_granted, with_acceptor, replied, Responds}
 use Rattle.lk_node.specs.Asking.{leader_in, PointsTo, TakesNew, TakesAs}
 use Rattle.lk_node.specs.CatchingUp.{following, HearsLead}
-use Rattle.lk_node.specs.Counting.{IsOnlyHeard, HearsAccepted}
+use Rattle.lk_node.specs.Deciding.{IsOnlyHeard, HearsAccepted}
 use Rattle.lk_node.specs.DecidedPairs.{TakesPairs, none_yet, one_more}
 use Rattle.lk_node.specs.Executing.{NothingToRun}
 use Rattle.lk_node.specs.Installing.{HearsPart}

@@ -22,7 +22,7 @@ use Rattle.lk_learner.specs.Learners.{Command, Pair}
 use Rattle.lk_node.specs.Answering.{is_granted, with_acceptor, replied, Responds}
 use Rattle.lk_node.specs.Asking.{leader_in, PointsTo, TakesNew, TakesAs}
 use Rattle.lk_node.specs.CatchingUp.{HearsLead}
-use Rattle.lk_node.specs.Counting.{IsOnlyHeard, HearsAccepted}
+use Rattle.lk_node.specs.Deciding.{IsOnlyHeard, HearsAccepted}
 use Rattle.lk_node.specs.DecidedPairs.{TakesPairs, none_yet, one_more}
 use Rattle.lk_node.specs.Executing.{SettlesAny, session_by, is_outside, while_named, Executes, Runs, stays, goes_on}
 use Rattle.lk_node.specs.Installing.{SettlesFirst, none_yet as none_settled, one_more as one_settled, HearsPart}

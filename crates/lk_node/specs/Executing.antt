@@ -4,7 +4,7 @@ use Rattle.lk_types.specs.declared.answer.Answer.{Answer}
 use Rattle.lk_wire.specs.Grammar.{spelling, IsMessage}
 use Rattle.lk_wire.specs.declared.message.NodeMessage.{NodeMessage}
 use Rattle.lk_wire.specs.declared.message.NodeMessage.TheVariants as kinds
-use Rattle.lk_members.specs.Counting.{Command, Noop, Request}
+use Rattle.lk_members.specs.Effects.{Command, Noop, Request}
 use Rattle.lk_members.specs.Ports.{is_named}
 use Rattle.lk_log.specs.Values.{HeaderValue}
 use Rattle.lk_state.specs.Meanings.{Meaning}

@@ -25,7 +25,7 @@ pub mod Nearness
 pub mod Packing
 pub mod Leading
 pub mod DecidedPairs
-pub mod Counting
+pub mod Deciding
 pub mod Beginning
 pub mod Waiting
 pub mod Reminding

@@ -8,7 +8,7 @@ use Rattle.lk_types.specs.declared.vote.Vote.{Vote}
 use Rattle.lk_wire.specs.Grammar.{IsMessage}
 use Rattle.lk_wire.specs.declared.message.NodeMessage.{NodeMessage}
 use Rattle.lk_wire.specs.declared.message.NodeMessage.TheVariants as kinds
-use Rattle.lk_leader.specs.Counting.{IsOpen}
+use Rattle.lk_leader.specs.Acceptances.{IsOpen}
 use Rattle.lk_leader.specs.Terms.{ProposalValue, TermValue, LeaderValue, has_promised}
 use Rattle.lk_learner.specs.Learners.{executed, alpha}
 use Rattle.lk_node.specs.NodeValue.{NodeValue}

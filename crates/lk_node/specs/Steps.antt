@@ -14,7 +14,7 @@ use Rattle.lk_node.specs.Asking.{HearsRequest}
 use Rattle.lk_node.specs.CatchingUp.{HearsWant, HearsNack, HearsLead}
 use Rattle.lk_node.specs.Histories.{History}
 use Rattle.lk_node.specs.Leading.{HearsPromise, ProposesOpen}
-use Rattle.lk_node.specs.Counting.{HearsAccepted}
+use Rattle.lk_node.specs.Deciding.{HearsAccepted}
 use Rattle.lk_node.specs.DecidedPairs.{TakesPairs}
 use Rattle.lk_node.specs.Installing.{HearsPart}
 use Rattle.lk_node.specs.NodeValue.{NodeValue}

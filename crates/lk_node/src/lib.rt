@@ -6,7 +6,7 @@ mod answering;
 mod asking;
 mod beginning;
 mod catching_up;
-mod counting;
+mod deciding;
 mod executing;
 mod input;
 mod installing;

@@ -3,14 +3,14 @@ use Rattle.std.proofs.Common.{◌≡◌, ℕ, suc, ◌+◌, ◌-◌, true, List,
 use Rattle.std.specs.List.{list_all}
 use Rattle.lk_types.specs.declared.genesis.Genesis.{Genesis}
 use Rattle.lk_wire.specs.declared.message.NodeMessage.TheVariants as message
-use Rattle.lk_members.specs.Counting.{Command, RequestValue, Request, is_older}
-use Rattle.lk_members.proofs.Memberships.{counted_behind}
+use Rattle.lk_members.specs.Effects.{Command, RequestValue, Request, is_older}
+use Rattle.lk_members.proofs.Memberships.{in_effect_after}
 use Rattle.lk_history.specs.Datagrams.{Datagram}
 use Rattle.lk_history.specs.Chosen.{Chosen}
 use Rattle.lk_locks.specs.Meaning.{table_meaning}
 use Rattle.lk_node.specs.declared.note.Note.{Note}
 use Rattle.lk_sim.specs.Explained.{Explains}
-use Rattle.lk_sim.specs.Orders.{CountsAt, InOrder}
+use Rattle.lk_sim.specs.Orders.{IsEffectiveAt, InOrder}
 use Rattle.std.specs.Prelude.{Result, Ok, Err, OnOk, IfErr}
 use Rattle.lk_disk.specs.Meters.{trapped}
 use Rattle.lk_log.specs.StoreValue.{device_of}
@@ -66,21 +66,21 @@ module _ (genesis : Genesis) (sent : List Datagram) (trace : List Note) where
   pub explained : (L : List Command) × Chosen genesis sent L × Explains table_meaning genesis sent trace L → IsExplained genesis sent trace
   explained e = (e.0, is_chosen genesis sent e.0 e.1, explains e.0 e.1 e.2)
 
-  counts : (L : List Command) (i : ℕ) (r : RequestValue) → TakesEffectAt genesis L i r → CountsAt L i r
+  counts : (L : List Command) (i : ℕ) (r : RequestValue) → TakesEffectAt genesis L i r → IsEffectiveAt L i r
   counts L i r t =
       let front = take (i - 1) L in
       let older : list_all (is_older r) front ≡ true = (leaves genesis front).least r ∙ t.1 in
       (sym (at_is L i) ∙ t.0, rw older refl)
 
-  counts_back : (L : List Command) (i : ℕ) (r : RequestValue) → CountsAt L i r → TakesEffectAt genesis L i r
-  counts_back L i r c =
+  effective_back : (L : List Command) (i : ℕ) (r : RequestValue) → IsEffectiveAt L i r → TakesEffectAt genesis L i r
+  effective_back L i r c =
       let front = take (i - 1) L in
-      (at_is L i ∙ c.0, sym ((leaves genesis front).least r) ∙ (counted_behind front (Request r) r c.1).1)
+      (at_is L i ∙ c.0, sym ((leaves genesis front).least r) ∙ (in_effect_after front (Request r) r c.1).1)
 
   pub ordered : InOrder genesis sent trace → IsOrdered genesis sent trace
   ordered o front back parts n client number a answered_there r new L i chosen takes =
       let b = o front back parts n client number a answered_there r new L i (chosen_is genesis sent L chosen) (counts L i r takes) in
-      (b.place, b.request, b.before, b.of_client, b.of_number, counts_back L b.place b.request b.counts)
+      (b.place, b.request, b.before, b.of_client, b.of_number, effective_back L b.place b.request b.counts)
 
 -- ---- of the replica of the lock table
 

@@ -9,7 +9,7 @@ use Rattle.lk_types.specs.declared.answer.Answer.TheVariants.{Raised, AlreadyRai
 use Rattle.lk_types.specs.declared.command.Op.{Op}
 use Rattle.lk_types.specs.declared.command.Op.TheVariants.{Table, Join, Leave, Raise}
 use Rattle.lk_types.specs.declared.genesis.Genesis.{Genesis}
-use Rattle.lk_members.specs.Counting.{Command, RequestValue, Noop, Request, is_older, counted, placed, counting}
+use Rattle.lk_members.specs.Effects.{Command, RequestValue, Noop, Request, is_older, in_effect, placed, effects}
 use Rattle.lk_members.specs.Rosters.{PlainRoster, next_roster, roster_of, roster_answer, is_granted, is_granted_change, last_change}
 use Rattle.lk_members.specs.Windows.{RosterValue, roster_after}
 use Rattle.lk_members.proofs.Memberships.{roster_of-push, roster_after-push, newest_roster-roster_after}
@@ -79,11 +79,11 @@ pub record Leaves (genesis : Genesis) (L : List Command) (s : State) : Type 0 wh
   pub position : s.position ≡ length L
   pub changed : last_change genesis L ≡ s.changed
 
-change_more : (genesis : Genesis) (L : List Command) (c : Command) → last_change genesis (L ++ c ∷ []) ≡ cond (is_granted_change (roster_of genesis L) (counted L c)) (length L + 1) (last_change genesis L)
+change_more : (genesis : Genesis) (L : List Command) (c : Command) → last_change genesis (L ++ c ∷ []) ≡ cond (is_granted_change (roster_of genesis L) (in_effect L c)) (length L + 1) (last_change genesis L)
 unfolding roster_after
 change_more genesis L c =
     ap (λ (v : RosterValue). v.changed) (roster_after-push genesis L c genesis.in_range.0)
-    ∙ ap (λ (r : PlainRoster). cond (is_granted_change r (counted L c)) (length L + 1) (last_change genesis L)) (newest_roster-roster_after genesis L genesis.in_range.0)
+    ∙ ap (λ (r : PlainRoster). cond (is_granted_change r (in_effect L c)) (length L + 1) (last_change genesis L)) (newest_roster-roster_after genesis L genesis.in_range.0)
 
 one_more : (L : List Command) (c : Command) (n : ℕ) → n ≡ length L → n + 1 ≡ length (L ++ c ∷ [])
 one_more L c n e = ap (λ (k : ℕ). k + 1) e ∙ sym (length-append L (c ∷ []))
@@ -167,7 +167,7 @@ step genesis L (Request q) s now = elim (cases_Bool (takes_effect s q)) [
 ]
 
 first : (genesis : Genesis) → Leaves genesis [] (after genesis [])
-unfolding roster_of table_of counting placed after last_change
+unfolding roster_of table_of effects placed after last_change
 first genesis = record {
   least = λ r. sym (le-leb 0 r.number (omega arith));
   roster = ap (λ (n : ℕ). let x : PlainRoster = record { members = genesis.members; greatest = n } in x) (greatest_agrees genesis.members);

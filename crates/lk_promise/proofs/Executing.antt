@@ -5,7 +5,7 @@ use Rattle.std.proofs.lemmas.Bool.{cases_Bool, and_parts, eqb-true}
 use Rattle.lk_types.specs.Commands.{IsCommand}
 use Rattle.lk_wire.specs.Values.{PartValue}
 use Rattle.lk_types.specs.declared.genesis.Genesis.{Genesis}
-use Rattle.lk_members.specs.Counting.{Command, RequestValue, Request, is_of_another, is_at_most}
+use Rattle.lk_members.specs.Effects.{Command, RequestValue, Request, is_of_another, is_at_most}
 use Rattle.lk_members.specs.Rosters.{PlainRoster, roster_of, last_change}
 use Rattle.lk_members.specs.Windows.{RosterValue, roster_after}
 use Rattle.lk_members.proofs.Memberships.{length_of_window, set_of_window}

@@ -7,9 +7,9 @@ use Rattle.lk_types.specs.declared.answer.Answer.{Answer}
 use Rattle.lk_types.specs.declared.command.Op.{Op}
 use Rattle.lk_types.specs.declared.command.Op.TheVariants.{Table, Join, Leave, Raise}
 use Rattle.lk_types.specs.declared.genesis.Genesis.{Genesis}
-use Rattle.lk_members.specs.Counting.{Command, RequestValue, counted}
+use Rattle.lk_members.specs.Effects.{Command, RequestValue, in_effect}
 use Rattle.lk_members.specs.Rosters.{PlainRoster, roster_of, join_answer, leave_answer}
-use Rattle.lk_members.proofs.Memberships.{placed_entries_stand, counted_behind}
+use Rattle.lk_members.proofs.Memberships.{placed_entries_stand, in_effect_after}
 use Rattle.lk_state.specs.Meanings.{Running, Raising}
 use Rattle.lk_state.specs.States.{text_of, op_answer, session_in, reply}
 use Rattle.lk_state.specs.declared.session.Session.{Session}
@@ -62,12 +62,12 @@ op_answered genesis L s now all client (Join node port) = ap (λ (x : PlainRoste
 op_answered genesis L s now all client (Leave node) = ap (λ (x : PlainRoster). leave_answer x node) now.roster ∙ (leave_agrees node s).answer_is
 op_answered genesis L s now all client Raise = answer-text_of L all client Raising ∙ ap plain.raise_answer now.locks ∙ raise_agrees s
 
-counted_answer : (genesis : Genesis) (before later : List Command) (entry : Command) (client number : ℕ) (a : Answer) (o : Option RequestValue) → AllByRecursion IsCommand before → counted before entry ≡ o
+effective_answer : (genesis : Genesis) (before later : List Command) (entry : Command) (client number : ℕ) (a : Answer) (o : Option RequestValue) → AllByRecursion IsCommand before → in_effect before entry ≡ o
     → session_in table_meaning (roster_of genesis before) (text_of table_meaning before) o ≡ Some (record { client = client; number = number; answer = a })
     → IsAnswered genesis (before ++ (entry ∷ later)) client number a
-counted_answer genesis before later entry client number a None all counts e = absurd cc
-counted_answer genesis before later entry client number a (Some q) all counts e =
-    let is = counted_behind before entry q counts in
+effective_answer genesis before later entry client number a None all counts e = absurd cc
+effective_answer genesis before later entry client number a (Some q) all counts e =
+    let is = in_effect_after before entry q counts in
     let now = leaves genesis before in
     let given : Session = record { client = q.client; number = q.number; answer = op_answer table_meaning (roster_of genesis before) (text_of table_meaning before) q.client q.op } in
     let wanted : Session = record { client = client; number = number; answer = a } in
@@ -89,4 +89,4 @@ answered genesis L client number a all e =
     let p = replies_stand table_meaning genesis L client number a e in
     let place = placed_entries_stand L p.0 p.1 in
     let fits = all_front IsCommand p.0.before (p.0.entry ∷ place.0) (subst (AllByRecursion IsCommand) place.1 all) in
-    subst (λ (K : List Command). IsAnswered genesis K client number a) (sym place.1) (counted_answer genesis p.0.before place.0 p.0.entry client number a (counted p.0.before p.0.entry) fits refl p.2)
+    subst (λ (K : List Command). IsAnswered genesis K client number a) (sym place.1) (effective_answer genesis p.0.before place.0 p.0.entry client number a (in_effect p.0.before p.0.entry) fits refl p.2)

@@ -3,7 +3,7 @@ use Rattle.std.proofs.Common.{◌≡◌, ℕ, zero, suc, ◌-◌, ◌<◌, ◌�
 use Rattle.std.specs.List.{list_all}
 use Rattle.std.proofs.lemmas.Bool.{cases_Bool, and_parts, ltb-true, ltb-false}
 use Rattle.lk_types.specs.declared.genesis.Genesis.{Genesis}
-use Rattle.lk_members.specs.Counting.{Command, RequestValue, Request, is_older}
+use Rattle.lk_members.specs.Effects.{Command, RequestValue, Request, is_older}
 use Rattle.lk_history.proofs.Histories.{cons_cases, contains_more}
 use Rattle.lk_promise.specs.Plain.{at, TakesEffectAt, TakesEffectOnce}
 use Rattle.lk_promise.proofs.Effects.{leaves}

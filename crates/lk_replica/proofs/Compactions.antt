@@ -13,7 +13,7 @@ use Rattle.lk_state.specs.Meanings.{Meaning}
 use Rattle.lk_replica.specs.Compacted.{IsCompacted, IsStoreFault, IsNotCompacted, CompactsTo}
 use Rattle.lk_replica.specs.Compacting.{AllStandAt}
 use Rattle.lk_replica.specs.Rebased.{StandsOnBase, HasGoneOver}
-use Rattle.lk_replica.specs.Faults.{fault_number, fault_of, CountsFailure, RefusedAfter}
+use Rattle.lk_replica.specs.Faults.{fault_number, fault_of, RaisesFailures, RefusedAfter}
 use Rattle.lk_replica.specs.ReplicaValue.{ReplicaValue}
 use Rattle.lk_replica.specs.declared.fault.ReplicaFault.{ReplicaFault}
 use Rattle.lk_replica.specs.declared.fault.ReplicaFault.TheVariants as fault
@@ -76,7 +76,7 @@ failed_alone fault.Halted is = absurd (omega (arith, is))
 failed_alone (fault.Send notes) is = absurd (omega (arith, is))
 
 -- it was refused, for a cause
-pub refused : {T : Type 0} (m : Meaning) (old new : ReplicaValue) (r : Result T ReplicaFault) → CountsFailure old.store.failures new.store.failures r → IfErr r (λ e. IsNotCompacted ⊤ ⊤ old new (fault_number e)) → new.node.halted ≡ old.node.halted
+pub refused : {T : Type 0} (m : Meaning) (old new : ReplicaValue) (r : Result T ReplicaFault) → RaisesFailures old.store.failures new.store.failures r → IfErr r (λ e. IsNotCompacted ⊤ ⊤ old new (fault_number e)) → new.node.halted ≡ old.node.halted
     → (max_count ≤ old.store.generation → (new.store ≡ old.store) × IsErrOf r fault.Failed) → IfErr r (λ e. CompactsTo m old new (Err (fault_number e)))
 refused m old new (Ok x) cause why wakes last = tt
 refused m old new (Err e) cause why wakes last = (

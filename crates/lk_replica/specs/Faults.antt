@@ -26,9 +26,9 @@ abbrev pub failures_by : ℕ → ℕ → ℕ
 failures_by number n = if number == 7 then one_more n else n
 
 -- so of a call
-abbrev pub CountsFailure : {T : Type 0} → ℕ → ℕ → Result T ReplicaFault → Type 0
-CountsFailure before now (Ok _) = now ≡ before
-CountsFailure before now (Err e) = now ≡ failures_by (fault_number e) before
+abbrev pub RaisesFailures : {T : Type 0} → ℕ → ℕ → Result T ReplicaFault → Type 0
+RaisesFailures before now (Ok _) = now ≡ before
+RaisesFailures before now (Err e) = now ≡ failures_by (fault_number e) before
 
 -- which calls of a metered device a refusal of this number comes after: one has failed, or all have passed
 abbrev pub RefusedAfter : ℕ → Meter → Meter → Type 0

@@ -11,7 +11,7 @@ ghost use Rattle.lk_replica.specs.Compacting.{IsDue, IsSameStore};
 ghost use Rattle.lk_replica.specs.Compacted.{IsNotCompacted};
 ghost use Rattle.lk_replica.specs.Rebased.{StandsOnBase, HasGoneOver, StaysSafe, IsNotRebased, StaysAlive, IsReadyToStep};
 ghost use Rattle.lk_replica.specs.Taking.{LeavesDisks};
-ghost use Rattle.lk_replica.specs.Faults.{fault_number, CountsFailure, PassesOr, WantsNoMemory};
+ghost use Rattle.lk_replica.specs.Faults.{fault_number, RaisesFailures, PassesOr, WantsNoMemory};
 
 use crate::fault::ReplicaFault;
 use crate::replica::Replica;
@@ -41,7 +41,7 @@ pub fn write_base<M: Machine, D: LogDisk + Drop>(
     ensures format_stays { store.old.format ≡ 2 → store.new.format ≡ 2 }
     ensures refused { IfErr result (IsNotRebased D.is_honest D.is_metered store.old store.new) }
     ensures last { max_count ≤ store.old.generation → (store.new ≡ store.old) × IsErrOf result ReplicaFault.Failed }
-    ensures cause { CountsFailure store.old.failures store.new.failures result }
+    ensures cause { RaisesFailures store.old.failures store.new.failures result }
 {
     let packed = node.standing();
     if store.generation() >= MAX_COUNT {
@@ -66,7 +66,7 @@ fn is_due<M: Machine, D: LogDisk + Drop>(
     ensures alive { OnOk result (store.new.failed ≡ false) }
     ensures memory { IfErr result (λ e. WantsNoMemory (fault_number e)) }
     ensures failed_before { store.old.failed ≡ false → IsErrOf result ReplicaFault.Failed → ⊥ }
-    ensures cause { CountsFailure store.old.failures store.new.failures result }
+    ensures cause { RaisesFailures store.old.failures store.new.failures result }
     ensures metered { D.is_metered → PassesOr store.old.meter store.new.meter 0 result }
     ensures small { D.is_honest → IfOk result (λ due. due ≡ false → length (contents store.new.live_disk) < 131072) }
 {
@@ -88,7 +88,7 @@ pub fn rebase_where_due<M: Machine, D: LogDisk + Drop>(
     ensures refused { IfErr result (IsNotRebased D.is_honest D.is_metered store.old store.new) }
     // Where a rebase is due at generation 2^48, it answers `Failed`, also where memory is refused, or `Device` where the device fails.
     ensures last { D.is_honest → max_count ≤ store.old.generation → IsDue node.old store.old → IsErrAnd result (λ e. WantsNoMemory (fault_number e)) }
-    ensures cause { CountsFailure store.old.failures store.new.failures result }
+    ensures cause { RaisesFailures store.old.failures store.new.failures result }
 {
     let due = is_due(node, store)?;
     if !due {
@@ -118,7 +118,7 @@ impl<M: Machine, D: LogDisk + Drop> Replica<M, D> {
         // At generation 2^48 it answers `Failed`, also where memory is refused, and leaves its store as it was.
         ensures last { max_count ≤ self.old.store.generation → (self.new.store ≡ self.old.store) × IsErrOf result ReplicaFault.Failed }
         // `Device` comes exactly where a call of the device has failed.
-        ensures cause { CountsFailure self.old.store.failures self.new.store.failures result }
+        ensures cause { RaisesFailures self.old.store.failures self.new.store.failures result }
     {
         if self.failed {
             return Err(ReplicaFault::Failed);

@@ -6,7 +6,7 @@ ghost use Rattle.lk_log.specs.Stores.{Holds, KeepsOrIs, next_base};
 ghost use Rattle.lk_log.specs.declared.stored.Stored.{Stored};
 ghost use Rattle.lk_node.specs.Packing.{standing_of};
 ghost use Rattle.lk_replica.specs.Compacting.{renew_calls};
-ghost use Rattle.lk_replica.specs.Faults.{fault_number, CountsFailure, PassesOr};
+ghost use Rattle.lk_replica.specs.Faults.{fault_number, RaisesFailures, PassesOr};
 ghost use Rattle.lk_replica.specs.Rebased.{StaysSafe};
 ghost use Rattle.lk_replica.specs.Renewals.{IsRenewed, HasFormatTwo, IsNotRenewed};
 
@@ -34,7 +34,7 @@ pub fn renew<M: Machine, D: LogDisk + Drop>(
     ensures refused { IfErr result (λ e. IsNotRenewed store.old (fault_number e)) }
     // A store of format 1 that has the last generation is refused with `Failed`, also where memory is refused.
     ensures last { store.old.format ≡ 1 → max_count ≤ store.old.generation → (store.new ≡ store.old) × IsErrOf result ReplicaFault.Failed }
-    ensures cause { CountsFailure store.old.failures store.new.failures result }
+    ensures cause { RaisesFailures store.old.failures store.new.failures result }
     ensures metered { D.is_metered → D.is_honest → PassesOr store.old.meter store.new.meter (renew_calls store.old.format) result }
 {
     if store.format() == 2 {

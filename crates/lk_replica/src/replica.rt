@@ -17,7 +17,7 @@ ghost use Rattle.lk_node.specs.Letters.{LetterValue, batch_of};
 ghost use Rattle.lk_replica.specs.Posts.{AreOf, GivesLetters, SendsAs, RefusesSends};
 ghost use Rattle.lk_node.specs.Steps.{Steps};
 ghost use Rattle.lk_replica.specs.Taking.{Writes, CallsOfStep, IsTaken, IsRefused, IsCutShort, StaysUp, StepsOn, LeavesDisks, StepsToDisk, StepLeavesDisks};
-ghost use Rattle.lk_replica.specs.Faults.{fault_number, CountsFailure, IfGoesOn, WantsNoMemory};
+ghost use Rattle.lk_replica.specs.Faults.{fault_number, RaisesFailures, IfGoesOn, WantsNoMemory};
 ghost use Rattle.lk_replica.specs.Remembering.{Remembers};
 ghost use Rattle.lk_replica.specs.Rooms.{max_behind};
 
@@ -82,7 +82,7 @@ impl<M: Machine, D: LogDisk + Drop> Replica<M, D> {
         // Under `Send` some sends have failed, and under another refusal nothing was given to the post.
         ensures sends { IfErr result (λ e. RefusesSends (fault_number e) post.old post.new (P.failures post.old) (P.failures post.new)) }
         // `Device` comes exactly where a call of the device has failed.
-        ensures cause { CountsFailure self.old.store.failures self.new.store.failures result }
+        ensures cause { RaisesFailures self.old.store.failures self.new.store.failures result }
         ensures failed { self.old.failed ≡ true → IsErrOf result ReplicaFault.Failed }
         // Where a rebase is due at generation 2^48 it answers `Failed`, also where memory is refused, or `Device` where the device fails.
         ensures last { D.is_honest → max_count ≤ self.old.store.generation → IsDue self.old.node self.old.store → IsErrAnd result (λ e. WantsNoMemory (fault_number e)) }
@@ -187,7 +187,7 @@ fn step_to_disk<M: Machine, D: LogDisk + Drop>(
     ensures format { store.new.format ≡ 2 }
     // At generation 2^48 no step is done that has to rebase.
     ensures last { max_count ≤ store.old.generation → IfOk result (λ o. o.rebase ≡ false) }
-    ensures cause { CountsFailure store.old.failures store.new.failures result }
+    ensures cause { RaisesFailures store.old.failures store.new.failures result }
 {
     let outbox = node.step(input)?;
     if outbox.rebase {
@@ -217,7 +217,7 @@ fn rebase_and_step<M: Machine, D: LogDisk + Drop>(
     ensures refused { IfErr result (IsCutShort D.is_honest D.is_metered 2 node.old store.old node.new store.new (AreLeft node.old store.old store.new)) }
     ensures format { store.new.format ≡ 2 }
     ensures last { D.is_honest → max_count ≤ store.old.generation → IsDue node.old store.old → IsErrAnd result (λ e. WantsNoMemory (fault_number e)) }
-    ensures cause { CountsFailure store.old.failures store.new.failures result }
+    ensures cause { RaisesFailures store.old.failures store.new.failures result }
 {
     rebase_where_due(node, store)?;
     let outbox = step_to_disk(node, store, input)?;

@@ -13,8 +13,8 @@ use Rattle.lk_wire.specs.declared.message.Content.TheVariants as content
 use Rattle.lk_wire.specs.declared.message.Message.{Message}
 use Rattle.lk_wire.specs.Grammar.{spelling, Spells}
 use Rattle.lk_wire.proofs.Spellings.{one_message}
-use Rattle.lk_members.specs.Counting.{Command, RequestValue, Request, Placed, counted, is_at_most, IsLast}
-use Rattle.lk_members.proofs.Memberships.{numbers_count_once}
+use Rattle.lk_members.specs.Effects.{Command, RequestValue, Request, Placed, in_effect, is_at_most, IsLast}
+use Rattle.lk_members.proofs.Memberships.{numbers_take_effect_once}
 use Rattle.lk_locks.specs.Lists.{table_of, table_answer}
 use Rattle.lk_replica.specs.Behaviours.{Behaviour}
 use Rattle.lk_script.specs.Replies.{IsReply, with_request}
@@ -37,8 +37,8 @@ some_same e = cc
 reply_once : (L : List Command) (client number : ℕ) (a b : Answer) → IsReply L client number a → IsReply L client number b → a ≡ b
 reply_once L client number a b x y =
     let places : x.place ≡ y.place =
-    numbers_count_once L x.place y.place x.request y.request x.stands y.stands x.counts y.counts (x.of_client ∙ sym y.of_client) (x.of_number ∙ sym y.of_number) in
-    let requests : x.request ≡ y.request = some_same (sym x.counts ∙ ap (λ (p : Placed). counted p.before p.entry) places ∙ y.counts) in
+    numbers_take_effect_once L x.place y.place x.request y.request x.stands y.stands x.counts y.counts (x.of_client ∙ sym y.of_client) (x.of_number ∙ sym y.of_number) in
+    let requests : x.request ≡ y.request = some_same (sym x.counts ∙ ap (λ (p : Placed). in_effect p.before p.entry) places ∙ y.counts) in
     some_same (sym x.answered ∙ ap (λ (r : RequestValue). table_answer r.client r.op (table_of x.place.before)) requests
     ∙ ap (λ (p : Placed). table_answer y.request.client y.request.op (table_of p.before)) places ∙ y.answered)
 

@@ -3,7 +3,7 @@ use Rattle.std.proofs.Common.{◌≡◌, ◌≢◌, ℕ, ◌+◌, List, [], ◌�
 use Rattle.std.proofs.lemmas.List.{append-nil}
 use Rattle.std.specs.Io.KnownBytes.{Appends}
 use Rattle.lk_types.specs.declared.member.Member.{Member}
-use Rattle.lk_members.specs.Counting.{Command}
+use Rattle.lk_members.specs.Effects.{Command}
 use Rattle.lk_replica.specs.Behaviours.{Behaviour}
 use Rattle.lk_sim.specs.Runs.{Passes}
 use Rattle.lk_sim.specs.declared.refused.Refused.{Refused}

@@ -9,17 +9,17 @@ use Rattle.lk_types.specs.declared.command.Op.{Op}
 use Rattle.lk_types.specs.declared.command.Op.TheVariants.{Table, Join, Leave, Raise}
 use Rattle.lk_wire.specs.declared.message.NodeMessage.{NodeMessage}
 use Rattle.lk_wire.specs.declared.message.NodeMessage.TheVariants as message
-use Rattle.lk_members.specs.Counting.{Command, RequestValue, Noop, Request, Placed, placed, counted, IsLast}
+use Rattle.lk_members.specs.Effects.{Command, RequestValue, Noop, Request, Placed, placed, in_effect, IsLast}
 use Rattle.lk_members.specs.Rosters.{Genesis, roster_of}
 use Rattle.lk_members.specs.Windows.{roster_after}
-use Rattle.lk_members.proofs.Memberships.{AllByRecursion-push, placed_entries_stand, counted_behind, IsLast-new}
+use Rattle.lk_members.proofs.Memberships.{AllByRecursion-push, placed_entries_stand, in_effect_after, IsLast-new}
 use Rattle.lk_state.specs.Meanings.{Running, Raising}
 use Rattle.lk_state.specs.Sessions.{session_of, is_new}
 use Rattle.lk_state.specs.States.{WholeValue, op_answer, session_in, text_of, reply, reply_of, last_served, whole_after, SumsUp as StandsFor}
 use Rattle.lk_state.specs.Runs.{seen_as}
 use Rattle.lk_state.specs.declared.session.Session.{Session}
 use Rattle.lk_state.specs.declared.whole.Seen.TheVariants as seen
-use Rattle.lk_state.proofs.Wholes.{seen_last, counts_above_last, last_is_greatest, last_is_replied, replies_stand}
+use Rattle.lk_state.proofs.Wholes.{seen_last, takes_effect_above_last, last_is_greatest, last_is_replied, replies_stand}
 use Rattle.lk_locks.specs.Lists.{table_of, table_answer}
 use Rattle.lk_locks.specs.Meaning.{table_meaning}
 use Rattle.lk_locks.proofs.Tables.{answer-text_of}
@@ -66,7 +66,7 @@ abbrev read_answer : Genesis → Placed → RequestValue → Answer
 read_answer genesis p q = op_answer table_meaning (roster_of genesis p.before) (text_of table_meaning p.before) q.client q.op
 
 module _ (genesis : Genesis) (L : List Command) (asked : AllByRecursion AsksTable L) (p : Placed) (stands : Contains (placed L) p) where
-  reply_at : (client number : ℕ) (a : Answer) (o : Option RequestValue) → counted p.before p.entry ≡ o
+  reply_at : (client number : ℕ) (a : Answer) (o : Option RequestValue) → in_effect p.before p.entry ≡ o
       → session_in table_meaning (roster_of genesis p.before) (text_of table_meaning p.before) o ≡ Some (record { client = client; number = number; answer = a }) → IsReply L client number a
   reply_at client number a None counts e = absurd cc
   reply_at client number a (Some q) counts e =
@@ -75,7 +75,7 @@ module _ (genesis : Genesis) (L : List Command) (asked : AllByRecursion AsksTabl
       let is : s ≡ t = same s t e in
       let behind = placed_entries_stand L p stands in
       let parts = parts_of p.before p.entry behind.0 (subst (AllByRecursion AsksTable) behind.1 asked) in
-      let ask : AsksTable (Request q) = subst AsksTable (counted_behind p.before p.entry q counts).0 parts.1 in
+      let ask : AsksTable (Request q) = subst AsksTable (in_effect_after p.before p.entry q counts).0 parts.1 in
       record {
         place = p;
         stands = stands;
@@ -92,7 +92,7 @@ module _ (genesis : Genesis) (L : List Command) (asked : AllByRecursion AsksTabl
 reply_is_plain : (genesis : Genesis) (L : List Command) (client number : ℕ) (a : Answer) → AllByRecursion AsksTable L → reply table_meaning genesis L client number ≡ Some a → IsReply L client number a
 reply_is_plain genesis L client number a asked e =
     let found = replies_stand table_meaning genesis L client number a e in
-    reply_at genesis L asked found.0 found.1 client number a (counted found.0.before found.0.entry) refl found.2
+    reply_at genesis L asked found.0 found.1 client number a (in_effect found.0.before found.0.entry) refl found.2
 
 -- ---- where a number stands to the client's last one
 
@@ -132,8 +132,8 @@ module _ (L : List Command) (r : RequestValue) (server : TableServer) (sums : Ha
   last : last_served table_meaning sums.genesis L r.client ≡ session_of r.client server.whole.sessions
   last = sym (seen_last table_meaning sums.genesis L server.whole r.client sums.whole)
 
-  not_counted : (s : Session) → session_of r.client server.whole.sessions ≡ Some s → r.number ≤ s.number → counted L (Request r) ≡ None
-  not_counted s is below = counts_above_last table_meaning sums.genesis L r ∙ rw (last ∙ is, le-ltb s.number r.number below) refl
+  not_counted : (s : Session) → session_of r.client server.whole.sessions ≡ Some s → r.number ≤ s.number → in_effect L (Request r) ≡ None
+  not_counted s is below = takes_effect_above_last table_meaning sums.genesis L r ∙ rw (last ∙ is, le-ltb s.number r.number below) refl
 
   unchanged : (m : NodeMessage) (s : Session) → session_of r.client server.whole.sessions ≡ Some s → r.number ≤ s.number → Replies L r m → Replies (with_request L r) r m × HasServed (with_request L r) server
   unchanged m s is below replies =
@@ -165,17 +165,17 @@ module _ (L : List Command) (r : RequestValue) (server : TableServer) (sums : Ha
 pub runs : (L : List Command) (r : RequestValue) (a : Answer) (old new : TableServer) (answered : Option Answer) → IsRequest r → is_for_table r.op ≡ true
     → is_new (session_of r.client old.whole.sessions) r.number ≡ true → answered ≡ Some a → new.cluster ≡ old.cluster
     → ((genesis : Genesis) (L : List Command) → StandsFor table_meaning genesis L old.whole → StandsFor table_meaning genesis (L ++ Request r ∷ []) new.whole)
-    → ((genesis : Genesis) (L : List Command) → StandsFor table_meaning genesis L old.whole → answered ≡ reply_of table_meaning genesis (L ++ Request r ∷ []) (counted L (Request r)))
+    → ((genesis : Genesis) (L : List Command) → StandsFor table_meaning genesis L old.whole → answered ≡ reply_of table_meaning genesis (L ++ Request r ∷ []) (in_effect L (Request r)))
     → HasServed L old → Replies (with_request L r) r (message.Answer (record { client = r.client; number = r.number; answer = a })) × HasServed (with_request L r) new
 runs L r a old new answered fits table above is same behind replied sums =
-    let counts : counted L (Request r) ≡ Some r = counts_above_last table_meaning sums.genesis L r ∙ rw (last L r old sums, above) refl in
+    let counts : in_effect L (Request r) ≡ Some r = takes_effect_above_last table_meaning sums.genesis L r ∙ rw (last L r old sums, above) refl in
     let longer : with_request L r ≡ L ++ Request r ∷ [] = rw counts refl in
     let asked : AllByRecursion AsksTable (L ++ Request r ∷ []) = AllByRecursion-push AsksTable L (Request r) sums.asked (fits, table) in
     let told : reply table_meaning sums.genesis (L ++ Request r ∷ []) r.client r.number ≡ Some a =
     sym (replied sums.genesis L sums.whole ∙ ap (reply_of table_meaning sums.genesis (L ++ Request r ∷ [])) counts) ∙ is in
     let m : NodeMessage = message.Answer (record { client = r.client; number = r.number; answer = a }) in
     subst (λ (K : List Command). Replies K r m × HasServed K new) (sym longer) (
-      answers a (IsLast-new L r (counted_behind L (Request r) r counts).1) (reply_is_plain sums.genesis (L ++ Request r ∷ []) r.client r.number a asked told),
+      answers a (IsLast-new L r (in_effect_after L (Request r) r counts).1) (reply_is_plain sums.genesis (L ++ Request r ∷ []) r.client r.number a asked told),
       record { genesis = sums.genesis; first = first; asked = asked; whole = behind sums.genesis L sums.whole },
     )
   where

@@ -1,7 +1,7 @@
 -- What a list of requests is replied: each request that counts once, at its place.
 use Rattle.std.specs.Prelude.{◌≡◌, ℕ, is_some, if◌then◌else◌, Some, List, [], ◌∷◌, ◌++◌, Contains}
 use Rattle.lk_types.specs.declared.answer.Answer.{Answer}
-use Rattle.lk_members.specs.Counting.{Command, RequestValue, Request, Placed, placed, counted}
+use Rattle.lk_members.specs.Effects.{Command, RequestValue, Request, Placed, placed, in_effect}
 use Rattle.lk_locks.specs.Lists.{table_of, table_answer}
 
 -- the client's request of that number counts in the list, and at its place the table answers this
@@ -9,11 +9,11 @@ pub record IsReply (L : List Command) (client number : ℕ) (answer : Answer) : 
   pub place : Placed
   pub stands : Contains (placed L) place
   pub request : RequestValue
-  pub counts : counted place.before place.entry ≡ Some request
+  pub counts : in_effect place.before place.entry ≡ Some request
   pub of_client : request.client ≡ client
   pub of_number : request.number ≡ number
   pub answered : table_answer request.client request.op (table_of place.before) ≡ Some answer
 
 -- the list with a request: it goes to the end where it counts there, and else adds nothing
 abbrev pub with_request : List Command → RequestValue → List Command
-with_request L r = if is_some (counted L (Request r)) then L ++ Request r ∷ [] else L
+with_request L r = if is_some (in_effect L (Request r)) then L ++ Request r ∷ [] else L

@@ -11,7 +11,7 @@ use Rattle.lk_wire.specs.declared.message.Content.{Content}
 use Rattle.lk_wire.specs.declared.message.Content.TheVariants as content
 use Rattle.lk_wire.specs.declared.message.Message.{Message}
 use Rattle.lk_wire.specs.Grammar.{spelling, Spells}
-use Rattle.lk_members.specs.Counting.{Command, RequestValue, IsLast}
+use Rattle.lk_members.specs.Effects.{Command, RequestValue, IsLast}
 use Rattle.lk_script.specs.Replies.{IsReply, with_request}
 
 -- what a request is replied, by the list in which it stands if it counts

@@ -2,7 +2,7 @@
 use Rattle.std.specs.Prelude.{◌≡◌, ℕ, true, List, [], ◌∷◌, ⊤}
 use Rattle.std.specs.List.{AllByRecursion}
 use Rattle.lk_types.specs.Commands.{IsRequest}
-use Rattle.lk_members.specs.Counting.{Command, Noop, Request}
+use Rattle.lk_members.specs.Effects.{Command, Noop, Request}
 use Rattle.lk_members.specs.Rosters.{Genesis}
 use Rattle.lk_state.specs.States as state
 use Rattle.lk_locks.specs.Meaning.{table_meaning}

@@ -2,7 +2,7 @@
 
 ghost use Rattle.std.specs.Prelude.{◌≡◌, ◌+◌, ◌<◌, ◌≤◌, ◌++◌, ◌∷◌, [], List, ℕ, Some, None, true, false, OnOk, IfOk, IfErr, IfSome, IsNone, IsErrOf};
 ghost use Rattle.lk_types.specs.Limits.{max_count};
-ghost use Rattle.lk_members.specs.Counting.{Command as CommandValue};
+ghost use Rattle.lk_members.specs.Effects.{Command as CommandValue};
 ghost use Rattle.lk_wire.specs.Grammar.{Spells};
 ghost use Rattle.lk_wire.specs.Shown.{shown};
 ghost use Rattle.lk_wire.specs.declared.message.Message.{Message as MessageValue};

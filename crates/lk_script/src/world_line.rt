@@ -3,7 +3,7 @@
 ghost use Rattle.std.specs.Prelude.{◌≡◌, ◌≢◌, ◌≤◌, ℕ, List, [], Ok, Some, IfSome, IsNone, IfOk, IsErrOf};
 ghost use Rattle.hex.specs.Hex.{decode_of};
 ghost use Rattle.lk_types.specs.Limits.{max_node};
-ghost use Rattle.lk_members.specs.Counting.{RequestValue};
+ghost use Rattle.lk_members.specs.Effects.{RequestValue};
 ghost use Rattle.lk_script.specs.declared.order.Order.TheVariants as order;
 ghost use Rattle.lk_script.specs.declared.order.Order.{Order as OrderValue};
 ghost use Rattle.lk_script.specs.WorldLines.{AsksToStart, AsksToRestart, AsksForTicks, AsksToCompact, AsksToDeliver, SpellsRequest, AsksOfClient, AsksToInject, AsksToStop, AsksToFail, AsksToArm, Asks, SpellsOrder};

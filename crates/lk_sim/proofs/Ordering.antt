@@ -9,7 +9,7 @@ use Rattle.std.proofs.lemmas.List.{take-append-le}
 use Rattle.std.proofs.lemmas.List.Elements.{Contains-append_cases, Contains-append_left}
 use Rattle.std.proofs.lemmas.List.Folds.{find-append}
 use Rattle.lk_types.specs.declared.answer.Answer.{Answer}
-use Rattle.lk_members.specs.Counting.{is_older, counted, placed}
+use Rattle.lk_members.specs.Effects.{is_older, in_effect, placed}
 use Rattle.lk_members.specs.Rosters.{roster_of}
 use Rattle.lk_state.specs.Meanings.{Meaning}
 use Rattle.lk_state.specs.declared.session.Session.{Session}
@@ -22,17 +22,17 @@ use Rattle.lk_node.specs.Histories.{Genesis, Datagram, Command, Noop, Request, R
 use Rattle.lk_node.specs.declared.note.Note.{Note}
 use Rattle.lk_node.specs.declared.note.Note.TheVariants as note
 use Rattle.lk_sim.specs.Traces.{asked_in}
-use Rattle.lk_sim.specs.Orders.{CountsAt, CountsBefore, InOrder, IsAnsweredBy, InTime}
+use Rattle.lk_sim.specs.Orders.{IsEffectiveAt, IsEffectiveBefore, InOrder, IsAnsweredBy, InTime}
 use Rattle.lk_sim.proofs.Lists.{asked_among}
 use Rattle.lk_sim.proofs.Bearing.{command_longer}
 
 -- ---- a request that is replied counts at a place
 
 -- so it does in a longer list
-counts_longer : (L rest : List Command) (i : ℕ) (r : RequestValue) → CountsAt L i r → CountsAt (L ++ rest) i r
-counts_longer L rest i r c = (
+effective_longer : (L rest : List Command) (i : ℕ) (r : RequestValue) → IsEffectiveAt L i r → IsEffectiveAt (L ++ rest) i r
+effective_longer L rest i r c = (
   command_longer L rest i (Request r) c.0,
-  ap (λ l. counted l (Request r)) (take-append-le (i - 1) L rest (omega (arith, command_within L i (Request r) c.0))) ∙ c.1,
+  ap (λ l. in_effect l (Request r)) (take-append-le (i - 1) L rest (omega (arith, command_within L i (Request r) c.0))) ∙ c.1,
 )
 
 get_last : {X : Type 0} (xs : List X) (x : X) → slice_get (xs ++ x ∷ []) (length xs) ≡ Some x
@@ -50,18 +50,18 @@ abbrev entered : Option Session → List Session
 entered None = []
 entered (Some s) = s ∷ []
 
-abbrev Counts : Meaning → Genesis → List Command → Type 0
-Counts m genesis L = (client number : ℕ) (a : Answer) → reply m genesis L client number ≡ Some a → CountsBefore L (suc (length L)) client number
+abbrev AreInEffect : Meaning → Genesis → List Command → Type 0
+AreInEffect m genesis L = (client number : ℕ) (a : Answer) → reply m genesis L client number ≡ Some a → IsEffectiveBefore L (suc (length L)) client number
 
-nothing_counts : (m : Meaning) (genesis : Genesis) → Counts m genesis []
+nothing_in_effect : (m : Meaning) (genesis : Genesis) → AreInEffect m genesis []
 unfolding ledger placed
-nothing_counts m genesis client number a e = absurd cc
+nothing_in_effect m genesis client number a e = absurd cc
 
 module _ (m : Meaning) (genesis : Genesis) (L : List Command) (client number : ℕ) where
   -- the last request
-  last_counts : (r : RequestValue) (a : Answer) → option_map (λ (s : Session). s.answer) (find (is_asked client number) (entered (session_in m (roster_of genesis L) (text_of m L) (counted L (Request r))))) ≡ Some a
-      → CountsBefore (L ++ Request r ∷ []) (suc (length (L ++ Request r ∷ []))) client number
-  last_counts r a e = elim (cases_Bool (list_all (is_older r) L)) [
+  last_takes_effect : (r : RequestValue) (a : Answer) → option_map (λ (s : Session). s.answer) (find (is_asked client number) (entered (session_in m (roster_of genesis L) (text_of m L) (in_effect L (Request r))))) ≡ Some a
+      → IsEffectiveBefore (L ++ Request r ∷ []) (suc (length (L ++ Request r ∷ []))) client number
+  last_takes_effect r a e = elim (cases_Bool (list_all (is_older r) L)) [
     | inr some ↦ (let none : None ≡ Some a = rw some at e in absurd (cc none))
     | inl all ↦ elim (cases_Bool (eqb r.client client && eqb r.number number)) [
       | inr other ↦ (let none : None ≡ Some a = rw (all, other) at e in absurd (cc none))
@@ -72,15 +72,15 @@ module _ (m : Meaning) (genesis : Genesis) (L : List Command) (client number : �
             before = omega (arith, length-append L (Request r ∷ []));
             of_client = eqb-true r.client client parts.0;
             of_number = eqb-true r.number number parts.1;
-            counts = (get_last L (Request r), ap (λ k. counted (take k (L ++ Request r ∷ [])) (Request r)) (less_one (length L)) ∙ ap (λ l. counted l (Request r)) (take-append_seam L (Request r ∷ [])) ∙ rw all refl);
+            counts = (get_last L (Request r), ap (λ k. in_effect (take k (L ++ Request r ∷ [])) (Request r)) (less_one (length L)) ∙ ap (λ l. in_effect l (Request r)) (take-append_seam L (Request r ∷ [])) ∙ rw all refl);
           })
     ]
   ]
 
-  counts_found : (c : Command) (o : Option Session) (a : Answer) → ((b : Answer) → option_map (λ (s : Session). s.answer) o ≡ Some b → CountsBefore L (suc (length L)) client number)
-      → option_map (λ (s : Session). s.answer) (option_or o (find (is_asked client number) (entered (session_in m (roster_of genesis L) (text_of m L) (counted L c))))) ≡ Some a
-      → CountsBefore (L ++ c ∷ []) (suc (length (L ++ c ∷ []))) client number
-  counts_found c (Some s) a earlier e =
+  effect_found : (c : Command) (o : Option Session) (a : Answer) → ((b : Answer) → option_map (λ (s : Session). s.answer) o ≡ Some b → IsEffectiveBefore L (suc (length L)) client number)
+      → option_map (λ (s : Session). s.answer) (option_or o (find (is_asked client number) (entered (session_in m (roster_of genesis L) (text_of m L) (in_effect L c))))) ≡ Some a
+      → IsEffectiveBefore (L ++ c ∷ []) (suc (length (L ++ c ∷ []))) client number
+  effect_found c (Some s) a earlier e =
       let k = earlier s.answer refl in
       record {
         place = k.place;
@@ -88,20 +88,20 @@ module _ (m : Meaning) (genesis : Genesis) (L : List Command) (client number : �
         before = omega (arith, k.before, length-append L (c ∷ []));
         of_client = k.of_client;
         of_number = k.of_number;
-        counts = counts_longer L (c ∷ []) k.place k.request k.counts;
+        counts = effective_longer L (c ∷ []) k.place k.request k.counts;
       }
-  counts_found Noop None a earlier e = absurd cc
-  counts_found (Request r) None a earlier e = last_counts r a e
+  effect_found Noop None a earlier e = absurd cc
+  effect_found (Request r) None a earlier e = last_takes_effect r a e
 
-counts_more : (m : Meaning) (genesis : Genesis) (L : List Command) (c : Command) → Counts m genesis L → Counts m genesis (L ++ c ∷ [])
-counts_more m genesis L c so_far client number a e =
-    counts_found m genesis L client number c (find (is_asked client number) (ledger m genesis L)) a (so_far client number)
+effective_more : (m : Meaning) (genesis : Genesis) (L : List Command) (c : Command) → AreInEffect m genesis L → AreInEffect m genesis (L ++ c ∷ [])
+effective_more m genesis L c so_far client number a e =
+    effect_found m genesis L client number c (find (is_asked client number) (ledger m genesis L)) a (so_far client number)
     (sym (ap (λ (l : List Session). option_map (λ (s : Session). s.answer) (find (is_asked client number) l)) (ledger-push m genesis L c)
-    ∙ ap (option_map (λ (s : Session). s.answer)) (find-append (is_asked client number) (ledger m genesis L) (entered (session_in m (roster_of genesis L) (text_of m L) (counted L c))))) ∙ e)
+    ∙ ap (option_map (λ (s : Session). s.answer)) (find-append (is_asked client number) (ledger m genesis L) (entered (session_in m (roster_of genesis L) (text_of m L) (in_effect L c))))) ∙ e)
 
 -- what is replied counts at some place of the list
-pub reply_counts : (m : Meaning) (genesis : Genesis) (L : List Command) → Counts m genesis L
-reply_counts m genesis = by_pushes (Counts m genesis) (nothing_counts m genesis) (counts_more m genesis)
+pub reply_takes_effect : (m : Meaning) (genesis : Genesis) (L : List Command) → AreInEffect m genesis L
+reply_takes_effect m genesis = by_pushes (AreInEffect m genesis) (nothing_in_effect m genesis) (effective_more m genesis)
 
 -- ---- order
 
@@ -145,14 +145,14 @@ module _ (m : Meaning) (genesis : Genesis) (sent : List Datagram) (sound : Sound
       let p = in_time front back parted n client number a answered in
       let none : Contains p.under (Request r) → ⊥ = λ has. unasked (noted front r (p.asked r has)) in
       let b = begins p.under L p.chosen l i r c.0 none in
-      let k = reply_counts m genesis p.under client number a p.replied in
+      let k = reply_takes_effect m genesis p.under client number a p.replied in
       record {
         place = k.place;
         request = k.request;
         before = omega (arith, k.before, ends_before p.under L p.chosen l i r c.0 none);
         of_client = k.of_client;
         of_number = k.of_number;
-        counts = subst (λ z. CountsAt z k.place k.request) b.1 (counts_longer p.under b.0 k.place k.request k.counts);
+        counts = subst (λ z. IsEffectiveAt z k.place k.request) b.1 (effective_longer p.under b.0 k.place k.request k.counts);
       }
 
 -- ---- it stays so

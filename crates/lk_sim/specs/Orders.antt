@@ -1,7 +1,7 @@
 -- What was answered before a request was asked counts in front of it.
 use Rattle.std.specs.Prelude.{◌≡◌, ℕ, ◌-◌, ◌<◌, List, ◌++◌, take, Some, Contains}
 use Rattle.lk_types.specs.declared.answer.Answer.{Answer}
-use Rattle.lk_members.specs.Counting.{counted}
+use Rattle.lk_members.specs.Effects.{in_effect}
 use Rattle.lk_state.specs.Meanings.{Meaning}
 use Rattle.lk_state.specs.States.{reply}
 use Rattle.lk_history.specs.Chosen.{command_at, Chosen}
@@ -11,17 +11,17 @@ use Rattle.lk_node.specs.declared.note.Note.TheVariants as note
 use Rattle.lk_sim.specs.Traces.{asked_in}
 
 -- the request stands at this position of the list, and counts there
-abbrev pub CountsAt : List Command → ℕ → RequestValue → Type 0
-CountsAt L i r = (command_at L i ≡ Some (Request r)) × (counted (take (i - 1) L) (Request r) ≡ Some r)
+abbrev pub IsEffectiveAt : List Command → ℕ → RequestValue → Type 0
+IsEffectiveAt L i r = (command_at L i ≡ Some (Request r)) × (in_effect (take (i - 1) L) (Request r) ≡ Some r)
 
 -- a request of this client and number counts in front of this position
-pub record CountsBefore (L : List Command) (i client number : ℕ) : Type 0 where
+pub record IsEffectiveBefore (L : List Command) (i client number : ℕ) : Type 0 where
   pub place : ℕ
   pub request : RequestValue
   pub before : place < i
   pub of_client : request.client ≡ client
   pub of_number : request.number ≡ number
-  pub counts : CountsAt L place request
+  pub effective : IsEffectiveAt L place request
 
 -- wherever a trace is separated: what was answered in its front counts in each chosen list in front of each request that counts
 -- there and was not asked in that front
@@ -30,7 +30,7 @@ InOrder genesis sent trace =
     (front back : List Note) → trace ≡ front ++ back
     → (n client number : ℕ) (a : Answer) → Contains front (note.Answered n client number a)
     → (r : RequestValue) → (Contains front (note.Asked r) → ⊥)
-    → (L : List Command) (i : ℕ) → Chosen genesis sent L → CountsAt L i r → CountsBefore L i client number
+    → (L : List Command) (i : ℕ) → Chosen genesis sent L → IsEffectiveAt L i r → IsEffectiveBefore L i client number
 
 -- ---- why
 

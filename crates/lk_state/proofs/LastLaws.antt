@@ -7,7 +7,7 @@ use Rattle.std.proofs.lemmas.Bool.{and_parts, cases_Bool, ltb-false, le-leb, eqb
 use Rattle.std.proofs.lemmas.List.Folds.{find-append}
 use Rattle.std.proofs.lemmas.List.Elements.{Contains-append_left, Contains-append_right, Contains-push, Contains-push_cases}
 use Rattle.lk_types.specs.declared.answer.Answer.{Answer}
-use Rattle.lk_members.specs.Counting.{Command, RequestValue, Noop, Request, Placed, is_older, counted, placed, is_of_another, is_at_most, IsLast}
+use Rattle.lk_members.specs.Effects.{Command, RequestValue, Noop, Request, Placed, is_older, in_effect, placed, is_of_another, is_at_most, IsLast}
 use Rattle.lk_members.specs.Rosters.{Genesis}
 use Rattle.lk_members.proofs.Memberships.{placed-push, all_of_another-push, IsLast-push, IsLast-new}
 use Rattle.lk_state.specs.Meanings.{Meaning}
@@ -20,8 +20,8 @@ older-is_new_last : (m : Meaning) (genesis : Genesis) (L : List Command) (r : Re
 older-is_new_last m genesis L r = is_older-is_new m genesis L r ∙ ap (λ (o : Option Session). is_new o r.number) (sym (last_served-session_of m genesis L r.client))
 
 -- a request counts after a list exactly where its number is above that of its client's last one that counts
-pub counts_above_last : (m : Meaning) (genesis : Genesis) (L : List Command) (r : RequestValue) → counted L (Request r) ≡ cond (is_new (last_served m genesis L r.client) r.number) (Some r) None
-counts_above_last m genesis L r = ap (λ (b : Bool). cond b (Some r) None) (older-is_new_last m genesis L r)
+pub takes_effect_above_last : (m : Meaning) (genesis : Genesis) (L : List Command) (r : RequestValue) → in_effect L (Request r) ≡ cond (is_new (last_served m genesis L r.client) r.number) (Some r) None
+takes_effect_above_last m genesis L r = ap (λ (b : Bool). cond b (Some r) None) (older-is_new_last m genesis L r)
 
 -- ---- replies
 
@@ -209,9 +209,9 @@ none_came client last (Some t) e =
       | inr other ↦ (rw other at e, other)
     ]
 
-first_would_count : (m : Meaning) (genesis : Genesis) (L : List Command) (c : Command) (client : ℕ) → last_served m genesis L client ≡ None → is_at client (served_here m genesis L c) ≡ false → is_of_another client c ≡ true
-first_would_count m genesis L Noop client none not_here = refl
-first_would_count m genesis L (Request r) client none not_here =
+first_would_take_effect : (m : Meaning) (genesis : Genesis) (L : List Command) (c : Command) (client : ℕ) → last_served m genesis L client ≡ None → is_at client (served_here m genesis L c) ≡ false → is_of_another client c ≡ true
+first_would_take_effect m genesis L Noop client none not_here = refl
+first_would_take_effect m genesis L (Request r) client none not_here =
     elim (cases_Bool (eqb r.client client)) [
       | inr other ↦ rw other refl
       | inl mine ↦
@@ -224,7 +224,7 @@ first_would_count m genesis L (Request r) client none not_here =
 unused_more : (m : Meaning) (genesis : Genesis) (L : List Command) (c : Command) → IsUnused m genesis L → IsUnused m genesis (L ++ c ∷ [])
 unused_more m genesis L c so_far client none =
     let before = none_came client (last_served m genesis L client) (served_here m genesis L c) (sym (last_served-push m genesis L c client) ∙ none) in
-    all_of_another-push client L c (so_far client before.0) (first_would_count m genesis L c client before.0 before.1)
+    all_of_another-push client L c (so_far client before.0) (first_would_take_effect m genesis L c client before.0 before.1)
 
 -- a client of which no request counts has none in the list
 pub none_is_unused : (m : Meaning) (genesis : Genesis) (L : List Command) (client : ℕ) → last_served m genesis L client ≡ None → list_all (is_of_another client) L ≡ true

@@ -6,15 +6,15 @@ use Rattle.std.specs.Option.{option_map, option_or}
 use Rattle.std.proofs.lemmas.Bool.{and_parts, cases_Bool, ltb-true, ne_eqb, eq-eqb}
 use Rattle.std.proofs.lemmas.List.Folds.{find-append, list_all-append}
 use Rattle.lk_types.specs.declared.answer.Answer.{Answer}
-use Rattle.lk_members.specs.Counting.{Command, RequestValue, Noop, Request, is_older, counted, placed}
+use Rattle.lk_members.specs.Effects.{Command, RequestValue, Noop, Request, is_older, in_effect, placed}
 use Rattle.lk_members.specs.Rosters.{Genesis, roster_of}
 use Rattle.lk_members.specs.Windows.{newest_roster}
 use Rattle.lk_members.proofs.Memberships.{newest_roster-roster_after}
 use Rattle.lk_state.specs.Meanings.{Meaning}
 use Rattle.lk_state.specs.Sessions.{Session}
 use Rattle.lk_state.specs.States.{WholeValue, op_answer, text_of, ledger, reply, reply_of, whole_after}
-use Rattle.lk_state.specs.Runs.{counted_now, run_answer}
-use Rattle.lk_state.proofs.StateLaws.{by_pushes, entered, served_here, ledger-push, counted-counted_now}
+use Rattle.lk_state.specs.Runs.{in_effect_now, run_answer}
+use Rattle.lk_state.proofs.StateLaws.{by_pushes, entered, served_here, ledger-push, in_effect-in_effect_now}
 
 abbrev is_asked : RequestValue → Session → Bool
 is_asked r s = eqb s.client r.client && eqb s.number r.number
@@ -69,26 +69,26 @@ pub mine_is_asked : (r : RequestValue) → (eqb r.client r.client && eqb r.numbe
 mine_is_asked r = rw (eq-eqb r.client r.client refl, eq-eqb r.number r.number refl) refl
 
 -- what a command is answered is the reply of the list with it
-pub run_answer-reply_of : (m : Meaning) (genesis : Genesis) (L : List Command) (c : Command) (w : WholeValue) → w ≡ whole_after m genesis L → run_answer m c w ≡ reply_of m genesis (L ++ c ∷ []) (counted L c)
+pub run_answer-reply_of : (m : Meaning) (genesis : Genesis) (L : List Command) (c : Command) (w : WholeValue) → w ≡ whole_after m genesis L → run_answer m c w ≡ reply_of m genesis (L ++ c ∷ []) (in_effect L c)
 unfolding whole_after
 run_answer-reply_of m genesis L Noop w e = refl
 run_answer-reply_of m genesis L (Request r) w e =
-    let now : counted L (Request r) ≡ counted_now w.sessions (Request r) = counted-counted_now m genesis L (Request r) ∙ ap (λ (x : WholeValue). counted_now x.sessions (Request r)) (sym e) in
+    let now : in_effect L (Request r) ≡ in_effect_now w.sessions (Request r) = in_effect-in_effect_now m genesis L (Request r) ∙ ap (λ (x : WholeValue). in_effect_now x.sessions (Request r)) (sym e) in
     let plain : newest_roster w.roster ≡ roster_of genesis L = ap (λ (x : WholeValue). newest_roster x.roster) e ∙ newest_roster-roster_after genesis L genesis.in_range.0 in
     let text : w.text ≡ text_of m L = ap (λ (x : WholeValue). x.text) e in
     elim (cases_Bool (list_all (is_older r) L)) [
       | inl all ↦
-          let counts : counted_now w.sessions (Request r) ≡ Some r = sym now ∙ rw all refl in
+          let counts : in_effect_now w.sessions (Request r) ≡ Some r = sym now ∙ rw all refl in
           let asked = mine_is_asked r in
           let told = reply_here m genesis L r all in
           let said : Answer = op_answer m (roster_of genesis L) (text_of m L) r.client r.op in
           let left : run_answer m (Request r) w ≡ Some said = rw (counts, plain, text) refl in
-          let right : reply_of m genesis (L ++ Request r ∷ []) (counted L (Request r)) ≡ Some said = rw all (told ∙ rw asked refl) in
+          let right : reply_of m genesis (L ++ Request r ∷ []) (in_effect L (Request r)) ≡ Some said = rw all (told ∙ rw asked refl) in
           left ∙ sym right
       | inr some ↦
-          let not_counted : counted_now w.sessions (Request r) ≡ None = sym now ∙ rw some refl in
+          let not_counted : in_effect_now w.sessions (Request r) ≡ None = sym now ∙ rw some refl in
           let left : run_answer m (Request r) w ≡ None = rw not_counted refl in
-          let right : reply_of m genesis (L ++ Request r ∷ []) (counted L (Request r)) ≡ None = rw some refl in
+          let right : reply_of m genesis (L ++ Request r ∷ []) (in_effect L (Request r)) ≡ None = rw some refl in
           left ∙ sym right
     ]
 

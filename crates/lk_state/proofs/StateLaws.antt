@@ -5,14 +5,14 @@ use Rattle.std.proofs.lemmas.Bool.{cases_Bool, ltb-true, ltb-false, lt-ltb, eqb-
 use Rattle.std.proofs.lemmas.List.Sums.{fold-append}
 use Rattle.std.proofs.lemmas.List.Folds.{list_all-append}
 use Rattle.std.proofs.lemmas.List.Elements.{filter_map-append}
-use Rattle.lk_members.specs.Counting.{Command, RequestValue, Noop, Request, Placed, is_older, counted, placed, counting}
+use Rattle.lk_members.specs.Effects.{Command, RequestValue, Noop, Request, Placed, is_older, in_effect, placed, effects}
 use Rattle.lk_members.specs.Rosters.{Genesis, roster_of}
 use Rattle.lk_members.specs.Windows.{RosterValue, roster_after, newest_roster}
-use Rattle.lk_members.proofs.Memberships.{placed-push, added, counting-push, newest_roster-roster_after, roster_after-push}
+use Rattle.lk_members.proofs.Memberships.{placed-push, added, effects-push, newest_roster-roster_after, roster_after-push}
 use Rattle.lk_state.specs.Meanings.{Meaning}
 use Rattle.lk_state.specs.Sessions.{Session, session_of, is_new, with_session}
 use Rattle.lk_state.specs.States.{WholeValue, next_text, op_answer, session_in, served, text_of, ledger, last_served, sessions_of, whole_after}
-use Rattle.lk_state.specs.Runs.{counted_now, served_by, ran}
+use Rattle.lk_state.specs.Runs.{in_effect_now, served_by, ran}
 use Rattle.lk_state.proofs.SessionLaws.{do_rise, do_rise-with_session, each_is_its_clients}
 
 module _ {X : Type 0} (P : List X → Type 0) (step : (l : List X) (x : X) → P l → P (l ++ x ∷ [])) where
@@ -33,7 +33,7 @@ entered_is m genesis p None e = rw e refl
 entered_is m genesis p (Some s) e = rw e refl
 
 abbrev pub served_here : Meaning → Genesis → List Command → Command → Option Session
-served_here m genesis L c = session_in m (roster_of genesis L) (text_of m L) (counted L c)
+served_here m genesis L c = session_in m (roster_of genesis L) (text_of m L) (in_effect L c)
 
 pub ledger-push : (m : Meaning) (genesis : Genesis) (L : List Command) (c : Command) → ledger m genesis (L ++ c ∷ []) ≡ ledger m genesis L ++ entered (served_here m genesis L c)
 unfolding ledger
@@ -52,12 +52,12 @@ text_added : (m : Meaning) (text : List ℕ) (o : Option RequestValue) → fold 
 text_added m text None = refl
 text_added m text (Some q) = refl
 
-pub text_of-push : (m : Meaning) (L : List Command) (c : Command) → text_of m (L ++ c ∷ []) ≡ text_behind m (text_of m L) (counted L c)
+pub text_of-push : (m : Meaning) (L : List Command) (c : Command) → text_of m (L ++ c ∷ []) ≡ text_behind m (text_of m L) (in_effect L c)
 unfolding text_of
 text_of-push m L c =
-    ap (fold (λ (text : List ℕ) (q : RequestValue). next_text m text q.client q.op) m.first) (counting-push L c)
-    ∙ fold-append (λ (text : List ℕ) (q : RequestValue). next_text m text q.client q.op) m.first (counting L) (added (counted L c))
-    ∙ text_added m (text_of m L) (counted L c)
+    ap (fold (λ (text : List ℕ) (q : RequestValue). next_text m text q.client q.op) m.first) (effects-push L c)
+    ∙ fold-append (λ (text : List ℕ) (q : RequestValue). next_text m text q.client q.op) m.first (effects L) (added (in_effect L c))
+    ∙ text_added m (text_of m L) (in_effect L c)
 
 abbrev sessions_behind : List Session → Option Session → List Session
 sessions_behind sessions None = sessions
@@ -125,9 +125,9 @@ old_is_below (Some s) n k e h = omega (arith, ltb-false s.number n e, ltb-true s
 
 module _ (sessions : List Session) (r q : RequestValue) where
   -- a request that counts becomes its client's last one
-  counted_more : (s : Session) → s.client ≡ q.client → s.number ≡ q.number → is_new (session_of q.client sessions) q.number ≡ true
+  effect_by_session : (s : Session) → s.client ≡ q.client → s.number ≡ q.number → is_new (session_of q.client sessions) q.number ≡ true
       → (is_new (session_of r.client sessions) r.number && is_older r (Request q)) ≡ is_new (session_of r.client (with_session s sessions)) r.number
-  counted_more s client number new =
+  effect_by_session s client number new =
       let here = session_of-with_session r.client s sessions in
       elim (cases_Bool (eqb q.client r.client)) [
         | inl mine ↦
@@ -160,22 +160,22 @@ nothing_served : (m : Meaning) (genesis : Genesis) → sessions_of m genesis [] 
 unfolding ledger placed
 nothing_served m genesis = refl
 
-abbrev CountsBySessions : Meaning → Genesis → List Command → Type 0
-CountsBySessions m genesis L = (r : RequestValue) → list_all (is_older r) L ≡ is_new (session_of r.client (sessions_of m genesis L)) r.number
+abbrev AreInEffectBySessions : Meaning → Genesis → List Command → Type 0
+AreInEffectBySessions m genesis L = (r : RequestValue) → list_all (is_older r) L ≡ is_new (session_of r.client (sessions_of m genesis L)) r.number
 
-behind_one : (m : Meaning) (genesis : Genesis) (L : List Command) (c : Command) → CountsBySessions m genesis L → (r : RequestValue)
+behind_one : (m : Meaning) (genesis : Genesis) (L : List Command) (c : Command) → AreInEffectBySessions m genesis L → (r : RequestValue)
     → (is_new (session_of r.client (sessions_of m genesis L)) r.number && is_older r c) ≡ is_new (session_of r.client (sessions_behind (sessions_of m genesis L) (served_here m genesis L c))) r.number
 behind_one m genesis L Noop so_far r = and_all (is_new (session_of r.client (sessions_of m genesis L)) r.number)
 behind_one m genesis L (Request q) so_far r =
     let sessions : List Session = sessions_of m genesis L in
     let s : Session = record { client = q.client; number = q.number; answer = op_answer m (roster_of genesis L) (text_of m L) q.client q.op } in
     elim (cases_Bool (list_all (is_older q) L)) [
-      | inl all ↦ let new : is_new (session_of q.client sessions) q.number ≡ true = sym (so_far q) ∙ all in rw all (counted_more sessions r q s refl refl new)
+      | inl all ↦ let new : is_new (session_of q.client sessions) q.number ≡ true = sym (so_far q) ∙ all in rw all (effect_by_session sessions r q s refl refl new)
       | inr some ↦ let old : is_new (session_of q.client sessions) q.number ≡ false = sym (so_far q) ∙ some in rw some (passed_more sessions r q old)
     ]
 
-counts_more : (m : Meaning) (genesis : Genesis) (L : List Command) (c : Command) → CountsBySessions m genesis L → CountsBySessions m genesis (L ++ c ∷ [])
-counts_more m genesis L c so_far r =
+effect_more : (m : Meaning) (genesis : Genesis) (L : List Command) (c : Command) → AreInEffectBySessions m genesis L → AreInEffectBySessions m genesis (L ++ c ∷ [])
+effect_more m genesis L c so_far r =
     let old : Bool = list_all (is_older r) L in
     list_all-append (is_older r) L (c ∷ [])
     ∙ ap (λ (b : Bool). old && b) (and_all (is_older r c))
@@ -184,27 +184,27 @@ counts_more m genesis L c so_far r =
     ∙ ap (λ (l : List Session). is_new (session_of r.client l) r.number) (sym (sessions_of-push m genesis L c))
 
 -- a request counts after a list exactly where its number is above its client's last one
-pub is_older-is_new : (m : Meaning) (genesis : Genesis) (L : List Command) → CountsBySessions m genesis L
-is_older-is_new m genesis = by_pushes (CountsBySessions m genesis) (λ r. rw (nothing_served m genesis) refl) (counts_more m genesis)
+pub is_older-is_new : (m : Meaning) (genesis : Genesis) (L : List Command) → AreInEffectBySessions m genesis L
+is_older-is_new m genesis = by_pushes (AreInEffectBySessions m genesis) (λ r. rw (nothing_served m genesis) refl) (effect_more m genesis)
 
-pub counted-counted_now : (m : Meaning) (genesis : Genesis) (L : List Command) (c : Command) → counted L c ≡ counted_now (sessions_of m genesis L) c
-counted-counted_now m genesis L Noop = refl
-counted-counted_now m genesis L (Request r) = rw (is_older-is_new m genesis L r) refl
+pub in_effect-in_effect_now : (m : Meaning) (genesis : Genesis) (L : List Command) (c : Command) → in_effect L c ≡ in_effect_now (sessions_of m genesis L) c
+in_effect-in_effect_now m genesis L Noop = refl
+in_effect-in_effect_now m genesis L (Request r) = rw (is_older-is_new m genesis L r) refl
 
 -- ---- the whole
 
-roster_served : (genesis : Genesis) (L : List Command) (c : Command) (o : Option RequestValue) → counted L c ≡ o → (m : Meaning) (w : WholeValue) → w.roster ≡ roster_after genesis L
+roster_served : (genesis : Genesis) (L : List Command) (c : Command) (o : Option RequestValue) → in_effect L c ≡ o → (m : Meaning) (w : WholeValue) → w.roster ≡ roster_after genesis L
     → roster_after genesis (L ++ c ∷ []) ≡ (served_by m w o).roster
 unfolding roster_after
 roster_served genesis L c None e m w is = roster_after-push genesis L c genesis.in_range.0 ∙ rw (e, is) refl
 roster_served genesis L c (Some q) e m w is = roster_after-push genesis L c genesis.in_range.0 ∙ rw (e, is) refl
 
-sessions_served : (m : Meaning) (genesis : Genesis) (L : List Command) (c : Command) (o : Option RequestValue) → counted L c ≡ o → (w : WholeValue)
+sessions_served : (m : Meaning) (genesis : Genesis) (L : List Command) (c : Command) (o : Option RequestValue) → in_effect L c ≡ o → (w : WholeValue)
     → newest_roster w.roster ≡ roster_of genesis L → w.sessions ≡ sessions_of m genesis L → w.text ≡ text_of m L → sessions_of m genesis (L ++ c ∷ []) ≡ (served_by m w o).sessions
 sessions_served m genesis L c None e w r s t = sessions_of-push m genesis L c ∙ rw (e, s) refl
 sessions_served m genesis L c (Some q) e w r s t = sessions_of-push m genesis L c ∙ rw (e, s, r, t) refl
 
-text_served : (m : Meaning) (L : List Command) (c : Command) (o : Option RequestValue) → counted L c ≡ o → (w : WholeValue) → w.text ≡ text_of m L → text_of m (L ++ c ∷ []) ≡ (served_by m w o).text
+text_served : (m : Meaning) (L : List Command) (c : Command) (o : Option RequestValue) → in_effect L c ≡ o → (w : WholeValue) → w.text ≡ text_of m L → text_of m (L ++ c ∷ []) ≡ (served_by m w o).text
 text_served m L c None e w t = text_of-push m L c ∙ rw (e, t) refl
 text_served m L c (Some q) e w t = text_of-push m L c ∙ rw (e, t) refl
 
@@ -218,8 +218,8 @@ pub ran-whole_after : (m : Meaning) (genesis : Genesis) (L : List Command) (c : 
 unfolding whole_after
 ran-whole_after m genesis L c =
     let w : WholeValue = whole_after m genesis L in
-    let o : Option RequestValue = counted_now w.sessions c in
-    let e : counted L c ≡ o = counted-counted_now m genesis L c in
+    let o : Option RequestValue = in_effect_now w.sessions c in
+    let e : in_effect L c ≡ o = in_effect-in_effect_now m genesis L c in
     let plain : newest_roster w.roster ≡ roster_of genesis L = newest_roster-roster_after genesis L genesis.in_range.0 in
     let roster = roster_served genesis L c o e m w refl in
     let sessions = sessions_served m genesis L c o e w plain refl refl in
@@ -283,7 +283,7 @@ seen_last m genesis L w client e = ap (λ (x : WholeValue). session_of client x.
 -- ---- before any command
 
 pub nothing_ran : (m : Meaning) (genesis : Genesis) → whole_after m genesis [] ≡ record { roster = roster_after genesis []; sessions = []; text = m.first }
-unfolding whole_after ledger text_of counting placed
+unfolding whole_after ledger text_of effects placed
 nothing_ran m genesis = refl
 
 -- what stands before any command

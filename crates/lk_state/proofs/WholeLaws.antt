@@ -6,7 +6,7 @@ use Rattle.lk_types.specs.Answers.{IsAnswer}
 use Rattle.lk_types.specs.Commands.{IsRequest, IsCommand}
 use Rattle.lk_types.specs.Geneses.{IsGenesis}
 use Rattle.lk_types.specs.declared.answer.Answer.TheVariants.{Used, Full, Joined, NotMember, Last, Left}
-use Rattle.lk_members.specs.Counting.{Command, RequestValue, Noop, Request}
+use Rattle.lk_members.specs.Effects.{Command, RequestValue, Noop, Request}
 use Rattle.lk_members.specs.Rosters.{Genesis, Op, Table, Join, Leave, Raise, PlainRoster, join_answer, leave_answer, is_member, is_nobody, others}
 use Rattle.lk_members.specs.Windows.{newest_roster, roster_after}
 use Rattle.lk_members.proofs.Memberships.{first_fits, passed_fits, changed_fits}

@@ -1,5 +1,5 @@
 -- The lemmas that other crates cite: of this folder nothing else is for them.
-pub use Rattle.lk_state.proofs.LastLaws.{counts_above_last, last_is_greatest, last_is_replied, none_is_unused, one_reply, replies_stand}
+pub use Rattle.lk_state.proofs.LastLaws.{takes_effect_above_last, last_is_greatest, last_is_replied, none_is_unused, one_reply, replies_stand}
 pub use Rattle.lk_state.proofs.LengthLaws.{packed_is_some, length-packed}
 pub use Rattle.lk_state.proofs.PackedLaws.{one_packed}
 pub use Rattle.lk_state.proofs.SessionLaws.{kept_is_its_clients}

@@ -2,7 +2,7 @@
 use Rattle.std.specs.Prelude.{ℕ, Bool, true, false, ◌==◌, nat_lt, if◌then◌else◌, Option, Some, None, List}
 use Rattle.std.specs.Option.{option_map}
 use Rattle.lk_types.specs.declared.answer.Answer.{Answer}
-use Rattle.lk_members.specs.Counting.{Command, RequestValue, Noop, Request}
+use Rattle.lk_members.specs.Effects.{Command, RequestValue, Noop, Request}
 use Rattle.lk_members.specs.Rosters.{Op, Table, Join, Leave, Raise}
 use Rattle.lk_members.specs.Windows.{newest_roster, moved_unchanged, changed_by}
 use Rattle.lk_state.specs.Meanings.{Meaning}
@@ -12,9 +12,9 @@ use Rattle.lk_state.specs.declared.whole.Seen.{Seen}
 use Rattle.lk_state.specs.declared.whole.Seen.TheVariants as seen
 
 -- the request that the command is, where it counts after these sessions
-abbrev pub counted_now : List Session → Command → Option RequestValue
-counted_now sessions Noop = None
-counted_now sessions (Request r) = if is_new (session_of r.client sessions) r.number then Some r else None
+abbrev pub in_effect_now : List Session → Command → Option RequestValue
+in_effect_now sessions Noop = None
+in_effect_now sessions (Request r) = if is_new (session_of r.client sessions) r.number then Some r else None
 
 -- what it is answered
 abbrev pub session_for : Meaning → WholeValue → RequestValue → Session
@@ -32,11 +32,11 @@ served_by m w (Some r) =
 
 -- what stands after the command
 abbrev pub ran : Meaning → Command → WholeValue → WholeValue
-ran m command w = served_by m w (counted_now w.sessions command)
+ran m command w = served_by m w (in_effect_now w.sessions command)
 
 -- what the command is answered, where it counts
 abbrev pub run_answer : Meaning → Command → WholeValue → Option Answer
-run_answer m command w = option_map (λ r. (session_for m w r).answer) (counted_now w.sessions command)
+run_answer m command w = option_map (λ r. (session_for m w r).answer) (in_effect_now w.sessions command)
 
 abbrev pub is_table : Op → Bool
 is_table (Table body) = true

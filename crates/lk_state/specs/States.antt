@@ -3,7 +3,7 @@ use Rattle.std.specs.Prelude.{◌≡◌, ℕ, ◌&&◌, ◌==◌, if◌then◌el
 use Rattle.std.specs.List.{filter_map}
 use Rattle.std.specs.Option.{option_map}
 use Rattle.lk_types.specs.declared.answer.Answer.{Answer}
-use Rattle.lk_members.specs.Counting.{Command, RequestValue, Placed, placed, counted, counting}
+use Rattle.lk_members.specs.Effects.{Command, RequestValue, Placed, placed, in_effect, effects}
 use Rattle.lk_members.specs.Rosters.{Genesis, PlainRoster, Op, Table, Join, Leave, Raise, join_answer, leave_answer, roster_of}
 use Rattle.lk_members.specs.Windows.{RosterValue, roster_after}
 use Rattle.lk_state.specs.Meanings.{Meaning, Running, Raising}
@@ -25,7 +25,7 @@ op_answer m roster text client Raise = m.answer client Raising text
 
 -- the machine's text after the requests that count, in order
 unfoldable pub text_of : Meaning → List Command → List ℕ
-text_of m L = fold (λ text q. next_text m text q.client q.op) m.first (counting L)
+text_of m L = fold (λ text q. next_text m text q.client q.op) m.first (effects L)
 
 -- the answer of a request that counts, or none
 abbrev pub session_in : Meaning → PlainRoster → List ℕ → Option RequestValue → Option Session
@@ -34,7 +34,7 @@ session_in m roster text (Some q) = Some (record { client = q.client; number = q
 
 -- what an entry is answered at its place, where it counts
 abbrev pub served : Meaning → Genesis → Placed → Option Session
-served m genesis p = session_in m (roster_of genesis p.before) (text_of m p.before) (counted p.before p.entry)
+served m genesis p = session_in m (roster_of genesis p.before) (text_of m p.before) (in_effect p.before p.entry)
 
 -- the requests that count with their answers, in order
 unfoldable pub ledger : Meaning → Genesis → List Command → List Session

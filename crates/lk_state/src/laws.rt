@@ -5,7 +5,7 @@ ghost use Rattle.lk_types.specs.Limits.{max_count};
 ghost use Rattle.lk_types.specs.Commands.{IsCommand};
 ghost use Rattle.lk_types.specs.Geneses.{IsGenesis};
 ghost use Rattle.lk_types.specs.declared.answer.Answer.{Answer};
-ghost use Rattle.lk_members.specs.Counting.{Command, RequestValue, Request, Placed, placed, counted, is_of_another, IsLast};
+ghost use Rattle.lk_members.specs.Effects.{Command, RequestValue, Request, Placed, placed, in_effect, is_of_another, IsLast};
 ghost use Rattle.lk_members.specs.Rosters.{Genesis};
 ghost use Rattle.lk_state.specs.Meanings.{Meaning};
 ghost use Rattle.lk_state.specs.Sessions.{Session, is_new};
@@ -15,8 +15,8 @@ ghost use Rattle.lk_state.specs.Packed.{IsWhole};
 use crate::machine::Machine;
 
 /// A request counts after a list exactly where its number is above that of its client's last one that counts.
-pub fn counts_above_last()
-    ensures { (m : Meaning) (genesis : Genesis) (L : List Command) (r : RequestValue) → counted L (Request r) ≡ (if is_new (last_served m genesis L r.client) r.number then Some r else None) }
+pub fn takes_effect_above_last()
+    ensures { (m : Meaning) (genesis : Genesis) (L : List Command) (r : RequestValue) → in_effect L (Request r) ≡ (if is_new (last_served m genesis L r.client) r.number then Some r else None) }
 {}
 
 /// A client's last request that counts has the greatest number that it used.

@@ -55,12 +55,12 @@ impl<M: Machine> Model for Whole<M> {
 impl<M: Machine> Whole<M> {
     ghost use Rattle.std.specs.Prelude.{◌≡◌, ◌+◌, ◌<◌, ◌++◌, None, false, List, [], ◌∷◌, OnOk, OnErr, IfOk, IsOk};
     ghost use Rattle.lk_types.specs.Ranges.{IsCount};
-    ghost use Rattle.lk_members.specs.Counting.{Command, counted};
+    ghost use Rattle.lk_members.specs.Effects.{Command, in_effect};
     ghost use Rattle.lk_members.specs.Rosters.{Genesis};
     ghost use Rattle.lk_members.specs.Windows.{newest_roster, changed_by};
     ghost use Rattle.lk_state.specs.Sessions.{session_of, is_new, with_session};
     ghost use Rattle.lk_state.specs.States.{SumsUp, next_text, op_answer, reply_of, last_served};
-    ghost use Rattle.lk_state.specs.Runs.{counted_now, served_by, ran, run_answer, is_table, is_body, seen_as};
+    ghost use Rattle.lk_state.specs.Runs.{in_effect_now, served_by, ran, run_answer, is_table, is_body, seen_as};
 
     /// What stands before any command is executed. It takes no memory.
     pub fn begin(alloc: Global, genesis: &Genesis) -> Whole<M>
@@ -130,13 +130,13 @@ impl<M: Machine> Whole<M> {
         ensures position { IfOk result (λ r. r.position ≡ self.old.roster.executed + 1) }
         ensures answer { IfOk result (λ r. r.answer ≡ run_answer M.meaning command.now self.old) }
         ensures err { OnErr result (self.new ≡ self.old) }
-        ensures free { is_body (counted_now self.old.sessions command.now) ≡ false → IsOk result }
+        ensures free { is_body (in_effect_now self.old.sessions command.now) ≡ false → IsOk result }
 
         // After a list that it sums up it sums up the list with the command at its end, and tells the reply.
         ensures sums { (genesis : Genesis) (L : List Command) → SumsUp M.meaning genesis L self.old
             → OnOk result (SumsUp M.meaning genesis (L ++ command.now ∷ []) self.new) }
         ensures reply { (genesis : Genesis) (L : List Command) → SumsUp M.meaning genesis L self.old
-            → IfOk result (λ r. r.answer ≡ reply_of M.meaning genesis (L ++ command.now ∷ []) (counted L command.now)) }
+            → IfOk result (λ r. r.answer ≡ reply_of M.meaning genesis (L ++ command.now ∷ []) (in_effect L command.now)) }
     {
         let position = self.next_position();
         let answer = self.run_command(command)?;
@@ -157,7 +157,7 @@ impl<M: Machine> Whole<M> {
         ensures ok { OnOk result (self.new ≡ ran M.meaning command.now self.old) }
         ensures answer { IfOk result (λ a. a ≡ run_answer M.meaning command.now self.old) }
         ensures err { OnErr result (self.new ≡ self.old) }
-        ensures free { is_body (counted_now self.old.sessions command.now) ≡ false → IsOk result }
+        ensures free { is_body (in_effect_now self.old.sessions command.now) ≡ false → IsOk result }
     {
         match command {
             Command::Noop => {
@@ -204,7 +204,7 @@ impl<M: Machine> Whole<M> {
         ensures ok { OnOk result (self.new ≡ ran M.meaning (Command.Request request.now) self.old) }
         ensures answer { IfOk result (λ a. a ≡ run_answer M.meaning (Command.Request request.now) self.old) }
         ensures err { OnErr result (self.new ≡ self.old) }
-        ensures free { is_body (counted_now self.old.sessions (Command.Request request.now)) ≡ false → IsOk result }
+        ensures free { is_body (in_effect_now self.old.sessions (Command.Request request.now)) ≡ false → IsOk result }
     {
         if !self.is_new(request.client, request.number) {
             self.pass();

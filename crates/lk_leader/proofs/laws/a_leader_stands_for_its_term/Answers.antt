@@ -1,5 +1,5 @@
 -- By the lemmas of StandingLaws.
-use Rattle.lk_leader.proofs.StandingLaws.{begun_stands, later_stands, heard_stands, proposed_stands, counted_stands}
+use Rattle.lk_leader.proofs.StandingLaws.{begun_stands, later_stands, heard_stands, proposed_stands, majority_stands}
 use Rattle.lk_leader.proofs.laws.a_leader_stands_for_its_term.Goals as goal
 
 pub returns-clause-begins : goal.returns-clause-begins
@@ -14,5 +14,5 @@ returns-clause-hears c = heard_stands
 pub returns-clause-proposes : goal.returns-clause-proposes
 returns-clause-proposes c = proposed_stands
 
-pub returns-clause-counts : goal.returns-clause-counts
-returns-clause-counts c = counted_stands
+pub returns-clause-gains : goal.returns-clause-gains
+returns-clause-gains c = majority_stands

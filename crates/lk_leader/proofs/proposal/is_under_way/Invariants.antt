@@ -1,6 +1,6 @@
 -- None of the proposals so far is for the request.
 use Rattle.std.proofs.Common.{take}
-use Rattle.lk_members.specs.Counting.{Request}
+use Rattle.lk_members.specs.Effects.{Request}
 use Rattle.lk_leader.specs.Values.{IsUnderWay}
 use Rattle.lk_leader.proofs.proposal.is_under_way.Given as goal
 

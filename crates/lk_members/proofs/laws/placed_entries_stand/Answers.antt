@@ -1,4 +1,4 @@
-use Rattle.lk_members.proofs.CountingLaws as law
+use Rattle.lk_members.proofs.EffectLaws as law
 use Rattle.lk_members.proofs.laws.placed_entries_stand.Goals as goal
 
 pub returns : goal.returns

@@ -2,7 +2,7 @@
 use Rattle.std.proofs.Common.{◌≡◌, ◌∙◌, ◌↔◌, Bool, Some, List, ap, subst, IsTrue}
 use Rattle.lk_types.specs.declared.member.Member.{Member}
 use Rattle.lk_leader.specs.Terms.{TermValue, LeaderValue, proposal_at, with_proposals, with_term}
-use Rattle.lk_leader.specs.Counting.{heard_at, BecomesCounted}
+use Rattle.lk_leader.specs.Acceptances.{heard_at, GainsMajority}
 use Rattle.lk_leader.proofs.leader.Leader.accepted.Goals as goal
 
 pub returns-then-not-hear-clause-heard : goal.returns-then-not-hear-clause-heard
@@ -16,9 +16,9 @@ returns-then-not-hear-clause-heard c = λ t set p current v.
     let new : c.hear.new.self ≡ with_proposals (heard_at set c.args.node c.args.position t.proposals) t =
     told.0 ∙ ap (λ (x : List Member). with_proposals (heard_at x c.args.node c.args.position own.proposals) own) s
     ∙ ap (λ (x : TermValue). with_proposals (heard_at set c.args.node c.args.position x.proposals) x) e in
-    let counts : IsTrue c.hear.result ↔ BecomesCounted set c.args.node p = subst (λ (x : List Member). IsTrue c.hear.result ↔ BecomesCounted x c.args.node p) s told.1 in (
+    let counts : IsTrue c.hear.result ↔ GainsMajority set c.args.node p = subst (λ (x : List Member). IsTrue c.hear.result ↔ GainsMajority x c.args.node p) s told.1 in (
       ap (λ (x : TermValue). record { term = Some x; waiting = c.self.inside.waiting }) new ∙ ap (with_term (with_proposals (heard_at set c.args.node c.args.position t.proposals) t)) c.self.view_is,
-      subst (λ (b : Bool). IsTrue b ↔ BecomesCounted set c.args.node p) c.if-not-hear.true counts,
+      subst (λ (b : Bool). IsTrue b ↔ GainsMajority set c.args.node p) c.if-not-hear.true counts,
     )
 
 pub returns-clause-heard : goal.returns-clause-heard
@@ -32,7 +32,7 @@ returns-clause-heard c = λ t set p current v.
     let new : c.hear.new.self ≡ with_proposals (heard_at set c.args.node c.args.position t.proposals) t =
     told.0 ∙ ap (λ (x : List Member). with_proposals (heard_at x c.args.node c.args.position own.proposals) own) s
     ∙ ap (λ (x : TermValue). with_proposals (heard_at set c.args.node c.args.position x.proposals) x) e in
-    let counts : IsTrue c.hear.result ↔ BecomesCounted set c.args.node p = subst (λ (x : List Member). IsTrue c.hear.result ↔ BecomesCounted x c.args.node p) s told.1 in (
+    let counts : IsTrue c.hear.result ↔ GainsMajority set c.args.node p = subst (λ (x : List Member). IsTrue c.hear.result ↔ GainsMajority x c.args.node p) s told.1 in (
       ap (λ (x : TermValue). record { term = Some x; waiting = c.self.inside.waiting }) new ∙ ap (with_term (with_proposals (heard_at set c.args.node c.args.position t.proposals) t)) c.self.view_is,
-      subst (λ (b : Bool). IsTrue b ↔ BecomesCounted set c.args.node p) c.if-not-hear.false counts,
+      subst (λ (b : Bool). IsTrue b ↔ GainsMajority set c.args.node p) c.if-not-hear.false counts,
     )

@@ -1,6 +1,6 @@
 -- Where the term proposes nothing, the leader does not.
 use Rattle.std.proofs.Common.{◌≡◌, ◌∙◌, Some, Option, List, ap, sym, subst}
-use Rattle.lk_members.specs.Counting.{RequestValue}
+use Rattle.lk_members.specs.Effects.{RequestValue}
 use Rattle.lk_leader.specs.Terms.{TermValue, LeaderValue}
 use Rattle.lk_leader.specs.Proposing.{Proposes}
 use Rattle.lk_leader.proofs.leader.Leader.propose.Goals as goal

@@ -4,7 +4,7 @@ use Rattle.std.specs.Prelude.{position, slice_set}
 use Rattle.std.specs.List.{IsDistinct, refill}
 use Rattle.std.proofs.lemmas.List.Quantifiers.{position-Some}
 use Rattle.lk_leader.specs.Terms.{TermValue, ProposalValue, with_proposals}
-use Rattle.lk_leader.specs.Counting.{heard, heard_at, BecomesCounted}
+use Rattle.lk_leader.specs.Acceptances.{heard, heard_at, GainsMajority}
 use Rattle.lk_leader.proofs.TermLaws.{positions, refilled, found-at, positions-set, set-own, not-found}
 use Rattle.lk_leader.proofs.term.Term.hear.Goals as goal
 
@@ -46,7 +46,7 @@ returns-clause-proposed c = λ p at is.
     ∙ first.1 in (
       ap (λ (l : List ProposalValue). record { ballot = c.self.inside.ballot; reports = c.self.inside.reports.items; proposals = l }) list
           ∙ ap (with_proposals (heard_at set c.args.node c.args.position ps)) c.self.view_is,
-      subst (λ (q : ProposalValue). IsTrue c.hear.result ↔ BecomesCounted set c.args.node q) (sym this) told.1,
+      subst (λ (q : ProposalValue). IsTrue c.hear.result ↔ GainsMajority set c.args.node q) (sym this) told.1,
     )
 
 pub returns-clause-other : goal.returns-clause-other

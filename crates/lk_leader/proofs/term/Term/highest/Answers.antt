@@ -1,9 +1,9 @@
--- One promise more, where it counts.
+-- One promise more, where it speaks for the position.
 use Rattle.std.proofs.Common.{◌≡◌, ◌∙◌, ◌<◌, ◌+◌, Option, List, length, take, get_or, ap, sym, subst}
 use Rattle.lk_leader.specs.Terms.{Report, TermValue}
 use Rattle.lk_leader.specs.Values.{Told, IsBest, told_at, reports_at}
 use Rattle.lk_leader.proofs.BestLaws.{told_at-more, told_at-same}
-use Rattle.lk_leader.proofs.term.Term.highest.Goals.{then-counts, else-counts}
+use Rattle.lk_leader.proofs.term.Term.highest.Goals.{then-speaks_for, else-speaks_for}
 use Rattle.lk_leader.proofs.term.Term.highest.Goals as goal
 
 pub loop-report-preserved : goal.loop-report-preserved
@@ -15,13 +15,13 @@ loop-report-preserved c =
     let before : List Told = told_at c.args.position (reports_at c.args.set.now c.args.position (take c.loop-report.report-index rs)) in
     let best : IsBest before c.loop-report.best = c.loop-report.invariant in
     let after : List Told = told_at c.args.position (reports_at c.args.set.now c.args.position (take (c.loop-report.report-index + 1) rs)) in
-    elim c.if-counts.branch [
-      | then-counts w ↦
-          (let more = told_at-more c.args.set.now c.args.position rs c.loop-report.report-index c.report-item.result in' is (sym c.counts.ensures ∙ w.if-counts.true) in
+    elim c.if-speaks_for.branch [
+      | then-speaks_for w ↦
+          (let more = told_at-more c.args.set.now c.args.position rs c.loop-report.report-index c.report-item.result in' is (sym c.speaks_for.ensures ∙ w.if-speaks_for.true) in
           subst (λ (o : Option Told). IsBest after o) (sym w.best-is)
           (subst (λ (l : List Told). IsBest l w.tell-best.result) (sym more) (w.tell-best.ensures before best)))
-      | else-counts w ↦
-          (let same = told_at-same c.args.set.now c.args.position rs c.loop-report.report-index c.report-item.result in' is (sym c.counts.ensures ∙ w.if-counts.false) in
+      | else-speaks_for w ↦
+          (let same = told_at-same c.args.set.now c.args.position rs c.loop-report.report-index c.report-item.result in' is (sym c.speaks_for.ensures ∙ w.if-speaks_for.false) in
           subst (λ (o : Option Told). IsBest after o) (sym w.best-is)
           (subst (λ (l : List Told). IsBest l c.loop-report.best) (sym same) best))
     ]

@@ -1,6 +1,6 @@
 -- The three cases, in their order.
 use Rattle.std.proofs.Common.{◌≡◌, ◌∙◌, Option, ap, sym, subst, MatchOption}
-use Rattle.lk_members.specs.Counting.{Command}
+use Rattle.lk_members.specs.Effects.{Command}
 use Rattle.lk_leader.specs.Terms.{TermValue}
 use Rattle.lk_leader.specs.Values.{NoneIsNew, IsLeadersValue, highest, first_new}
 use Rattle.lk_leader.proofs.ValueLaws.{filled}

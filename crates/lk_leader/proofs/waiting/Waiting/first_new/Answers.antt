@@ -2,7 +2,7 @@
 use Rattle.std.proofs.Common.{◌∙◌, ◌≤◌, List, Contains, length, take, sym, subst, inl, inr, true≢false, arith}
 use Rattle.std.proofs.lemmas.List.{take_all}
 use Rattle.std.proofs.lemmas.List.Elements.{Contains-push_cases}
-use Rattle.lk_members.specs.Counting.{Request}
+use Rattle.lk_members.specs.Effects.{Request}
 use Rattle.lk_leader.specs.Waits.{RequestValue}
 use Rattle.lk_leader.specs.Values.{IsUnderWay}
 use Rattle.lk_leader.proofs.ValueLaws.{take-one, first-at}

@@ -1,6 +1,6 @@
 -- The requests so far are under way.
 use Rattle.std.proofs.Common.{Contains, take}
-use Rattle.lk_members.specs.Counting.{Request}
+use Rattle.lk_members.specs.Effects.{Request}
 use Rattle.lk_leader.specs.Waits.{RequestValue}
 use Rattle.lk_leader.specs.Values.{IsUnderWay}
 use Rattle.lk_leader.proofs.waiting.Waiting.first_new.Given as goal

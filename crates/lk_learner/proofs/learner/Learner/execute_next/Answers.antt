@@ -1,7 +1,7 @@
 -- The command of the next position is that of the first pair.
 use Rattle.std.proofs.Common.{◌≡◌, ◌∙◌, ℕ, ◌+◌, Some, None, List, [], ◌∷◌, ◌++◌, get_or, Contains, ap, sym, subst}
 use Rattle.std.specs.Prelude.{slice_get}
-use Rattle.lk_members.specs.Counting.{counted}
+use Rattle.lk_members.specs.Effects.{in_effect}
 use Rattle.lk_state.specs.Meanings.{Meaning}
 use Rattle.lk_state.specs.States.{reply_of}
 use Rattle.lk_state.specs.Runs.{ran, run_answer}
@@ -85,5 +85,5 @@ returns-clause-reply g c = λ genesis L v sums h.
     let told : c.command.result.now ≡ v = c.command.ensures ∙ ap (λ (p : Pair). p.1) at in
     let whole : c.self.inside.whole ≡ c.args.self.now.whole = ap (λ (x : LearnerValue). x.whole) c.self.view_is in
     let position = c.in_ok-ran.ensures.position ∙ ap (λ (w : WholeValue). w.roster.executed + 1) whole in
-    let answer = c.in_ok-ran.ensures.reply genesis L (whole ∙ sums) ∙ ap (λ (u : Command). reply_of m genesis (L ++ u ∷ []) (counted L u)) told in
-    ran_is c.in_ok-ran.ran (executed c.args.self.now + 1) (reply_of m genesis (L ++ v ∷ []) (counted L v)) position answer
+    let answer = c.in_ok-ran.ensures.reply genesis L (whole ∙ sums) ∙ ap (λ (u : Command). reply_of m genesis (L ++ u ∷ []) (in_effect L u)) told in
+    ran_is c.in_ok-ran.ran (executed c.args.self.now + 1) (reply_of m genesis (L ++ v ∷ []) (in_effect L v)) position answer

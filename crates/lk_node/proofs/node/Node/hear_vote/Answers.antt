@@ -2,9 +2,9 @@ use Rattle.std.proofs.Common.{◌≡◌, ◌∙◌, not, Some, List, ap, sym, su
 use Rattle.std.specs.Prelude.{is_some}
 use Rattle.lk_types.specs.declared.member.Member.{Member}
 use Rattle.lk_state.specs.States.{WholeValue}
-use Rattle.lk_node.specs.Counting.{IsOnlyHeard, HearsVote}
+use Rattle.lk_node.specs.Deciding.{IsOnlyHeard, HearsVote}
 use Rattle.lk_node.specs.NodeValue.{NodeValue}
-use Rattle.lk_node.proofs.CountingRules.{with_leader, only_heard, heard_and_counted, still_promised}
+use Rattle.lk_node.proofs.DecidingRules.{with_leader, only_heard, heard_and_decided, still_promised}
 use Rattle.lk_node.proofs.node.Node.hear_vote.Goals as goal
 
 pub returns-then-is_none : goal.returns-then-is_none
@@ -22,7 +22,7 @@ returns g c =
     let same : c.roster-roster.result.now ≡ was.learner.whole.roster = c.roster-roster.ensures ∙ ap (λ (w : WholeValue). w.roster) c.whole.ensures in
     subst (λ (k : NodeValue). HearsVote c.args.from c.args.vote.now k (with_leader was c.accepted-chosen.new.self) (Some c.copy.result)) c.self.view_is
     (subst (λ (s : List Member). HearsVote c.args.from c.args.vote.now was (with_leader was c.accepted-chosen.new.self) (Some s)) (sym c.copy.ensures)
-    (heard_and_counted c.args.from c.args.vote.now was c.accepted-chosen.new.self c.accepted-chosen.result c.in-Some.members.now c.roster-roster.result.now same
+    (heard_and_decided c.args.from c.args.vote.now was c.accepted-chosen.new.self c.accepted-chosen.result c.in-Some.members.now c.roster-roster.result.now same
     ((c.members_at.ensures.some.0 (ap is_some c.in-Some.is)).0, c.in-Some.ensures.value) c.accepted-chosen.ensures.heard c.accepted-chosen.ensures.other
     (c.is_none.ensures ∙ ap not c.if-is_none.false)))
 

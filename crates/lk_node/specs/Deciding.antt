@@ -6,7 +6,7 @@ use Rattle.lk_wire.specs.Grammar.{IsMessage}
 use Rattle.lk_wire.specs.declared.message.NodeMessage.{NodeMessage}
 use Rattle.lk_wire.specs.declared.message.NodeMessage.TheVariants as kinds
 use Rattle.lk_state.specs.Meanings.{Meaning}
-use Rattle.lk_leader.specs.Counting.{IsVoteFor, heard_at, BecomesCounted}
+use Rattle.lk_leader.specs.Acceptances.{IsVoteFor, heard_at, GainsMajority}
 use Rattle.lk_leader.specs.Terms.{TermValue, ProposalValue, with_term, with_proposals}
 use Rattle.lk_learner.specs.Learners.{Pair}
 use Rattle.lk_node.specs.Executing.{RunsAll}
@@ -33,19 +33,19 @@ abbrev pub with_vote : (from : ℕ) (x : Vote) (node : NodeValue) → IsForPropo
 with_vote from x node k = record node { leader = with_term (with_proposals (heard_at k.set from x.position k.term.proposals) k.term) node.leader }
 
 -- by that a majority of the position's members has accepted the proposal, and had not before
-abbrev pub IsCountedBy : (from : ℕ) (x : Vote) (node : NodeValue) → IsForProposal node x → Type 0
-IsCountedBy from x node k = BecomesCounted k.set from k.proposal
+abbrev pub BringsMajority : (from : ℕ) (x : Vote) (node : NodeValue) → IsForProposal node x → Type 0
+BringsMajority from x node k = GainsMajority k.set from k.proposal
 
 -- the vote is heard, by which no majority comes about: it is kept, or nothing changes where it is for no proposal
 abbrev pub IsOnlyHeard : ℕ → Vote → NodeValue → NodeValue → Type 0
-IsOnlyHeard from x old new = ((k : IsForProposal old x) × (IsCountedBy from x old k → ⊥) × (new ≡ with_vote from x old k)) ⊎ ((IsForProposal old x → ⊥) × (new ≡ old))
+IsOnlyHeard from x old new = ((k : IsForProposal old x) × (BringsMajority from x old k → ⊥) × (new ≡ with_vote from x old k)) ⊎ ((IsForProposal old x → ⊥) × (new ≡ old))
 
 -- the vote is heard, and the members of its position are given where by that a majority of them has accepted
 abbrev pub HearsVote : ℕ → Vote → NodeValue → NodeValue → Option (List Member) → Type 0
 HearsVote from x old new None = IsOnlyHeard from x old new
-HearsVote from x old new (Some set) = (k : IsForProposal old x) × IsCountedBy from x old k × (k.set ≡ set) × (new ≡ with_vote from x old k)
+HearsVote from x old new (Some set) = (k : IsForProposal old x) × BringsMajority from x old k × (k.set ≡ set) × (new ≡ with_vote from x old k)
 
--- ---- what is counted
+-- ---- the pair is decided
 
 -- that the pair is decided
 abbrev pub news_of : Pair → NodeMessage
@@ -58,9 +58,9 @@ pub record AreNews (node : NodeValue) (p : Pair) (letters : List LetterValue) : 
   pub fits : IsMessage (saying node.header (news_of p))
   pub comes_to : letters ≡ map (letter_to node (news_of p)) nodes
 
--- The pair is counted, by a majority of this set: that is noted, the pair is learned, all that can be is executed, and the
+-- The pair is decided, by a majority of this set: that is noted, the pair is learned, all that can be is executed, and the
 -- other nodes of the window, as it was in front of that, are told.
-pub record Counts (m : Meaning) (set : List Member) (p : Pair) (old : NodeValue) (before : OutboxValue) (new : NodeValue) (behind : OutboxValue) : Type 0 where
+pub record Decides (m : Meaning) (set : List Member) (p : Pair) (old : NodeValue) (before : OutboxValue) (new : NodeValue) (after : OutboxValue) : Type 0 where
   pub learned : NodeValue
   pub written : OutboxValue
   pub learns : Learns p old (with_note (note.Counted old.header.node p.0 set p.1) before) learned written
@@ -68,10 +68,10 @@ pub record Counts (m : Meaning) (set : List Member) (p : Pair) (old : NodeValue)
   pub runs : RunsAll m learned written new ran
   pub letters : List LetterValue
   pub news : AreNews old p letters
-  pub comes_to : behind ≡ with_letters letters ran
+  pub comes_to : after ≡ with_letters letters ran
 
--- a node was heard to accept: where by that a majority has, the pair is counted, and else nothing comes of it
+-- a node was heard to accept: where by that a majority has, the pair is decided, and else nothing comes of it
 abbrev pub HearsAccepted : Meaning → ℕ → Vote → NodeValue → NodeValue → OutboxValue → Type 0
 HearsAccepted m from x old new out =
-    ((k : IsForProposal old x) × IsCountedBy from x old k × Counts m k.set (x.position, x.command) (with_vote from x old k) nothing new out)
+    ((k : IsForProposal old x) × BringsMajority from x old k × Decides m k.set (x.position, x.command) (with_vote from x old k) nothing new out)
     ⊎ (IsOnlyHeard from x old new × (out ≡ nothing))

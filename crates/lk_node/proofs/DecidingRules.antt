@@ -18,20 +18,20 @@ use Rattle.lk_history.specs.Changes.{counts, with_term as view_with, with_accept
 use Rattle.lk_history.specs.Chosen.{Command, ChosenAt}
 use Rattle.lk_history.specs.Datagrams.{HasSent}
 use Rattle.lk_history.specs.Nodes.{Pair, Acceptance, Term, View, ViewFits}
-use Rattle.lk_history.proofs.Histories.{change_fits, counted_is_chosen}
+use Rattle.lk_history.proofs.Histories.{change_fits, accepted_is_chosen}
 use Rattle.lk_log.specs.Values.{HeaderValue}
 use Rattle.lk_state.specs.Meanings.{Meaning}
 use Rattle.lk_state.specs.Runs.{run_answer}
 use Rattle.lk_state.specs.States.{WholeValue, SumsUp, whole_after}
 use Rattle.lk_state.specs.declared.session.Session.{Session}
-use Rattle.lk_leader.specs.Counting.{heard_at, IsVoteFor, BecomesCounted}
+use Rattle.lk_leader.specs.Acceptances.{heard_at, IsVoteFor, GainsMajority}
 use Rattle.lk_leader.specs.Proposing.{AreMembersAt}
 use Rattle.lk_leader.specs.Standing.{StandsFor as LeadsTerm}
 use Rattle.lk_leader.specs.Terms.{TermValue, LeaderValue, ProposalValue, with_term, with_proposals}
 use Rattle.lk_leader.specs.declared.leader.Chosen.{Chosen}
-use Rattle.lk_leader.proofs.Leaderships.{counted_rests, counted_by, counted_stands}
+use Rattle.lk_leader.proofs.Leaderships.{majority_rests, accepted_by, majority_stands}
 use Rattle.lk_learner.specs.Learners.{executed, advanced}
-use Rattle.lk_node.specs.Counting.{IsForProposal, with_vote, IsCountedBy, IsOnlyHeard, HearsVote, news_of, AreNews, HearsAccepted, Counts}
+use Rattle.lk_node.specs.Deciding.{IsForProposal, with_vote, BringsMajority, IsOnlyHeard, HearsVote, news_of, AreNews, HearsAccepted, Decides}
 use Rattle.lk_node.specs.Executing.{SettlesAny, session_by, is_outside, while_named, Executes, Runs, stays, goes_on}
 use Rattle.lk_node.specs.Histories.{History}
 use Rattle.lk_node.specs.Keeping.{IsKnown}
@@ -45,7 +45,7 @@ use Rattle.lk_node.specs.Telling.{letter_to, with_letters}
 use Rattle.lk_node.specs.Yielding.{without_term}
 use Rattle.lk_node.specs.declared.note.Note.TheVariants as note
 use Rattle.lk_node.proofs.Changing.{change_goes_on}
-use Rattle.lk_node.proofs.Deciding.{for_proposal_or_not}
+use Rattle.lk_node.proofs.Decisions.{for_proposal_or_not}
 use Rattle.lk_node.proofs.LearnerRules.{Chooses, unheard}
 use Rattle.lk_node.proofs.Serving.{rests_here, then_goes_on, heard_goes_on, says, notes}
 
@@ -60,9 +60,9 @@ not_some (Some x) e s = cc e
 
 module _ (from : ℕ) (x : Vote) (was : NodeValue) (l : LeaderValue) (o : Option Chosen) (set : List Member) (r : RosterValue) (same : r ≡ was.learner.whole.roster) (at : AreMembersAt r x.position set)
     (heard : (t : TermValue) (s : List Member) (p : ProposalValue) → was.leader.term ≡ Some t → IsVoteFor t r x.ballot x.position x.command s p
-    → (l ≡ with_term (with_proposals (heard_at s from x.position t.proposals) t) was.leader) × (IsSome o ↔ BecomesCounted s from p))
+    → (l ≡ with_term (with_proposals (heard_at s from x.position t.proposals) t) was.leader) × (IsSome o ↔ GainsMajority s from p))
     (other : ((t : TermValue) (s : List Member) (p : ProposalValue) → was.leader.term ≡ Some t → IsVoteFor t r x.ballot x.position x.command s p → ⊥) → (l ≡ was.leader) × (o ≡ None)) where
-  told_for : (k : IsForProposal was x) → (with_leader was l ≡ with_vote from x was k) × (IsSome o ↔ IsCountedBy from x was k)
+  told_for : (k : IsForProposal was x) → (with_leader was l ≡ with_vote from x was k) × (IsSome o ↔ BringsMajority from x was k)
   told_for k =
       let told = heard k.term k.set k.proposal k.current (subst (λ (q : RosterValue). IsVoteFor k.term q x.ballot x.position x.command k.set k.proposal) (sym same) k.vote) in
       (ap (with_leader was) told.0, told.1)
@@ -88,8 +88,8 @@ module _ (from : ℕ) (x : Vote) (was : NodeValue) (l : LeaderValue) (o : Option
         | inr isnt ↦ (let told = told_none isnt in inr (isnt, told.0))
       ]
 
-  pub heard_and_counted : is_some o ≡ true → HearsVote from x was (with_leader was l) (Some set)
-  heard_and_counted some =
+  pub heard_and_decided : is_some o ≡ true → HearsVote from x was (with_leader was l) (Some set)
+  heard_and_decided some =
       elim (for_proposal_or_not was x set its_members) [
         | inl k ↦ (let told = told_for k in
             let one : k.set ≡ set = (let e : Some k.set ≡ Some set = sym k.vote.members.1 ∙ its_members.1 in cc e) in
@@ -156,7 +156,7 @@ vote_goes_on m from x node out k =
           more,
           refl,
           subst (LeadsTerm r.executed (length r.sets) more) (some_kept (with_proposals (heard_at k.set from x.position k.term.proposals) k.term) j e)
-              (counted_stands r.executed (length r.sets) t k.term r x.ballot from x.position x.command k.set k.proposal k.vote u.2),
+              (majority_stands r.executed (length r.sets) t k.term r x.ballot from x.position x.command k.set k.proposal k.vote u.2),
         );
         waiting = s.held.waiting;
         gathered = s.held.gathered;
@@ -206,16 +206,16 @@ list_names genesis done r i set sums at =
     (omega (arith, near, e, a), same ∙ ap (members genesis done) place)
 
 -- what a majority has accepted is chosen
-pub counted_chosen : (m : Meaning) (h : History) (n : ℕ) (loose : List Entry) (node : NodeValue) (out : OutboxValue) (from : ℕ) (x : Vote) (k : IsForProposal node x) → IsCountedBy from x node k
+pub decided_chosen : (m : Meaning) (h : History) (n : ℕ) (loose : List Entry) (node : NodeValue) (out : OutboxValue) (from : ℕ) (x : Vote) (k : IsForProposal node x) → BringsMajority from x node k
     → Serves m h n loose node out → Accepts from x h → ChosenAt h.genesis h.sent x.position x.command
-counted_chosen m h n loose node out from x k counted s heard =
+decided_chosen m h n loose node out from x k counted s heard =
     let w : View = s.holding.view in
     let r : RosterValue = node.learner.whole.roster in
     let u = s.held.leads k.term k.current in
     let t : Term = u.0 in
-    let rests = counted_rests h.genesis w.done t k.term r x.ballot from x.position x.command k.set k.proposal (roster_sums m h.genesis w.done node.learner.whole s.held.follows.sums)
+    let rests = majority_rests h.genesis w.done t k.term r x.ballot from x.position x.command k.set k.proposal (roster_sums m h.genesis w.done node.learner.whole s.held.follows.sums)
     (within_window r x.position k.set k.vote.members) u.2 k.vote counted in
-    counted_is_chosen h.genesis h.sent n (voted from x w t) (with_acceptance t (acceptance from x)) x.position x.command (counted_by k.set from k.proposal)
+    accepted_is_chosen h.genesis h.sent n (voted from x w t) (with_acceptance t (acceptance from x)) x.position x.command (accepted_by k.set from k.proposal)
     (voted_fits h n from x w t m loose node out s s.fits.view u.1 (u.2.ballot ∙ k.vote.ballot) heard) refl rests.0 rests.1 rests.2
 
 -- ---- it is noted
@@ -287,11 +287,11 @@ runs_header m old before new behind (goes_on {mid} {between} runs one) = execute
 
 -- ---- in all
 
-pub counts_goes_on : (m : Meaning) (set : List Member) (i : ℕ) (v : Command) (whose : ℕ) (old learned new : NodeValue) (before written ran : OutboxValue) (letters : List LetterValue) → AreMembersAt old.learner.whole.roster i set
+pub decides_goes_on : (m : Meaning) (set : List Member) (i : ℕ) (v : Command) (whose : ℕ) (old learned new : NodeValue) (before written ran : OutboxValue) (letters : List LetterValue) → AreMembersAt old.learner.whole.roster i set
     → AreNews old (i, v) letters → Learns (i, v) old (with_note (note.Counted whose i set v) before) learned written → Runs m learned written new ran
     → GoesOn m (Chooses i v) old learned (with_note (note.Counted whose i set v) before) written → GoesOn m (λ h. Unit {0}) learned new written ran
     → GoesOn m (Chooses i v) old new before (with_letters letters ran)
-counts_goes_on m set i v whose old learned new before written ran letters at news learns runs f g =
+decides_goes_on m set i v whose old learned new before written ran letters at news learns runs f g =
     let noted : OutboxValue = with_note (note.Counted whose i set v) before in
     let same : new.header ≡ old.header = runs_header m learned written new ran runs ∙ learns_header (i, v) old noted learned written learns in
     then_goes_on m (Chooses i v) old old new before noted (with_letters letters ran) (notes_counted m old before whose i set v at)
@@ -303,25 +303,25 @@ pub only_heard_goes_on : (m : Meaning) (from : ℕ) (x : Vote) (old new : NodeVa
 only_heard_goes_on m from x old new out (inl k) = subst (λ (node : NodeValue). GoesOn m (Accepts from x) old node out out) (sym k.2) (vote_goes_on m from x old out k.0)
 only_heard_goes_on m from x old new out (inr k) = subst (λ (node : NodeValue). GoesOn m (Accepts from x) old node out out) (sym k.1) (rests_here m (Accepts from x) old out)
 
-abbrev HearsCounted : ℕ → Vote → NodeValue → NodeValue → List Member → Type 0
-HearsCounted from x old mid set = HearsVote from x old mid (Some set)
+abbrev HearsMajority : ℕ → Vote → NodeValue → NodeValue → List Member → Type 0
+HearsMajority from x old mid set = HearsVote from x old mid (Some set)
 
 -- the members that are given are those of the position
-pub are_members : (from : ℕ) (x : Vote) (old mid : NodeValue) (set : List Member) → HearsCounted from x old mid set → AreMembersAt mid.learner.whole.roster x.position set
+pub are_members : (from : ℕ) (x : Vote) (old mid : NodeValue) (set : List Member) → HearsMajority from x old mid set → AreMembersAt mid.learner.whole.roster x.position set
 are_members from x old mid set k =
     subst₂ (λ (node : NodeValue) (s : List Member). AreMembersAt node.learner.whole.roster x.position s) (sym k.3) k.2 k.0.vote.members
 
-pub accepted_goes_on : (m : Meaning) (from : ℕ) (x : Vote) (old mid new : NodeValue) (set : List Member) (out behind : OutboxValue) → HearsCounted from x old mid set
+pub accepted_goes_on : (m : Meaning) (from : ℕ) (x : Vote) (old mid new : NodeValue) (set : List Member) (out behind : OutboxValue) → HearsMajority from x old mid set
     → GoesOn m (Chooses x.position x.command) mid new out behind → GoesOn m (Accepts from x) old new out behind
 accepted_goes_on m from x old mid new set out behind k f =
     let Both : History → Type 0 = λ (h : History). Accepts from x h × Chooses x.position x.command h in
     let heard_so : GoesOn m (Accepts from x) old mid out out = subst (λ (node : NodeValue). GoesOn m (Accepts from x) old node out out) (sym k.3) (vote_goes_on m from x old out k.0) in
-    heard_goes_on m (Accepts from x) Both old new out behind (λ h n loose s heard. (heard, counted_chosen m h n loose old out from x k.0 k.1 s heard))
+    heard_goes_on m (Accepts from x) Both old new out behind (λ h n loose s heard. (heard, decided_chosen m h n loose old out from x k.0 k.1 s heard))
     (then_goes_on m Both old mid new out out behind
     (heard_goes_on m Both (Accepts from x) old mid out out (λ h n loose s both. both.0) heard_so)
     (heard_goes_on m Both (Chooses x.position x.command) mid new out behind (λ h n loose s both. both.1) f))
 
-pub hears_accepted : (m : Meaning) (from : ℕ) (x : Vote) (old mid new : NodeValue) (set : List Member) (out : OutboxValue) → HearsCounted from x old mid set
-    → Counts m set (x.position, x.command) mid nothing new out → HearsAccepted m from x old new out
+pub hears_accepted : (m : Meaning) (from : ℕ) (x : Vote) (old mid new : NodeValue) (set : List Member) (out : OutboxValue) → HearsMajority from x old mid set
+    → Decides m set (x.position, x.command) mid nothing new out → HearsAccepted m from x old new out
 hears_accepted m from x old mid new set out k c =
-    inl (k.0, k.1, subst₂ (λ (node : NodeValue) (s : List Member). Counts m s (x.position, x.command) node nothing new out) k.3 (sym k.2) c)
+    inl (k.0, k.1, subst₂ (λ (node : NodeValue) (s : List Member). Decides m s (x.position, x.command) node nothing new out) k.3 (sym k.2) c)

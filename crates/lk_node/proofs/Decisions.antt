@@ -4,11 +4,11 @@ use Rattle.std.proofs.lemmas.Bool.{cases_Bool, eqb-false}
 use Rattle.lk_types.specs.BallotValue.{BallotValue}
 use Rattle.lk_types.specs.declared.member.Member.{Member}
 use Rattle.lk_types.specs.declared.vote.Vote.{Vote}
-use Rattle.lk_members.specs.Counting.{Command, RequestValue, Noop, Request}
+use Rattle.lk_members.specs.Effects.{Command, RequestValue, Noop, Request}
 use Rattle.lk_members.specs.Rosters.{Op, Table, Join, Leave, Raise}
 use Rattle.lk_leader.specs.Proposing.{AreMembersAt}
 use Rattle.lk_leader.specs.Terms.{TermValue, ProposalValue, proposal_at}
-use Rattle.lk_node.specs.Counting.{IsForProposal}
+use Rattle.lk_node.specs.Deciding.{IsForProposal}
 use Rattle.lk_node.specs.NodeValue.{NodeValue}
 
 same_number : (i j : ℕ) → (i ≡ j) ⊎ (i ≡ j → ⊥)

@@ -5,7 +5,7 @@ use Rattle.std.specs.List.{list_all}
 use Rattle.std.proofs.lemmas.Bool.{and_parts, and_from, cases_Bool}
 use Rattle.std.proofs.lemmas.List.Folds.{list_all-append}
 use Rattle.std.proofs.lemmas.List.Elements.{Contains-append_left, Contains-push}
-use Rattle.lk_members.specs.Counting.{Command, RequestValue, Noop, Request, Placed, is_older, counted, placed_behind, placed, is_of_another, is_at_most, IsLast}
+use Rattle.lk_members.specs.Effects.{Command, RequestValue, Noop, Request, Placed, is_older, in_effect, placed_behind, placed, is_of_another, is_at_most, IsLast}
 
 stands_behind : (before entries : List Command) (p : Placed) → Contains (placed_behind before entries) p → (rest : List Command) × (before ++ entries ≡ p.before ++ (p.entry ∷ rest))
 stands_behind before [] p (k, lt, is) = absurd (omega arith)
@@ -22,9 +22,9 @@ placed_entries_stand L p here = stands_behind [] L p here
 -- ---- an entry that counts
 
 -- what a request that counts stands after
-pub counted_behind : (before : List Command) (c : Command) (r : RequestValue) → counted before c ≡ Some r → (c ≡ Request r) × (list_all (is_older r) before ≡ true)
-counted_behind before Noop r e = absurd cc
-counted_behind before (Request s) r e =
+pub in_effect_after : (before : List Command) (c : Command) (r : RequestValue) → in_effect before c ≡ Some r → (c ≡ Request r) × (list_all (is_older r) before ≡ true)
+in_effect_after before Noop r e = absurd cc
+in_effect_after before (Request s) r e =
     elim (cases_Bool (list_all (is_older s) before)) [
       | inl all ↦ let now : Some s ≡ Some r = rw all at e in let same : s ≡ r = cc in (ap Request same, rw (← same) all)
       | inr some ↦ let none : None ≡ Some r = rw some at e in absurd cc
@@ -41,31 +41,31 @@ not_the_same : (r s : RequestValue) → r.client ≡ s.client → r.number ≡ s
 not_the_same r s client number older = grind arith
 
 -- of two entries for one number the later does not count
-first_counts : (before entries : List Command) (c : Command) (p : Placed) (r s : RequestValue) → counted before c ≡ Some r → Contains (placed_behind (before ++ c ∷ []) entries) p → counted p.before p.entry ≡ Some s → r.client ≡ s.client → r.number ≡ s.number → ⊥
-first_counts before entries c p r s first later counts client number =
+first_takes_effect : (before entries : List Command) (c : Command) (p : Placed) (r s : RequestValue) → in_effect before c ≡ Some r → Contains (placed_behind (before ++ c ∷ []) entries) p → in_effect p.before p.entry ≡ Some s → r.client ≡ s.client → r.number ≡ s.number → ⊥
+first_takes_effect before entries c p r s first later counts client number =
     let front = begins_behind (before ++ c ∷ []) entries p later in
-    let all : list_all (is_older s) ((before ++ c ∷ []) ++ front.0) ≡ true = ap (list_all (is_older s)) (sym front.1) ∙ (counted_behind p.before p.entry s counts).1 in
+    let all : list_all (is_older s) ((before ++ c ∷ []) ++ front.0) ≡ true = ap (list_all (is_older s)) (sym front.1) ∙ (in_effect_after p.before p.entry s counts).1 in
     let upto = and_parts (list_all (is_older s) (before ++ c ∷ [])) (list_all (is_older s) front.0) (sym (list_all-append (is_older s) (before ++ c ∷ []) front.0) ∙ all) in
     let here = and_parts (list_all (is_older s) before) (is_older s c && true) (sym (list_all-append (is_older s) before (c ∷ [])) ∙ upto.0) in
     let older = and_parts (is_older s c) true here.1 in
-    not_the_same r s client number (rw (counted_behind before c r first).0 at older.0)
+    not_the_same r s client number (rw (in_effect_after before c r first).0 at older.0)
 
 once_behind : (before entries : List Command) (p q : Placed) (r s : RequestValue) → Contains (placed_behind before entries) p → Contains (placed_behind before entries) q
-    → counted p.before p.entry ≡ Some r → counted q.before q.entry ≡ Some s → r.client ≡ s.client → r.number ≡ s.number → p ≡ q
-once_behind before [] p q r s (j, lt, is) there counts counts_too client number = absurd (omega arith)
-once_behind before (c ∷ entries) p q r s (zero, lt, is) (zero, lt_too, is_too) counts counts_too client number = sym is ∙ is_too
-once_behind before (c ∷ entries) p q r s (zero, lt, is) (suc k, lt_too, is_too) counts counts_too client number =
-    absurd (first_counts before entries c q r s (ap (λ (x : Placed). counted x.before x.entry) is ∙ counts) (k, omega arith, is_too) counts_too client number)
-once_behind before (c ∷ entries) p q r s (suc j, lt, is) (zero, lt_too, is_too) counts counts_too client number =
-    absurd (first_counts before entries c p s r (ap (λ (x : Placed). counted x.before x.entry) is_too ∙ counts_too) (j, omega arith, is) counts (sym client) (sym number))
-once_behind before (c ∷ entries) p q r s (suc j, lt, is) (suc k, lt_too, is_too) counts counts_too client number =
-    once_behind (before ++ c ∷ []) entries p q r s (j, omega arith, is) (k, omega arith, is_too) counts counts_too client number
+    → in_effect p.before p.entry ≡ Some r → in_effect q.before q.entry ≡ Some s → r.client ≡ s.client → r.number ≡ s.number → p ≡ q
+once_behind before [] p q r s (j, lt, is) there counts takes_effect_too client number = absurd (omega arith)
+once_behind before (c ∷ entries) p q r s (zero, lt, is) (zero, lt_too, is_too) counts takes_effect_too client number = sym is ∙ is_too
+once_behind before (c ∷ entries) p q r s (zero, lt, is) (suc k, lt_too, is_too) counts takes_effect_too client number =
+    absurd (first_takes_effect before entries c q r s (ap (λ (x : Placed). in_effect x.before x.entry) is ∙ counts) (k, omega arith, is_too) takes_effect_too client number)
+once_behind before (c ∷ entries) p q r s (suc j, lt, is) (zero, lt_too, is_too) counts takes_effect_too client number =
+    absurd (first_takes_effect before entries c p s r (ap (λ (x : Placed). in_effect x.before x.entry) is_too ∙ takes_effect_too) (j, omega arith, is) counts (sym client) (sym number))
+once_behind before (c ∷ entries) p q r s (suc j, lt, is) (suc k, lt_too, is_too) counts takes_effect_too client number =
+    once_behind (before ++ c ∷ []) entries p q r s (j, omega arith, is) (k, omega arith, is_too) counts takes_effect_too client number
 
 -- at most one entry counts for a client's number
-pub numbers_count_once : (L : List Command) (p q : Placed) (r s : RequestValue) → Contains (placed L) p → Contains (placed L) q
-    → counted p.before p.entry ≡ Some r → counted q.before q.entry ≡ Some s → r.client ≡ s.client → r.number ≡ s.number → p ≡ q
+pub numbers_take_effect_once : (L : List Command) (p q : Placed) (r s : RequestValue) → Contains (placed L) p → Contains (placed L) q
+    → in_effect p.before p.entry ≡ Some r → in_effect q.before q.entry ≡ Some s → r.client ≡ s.client → r.number ≡ s.number → p ≡ q
 unfolding placed
-numbers_count_once L = once_behind [] L
+numbers_take_effect_once L = once_behind [] L
 
 -- ---- one entry more
 

@@ -1,8 +1,8 @@
--- The nodes that are counted are the members that accepted.
+-- The nodes whose votes count are the members that accepted.
 use Rattle.std.proofs.Common.{◌≡◌, ◌∙◌, ap}
 use Rattle.lk_leader.specs.Terms.{ProposalValue}
-use Rattle.lk_leader.specs.Counting.{members_among}
-use Rattle.lk_leader.proofs.proposal.Proposal.is_counted.Goals as goal
+use Rattle.lk_leader.specs.Acceptances.{members_among}
+use Rattle.lk_leader.proofs.proposal.Proposal.has_majority.Goals as goal
 
 pub returns : goal.returns
 returns c =

@@ -1,8 +1,8 @@
--- Which acceptances count, and when a position is counted.
+-- Whose acceptances are counted, and when a majority has accepted.
 use Rattle.std.specs.Prelude.{◌≡◌, ℕ, ◌==◌, if◌then◌else◌, Some, List, [], ◌∷◌, ◌++◌, map, filter}
 use Rattle.std.specs.List.{list_any}
 use Rattle.lk_types.specs.declared.member.Member.{Member}
-use Rattle.lk_members.specs.Counting.{Command}
+use Rattle.lk_members.specs.Effects.{Command}
 use Rattle.lk_members.specs.Majorities.{IsMajority}
 use Rattle.lk_members.specs.Windows.{RosterValue}
 use Rattle.lk_leader.specs.Terms.{BallotValue, ProposalValue, TermValue, LeaderValue, proposal_at}
@@ -13,8 +13,8 @@ abbrev pub members_among : List Member → List ℕ → List ℕ
 members_among set nodes = map (λ m. m.node) (filter (λ m. list_any (λ n. n == m.node) nodes) set)
 
 -- a majority of the members has accepted it since it was proposed
-abbrev pub IsCounted : List Member → ProposalValue → Type 0
-IsCounted set p = IsMajority (members_among set p.accepted) set
+abbrev pub HasMajority : List Member → ProposalValue → Type 0
+HasMajority set p = IsMajority (members_among set p.accepted) set
 
 -- the proposal once the node was heard to accept it
 abbrev pub heard : List Member → ℕ → ProposalValue → ProposalValue
@@ -33,8 +33,8 @@ heard_at set node i [] = []
 heard_at set node i (p ∷ ps) = if p.position == i then heard set node p ∷ ps else p ∷ heard_at set node i ps
 
 -- by that a majority of the set has accepted it, and had not before
-abbrev pub BecomesCounted : List Member → ℕ → ProposalValue → Type 0
-BecomesCounted set node p = (IsCounted set p → ⊥) × IsCounted set (heard set node p)
+abbrev pub GainsMajority : List Member → ℕ → ProposalValue → Type 0
+GainsMajority set node p = (HasMajority set p → ⊥) × HasMajority set (heard set node p)
 
 -- the leader's proposal at the position, which a majority of its set has not accepted yet
 pub record IsOpen (l : LeaderValue) (roster : RosterValue) (i : ℕ) (p : ProposalValue) : Type 0 where
@@ -43,4 +43,4 @@ pub record IsOpen (l : LeaderValue) (roster : RosterValue) (i : ℕ) (p : Propos
   pub proposal : proposal_at i term.proposals ≡ Some p
   pub set : List Member
   pub members : AreMembersAt roster i set
-  pub not_counted : IsCounted set p → ⊥
+  pub no_majority : HasMajority set p → ⊥

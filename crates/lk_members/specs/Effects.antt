@@ -11,9 +11,9 @@ is_older r Noop = true
 is_older r (Request s) = not (s.client == r.client) || nat_lt s.number r.number
 
 -- the request that the entry is, where it counts after these entries: its number is above all of its client's before it
-abbrev pub counted : List Command → Command → Option RequestValue
-counted before Noop = None
-counted before (Request r) = if list_all (is_older r) before then Some r else None
+abbrev pub in_effect : List Command → Command → Option RequestValue
+in_effect before Noop = None
+in_effect before (Request r) = if list_all (is_older r) before then Some r else None
 
 -- an entry, and the entries before it
 pub record Placed : Type 0 where
@@ -30,8 +30,8 @@ unfoldable pub placed : List Command → List Placed
 placed L = placed_behind [] L
 
 -- the requests that count, in order
-unfoldable pub counting : List Command → List RequestValue
-counting L = filter_map (λ p. counted p.before p.entry) (placed L)
+unfoldable pub effects : List Command → List RequestValue
+effects L = filter_map (λ p. in_effect p.before p.entry) (placed L)
 
 -- ---- the last request of a client
 

@@ -1,10 +1,10 @@
-// What a node counts.
+// How a node decides a position: by the votes that it hears.
 ghost use Rattle.std.specs.Prelude.{◌≡◌, IfOk, OnOk};
 ghost use Rattle.lk_wire.specs.declared.message.NodeMessage.TheVariants as kinds;
 ghost use Rattle.lk_history.specs.Chosen.{ChosenAt};
 ghost use Rattle.lk_history.specs.Datagrams.{HasSent};
 ghost use Rattle.lk_leader.specs.Proposing.{AreMembersAt};
-ghost use Rattle.lk_node.specs.Counting.{HearsVote, news_of, AreNews, Counts, HearsAccepted};
+ghost use Rattle.lk_node.specs.Deciding.{HearsVote, news_of, AreNews, Decides, HearsAccepted};
 ghost use Rattle.lk_node.specs.Outboxes.{nothing};
 ghost use Rattle.lk_node.specs.Serving.{GoesOn};
 
@@ -64,14 +64,14 @@ impl<M: Machine> Node<M> {
     }
 
     // A majority of these members has accepted the command at the position.
-    fn count(
+    fn decide(
         &mut self,
         members: Members,
         position: Position,
         command: &Command,
         out: &mut Outbox,
     ) -> Result<(), NoMemory>
-        ensures exact { OnOk result (Counts M.meaning members (position, command.now) self.old out.old self.new out.new) }
+        ensures exact { OnOk result (Decides M.meaning members (position, command.now) self.old out.old self.new out.new) }
         ensures goes_on { AreMembersAt self.old.learner.whole.roster position members → OnOk result (GoesOn M.meaning (λ h. ChosenAt h.genesis h.sent position command.now) self.old self.new out.old out.new) }
     {
         out.note(Note::Counted(self.header.node(), position, members, command.copy()))?;
@@ -91,7 +91,7 @@ impl<M: Machine> Node<M> {
         let Some(members) = self.hear_vote(from, vote) else {
             return Ok(out);
         };
-        self.count(members, vote.position, &vote.command, &mut out)?;
+        self.decide(members, vote.position, &vote.command, &mut out)?;
         Ok(out)
     }
 }
