@@ -267,7 +267,7 @@ module _ (genesis : Genesis) (sent : List Datagram) (sound : Sound genesis sent)
     changes_fit old new f stays = f
     changes_fit old new f (goes_on {mid = mid} first last) = change_fits mid new (changes_fit old mid f first) last
 
--- a command that the term's count shows to be accepted by a majority of the members that the executed list names
+-- a command that the term shows to be accepted by a majority of the members that the executed list names
 pub accepted_is_chosen : (genesis : Genesis) (sent : List Datagram) (n : ℕ) (w : View) (t : Term) (i : ℕ) (v : Command) (nodes : List ℕ) → ViewFits genesis sent n w → w.term ≡ Some t
     → i ≤ length w.done + genesis.alpha → IsMajority nodes (members genesis w.done i) → ((k : ℕ) → Contains nodes k → Contains t.accepted (record { node = k; position = i; command = v }))
     → ChosenAt genesis sent i v

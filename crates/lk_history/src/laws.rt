@@ -53,7 +53,7 @@ pub fn chosen_commands_are_kept()
         → IsKept genesis sent L i v (λ n state. CoversSent genesis sent n state.acceptor × Stems genesis sent state) }
 {}
 
-/// What a term has counted from a majority of the members that the executed list names is chosen.
+/// What a majority of the members that the executed list names has accepted in a term is chosen.
 pub fn what_a_majority_accepted_is_chosen()
     ensures { (genesis : Genesis) (sent : List Datagram) (n : ℕ) (w : View) (t : Term) (i : ℕ) (v : Command) (nodes : List ℕ)
         → ViewFits genesis sent n w → w.term ≡ Some t → i ≤ length w.done + genesis.alpha → IsMajority nodes (members genesis w.done i)

@@ -14,7 +14,7 @@ use Rattle.lk_locks.specs.Packed.{IsText}
 use Rattle.lk_inspect.specs.declared.inspection.Inspection.{Inspection}
 
 -- how long the list is, who decides the next positions, the names of its plain table and those that are held, and of how many
--- clients a request counts
+-- clients a request takes effect
 pub record Tells (genesis : Genesis) (L : List Command) (i : Inspection) : Type 0 where
   pub executed : i.executed ≡ length L
   pub members : i.window ≡ sets_from genesis L (length L + 1) genesis.alpha

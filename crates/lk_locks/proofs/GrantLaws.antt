@@ -241,7 +241,7 @@ calls_of-push L r counts =
     ∙ flat_map-append calls (effects L) (r ∷ [])
     ∙ ap (λ (l : List Call). flat_map calls (effects L) ++ l) (flat_map-cons calls r [] ∙ append-nil (call_of r r.op))
 
--- a request that counts and is given a name adds its fence to those of the name
+-- a request that takes effect and is given a name adds its fence to those of the name
 pub each_fence_is_listed : (name : List ℕ) (L : List Command) (r : RequestValue) (bytes : List ℕ) (body : Body) (fence : ℕ) → in_effect L (Request r) ≡ Some r → r.op ≡ TableOp bytes
     → body_of bytes ≡ Some body → name_of body ≡ name → fences (answer r.client bytes (table_of L)) ≡ fence ∷ [] → fences_in name (L ++ Request r ∷ []) ≡ fences_in name L ++ fence ∷ []
 unfolding table_of

@@ -21,7 +21,7 @@ use Rattle.lk_locks.specs.Lists.{table_after, table_of}
 
 -- ---- one command more
 
--- the table after a request that counts, or none
+-- the table after a request that takes effect, or none
 abbrev pub table_behind : Table → Option RequestValue → Table
 table_behind m None = m
 table_behind m (Some r) = table_after r.client r.op m
@@ -41,7 +41,7 @@ all-front : {X : Type 0} (P : X → Type 0) (xs : List X) (y : X) → AllByRecur
 all-front P [] y all = (tt, all.0)
 all-front P (x ∷ xs) y all = let rest = all-front P xs y all.1 in ((all.0, rest.0), rest.1)
 
--- ---- what counts is of a client
+-- ---- what takes effect is of a client
 
 abbrev IsOfClient : Option RequestValue → Type 0
 IsOfClient None = Unit {0}

@@ -58,11 +58,11 @@ call_of request (Join node port) = []
 call_of request (Leave node) = []
 call_of request Raise = (request.client, Raising) ∷ []
 
--- what the entries of a list that count ask of the table, in order
+-- what the entries of a list that take effect ask of the table, in order
 abbrev pub calls_of : List Command → List Call
 calls_of L = flat_map (λ request. call_of request request.op) (effects L)
 
--- the fences of the Granted and Shared answers of the entries that count for the name, in order
+-- the fences of the Granted and Shared answers of the entries that take effect for the name, in order
 abbrev pub fences_in : List ℕ → List Command → List ℕ
 fences_in name L = fences_from name empty (calls_of L)
 

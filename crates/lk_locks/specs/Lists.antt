@@ -20,6 +20,6 @@ table_answer client (Join node port) t = None
 table_answer client (Leave node) t = None
 table_answer client Raise t = Some (plain.raise_answer t)
 
--- the lock table after a list: the requests that count, in order
+-- the lock table after a list: the requests that take effect, in order
 unfoldable pub table_of : List Command → plain.Table
 table_of L = fold (λ t r. table_after r.client r.op t) plain.empty (effects L)

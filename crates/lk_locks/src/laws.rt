@@ -61,7 +61,7 @@ pub fn bodies_are_for_their_names()
     ensures { (name : List ℕ) (body : Body) → IsTrue (is_for name (Some body)) ↔ (name_of body ≡ name) }
 {}
 
-/// An entry that counts and is given a name, alone or to share, adds its fence to those of the name.
+/// An entry that takes effect and is given a name, alone or to share, adds its fence to those of the name.
 pub fn each_fence_is_listed()
     ensures { (name : List ℕ) (L : List Command) (r : RequestValue) (bytes : List ℕ) (body : Body) (fence : ℕ) → in_effect L (Request r) ≡ Some r → r.op ≡ TableOp bytes → body_of bytes ≡ Some body → name_of body ≡ name → fences (answer r.client bytes (table_of L)) ≡ fence ∷ [] → fences_in name (L ++ Request r ∷ []) ≡ fences_in name L ++ fence ∷ [] }
 {}

@@ -1,4 +1,4 @@
--- Placed entries, which of them count, and the last request of a client.
+-- Placed entries, which of them take effect, and the last request of a client.
 use Rattle.std.proofs.Common.{◌≡◌, zero, suc, ℕ, Bool, true, ◌&&◌, List, [], ◌∷◌, ◌++◌, Some, None, refl, ap, sym, ◌∙◌, inl, inr, append_assoc, append-nil, arith}
 use Rattle.std.specs.Prelude.{Contains}
 use Rattle.std.specs.List.{list_all}
@@ -19,9 +19,9 @@ pub placed_entries_stand : (L : List Command) (p : Placed) → Contains (placed 
 unfolding placed
 placed_entries_stand L p here = stands_behind [] L p here
 
--- ---- an entry that counts
+-- ---- an entry that takes effect
 
--- what a request that counts stands after
+-- what a request that takes effect stands after
 pub in_effect_after : (before : List Command) (c : Command) (r : RequestValue) → in_effect before c ≡ Some r → (c ≡ Request r) × (list_all (is_older r) before ≡ true)
 in_effect_after before Noop r e = absurd cc
 in_effect_after before (Request s) r e =
@@ -40,7 +40,7 @@ begins_behind before (c ∷ entries) p (suc k, lt, is) =
 not_the_same : (r s : RequestValue) → r.client ≡ s.client → r.number ≡ s.number → is_older s (Request r) ≡ true → ⊥
 not_the_same r s client number older = grind arith
 
--- of two entries for one number the later does not count
+-- of two entries for one number the later does not take effect
 first_takes_effect : (before entries : List Command) (c : Command) (p : Placed) (r s : RequestValue) → in_effect before c ≡ Some r → Contains (placed_behind (before ++ c ∷ []) entries) p → in_effect p.before p.entry ≡ Some s → r.client ≡ s.client → r.number ≡ s.number → ⊥
 first_takes_effect before entries c p r s first later counts client number =
     let front = begins_behind (before ++ c ∷ []) entries p later in
@@ -61,7 +61,7 @@ once_behind before (c ∷ entries) p q r s (suc j, lt, is) (zero, lt_too, is_too
 once_behind before (c ∷ entries) p q r s (suc j, lt, is) (suc k, lt_too, is_too) counts takes_effect_too client number =
     once_behind (before ++ c ∷ []) entries p q r s (j, omega arith, is) (k, omega arith, is_too) counts takes_effect_too client number
 
--- at most one entry counts for a client's number
+-- at most one entry takes effect for a client's number
 pub numbers_take_effect_once : (L : List Command) (p q : Placed) (r s : RequestValue) → Contains (placed L) p → Contains (placed L) q
     → in_effect p.before p.entry ≡ Some r → in_effect q.before q.entry ≡ Some s → r.client ≡ s.client → r.number ≡ s.number → p ≡ q
 unfolding placed
@@ -95,7 +95,7 @@ older_at_most r (c ∷ L) h =
     one Noop older = refl
     one (Request s) older = grind arith
 
--- a request that counts is its client's last one
+-- a request that takes effect is its client's last one
 pub IsLast-new : (L : List Command) (r : RequestValue) → list_all (is_older r) L ≡ true → IsLast (L ++ Request r ∷ []) r.client r.number
 IsLast-new L r all = record {
   request = r;

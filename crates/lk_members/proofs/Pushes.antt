@@ -1,4 +1,4 @@
--- One entry more: which requests count, the roster, and its last change.
+-- One entry more: which requests take effect, the roster, and its last change.
 use Rattle.std.proofs.Common.{◌≡◌, ◌+◌, cond, List, [], ◌∷◌, ◌++◌, length, Option, Some, None, fold, refl, ap, sym, ◌∙◌, append_assoc, append-nil}
 use Rattle.std.specs.List.{filter_map}
 use Rattle.std.proofs.lemmas.List.Sums.{fold-append}
@@ -17,7 +17,7 @@ pub placed-push : (L : List Command) (c : Command) → placed (L ++ c ∷ []) �
 unfolding placed
 placed-push L c = placed_behind-push [] L c
 
--- the requests that one entry adds to those that count
+-- the requests that one entry adds to those that take effect
 abbrev pub added : Option RequestValue → List RequestValue
 added None = []
 added (Some r) = r ∷ []
@@ -34,7 +34,7 @@ effects-push L c =
     ∙ filter_map-append (λ (p : Placed). in_effect p.before p.entry) (placed L) (p ∷ [])
     ∙ ap (λ (rs : List RequestValue). effects L ++ rs) (added_is (in_effect L c) p refl)
 
--- the roster after a request that counts, or none
+-- the roster after a request that takes effect, or none
 abbrev pub roster_behind : PlainRoster → Option RequestValue → PlainRoster
 roster_behind r None = r
 roster_behind r (Some q) = next_roster r q.op

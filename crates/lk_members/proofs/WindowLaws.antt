@@ -125,7 +125,7 @@ change_answered v op known answer is told genesis L e =
     let plain : newest_roster v ≡ roster_of genesis L = ap newest_roster e ∙ newest_roster-roster_after genesis L genesis.in_range.0 in
     rw (is, ← plain) told
 
--- a join or a leave that counts
+-- a join or a leave that takes effect
 pub change_sums_up : (v w : RosterValue) (op known : Op) → op ≡ known → w ≡ changed_by known v
     → (genesis : Genesis) (L : List Command) (r : RequestValue) → v ≡ roster_after genesis L → r.op ≡ op → in_effect L (Request r) ≡ Some r → w ≡ roster_after genesis (L ++ Request r ∷ [])
 unfolding roster_after

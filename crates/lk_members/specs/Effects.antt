@@ -1,4 +1,4 @@
--- Which entries of a list of commands count.
+-- Which entries of a list of commands take effect.
 pub use Rattle.lk_types.specs.declared.command.Request.{Request as RequestValue}
 pub use Rattle.lk_types.specs.declared.command.Command.{Command}
 pub use Rattle.lk_types.specs.declared.command.Command.TheVariants.{Noop, Request}
@@ -10,7 +10,7 @@ abbrev pub is_older : RequestValue → Command → Bool
 is_older r Noop = true
 is_older r (Request s) = not (s.client == r.client) || nat_lt s.number r.number
 
--- the request that the entry is, where it counts after these entries: its number is above all of its client's before it
+-- the request that the entry is, where it takes effect after these entries: its number is above all of its client's before it
 abbrev pub in_effect : List Command → Command → Option RequestValue
 in_effect before Noop = None
 in_effect before (Request r) = if list_all (is_older r) before then Some r else None
@@ -29,7 +29,7 @@ placed_behind before (c ∷ rest) = record { before = before; entry = c } ∷ pl
 unfoldable pub placed : List Command → List Placed
 placed L = placed_behind [] L
 
--- the requests that count, in order
+-- the requests that take effect, in order
 unfoldable pub effects : List Command → List RequestValue
 effects L = filter_map (λ p. in_effect p.before p.entry) (placed L)
 

@@ -77,7 +77,7 @@ next_roster r (Leave node) =
     else r
 next_roster r Raise = r
 
--- the roster after the requests that count, in order
+-- the roster after the requests that take effect, in order
 unfoldable pub roster_of : Genesis → List Command → PlainRoster
 roster_of genesis L = fold (λ r q. next_roster r q.op) (first_roster genesis) (effects L)
 
@@ -85,7 +85,7 @@ roster_of genesis L = fold (λ r q. next_roster r q.op) (first_roster genesis) (
 unfoldable pub members : Genesis → List Command → ℕ → List Member
 members genesis L i = (roster_of genesis (take (i - genesis.alpha) L)).members
 
--- the entry counts after the entries before it, and is granted a change of the members
+-- the entry takes effect after the entries before it, and is granted a change of the members
 abbrev pub is_granted_change : PlainRoster → Option RequestValue → Bool
 is_granted_change r None = false
 is_granted_change r (Some q) = is_granted (roster_answer r q.op)

@@ -9,7 +9,7 @@ pub fn placed_entries_stand()
     ensures { (L : List Command) (p : Placed) → Contains (placed L) p → (rest : List Command) × (L ≡ p.before ++ (p.entry ∷ rest)) }
 {}
 
-/// At most one entry of a list counts for a client's number.
+/// At most one entry of a list takes effect for a client's number.
 pub fn numbers_take_effect_once()
     ensures { (L : List Command) (p q : Placed) (r s : RequestValue) → Contains (placed L) p → Contains (placed L) q → in_effect p.before p.entry ≡ Some r → in_effect q.before q.entry ≡ Some s → r.client ≡ s.client → r.number ≡ s.number → p ≡ q }
 {}

@@ -1,4 +1,4 @@
--- What a node counts goes on: what a majority has accepted is chosen, and its list names the members that it notes.
+-- What a node decides goes on: what a majority has accepted is chosen, and its list names the members that it notes.
 use Rattle.std.proofs.Common.{◌≡◌, ◌↔◌, ℕ, zero, suc, ◌+◌, ◌-◌, ◌≤◌, inl, inr, Bool, true, false, cond, List, [], ◌∷◌, length, map, Option, Some, None, Contains, refl, sym, ◌∙◌, ap, subst, subst₂, arith}
 use Rattle.std.specs.Prelude.{slice_get, is_some, IsSome}
 use Rattle.std.proofs.lemmas.Option.{slice_get_within}

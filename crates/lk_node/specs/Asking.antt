@@ -46,6 +46,6 @@ TakesAs (seen.Same answer) old r new out = TellsClient old r.client (kinds.Answe
 TakesAs (seen.Passed last) old r new out = TellsClient old r.client (kinds.Passed (record { client = r.client; number = r.number; last = last })) new out
 TakesAs seen.New old r new out = TakesNew old.leader.term old r new out
 
--- what the node does with a request, by where it stands to its client's last one that counted
+-- what the node does with a request, by where it stands to its client's last one that took effect
 abbrev pub HearsRequest : NodeValue → RequestValue → NodeValue → OutboxValue → Type 0
 HearsRequest old r new out = TakesAs (seen_as (session_of r.client old.learner.whole.sessions) r.number) old r new out

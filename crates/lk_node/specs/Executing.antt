@@ -58,7 +58,7 @@ SettlesAny (Some s) old before new behind = Settles s old before new behind
 
 -- ---- one execution
 
--- the session that a command leaves which was answered so, where it counted
+-- the session that a command leaves which was answered so, where it took effect
 abbrev pub session_by : Command → Option Answer → Option Session
 session_by Noop answer = None
 session_by (Request r) None = None

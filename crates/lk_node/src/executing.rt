@@ -37,7 +37,7 @@ impl<M: Machine> Node<M> {
         Ok(())
     }
 
-    // The command has run and was answered so: where it counted, its session is settled.
+    // The command has run and was answered so: where it took effect, its session is settled.
     fn settle_ran(
         &mut self,
         command: &Command,

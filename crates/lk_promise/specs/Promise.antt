@@ -179,7 +179,7 @@ kept_by replica = record {
   locks = replica.node.learner.whole.text;
 }
 
--- it has executed a chosen list, of which it keeps all that counts
+-- it has executed a chosen list, of which it keeps all that takes effect
 abbrev pub HasExecuted : Genesis → List Datagram → ReplicaValue → Type 0
 HasExecuted genesis sent replica = (L : List Command) × IsChosen genesis sent L × IsKeptOf genesis L (kept_by replica)
 

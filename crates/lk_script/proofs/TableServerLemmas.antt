@@ -61,7 +61,7 @@ table_answer-op_answer genesis before client (Join node port) commands table = a
 table_answer-op_answer genesis before client (Leave node) commands table = absurd cc
 table_answer-op_answer genesis before client Raise commands table = ap Some (sym (answer-text_of before commands client Raising))
 
--- an entry that counts, with its answer
+-- an entry that takes effect, with its answer
 abbrev read_answer : Genesis → Placed → RequestValue → Answer
 read_answer genesis p q = op_answer table_meaning (roster_of genesis p.before) (text_of table_meaning p.before) q.client q.op
 
@@ -126,7 +126,7 @@ passed_is (Some s) number last e =
     passed : seen.Passed s.number ≡ seen.Passed last → s.number ≡ last
     passed e = cc
 
--- ---- a request that does not count adds nothing
+-- ---- a request that does not take effect adds nothing
 
 module _ (L : List Command) (r : RequestValue) (server : TableServer) (sums : HasServed L server) where
   last : last_served table_meaning sums.genesis L r.client ≡ session_of r.client server.whole.sessions
@@ -159,7 +159,7 @@ module _ (L : List Command) (r : RequestValue) (server : TableServer) (sums : Ha
       unchanged (message.Passed (record { client = r.client; number = r.number; last = number })) s.0 s.1 (omega (arith, s.3))
       (passes number (subst (IsLast L r.client) s.2 greatest) (subst (λ (n : ℕ). r.number < n) s.2 s.3))
 
--- ---- a request that counts goes to the end
+-- ---- a request that takes effect goes to the end
 
 -- what a server that has run it replies
 pub runs : (L : List Command) (r : RequestValue) (a : Answer) (old new : TableServer) (answered : Option Answer) → IsRequest r → is_for_table r.op ≡ true

@@ -14,7 +14,7 @@ use Rattle.lk_script.specs.WorldLines.{SpellsOrder}
 use Rattle.lk_script.specs.Worlds.{new_world, events_of, Follows, refused_line, done_line}
 use Rattle.lk_script.specs.declared.order.Order.{Order}
 
--- what a script has set up: nothing yet, a lock table with the list of the requests that counted so far, or a world, in
+-- what a script has set up: nothing yet, a lock table with the list of the requests that took effect so far, or a world, in
 -- which so many events were done
 pub data Script (R : Type 0) : Type 0 where
   begun : Script R

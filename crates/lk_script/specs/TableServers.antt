@@ -1,4 +1,4 @@
--- What a table server stands for: the list of the requests that counted so far.
+-- What a table server stands for: the list of the requests that took effect so far.
 use Rattle.std.specs.Prelude.{◌≡◌, ℕ, true, List, [], ◌∷◌, ⊤}
 use Rattle.std.specs.List.{AllByRecursion}
 use Rattle.lk_types.specs.Commands.{IsRequest}

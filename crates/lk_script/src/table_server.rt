@@ -75,7 +75,7 @@ impl TableServer {
         TableServer { cluster, whole }
     }
 
-    /// Executes a request that counts, and answers it.
+    /// Executes a request that takes effect, and answers it.
     fn run(&mut self, request: &Request) -> Result<Answer, NoMemory>
         requires room { executed_of self.old < max_count }
         requires table { is_for_table request.now.op ≡ true }

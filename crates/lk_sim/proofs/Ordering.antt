@@ -1,4 +1,4 @@
--- What was answered before a request was asked counts in front of it.
+-- What was answered before a request was asked takes effect before it.
 use Rattle.std.proofs.Common.{◌≡◌, ℕ, zero, suc, ◌-◌, ◌<◌, ◌≤◌, ◌⊎◌, Bool, ◌&&◌, eqb, List, [], ◌∷◌, ◌++◌, length, take, Option, Some, None, slice_get, Contains, refl, ap, sym, ◌∙◌, subst, inl, inr, arith, append-nil, length-append, eqb-true}
 use Rattle.std.specs.Prelude.{find}
 use Rattle.std.specs.List.{list_all}
@@ -26,7 +26,7 @@ use Rattle.lk_sim.specs.Orders.{IsEffectiveAt, IsEffectiveBefore, InOrder, IsAns
 use Rattle.lk_sim.proofs.Lists.{asked_among}
 use Rattle.lk_sim.proofs.Bearing.{command_longer}
 
--- ---- a request that is replied counts at a place
+-- ---- a request that is replied takes effect at a place
 
 -- so it does in a longer list
 effective_longer : (L rest : List Command) (i : ℕ) (r : RequestValue) → IsEffectiveAt L i r → IsEffectiveAt (L ++ rest) i r
@@ -99,7 +99,7 @@ effective_more m genesis L c so_far client number a e =
     (sym (ap (λ (l : List Session). option_map (λ (s : Session). s.answer) (find (is_asked client number) l)) (ledger-push m genesis L c)
     ∙ ap (option_map (λ (s : Session). s.answer)) (find-append (is_asked client number) (ledger m genesis L) (entered (session_in m (roster_of genesis L) (text_of m L) (in_effect L c))))) ∙ e)
 
--- what is replied counts at some place of the list
+-- what is replied takes effect at some place of the list
 pub reply_takes_effect : (m : Meaning) (genesis : Genesis) (L : List Command) → AreInEffect m genesis L
 reply_takes_effect m genesis = by_pushes (AreInEffect m genesis) (nothing_in_effect m genesis) (effective_more m genesis)
 

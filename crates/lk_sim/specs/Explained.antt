@@ -25,9 +25,9 @@ pub record Explains (m : Meaning) (genesis : Genesis) (sent : List Datagram) (tr
   -- for the command that stands there; and for one command a position, also beyond the list
   pub counted : (n i : ℕ) (set : List Member) (v w : Command) → Contains trace (note.Counted n i set v) → command_at L i ≡ Some w → v ≡ w
   pub counted_twice : (n k i : ℕ) (set other : List Member) (v w : Command) → Contains trace (note.Counted n i set v) → Contains trace (note.Counted k i other w) → v ≡ w
-  -- what a client was answered is the reply to its request, which counts
+  -- what a client was answered is the reply to its request, which takes effect
   pub answered : (n client number : ℕ) (a : Answer) → Contains trace (note.Answered n client number a) → reply m genesis L client number ≡ Some a
-  -- what a client was told of is a greater number of its, which counts
+  -- what a client was told of is a greater number of its, which takes effect
   pub told : (n client number last : ℕ) → Contains trace (note.Told n client number last) → (number < last) × ((a : Answer) × (reply m genesis L client last ≡ Some a))
   -- so with each datagram that says so
   pub answers : (n : ℕ) (a : Answered) → HasSent genesis sent n (kinds.Answer a) → reply m genesis L a.client a.number ≡ Some a.answer

@@ -1,4 +1,4 @@
--- What was answered before a request was asked counts in front of it.
+-- What was answered before a request was asked takes effect before it.
 use Rattle.std.specs.Prelude.{◌≡◌, ℕ, ◌-◌, ◌<◌, List, ◌++◌, take, Some, Contains}
 use Rattle.lk_types.specs.declared.answer.Answer.{Answer}
 use Rattle.lk_members.specs.Effects.{in_effect}
@@ -10,11 +10,11 @@ use Rattle.lk_node.specs.declared.note.Note.{Note}
 use Rattle.lk_node.specs.declared.note.Note.TheVariants as note
 use Rattle.lk_sim.specs.Traces.{asked_in}
 
--- the request stands at this position of the list, and counts there
+-- the request stands at this position of the list, and takes effect there
 abbrev pub IsEffectiveAt : List Command → ℕ → RequestValue → Type 0
 IsEffectiveAt L i r = (command_at L i ≡ Some (Request r)) × (in_effect (take (i - 1) L) (Request r) ≡ Some r)
 
--- a request of this client and number counts in front of this position
+-- a request of this client and number takes effect before this position
 pub record IsEffectiveBefore (L : List Command) (i client number : ℕ) : Type 0 where
   pub place : ℕ
   pub request : RequestValue
@@ -23,7 +23,7 @@ pub record IsEffectiveBefore (L : List Command) (i client number : ℕ) : Type 0
   pub of_number : request.number ≡ number
   pub effective : IsEffectiveAt L place request
 
--- wherever a trace is separated: what was answered in its front counts in each chosen list in front of each request that counts
+-- wherever a trace is separated: what was answered in its front takes effect in each chosen list in front of each request that takes effect
 -- there and was not asked in that front
 abbrev pub InOrder : Genesis → List Datagram → List Note → Type 0
 InOrder genesis sent trace =

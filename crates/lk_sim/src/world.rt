@@ -81,7 +81,7 @@ impl<R: MemoryReplica> World<R> {
         ensures covered { (k : ℕ) (s : SeatValue R) → At self.new.seats k s → CoversAll (disks_by R.behaves) R.meaning self.new.genesis self.new.sent s }
         // A majority keeps each command of a chosen list, whatever stops may leave.
         ensures kept { (L : List Command) (i : ℕ) (v : Command) → Chosen self.new.genesis self.new.sent L → command_at L i ≡ Some v → IsKeptBy (disks_by R.behaves) R.meaning self.new.genesis self.new.seats self.new.sent L i v }
-        // What was answered before a request was asked counts in front of it.
+        // What was answered before a request was asked takes effect before it.
         ensures order { InOrder self.new.genesis self.new.sent self.new.trace }
         // Neither file of a node is ever longer than 262,144 bytes.
         ensures room { (k : ℕ) (s : SeatValue R) → At self.new.seats k s → AreShort (disks_of (disks_by R.behaves) s.life) }
@@ -105,7 +105,7 @@ impl<R: MemoryReplica> World<R> {
         ensures covered { (k : ℕ) (s : SeatValue R) → At self.new.seats k s → CoversAll (disks_by R.behaves) R.meaning self.new.genesis self.new.sent s }
         // A majority keeps each command of a chosen list, whatever stops may leave.
         ensures kept { (L : List Command) (i : ℕ) (v : Command) → Chosen self.new.genesis self.new.sent L → command_at L i ≡ Some v → IsKeptBy (disks_by R.behaves) R.meaning self.new.genesis self.new.seats self.new.sent L i v }
-        // What was answered before a request was asked counts in front of it.
+        // What was answered before a request was asked takes effect before it.
         ensures order { InOrder self.new.genesis self.new.sent self.new.trace }
         // Neither file of a node is ever longer than 262,144 bytes.
         ensures room { (k : ℕ) (s : SeatValue R) → At self.new.seats k s → AreShort (disks_of (disks_by R.behaves) s.life) }
@@ -156,7 +156,7 @@ impl<R: MemoryReplica> World<R> {
         ensures covered { (k : ℕ) (s : SeatValue R) → At self.now.seats k s → CoversAll (disks_by R.behaves) R.meaning self.now.genesis self.now.sent s }
         // A majority keeps each command of a chosen list, whatever stops may leave.
         ensures kept { (L : List Command) (i : ℕ) (v : Command) → Chosen self.now.genesis self.now.sent L → command_at L i ≡ Some v → IsKeptBy (disks_by R.behaves) R.meaning self.now.genesis self.now.seats self.now.sent L i v }
-        // What was answered before a request was asked counts in front of it.
+        // What was answered before a request was asked takes effect before it.
         ensures order { InOrder self.now.genesis self.now.sent self.now.trace }
         // Neither file of a node is ever longer than 262,144 bytes.
         ensures room { (k : ℕ) (s : SeatValue R) → At self.now.seats k s → AreShort (disks_of (disks_by R.behaves) s.life) }

@@ -19,7 +19,7 @@ use Rattle.lk_state.proofs.ReplyLaws.{session_now, reply_here, mine_is_asked}
 older-is_new_last : (m : Meaning) (genesis : Genesis) (L : List Command) (r : RequestValue) → list_all (is_older r) L ≡ is_new (last_served m genesis L r.client) r.number
 older-is_new_last m genesis L r = is_older-is_new m genesis L r ∙ ap (λ (o : Option Session). is_new o r.number) (sym (last_served-session_of m genesis L r.client))
 
--- a request counts after a list exactly where its number is above that of its client's last one that counts
+-- a request takes effect after a list exactly where its number is above that of its client's last one that takes effect
 pub takes_effect_above_last : (m : Meaning) (genesis : Genesis) (L : List Command) (r : RequestValue) → in_effect L (Request r) ≡ cond (is_new (last_served m genesis L r.client) r.number) (Some r) None
 takes_effect_above_last m genesis L r = ap (λ (b : Bool). cond b (Some r) None) (older-is_new_last m genesis L r)
 
@@ -66,7 +66,7 @@ same_session s client number a is_client is_number is_answer =
 abbrev is_numbered : ℕ → ℕ → Session → Bool
 is_numbered client number s = eqb s.client client && eqb s.number number
 
--- a reply is what an entry that counts gets at its place
+-- a reply is what an entry that takes effect gets at its place
 pub replies_stand : (m : Meaning) (genesis : Genesis) (L : List Command) (client number : ℕ) (a : Answer) → reply m genesis L client number ≡ Some a
     → (p : Placed) × Contains (placed L) p × (served m genesis p ≡ Some (record { client = client; number = number; answer = a }))
 unfolding ledger
@@ -91,7 +91,7 @@ reply-push m genesis L c client number a e =
     ∙ ap (option_map (λ (s : Session). s.answer)) (find-append test (ledger m genesis L) more)
     ∙ kept_answer (find test (ledger m genesis L)) (find test more) a e
 
--- what counts at the end of a list has the reply there
+-- what takes effect at the end of a list has the reply there
 reply-new : (m : Meaning) (genesis : Genesis) (L : List Command) (c : Command) (s : Session) → served_here m genesis L c ≡ Some s → reply m genesis (L ++ c ∷ []) s.client s.number ≡ Some s.answer
 reply-new m genesis L Noop s e = absurd cc
 reply-new m genesis L (Request r) s e =
@@ -119,7 +119,7 @@ nothing_placed : (p : Placed) → Contains (placed []) p → ⊥
 unfolding placed
 nothing_placed p (k, lt, is) = omega arith
 
--- what an entry that counts is answered at its place is the reply of its client's number
+-- what an entry that takes effect is answered at its place is the reply of its client's number
 pub one_reply : (m : Meaning) (genesis : Genesis) (L : List Command) (p : Placed) (s : Session) → Contains (placed L) p → served m genesis p ≡ Some s → reply m genesis L s.client s.number ≡ Some s.answer
 one_reply m genesis = by_pushes (IsRepliedWhereServed m genesis) (λ p s stands is. absurd (nothing_placed p stands)) (replied_more m genesis)
 
@@ -150,7 +150,7 @@ last_replied_more m genesis L c so_far client s last =
 nobody_last : (m : Meaning) (genesis : Genesis) (client : ℕ) (s : Session) → last_served m genesis [] client ≡ Some s → ⊥
 nobody_last m genesis client s e = let none = nothing_last m genesis client in cc
 
--- what a client's last request that counts was answered is its reply
+-- what a client's last request that takes effect was answered is its reply
 pub last_is_replied : (m : Meaning) (genesis : Genesis) (L : List Command) (client : ℕ) (s : Session) → last_served m genesis L client ≡ Some s → reply m genesis L client s.number ≡ Some s.answer
 last_is_replied m genesis = by_pushes (IsReplied m genesis) (λ client s e. absurd (nobody_last m genesis client s e)) (last_replied_more m genesis)
 
@@ -168,7 +168,7 @@ new_is_greatest m genesis L (Request r) s e =
       | inr some ↦ let none : None ≡ Some s = rw some at e in absurd cc
     ]
 
--- an entry of the client that does not count has no greater number
+-- an entry of the client that does not take effect has no greater number
 old_is_at_most : (m : Meaning) (genesis : Genesis) (L : List Command) (c : Command) (client : ℕ) (s : Session) → last_served m genesis L client ≡ Some s → is_at client (served_here m genesis L c) ≡ false → is_at_most client s.number c ≡ true
 old_is_at_most m genesis L Noop client s last not_here = refl
 old_is_at_most m genesis L (Request r) client s last not_here =
@@ -194,7 +194,7 @@ greatest_more m genesis L c so_far client s last =
       | inr before ↦ IsLast-push L c client s.number (so_far client s before.0) (old_is_at_most m genesis L c client s before.0 before.1)
     ]
 
--- a client's last request that counts has the greatest number that it used
+-- a client's last request that takes effect has the greatest number that it used
 pub last_is_greatest : (m : Meaning) (genesis : Genesis) (L : List Command) (client : ℕ) (s : Session) → last_served m genesis L client ≡ Some s → IsLast L client s.number
 last_is_greatest m genesis = by_pushes (IsGreatest m genesis) (λ client s e. absurd (nobody_last m genesis client s e)) (greatest_more m genesis)
 
@@ -226,6 +226,6 @@ unused_more m genesis L c so_far client none =
     let before = none_came client (last_served m genesis L client) (served_here m genesis L c) (sym (last_served-push m genesis L c client) ∙ none) in
     all_of_another-push client L c (so_far client before.0) (first_would_take_effect m genesis L c client before.0 before.1)
 
--- a client of which no request counts has none in the list
+-- a client of which no request takes effect has none in the list
 pub none_is_unused : (m : Meaning) (genesis : Genesis) (L : List Command) (client : ℕ) → last_served m genesis L client ≡ None → list_all (is_of_another client) L ≡ true
 none_is_unused m genesis = by_pushes (IsUnused m genesis) (λ client none. refl) (unused_more m genesis)

@@ -1,4 +1,4 @@
--- What a request is answered where it counts.
+-- What a request is answered where it takes effect.
 use Rattle.std.proofs.Common.{◌≡◌, ℕ, Bool, true, false, ◌&&◌, eqb, nat_lt, List, [], ◌∷◌, ◌++◌, Option, Some, None, refl, ap, subst, sym, ◌∙◌, inl, inr, arith, append_assoc, append-nil}
 use Rattle.std.specs.Prelude.{find}
 use Rattle.std.specs.List.{list_all}
@@ -51,7 +51,7 @@ asks_more m genesis L c so_far r older =
     ∙ find-append (is_asked r) (ledger m genesis L) (entered (served_here m genesis L c))
     ∙ rw (so_far r parts.0) (not_entered m genesis L c r here.0)
 
--- a request that is about to count was not answered before
+-- a request that is about to take effect was not answered before
 unanswered : (m : Meaning) (genesis : Genesis) (L : List Command) → AsksNothing m genesis L
 unanswered m genesis = by_pushes (AsksNothing m genesis) (nothing_asked m genesis) (asks_more m genesis)
 

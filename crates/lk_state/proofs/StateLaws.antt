@@ -43,7 +43,7 @@ ledger-push m genesis L c =
     ∙ filter_map-append (λ (p : Placed). served m genesis p) (placed L) (p ∷ [])
     ∙ ap (λ (s : List Session). ledger m genesis L ++ s) (entered_is m genesis p (served m genesis p) refl)
 
--- the machine's text after a request that counts, or none
+-- the machine's text after a request that takes effect, or none
 abbrev pub text_behind : Meaning → List ℕ → Option RequestValue → List ℕ
 text_behind m text None = text
 text_behind m text (Some q) = next_text m text q.client q.op
@@ -100,7 +100,7 @@ session_of-with_session client s (t ∷ l) =
           ]
     ]
 
--- ---- what counts
+-- ---- what takes effect
 
 and_all : (x : Bool) → (x && true) ≡ x
 and_all true = refl
@@ -124,7 +124,7 @@ old_is_below None n k e h = absurd cc
 old_is_below (Some s) n k e h = omega (arith, ltb-false s.number n e, ltb-true s.number k h)
 
 module _ (sessions : List Session) (r q : RequestValue) where
-  -- a request that counts becomes its client's last one
+  -- a request that takes effect becomes its client's last one
   effect_by_session : (s : Session) → s.client ≡ q.client → s.number ≡ q.number → is_new (session_of q.client sessions) q.number ≡ true
       → (is_new (session_of r.client sessions) r.number && is_older r (Request q)) ≡ is_new (session_of r.client (with_session s sessions)) r.number
   effect_by_session s client number new =
@@ -143,7 +143,7 @@ module _ (sessions : List Session) (r q : RequestValue) where
             rw (other, kept) (and_all (is_new (session_of r.client sessions) r.number))
       ]
 
-  -- a request that does not count changes no test
+  -- a request that does not take effect changes no test
   passed_more : is_new (session_of q.client sessions) q.number ≡ false
       → (is_new (session_of r.client sessions) r.number && is_older r (Request q)) ≡ is_new (session_of r.client sessions) r.number
   passed_more old =
@@ -183,7 +183,7 @@ effect_more m genesis L c so_far r =
     ∙ behind_one m genesis L c so_far r
     ∙ ap (λ (l : List Session). is_new (session_of r.client l) r.number) (sym (sessions_of-push m genesis L c))
 
--- a request counts after a list exactly where its number is above its client's last one
+-- a request takes effect after a list exactly where its number is above its client's last one
 pub is_older-is_new : (m : Meaning) (genesis : Genesis) (L : List Command) → AreInEffectBySessions m genesis L
 is_older-is_new m genesis = by_pushes (AreInEffectBySessions m genesis) (λ r. rw (nothing_served m genesis) refl) (effect_more m genesis)
 
@@ -260,7 +260,7 @@ pub nothing_last : (m : Meaning) (genesis : Genesis) (client : ℕ) → last_ser
 unfolding ledger placed
 nothing_last m genesis client = refl
 
--- the session of a client is that of its last request that counts
+-- the session of a client is that of its last request that takes effect
 pub last_served-session_of : (m : Meaning) (genesis : Genesis) (L : List Command) (client : ℕ) → last_served m genesis L client ≡ session_of client (sessions_of m genesis L)
 last_served-session_of m genesis = by_pushes (λ L. (client : ℕ) → last_served m genesis L client ≡ session_of client (sessions_of m genesis L)) (λ client. rw (nothing_served m genesis) (nothing_last m genesis client)) (last_more m genesis)
 
@@ -271,7 +271,7 @@ sessions_rise m genesis = by_pushes (λ L. do_rise (sessions_of m genesis L) ≡
     behind l None h = h
     behind l (Some s) h = do_rise-with_session s l h
 
--- a session of the state of a list is its client's last request that counts
+-- a session of the state of a list is its client's last request that takes effect
 pub sessions_are_last : (m : Meaning) (genesis : Genesis) (L : List Command) (s : Session) → Contains (sessions_of m genesis L) s → last_served m genesis L s.client ≡ Some s
 sessions_are_last m genesis L s here = last_served-session_of m genesis L s.client ∙ each_is_its_clients (sessions_of m genesis L) s (sessions_rise m genesis L) here
 

@@ -11,7 +11,7 @@ use Rattle.lk_state.specs.States.{WholeValue, next_text, op_answer}
 use Rattle.lk_state.specs.declared.whole.Seen.{Seen}
 use Rattle.lk_state.specs.declared.whole.Seen.TheVariants as seen
 
--- the request that the command is, where it counts after these sessions
+-- the request that the command is, where it takes effect after these sessions
 abbrev pub in_effect_now : List Session → Command → Option RequestValue
 in_effect_now sessions Noop = None
 in_effect_now sessions (Request r) = if is_new (session_of r.client sessions) r.number then Some r else None
@@ -20,7 +20,7 @@ in_effect_now sessions (Request r) = if is_new (session_of r.client sessions) r.
 abbrev pub session_for : Meaning → WholeValue → RequestValue → Session
 session_for m w r = record { client = r.client; number = r.number; answer = op_answer m (newest_roster w.roster) w.text r.client r.op }
 
--- one position on, with a request that counts or with none
+-- one position on, with a request that takes effect or with none
 abbrev pub served_by : Meaning → WholeValue → Option RequestValue → WholeValue
 served_by m w None = record { roster = moved_unchanged w.roster; sessions = w.sessions; text = w.text }
 served_by m w (Some r) =
@@ -34,7 +34,7 @@ served_by m w (Some r) =
 abbrev pub ran : Meaning → Command → WholeValue → WholeValue
 ran m command w = served_by m w (in_effect_now w.sessions command)
 
--- what the command is answered, where it counts
+-- what the command is answered, where it takes effect
 abbrev pub run_answer : Meaning → Command → WholeValue → Option Answer
 run_answer m command w = option_map (λ r. (session_for m w r).answer) (in_effect_now w.sessions command)
 

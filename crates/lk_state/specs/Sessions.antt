@@ -1,4 +1,4 @@
--- What is kept of each client: its last request that counted, and what that was answered.
+-- What is kept of each client: its last request that took effect, and what that was answered.
 pub use Rattle.lk_state.specs.declared.session.Session.{Session}
 use Rattle.std.specs.Prelude.{ℕ, Bool, true, false, ◌&&◌, ◌==◌, nat_lt, if◌then◌else◌, Option, Some, None, List, [], ◌∷◌, find, IsTrue}
 use Rattle.std.specs.List.{AllByRecursion}

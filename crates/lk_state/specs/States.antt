@@ -23,24 +23,24 @@ op_answer m roster text client (Join node port) = join_answer roster node
 op_answer m roster text client (Leave node) = leave_answer roster node
 op_answer m roster text client Raise = m.answer client Raising text
 
--- the machine's text after the requests that count, in order
+-- the machine's text after the requests that take effect, in order
 unfoldable pub text_of : Meaning → List Command → List ℕ
 text_of m L = fold (λ text q. next_text m text q.client q.op) m.first (effects L)
 
--- the answer of a request that counts, or none
+-- the answer of a request that takes effect, or none
 abbrev pub session_in : Meaning → PlainRoster → List ℕ → Option RequestValue → Option Session
 session_in m roster text None = None
 session_in m roster text (Some q) = Some (record { client = q.client; number = q.number; answer = op_answer m roster text q.client q.op })
 
--- what an entry is answered at its place, where it counts
+-- what an entry is answered at its place, where it takes effect
 abbrev pub served : Meaning → Genesis → Placed → Option Session
 served m genesis p = session_in m (roster_of genesis p.before) (text_of m p.before) (in_effect p.before p.entry)
 
--- the requests that count with their answers, in order
+-- the requests that take effect with their answers, in order
 unfoldable pub ledger : Meaning → Genesis → List Command → List Session
 ledger m genesis L = filter_map (λ p. served m genesis p) (placed L)
 
--- what the client's request of this number is answered at the place where it counts, none where it does nowhere
+-- what the client's request of this number is answered at the place where it takes effect, none where it does nowhere
 abbrev pub reply : Meaning → Genesis → List Command → ℕ → ℕ → Option Answer
 reply m genesis L client number = option_map (λ s. s.answer) (find (λ s. s.client == client && s.number == number) (ledger m genesis L))
 
@@ -49,7 +49,7 @@ abbrev pub reply_of : Meaning → Genesis → List Command → Option RequestVal
 reply_of m genesis L None = None
 reply_of m genesis L (Some r) = reply m genesis L r.client r.number
 
--- the client's last request that counts, with its answer
+-- the client's last request that takes effect, with its answer
 abbrev pub last_served : Meaning → Genesis → List Command → ℕ → Option Session
 last_served m genesis L client = fold (λ last s. if s.client == client then Some s else last) None (ledger m genesis L)
 

@@ -14,32 +14,32 @@ ghost use Rattle.lk_state.specs.Packed.{IsWhole};
 
 use crate::machine::Machine;
 
-/// A request counts after a list exactly where its number is above that of its client's last one that counts.
+/// A request takes effect after a list exactly where its number is above that of its client's last one that takes effect.
 pub fn takes_effect_above_last()
     ensures { (m : Meaning) (genesis : Genesis) (L : List Command) (r : RequestValue) → in_effect L (Request r) ≡ (if is_new (last_served m genesis L r.client) r.number then Some r else None) }
 {}
 
-/// A client's last request that counts has the greatest number that it used.
+/// A client's last request that takes effect has the greatest number that it used.
 pub fn last_is_greatest()
     ensures { (m : Meaning) (genesis : Genesis) (L : List Command) (client : ℕ) (s : Session) → last_served m genesis L client ≡ Some s → IsLast L client s.number }
 {}
 
-/// A client of which no request counts has none in the list.
+/// A client of which no request takes effect has none in the list.
 pub fn none_is_unused()
     ensures { (m : Meaning) (genesis : Genesis) (L : List Command) (client : ℕ) → last_served m genesis L client ≡ None → list_all (is_of_another client) L ≡ true }
 {}
 
-/// What a client's last request that counts was answered is its reply.
+/// What a client's last request that takes effect was answered is its reply.
 pub fn last_is_replied()
     ensures { (m : Meaning) (genesis : Genesis) (L : List Command) (client : ℕ) (s : Session) → last_served m genesis L client ≡ Some s → reply m genesis L client s.number ≡ Some s.answer }
 {}
 
-/// A reply is what an entry that counts gets at its place.
+/// A reply is what an entry that takes effect gets at its place.
 pub fn replies_stand()
     ensures { (m : Meaning) (genesis : Genesis) (L : List Command) (client number : ℕ) (a : Answer) → reply m genesis L client number ≡ Some a → (p : Placed) × Contains (placed L) p × (served m genesis p ≡ Some (record { client = client; number = number; answer = a })) }
 {}
 
-/// What an entry that counts is answered at its place is the reply of its client's number.
+/// What an entry that takes effect is answered at its place is the reply of its client's number.
 pub fn one_reply()
     ensures { (m : Meaning) (genesis : Genesis) (L : List Command) (p : Placed) (s : Session) → Contains (placed L) p → served m genesis p ≡ Some s → reply m genesis L s.client s.number ≡ Some s.answer }
 {}
@@ -49,7 +49,7 @@ pub fn replies_stay()
     ensures { (m : Meaning) (genesis : Genesis) (L rest : List Command) (client number : ℕ) (a : Answer) → reply m genesis L client number ≡ Some a → reply m genesis (L ++ rest) client number ≡ Some a }
 {}
 
-/// A session of the state of a list is its client's last request that counts.
+/// A session of the state of a list is its client's last request that takes effect.
 pub fn sessions_are_last()
     ensures { (m : Meaning) (genesis : Genesis) (L : List Command) (s : Session) → Contains (sessions_of m genesis L) s → last_served m genesis L s.client ≡ Some s }
 {}

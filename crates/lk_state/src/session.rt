@@ -7,7 +7,7 @@ use arrayvec::ArrayVec;
 use lk_types::{Answer, ClientNo, RequestNumber};
 use std::marker::Model;
 
-/// A client's last request that counted, and what it was answered.
+/// A client's last request that took effect, and what it was answered.
 #[derive(Clone, Copy, Debug, PartialEq, Eq)]
 pub struct Session {
     pub client: ClientNo,

@@ -11,7 +11,7 @@ use lk_types::{
 use std::alloc::Global;
 use std::marker::Model;
 
-/// Where a request stands to the last one of its client that counted.
+/// Where a request stands to the last one of its client that took effect.
 #[derive(Clone, Copy, Debug, PartialEq, Eq)]
 pub enum Seen {
     /// Its number is above the client's last one.
@@ -27,11 +27,11 @@ pub enum Seen {
 pub struct Ran {
     /// The position of the command.
     pub position: Position,
-    /// What its request is answered, where it counted.
+    /// What its request is answered, where it took effect.
     pub answer: Option<Answer>,
 }
 
-/// What the list of commands makes: the roster, each client's last request that counted, and a machine.
+/// What the list of commands makes: the roster, each client's last request that took effect, and a machine.
 #[derive(Drop)]
 pub struct Whole<M: Machine> {
     pub(crate) alloc: Global,
@@ -90,7 +90,7 @@ impl<M: Machine> Whole<M> {
         self.roster.executed()
     }
 
-    /// Each client's last request that counted, with its answer, rising by client.
+    /// Each client's last request that took effect, with its answer, rising by client.
     pub fn sessions(&self) -> &[Session]
         ensures { result.now ≡ self.now.sessions }
     {
@@ -104,7 +104,7 @@ impl<M: Machine> Whole<M> {
         &self.machine
     }
 
-    /// Where a request of this client stands to its last one that counted.
+    /// Where a request of this client stands to its last one that took effect.
     pub fn seen(&self, client: ClientNo, number: RequestNumber) -> Seen
         ensures value { result ≡ seen_as (session_of client self.now.sessions) number }
         ensures last { (genesis : Genesis) (L : List Command) → SumsUp M.meaning genesis L self.now → result ≡ seen_as (last_served M.meaning genesis L client) number }
@@ -112,7 +112,7 @@ impl<M: Machine> Whole<M> {
         stand(self.sessions.get(client), number)
     }
 
-    /// Whether the client's request of this number counts.
+    /// Whether the client's request of this number takes effect.
     fn is_new(&self, client: ClientNo, number: RequestNumber) -> bool
         ensures { result ≡ is_new (session_of client self.now.sessions) number }
     {
@@ -151,7 +151,7 @@ impl<M: Machine> Whole<M> {
         Position::of(self.executed().get() + 1).unwrap()
     }
 
-    /// One position on with a command, and what it is answered where it counts.
+    /// One position on with a command, and what it is answered where it takes effect.
     fn run_command(&mut self, command: &Command) -> Result<Option<Answer>, NoMemory>
         requires { self.old.roster.executed < max_count }
         ensures ok { OnOk result (self.new ≡ ran M.meaning command.now self.old) }
@@ -168,7 +168,7 @@ impl<M: Machine> Whole<M> {
         }
     }
 
-    /// One position on with an op that counts, and what it is answered.
+    /// One position on with an op that takes effect, and what it is answered.
     fn run_op(&mut self, client: ClientNo, op: &Op) -> Result<Answer, NoMemory>
         requires { self.old.roster.executed < max_count }
         ensures ok { OnOk result (self.new ≡ record { roster = changed_by op.now self.old.roster; sessions = self.old.sessions; text = next_text M.meaning self.old.text client op.now }) }
@@ -198,7 +198,7 @@ impl<M: Machine> Whole<M> {
         }
     }
 
-    /// One position on with a request, and what it is answered where it counts.
+    /// One position on with a request, and what it is answered where it takes effect.
     fn run_request(&mut self, request: &Request) -> Result<Option<Answer>, NoMemory>
         requires { self.old.roster.executed < max_count }
         ensures ok { OnOk result (self.new ≡ ran M.meaning (Command.Request request.now) self.old) }
@@ -220,7 +220,7 @@ impl<M: Machine> Whole<M> {
         Ok(Some(session.answer))
     }
 
-    /// One position on with nothing that counts.
+    /// One position on with nothing that takes effect.
     fn pass(&mut self)
         requires { self.old.roster.executed < max_count }
         ensures { self.new ≡ served_by M.meaning self.old None }

@@ -88,7 +88,7 @@ const AT_LAST: [&str; 5] = [
     STATE,
 ];
 
-// 256 positions are executed, and (2, 2) is promised. The last request of client 7 that counted has number 9, and was granted
+// 256 positions are executed, and (2, 2) is promised. The last request of client 7 that took effect has number 9, and was granted
 // fence 3.
 pub const SEEN: [&str; 5] = [
     "00000085 01 0000000000000001 02 0000000000000005 00000001 01 03 00000001 1b59 00000002 1b59 00000003 1b59",

@@ -6,7 +6,7 @@ use crate::last_fence::LastFence;
 use crate::sharer_count::SharerCount;
 use std::fmt;
 
-/// What a counting request is answered.
+/// What a request that takes effect is answered.
 #[derive(Clone, Copy, Debug, PartialEq, Eq, PartialOrd, Ord, Hash)]
 pub enum Answer {
     /// The client holds the name, at this fence.

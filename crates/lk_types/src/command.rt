@@ -72,7 +72,7 @@ pub enum Op {
     Raise,
 }
 
-/// A client's request. The number makes it count once.
+/// A client's request. The number makes it take effect once.
 #[derive(Debug, PartialEq, Eq, Drop)]
 pub struct Request {
     pub client: ClientNo,

@@ -1,4 +1,4 @@
--- The client's session is its last request that counts.
+-- The client's session is its last request that takes effect.
 use Rattle.std.proofs.Common.{◌∙◌, Option, ap}
 use Rattle.lk_state.specs.Sessions.{Session, session_of}
 use Rattle.lk_state.specs.States.{WholeValue}
