@@ -14,7 +14,7 @@ use Rattle.lk_history.specs.Nodes.{View, MayPromise, MaySend}
 use Rattle.lk_history.proofs.Histories.{below_self, filtered_may_promise}
 use Rattle.lk_acceptor.specs.AcceptorValue.{AcceptorValue}
 use Rattle.lk_acceptor.specs.Answers.{Refuses, AnswersPrepare, AnswersAccept}
-use Rattle.lk_acceptor.specs.States.{IsOrdered, greater, with_vote, with_entry, with_written}
+use Rattle.lk_acceptor.specs.States.{IsOrdered, greater, with_vote, acceptor_with, with_written}
 use Rattle.lk_votes.specs.VoteLists.{votes_with}
 use Rattle.lk_acceptor.specs.VoteLists.{votes_from}
 use Rattle.lk_acceptor.specs.declared.response.Response.{Response}
@@ -63,10 +63,10 @@ greater_right b c (inr same) = by_test (is_below b c)
     by_test true = refl
     by_test false = same
 
-pub own_written : (s : AcceptorState) (b : BallotValue) → IsBelow s.promised b → with_promise s b ≡ with_entry (entry.Promise b) s
+pub own_written : (s : AcceptorState) (b : BallotValue) → IsBelow s.promised b → with_promise s b ≡ acceptor_with (entry.Promise b) s
 own_written s b below = ap (with_promise s) (sym (greater_right s.promised b (inl below)))
 
-pub vote_written : (s : AcceptorState) (x : Vote) → IsAtMost s.promised x.ballot → s.snapshot_position < x.position → with_vote s x ≡ with_entry (entry.Vote x) s
+pub vote_written : (s : AcceptorState) (x : Vote) → IsAtMost s.promised x.ballot → s.snapshot_position < x.position → with_vote s x ≡ acceptor_with (entry.Vote x) s
 vote_written s x most above = λ i. record {
   promised = sym (greater_right s.promised x.ballot most) i;
   votes = sym (ap (λ (t : Bool). cond t (votes_with x s.votes) s.votes) (lt-ltb s.snapshot_position x.position above)) i;

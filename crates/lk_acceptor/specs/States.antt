@@ -48,16 +48,16 @@ abbrev pub greater : BallotValue → BallotValue → BallotValue
 greater a b = if is_below a b then b else a
 
 -- the state that a store stands for once an entry is written after those that stand for a state
-abbrev pub with_entry : Entry → AcceptorState → AcceptorState
-with_entry (entry.Promise b) s = with_promise s (greater s.promised b)
-with_entry (entry.Vote v) s = record {
+abbrev pub acceptor_with : Entry → AcceptorState → AcceptorState
+acceptor_with (entry.Promise b) s = with_promise s (greater s.promised b)
+acceptor_with (entry.Vote v) s = record {
   promised = greater s.promised v.ballot;
   votes = if nat_lt s.snapshot_position v.position then votes_with v s.votes else s.votes;
   snapshot_position = s.snapshot_position;
 }
-with_entry (entry.Decided i c) s = s
+acceptor_with (entry.Decided i c) s = s
 
 -- with one entry more, or none
 abbrev pub with_written : Option Entry → AcceptorState → AcceptorState
 with_written None s = s
-with_written (Some e) s = with_entry e s
+with_written (Some e) s = acceptor_with e s

@@ -11,7 +11,7 @@ ghost use Rattle.lk_history.specs.Datagrams.{Genesis, Datagram};
 ghost use Rattle.lk_history.specs.Nodes.{View, MaySend};
 ghost use Rattle.lk_acceptor.specs.AcceptorValue.{AcceptorValue};
 ghost use Rattle.lk_acceptor.specs.Answers.{GrantsAccept, AnswersPrepare, AnswersAccept};
-ghost use Rattle.lk_acceptor.specs.States.{IsOrdered, with_vote, without_votes_to, with_entry, with_written};
+ghost use Rattle.lk_acceptor.specs.States.{IsOrdered, with_vote, without_votes_to, acceptor_with, with_written};
 ghost use Rattle.lk_acceptor.specs.declared.response.Response.{Response};
 
 /// What an Accept and a snapshot make of an acceptor is what a sound history allows it.
@@ -39,7 +39,7 @@ pub fn an_answer_is_covered()
 pub fn entries_tell_what_is_held()
     ensures prepare { (a : AcceptorValue) (e : ℕ) (b : BallotValue) (first : ℕ) (r : Response) (new : AcceptorValue) → AnswersPrepare a e b first r new → new.state ≡ with_written r.entry a.state }
     ensures accept { (a : AcceptorValue) (e : ℕ) (x : Vote) (r : Response) (new : AcceptorValue) → IsOrdered a.state → AnswersAccept a e x r new → new.state ≡ with_written r.entry a.state }
-    ensures own { (s : AcceptorState) (b : BallotValue) → IsBelow s.promised b → with_promise s b ≡ with_entry (entry.Promise b) s }
+    ensures own { (s : AcceptorState) (b : BallotValue) → IsBelow s.promised b → with_promise s b ≡ acceptor_with (entry.Promise b) s }
 {}
 
 /// There is one answer, one entry and one state after it.

@@ -10,7 +10,7 @@ use Rattle.lk_history.specs.Chosen.{Command, Chosen, ChosenAt}
 use Rattle.lk_history.specs.Soundness.{Report, WasPromised, IsReported, Justified, Sound}
 use Rattle.lk_history.specs.Acceptors.{AcceptorState, CoversVote, Covers, CoversSent, AreProposed, TakesVote, TakesSnapshot}
 use Rattle.lk_history.specs.Nodes.{Pair, Acceptance, Term, new_term, View, TermFits, Stems, ViewFits}
-use Rattle.lk_history.specs.Changes.{MayPropose, with_promise, with_acceptor, with_term, with_report, with_proposal, with_acceptance, Changes, promises, accepts, packs, begins, hears, proposes, counts, leaves, learns, executes, installs, restarts, Becomes, stays, goes_on}
+use Rattle.lk_history.specs.Changes.{MayPropose, with_promise, view_with, view_in, with_report, with_proposal, with_acceptance, Changes, promises, accepts, packs, begins, hears, proposes, counts, leaves, learns, executes, installs, restarts, Becomes, stays, goes_on}
 use Rattle.lk_history.proofs.BallotOrder.{below_self, below_trans, at_most_below, at_most_trans}
 use Rattle.lk_history.proofs.Agree.{vote}
 use Rattle.lk_history.proofs.Grow.{chosen_push}
@@ -102,14 +102,14 @@ module _ (genesis : Genesis) (sent : List Datagram) (sound : Sound genesis sent)
     }
 
     with_acceptor_fits : (old : View) (s : AcceptorState) → ViewFits genesis sent n old → Advances old.acceptor s → AreProposed genesis sent s → s.snapshot_position ≤ length old.done
-        → ViewFits genesis sent n (with_acceptor old s)
+        → ViewFits genesis sent n (view_with old s)
     with_acceptor_fits old s f a proposed within = record {
       covers = λ m h. covers_ahead old.acceptor s a m (f.covers m h);
       stems = record { votes = proposed; done = f.stems.done; snapshot = within; pairs = f.stems.pairs };
       term = λ t at. term_ahead old.acceptor s t a.promised (f.term t at);
     }
 
-    promise_fits : (old : View) (b : BallotValue) → ViewFits genesis sent n old → IsAtMost old.acceptor.promised b → ViewFits genesis sent n (with_acceptor old (with_promise old.acceptor b))
+    promise_fits : (old : View) (b : BallotValue) → ViewFits genesis sent n old → IsAtMost old.acceptor.promised b → ViewFits genesis sent n (view_with old (with_promise old.acceptor b))
     promise_fits old b f le = with_acceptor_fits old (with_promise old.acceptor b) f (promise_ahead old.acceptor b le)
         (λ x h. let p = f.stems.votes x h in (p.0, at_most_trans x.ballot old.acceptor.promised b p.1 le)) f.stems.snapshot
 
@@ -216,10 +216,10 @@ module _ (genesis : Genesis) (sent : List Datagram) (sound : Sound genesis sent)
     only_term : (s : AcceptorState) (t : Term) → TermFits genesis sent n s t → (u : Term) → Some t ≡ Some u → TermFits genesis sent n s u
     only_term s t f u e = let same : t ≡ u = cc e in subst (λ x. TermFits genesis sent n s x) same f
 
-    with_term_stems : (w : View) (t : Option Term) → Stems genesis sent w → Stems genesis sent (with_term w t)
+    with_term_stems : (w : View) (t : Option Term) → Stems genesis sent w → Stems genesis sent (view_in w t)
     with_term_stems w t f = record { votes = f.votes; done = f.done; snapshot = f.snapshot; pairs = f.pairs }
 
-    with_term_fits : (w : View) (t : Term) → ViewFits genesis sent n w → TermFits genesis sent n w.acceptor t → ViewFits genesis sent n (with_term w (Some t))
+    with_term_fits : (w : View) (t : Term) → ViewFits genesis sent n w → TermFits genesis sent n w.acceptor t → ViewFits genesis sent n (view_in w (Some t))
     with_term_fits w t f g = record { covers = f.covers; stems = with_term_stems w (Some t) f.stems; term = only_term w.acceptor t g }
 
     pub change_fits : (old new : View) → ViewFits genesis sent n old → Changes genesis sent n old new → ViewFits genesis sent n new
@@ -230,7 +230,7 @@ module _ (genesis : Genesis) (sent : List Datagram) (sound : Sound genesis sent)
         with_acceptor_fits old s f (snapshot_ahead old.acceptor s i t) (λ x h. subst (λ b. WasSent genesis sent (Accept x) × IsAtMost x.ballot b) (sym t.promised) (f.stems.votes x (t.only x h)))
         (omega (arith, t.snapshot))
     change_fits old new f (begins b own lt) =
-        with_term_fits (with_acceptor old (with_promise old.acceptor b)) (new_term b) (promise_fits old b f (inl lt))
+        with_term_fits (view_with old (with_promise old.acceptor b)) (new_term b) (promise_fits old b f (inl lt))
         (new_term_fits old.acceptor (with_promise old.acceptor b) b refl f.covers own lt)
     change_fits old new f (hears t r at h) = with_term_fits old (with_report t r) f (report_fits old.acceptor t r h (f.term t at))
     change_fits old new f (proposes t i v at c) = with_term_fits old (with_proposal t (i, v)) f (proposal_fits old.acceptor old.done t i v f.stems.done c (f.term t at))

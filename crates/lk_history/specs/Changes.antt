@@ -29,11 +29,11 @@ AreAmong rest pairs = (p : Pair) → Contains rest p → Contains pairs p
 abbrev pub with_promise : AcceptorState → BallotValue → AcceptorState
 with_promise s b = record { promised = b; votes = s.votes; snapshot_position = s.snapshot_position }
 
-abbrev pub with_acceptor : View → AcceptorState → View
-with_acceptor w s = record { acceptor = s; done = w.done; pairs = w.pairs; term = w.term }
+abbrev pub view_with : View → AcceptorState → View
+view_with w s = record { acceptor = s; done = w.done; pairs = w.pairs; term = w.term }
 
-abbrev pub with_term : View → Option Term → View
-with_term w t = record { acceptor = w.acceptor; done = w.done; pairs = w.pairs; term = t }
+abbrev pub view_in : View → Option Term → View
+view_in w t = record { acceptor = w.acceptor; done = w.done; pairs = w.pairs; term = t }
 
 abbrev pub with_done : View → List Command → List Pair → View
 with_done w done pairs = record { acceptor = w.acceptor; done = done; pairs = pairs; term = w.term }
@@ -51,28 +51,28 @@ with_acceptance t a = record { ballot = t.ballot; reports = t.reports; proposals
 pub data Changes (genesis : Genesis) (sent : List Datagram) (n : ℕ) : View → View → Type 0 where
   -- it promises a ballot that is not below the promised one
   promises : {old : View} (b : BallotValue) → IsAtMost old.acceptor.promised b
-      → Changes genesis sent n old (with_acceptor old (with_promise old.acceptor b))
+      → Changes genesis sent n old (view_with old (with_promise old.acceptor b))
   -- it votes for what was proposed, in a ballot that is not below the promised one
   accepts : {old : View} (x : Vote) (s : AcceptorState) → IsAtMost old.acceptor.promised x.ballot → WasSent genesis sent (Accept x) → TakesVote old.acceptor x s
-      → Changes genesis sent n old (with_acceptor old s)
+      → Changes genesis sent n old (view_with old s)
   -- it writes a snapshot of what it has executed
   packs : {old : View} (i : ℕ) (s : AcceptorState) → i ≤ length old.done → TakesSnapshot old.acceptor i s
-      → Changes genesis sent n old (with_acceptor old s)
+      → Changes genesis sent n old (view_with old s)
   -- it begins a ballot of its own, above all that it promised
   begins : {old : View} (b : BallotValue) → b.node ≡ n → IsBelow old.acceptor.promised b
-      → Changes genesis sent n old (with_term (with_acceptor old (with_promise old.acceptor b)) (Some (new_term b)))
+      → Changes genesis sent n old (view_in (view_with old (with_promise old.acceptor b)) (Some (new_term b)))
   -- it hears a promise of its ballot
   hears : {old : View} (t : Term) (r : Report) → old.term ≡ Some t → WasPromised genesis sent t.ballot r
-      → Changes genesis sent n old (with_term old (Some (with_report t r)))
+      → Changes genesis sent n old (view_in old (Some (with_report t r)))
   -- it proposes
   proposes : {old : View} (t : Term) (i : ℕ) (v : Command) → old.term ≡ Some t → MayPropose genesis old.done t i v
-      → Changes genesis sent n old (with_term old (Some (with_proposal t (i, v))))
+      → Changes genesis sent n old (view_in old (Some (with_proposal t (i, v))))
   -- it counts a vote for it
   counts : {old : View} (t : Term) (a : Acceptance) → old.term ≡ Some t
       → HasSent genesis sent a.node (Accepted (record { position = a.position; ballot = t.ballot; command = a.command }))
-      → Changes genesis sent n old (with_term old (Some (with_acceptance t a)))
+      → Changes genesis sent n old (view_in old (Some (with_acceptance t a)))
   -- its term ends
-  leaves : {old : View} → Changes genesis sent n old (with_term old None)
+  leaves : {old : View} → Changes genesis sent n old (view_in old None)
   -- it learns what is chosen at a position
   learns : {old : View} (i : ℕ) (v : Command) → ChosenAt genesis sent i v
       → Changes genesis sent n old (with_done old old.done (old.pairs ++ (i, v) ∷ []))

@@ -13,7 +13,7 @@ ghost use Rattle.lk_history.specs.Chosen.{Command, command_at, Chosen, ChosenAt,
 ghost use Rattle.lk_history.specs.Soundness.{Sound};
 ghost use Rattle.lk_history.specs.Acceptors.{AcceptorState, CoversSent, TakesVote, TakesSnapshot};
 ghost use Rattle.lk_history.specs.Nodes.{Term, View, Stems, ViewFits, MayPromise, MayPostAll};
-ghost use Rattle.lk_history.specs.Changes.{with_term, Changes, Becomes};
+ghost use Rattle.lk_history.specs.Changes.{view_in, Changes, Becomes};
 ghost use Rattle.lk_history.specs.Snapshots.{IsSlice};
 ghost use Rattle.lk_history.specs.Worlds.{World, start, with_sent, with_view, IsClientRequest, Reaches, WorldFits, IsKept, MembersChange};
 
@@ -164,7 +164,7 @@ pub fn worlds_come_about()
     ensures restarts { (genesis : Genesis) (w : World) (n : ℕ) (image : View) → Reaches genesis w
         → CoversSent genesis w.sent n image.acceptor → Stems genesis w.sent image → image.term ≡ None → Reaches genesis (with_view w n image) }
     ensures leaves { (genesis : Genesis) (w : World) (n : ℕ) → Reaches genesis w
-        → Reaches genesis (with_view w n (with_term (w.views n) None)) }
+        → Reaches genesis (with_view w n (view_in (w.views n) None)) }
 {}
 
 /// In every world that comes about chosen lists agree, and a majority keeps each command of a chosen list.

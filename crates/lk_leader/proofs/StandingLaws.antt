@@ -20,7 +20,7 @@ use Rattle.lk_leader.specs.Terms.{Report, ProposalValue, TermValue, proposal_at,
 use Rattle.lk_leader.specs.Values.{Told, IsNotAbove, told_by, told_at, speaks_at, reports_at, IsLeadersValue, highest, first_new, fills}
 use Rattle.lk_leader.specs.Proposing.{promisers, IsNext, AreMembersAt, Proposes, proposed}
 use Rattle.lk_leader.specs.Acceptances.{members_among, heard, heard_at, IsVoteFor, GainsMajority}
-use Rattle.lk_leader.specs.Standing.{StandsFor}
+use Rattle.lk_leader.specs.Standing.{LeadsTerm}
 use Rattle.lk_leader.proofs.Elements.{cons_cases, contains_more, filter_has, filter_from, filter_passes_at, map_has, map_from, any_from, find_from, find_none}
 
 -- ---- what is told
@@ -106,7 +106,7 @@ set_named genesis done roster i set sums at reaches =
 -- ---- what is proposed
 
 pub proposes_allowed : (genesis : Genesis) (done : List Command) (t : Term) (k : TermValue) (waiting : List RequestValue) (roster : RosterValue) (i : ℕ) (v : Command)
-    → RosterSumsUp genesis done roster → StandsFor roster.executed (length roster.sets) t k → Proposes k waiting roster i v → MayPropose genesis done t i v
+    → RosterSumsUp genesis done roster → LeadsTerm roster.executed (length roster.sets) t k → Proposes k waiting roster i v → MayPropose genesis done t i v
 unfolding roster_after
 proposes_allowed genesis done t k waiting roster i v sums stands p =
     let e : roster.executed ≡ length done = ap (λ (r : RosterValue). r.executed) sums in
@@ -125,7 +125,7 @@ proposes_allowed genesis done t k waiting roster i v sums stands p =
 
 -- a proposed command was reported, or waits, or is none
 pub proposes_asked : (executed alpha : ℕ) (t : Term) (k : TermValue) (waiting : List RequestValue) (roster : RosterValue) (set : List Member) (i : ℕ) (v : Command)
-    → StandsFor executed alpha t k → IsLeadersValue k waiting roster set i v
+    → LeadsTerm executed alpha t k → IsLeadersValue k waiting roster set i v
     → ((x : Vote) × IsReported t.reports x × (x.command ≡ v)) ⊎ (((q : RequestValue) × Contains waiting q × (v ≡ Request q)) ⊎ (v ≡ Noop))
 proposes_asked executed alpha t k waiting roster set i v stands (highest h best) =
     let from = told_from i (reports_at set i k.reports) h best.among in
@@ -164,7 +164,7 @@ abbrev pub accepted_by : List Member → ℕ → ProposalValue → List ℕ
 accepted_by set node p = members_among set (heard set node p).accepted
 
 pub majority_rests : (genesis : Genesis) (done : List Command) (t : Term) (k : TermValue) (roster : RosterValue) (b : BallotValue) (node i : ℕ) (v : Command) (set : List Member) (p : ProposalValue)
-    → RosterSumsUp genesis done roster → i ≤ roster.executed + length roster.sets → StandsFor roster.executed (length roster.sets) t k → IsVoteFor k roster b i v set p → GainsMajority set node p
+    → RosterSumsUp genesis done roster → i ≤ roster.executed + length roster.sets → LeadsTerm roster.executed (length roster.sets) t k → IsVoteFor k roster b i v set p → GainsMajority set node p
     → (i ≤ length done + genesis.alpha) × IsMajority (accepted_by set node p) (members genesis done i)
     × ((n : ℕ) → Contains (accepted_by set node p) n → Contains (with_acceptance t (record { node = node; position = i; command = v })).accepted (record { node = n; position = i; command = v }))
 unfolding roster_after
@@ -185,7 +185,7 @@ majority_rests genesis done t k roster b node i v set p sums reaches stands vote
 
 -- ---- the term goes on being stood for
 
-pub begun_stands : (executed alpha : ℕ) (b : BallotValue) → StandsFor executed alpha (new_term b) (begun b)
+pub begun_stands : (executed alpha : ℕ) (b : BallotValue) → LeadsTerm executed alpha (new_term b) (begun b)
 begun_stands executed alpha b = record {
   ballot = refl;
   reports = λ r h. h;
@@ -195,7 +195,7 @@ begun_stands executed alpha b = record {
   accepted = λ p n h k. absurd (omega (arith, h.1));
 }
 
-pub later_stands : (executed later alpha : ℕ) (t : Term) (k : TermValue) → executed ≤ later → StandsFor executed alpha t k → StandsFor later alpha t k
+pub later_stands : (executed later alpha : ℕ) (t : Term) (k : TermValue) → executed ≤ later → LeadsTerm executed alpha t k → LeadsTerm later alpha t k
 later_stands executed later alpha t k le h = record {
   ballot = h.ballot;
   reports = h.reports;
@@ -205,7 +205,7 @@ later_stands executed later alpha t k le h = record {
   accepted = h.accepted;
 }
 
-pub heard_stands : (executed alpha : ℕ) (t : Term) (k : TermValue) (r : Report) → StandsFor executed alpha t k → StandsFor executed alpha (with_report t r) (terms.with_report r k)
+pub heard_stands : (executed alpha : ℕ) (t : Term) (k : TermValue) (r : Report) → LeadsTerm executed alpha t k → LeadsTerm executed alpha (with_report t r) (terms.with_report r k)
 heard_stands executed alpha t k r h = record {
   ballot = h.ballot;
   reports = λ q c. elim (Contains-push_cases k.reports r q c) [
@@ -218,8 +218,8 @@ heard_stands executed alpha t k r h = record {
   accepted = h.accepted;
 }
 
-pub proposed_stands : (t : Term) (k : TermValue) (roster : RosterValue) (i : ℕ) (v : Command) → IsNext roster k.proposals i → StandsFor roster.executed (length roster.sets) t k
-    → StandsFor roster.executed (length roster.sets) (with_proposal t (i, v)) (proposed roster i v k)
+pub proposed_stands : (t : Term) (k : TermValue) (roster : RosterValue) (i : ℕ) (v : Command) → IsNext roster k.proposals i → LeadsTerm roster.executed (length roster.sets) t k
+    → LeadsTerm roster.executed (length roster.sets) (with_proposal t (i, v)) (proposed roster i v k)
 proposed_stands t k roster i v next h =
     let e : ℕ = roster.executed in
     let a : ℕ = length roster.sets in
@@ -285,8 +285,8 @@ heard_has set node i (r ∷ ps) p h =
     ]
 
 pub majority_stands : (executed alpha : ℕ) (t : Term) (k : TermValue) (roster : RosterValue) (b : BallotValue) (node i : ℕ) (v : Command) (set : List Member) (p : ProposalValue)
-    → IsVoteFor k roster b i v set p → StandsFor executed alpha t k
-    → StandsFor executed alpha (with_acceptance t (record { node = node; position = i; command = v })) (with_proposals (heard_at set node i k.proposals) k)
+    → IsVoteFor k roster b i v set p → LeadsTerm executed alpha t k
+    → LeadsTerm executed alpha (with_acceptance t (record { node = node; position = i; command = v })) (with_proposals (heard_at set node i k.proposals) k)
 majority_stands executed alpha t k roster b node i v set p vote h =
     let own = vote_of k roster b i v set p vote in
     let a : Acceptance = record { node = node; position = i; command = v } in

@@ -7,18 +7,18 @@ use Rattle.lk_types.specs.declared.member.Member.{Member}
 use Rattle.lk_members.specs.Effects.{Command, RequestValue, Noop, Request}
 use Rattle.lk_members.specs.Windows.{RosterValue}
 use Rattle.lk_leader.specs.Terms.{TermValue, ProposalValue}
-use Rattle.lk_leader.specs.Values.{IsUnderWay, IsFirstNew, NoneIsNew, told_at, reports_at, is_reached, is_changing, IsLeadersValue, highest, first_new, fills}
+use Rattle.lk_leader.specs.Values.{IsUnderWay, IsFirstNew, NoneIsNew, told_at, reports_at, is_reached, is_changing_at, IsLeadersValue, highest, first_new, fills}
 
 module _ (t : TermValue) (waiting : List RequestValue) (roster : RosterValue) (set : List Member) (i : ℕ)
     (none : told_at i (reports_at set i t.reports) ≡ []) (old : NoneIsNew roster.executed t.proposals waiting) where
-  no_value : is_reached t.reports i || is_changing roster i ≡ false → (v : Command) → IsLeadersValue t waiting roster set i v → ⊥
+  no_value : is_reached t.reports i || is_changing_at roster i ≡ false → (v : Command) → IsLeadersValue t waiting roster set i v → ⊥
   no_value f v (highest h best) = absurd (omega (arith, best.among.1, ap length none))
   no_value f v (first_new q told first) =
       first.new (old q (subst (λ (l : List RequestValue). Contains l q) (sym first.parts) (Contains-append_right first.before (q ∷ first.behind) q (0, omega arith, refl))))
   no_value f v (fills told new gap) = true≢false (sym gap ∙ f)
 
   -- a gap is filled, and nothing else is proposed
-  pub filled : (b : Bool) → b ≡ (is_reached t.reports i || is_changing roster i) → MatchOption (then_some b Noop) ((v : Command) → IsLeadersValue t waiting roster set i v → ⊥) (λ v. IsLeadersValue t waiting roster set i v)
+  pub filled : (b : Bool) → b ≡ (is_reached t.reports i || is_changing_at roster i) → MatchOption (then_some b Noop) ((v : Command) → IsLeadersValue t waiting roster set i v → ⊥) (λ v. IsLeadersValue t waiting roster set i v)
   filled true gap = fills none old (sym gap)
   filled false gap = no_value (sym gap)
 

@@ -5,7 +5,7 @@ use Rattle.lk_leader.specs.Terms.{Command, Report, ProposalValue, TermValue}
 
 -- a leader that keeps so much stands for the term, where so many positions are executed and the window has so many. The
 -- term lists all that was ever proposed and heard; what is kept is of these, with each proposal that is not executed
-pub record StandsFor (executed alpha : ℕ) (t : Term) (k : TermValue) : Type 0 where
+pub record LeadsTerm (executed alpha : ℕ) (t : Term) (k : TermValue) : Type 0 where
   pub ballot : t.ballot ≡ k.ballot
   pub reports : (r : Report) → Contains k.reports r → Contains t.reports r
   pub proposals : (p : ProposalValue) → Contains k.proposals p → Contains t.proposals (p.position, p.command)

@@ -51,12 +51,12 @@ abbrev pub with_term : TermValue → LeaderValue → LeaderValue
 with_term t l = record { term = Some t; waiting = l.waiting }
 
 -- one of the promises is the node's
-abbrev pub has_promised : ℕ → List Report → Bool
-has_promised node reports = list_any (λ r. r.node == node) reports
+abbrev pub is_promiser : ℕ → List Report → Bool
+is_promiser node reports = list_any (λ r. r.node == node) reports
 
 -- a promise of the node is kept in the term: it is of the term's ballot, of a node of the window, and its first
 pub record IsFirstOf (l : LeaderValue) (roster : RosterValue) (node : ℕ) (b : BallotValue) (t : TermValue) : Type 0 where
   pub current : l.term ≡ Some t
   pub ballot : t.ballot ≡ b
   pub named : is_named node roster.sets ≡ true
-  pub first : has_promised node t.reports ≡ false
+  pub first : is_promiser node t.reports ≡ false

@@ -60,8 +60,8 @@ abbrev pub is_reached : List Report → ℕ → Bool
 is_reached reports i = list_any (λ r. list_any (λ x. nat_le i x.position) r.votes) reports
 
 -- the last change is not in force before the position
-abbrev pub is_changing : RosterValue → ℕ → Bool
-is_changing roster i = nat_lt 0 roster.changed && nat_le i (roster.changed + length roster.sets)
+abbrev pub is_changing_at : RosterValue → ℕ → Bool
+is_changing_at roster i = nat_lt 0 roster.changed && nat_le i (roster.changed + length roster.sets)
 
 -- the command that a term proposes at a position of this set, in three cases
 pub data IsLeadersValue (t : TermValue) (waiting : List RequestValue) (roster : RosterValue) (set : List Member) (i : ℕ) : Command → Type 0 where
@@ -71,5 +71,5 @@ pub data IsLeadersValue (t : TermValue) (waiting : List RequestValue) (roster : 
   first_new : (q : RequestValue) → told_at i (reports_at set i t.reports) ≡ [] → IsFirstNew roster.executed t.proposals waiting q
       → IsLeadersValue t waiting roster set i (Request q)
   -- else nothing, in a gap
-  fills : told_at i (reports_at set i t.reports) ≡ [] → NoneIsNew roster.executed t.proposals waiting → IsTrue (is_reached t.reports i || is_changing roster i)
+  fills : told_at i (reports_at set i t.reports) ≡ [] → NoneIsNew roster.executed t.proposals waiting → IsTrue (is_reached t.reports i || is_changing_at roster i)
       → IsLeadersValue t waiting roster set i Noop

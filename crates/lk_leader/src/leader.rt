@@ -3,7 +3,7 @@ ghost use Rattle.std.specs.Option.{option_copied, option_map};
 ghost use Rattle.lk_types.specs.Ballots.{IsBelow};
 ghost use Rattle.lk_types.specs.declared.member.Member.{Member as MemberValue};
 ghost use Rattle.lk_leader.specs.Waits.{asked, waiting_of, number_up_to, left_by};
-ghost use Rattle.lk_leader.specs.Terms.{LeaderValue, TermValue, ProposalValue, Command as CommandValue, idle, begun, with_term, with_report, with_proposals, has_promised as is_promiser, IsFirstOf};
+ghost use Rattle.lk_leader.specs.Terms.{LeaderValue, TermValue, ProposalValue, Command as CommandValue, idle, begun, with_term, with_report, with_proposals, is_promiser, IsFirstOf};
 ghost use Rattle.lk_leader.specs.Proposing.{LeaderProposes, proposed};
 ghost use Rattle.lk_leader.specs.Acceptances.{IsVoteFor, heard_at, GainsMajority, IsOpen};
 

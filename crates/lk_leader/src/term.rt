@@ -1,8 +1,8 @@
 ghost use Rattle.std.specs.Prelude.{◌≡◌, ℕ, ◌<◌, ◌≤◌, ◌↔◌, ◌==◌, ◌&&◌, ◌||◌, nat_le, Option, Some, None, List, length, IsTrue, IsSome, OnOk, OnErr, MatchOption, false, position as position_of};
 ghost use Rattle.std.specs.Option.{option_copied};
 ghost use Rattle.std.specs.List.{list_any};
-ghost use Rattle.lk_leader.specs.Terms.{begun, with_report, with_proposals, proposal_at, ProposalValue, has_promised as is_promiser, BallotValue, Command as CommandValue};
-ghost use Rattle.lk_leader.specs.Values.{IsBest, told_at, reports_at, is_reached, is_changing as is_changing_at, IsLeadersValue};
+ghost use Rattle.lk_leader.specs.Terms.{begun, with_report, with_proposals, proposal_at, ProposalValue, is_promiser, BallotValue, Command as CommandValue};
+ghost use Rattle.lk_leader.specs.Values.{IsBest, told_at, reports_at, is_reached, is_changing_at, IsLeadersValue};
 ghost use Rattle.lk_leader.specs.Proposing.{promisers as those_who_promised, IsNext, Proposes, proposed};
 ghost use Rattle.lk_leader.specs.Acceptances.{heard_at, GainsMajority};
 ghost use Rattle.lk_members.specs.Majorities.{IsMajority};

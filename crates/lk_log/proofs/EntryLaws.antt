@@ -6,7 +6,7 @@ use Rattle.lk_types.specs.Ranges.{IsNode, IsCount, IsTotal, IsAlpha}
 use Rattle.lk_types.specs.Ballots.{IsReal, IsMark}
 use Rattle.lk_types.specs.BallotValue.{BallotValue}
 use Rattle.lk_types.specs.Commands.{IsCommand, IsOp}
-use Rattle.lk_types.specs.Rosters.{IsMember, AreMembers, are_members_above}
+use Rattle.lk_types.specs.Rosters.{IsMember, AreMembers, members_rise}
 use Rattle.lk_types.specs.Votes.{IsVote}
 use Rattle.lk_types.specs.declared.command.Command.{Command}
 use Rattle.lk_types.specs.declared.command.Command.TheVariants.{Noop, Request}
@@ -43,9 +43,9 @@ AreAll ms = AllByRecursion IsMember ms × AreMembers ms
 
 members_reads : Reads read_members members AreAll
 unfolding read_members AreAll
-members_reads = fitting read_members members (λ (ms : List Member). (((1 ≤ length ms) × (length ms ≤ 7)) × AllByRecursion IsMember ms) × (are_members_above 0 ms ≡ true)) AreAll
+members_reads = fitting read_members members (λ (ms : List Member). (((1 ≤ length ms) × (length ms ≤ 7)) × AllByRecursion IsMember ms) × (members_rise 0 ms ≡ true)) AreAll
     (λ ms f. (f.0.1, (f.0.0.0, f.0.0.1, f.1))) (λ ms f. (((f.1.0, f.1.1), f.0), f.1.2))
-    (tested_reads (are_members_above 0) _ members _
+    (tested_reads (members_rise 0) _ members _
     (counted_reads (tested (is_from_1_to 7) read_byte) one _ (ranged_reads 7 256 (omega arith) read_byte one byte_reads) read_member member IsMember member_reads))
 
 header_of : ℕ × (ℕ × (ℕ × List Member)) → HeaderValue

@@ -1,7 +1,7 @@
 -- Reading the entries of a file from the front of a list.
 use Rattle.std.specs.Prelude.{◌≡◌, ℕ, Bool, List, Option, Some, None, Result, Ok, Err, nat_le, ◌&&◌, ◌-◌}
 use Rattle.lk_types.specs.Limits.{max_votes, max_base}
-use Rattle.lk_types.specs.Rosters.{are_members_above}
+use Rattle.lk_types.specs.Rosters.{members_rise}
 use Rattle.lk_types.specs.declared.command.Command.{Command}
 use Rattle.lk_types.specs.declared.entry.Entry.TheVariants.{Promise, Vote, Decided}
 use Rattle.lk_types.specs.declared.member.Member.{Member}
@@ -30,7 +30,7 @@ unfoldable pub read_alpha : List ℕ → Option (ℕ × List ℕ)
 read_alpha = tested (is_from_1_to 16) read_byte
 
 unfoldable pub read_members : List ℕ → Option (List Member × List ℕ)
-read_members = tested (are_members_above 0) (counted (tested (is_from_1_to 7) read_byte) read_member)
+read_members = tested (members_rise 0) (counted (tested (is_from_1_to 7) read_byte) read_member)
 
 unfoldable pub read_format : List ℕ → Option (ℕ × List ℕ)
 read_format = tested (is_from_1_to 2) read_byte

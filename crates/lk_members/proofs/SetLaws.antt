@@ -4,7 +4,7 @@ use Rattle.std.specs.List.{list_all, AllByRecursion}
 use Rattle.std.proofs.lemmas.Bool.{and_parts, and_from, cases_Bool, ltb-true, lt-ltb, leb-true, le-leb}
 use Rattle.std.proofs.lemmas.List.Folds.{list_all-append}
 use Rattle.lk_types.specs.Ranges.{IsTotal, IsNode}
-use Rattle.lk_types.specs.Rosters.{are_members_above, AreMembers}
+use Rattle.lk_types.specs.Rosters.{members_rise, AreMembers}
 use Rattle.lk_members.specs.Rosters.{Member, greatest_node, others, is_nobody}
 use Rattle.lk_members.specs.Sets.{IsSet, IsWindow, are_at_most, newest}
 use Rattle.lk_members.specs.Windows.{RosterValue, IsRoster}
@@ -84,28 +84,28 @@ at_most-get_or greatest (s ∷ sets) (suc k) h = at_most-get_or greatest sets k 
 pub newest-at_most : (v : RosterValue) → IsRoster v → list_all (λ m. nat_le m.node v.greatest) (newest v.sets) ≡ true
 newest-at_most v r = at_most-get_or v.greatest v.sets (length v.sets - 1) r.bound
 
-rising-weaker : (low high : ℕ) → low ≤ high → (ms : List Member) → are_members_above high ms ≡ true → are_members_above low ms ≡ true
+rising-weaker : (low high : ℕ) → low ≤ high → (ms : List Member) → members_rise high ms ≡ true → members_rise low ms ≡ true
 rising-weaker low high le [] h = refl
 rising-weaker low high le (m ∷ ms) h =
-    let parts = and_parts (nat_lt high m.node) (are_members_above m.node ms) h in
-    and_from (nat_lt low m.node) (are_members_above m.node ms) (lt-ltb low m.node (omega (arith, ltb-true high m.node parts.0))) parts.1
+    let parts = and_parts (nat_lt high m.node) (members_rise m.node ms) h in
+    and_from (nat_lt low m.node) (members_rise m.node ms) (lt-ltb low m.node (omega (arith, ltb-true high m.node parts.0))) parts.1
 
 -- a member above all others stands at the end
-pub rising-push : (low greatest : ℕ) (ms : List Member) (m : Member) → are_members_above low ms ≡ true → list_all (λ m. nat_le m.node greatest) ms ≡ true → low ≤ greatest → greatest < m.node → are_members_above low (ms ++ m ∷ []) ≡ true
+pub rising-push : (low greatest : ℕ) (ms : List Member) (m : Member) → members_rise low ms ≡ true → list_all (λ m. nat_le m.node greatest) ms ≡ true → low ≤ greatest → greatest < m.node → members_rise low (ms ++ m ∷ []) ≡ true
 rising-push low greatest [] m rises below le lt = and_from (nat_lt low m.node) true (lt-ltb low m.node (omega arith)) refl
 rising-push low greatest (x ∷ ms) m rises below le lt =
-    let parts = and_parts (nat_lt low x.node) (are_members_above x.node ms) rises in
+    let parts = and_parts (nat_lt low x.node) (members_rise x.node ms) rises in
     let fits = and_parts (nat_le x.node greatest) (list_all (λ (m : Member). nat_le m.node greatest) ms) below in
-    and_from (nat_lt low x.node) (are_members_above x.node (ms ++ m ∷ [])) parts.0 (rising-push x.node greatest ms m parts.1 fits.1 (leb-true x.node greatest fits.0) lt)
+    and_from (nat_lt low x.node) (members_rise x.node (ms ++ m ∷ [])) parts.0 (rising-push x.node greatest ms m parts.1 fits.1 (leb-true x.node greatest fits.0) lt)
 
-rising-others : (low node : ℕ) (ms : List Member) → are_members_above low ms ≡ true → are_members_above low (others node ms) ≡ true
+rising-others : (low node : ℕ) (ms : List Member) → members_rise low ms ≡ true → members_rise low (others node ms) ≡ true
 rising-others low node [] h = refl
 rising-others low node (m ∷ ms) h =
-    let parts = and_parts (nat_lt low m.node) (are_members_above m.node ms) h in
+    let parts = and_parts (nat_lt low m.node) (members_rise m.node ms) h in
     let rest = rising-others m.node node ms parts.1 in
     let lt = ltb-true low m.node parts.0 in
     elim (cases_Bool (not (eqb m.node node))) [
-      | inl t ↦ rw t (and_from (nat_lt low m.node) (are_members_above m.node (others node ms)) parts.0 rest)
+      | inl t ↦ rw t (and_from (nat_lt low m.node) (members_rise m.node (others node ms)) parts.0 rest)
       | inr f ↦ rw f (rising-weaker low m.node (omega arith) (others node ms) rest)
     ]
 
@@ -133,7 +133,7 @@ AreMembers-others node ms h left = (some_left (others node ms) left, (omega (ari
 pub others-AreMembers : (node : ℕ) (ms : List Member) → AreMembers (others node ms) → is_nobody (others node ms) ≡ false
 others-AreMembers node ms h = is_left (others node ms) h.0
 
-pub AreMembers-push : (greatest : ℕ) (ms : List Member) (m : Member) → AreMembers ms → length ms < 7 → list_all (λ m. nat_le m.node greatest) ms ≡ true → greatest < m.node → are_members_above 0 (ms ++ m ∷ []) ≡ true
+pub AreMembers-push : (greatest : ℕ) (ms : List Member) (m : Member) → AreMembers ms → length ms < 7 → list_all (λ m. nat_le m.node greatest) ms ≡ true → greatest < m.node → members_rise 0 (ms ++ m ∷ []) ≡ true
 AreMembers-push greatest ms m h room below lt = rising-push 0 greatest ms m h.2 below (omega arith) lt
 
 pub nodes_below-push : (greatest : ℕ) (ms : List Member) (m : Member) → list_all (λ m. nat_le m.node greatest) ms ≡ true → greatest < m.node → list_all (λ x. nat_le x.node m.node) (ms ++ m ∷ []) ≡ true
@@ -152,11 +152,11 @@ unfolding last_from
 get_or-last m [] d = refl
 get_or-last m (n ∷ ms) d = get_or-last n ms d
 
-rising_last : (m : Member) (ms : List Member) → are_members_above m.node ms ≡ true → (greatest_node (m ∷ ms) ≡ (last_from ms m).node) × (m.node ≤ greatest_node (m ∷ ms))
+rising_last : (m : Member) (ms : List Member) → members_rise m.node ms ≡ true → (greatest_node (m ∷ ms) ≡ (last_from ms m).node) × (m.node ≤ greatest_node (m ∷ ms))
 unfolding last_from
 rising_last m [] h = (omega arith, omega arith)
 rising_last m (n ∷ ms) h =
-    let parts = and_parts (nat_lt m.node n.node) (are_members_above n.node ms) h in
+    let parts = and_parts (nat_lt m.node n.node) (members_rise n.node ms) h in
     let above = ltb-true m.node n.node parts.0 in
     let rest = rising_last n ms parts.1 in
     let bound = rest.1 in
@@ -167,7 +167,7 @@ rising_last m (n ∷ ms) h =
 pub greatest_node-last : (ms : List Member) (d : Member) → AreMembers ms → greatest_node ms ≡ (get_or ms (length ms - 1) d).node
 greatest_node-last [] d h = absurd (omega (arith, h.0))
 greatest_node-last (m ∷ ms) d h =
-    let parts = and_parts (nat_lt 0 m.node) (are_members_above m.node ms) h.2 in
+    let parts = and_parts (nat_lt 0 m.node) (members_rise m.node ms) h.2 in
     let len : length (m ∷ ms) - 1 ≡ length ms = omega arith in
     (rising_last m ms parts.1).0 ∙ ap (λ (x : Member). x.node) (sym (get_or-last m ms d)) ∙ ap (λ (k : ℕ). (get_or (m ∷ ms) k d).node) (sym len)
 

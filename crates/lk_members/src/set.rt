@@ -1,6 +1,6 @@
 ghost use Rattle.std.specs.Prelude.{◌≡◌, ◌<◌, ◌↔◌, ◌==◌, false, [], ◌∷◌, ◌++◌, length, IsTrue, IsSome, IfSome};
 ghost use Rattle.lk_types.specs.Limits.{max_members};
-ghost use Rattle.lk_types.specs.Rosters.{are_members_above};
+ghost use Rattle.lk_types.specs.Rosters.{members_rise};
 ghost use Rattle.lk_members.specs.Sets.{IsSet};
 ghost use Rattle.lk_members.specs.Rosters.{is_member as is_one, others, is_nobody};
 ghost use Rattle.lk_members.specs.Ports.{port_in as port_of, lesser_of, IsNextAbove};
@@ -78,7 +78,7 @@ pub fn next_above(set: &Members, low: u32) -> Option<NodeNo>
 /// The set with one member more.
 pub fn with_member(set: &Members, member: Member) -> Members
     requires room { length set.now < max_members }
-    requires rises { IsTrue (are_members_above 0 (set.now ++ member ∷ [])) }
+    requires rises { IsTrue (members_rise 0 (set.now ++ member ∷ [])) }
     ensures { result ≡ set.now ++ member ∷ [] }
 {
     let mut list: ArrayVec<Member, MAX_MEMBERS> = ArrayVec::try_from(set.as_slice()).unwrap();

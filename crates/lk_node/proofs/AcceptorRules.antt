@@ -12,7 +12,7 @@ use Rattle.lk_wire.specs.declared.message.NodeMessage.{NodeMessage}
 use Rattle.lk_wire.specs.declared.message.NodeMessage.TheVariants as kinds
 use Rattle.lk_state.specs.Meanings.{Meaning}
 use Rattle.lk_history.specs.Acceptors.{AcceptorState, Covers, TakesVote}
-use Rattle.lk_history.specs.Changes.{promises, accepts, with_acceptor as view_with, with_promise}
+use Rattle.lk_history.specs.Changes.{promises, accepts, view_with, with_promise}
 use Rattle.lk_history.specs.Chosen.{Command}
 use Rattle.lk_history.specs.Datagrams.{HasSent, WasSent}
 use Rattle.lk_history.specs.Nodes.{View, ViewFits, MaySend}

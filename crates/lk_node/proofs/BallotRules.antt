@@ -8,14 +8,14 @@ use Rattle.lk_wire.specs.declared.message.NodeMessage.TheVariants as kinds
 use Rattle.lk_log.specs.Values.{HeaderValue}
 use Rattle.lk_state.specs.Meanings.{Meaning}
 use Rattle.lk_history.specs.Acceptors.{AcceptorState}
-use Rattle.lk_history.specs.Changes.{begins, with_acceptor as view_with, with_term as view_in, with_promise}
+use Rattle.lk_history.specs.Changes.{begins, view_with, view_in, with_promise}
 use Rattle.lk_history.specs.Nodes.{Term, Pair, new_term}
 use Rattle.lk_history.proofs.Histories.{change_fits}
-use Rattle.lk_acceptor.specs.States.{with_entry as written_by}
+use Rattle.lk_acceptor.specs.States.{acceptor_with}
 use Rattle.lk_acceptor.proofs.Acceptors.{own_written}
 use Rattle.lk_leader.specs.Terms.{TermValue, begun}
 use Rattle.lk_leader.proofs.Leaderships.{begun_stands}
-use Rattle.lk_leader.specs.Standing.{StandsFor}
+use Rattle.lk_leader.specs.Standing.{LeadsTerm}
 use Rattle.lk_learner.specs.Learners.{executed}
 use Rattle.lk_node.specs.Beginning.{beginning, Begins}
 use Rattle.lk_node.specs.Histories.{History}
@@ -44,7 +44,7 @@ pub begins_goes_on : (m : Meaning) (Heard : History → Type 0) (node : NodeValu
 begins_goes_on m Heard node b own below = record {
   binds = λ first k. record {
     header = k.header;
-    written = own_written node.acceptor.state b below ∙ ap (written_by (entry.Promise b)) k.written;
+    written = own_written node.acceptor.state b below ∙ ap (acceptor_with (entry.Promise b)) k.written;
     unsynced = λ e. absurd (cc e);
     still = λ e. absurd (cc e);
     tells = λ l c. absurd (omega (arith, c.1));
@@ -60,7 +60,7 @@ begins_goes_on m Heard node b own below = record {
     held = record {
       acceptor = ap (λ (a : AcceptorState). with_promise a b) s.held.acceptor;
       follows = s.held.follows;
-      leads = λ k at. (new_term b, refl, subst (StandsFor _ _ (new_term b)) (is_begun b k at) (begun_stands _ _ b));
+      leads = λ k at. (new_term b, refl, subst (LeadsTerm _ _ (new_term b)) (is_begun b k at) (begun_stands _ _ b));
       waiting = s.held.waiting;
       gathered = s.held.gathered;
     };

@@ -14,7 +14,7 @@ use Rattle.lk_wire.specs.declared.message.NodeMessage.TheVariants as kinds
 use Rattle.lk_members.specs.Rosters.{Genesis, members}
 use Rattle.lk_members.specs.Windows.{RosterValue, RosterSumsUp, roster_after}
 use Rattle.lk_members.proofs.Memberships.{length_of_window, set_of_window}
-use Rattle.lk_history.specs.Changes.{counts, with_term as view_with, with_acceptance}
+use Rattle.lk_history.specs.Changes.{counts, view_in, with_acceptance}
 use Rattle.lk_history.specs.Chosen.{Command, ChosenAt}
 use Rattle.lk_history.specs.Datagrams.{HasSent}
 use Rattle.lk_history.specs.Nodes.{Pair, Acceptance, Term, View, ViewFits}
@@ -26,7 +26,7 @@ use Rattle.lk_state.specs.States.{WholeValue, SumsUp, whole_after}
 use Rattle.lk_state.specs.declared.session.Session.{Session}
 use Rattle.lk_leader.specs.Acceptances.{heard_at, IsVoteFor, GainsMajority}
 use Rattle.lk_leader.specs.Proposing.{AreMembersAt}
-use Rattle.lk_leader.specs.Standing.{StandsFor as LeadsTerm}
+use Rattle.lk_leader.specs.Standing.{LeadsTerm}
 use Rattle.lk_leader.specs.Terms.{TermValue, LeaderValue, ProposalValue, with_term, with_proposals}
 use Rattle.lk_leader.specs.declared.leader.Chosen.{Chosen}
 use Rattle.lk_leader.proofs.Leaderships.{majority_rests, accepted_by, majority_stands}
@@ -116,7 +116,7 @@ abbrev acceptance : ℕ → Vote → Acceptance
 acceptance from x = record { node = from; position = x.position; command = x.command }
 
 abbrev voted : ℕ → Vote → View → Term → View
-voted from x w t = view_with w (Some (with_acceptance t (acceptance from x)))
+voted from x w t = view_in w (Some (with_acceptance t (acceptance from x)))
 
 abbrev Accepts : ℕ → Vote → History → Type 0
 Accepts from x h = HasSent h.genesis h.sent from (kinds.Accepted x)

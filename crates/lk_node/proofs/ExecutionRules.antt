@@ -21,7 +21,7 @@ use Rattle.lk_state.specs.declared.session.Session.{Session}
 use Rattle.lk_state.specs.declared.whole.Ran.{Ran}
 use Rattle.lk_state.specs.States.{WholeValue, reply}
 use Rattle.lk_state.proofs.Wholes.{last_is_replied, seen_last}
-use Rattle.lk_leader.specs.Standing.{StandsFor as LeadsTerm}
+use Rattle.lk_leader.specs.Standing.{LeadsTerm}
 use Rattle.lk_leader.specs.Waits.{left_by, number_up_to, waiting_of}
 use Rattle.lk_leader.proofs.Leaderships.{later_stands}
 use Rattle.lk_learner.specs.Following.{Follows}

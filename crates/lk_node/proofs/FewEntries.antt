@@ -16,11 +16,11 @@ use Rattle.lk_learner.specs.Learners.{Command, Pair}
 use Rattle.lk_history.specs.Ballots.{BallotValue}
 use Rattle.lk_node.specs.CatchingUp.{Feeds}
 use Rattle.lk_node.specs.Executing.{with_told, SettlesAny, waiting_number, while_named, Runs, goes_on, stays}
-use Rattle.lk_node.specs.Installing.{SettlesFirst, none_yet as none_settled, one_more as one_settled, HearsPart}
+use Rattle.lk_node.specs.Installing.{SettlesFirst, none_settled, one_settled, HearsPart}
 use Rattle.lk_node.specs.Learning.{Learns}
 use Rattle.lk_node.specs.DecidedPairs.{TakesPairs, none_yet, one_more}
 use Rattle.lk_node.specs.Leading.{ProposesAll}
-use Rattle.lk_node.specs.Reminding.{OffersFirst, OffersAhead, OffersAgain, Ticks, none_yet as none_offered, one_more as one_offered}
+use Rattle.lk_node.specs.Reminding.{OffersFirst, OffersAhead, OffersAgain, Ticks, none_offered, one_offered}
 use Rattle.lk_node.specs.Outboxes.{OutboxValue, nothing, with_rebase, with_entry, with_optional}
 use Rattle.lk_node.specs.NodeValue.{NodeValue}
 use Rattle.lk_node.specs.Steps.{Steps, HearsNode, Hears}

@@ -21,7 +21,7 @@ use Rattle.lk_state.specs.Meanings.{Meaning, KeepsTexts}
 use Rattle.lk_state.specs.States.{WholeValue, SumsUp, whole_after}
 use Rattle.lk_state.proofs.Wholes.{one_packed, states_fit}
 use Rattle.lk_acceptor.specs.AcceptorValue.{AcceptorValue}
-use Rattle.lk_leader.specs.Standing.{StandsFor as LeadsTerm}
+use Rattle.lk_leader.specs.Standing.{LeadsTerm}
 use Rattle.lk_leader.proofs.Leaderships.{later_stands}
 use Rattle.lk_learner.specs.Installing.{with_gathered, hearing, MayInstall, pairs_above, installed, Installs}
 use Rattle.lk_learner.specs.Learners.{LearnerValue, GatheredValue, executed, alpha}

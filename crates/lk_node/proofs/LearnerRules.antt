@@ -20,7 +20,7 @@ use Rattle.lk_history.specs.Chosen.{ChosenAt}
 use Rattle.lk_history.specs.Datagrams.{HasSent}
 use Rattle.lk_history.specs.Nodes.{Pair, View}
 use Rattle.lk_history.proofs.Histories.{change_fits}
-use Rattle.lk_acceptor.specs.States.{with_entry as acceptor_with}
+use Rattle.lk_acceptor.specs.States.{acceptor_with}
 use Rattle.lk_learner.specs.Learners.{keeping}
 use Rattle.lk_learner.proofs.Learnerships.{with_has, keeping_follows, learning_changes}
 use Rattle.lk_node.specs.Entries.{Rests}

@@ -8,7 +8,7 @@ use Rattle.lk_state.proofs.Wholes.{kept_is_its_clients}
 use Rattle.lk_learner.specs.Learners.{LearnerValue}
 use Rattle.lk_node.specs.Executing.{while_named}
 use Rattle.lk_node.specs.Histories.{History}
-use Rattle.lk_node.specs.Installing.{SettlesFirst, none_yet, one_more, SettlesAll}
+use Rattle.lk_node.specs.Installing.{SettlesFirst, none_settled, one_settled, SettlesAll}
 use Rattle.lk_node.specs.NodeValue.{NodeValue}
 use Rattle.lk_node.specs.Outboxes.{OutboxValue, nothing, with_rebase}
 use Rattle.lk_node.specs.Serving.{GoesOn}
@@ -40,8 +40,8 @@ rebases_goes_on m Heard node = record {
 }
 
 settled_learner : (ss : List Session) (old : NodeValue) (before : OutboxValue) (k : ℕ) (new : NodeValue) (behind : OutboxValue) → SettlesFirst ss old before k new behind → new.learner ≡ old.learner
-settled_learner ss old before k new behind none_yet = refl
-settled_learner ss old before k new behind (one_more {k = j} {mid = mid} {between = between} s so_far at one) =
+settled_learner ss old before k new behind none_settled = refl
+settled_learner ss old before k new behind (one_settled {k = j} {mid = mid} {between = between} s so_far at one) =
     ap (λ (node : NodeValue). node.learner) one.becomes ∙ settled_learner ss old before j mid between so_far
 
 -- each is its client's last
@@ -50,8 +50,8 @@ is_kept ss k s are at = kept_is_its_clients ss s are (k, slice_get_within ss k s
 
 sessions_go_on : (m : Meaning) (Heard : History → Type 0) (ss : List Session) (old : NodeValue) (before : OutboxValue) (k : ℕ) (new : NodeValue) (behind : OutboxValue) → AreSessions ss → old.learner.whole.sessions ≡ ss
     → SettlesFirst ss old before k new behind → GoesOn m Heard old new before behind
-sessions_go_on m Heard ss old before k new behind are same none_yet = rests_here m Heard old before
-sessions_go_on m Heard ss old before k new behind are same (one_more {k = j} {mid = mid} {between = between} s so_far at one) =
+sessions_go_on m Heard ss old before k new behind are same none_settled = rests_here m Heard old before
+sessions_go_on m Heard ss old before k new behind are same (one_settled {k = j} {mid = mid} {between = between} s so_far at one) =
     let stays : mid.learner ≡ old.learner = settled_learner ss old before j mid between so_far in
     let here : mid.learner.whole.sessions ≡ ss = ap (λ (l : LearnerValue). l.whole.sessions) stays ∙ same in
     then_goes_on m Heard old mid new before between behind (sessions_go_on m Heard ss old before j mid between are same so_far)

@@ -18,8 +18,8 @@ use Rattle.lk_history.specs.Datagrams.{HasSent}
 use Rattle.lk_history.specs.Nodes.{Pair, Term, View}
 use Rattle.lk_history.proofs.Histories.{change_fits}
 use Rattle.lk_acceptor.specs.AcceptorValue.{AcceptorValue}
-use Rattle.lk_leader.specs.Standing.{StandsFor}
-use Rattle.lk_leader.specs.Terms.{Report, TermValue, LeaderValue, with_term, with_report, has_promised, IsFirstOf}
+use Rattle.lk_leader.specs.Standing.{LeadsTerm}
+use Rattle.lk_leader.specs.Terms.{Report, TermValue, LeaderValue, with_term, with_report, is_promiser, IsFirstOf}
 use Rattle.lk_leader.proofs.Leaderships.{heard_stands}
 use Rattle.lk_node.specs.Histories.{History, IsLawful, WasAsked}
 use Rattle.lk_node.specs.Holdings.{Holding, HoldingFits}
@@ -47,7 +47,7 @@ some_value a b e = cc e
 
 -- a term of the same ballot that has all proposals of the one before, and for which the leader stands
 pub term_followed : (m : Meaning) (h : History) (n : ℕ) (old : NodeValue) (x : Holding) (t u : Term) (k : TermValue) → IsHeld m old h.genesis x → HoldingFits m h n x → IsLawful m h → x.view.term ≡ Some t
-    → Changes h.genesis h.sent n x.view (changes.with_term x.view (Some u)) → StandsFor old.learner.whole.roster.executed (length old.learner.whole.roster.sets) u k → u.ballot ≡ t.ballot
+    → Changes h.genesis h.sent n x.view (changes.with_term x.view (Some u)) → LeadsTerm old.learner.whole.roster.executed (length old.learner.whole.roster.sets) u k → u.ballot ≡ t.ballot
     → ((p : Pair) → Contains t.proposals p → Contains u.proposals p) → ((i : ℕ) (v : Command) → Contains u.proposals (i, v) → WasAsked h v)
     → IsFollowed m h n x.view (with_leader old (with_term k old.leader))
 term_followed m h n old x t u k held fits lawful is change stands ballot grows asked = record {
@@ -55,7 +55,7 @@ term_followed m h n old x t u k held fits lawful is change stands ballot grows a
   held = record {
     acceptor = held.acceptor;
     follows = held.follows;
-    leads = λ j at. (u, refl, subst (StandsFor old.learner.whole.roster.executed (length old.learner.whole.roster.sets) u) (some_value k j at) stands);
+    leads = λ j at. (u, refl, subst (LeadsTerm old.learner.whole.roster.executed (length old.learner.whole.roster.sets) u) (some_value k j at) stands);
     waiting = held.waiting;
     gathered = held.gathered;
   };
@@ -94,8 +94,8 @@ first_or_not l roster node b = by_term l.term refl
     by_term None is = inr (λ t f. none_some t (sym is ∙ f.current))
     by_term (Some t) is = elim (same_ballot t.ballot b) [
       | inl same ↦ elim (cases_Bool (is_named node roster.sets)) [
-        | inl named ↦ elim (cases_Bool (has_promised node t.reports)) [
-          | inl again ↦ inr (λ u f. false_true (sym f.first ∙ ap (λ (y : TermValue). has_promised node y.reports) (some_value u t (sym f.current ∙ is)) ∙ again))
+        | inl named ↦ elim (cases_Bool (is_promiser node t.reports)) [
+          | inl again ↦ inr (λ u f. false_true (sym f.first ∙ ap (λ (y : TermValue). is_promiser node y.reports) (some_value u t (sym f.current ∙ is)) ∙ again))
           | inr first ↦ inl (t, record { current = is; ballot = same; named = named; first = first })
         ]
         | inr not ↦ inr (λ u f. false_true (sym not ∙ f.named))

@@ -25,7 +25,7 @@ use Rattle.lk_node.specs.CatchingUp.{HearsLead}
 use Rattle.lk_node.specs.Deciding.{IsOnlyHeard, HearsAccepted}
 use Rattle.lk_node.specs.DecidedPairs.{TakesPairs, none_yet, one_more}
 use Rattle.lk_node.specs.Executing.{SettlesAny, session_by, is_outside, while_named, Executes, Runs, stays, goes_on}
-use Rattle.lk_node.specs.Installing.{SettlesFirst, none_yet as none_settled, one_more as one_settled, HearsPart}
+use Rattle.lk_node.specs.Installing.{SettlesFirst, none_settled, one_settled, HearsPart}
 use Rattle.lk_node.specs.Leading.{HearsPromise, having_proposed, ProposesAll}
 use Rattle.lk_node.specs.Learning.{Learns}
 use Rattle.lk_node.specs.NodeValue.{NodeValue}

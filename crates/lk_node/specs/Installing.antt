@@ -16,8 +16,8 @@ Gathers IsText went p old new = (l : LearnerValue) × Installs IsText went (hear
 
 -- so many of the sessions are settled, one after another
 pub data SettlesFirst (ss : List Session) (old : NodeValue) (before : OutboxValue) : ℕ → NodeValue → OutboxValue → Type 0 where
-  none_yet : SettlesFirst ss old before 0 old before
-  one_more : {k : ℕ} {mid new : NodeValue} {between behind : OutboxValue} (s : Session) → SettlesFirst ss old before k mid between → slice_get ss k ≡ Some s → Settles s mid between new behind
+  none_settled : SettlesFirst ss old before 0 old before
+  one_settled : {k : ℕ} {mid new : NodeValue} {between behind : OutboxValue} (s : Session) → SettlesFirst ss old before k mid between → slice_get ss k ≡ Some s → Settles s mid between new behind
       → SettlesFirst ss old before (k + 1) new behind
 
 -- all of them, in their order

@@ -9,7 +9,7 @@ use Rattle.lk_wire.specs.Grammar.{IsMessage}
 use Rattle.lk_wire.specs.declared.message.NodeMessage.{NodeMessage}
 use Rattle.lk_wire.specs.declared.message.NodeMessage.TheVariants as kinds
 use Rattle.lk_leader.specs.Acceptances.{IsOpen}
-use Rattle.lk_leader.specs.Terms.{ProposalValue, TermValue, LeaderValue, has_promised}
+use Rattle.lk_leader.specs.Terms.{ProposalValue, TermValue, LeaderValue, is_promiser}
 use Rattle.lk_learner.specs.Learners.{executed, alpha}
 use Rattle.lk_node.specs.NodeValue.{NodeValue}
 use Rattle.lk_node.specs.Leading.{nodes_of, ProposesOpen}
@@ -31,7 +31,7 @@ TellsThese node nodes message before out = IsMessage (saying node.header message
 -- the term, if any, keeps a promise of the node
 abbrev pub keeps_promise : Option TermValue → ℕ → Bool
 keeps_promise None k = false
-keeps_promise (Some t) k = has_promised k t.reports
+keeps_promise (Some t) k = is_promiser k t.reports
 
 -- the nodes of the window of which the term keeps no promise, in rising order
 abbrev pub AreSilent : NodeValue → List ℕ → Type 0
@@ -66,8 +66,8 @@ OffersAhead node b ahead before out =
 
 -- so at the first so many positions of the window, in order
 pub data OffersFirst (node : NodeValue) (b : BallotValue) (before : OutboxValue) : ℕ → OutboxValue → Type 0 where
-  none_yet : OffersFirst node b before 0 before
-  one_more : {k : ℕ} {mid out : OutboxValue} → OffersFirst node b before k mid → OffersAhead node b k mid out → OffersFirst node b before (k + 1) out
+  none_offered : OffersFirst node b before 0 before
+  one_offered : {k : ℕ} {mid out : OutboxValue} → OffersFirst node b before k mid → OffersAhead node b k mid out → OffersFirst node b before (k + 1) out
 
 -- so at all positions of the window
 abbrev pub OffersAll : NodeValue → BallotValue → OutboxValue → OutboxValue → Type 0

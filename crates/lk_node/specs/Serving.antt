@@ -8,7 +8,7 @@ use Rattle.lk_wire.specs.declared.message.NodeMessage.TheVariants as kinds
 use Rattle.lk_log.specs.Values.{HeaderValue}
 use Rattle.lk_state.specs.Meanings.{Meaning}
 use Rattle.lk_history.specs.Acceptors.{AcceptorState, Covers}
-use Rattle.lk_acceptor.specs.States.{with_entry}
+use Rattle.lk_acceptor.specs.States.{acceptor_with}
 use Rattle.lk_node.specs.Calls.{MayGo}
 use Rattle.lk_node.specs.Entries.{Rests}
 use Rattle.lk_node.specs.Histories.{History, Datagram, IsLawful}
@@ -39,7 +39,7 @@ pub record Tells (whose : HeaderValue) (acceptor : AcceptorState) (rebase : Bool
 -- what the acceptor holds once these entries are written
 abbrev pub with_entries : List Entry → AcceptorState → AcceptorState
 with_entries [] s = s
-with_entries (e ∷ es) s = with_entries es (with_entry e s)
+with_entries (e ∷ es) s = with_entries es (acceptor_with e s)
 
 -- Whatever has happened: since the node was this first one, the entries tell what its acceptor now holds, none but decided
 -- commands are unsynced, and the acceptor covers what the letters tell. Where the step rebases the acceptor is as it was.

@@ -10,7 +10,7 @@ use Rattle.lk_log.specs.declared.stored.Stored.TheVariants.{Base}
 use Rattle.lk_log.proofs.StoreLaws.{one_standing}
 use Rattle.lk_state.specs.Meanings.{Meaning}
 use Rattle.lk_history.specs.Acceptors.{Covers, CoversSent}
-use Rattle.lk_history.specs.Changes.{with_acceptor}
+use Rattle.lk_history.specs.Changes.{view_with}
 use Rattle.lk_history.specs.Datagrams.{said_by}
 use Rattle.lk_history.specs.Nodes.{View, MaySend}
 use Rattle.lk_history.proofs.Histories.{still_stems, covers_both}
@@ -39,7 +39,7 @@ use Rattle.lk_replica.proofs.Rebasing.{snapshot_covers, base_stands, here, rebas
 use Rattle.lk_replica.proofs.Thinning.{batch_among}
 
 -- all but promises and votes may still be sent
-light_may : (h : History) (w : View) (i : ℕ) (x : NodeMessage) → IsLight x → MaySend h.genesis h.sent w x → MaySend h.genesis h.sent (with_acceptor w (without_votes_to w.acceptor i)) x
+light_may : (h : History) (w : View) (i : ℕ) (x : NodeMessage) → IsLight x → MaySend h.genesis h.sent w x → MaySend h.genesis h.sent (view_with w (without_votes_to w.acceptor i)) x
 light_may h w i (kinds.Prepare b first) light may = may
 light_may h w i (kinds.Promise p) light may = absurd light
 light_may h w i (kinds.Accept v) light may = may

@@ -23,7 +23,7 @@ use Rattle.lk_log.proofs.StoreLaws.{rising_stands, one_standing, one_header, of_
 use Rattle.lk_state.specs.Meanings.{Meaning}
 use Rattle.lk_state.specs.Packed.{packed}
 use Rattle.lk_history.specs.Acceptors.{AcceptorState, Covers, AreProposed, TakesSnapshot}
-use Rattle.lk_history.specs.Changes.{with_acceptor, packs}
+use Rattle.lk_history.specs.Changes.{view_with, packs}
 use Rattle.lk_history.proofs.Histories.{at_most_below, below_self, change_fits}
 use Rattle.lk_acceptor.specs.States.{IsOrdered, without_votes_to}
 use Rattle.lk_acceptor.proofs.Acceptors.{takes_snapshot}
@@ -148,7 +148,7 @@ module _ (m : Meaning) (genesis : Genesis) (n : ℕ) (node : NodeValue) (old new
     (may : MayBegin (standing_of node)) (within : node.acceptor.state.snapshot_position ≤ executed node.learner) where
   -- what the node then holds
   abbrev pub here : Holding
-  here = record { view = with_acceptor x.view (without_votes_to x.view.acceptor (executed node.learner)); waiting = x.waiting; gathered = x.gathered }
+  here = record { view = view_with x.view (without_votes_to x.view.acceptor (executed node.learner)); waiting = x.waiting; gathered = x.gathered }
 
   pub rebase_stands : Holds new (Base (next_base old (standing_of node)) ∷ []) [] → Stands m (standing_here node) new genesis n here
   unfolding rebase_keeps
@@ -200,7 +200,7 @@ module _ (m : Meaning) (h : History) (n : ℕ) (node : NodeValue) (old new : Sto
 
   pub here_fits : HoldingFits m h n (here m h.genesis n node old new x shown may within)
   here_fits = record {
-    view = change_fits h.genesis h.sent lawful.sound n x.view (with_acceptor x.view (without_votes_to x.view.acceptor (executed node.learner))) fits.view
+    view = change_fits h.genesis h.sent lawful.sound n x.view (view_with x.view (without_votes_to x.view.acceptor (executed node.learner))) fits.view
         (packs (executed node.learner) (without_votes_to x.view.acceptor (executed node.learner)) (omega (arith, far))
         (takes_snapshot x.view.acceptor (executed node.learner) (omega (arith, far, fits.view.stems.snapshot))));
     waiting = fits.waiting;

@@ -6,13 +6,13 @@ use Rattle.lk_types.specs.declared.entry.Entry.TheVariants.{Promise, Vote, Decid
 use Rattle.lk_log.specs.Standings.{with_plain, with_all}
 use Rattle.lk_log.specs.Values.{StandingValue}
 use Rattle.lk_history.specs.Acceptors.{AcceptorState}
-use Rattle.lk_acceptor.specs.States.{with_entry}
+use Rattle.lk_acceptor.specs.States.{acceptor_with}
 use Rattle.lk_node.specs.Leavings.{acceptor_of}
 use Rattle.lk_node.specs.Keeping.{IsDecided}
 use Rattle.lk_node.specs.Serving.{with_entries}
 
 -- one more entry is to a standing what it is to an acceptor
-pub entry_is : (s : StandingValue) (e : Entry) → acceptor_of (with_plain e s) ≡ with_entry e (acceptor_of s)
+pub entry_is : (s : StandingValue) (e : Entry) → acceptor_of (with_plain e s) ≡ acceptor_with e (acceptor_of s)
 entry_is s (Promise b) = refl
 entry_is s (Vote v) = refl
 entry_is s (Decided i c) = refl
@@ -31,4 +31,4 @@ decided_leave (Decided i c ∷ es) a all = decided_leave es a all.1
 
 pub entries_behind : (es more : List Entry) (a : AcceptorState) → with_entries (es ++ more) a ≡ with_entries more (with_entries es a)
 entries_behind [] more a = refl
-entries_behind (e ∷ es) more a = entries_behind es more (with_entry e a)
+entries_behind (e ∷ es) more a = entries_behind es more (acceptor_with e a)

@@ -1,7 +1,7 @@
 -- Reading the front of a packed state: all but the machine's text.
 use Rattle.std.specs.Prelude.{ℕ, nat_le, List, Option}
 use Rattle.lk_types.specs.declared.member.Member.{Member}
-use Rattle.lk_types.specs.Rosters.{are_members_above as members_rise}
+use Rattle.lk_types.specs.Rosters.{members_rise}
 use Rattle.lk_fields.specs.Parser.{read_byte, both, made, tested, counted}
 use Rattle.lk_fields.specs.FieldReading.{is_from_1_to, read_two, read_node, read_client, read_count, read_total, read_member, read_answer}
 use Rattle.lk_members.specs.Sets.{are_at_most}

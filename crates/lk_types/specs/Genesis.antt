@@ -1,7 +1,7 @@
 -- When a genesis is refused, and under which number.
 use Rattle.std.specs.Prelude.{ℕ, nat_lt, ◌||◌, not, List, length, Option, Some, None, if◌then◌else◌}
 use Rattle.lk_types.specs.Limits.{max_members, max_alpha}
-use Rattle.lk_types.specs.Rosters.{are_members_above}
+use Rattle.lk_types.specs.Rosters.{members_rise}
 use Rattle.lk_types.specs.declared.member.Member.{Member}
 use Rattle.lk_types.specs.declared.genesis.GenesisFault.{GenesisFault}
 use Rattle.lk_types.specs.declared.genesis.GenesisFault.TheVariants as fault
@@ -11,7 +11,7 @@ abbrev pub genesis_fault : ℕ → List Member → Option GenesisFault
 genesis_fault alpha ms =
     if nat_lt (length ms) 1 then Some fault.NoMembers
     else if nat_lt max_members (length ms) then Some fault.TooMany
-    else if not (are_members_above 0 ms) then Some fault.NotRising
+    else if not (members_rise 0 ms) then Some fault.NotRising
     else if nat_lt alpha 1 || nat_lt max_alpha alpha then Some fault.BadAlpha
     else None
 

@@ -9,10 +9,10 @@ abbrev pub IsMember : Member → Type 0
 IsMember m = IsNode m.node × IsPort m.port
 
 -- each node is above the one before, the first above low
-abbrev pub are_members_above : ℕ → List Member → Bool
-are_members_above low [] = true
-are_members_above low (m ∷ ms) = nat_lt low m.node && are_members_above m.node ms
+abbrev pub members_rise : ℕ → List Member → Bool
+members_rise low [] = true
+members_rise low (m ∷ ms) = nat_lt low m.node && members_rise m.node ms
 
 -- 1 to 7 members, rising by node
 abbrev pub AreMembers : List Member → Type 0
-AreMembers ms = (1 ≤ length ms) × (length ms ≤ max_members) × IsTrue (are_members_above 0 ms)
+AreMembers ms = (1 ≤ length ms) × (length ms ≤ max_members) × IsTrue (members_rise 0 ms)

@@ -1,6 +1,6 @@
 ghost use Rattle.std.specs.Prelude.{◌≡◌, ◌≤◌, ◌↔◌, ℕ, List, length, IsSome, IfSome};
 ghost use Rattle.std.specs.List.{AllByRecursion};
-ghost use Rattle.lk_types.specs.Rosters.{AreMembers, IsMember, are_members_above};
+ghost use Rattle.lk_types.specs.Rosters.{AreMembers, IsMember, members_rise};
 
 use crate::limits::MAX_MEMBERS;
 use crate::node::NodeNo;
@@ -44,7 +44,7 @@ impl Model for Members {
 
 /// Whether the nodes rise strictly.
 fn are_rising(members: &[Member]) -> bool
-    ensures { result ≡ are_members_above 0 members.now }
+    ensures { result ≡ members_rise 0 members.now }
 {
     let mut low = 0;
     for member in members {

@@ -5,14 +5,14 @@ use Rattle.lk_state.specs.States.{WholeValue}
 use Rattle.lk_learner.specs.Learners.{executed}
 use Rattle.lk_node.specs.NodeValue.{NodeValue}
 use Rattle.lk_node.specs.Outboxes.{OutboxValue}
-use Rattle.lk_node.specs.Reminding.{OffersAgain, OffersFirst, none_yet, one_more}
+use Rattle.lk_node.specs.Reminding.{OffersAgain, OffersFirst, none_offered, one_offered}
 use Rattle.lk_node.specs.Serving.{GoesOn}
 use Rattle.lk_node.proofs.Serving.{rests_here, then_goes_on}
 use Rattle.lk_node.proofs.node.Node.offer_all.Goals as goal
 use Rattle.lk_node.proofs.node.Node.offer_all.Goals.{in-Some+in_ok-offer_again, in_default}
 
 pub ahead-init : goal.ahead-init
-ahead-init g c = (none_yet, rests_here _ _ c.args.self.now c.args.out.now)
+ahead-init g c = (none_offered, rests_here _ _ c.args.self.now c.args.out.now)
 
 pub ahead-preserved : goal.ahead-preserved
 ahead-preserved g c =
@@ -24,10 +24,10 @@ ahead-preserved g c =
       | in-Some+in_ok-offer_again w ↦
           let at : w.in-Some.position ≡ executed c.args.self.now.learner + 1 + c.ahead.ahead = (let is = w.in-Some.ensures.value in omega (arith, next, is, c.from.ensures)) in
           subst So (sym w.out-is) (
-            one_more c.ahead.invariant.0 (inl (subst (λ (i : ℕ). OffersAgain c.args.self.now c.args.ballot i c.ahead.out w.offer_again.new.out) at w.in_ok-offer_again.ensures.exact)),
+            one_offered c.ahead.invariant.0 (inl (subst (λ (i : ℕ). OffersAgain c.args.self.now c.args.ballot i c.ahead.out w.offer_again.new.out) at w.in_ok-offer_again.ensures.exact)),
             then_goes_on m _ c.args.self.now c.args.self.now c.args.self.now c.args.out.now c.ahead.out w.offer_again.new.out c.ahead.invariant.1 w.in_ok-offer_again.ensures.goes_on,
           )
       | in_default w ↦
           let far : c.get-next.result + 1 + c.from.result ≤ max_count → ⊥ = λ near. (let some = w.in_default.ensures.some.1 (omega arith, near) in cc some) in
-          subst So (sym w.out-is) (one_more c.ahead.invariant.0 (inr (omega (arith, next, far, c.from.ensures), refl)), c.ahead.invariant.1)
+          subst So (sym w.out-is) (one_offered c.ahead.invariant.0 (inr (omega (arith, next, far, c.from.ensures), refl)), c.ahead.invariant.1)
     ]

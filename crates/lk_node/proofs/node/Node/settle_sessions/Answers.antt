@@ -3,13 +3,13 @@ use Rattle.std.specs.Prelude.{slice_get}
 use Rattle.lk_state.specs.States.{WholeValue}
 use Rattle.lk_state.specs.declared.session.Session.{Session}
 use Rattle.lk_learner.specs.Learners.{LearnerValue}
-use Rattle.lk_node.specs.Installing.{none_yet, one_more}
+use Rattle.lk_node.specs.Installing.{none_settled, one_settled}
 use Rattle.lk_node.specs.NodeValue.{NodeValue}
 use Rattle.lk_node.proofs.LearnerRules.{element}
 use Rattle.lk_node.proofs.node.Node.settle_sessions.Goals as goal
 
 pub sessions-init : goal.sessions-init
-sessions-init g c = (refl, none_yet)
+sessions-init g c = (refl, none_settled)
 
 pub sessions-preserved : goal.sessions-preserved
 sessions-preserved g c =
@@ -22,4 +22,4 @@ sessions-preserved g c =
     ∙ ap (λ (l : LearnerValue). l.whole.sessions) at.invariant.0 in
     let here : slice_get ss at.index ≡ Some c.index-sessions-index.result =
     element c.sessions-in-sessions.result.now ss at.index c.index-sessions-index.result same (omega (arith, c.sessions-test.true, ap length before, ap length same)) c.index-sessions-index.is in
-    (ap (λ (node : NodeValue). node.learner) c.in_ok-settle.ensures.becomes ∙ at.invariant.0, one_more c.index-sessions-index.result at.invariant.1 here c.in_ok-settle.ensures)
+    (ap (λ (node : NodeValue). node.learner) c.in_ok-settle.ensures.becomes ∙ at.invariant.0, one_settled c.index-sessions-index.result at.invariant.1 here c.in_ok-settle.ensures)
