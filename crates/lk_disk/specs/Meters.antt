@@ -1,7 +1,7 @@
 -- What makes a device in memory fail, and what each call does to that.
 use Rattle.std.specs.Prelude.{◌≡◌, ℕ, ◌+◌, ◌-◌, ◌==◌, ◌||◌, ◌⊎◌, is_some, Bool, true, false, Option, Some, None, Result, Ok, Err, if◌then◌else◌}
 use Rattle.lk_disk.specs.Disk.{one_more}
-use Rattle.lk_disk.specs.Traps.{is_due, fails_next, stops_next, trap_behind, armed_for}
+use Rattle.lk_disk.specs.Traps.{is_due, fails_next, stops_next, trap_after, armed_for}
 use Rattle.lk_disk.specs.declared.meter.Meter.{Meter}
 use Rattle.lk_disk.specs.declared.trap.Trap.{Trap}
 use Rattle.lk_disk.specs.declared.trap.Trap.TheVariants.{Off}
@@ -18,13 +18,13 @@ is_blown None = false
 is_blown (Some passes) = passes == 0
 
 -- the fuse after the next changing call
-abbrev pub fuse_behind : Option ℕ → Option ℕ
-fuse_behind None = None
-fuse_behind (Some passes) = Some (passes - 1)
+abbrev pub fuse_after : Option ℕ → Option ℕ
+fuse_after None = None
+fuse_after (Some passes) = Some (passes - 1)
 
 -- at a stop it is blown
 abbrev pub fuse_at : Option ℕ → Option ℕ → Option ℕ
-fuse_at None fuse = fuse_behind fuse
+fuse_at None fuse = fuse_after fuse
 fuse_at (Some bytes) fuse = Some 0
 
 -- the next changing call fails and changes nothing, by the trap or by the fuse
@@ -38,7 +38,7 @@ is_failing m = is_refused m || is_some (stops_next m.trap)
 -- a changing call is counted, whatever comes of it
 abbrev pub called : Meter → Meter
 called m = record m {
-  trap = trap_behind m.trap;
+  trap = trap_after m.trap;
   fuse = fuse_at (stops_next m.trap) m.fuse;
   calls = one_more m.calls;
   sprung = m.sprung || is_due m.trap;

@@ -22,10 +22,10 @@ stops_next (Fail count) = None
 stops_next (Arm count bytes) = if count == 1 then Some bytes else None
 
 -- the trap after that call
-abbrev pub trap_behind : Trap → Trap
-trap_behind Off = Off
-trap_behind (Fail count) = if nat_le count 1 then Off else Fail (count - 1)
-trap_behind (Arm count bytes) = Arm (count - 1) bytes
+abbrev pub trap_after : Trap → Trap
+trap_after Off = Off
+trap_after (Fail count) = if nat_le count 1 then Off else Fail (count - 1)
+trap_after (Arm count bytes) = Arm (count - 1) bytes
 
 -- for how many bytes it is armed
 abbrev pub armed_for : Trap → Option ℕ

@@ -1,6 +1,6 @@
 ghost use Rattle.std.specs.Prelude.{◌≡◌};
 ghost use Rattle.lk_disk.specs.Meters.{trapped};
-ghost use Rattle.lk_disk.specs.Traps.{is_due, stops_next, trap_behind};
+ghost use Rattle.lk_disk.specs.Traps.{is_due, stops_next, trap_after};
 ghost use Rattle.lk_disk.specs.declared.device.Side.{Side};
 
 use crate::device::LogDisk;
@@ -22,7 +22,7 @@ impl Trap {
     // A changing call passes by. Whether the trap goes off at it.
     pub(crate) fn pass(&mut self) -> bool
         ensures due { result ≡ is_due self.old }
-        ensures behind { self.new ≡ trap_behind self.old }
+        ensures behind { self.new ≡ trap_after self.old }
     {
         match *self {
             Trap::Off => false,

@@ -83,10 +83,10 @@ asked_only r (q ∷ qs) x c = by_client (eqb r.client q.client) (λ d. asked_onl
     by_number false d = inr d
 
     by_client : (t : Bool) → (Contains (asked r qs) x → (r ≡ x) ⊎ Contains qs x) → Contains (cond t (newer r q ∷ qs) (q ∷ asked r qs)) x → (r ≡ x) ⊎ Contains (q ∷ qs) x
-    by_client true behind d = by_number (nat_lt q.number r.number) d
-    by_client false behind d = elim (cons_cases q (asked r qs) x d) [
+    by_client true after d = by_number (nat_lt q.number r.number) d
+    by_client false after d = elim (cons_cases q (asked r qs) x d) [
       | inl e ↦ inr (0, omega arith, e)
-      | inr more ↦ elim (behind more) [ inl e ↦ inl e | inr old ↦ inr (contains_more q qs x old) ]
+      | inr more ↦ elim (after more) [ inl e ↦ inl e | inr old ↦ inr (contains_more q qs x old) ]
     ]
 
 waits_goes_on : (m : Meaning) (r : RequestValue) (node : NodeValue) (out : OutboxValue) → GoesOn m (λ h. Contains h.asked r) node (with_waiting r node) out out

@@ -260,9 +260,9 @@ news_go_on m i v was node out (k ∷ nodes) same fits =
 
 -- ---- the header stays
 
-learns_header : (p : Pair) (old : NodeValue) (before : OutboxValue) (new : NodeValue) (behind : OutboxValue) → Learns p old before new behind → new.header ≡ old.header
-learns_header p old before new behind (inl wanted) = ap (λ (node : NodeValue). node.header) wanted.1
-learns_header p old before new behind (inr other) = ap (λ (node : NodeValue). node.header) other.1
+learns_header : (p : Pair) (old : NodeValue) (before : OutboxValue) (new : NodeValue) (after : OutboxValue) → Learns p old before new after → new.header ≡ old.header
+learns_header p old before new after (inl wanted) = ap (λ (node : NodeValue). node.header) wanted.1
+learns_header p old before new after (inr other) = ap (λ (node : NodeValue). node.header) other.1
 
 named_header : (node : NodeValue) → (while_named node).header ≡ node.header
 named_header node = by_test (is_outside node)
@@ -271,19 +271,19 @@ named_header node = by_test (is_outside node)
     by_test true = refl
     by_test false = refl
 
-any_header : (o : Option Session) (old : NodeValue) (before : OutboxValue) (new : NodeValue) (behind : OutboxValue) → SettlesAny o old before new behind → new.header ≡ old.header
-any_header None old before new behind k = ap (λ (node : NodeValue). node.header) k.0
-any_header (Some s) old before new behind k = ap (λ (node : NodeValue). node.header) k.becomes
+any_header : (o : Option Session) (old : NodeValue) (before : OutboxValue) (new : NodeValue) (after : OutboxValue) → SettlesAny o old before new after → new.header ≡ old.header
+any_header None old before new after k = ap (λ (node : NodeValue). node.header) k.0
+any_header (Some s) old before new after k = ap (λ (node : NodeValue). node.header) k.becomes
 
-executes_header : (m : Meaning) (old : NodeValue) (before : OutboxValue) (new : NodeValue) (behind : OutboxValue) → Executes m old before new behind → new.header ≡ old.header
-executes_header m old before new behind k =
+executes_header : (m : Meaning) (old : NodeValue) (before : OutboxValue) (new : NodeValue) (after : OutboxValue) → Executes m old before new after → new.header ≡ old.header
+executes_header m old before new after k =
     ap (λ (node : NodeValue). node.header) k.becomes ∙ named_header k.mid
     ∙ any_header (session_by k.command (run_answer m k.command old.learner.whole)) (with_learner old (advanced m k.command old.learner))
-    (with_note (note.Ran old.header.node (executed old.learner + 1) k.command) before) k.mid behind k.settles
+    (with_note (note.Ran old.header.node (executed old.learner + 1) k.command) before) k.mid after k.settles
 
-runs_header : (m : Meaning) (old : NodeValue) (before : OutboxValue) (new : NodeValue) (behind : OutboxValue) → Runs m old before new behind → new.header ≡ old.header
-runs_header m old before new behind stays = refl
-runs_header m old before new behind (goes_on {mid} {between} runs one) = executes_header m mid between new behind one ∙ runs_header m old before mid between runs
+runs_header : (m : Meaning) (old : NodeValue) (before : OutboxValue) (new : NodeValue) (after : OutboxValue) → Runs m old before new after → new.header ≡ old.header
+runs_header m old before new after stays = refl
+runs_header m old before new after (goes_on {mid} {between} runs one) = executes_header m mid between new after one ∙ runs_header m old before mid between runs
 
 -- ---- in all
 
@@ -311,15 +311,15 @@ pub are_members : (from : ℕ) (x : Vote) (old mid : NodeValue) (set : List Memb
 are_members from x old mid set k =
     subst₂ (λ (node : NodeValue) (s : List Member). AreMembersAt node.learner.whole.roster x.position s) (sym k.3) k.2 k.0.vote.members
 
-pub accepted_goes_on : (m : Meaning) (from : ℕ) (x : Vote) (old mid new : NodeValue) (set : List Member) (out behind : OutboxValue) → HearsMajority from x old mid set
-    → GoesOn m (Chooses x.position x.command) mid new out behind → GoesOn m (Accepts from x) old new out behind
-accepted_goes_on m from x old mid new set out behind k f =
+pub accepted_goes_on : (m : Meaning) (from : ℕ) (x : Vote) (old mid new : NodeValue) (set : List Member) (out after : OutboxValue) → HearsMajority from x old mid set
+    → GoesOn m (Chooses x.position x.command) mid new out after → GoesOn m (Accepts from x) old new out after
+accepted_goes_on m from x old mid new set out after k f =
     let Both : History → Type 0 = λ (h : History). Accepts from x h × Chooses x.position x.command h in
     let heard_so : GoesOn m (Accepts from x) old mid out out = subst (λ (node : NodeValue). GoesOn m (Accepts from x) old node out out) (sym k.3) (vote_goes_on m from x old out k.0) in
-    heard_goes_on m (Accepts from x) Both old new out behind (λ h n loose s heard. (heard, decided_chosen m h n loose old out from x k.0 k.1 s heard))
-    (then_goes_on m Both old mid new out out behind
+    heard_goes_on m (Accepts from x) Both old new out after (λ h n loose s heard. (heard, decided_chosen m h n loose old out from x k.0 k.1 s heard))
+    (then_goes_on m Both old mid new out out after
     (heard_goes_on m Both (Accepts from x) old mid out out (λ h n loose s both. both.0) heard_so)
-    (heard_goes_on m Both (Chooses x.position x.command) mid new out behind (λ h n loose s both. both.1) f))
+    (heard_goes_on m Both (Chooses x.position x.command) mid new out after (λ h n loose s both. both.1) f))
 
 pub hears_accepted : (m : Meaning) (from : ℕ) (x : Vote) (old mid new : NodeValue) (set : List Member) (out : OutboxValue) → HearsMajority from x old mid set
     → Decides m set (x.position, x.command) mid nothing new out → HearsAccepted m from x old new out

@@ -289,9 +289,9 @@ tells_client m Heard node out s number le at fits = by_test (nat_lt number s.num
           },
         ))
 
-pub settles_goes_on : (m : Meaning) (Heard : History → Type 0) (s : Session) (old : NodeValue) (before : OutboxValue) (new : NodeValue) (behind : OutboxValue)
-    → session_of s.client old.learner.whole.sessions ≡ Some s → Settles s old before new behind → GoesOn m Heard old new before behind
-settles_goes_on m Heard s old before new behind at k =
+pub settles_goes_on : (m : Meaning) (Heard : History → Type 0) (s : Session) (old : NodeValue) (before : OutboxValue) (new : NodeValue) (after : OutboxValue)
+    → session_of s.client old.learner.whole.sessions ≡ Some s → Settles s old before new after → GoesOn m Heard old new before after
+settles_goes_on m Heard s old before new after at k =
     subst₂ (λ (node : NodeValue) (o : OutboxValue). GoesOn m Heard old node before o) (sym k.becomes) (sym k.comes_to)
     (then_goes_on m Heard old (settled s old) (settled s old) before before (with_told old.header s (waiting_number s old) before)
     (settled_goes_on m Heard old before s)
@@ -329,10 +329,10 @@ session_left m w (Request r) s e =
       | inr old ↦ (let none : None ≡ Some s = rw old at e in absurd (cc none))
     ]
 
-any_goes_on : (m : Meaning) (Heard : History → Type 0) (o : Option Session) (old : NodeValue) (before : OutboxValue) (new : NodeValue) (behind : OutboxValue)
-    → ((s : Session) → o ≡ Some s → session_of s.client old.learner.whole.sessions ≡ Some s) → SettlesAny o old before new behind → GoesOn m Heard old new before behind
-any_goes_on m Heard None old before new behind last k = subst₂ (λ (node : NodeValue) (o : OutboxValue). GoesOn m Heard old node before o) (sym k.0) (sym k.1) (rests_here m Heard old before)
-any_goes_on m Heard (Some s) old before new behind last k = settles_goes_on m Heard s old before new behind (last s refl) k
+any_goes_on : (m : Meaning) (Heard : History → Type 0) (o : Option Session) (old : NodeValue) (before : OutboxValue) (new : NodeValue) (after : OutboxValue)
+    → ((s : Session) → o ≡ Some s → session_of s.client old.learner.whole.sessions ≡ Some s) → SettlesAny o old before new after → GoesOn m Heard old new before after
+any_goes_on m Heard None old before new after last k = subst₂ (λ (node : NodeValue) (o : OutboxValue). GoesOn m Heard old node before o) (sym k.0) (sym k.1) (rests_here m Heard old before)
+any_goes_on m Heard (Some s) old before new after last k = settles_goes_on m Heard s old before new after (last s refl) k
 
 -- ---- the window
 
@@ -345,27 +345,27 @@ named_goes_on m Heard node out = by_test (is_outside node)
 
 -- ---- one execution
 
-pub executes_goes_on : (m : Meaning) (Heard : History → Type 0) (old : NodeValue) (before : OutboxValue) (new : NodeValue) (behind : OutboxValue) → IsLearner old.learner → Executes m old before new behind
-    → GoesOn m Heard old new before behind
-executes_goes_on m Heard old before new behind is k =
+pub executes_goes_on : (m : Meaning) (Heard : History → Type 0) (old : NodeValue) (before : OutboxValue) (new : NodeValue) (after : OutboxValue) → IsLearner old.learner → Executes m old before new after
+    → GoesOn m Heard old new before after
+executes_goes_on m Heard old before new after is k =
     let l : LearnerValue = old.learner in
     let v : Command = k.command in
     let i : ℕ = executed l + 1 in
     let ran_node : NodeValue = with_learner old (advanced m v l) in
     let noted : OutboxValue = with_note (note.Ran old.header.node i v) before in
-    subst (λ (node : NodeValue). GoesOn m Heard old node before behind) (sym k.becomes)
-    (then_goes_on m Heard old ran_node (while_named k.mid) before before behind
+    subst (λ (node : NodeValue). GoesOn m Heard old node before after) (sym k.becomes)
+    (then_goes_on m Heard old ran_node (while_named k.mid) before before after
     (advances_goes_on m Heard old before v is k.next)
-    (then_goes_on m Heard ran_node ran_node (while_named k.mid) before noted behind
+    (then_goes_on m Heard ran_node ran_node (while_named k.mid) before noted after
     (notes_ran m Heard ran_node before v old.header.node i (omega (arith, is.reaches)) (last_served_at m l v is))
-    (then_goes_on m Heard ran_node k.mid (while_named k.mid) noted behind behind
-    (any_goes_on m Heard (session_by v (run_answer m v l.whole)) ran_node noted k.mid behind (session_left m l.whole v) k.settles)
-    (named_goes_on m Heard k.mid behind))))
+    (then_goes_on m Heard ran_node k.mid (while_named k.mid) noted after after
+    (any_goes_on m Heard (session_by v (run_answer m v l.whole)) ran_node noted k.mid after (session_left m l.whole v) k.settles)
+    (named_goes_on m Heard k.mid after))))
 
-pub one_goes_on : (m : Meaning) (Heard : History → Type 0) (went : Bool) (old : NodeValue) (before : OutboxValue) (new : NodeValue) (behind : OutboxValue) → IsLearner old.learner
-    → ExecutesOne m went old before new behind → GoesOn m Heard old new before behind
-one_goes_on m Heard true old before new behind is k = executes_goes_on m Heard old before new behind is k
-one_goes_on m Heard false old before new behind is k = subst₂ (λ (node : NodeValue) (o : OutboxValue). GoesOn m Heard old node before o) (sym k.1) (sym k.2) (rests_here m Heard old before)
+pub one_goes_on : (m : Meaning) (Heard : History → Type 0) (went : Bool) (old : NodeValue) (before : OutboxValue) (new : NodeValue) (after : OutboxValue) → IsLearner old.learner
+    → ExecutesOne m went old before new after → GoesOn m Heard old new before after
+one_goes_on m Heard true old before new after is k = executes_goes_on m Heard old before new after is k
+one_goes_on m Heard false old before new after is k = subst₂ (λ (node : NodeValue) (o : OutboxValue). GoesOn m Heard old node before o) (sym k.1) (sym k.2) (rests_here m Heard old before)
 
 -- ---- one after another
 
@@ -376,30 +376,30 @@ its_learner node = by_test (is_outside node)
     by_test true = refl
     by_test false = refl
 
-any_learner : (o : Option Session) (old : NodeValue) (before : OutboxValue) (new : NodeValue) (behind : OutboxValue) → SettlesAny o old before new behind → new.learner ≡ old.learner
-any_learner None old before new behind k = ap (λ (node : NodeValue). node.learner) k.0
-any_learner (Some s) old before new behind k = ap (λ (node : NodeValue). node.learner) k.becomes
+any_learner : (o : Option Session) (old : NodeValue) (before : OutboxValue) (new : NodeValue) (after : OutboxValue) → SettlesAny o old before new after → new.learner ≡ old.learner
+any_learner None old before new after k = ap (λ (node : NodeValue). node.learner) k.0
+any_learner (Some s) old before new after k = ap (λ (node : NodeValue). node.learner) k.becomes
 
 -- the learner has moved one position on
-pub executes_learner : (m : Meaning) (old : NodeValue) (before : OutboxValue) (new : NodeValue) (behind : OutboxValue) (k : Executes m old before new behind) → new.learner ≡ advanced m k.command old.learner
-executes_learner m old before new behind k =
+pub executes_learner : (m : Meaning) (old : NodeValue) (before : OutboxValue) (new : NodeValue) (after : OutboxValue) (k : Executes m old before new after) → new.learner ≡ advanced m k.command old.learner
+executes_learner m old before new after k =
     let v : Command = k.command in
     ap (λ (node : NodeValue). node.learner) k.becomes ∙ its_learner k.mid
-    ∙ any_learner (session_by v (run_answer m v old.learner.whole)) (with_learner old (advanced m v old.learner)) (with_note (note.Ran old.header.node (executed old.learner + 1) v) before) k.mid behind k.settles
+    ∙ any_learner (session_by v (run_answer m v old.learner.whole)) (with_learner old (advanced m v old.learner)) (with_note (note.Ran old.header.node (executed old.learner + 1) v) before) k.mid after k.settles
 
-pub went_on : (m : Meaning) (went : Bool) (first : NodeValue) (begun : OutboxValue) (old : NodeValue) (before : OutboxValue) (new : NodeValue) (behind : OutboxValue) → went ≡ true
-    → Runs m first begun old before → ExecutesOne m went old before new behind → Runs m first begun new behind
-went_on m true first begun old before new behind e runs k = goes_on runs k
-went_on m false first begun old before new behind e runs k = absurd (cc e)
+pub went_on : (m : Meaning) (went : Bool) (first : NodeValue) (begun : OutboxValue) (old : NodeValue) (before : OutboxValue) (new : NodeValue) (after : OutboxValue) → went ≡ true
+    → Runs m first begun old before → ExecutesOne m went old before new after → Runs m first begun new after
+went_on m true first begun old before new after e runs k = goes_on runs k
+went_on m false first begun old before new after e runs k = absurd (cc e)
 
-pub went_all : (m : Meaning) (went : Bool) (first : NodeValue) (begun : OutboxValue) (old : NodeValue) (before : OutboxValue) (new : NodeValue) (behind : OutboxValue) → went ≡ false
-    → Runs m first begun old before → ExecutesOne m went old before new behind → RunsAll m first begun new behind
-went_all m true first begun old before new behind e runs k = absurd (cc e)
-went_all m false first begun old before new behind e runs k =
+pub went_all : (m : Meaning) (went : Bool) (first : NodeValue) (begun : OutboxValue) (old : NodeValue) (before : OutboxValue) (new : NodeValue) (after : OutboxValue) → went ≡ false
+    → Runs m first begun old before → ExecutesOne m went old before new after → RunsAll m first begun new after
+went_all m true first begun old before new after e runs k = absurd (cc e)
+went_all m false first begun old before new after e runs k =
     subst₂ (λ (node : NodeValue) (o : OutboxValue). RunsAll m first begun node o) (sym k.1) (sym k.2) (runs, k.0)
 
-pub went_fewer : (m : Meaning) (went : Bool) (old : NodeValue) (before : OutboxValue) (new : NodeValue) (behind : OutboxValue) → went ≡ true → ExecutesOne m went old before new behind
+pub went_fewer : (m : Meaning) (went : Bool) (old : NodeValue) (before : OutboxValue) (new : NodeValue) (after : OutboxValue) → went ≡ true → ExecutesOne m went old before new after
     → length new.learner.pairs < length old.learner.pairs
-went_fewer m true old before new behind e k =
-    subst (λ (l : LearnerValue). length l.pairs < length old.learner.pairs) (sym (executes_learner m old before new behind k)) (fewer (executed old.learner + 1) k.command old.learner.pairs k.next)
-went_fewer m false old before new behind e k = absurd (cc e)
+went_fewer m true old before new after e k =
+    subst (λ (l : LearnerValue). length l.pairs < length old.learner.pairs) (sym (executes_learner m old before new after k)) (fewer (executed old.learner + 1) k.command old.learner.pairs k.next)
+went_fewer m false old before new after e k = absurd (cc e)

@@ -37,13 +37,13 @@ use Rattle.lk_node.specs.declared.input.Input.TheVariants as input
 
 -- the second has as many entries as the first, and at most so many more
 abbrev Few : ℕ → OutboxValue → OutboxValue → Type 0
-Few k before behind = length behind.entries ≤ length before.entries + k
+Few k before after = length after.entries ≤ length before.entries + k
 
-same_few : (before behind : OutboxValue) → behind.entries ≡ before.entries → Few 0 before behind
-same_few before behind e = omega (arith, ap length e)
+same_few : (before after : OutboxValue) → after.entries ≡ before.entries → Few 0 before after
+same_few before after e = omega (arith, ap length e)
 
-one_few : (e : Entry) (before behind : OutboxValue) → behind ≡ with_entry e before → Few 1 before behind
-one_few e before behind is = omega (arith, ap (λ (o : OutboxValue). length o.entries) is, length-append before.entries (e ∷ []))
+one_few : (e : Entry) (before after : OutboxValue) → after ≡ with_entry e before → Few 1 before after
+one_few e before after is = omega (arith, ap (λ (o : OutboxValue). length o.entries) is, length-append before.entries (e ∷ []))
 
 -- ---- what is executed
 
@@ -51,23 +51,23 @@ told_same : (whose : HeaderValue) (s : Session) (o : Option ℕ) (out : OutboxVa
 told_same whose s None out = refl
 told_same whose s (Some n) out = refl
 
-settled_same : (o : Option Session) (old new : NodeValue) (before behind : OutboxValue) → SettlesAny o old before new behind → behind.entries ≡ before.entries
-settled_same None old new before behind s = ap (λ (b : OutboxValue). b.entries) s.1
-settled_same (Some s) old new before behind k = ap (λ (b : OutboxValue). b.entries) k.comes_to ∙ told_same old.header s (waiting_number s old) before
+settled_same : (o : Option Session) (old new : NodeValue) (before after : OutboxValue) → SettlesAny o old before new after → after.entries ≡ before.entries
+settled_same None old new before after s = ap (λ (b : OutboxValue). b.entries) s.1
+settled_same (Some s) old new before after k = ap (λ (b : OutboxValue). b.entries) k.comes_to ∙ told_same old.header s (waiting_number s old) before
 
-ran_same : (m : Meaning) (old : NodeValue) (before : OutboxValue) (new : NodeValue) (behind : OutboxValue) → Runs m old before new behind → behind.entries ≡ before.entries
-ran_same m old before new behind stays = refl
-ran_same m old before new behind (goes_on {mid = mid} {between = between} r e) = settled_same _ _ _ _ behind e.settles ∙ ran_same m old before mid between r
+ran_same : (m : Meaning) (old : NodeValue) (before : OutboxValue) (new : NodeValue) (after : OutboxValue) → Runs m old before new after → after.entries ≡ before.entries
+ran_same m old before new after stays = refl
+ran_same m old before new after (goes_on {mid = mid} {between = between} r e) = settled_same _ _ _ _ after e.settles ∙ ran_same m old before mid between r
 
 -- ---- what is learned
 
-learned_few : (p : Pair) (old new : NodeValue) (before behind : OutboxValue) → Learns p old before new behind → Few 1 before behind
-learned_few p old new before behind k = elim k [ inl a ↦ one_few _ before behind a.2 | inr b ↦ omega (arith, ap (λ (o : OutboxValue). length o.entries) b.2) ]
+learned_few : (p : Pair) (old new : NodeValue) (before after : OutboxValue) → Learns p old before new after → Few 1 before after
+learned_few p old new before after k = elim k [ inl a ↦ one_few _ before after a.2 | inr b ↦ omega (arith, ap (λ (o : OutboxValue). length o.entries) b.2) ]
 
-pairs_few : (m : Meaning) (first : ℕ) (commands : List Command) (old : NodeValue) (before : OutboxValue) (k : ℕ) (new : NodeValue) (behind : OutboxValue) → TakesPairs m first commands old before k new behind → Few k before behind
-pairs_few m first commands old before k new behind none_yet = omega arith
-pairs_few m first commands old before n new behind (one_more {k = k} {mid = mid} {between = between} v so_far at pair) =
-    omega (arith, pairs_few m first commands old before k mid between so_far, learned_few _ mid pair.learned between pair.written pair.learns, ap length (ran_same m pair.learned pair.written new behind pair.runs.0))
+pairs_few : (m : Meaning) (first : ℕ) (commands : List Command) (old : NodeValue) (before : OutboxValue) (k : ℕ) (new : NodeValue) (after : OutboxValue) → TakesPairs m first commands old before k new after → Few k before after
+pairs_few m first commands old before k new after none_yet = omega arith
+pairs_few m first commands old before n new after (one_more {k = k} {mid = mid} {between = between} v so_far at pair) =
+    omega (arith, pairs_few m first commands old before k mid between so_far, learned_few _ mid pair.learned between pair.written pair.learns, ap length (ran_same m pair.learned pair.written new after pair.runs.0))
 
 -- ---- what is proposed and told again
 
@@ -94,10 +94,10 @@ optional_few (Some e) = omega arith
 none_written : (out : OutboxValue) → out.entries ≡ [] → length out.entries ≤ 16
 none_written out e = omega (arith, ap length e)
 
-all_settled_same : (ss : List Session) (old : NodeValue) (before : OutboxValue) (k : ℕ) (new : NodeValue) (behind : OutboxValue) → SettlesFirst ss old before k new behind → behind.entries ≡ before.entries
-all_settled_same ss old before k new behind none_settled = refl
-all_settled_same ss old before k new behind (one_settled {k = j} {mid = mid} {between = between} s so_far at one) =
-    settled_same (Some s) mid new between behind one ∙ all_settled_same ss old before j mid between so_far
+all_settled_same : (ss : List Session) (old : NodeValue) (before : OutboxValue) (k : ℕ) (new : NodeValue) (after : OutboxValue) → SettlesFirst ss old before k new after → after.entries ≡ before.entries
+all_settled_same ss old before k new after none_settled = refl
+all_settled_same ss old before k new after (one_settled {k = j} {mid = mid} {between = between} s so_far at one) =
+    settled_same (Some s) mid new between after one ∙ all_settled_same ss old before j mid between so_far
 
 part_same : (m : Meaning) (IsText : List ℕ → Type 0) (old : NodeValue) (p : PartValue) (new : NodeValue) (out : OutboxValue) → HearsPart m IsText old p new out → out.entries ≡ []
 part_same m IsText old p new out (inl k) =

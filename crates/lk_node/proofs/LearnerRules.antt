@@ -109,16 +109,16 @@ keeps_goes_on m Heard node out i v chosen =
     })
 
 -- a pair that is chosen, wherever the learner keeps it, is written
-pub learns_goes_on : (m : Meaning) (i : ℕ) (v : Command) (old new : NodeValue) (before behind : OutboxValue) → Learns (i, v) old before new behind
-    → GoesOn m (λ h. ChosenAt h.genesis h.sent i v) old new before behind
-learns_goes_on m i v old new before behind (inl wanted) =
+pub learns_goes_on : (m : Meaning) (i : ℕ) (v : Command) (old new : NodeValue) (before after : OutboxValue) → Learns (i, v) old before new after
+    → GoesOn m (λ h. ChosenAt h.genesis h.sent i v) old new before after
+learns_goes_on m i v old new before after (inl wanted) =
     let kept : NodeValue = with_learner old (keeping (i, v) old.learner) in
     let Heard : History → Type 0 = λ (h : History). ChosenAt h.genesis h.sent i v in
     subst₂ (λ (node : NodeValue) (o : OutboxValue). GoesOn m Heard old node before o) (sym wanted.1) (sym wanted.2)
     (then_goes_on m Heard old kept kept before before (with_entry (entry.Decided i v) before)
     (keeps_goes_on m Heard old before i v (λ h n loose s heard. heard))
     (writes_decided m Heard kept before i v (with_has (i, v) old.learner.pairs) (λ h n loose s heard. heard)))
-learns_goes_on m i v old new before behind (inr other) =
+learns_goes_on m i v old new before after (inr other) =
     let Heard : History → Type 0 = λ (h : History). ChosenAt h.genesis h.sent i v in
     subst₂ (λ (node : NodeValue) (o : OutboxValue). GoesOn m Heard old node before o) (sym other.1) (sym other.2) (rests_here m Heard old before)
 
@@ -129,29 +129,29 @@ abbrev pub Chooses : ℕ → Command → History → Type 0
 Chooses i v h = ChosenAt h.genesis h.sent i v
 
 -- it heard no more than what it needs
-pub unheard : (m : Meaning) (Heard : History → Type 0) (old new : NodeValue) (before behind : OutboxValue) → GoesOn m (λ h. Unit {0}) old new before behind → GoesOn m Heard old new before behind
-unheard m Heard old new before behind f = heard_goes_on m Heard (λ h. Unit {0}) old new before behind (λ h n loose s heard. tt) f
+pub unheard : (m : Meaning) (Heard : History → Type 0) (old new : NodeValue) (before after : OutboxValue) → GoesOn m (λ h. Unit {0}) old new before after → GoesOn m Heard old new before after
+unheard m Heard old new before after f = heard_goes_on m Heard (λ h. Unit {0}) old new before after (λ h n loose s heard. tt) f
 
-pub pair_goes_on : (m : Meaning) (i : ℕ) (v : Command) (old mid new : NodeValue) (before between behind : OutboxValue) → GoesOn m (Chooses i v) old mid before between
-    → GoesOn m (λ h. Unit {0}) mid new between behind → GoesOn m (Chooses i v) old new before behind
-pair_goes_on m i v old mid new before between behind f g = then_goes_on m (Chooses i v) old mid new before between behind f (unheard m (Chooses i v) mid new between behind g)
+pub pair_goes_on : (m : Meaning) (i : ℕ) (v : Command) (old mid new : NodeValue) (before between after : OutboxValue) → GoesOn m (Chooses i v) old mid before between
+    → GoesOn m (λ h. Unit {0}) mid new between after → GoesOn m (Chooses i v) old new before after
+pair_goes_on m i v old mid new before between after f g = then_goes_on m (Chooses i v) old mid new before between after f (unheard m (Chooses i v) mid new between after g)
 
 -- ---- pairs that are told
 
 abbrev Told : ℕ → DecidedValue → History → Type 0
 Told from d h = HasSent h.genesis h.sent from (kinds.Decided d)
 
-pub told_goes_on : (m : Meaning) (from : ℕ) (d : DecidedValue) (k i : ℕ) (v : Command) (first old new : NodeValue) (begun before behind : OutboxValue) → i ≡ d.first + k → slice_get d.commands k ≡ Some v
-    → GoesOn m (Told from d) first old begun before → GoesOn m (Chooses i v) old new before behind → GoesOn m (Told from d) first new begun behind
-told_goes_on m from d k i v first old new begun before behind is at f g =
-    then_goes_on m (Told from d) first old new begun before behind f
-    (heard_goes_on m (Told from d) (Chooses i v) old new before behind
+pub told_goes_on : (m : Meaning) (from : ℕ) (d : DecidedValue) (k i : ℕ) (v : Command) (first old new : NodeValue) (begun before after : OutboxValue) → i ≡ d.first + k → slice_get d.commands k ≡ Some v
+    → GoesOn m (Told from d) first old begun before → GoesOn m (Chooses i v) old new before after → GoesOn m (Told from d) first new begun after
+told_goes_on m from d k i v first old new begun before after is at f g =
+    then_goes_on m (Told from d) first old new begun before after f
+    (heard_goes_on m (Told from d) (Chooses i v) old new before after
     (λ h n loose s heard. subst (λ (j : ℕ). ChosenAt h.genesis h.sent j v) (sym is) (s.lawful.sound.told from d heard k v at)) g)
 
-pub takes_more : (m : Meaning) (d : DecidedValue) (k i : ℕ) (v : Command) (first old new : NodeValue) (begun before behind : OutboxValue) → i ≡ d.first + k → slice_get d.commands k ≡ Some v
-    → TakesPairs m d.first d.commands first begun k old before → TakesPair m (i, v) old before new behind → TakesPairs m d.first d.commands first begun (k + 1) new behind
-takes_more m d k i v first old new begun before behind is at so_far one =
-    one_more v so_far at (subst (λ (j : ℕ). TakesPair m (j, v) old before new behind) is one)
+pub takes_more : (m : Meaning) (d : DecidedValue) (k i : ℕ) (v : Command) (first old new : NodeValue) (begun before after : OutboxValue) → i ≡ d.first + k → slice_get d.commands k ≡ Some v
+    → TakesPairs m d.first d.commands first begun k old before → TakesPair m (i, v) old before new after → TakesPairs m d.first d.commands first begun (k + 1) new after
+takes_more m d k i v first old new begun before after is at so_far one =
+    one_more v so_far at (subst (λ (j : ℕ). TakesPair m (j, v) old before new after) is one)
 
 -- each position is in its range
 pub within_range : (d : DecidedValue) (k : ℕ) → IsDecided d → k < length d.commands → d.first + k ≤ 281474976710656

@@ -38,9 +38,9 @@ then_goes_on m Heard a b c x y z f g = record {
 }
 
 -- a part that heard less
-pub heard_goes_on : (m : Meaning) (Heard Had : History → Type 0) (old new : NodeValue) (before behind : OutboxValue)
-    → ((h : History) (n : ℕ) (loose : List Entry) → Serves m h n loose old before → Heard h → Had h) → GoesOn m Had old new before behind → GoesOn m Heard old new before behind
-heard_goes_on m Heard Had old new before behind has f = record { binds = f.binds; serves = λ h n loose s heard. f.serves h n loose s (has h n loose s heard) }
+pub heard_goes_on : (m : Meaning) (Heard Had : History → Type 0) (old new : NodeValue) (before after : OutboxValue)
+    → ((h : History) (n : ℕ) (loose : List Entry) → Serves m h n loose old before → Heard h → Had h) → GoesOn m Had old new before after → GoesOn m Heard old new before after
+heard_goes_on m Heard Had old new before after has f = record { binds = f.binds; serves = λ h n loose s heard. f.serves h n loose s (has h n loose s heard) }
 
 -- the datagram of a letter is the node's
 pub letter_spelled : (genesis : Genesis) (n : ℕ) (whose : HeaderValue) (message : NodeMessage) (bytes : List ℕ) → whose ≡ header_of genesis n → IsMessage (saying whose message) → bytes ≡ spelling (saying whose message)

@@ -108,8 +108,8 @@ accepted_settles : (m : Meaning) (from : ℕ) (x : Vote) (old new : NodeValue) (
 accepted_settles m from x old new out (inl counted) none = counted.2.runs.1
 accepted_settles m from x old new out (inr heard) none = only_heard_settles from x old new heard.0 none
 
-pairs_settle : (m : Meaning) (first : ℕ) (commands : List Command) (old : NodeValue) (before : OutboxValue) (k : ℕ) (new : NodeValue) (behind : OutboxValue)
-    → TakesPairs m first commands old before k new behind → Settles old new
+pairs_settle : (m : Meaning) (first : ℕ) (commands : List Command) (old : NodeValue) (before : OutboxValue) (k : ℕ) (new : NodeValue) (after : OutboxValue)
+    → TakesPairs m first commands old before k new after → Settles old new
 pairs_settle m first commands old before _ _ _ none_yet none = none
 pairs_settle m first commands old before _ _ _ (one_more v so_far at takes) none = takes.runs.1
 

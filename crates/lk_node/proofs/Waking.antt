@@ -95,9 +95,9 @@ taken_wakes (seen.Passed last) old new r out k = as_this old new k.0
 
 -- ---- what is learned, and executed
 
-settled_wakes : (o : Option Session) (old new : NodeValue) (before behind : OutboxValue) → SettlesAny o old before new behind → Wakes old new
-settled_wakes None old new before behind k = as_this old new k.0
-settled_wakes (Some s) old new before behind k = as_this _ new k.becomes
+settled_wakes : (o : Option Session) (old new : NodeValue) (before after : OutboxValue) → SettlesAny o old before new after → Wakes old new
+settled_wakes None old new before after k = as_this old new k.0
+settled_wakes (Some s) old new before after k = as_this _ new k.becomes
 
 while_wakes : (node : NodeValue) → Wakes node (while_named node)
 while_wakes node = by_test (is_outside node)
@@ -106,18 +106,18 @@ while_wakes node = by_test (is_outside node)
     by_test true = refl
     by_test false = refl
 
-executes_wakes : (m : Meaning) (old new : NodeValue) (before behind : OutboxValue) → Executes m old before new behind → Wakes old new
-executes_wakes m old new before behind k =
+executes_wakes : (m : Meaning) (old new : NodeValue) (before after : OutboxValue) → Executes m old before new after → Wakes old new
+executes_wakes m old new before after k =
     as_this (while_named k.mid) new k.becomes ∙ while_wakes k.mid
-    ∙ settled_wakes (session_by k.command (run_answer m k.command old.learner.whole)) _ k.mid _ behind k.settles
+    ∙ settled_wakes (session_by k.command (run_answer m k.command old.learner.whole)) _ k.mid _ after k.settles
 
-runs_wake : (m : Meaning) (old : NodeValue) (before : OutboxValue) (new : NodeValue) (behind : OutboxValue) → Runs m old before new behind → Wakes old new
+runs_wake : (m : Meaning) (old : NodeValue) (before : OutboxValue) (new : NodeValue) (after : OutboxValue) → Runs m old before new after → Wakes old new
 runs_wake m old before _ _ stays = refl
-runs_wake m old before new behind (goes_on so_far k) = executes_wakes m _ new _ behind k ∙ runs_wake m old before _ _ so_far
+runs_wake m old before new after (goes_on so_far k) = executes_wakes m _ new _ after k ∙ runs_wake m old before _ _ so_far
 
-learns_wakes : (p : Pair) (old new : NodeValue) (before behind : OutboxValue) → Learns p old before new behind → Wakes old new
-learns_wakes p old new before behind (inl kept) = as_this _ new kept.1
-learns_wakes p old new before behind (inr other) = as_this old new other.1
+learns_wakes : (p : Pair) (old new : NodeValue) (before after : OutboxValue) → Learns p old before new after → Wakes old new
+learns_wakes p old new before after (inl kept) = as_this _ new kept.1
+learns_wakes p old new before after (inr other) = as_this old new other.1
 
 only_heard_wakes : (from : ℕ) (x : Vote) (old new : NodeValue) → IsOnlyHeard from x old new → Wakes old new
 only_heard_wakes from x old new (inl heard) = as_this _ new heard.2
@@ -129,15 +129,15 @@ accepted_wakes m from x old new out (inl counted) =
     runs_wake m k.learned k.written new k.ran k.runs.0 ∙ learns_wakes (x.position, x.command) _ k.learned _ k.written k.learns
 accepted_wakes m from x old new out (inr heard) = only_heard_wakes from x old new heard.0
 
-pairs_wake : (m : Meaning) (first : ℕ) (commands : List Command) (old : NodeValue) (before : OutboxValue) (k : ℕ) (new : NodeValue) (behind : OutboxValue)
-    → TakesPairs m first commands old before k new behind → Wakes old new
+pairs_wake : (m : Meaning) (first : ℕ) (commands : List Command) (old : NodeValue) (before : OutboxValue) (k : ℕ) (new : NodeValue) (after : OutboxValue)
+    → TakesPairs m first commands old before k new after → Wakes old new
 pairs_wake m first commands old before _ _ _ none_yet = refl
-pairs_wake m first commands old before _ new behind (one_more v so_far at takes) =
-    runs_wake m takes.learned takes.written new behind takes.runs.0 ∙ learns_wakes _ _ takes.learned _ takes.written takes.learns ∙ pairs_wake m first commands old before _ _ _ so_far
+pairs_wake m first commands old before _ new after (one_more v so_far at takes) =
+    runs_wake m takes.learned takes.written new after takes.runs.0 ∙ learns_wakes _ _ takes.learned _ takes.written takes.learns ∙ pairs_wake m first commands old before _ _ _ so_far
 
-sessions_wake : (ss : List Session) (old : NodeValue) (before : OutboxValue) (k : ℕ) (new : NodeValue) (behind : OutboxValue) → SettlesFirst ss old before k new behind → Wakes old new
+sessions_wake : (ss : List Session) (old : NodeValue) (before : OutboxValue) (k : ℕ) (new : NodeValue) (after : OutboxValue) → SettlesFirst ss old before k new after → Wakes old new
 sessions_wake ss old before _ _ _ none_settled = refl
-sessions_wake ss old before _ new behind (one_settled s so_far at settles) = as_this _ new settles.becomes ∙ sessions_wake ss old before _ _ _ so_far
+sessions_wake ss old before _ new after (one_settled s so_far at settles) = as_this _ new settles.becomes ∙ sessions_wake ss old before _ _ _ so_far
 
 part_wakes : (m : Meaning) (IsText : List ℕ → Type 0) (p : PartValue) (old new : NodeValue) (out : OutboxValue) → HearsPart m IsText old p new out → Wakes old new
 part_wakes m IsText p old new out (inl k) =

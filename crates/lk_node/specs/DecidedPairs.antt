@@ -8,14 +8,14 @@ use Rattle.lk_node.specs.NodeValue.{NodeValue}
 use Rattle.lk_node.specs.Outboxes.{OutboxValue}
 
 -- a pair is learned, and then all that can be is executed
-pub record TakesPair (m : Meaning) (p : Pair) (old : NodeValue) (before : OutboxValue) (new : NodeValue) (behind : OutboxValue) : Type 0 where
+pub record TakesPair (m : Meaning) (p : Pair) (old : NodeValue) (before : OutboxValue) (new : NodeValue) (after : OutboxValue) : Type 0 where
   pub learned : NodeValue
   pub written : OutboxValue
   pub learns : Learns p old before learned written
-  pub runs : RunsAll m learned written new behind
+  pub runs : RunsAll m learned written new after
 
 -- so many of the commands are taken in order, the first as that of this position
 pub data TakesPairs (m : Meaning) (first : ℕ) (commands : List Command) (old : NodeValue) (before : OutboxValue) : ℕ → NodeValue → OutboxValue → Type 0 where
   none_yet : TakesPairs m first commands old before 0 old before
-  one_more : {k : ℕ} {mid new : NodeValue} {between behind : OutboxValue} (v : Command) → TakesPairs m first commands old before k mid between → slice_get commands k ≡ Some v
-      → TakesPair m (first + k, v) mid between new behind → TakesPairs m first commands old before (k + 1) new behind
+  one_more : {k : ℕ} {mid new : NodeValue} {between after : OutboxValue} (v : Command) → TakesPairs m first commands old before k mid between → slice_get commands k ≡ Some v
+      → TakesPair m (first + k, v) mid between new after → TakesPairs m first commands old before (k + 1) new after

@@ -46,15 +46,15 @@ settled s node = record node { leader = record { term = node.leader.term; waitin
 
 -- a session has become the client's last: its waiting request, where the session has reached it, is answered or passed, and
 -- waits no longer
-pub record Settles (s : Session) (old : NodeValue) (before : OutboxValue) (new : NodeValue) (behind : OutboxValue) : Type 0 where
+pub record Settles (s : Session) (old : NodeValue) (before : OutboxValue) (new : NodeValue) (after : OutboxValue) : Type 0 where
   pub becomes : new ≡ settled s old
-  pub comes_to : behind ≡ with_told old.header s (waiting_number s old) before
+  pub comes_to : after ≡ with_told old.header s (waiting_number s old) before
   pub fits : (number : ℕ) → waiting_number s old ≡ Some number → IsMessage (saying old.header (told s number))
 
 -- the session, if one came, is settled, and else nothing changes
 abbrev pub SettlesAny : Option Session → NodeValue → OutboxValue → NodeValue → OutboxValue → Type 0
-SettlesAny None old before new behind = (new ≡ old) × (behind ≡ before)
-SettlesAny (Some s) old before new behind = Settles s old before new behind
+SettlesAny None old before new after = (new ≡ old) × (after ≡ before)
+SettlesAny (Some s) old before new after = Settles s old before new after
 
 -- ---- one execution
 
@@ -88,26 +88,26 @@ while_named node = if is_outside node then without_term node else node
 
 -- The command of the next position is executed and noted, a request of its client that waits is told of it, and where the
 -- node is in no set of the window any more its term ends.
-pub record Executes (m : Meaning) (old : NodeValue) (before : OutboxValue) (new : NodeValue) (behind : OutboxValue) : Type 0 where
+pub record Executes (m : Meaning) (old : NodeValue) (before : OutboxValue) (new : NodeValue) (after : OutboxValue) : Type 0 where
   pub command : Command
   pub next : IsNext old.learner command
   pub mid : NodeValue
   pub settles : SettlesAny (session_by command (run_answer m command old.learner.whole)) (with_learner old (advanced m command old.learner))
-      (with_note (note.Ran old.header.node (executed old.learner + 1) command) before) mid behind
+      (with_note (note.Ran old.header.node (executed old.learner + 1) command) before) mid after
   pub becomes : new ≡ while_named mid
 
 -- the command of the next position is executed, or there is none and nothing changes
 abbrev pub ExecutesOne : Meaning → Bool → NodeValue → OutboxValue → NodeValue → OutboxValue → Type 0
-ExecutesOne m true old before new behind = Executes m old before new behind
-ExecutesOne m false old before new behind = NothingToRun old × (new ≡ old) × (behind ≡ before)
+ExecutesOne m true old before new after = Executes m old before new after
+ExecutesOne m false old before new after = NothingToRun old × (new ≡ old) × (after ≡ before)
 
 -- ---- any number of them
 
 -- one execution after another
 pub data Runs (m : Meaning) (old : NodeValue) (before : OutboxValue) : NodeValue → OutboxValue → Type 0 where
   stays : Runs m old before old before
-  goes_on : {mid new : NodeValue} {between behind : OutboxValue} → Runs m old before mid between → Executes m mid between new behind → Runs m old before new behind
+  goes_on : {mid new : NodeValue} {between after : OutboxValue} → Runs m old before mid between → Executes m mid between new after → Runs m old before new after
 
 -- as many as there can be
 abbrev pub RunsAll : Meaning → NodeValue → OutboxValue → NodeValue → OutboxValue → Type 0
-RunsAll m old before new behind = Runs m old before new behind × NothingToRun new
+RunsAll m old before new after = Runs m old before new after × NothingToRun new

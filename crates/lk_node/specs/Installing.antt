@@ -17,12 +17,12 @@ Gathers IsText went p old new = (l : LearnerValue) × Installs IsText went (hear
 -- so many of the sessions are settled, one after another
 pub data SettlesFirst (ss : List Session) (old : NodeValue) (before : OutboxValue) : ℕ → NodeValue → OutboxValue → Type 0 where
   none_settled : SettlesFirst ss old before 0 old before
-  one_settled : {k : ℕ} {mid new : NodeValue} {between behind : OutboxValue} (s : Session) → SettlesFirst ss old before k mid between → slice_get ss k ≡ Some s → Settles s mid between new behind
-      → SettlesFirst ss old before (k + 1) new behind
+  one_settled : {k : ℕ} {mid new : NodeValue} {between after : OutboxValue} (s : Session) → SettlesFirst ss old before k mid between → slice_get ss k ≡ Some s → Settles s mid between new after
+      → SettlesFirst ss old before (k + 1) new after
 
 -- all of them, in their order
 abbrev pub SettlesAll : List Session → NodeValue → OutboxValue → NodeValue → OutboxValue → Type 0
-SettlesAll ss old before new behind = SettlesFirst ss old before (length ss) new behind
+SettlesAll ss old before new after = SettlesFirst ss old before (length ss) new after
 
 -- The learner stands on an installed state: the store is to be rebased, waiting requests are answered from the state in rising
 -- order of clients, the term ends where no set of its window names the node, and all that can be is executed.

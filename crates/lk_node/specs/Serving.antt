@@ -65,6 +65,6 @@ pub record Serves (m : Meaning) (h : History) (n : ℕ) (loose : List Entry) (no
   pub noted : (x : Note) → Contains out.notes x → IsOfNode x × IsBorneOut m h x
 
 -- A part of a step goes on with what the parts before it did, in each history in which it heard this.
-pub record GoesOn (m : Meaning) (Heard : History → Type 0) (old new : NodeValue) (before behind : OutboxValue) : Type 0 where
-  pub binds : (first : NodeValue) → Binds first old before → Binds first new behind
-  pub serves : (h : History) (n : ℕ) (loose : List Entry) → Serves m h n loose old before → Heard h → Serves m h n loose new behind
+pub record GoesOn (m : Meaning) (Heard : History → Type 0) (old new : NodeValue) (before after : OutboxValue) : Type 0 where
+  pub binds : (first : NodeValue) → Binds first old before → Binds first new after
+  pub serves : (h : History) (n : ℕ) (loose : List Entry) → Serves m h n loose old before → Heard h → Serves m h n loose new after

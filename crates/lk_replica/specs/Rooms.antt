@@ -6,5 +6,5 @@ abbrev pub max_step : ℕ
 max_step = 102 * 16
 
 -- a step after a file that is not due for a rebase
-abbrev pub max_behind : ℕ
-max_behind = 131072 + max_step
+abbrev pub max_after : ℕ
+max_after = 131072 + max_step

@@ -17,7 +17,7 @@ ghost use Rattle.lk_node.specs.Calls.{heard_by, InputFits, NodeFits, Goes};
 ghost use Rattle.lk_replica.specs.Behaviours.{Behaviour, TrapsAlone, disks_by};
 ghost use Rattle.lk_replica.specs.Compacting.{AllStandAt};
 ghost use Rattle.lk_replica.specs.Faults.{fault_number, RefusedAfter};
-ghost use Rattle.lk_replica.specs.Rooms.{max_behind};
+ghost use Rattle.lk_replica.specs.Rooms.{max_after};
 
 use crate::datagram::Datagram;
 use crate::fault::ReplicaFault;
@@ -102,7 +102,7 @@ pub trait MemoryReplica: Sized + Drop {
         ensures covers { (genesis : Genesis) (n : ℕ) (held : Holding) (x : NodeMessage) → Shows self.old genesis n held
             → AllCover meaning genesis n (disks_by behaves self.old) x → AllCover meaning genesis n (disks_by behaves self.new) x }
         // After any exit neither file is longer than it was, or else than half of what a file may hold, and a step.
-        ensures room { StaysWithin max_behind (disks_by behaves self.old) (disks_by behaves self.new) }
+        ensures room { StaysWithin max_after (disks_by behaves self.old) (disks_by behaves self.new) }
         // At Ok its device has made so many changing calls, and all have passed. After a refusal one has failed, where that is 7, and
         // else all have passed.
         ensures calls { IfOk result (λ t. (k : ℕ) × Passes (behaves.memory self.old).meter (behaves.memory self.new).meter k) }

@@ -19,7 +19,7 @@ ghost use Rattle.lk_node.specs.Steps.{Steps};
 ghost use Rattle.lk_replica.specs.Taking.{Writes, CallsOfStep, IsTaken, IsRefused, IsCutShort, StaysUp, StepsOn, LeavesDisks, StepsToDisk, StepLeavesDisks};
 ghost use Rattle.lk_replica.specs.Faults.{fault_number, RaisesFailures, IfGoesOn, WantsNoMemory};
 ghost use Rattle.lk_replica.specs.Remembering.{Remembers};
-ghost use Rattle.lk_replica.specs.Rooms.{max_behind};
+ghost use Rattle.lk_replica.specs.Rooms.{max_after};
 
 use crate::compacting::{rebase_where_due, write_base};
 use crate::delivering::deliver;
@@ -76,7 +76,7 @@ impl<M: Machine, D: LogDisk + Drop> Replica<M, D> {
             → (sent : List LetterValue) × (P.sent post.new ≡ P.sent post.old ++ sent)
             × ((d : DatagramValue) → Contains (batch_of n sent) d → Spells (said_by genesis n x) d.bytes → AllCover M.meaning genesis n (disks self.new.store) x) }
         // What is on the disks after any exit: neither file has grown above half of what a file may hold, and a step.
-        ensures disks { D.is_honest → LeavesDisks M.meaning (λ h. InputFits h input.entry) max_behind self.old.node self.old.store (disks self.new.store) }
+        ensures disks { D.is_honest → LeavesDisks M.meaning (λ h. InputFits h input.entry) max_after self.old.node self.old.store (disks self.new.store) }
         // Nothing but 7, 8, 11, 14 and 15 comes, each for its cause, and all but 15 end it.
         ensures refused { IfErr result (λ e. IsRefused D.is_honest D.is_metered self.old self.new (fault_number e)) }
         // Under `Send` some sends have failed, and under another refusal nothing was given to the post.
@@ -181,7 +181,7 @@ fn step_to_disk<M: Machine, D: LogDisk + Drop>(
         → IfOk result (λ o. (d : DatagramValue) → Contains (batch_of n o.letters) d → Spells (said_by genesis n x) d.bytes → AllCover M.meaning genesis n (disks store.new) x) }
     ensures exact { D.is_honest → IfOk result (λ o. StepsToDisk M.meaning M.IsText D.is_metered node.old store.old input.entry o node.new store.new) }
     ensures alive { OnOk result (StepsOn D.is_honest node.old store.old node.new store.new) }
-    ensures disks { D.is_honest → StepLeavesDisks M.meaning (λ h. InputFits h input.entry) max_behind node.old store.old (disks store.new) }
+    ensures disks { D.is_honest → StepLeavesDisks M.meaning (λ h. InputFits h input.entry) max_after node.old store.old (disks store.new) }
     ensures refused { IfErr result (IsCutShort D.is_honest D.is_metered 1 node.old store.old node.new store.new (AreSame (disks store.old) (disks store.new))) }
     ensures halts { IsErrOf result ReplicaFault.Halted ↔ (node.new.halted ≡ true) }
     ensures format { store.new.format ≡ 2 }
@@ -213,7 +213,7 @@ fn rebase_and_step<M: Machine, D: LogDisk + Drop>(
         × (stepped : NodeValue) × Steps M.meaning M.IsText mid input.entry stepped o × Writes stepped between o node.new store.new) }
     ensures calls { D.is_metered → D.is_honest → IfOk result (λ o. CallsOfStep node.old store.old o store.new) }
     ensures alive { OnOk result (StepsOn D.is_honest node.old store.old node.new store.new) }
-    ensures disks { D.is_honest → LeavesDisks M.meaning (λ h. InputFits h input.entry) max_behind node.old store.old (disks store.new) }
+    ensures disks { D.is_honest → LeavesDisks M.meaning (λ h. InputFits h input.entry) max_after node.old store.old (disks store.new) }
     ensures refused { IfErr result (IsCutShort D.is_honest D.is_metered 2 node.old store.old node.new store.new (AreLeft node.old store.old store.new)) }
     ensures format { store.new.format ≡ 2 }
     ensures last { D.is_honest → max_count ≤ store.old.generation → IsDue node.old store.old → IsErrAnd result (λ e. WantsNoMemory (fault_number e)) }
