@@ -19,7 +19,7 @@ fn vote_at(votes: &[Vote], position: Position) -> Option<&Vote>
     (vote.position == position).then_some(vote)
 }
 
-// The votes at a position and above it.
+/// The votes at a position and above it.
 pub fn votes_from(alloc: Global, votes: &[Vote], first: Position) -> Result<Vec<Vote>, NoMemory>
     requires { AreRising votes.now }
     ensures ok { IfOk result (λ vs. vs.items ≡ votes_from first votes.now) }
@@ -33,7 +33,7 @@ pub fn votes_from(alloc: Global, votes: &[Vote], first: Position) -> Result<Vec<
     Ok(from)
 }
 
-// Whether each vote lies below the end.
+/// Whether each vote lies below the end.
 pub fn lie_below(votes: &[Vote], end: u64) -> bool
     requires { AreRising votes.now }
     ensures { result ≡ list_all (λ v. nat_lt v.position end) votes.now }
@@ -50,7 +50,7 @@ fn is_same(kept: &Vote, vote: &Vote) -> bool
     *kept == *vote
 }
 
-// Whether the vote is one of them.
+/// Whether the vote is one of them.
 pub fn holds(votes: &[Vote], vote: &Vote) -> bool
     requires { AreRising votes.now }
     ensures { IsTrue result ↔ Contains votes.now vote.now }
@@ -67,7 +67,7 @@ fn agrees(kept: &Vote, vote: &Vote) -> bool
     kept.position != vote.position || kept.ballot != vote.ballot || kept.command == vote.command
 }
 
-// Whether none of the votes is of the vote's ballot and position and has another command.
+/// Whether none of the votes is of the vote's ballot and position and has another command.
 pub fn agree(votes: &[Vote], vote: &Vote) -> bool
     requires { AreRising votes.now }
     ensures { IsTrue result ↔ ((v : VoteValue) → Contains votes.now v → Agrees v vote.now) }
@@ -78,7 +78,7 @@ pub fn agree(votes: &[Vote], vote: &Vote) -> bool
     }
 }
 
-// Forgets the votes up to a position.
+/// Forgets the votes up to a position.
 pub fn forget_to(votes: &mut Vec<Vote>, position: Executed)
     ensures { votes.new.items ≡ votes_above position votes.old.items }
 {

@@ -5,6 +5,7 @@ ghost use Rattle.lk_disk.specs.Disk.{contents, appended, flushed, cut_to, kept_b
 use std::alloc::{AllocError, Global};
 use std::marker::Model;
 
+/// The bytes of one disk, and how many of them are synced: those in front.
 #[derive(Debug, Drop)]
 pub(crate) struct MemoryFile {
     bytes: Vec<u8>,
@@ -23,6 +24,7 @@ impl Model for MemoryFile {
 }
 
 impl MemoryFile {
+    /// A file without a byte. It takes no memory.
     pub fn new(alloc: Global) -> Self
         ensures { result ≡ record { synced = []; unsynced = [] } }
     {
@@ -32,6 +34,7 @@ impl MemoryFile {
         }
     }
 
+    /// How many bytes it has, synced or not.
     pub fn len(&self) -> usize
         ensures { result ≡ length (contents self.now) }
     {
@@ -52,6 +55,7 @@ impl MemoryFile {
         true
     }
 
+    /// Adds the piece to the unsynced bytes, or nothing where memory is refused.
     pub fn append(&mut self, piece: &[u8]) -> Result<(), AllocError>
         ensures ok { OnOk result (self.new ≡ appended self.old piece.now) }
         ensures err { OnErr result (self.new ≡ self.old) }
@@ -59,12 +63,14 @@ impl MemoryFile {
         self.bytes.extend_from_slice(piece)
     }
 
+    /// All bytes are synced.
     pub fn sync(&mut self)
         ensures { self.new ≡ flushed self.old }
     {
         self.synced = self.bytes.len();
     }
 
+    /// Cuts it to so many bytes, where it has more; what is left is synced.
     pub fn cut(&mut self, len: usize)
         ensures { self.new ≡ cut_to len self.old }
     {

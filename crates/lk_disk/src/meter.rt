@@ -25,7 +25,7 @@ impl Meter {
     ghost use Rattle.lk_disk.specs.Meters.{fresh, is_refused, is_unread, called, asked, trapped, eased, stopping};
     ghost use Rattle.lk_disk.specs.Traps.{stops_next};
 
-    // Nothing makes the device fail.
+    /// Nothing makes the device fail.
     pub fn new() -> Meter
         ensures { result ≡ fresh }
     {
@@ -39,7 +39,7 @@ impl Meter {
         }
     }
 
-    // Counts a changing call, which the trap or the fuse may refuse, and tells for how many bytes it is an armed stop, if it is one.
+    /// Counts a changing call, which the trap or the fuse may refuse, and tells for how many bytes it is an armed stop, if it is one.
     pub fn call(&mut self) -> Result<Option<usize>, DeviceFault>
         ensures ok { OnOk result (is_refused self.old ≡ false) }
         ensures stop { IfOk result (λ stop. stop ≡ stops_next self.old.trap) }
@@ -62,7 +62,7 @@ impl Meter {
         }
     }
 
-    // Counts a reading call, which may have to fail.
+    /// Counts a reading call, which may have to fail.
     pub fn read(&mut self) -> Result<(), DeviceFault>
         ensures ok { OnOk result (is_unread self.old ≡ false) }
         ensures err { OnErr result (is_unread self.old ≡ true) }
@@ -73,7 +73,7 @@ impl Meter {
         if is_unread { Err(DeviceFault) } else { Ok(()) }
     }
 
-    // Sets the trap, in place of one that is pending.
+    /// Sets the trap, in place of one that is pending.
     pub fn set(&mut self, trap: Trap)
         ensures { self.new ≡ trapped trap self.old }
     {
@@ -82,7 +82,7 @@ impl Meter {
         self.starved = false;
     }
 
-    // The trap and the fuse are gone.
+    /// The trap and the fuse are gone.
     pub fn ease(&mut self)
         ensures { self.new ≡ eased self.old }
     {
@@ -90,7 +90,7 @@ impl Meter {
         self.fuse = None;
     }
 
-    // For how many bytes an armed stop has come since the trap was last set, if one has.
+    /// For how many bytes an armed stop has come since the trap was last set, if one has.
     pub fn stopping(&self) -> Option<usize>
         ensures { result ≡ stopping self.now }
     {

@@ -19,7 +19,7 @@ pub enum Trap {
 }
 
 impl Trap {
-    // A changing call passes by. Whether the trap goes off at it.
+    /// A changing call passes by. Whether the trap goes off at it.
     pub(crate) fn pass(&mut self) -> bool
         ensures due { result ≡ is_due self.old }
         ensures behind { self.new ≡ trap_after self.old }
@@ -41,7 +41,7 @@ impl Trap {
         }
     }
 
-    // For how many bytes the device stops at the next changing call, if it does.
+    /// For how many bytes the device stops at the next changing call, if it does.
     pub(crate) fn stops_next(self) -> Option<usize>
         ensures { result ≡ stops_next self }
     {

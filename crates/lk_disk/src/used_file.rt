@@ -35,6 +35,7 @@ impl<F: AppendFile + Drop> Model for UsedFile<F> {
 }
 
 impl<F: AppendFile + Drop> UsedFile<F> {
+    /// A file that nobody has used. Its length is not asked for yet.
     pub fn of(file: F) -> UsedFile<F>
         requires { F.is_honest → IsWhole (F.file file) }
         ensures file { result.file ≡ F.file file }
@@ -48,6 +49,7 @@ impl<F: AppendFile + Drop> UsedFile<F> {
         }
     }
 
+    /// The file itself, to look at.
     pub fn file(&self) -> &F
         ensures file { F.file result.now ≡ self.now.file }
         ensures failures { F.failures result.now ≡ self.now.failures }
@@ -55,6 +57,7 @@ impl<F: AppendFile + Drop> UsedFile<F> {
         &self.file
     }
 
+    /// The file itself, which is used no more.
     pub fn into_file(self) -> F
         ensures file { F.file result ≡ self.file }
         ensures failures { F.failures result ≡ self.failures }
@@ -63,6 +66,7 @@ impl<F: AppendFile + Drop> UsedFile<F> {
         file
     }
 
+    /// How many bytes the file has. It refuses after a changing call that failed, and where the file itself does not tell.
     pub fn length(&mut self) -> Result<usize, FileFault>
         ensures value { F.is_honest → IfOk result (λ n. n ≡ length (contents (left_of self.old.file))) }
         ensures unchanged { F.is_honest → self.new.file ≡ self.old.file }
@@ -80,6 +84,8 @@ impl<F: AppendFile + Drop> UsedFile<F> {
         Ok(length)
     }
 
+    /// Fills the buffer with the bytes from the offset on. It refuses after a changing call that failed, where the file has fewer
+    /// bytes, and where it does not give them.
     pub fn read_into(&mut self, offset: usize, buffer: &mut [u8]) -> Result<(), FileFault>
         ensures value { F.is_honest → OnOk result (buffer.new ≡ slice_range (contents (left_of self.old.file)) offset (offset + length buffer.old)) }
         ensures within { F.is_honest → OnOk result (offset + length buffer.old ≤ length (contents (left_of self.old.file))) }
@@ -117,6 +123,7 @@ impl<F: AppendFile + Drop> UsedFile<F> {
         self.failed = false;
     }
 
+    /// Adds the piece at the end. Where it refuses, the file may have a beginning of the piece more, and refuses all that comes.
     pub fn append(&mut self, piece: &[u8]) -> Result<(), FileFault>
         ensures ok { F.is_honest → OnOk result (left_of self.new.file ≡ appended (left_of self.old.file) piece.now) }
         ensures err { F.is_honest → OnErr result (AppendsSome piece.now (left_of self.old.file) (left_of self.new.file)) }
@@ -128,6 +135,7 @@ impl<F: AppendFile + Drop> UsedFile<F> {
         Ok(())
     }
 
+    /// Syncs what the file has. Where it refuses, the file refuses all that comes.
     pub fn sync(&mut self) -> Result<(), FileFault>
         ensures ok { F.is_honest → OnOk result (left_of self.new.file ≡ flushed (left_of self.old.file)) }
         ensures err { F.is_honest → OnErr result (left_of self.new.file ≡ left_of self.old.file) }
@@ -139,6 +147,8 @@ impl<F: AppendFile + Drop> UsedFile<F> {
         Ok(())
     }
 
+    /// Cuts the file to so many bytes and syncs it. Beyond the end it refuses and changes nothing; where the file itself refuses, its
+    /// length may be anything between, and it refuses all that comes.
     pub fn cut(&mut self, len: usize) -> Result<(), FileFault>
         ensures ok { F.is_honest → OnOk result (left_of self.new.file ≡ cut_to len (left_of self.old.file)) }
         ensures within { F.is_honest → OnOk result (len ≤ length (contents (left_of self.old.file))) }

@@ -300,6 +300,7 @@ pub fn read_answer(bytes: &[u8]) -> Option<(Answer, &[u8])>
     }
 }
 
+/// What a request asks, at the front: a byte with its length, and then its bytes; and the bytes after it.
 #[tactic(auto, unfolding(crate::specs::FieldReading::read_payload))]
 pub fn read_payload(bytes: &[u8]) -> Option<(Payload, &[u8])>
     ensures { Finds (λ x. (x.0, x.1.now)) result (read_payload bytes.now) }

@@ -28,7 +28,7 @@ fn append_some<D: LogDisk>(device: &mut D, side: Side, bytes: &[u8]) -> Result<(
     device.append(side, bytes)
 }
 
-// Adds entries after those of the live file, which has format 2, and syncs them where that is asked.
+/// Adds entries after those of the live file, which has format 2, and syncs them where that is asked.
 pub fn add<D: LogDisk>(
     alloc: Global,
     device: &mut D,

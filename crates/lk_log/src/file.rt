@@ -19,7 +19,7 @@ use lk_fields::read_u32;
 use lk_types::limits::MAX_TORN;
 use std::alloc::Global;
 
-// A file as it was read.
+/// A file as it was read.
 #[derive(Debug, Drop)]
 pub struct File {
     // The whole entries.
@@ -92,7 +92,7 @@ fn read_bytes<D: LogDisk>(alloc: Global, device: &mut D, side: Side) -> Result<V
     Ok(bytes)
 }
 
-// A file of the device.
+/// A file of the device.
 pub fn read_file<D: LogDisk>(alloc: Global, device: &mut D, side: Side) -> Result<File, StoreFault>
     ensures unchanged { D.is_honest → (s : _) → D.disk device.new s ≡ D.disk device.old s }
     ensures file { D.is_honest → IfOk result (λ f. IsFile (contents (D.disk device.old side)) f.entries.items f.is_damaged) }
@@ -106,7 +106,7 @@ pub fn read_file<D: LogDisk>(alloc: Global, device: &mut D, side: Side) -> Resul
     file_of(alloc, &bytes)
 }
 
-// Of the Base in front, 0 where none stands there.
+/// Of the Base in front, 0 where none stands there.
 pub fn generation_of(entries: &[Stored]) -> u64
     ensures { result ≡ generation entries.now }
 {
@@ -127,7 +127,7 @@ fn has_base(entries: &[Stored]) -> bool
     false
 }
 
-// Whether the first entry is no Base, or a later one is.
+/// Whether the first entry is no Base, or a later one is.
 pub fn is_misplaced(entries: &[Stored]) -> bool
     ensures { result ≡ is_misplaced entries.now }
 {

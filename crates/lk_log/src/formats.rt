@@ -6,7 +6,7 @@ ghost use Rattle.lk_log.specs.Formats.{format, is_raise, tells_raise, is_mixed};
 use crate::stored::Stored;
 use lk_types::{Command, Entry, Op, Position, Vote};
 
-// Of the Base in front, 0 where none stands there.
+/// Of the Base in front, 0 where none stands there.
 pub fn format_of(entries: &[Stored]) -> u8
     ensures { result ≡ format entries.now }
 {
@@ -61,7 +61,7 @@ fn some_tells_raise(entries: &[Stored]) -> bool
     entries.iter().any(|entry| tells_raise(entry))
 }
 
-// Whether the Base in front has format 1, and some entry tells of a command that asks so.
+/// Whether the Base in front has format 1, and some entry tells of a command that asks so.
 pub fn is_mixed(entries: &[Stored]) -> bool
     ensures { result ≡ is_mixed entries.now }
 {

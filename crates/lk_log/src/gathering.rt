@@ -134,8 +134,8 @@ impl Standing {
     }
 }
 
-// What entries with a Base in front stand for. Each is put into its place by halving, so the time grows with the number
-// of entries, and with what is moved where they do not come in order.
+/// What entries with a Base in front stand for. Each is put into its place by halving, so the time grows with the number
+/// of entries, and with what is moved where they do not come in order.
 pub fn gather(alloc: Global, entries: Vec<Stored>) -> Result<Standing, StoreFault>
     requires { MayStand entries.items }
     ensures stands { IfOk result (StandsFor entries.items) }

@@ -45,7 +45,7 @@ fn verdict(a: &File, b: &File) -> Verdict
     unless_damaged(a.is_damaged || b.is_damaged, Verdict::Empty)
 }
 
-// The live file, or `None` where there is no Base.
+/// The live file, or `None` where there is no Base.
 pub fn find<D: LogDisk>(alloc: Global, device: &mut D) -> Result<Option<(Side, File)>, StoreFault>
     ensures unchanged { D.is_honest → (s : Side) → D.disk device.new s ≡ D.disk device.old s }
     ensures damaged { D.is_honest → IsErrOf result StoreFault.Damaged → IsDamaged (seen (D.disk device.old)) }
@@ -91,7 +91,7 @@ fn cut_off<D: LogDisk>(
     Ok(())
 }
 
-// Cuts what is torn off the live file, and syncs it.
+/// Cuts what is torn off the live file, and syncs it.
 pub fn settle<D: LogDisk>(
     device: &mut D,
     live: Side,

@@ -337,7 +337,7 @@ fn read_entry(alloc: Global, bytes: &[u8]) -> Result<(Stored, &[u8]), Unread>
     Ok((body_of(alloc, text)?, rest))
 }
 
-// The entry that begins the bytes, and the bytes after it.
+/// The entry that begins the bytes, and the bytes after it.
 #[tactic(auto, using(crate::proofs::EntryLaws::is_found, crate::proofs::EntryLaws::is_none))]
 pub fn first_entry(alloc: Global, bytes: &[u8]) -> Result<(Stored, &[u8]), Unread>
     ensures found { IfOk result (λ x. IsStored x.0 × (bytes.now ≡ spelling x.0 ++ x.1.now)) }

@@ -15,7 +15,7 @@ use crate::fault::StoreFault;
 use crate::reopening::write_over;
 use lk_disk::{LogDisk, Side};
 
-// The other side.
+/// The other side.
 pub fn other(side: Side) -> Side
     ensures { result ≡ other side }
 {
@@ -25,7 +25,7 @@ pub fn other(side: Side) -> Side
     }
 }
 
-// Writes these bytes of a Base in the place of the other file's, syncs them, and cuts the live file to nothing.
+/// Writes these bytes of a Base in the place of the other file's, syncs them, and cuts the live file to nothing.
 pub fn go_over<D: LogDisk>(device: &mut D, live: Side, bytes: &[u8]) -> Result<(), StoreFault>
     ensures holds { D.is_honest → (b : BaseValue) → b.format ≡ 2 → IsStored (base_entry b) → bytes.now ≡ spelling (base_entry b)
         → OnOk result (HoldsOn (D.disk device.new (other live)) (D.disk device.new live) (base_entry b ∷ []) []) }

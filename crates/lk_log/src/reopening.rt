@@ -38,7 +38,7 @@ struct Opened {
     standing: Standing,
 }
 
-// Writes these bytes in the place of a file's, and syncs them.
+/// Writes these bytes in the place of a file's, and syncs them.
 pub(crate) fn write_over<D: LogDisk>(
     device: &mut D,
     side: Side,

@@ -1,7 +1,7 @@
 use crate::base::Base;
 use lk_types::Entry;
 
-// An entry of a file.
+/// An entry of a file.
 #[derive(Debug, Drop)]
 pub enum Stored {
     Base(Base),

@@ -3,7 +3,7 @@ ghost use Rattle.lk_log.specs.declared.unread.Unread.TheVariants.{NoMemory as me
 
 use std::alloc::{AllocError, AllocFailed};
 
-// Why no entry was read.
+/// Why no entry was read.
 #[derive(Clone, Copy, Debug, PartialEq, Eq)]
 pub enum Unread {
     // The bytes do not begin with one.

@@ -1,6 +1,6 @@
 use lk_disk::Side;
 
-// What both files come to.
+/// What both files come to.
 #[derive(Clone, Copy, Debug, PartialEq, Eq)]
 pub enum Verdict {
     Damaged,

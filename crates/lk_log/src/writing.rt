@@ -141,7 +141,7 @@ fn put_behind_length(out: &mut BytesMut, text: &[u8]) -> Result<(), AllocError>
     Ok(())
 }
 
-// The spelling of the Base of this generation, format, header and standing.
+/// The spelling of the Base of this generation, format, header and standing.
 #[tactic(auto, using(crate::proofs::EntryLaws::body_short), unfolding(crate::specs::Entries::spelling))]
 pub fn spelled_parts(
     alloc: Global,
@@ -160,7 +160,7 @@ pub fn spelled_parts(
     Ok(out)
 }
 
-// The spelling of a Base.
+/// The spelling of a Base.
 pub fn spelled_base(alloc: Global, value: &Base) -> Result<BytesMut, AllocError>
     requires { IsStored (base_entry value.now) }
     ensures { IfOk result (λ out. out.items ≡ spelling (base_entry value.now)) }
@@ -190,7 +190,7 @@ fn entry_facts(entry: &Entry)
     }
 }
 
-// Each entry fits into a file. It does nothing.
+/// Each entry fits into a file. It does nothing.
 pub fn entries_facts(entries: &[Entry])
     ensures { AllByRecursion IsStored (plain entries.now) }
 {
@@ -210,7 +210,7 @@ fn put_plain(alloc: Global, out: &mut BytesMut, entry: &Entry) -> Result<(), All
     Ok(())
 }
 
-// The spellings of entries, one after the other.
+/// The spellings of entries, one after the other.
 pub fn spelled(alloc: Global, entries: &[Entry]) -> Result<BytesMut, AllocError>
     ensures { IfOk result (λ out. out.items ≡ spelling_of_all (plain entries.now)) }
 {

@@ -68,8 +68,8 @@ impl<M: Machine> Node<M> {
         Ok(out)
     }
 
+    /// A Prepare is answered.
     #[tactic(auto, using(crate::proofs::AcceptorRules::prepare_goes_on))]
-    // A Prepare is answered.
     pub(crate) fn prepare(
         &mut self,
         from: NodeNo,
@@ -83,7 +83,7 @@ impl<M: Machine> Node<M> {
         Ok(out)
     }
 
-    // An Accept is answered, and its ballot's round is seen.
+    /// An Accept is answered, and its ballot's round is seen.
     pub(crate) fn accept(&mut self, from: NodeNo, vote: Vote) -> Result<Outbox, NoMemory>
         ensures exact { IfOk result (λ o. Responds (with_round vote.ballot self.old) from (AnswersAccept self.old.acceptor self.old.learner.whole.roster.executed vote) self.new o) }
         ensures goes_on { IfOk result (λ o. GoesOn M.meaning (λ h. HasSent h.genesis h.sent from (kinds.Accept vote)) self.old self.new nothing o) }

@@ -14,7 +14,7 @@ use lk_types::{NoMemory, Position, RealBallot, Round};
 use lk_wire::NodeMessage;
 
 impl<M: Machine> Node<M> {
-    // The next ballot of the node, or none where its round would be above 2^48.
+    /// The next ballot of the node, or none where its round would be above 2^48.
     pub(crate) fn next_ballot(&self) -> Option<RealBallot>
         ensures { MatchOption result (max_count ≤ greatest_round self.now) (λ b. (b ≡ next_ballot self.now) × IsBelow self.now.acceptor.state.promised b) }
     {
@@ -43,8 +43,8 @@ impl<M: Machine> Node<M> {
         Ok(out)
     }
 
+    /// As `start`; what it then holds and sends fits every history that the node fitted.
     #[tactic(auto, using(crate::proofs::BallotRules::starts_goes_on))]
-    // As `start`; what it then holds and sends fits every history that the node fitted.
     pub(crate) fn begin(&mut self, ballot: RealBallot) -> Result<Outbox, NoMemory>
         requires below { IsBelow self.old.acceptor.state.promised ballot }
         requires own { ballot.node ≡ self.old.header.node }

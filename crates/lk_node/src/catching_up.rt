@@ -74,7 +74,7 @@ impl<M: Machine> Node<M> {
         }
     }
 
-    // A node wants commands, or a snapshot.
+    /// A node wants commands, or a snapshot.
     pub(crate) fn hear_want(&mut self, from: NodeNo, want: &Want) -> Result<Outbox, NoMemory>
         ensures exact { IfOk result (λ o. HearsWant self.old from want.now self.new o) }
         ensures goes_on { IfOk result (λ o. GoesOn M.meaning (λ h. Unit {0}) self.old self.new nothing o) }
@@ -93,7 +93,7 @@ impl<M: Machine> Node<M> {
         Ok(out)
     }
 
-    // A node refuses a ballot.
+    /// A node refuses a ballot.
     pub(crate) fn hear_nack(&mut self, from: NodeNo, nack: &Nack) -> Result<Outbox, NoMemory>
         ensures exact { IfOk result (λ o. HearsNack self.old from nack.now self.new o) }
         ensures goes_on { IfOk result (λ o. GoesOn M.meaning (λ h. Unit {0}) self.old self.new nothing o) }
@@ -154,7 +154,7 @@ impl<M: Machine> Node<M> {
         Ok(out)
     }
 
-    // A node leads in this ballot, and has executed so many positions.
+    /// A node leads in this ballot, and has executed so many positions.
     pub(crate) fn hear_lead(
         &mut self,
         from: NodeNo,

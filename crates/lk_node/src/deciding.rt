@@ -82,7 +82,7 @@ impl<M: Machine> Node<M> {
         Ok(())
     }
 
-    // A node was heard to accept.
+    /// A node was heard to accept.
     pub(crate) fn hear_accepted(&mut self, from: NodeNo, vote: &Vote) -> Result<Outbox, NoMemory>
         ensures exact { IfOk result (λ o. HearsAccepted M.meaning from vote.now self.old self.new o) }
         ensures goes_on { IfOk result (λ o. GoesOn M.meaning (λ h. HasSent h.genesis h.sent from (kinds.Accepted vote.now)) self.old self.new nothing o) }

@@ -26,7 +26,7 @@ fn told(session: Session, number: RequestNumber) -> NodeMessage
 }
 
 impl<M: Machine> Node<M> {
-    // The session has become its client's last: the waiting request up to it is told, and waits no longer.
+    /// The session has become its client's last: the waiting request up to it is told, and waits no longer.
     pub(crate) fn settle(&mut self, session: Session, out: &mut Outbox) -> Result<(), NoMemory>
         ensures { OnOk result (Settles session self.old out.old self.new out.new) }
     {
@@ -75,7 +75,7 @@ impl<M: Machine> Node<M> {
         self.has_term() && !self.roster().is_in_window(self.header.node())
     }
 
-    // The term ends where no set of the window names the node.
+    /// The term ends where no set of the window names the node.
     pub(crate) fn leave_outside(&mut self)
         ensures { self.new ≡ while_named self.old }
     {
@@ -121,7 +121,7 @@ impl<M: Machine> Node<M> {
         Ok(went)
     }
 
-    // Executes positions in order, as long as the command of the next one is kept.
+    /// Executes positions in order, as long as the command of the next one is kept.
     pub(crate) fn execute(&mut self, out: &mut Outbox) -> Result<(), NoMemory>
         ensures exact { OnOk result (RunsAll M.meaning self.old out.old self.new out.new) }
         ensures goes_on { OnOk result (GoesOn M.meaning (λ h. Unit {0}) self.old self.new out.old out.new) }

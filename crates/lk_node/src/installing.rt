@@ -48,7 +48,7 @@ impl<M: Machine> Node<M> {
         Ok(out)
     }
 
-    // A part of another node's snapshot was heard.
+    /// A part of another node's snapshot was heard.
     pub(crate) fn hear_part(&mut self, part: &PartRef<'_>) -> Result<Outbox, NoMemory>
         ensures exact { IfOk result (λ o. HearsPart M.meaning M.IsText self.old part.now self.new o) }
         ensures goes_on { (from : ℕ) → IfOk result (λ o. GoesOn M.meaning (λ h. HasSent h.genesis h.sent from (kinds.Part part.now)) self.old self.new nothing o) }

@@ -31,8 +31,8 @@ impl<M: Machine> Node<M> {
         Ok(())
     }
 
+    /// A promise is heard.
     #[tactic(auto, using(crate::proofs::TermRules::promise_goes_on))]
-    // A promise is heard.
     pub(crate) fn hear_promise(
         &mut self,
         from: NodeNo,
@@ -46,7 +46,7 @@ impl<M: Machine> Node<M> {
     }
 }
 
-// The nodes of a set, in rising order.
+/// The nodes of a set, in rising order.
 pub fn nodes_of(alloc: Global, set: &Members) -> Result<Vec<NodeNo>, NoMemory>
     ensures { IfOk result (λ ns. ns.items ≡ nodes_of set.now) }
 {
@@ -59,7 +59,7 @@ pub fn nodes_of(alloc: Global, set: &Members) -> Result<Vec<NodeNo>, NoMemory>
 }
 
 impl<M: Machine> Node<M> {
-    // The term's ballot is promised. It does nothing.
+    /// The term's ballot is promised. It does nothing.
     pub(crate) fn facts(&self)
         ensures { HasPromised self.now.acceptor self.now.leader }
     {
@@ -110,7 +110,7 @@ impl<M: Machine> Node<M> {
         Ok(true)
     }
 
-    // Proposes all that is open, at rising positions, and tells each to the members of its position.
+    /// Proposes all that is open, at rising positions, and tells each to the members of its position.
     pub(crate) fn propose(&mut self, out: &mut Outbox) -> Result<(), NoMemory>
         ensures exact { OnOk result (ProposesOpen self.old self.new out.old out.new) }
         ensures done { OnOk result (NothingOpen self.new) }

@@ -39,8 +39,8 @@ impl<M: Machine> Node<M> {
         Ok(())
     }
 
+    /// The same, of a command that is chosen there.
     #[tactic(auto, using(crate::proofs::LearnerRules::learns_goes_on))]
-    // The same, of a command that is chosen there.
     pub(crate) fn learn(
         &mut self,
         position: Position,
@@ -54,7 +54,7 @@ impl<M: Machine> Node<M> {
         Ok(())
     }
 
-    // A command that is chosen at the position is learned, and then all that can be is executed.
+    /// A command that is chosen at the position is learned, and then all that can be is executed.
     pub(crate) fn take_pair(
         &mut self,
         position: Position,
@@ -85,7 +85,7 @@ impl<M: Machine> Node<M> {
         self.take_pair(position, &told.command(), out)
     }
 
-    // Decided commands are told: they are taken in order.
+    /// Decided commands are told: they are taken in order.
     pub(crate) fn hear_decided(&mut self, decided: &DecidedRef<'_>) -> Result<Outbox, NoMemory>
         ensures exact { IfOk result (λ o. TakesPairs M.meaning decided.now.first decided.now.commands self.old nothing (length decided.now.commands) self.new o) }
         ensures goes_on { (from : ℕ) → IfOk result (λ o. GoesOn M.meaning (λ h. HasSent h.genesis h.sent from (kinds.Decided decided.now)) self.old self.new nothing o) }

@@ -56,7 +56,7 @@ impl<M: Machine> Model for Node<M> {
     ghost view = { λ n. record { header = n.header; acceptor = n.acceptor; learner = n.learner; leader = n.leader; ticks = n.ticks; rounds = n.rounds; known = n.known; halted = n.halted } };
 }
 
-// The bytes by which a node of this header says so.
+/// The bytes by which a node of this header says so.
 pub fn spelled(alloc: Global, header: &Header, message: NodeMessage) -> Result<Vec<u8>, NoMemory>
     ensures bytes { IfOk result (λ bytes. bytes.items ≡ spelling (saying header.now message)) }
     ensures fits { IfOk result (λ bytes. IsMessage (saying header.now message)) }
@@ -70,7 +70,7 @@ pub fn spelled(alloc: Global, header: &Header, message: NodeMessage) -> Result<V
     Ok(out.as_slice().to_vec(alloc)?)
 }
 
-// The port of a node by the window, or 0 where no set names it.
+/// The port of a node by the window, or 0 where no set names it.
 pub fn port_in(roster: &Roster, node: NodeNo) -> u16
     ensures { result ≡ port_or_none (port_of node roster.now.sets) }
 {
@@ -113,14 +113,14 @@ impl<M: Machine> Node<M> {
         &self.header
     }
 
-    // The roster that stands once all executed commands are run.
+    /// The roster that stands once all executed commands are run.
     pub(crate) fn roster(&self) -> &Roster
         ensures { result.now ≡ self.now.learner.whole.roster }
     {
         self.learner.whole().roster()
     }
 
-    // Says something to a node or a client.
+    /// Says something to a node or a client.
     pub(crate) fn say(&self, to: To, message: NodeMessage, out: &mut Outbox) -> Result<(), NoMemory>
         ensures said { OnOk result (out.new ≡ with_letter (record { to = to; bytes = spelling (saying self.now.header message) }) out.old) }
         ensures fits { OnOk result (IsMessage (saying self.now.header message)) }
@@ -130,7 +130,7 @@ impl<M: Machine> Node<M> {
         Ok(())
     }
 
-    // Says something to a node, by the port that the window gives it.
+    /// Says something to a node, by the port that the window gives it.
     pub(crate) fn tell(
         &self,
         node: NodeNo,

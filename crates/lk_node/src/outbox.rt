@@ -42,7 +42,7 @@ impl Outbox {
         }
     }
 
-    // One more entry. A promise or a vote is synced, and with it all that is written.
+    /// One more entry. A promise or a vote is synced, and with it all that is written.
     pub(crate) fn write(&mut self, entry: Entry) -> Result<(), NoMemory>
         ensures { OnOk result (self.new ≡ with_entry entry self.old) }
     {
@@ -53,14 +53,14 @@ impl Outbox {
         Ok(())
     }
 
-    // The store is rebased.
+    /// The store is rebased.
     pub(crate) fn rebase_store(&mut self)
         ensures { self.new ≡ with_rebase self.old }
     {
         self.rebase = true;
     }
 
-    // One more note.
+    /// One more note.
     pub(crate) fn note(&mut self, note: Note) -> Result<(), NoMemory>
         ensures { OnOk result (self.new ≡ with_note note self.old) }
     {
@@ -70,7 +70,7 @@ impl Outbox {
 }
 
 impl Outbox {
-    // These letters more.
+    /// These letters more.
     pub(crate) fn post(&mut self, letters: Vec<Letter>) -> Result<(), NoMemory>
         ensures { OnOk result (self.new ≡ with_letters letters.items self.old) }
     {

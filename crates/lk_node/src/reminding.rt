@@ -142,7 +142,7 @@ impl<M: Machine> Node<M> {
         Ok(())
     }
 
-    // As `tell_leader`; what it sends fits every history that the node fits.
+    /// As `tell_leader`; what it sends fits every history that the node fits.
     pub(crate) fn tell_lead(&self, ballot: RealBallot, out: &mut Outbox) -> Result<(), NoMemory>
         ensures exact { OnOk result (TellsLead self.now ballot out.old out.new) }
         ensures goes_on { OnOk result (GoesOn M.meaning (λ h. Unit {0}) self.now self.now out.old out.new) }
@@ -151,7 +151,7 @@ impl<M: Machine> Node<M> {
         Ok(())
     }
 
-    // A tick in a term of this ballot.
+    /// A tick in a term of this ballot.
     pub(crate) fn remind(&mut self, ballot: RealBallot) -> Result<Outbox, NoMemory>
         requires { IsTermOf ballot self.old.leader }
         ensures exact { IfOk result (λ o. Reminds ballot self.old self.new o) }

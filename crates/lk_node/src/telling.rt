@@ -14,7 +14,7 @@ use lk_types::{NoMemory, NodeNo};
 use lk_wire::NodeMessage;
 
 impl<M: Machine> Node<M> {
-    // The nodes of the window, in rising order.
+    /// The nodes of the window, in rising order.
     pub(crate) fn window_nodes(&self) -> Result<Vec<NodeNo>, NoMemory>
         ensures { IfOk result (λ ns. AreWindowNodes self.now ns.items) }
     {
@@ -27,7 +27,7 @@ impl<M: Machine> Node<M> {
         Ok(nodes)
     }
 
-    // The other nodes of the window, in rising order.
+    /// The other nodes of the window, in rising order.
     pub(crate) fn others(&self) -> Result<Vec<NodeNo>, NoMemory>
         ensures { IfOk result (λ ns. AreOthers self.now ns.items) }
     {
@@ -52,7 +52,7 @@ impl<M: Machine> Node<M> {
         Ok(())
     }
 
-    // Tells each of the nodes the same, in order.
+    /// Tells each of the nodes the same, in order.
     pub(crate) fn tell_all(
         &self,
         nodes: &[NodeNo],

@@ -59,7 +59,7 @@ impl<M: Machine> Node<M> {
         Ok(out)
     }
 
-    // Some time has passed.
+    /// Some time has passed.
     pub(crate) fn tick(&mut self) -> Result<Outbox, NoMemory>
         ensures exact { IfOk result (λ o. Ticks self.old self.new o) }
         ensures goes_on { IfOk result (λ o. GoesOn M.meaning (λ h. Unit {0}) self.old self.new nothing o) }

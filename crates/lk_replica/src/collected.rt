@@ -92,8 +92,8 @@ impl Collected {
         Ok(())
     }
 
-    #[tactic(auto, using(lk_node::proofs::Nodes::mapped_append))]
     /// The letters as datagrams of the node.
+    #[tactic(auto, using(lk_node::proofs::Nodes::mapped_append))]
     pub fn into_datagrams(self, node: NodeNo) -> Result<Vec<Datagram>, NoMemory>
         ensures ok { IfOk result (λ ds. ds.items ≡ batch_of node self.letters) }
         // Memory is wanted only where there are letters.

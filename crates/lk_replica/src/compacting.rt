@@ -21,9 +21,9 @@ use lk_node::Node;
 use lk_state::Machine;
 use lk_types::limits::MAX_COUNT;
 
-// Writes what the node holds as the Base of the other file, and goes over to it: a snapshot of all that was executed takes
-// the place of the commands and the votes up to there. Nothing is sent. At generation 2^48 nothing is written, and it refuses with
-// `Failed` (11), also where memory is refused.
+/// Writes what the node holds as the Base of the other file, and goes over to it: a snapshot of all that was executed takes
+/// the place of the commands and the votes up to there. Nothing is sent. At generation 2^48 nothing is written, and it refuses with
+/// `Failed` (11), also where memory is refused.
 pub fn write_base<M: Machine, D: LogDisk + Drop>(
     node: &mut Node<M>,
     store: &mut Store<D>,
@@ -74,7 +74,7 @@ fn is_due<M: Machine, D: LogDisk + Drop>(
     Ok(length >= 131_072 || node.is_far())
 }
 
-// Writes the node's Base where that is due.
+/// Writes the node's Base where that is due.
 pub fn rebase_where_due<M: Machine, D: LogDisk + Drop>(
     node: &mut Node<M>,
     store: &mut Store<D>,

@@ -20,7 +20,7 @@ fn is_sent<P: Post>(letter: &Letter, post: &mut P) -> bool
     }
 }
 
-// Sends the letters in order. Those whose send fails are lost, and the others are sent all the same: each of them is tried.
+/// Sends the letters in order. Those whose send fails are lost, and the others are sent all the same: each of them is tried.
 pub fn deliver<P: Post>(letters: &[Letter], post: &mut P) -> Result<(), SendFault>
     ensures carries { CarriesAll P.Carries post.old letters.now post.new }
     ensures all { P.is_telling → OnOk result (P.sent post.new ≡ P.sent post.old ++ letters.now) }

@@ -55,8 +55,8 @@ fn learn<M: Machine>(
     Ok(())
 }
 
-// The learner that stands on this state, by a snapshot of this packed text, and has learned of these pairs, and the notes of
-// what it ran.
+/// The learner that stands on this state, by a snapshot of this packed text, and has learned of these pairs, and the notes of
+/// what it ran.
 pub fn relearn<M: Machine>(
     alloc: Global,
     node: NodeNo,

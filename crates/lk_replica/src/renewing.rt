@@ -17,7 +17,7 @@ use lk_log::Store;
 use lk_node::Node;
 use lk_state::Machine;
 
-// Writes the node's Base where the store has format 1, and so gives it format 2.
+/// Writes the node's Base where the store has format 1, and so gives it format 2.
 pub fn renew<M: Machine, D: LogDisk + Drop>(
     node: &mut Node<M>,
     store: &mut Store<D>,

@@ -55,12 +55,12 @@ impl<M: Machine, D: LogDisk + Drop> Model for Replica<M, D> {
 }
 
 impl<M: Machine, D: LogDisk + Drop> Replica<M, D> {
-    #[tactic(auto, using(crate::proofs::NoSend::never_sends))]
     /// Takes a tick or a datagram: what the step tells to write is written, and synced where a promise or a vote is among
     /// it, before anything is sent.
     ///
     /// It refuses with `Device` (7), `NoMemory` (8) and `Halted` (14), and with `Failed` (11) where it has to rebase at generation
     /// 2^48; after that each later call answers `Failed` (11). With `Send` (15) some datagrams are lost, and the replica goes on.
+    #[tactic(auto, using(crate::proofs::NoSend::never_sends))]
     pub fn take<P: Post>(&mut self, input: Input, post: &mut P) -> Result<Vec<Note>, ReplicaFault>
         // Where it goes on, all that it notes and sends it may note and send by what it holds.
         ensures goes { D.is_honest → P.is_telling → (h : History) (n : ℕ) → NodeFits M.meaning h n (Stands M.meaning self.old.node self.old.store h.genesis n) (disks self.old.store) → InputFits h input.entry

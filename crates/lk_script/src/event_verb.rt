@@ -3,6 +3,7 @@ ghost use Rattle.std.specs.Prelude.{◌≡◌, IfSome, IsNone};
 ghost use Rattle.lk_script.specs.WorldLines.{word_of};
 ghost use Rattle.lk_script.specs.declared.event_verb.EventVerb.{EventVerb as EventVerbValue};
 
+/// What a line of world mode asks for.
 #[derive(Clone, Copy, Debug, PartialEq, Eq)]
 pub enum EventVerb {
     Start,

@@ -3,6 +3,7 @@ ghost use Rattle.std.specs.Prelude.{◌≡◌, IfSome, IsNone};
 ghost use Rattle.lk_words.specs.Verbs.{word_of};
 ghost use Rattle.lk_words.specs.declared.verb.Verb.{Verb};
 
+/// What a client asks of the locks or of the members.
 #[derive(Clone, Copy, Debug, PartialEq, Eq)]
 pub enum Verb {
     Acquire,
