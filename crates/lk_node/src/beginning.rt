@@ -28,10 +28,12 @@ impl<M: Machine> Node<M> {
         Some(RealBallot::new(round, self.header.node()))
     }
 
-    // The ballot is promised, and a term of it begins: the nodes of the window are asked for their promises.
-    fn start(&mut self, ballot: RealBallot) -> Result<Outbox, NoMemory>
-        requires { IsBelow self.old.acceptor.state.promised ballot }
-        ensures { IfOk result (λ o. Begins ballot self.old self.new o) }
+    /// The ballot is promised, and a term of it begins: the nodes of the window are asked for their promises.
+    pub(crate) fn begin(&mut self, ballot: RealBallot) -> Result<Outbox, NoMemory>
+        requires below { IsBelow self.old.acceptor.state.promised ballot }
+        requires own { ballot.node ≡ self.old.header.node }
+        ensures exact { IfOk result (λ o. Begins ballot self.old self.new o) }
+        ensures goes_on { IfOk result (λ o. GoesOn M.meaning (λ h. Unit {0}) self.old self.new nothing o) }
     {
         let nodes = self.window_nodes()?;
         let mut out = Outbox::new(self.alloc);
@@ -40,18 +42,6 @@ impl<M: Machine> Node<M> {
         if let Some(first) = Position::of(self.learner.whole().executed().get() + 1) {
             self.tell_all(&nodes, NodeMessage::Prepare(ballot, first), &mut out)?;
         }
-        Ok(out)
-    }
-
-    /// As `start`; what it then holds and sends fits every history that the node fitted.
-    #[tactic(auto, using(crate::proofs::BallotRules::starts_goes_on))]
-    pub(crate) fn begin(&mut self, ballot: RealBallot) -> Result<Outbox, NoMemory>
-        requires below { IsBelow self.old.acceptor.state.promised ballot }
-        requires own { ballot.node ≡ self.old.header.node }
-        ensures exact { IfOk result (λ o. Begins ballot self.old self.new o) }
-        ensures goes_on { IfOk result (λ o. GoesOn M.meaning (λ h. Unit {0}) self.old self.new nothing o) }
-    {
-        let out = self.start(ballot)?;
         Ok(out)
     }
 }

@@ -83,22 +83,14 @@ impl<M: Machine> Node<M> {
         Ok(out)
     }
 
-    // Both ballots of a refusal are seen.
-    fn answer_nack(&mut self, from: NodeNo, nack: &Nack) -> Result<Outbox, NoMemory>
-        ensures { IfOk result (λ o. HearsNack self.old from nack.now self.new o) }
-    {
-        let out = self.level(from, nack.executed)?;
-        self.see(nack.ballot.get());
-        self.see(nack.promised);
-        Ok(out)
-    }
-
-    /// A node refuses a ballot.
+    /// A node refuses a ballot: both ballots are seen.
     pub(crate) fn hear_nack(&mut self, from: NodeNo, nack: &Nack) -> Result<Outbox, NoMemory>
         ensures exact { IfOk result (λ o. HearsNack self.old from nack.now self.new o) }
         ensures goes_on { IfOk result (λ o. GoesOn M.meaning (λ h. Unit {0}) self.old self.new nothing o) }
     {
-        let out = self.answer_nack(from, nack)?;
+        let out = self.level(from, nack.executed)?;
+        self.see(nack.ballot.get());
+        self.see(nack.promised);
         Ok(out)
     }
 

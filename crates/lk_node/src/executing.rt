@@ -52,12 +52,7 @@ impl<M: Machine> Node<M> {
         let Some(answer) = answer else {
             return Ok(());
         };
-        let session = Session {
-            client: request.client,
-            number: request.number,
-            answer,
-        };
-        self.settle(session, out)?;
+        self.settle(Session::of(request, answer), out)?;
         Ok(())
     }
 
@@ -99,9 +94,11 @@ impl<M: Machine> Node<M> {
     }
 
     // Executes the command of the next position, if it is kept. Whether it was.
-    fn run_one(&mut self, out: &mut Outbox) -> Result<bool, NoMemory>
-        ensures { IfOk result (λ went. ExecutesOne M.meaning went self.old out.old self.new out.new) }
+    fn execute_one(&mut self, out: &mut Outbox) -> Result<bool, NoMemory>
+        ensures exact { IfOk result (λ went. ExecutesOne M.meaning went self.old out.old self.new out.new) }
+        ensures goes_on { OnOk result (GoesOn M.meaning (λ h. Unit {0}) self.old self.new out.old out.new) }
     {
+        self.learner.facts();
         let Some((command, ran)) = self.run_next()? else {
             return Ok(false);
         };
@@ -109,16 +106,6 @@ impl<M: Machine> Node<M> {
         self.settle_ran(&command, ran.answer, out)?;
         self.leave_outside();
         Ok(true)
-    }
-
-    // Executes the next pair that it keeps, where there is one. Whether there was.
-    fn execute_one(&mut self, out: &mut Outbox) -> Result<bool, NoMemory>
-        ensures exact { IfOk result (λ went. ExecutesOne M.meaning went self.old out.old self.new out.new) }
-        ensures goes_on { OnOk result (GoesOn M.meaning (λ h. Unit {0}) self.old self.new out.old out.new) }
-    {
-        self.learner.facts();
-        let went = self.run_one(out)?;
-        Ok(went)
     }
 
     /// Executes positions in order, as long as the command of the next one is kept.

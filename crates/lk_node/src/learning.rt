@@ -24,23 +24,7 @@ fn position_behind(first: Position, offset: usize) -> Position
 }
 
 impl<M: Machine> Node<M> {
-    // A command is decided at the position. Where it is wanted it is kept, and written.
-    fn keep(
-        &mut self,
-        position: Position,
-        command: &Command,
-        out: &mut Outbox,
-    ) -> Result<(), NoMemory>
-        ensures { OnOk result (Learns (position, command.now) self.old out.old self.new out.new) }
-    {
-        if self.learner.decided(position, command) {
-            out.write(Entry::Decided(position, command.copy()))?;
-        }
-        Ok(())
-    }
-
-    /// The same, of a command that is chosen there.
-    #[tactic(auto, using(crate::proofs::LearnerRules::learns_goes_on))]
+    /// A command is decided at the position. Where it is wanted it is kept, and written.
     pub(crate) fn learn(
         &mut self,
         position: Position,
@@ -50,7 +34,9 @@ impl<M: Machine> Node<M> {
         ensures exact { OnOk result (Learns (position, command.now) self.old out.old self.new out.new) }
         ensures goes_on { OnOk result (GoesOn M.meaning (λ h. ChosenAt h.genesis h.sent position command.now) self.old self.new out.old out.new) }
     {
-        self.keep(position, command, out)?;
+        if self.learner.decided(position, command) {
+            out.write(Entry::Decided(position, command.copy()))?;
+        }
         Ok(())
     }
 

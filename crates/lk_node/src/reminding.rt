@@ -132,22 +132,14 @@ impl<M: Machine> Node<M> {
         Ok(())
     }
 
-    // The other nodes of the window are told who leads.
-    fn tell_leader(&self, ballot: RealBallot, out: &mut Outbox) -> Result<(), NoMemory>
-        ensures { OnOk result (TellsLead self.now ballot out.old out.new) }
-    {
-        let nodes = self.others()?;
-        let executed = self.learner.whole().executed();
-        self.tell_all(&nodes, NodeMessage::Lead(ballot, executed), out)?;
-        Ok(())
-    }
-
-    /// As `tell_leader`; what it sends fits every history that the node fits.
+    /// The other nodes of the window are told who leads.
     pub(crate) fn tell_lead(&self, ballot: RealBallot, out: &mut Outbox) -> Result<(), NoMemory>
         ensures exact { OnOk result (TellsLead self.now ballot out.old out.new) }
         ensures goes_on { OnOk result (GoesOn M.meaning (λ h. Unit {0}) self.now self.now out.old out.new) }
     {
-        self.tell_leader(ballot, out)?;
+        let nodes = self.others()?;
+        let executed = self.learner.whole().executed();
+        self.tell_all(&nodes, NodeMessage::Lead(ballot, executed), out)?;
         Ok(())
     }
 

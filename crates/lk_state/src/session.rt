@@ -4,7 +4,7 @@ ghost use Rattle.lk_types.specs.Limits.{max_client};
 ghost use Rattle.lk_state.specs.Sessions.{session_of, own, is_at, with_session, are_sessions_above, AreSessions, IsSession};
 
 use arrayvec::ArrayVec;
-use lk_types::{Answer, ClientNo, RequestNumber};
+use lk_types::{Answer, ClientNo, Request, RequestNumber};
 use std::marker::Model;
 
 /// A client's last request that took effect, and what it was answered.
@@ -16,6 +16,17 @@ pub struct Session {
 }
 
 impl Session {
+    /// What a request leaves that was answered so.
+    pub fn of(request: &Request, answer: Answer) -> Session
+        ensures { result ≡ record { client = request.now.client; number = request.now.number; answer = answer } }
+    {
+        Session {
+            client: request.client,
+            number: request.number,
+            answer,
+        }
+    }
+
     /// Each part is in its range. It does nothing.
     pub fn facts(self)
         ensures { IsSession self }

@@ -211,13 +211,8 @@ impl<M: Machine> Whole<M> {
             return Ok(None);
         }
         let answer = self.run_op(request.client, &request.op)?;
-        let session = Session {
-            client: request.client,
-            number: request.number,
-            answer,
-        };
-        self.keep(&session);
-        Ok(Some(session.answer))
+        self.keep(&Session::of(request, answer));
+        Ok(Some(answer))
     }
 
     /// One position on with nothing that takes effect.

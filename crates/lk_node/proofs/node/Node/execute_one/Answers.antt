@@ -1,4 +1,4 @@
-use Rattle.std.proofs.Common.{subst}
+use Rattle.std.proofs.Common.{rules, subst, true}
 use Rattle.lk_learner.specs.Learners.{IsLearner}
 use Rattle.lk_node.specs.NodeValue.{NodeValue}
 use Rattle.lk_node.proofs.ExecutionRules.{one_goes_on}
@@ -6,4 +6,4 @@ use Rattle.lk_node.proofs.node.Node.execute_one.Goals as goal
 
 pub returns-clause-goes_on : goal.returns-clause-goes_on
 returns-clause-goes_on g c =
-    one_goes_on _ _ _ c.args.self.now c.args.out.now c.run_one.new.self c.run_one.new.out (subst (λ (k : NodeValue). IsLearner k.learner) c.self.view_is c.facts.ensures) c.in_ok-went.ensures
+    one_goes_on _ _ true c.args.self.now c.args.out.now c.leave_outside.new.self c.settle_ran.new.out (subst (λ (k : NodeValue). IsLearner k.learner) c.self.view_is c.facts.ensures) (search rules)
