@@ -23,6 +23,7 @@ use Rattle.lk_replica.specs.Taking.{ComesTo}
 use Rattle.lk_sim.specs.Events.{Does}
 use Rattle.lk_sim.specs.Events as doing
 use Rattle.lk_sim.specs.Packed.{LeavesPacked}
+use Rattle.lk_sim.specs.Promises.{Promises}
 use Rattle.lk_sim.specs.Runs.{Runs}
 use Rattle.lk_sim.specs.Scenes.{Scene}
 use Rattle.lk_sim.specs.Seats.{At}
@@ -34,12 +35,13 @@ use Rattle.lk_sim.specs.declared.refused.Refused.{Refused}
 use Rattle.lk_sim.specs.declared.seat.Seat.{Seat}
 use Rattle.lk_promise.proofs.Doing.{is_done, refused, runs}
 use Rattle.lk_promise.proofs.Executing.{has_executed, is_part}
-use Rattle.lk_promise.proofs.Keeping.{has_snapshots, compacted}
+use Rattle.lk_promise.proofs.Keeping.{has_snapshots, compacted, kept, covered, short}
+use Rattle.lk_promise.proofs.Telling.{told}
 use Rattle.lk_promise.specs.Promise as promise
 use Rattle.lk_promise.specs.Plain.{at, TakesEffectAt}
-use Rattle.lk_promise.specs.Promise.{IsChosen, IsExplained, IsOrdered, HaveExecuted, HaveSnapshots, Compacts, IsDone, IsRefused, IsRun}
+use Rattle.lk_promise.specs.Promise.{IsChosen, IsExplained, IsOrdered, HaveExecuted, HaveSnapshots, Compacts, IsDone, IsRefused, IsRun, KeepsPromise}
 use Rattle.lk_promise.proofs.Effects.{leaves}
-use Rattle.lk_promise.proofs.Quorums.{at_is, members_are, has_sent, is_chosen, chosen_is}
+use Rattle.lk_promise.proofs.Quorums.{agreed, at_is, members_are, has_sent, is_chosen, chosen_is}
 use Rattle.lk_promise.proofs.Explaining.{stands_at, all_fit, answered}
 
 module _ (genesis : Genesis) (sent : List Datagram) (trace : List Note) where
@@ -63,7 +65,7 @@ module _ (genesis : Genesis) (sent : List Datagram) (trace : List Note) where
         parts = λ n p s. is_part genesis L p fit (x.parts n p (has_sent genesis sent n (message.Part p) s));
       }
 
-  pub explained : (L : List Command) × Chosen genesis sent L × Explains table_meaning genesis sent trace L → IsExplained genesis sent trace
+  explained : (L : List Command) × Chosen genesis sent L × Explains table_meaning genesis sent trace L → IsExplained genesis sent trace
   explained e = (e.0, is_chosen genesis sent e.0 e.1, explains e.0 e.1 e.2)
 
   counts : (L : List Command) (i : ℕ) (r : RequestValue) → TakesEffectAt genesis L i r → IsEffectiveAt L i r
@@ -77,7 +79,7 @@ module _ (genesis : Genesis) (sent : List Datagram) (trace : List Note) where
       let front = take (i - 1) L in
       (at_is L i ∙ c.0, sym ((leaves genesis front).least r) ∙ (in_effect_after front (Request r) r c.1).1)
 
-  pub ordered : InOrder genesis sent trace → IsOrdered genesis sent trace
+  ordered : InOrder genesis sent trace → IsOrdered genesis sent trace
   ordered o front back parts n client number a answered_there r new L i chosen takes =
       let b = o front back parts n client number a answered_there r new L i (chosen_is genesis sent L chosen) (counts L i r takes) in
       (b.place, b.request, b.before, b.of_client, b.of_number, effective_back L b.place b.request b.counts)
@@ -94,15 +96,29 @@ locks_behave = record {
   Compacts = λ old new came. CompactsTo table_meaning old new came;
 }
 
-pub executed : (genesis : Genesis) (seats : List (Seat ReplicaValue)) (sent : List Datagram)
+executed : (genesis : Genesis) (seats : List (Seat ReplicaValue)) (sent : List Datagram)
     → ((k : ℕ) (s : Seat ReplicaValue) → At seats k s → SumsUpChosen (λ r. r.node.learner.whole) (disks_by locks_behave) table_meaning genesis sent s) → HaveExecuted genesis seats sent
 executed genesis seats sent all s here r up =
     let e = (all here.0 s (here.1, here.2)).executed r up in
     has_executed genesis sent r e.0 e.1 e.2
 
-pub snapshots : (genesis : Genesis) (seats : List (Seat ReplicaValue)) (sent : List Datagram)
+snapshots : (genesis : Genesis) (seats : List (Seat ReplicaValue)) (sent : List Datagram)
     → ((k : ℕ) (s : Seat ReplicaValue) → At seats k s → SumsUpChosen (λ r. r.node.learner.whole) (disks_by locks_behave) table_meaning genesis sent s) → HaveSnapshots genesis seats sent
 snapshots genesis seats sent all s here = has_snapshots genesis sent s (all here.0 s (here.1, here.2))
+
+-- what a world promises is the promise
+pub promised : (w : Scene ReplicaValue) → Promises locks_behave (λ r. r.node.learner.whole) table_meaning w → KeepsPromise w
+promised w p = record {
+  explained = explained w.genesis w.sent w.trace p.explained;
+  agree = agreed w.genesis w.sent p.agree;
+  executed = executed w.genesis w.seats w.sent p.states;
+  told = told w.sent w.trace p.told;
+  order = ordered w.genesis w.sent w.trace p.order;
+  kept = kept w.genesis w.seats w.sent p.kept;
+  covered = covered w.genesis w.seats w.sent p.covered;
+  snapshots = snapshots w.genesis w.seats w.sent p.states;
+  room = short w.seats p.room;
+}
 
 pub compacts : (e : Event) (w : Scene ReplicaValue) → LeavesPacked (λ r. r.node.learner.whole) (disks_by locks_behave) table_meaning e w → Compacts e w
 compacts (event.Start n) w k = tt

@@ -268,6 +268,29 @@ IsShort disk = length (disk.synced ++ disk.unsynced) ≤ 262144
 abbrev pub AreShort : List (Seat ReplicaValue) → Type 0
 AreShort seats = (s : Seat ReplicaValue) → Contains seats s → IsShort (device_in s.life).a × IsShort (device_in s.life).b
 
+-- ---- the promise
+
+-- what holds of every world, whatever has happened in it: the datagrams that were ever sent, the trace, and the disks of its nodes
+pub record KeepsPromise (world : Scene ReplicaValue) : Type 0 where
+  -- one list of no-ops and asked requests is chosen that explains all that was noted and sent
+  pub explained : IsExplained world.genesis world.sent world.trace
+  -- of two chosen lists one begins the other
+  pub agree : Agree world.genesis world.sent
+  -- each node that is up has executed a chosen list
+  pub executed : HaveExecuted world.genesis world.seats world.sent
+  -- the trace tells, in order, of each answer that was sent
+  pub told : AreTold world.sent world.trace
+  -- what was answered before a request was asked takes effect before it
+  pub order : IsOrdered world.genesis world.sent world.trace
+  -- whatever stops may leave, a majority remembers each command of a chosen list
+  pub kept : AreKept world.genesis world.seats world.sent
+  -- whatever a stop may leave of a node covers all that it has sent
+  pub covered : AreCovered world.genesis world.seats world.sent
+  -- whatever a stop may leave of a node has a snapshot of a chosen list
+  pub snapshots : HaveSnapshots world.genesis world.seats world.sent
+  -- no file of a node is ever longer than 262,144 bytes
+  pub room : AreShort world.seats
+
 -- ---- what an event does of which the promise speaks
 
 -- the request that a line of the trace tells of

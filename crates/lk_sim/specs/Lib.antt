@@ -12,4 +12,5 @@ pub mod Orders
 pub mod Kept
 pub mod Packed
 pub mod Worlds
+pub mod Promises
 pub mod Runs

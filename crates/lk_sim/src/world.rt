@@ -31,22 +31,16 @@ impl<R: MemoryReplica> Model for World<R> {
 }
 
 impl<R: MemoryReplica> World<R> {
-    ghost use Rattle.std.specs.Prelude.{◌≡◌, ℕ, ◌⊎◌, List, [], length, None, Some, IfSome, OnOk, IfErr};
-    ghost use Rattle.lk_history.specs.Chosen.{command_at, Chosen, IsBeginning};
-    ghost use Rattle.lk_node.specs.Histories.{Command};
+    ghost use Rattle.std.specs.Prelude.{◌≡◌, ℕ, [], length, None, IfSome, OnOk, IfErr};
     ghost use Rattle.lk_replica.specs.Behaviours.{disks_by};
     ghost use Rattle.lk_sim.specs.Events.{Does, IsRefused, Grows};
-    ghost use Rattle.lk_sim.specs.Explained.{Explains};
     ghost use Rattle.lk_disk.specs.Disk.{contents};
     ghost use Rattle.lk_disk.specs.declared.device.Side.TheVariants.{A, B};
-    ghost use Rattle.lk_sim.specs.Kept.{disks_of, CoversAll, IsKeptBy};
-    ghost use Rattle.lk_sim.specs.Orders.{InOrder};
+    ghost use Rattle.lk_sim.specs.Kept.{disks_of};
     ghost use Rattle.lk_sim.specs.Packed.{LeavesPacked};
-    ghost use Rattle.lk_sim.specs.Rooms.{AreShort};
+    ghost use Rattle.lk_sim.specs.Promises.{Promises};
     ghost use Rattle.lk_sim.specs.Runs.{Runs};
     ghost use Rattle.lk_sim.specs.Seats.{At, HasNo};
-    ghost use Rattle.lk_sim.specs.States.{SumsUpChosen};
-    ghost use Rattle.lk_sim.specs.Traces.{told_in, Tells};
     ghost use Rattle.lk_sim.specs.declared.seat.Seat.{Seat as SeatValue};
 
     /// A world in which nothing has happened.
@@ -65,26 +59,15 @@ impl<R: MemoryReplica> World<R> {
         }
     }
 
-    /// One event happens. Whatever happens, one list of no-ops and asked requests is chosen that explains all that was
-    /// noted and sent.
+    /// One event happens. Whatever happens, what is promised of every world holds: one list of no-ops and asked requests is chosen
+    /// that explains all that was noted and sent, and the rest of `Promises`.
     ///
     /// A refused event changes nothing; under `WorldMemory` the node that was stepping or coming up has stopped.
     pub fn apply(&mut self, event: Event) -> Result<(), Refused>
         ensures does { OnOk result (Does R.behaves self.old event self.new) }
         ensures refused { IfErr result (λ e. IsRefused R.behaves self.old event e self.new) }
         ensures grows { Grows self.old self.new }
-        ensures explained { (L : List Command) × Chosen self.new.genesis self.new.sent L × Explains R.meaning self.new.genesis self.new.sent self.new.trace L }
-        ensures agree { (L K : List Command) → Chosen self.new.genesis self.new.sent L → Chosen self.new.genesis self.new.sent K → IsBeginning L K ⊎ IsBeginning K L }
-        ensures told { Tells self.new.sent (told_in self.new.trace) }
-        ensures states { (k : ℕ) (s : SeatValue R) → At self.new.seats k s → SumsUpChosen R.whole (disks_by R.behaves) R.meaning self.new.genesis self.new.sent s }
-        // Whatever a stop may leave of a node's disks covers all that the node has sent.
-        ensures covered { (k : ℕ) (s : SeatValue R) → At self.new.seats k s → CoversAll (disks_by R.behaves) R.meaning self.new.genesis self.new.sent s }
-        // A majority keeps each command of a chosen list, whatever stops may leave.
-        ensures kept { (L : List Command) (i : ℕ) (v : Command) → Chosen self.new.genesis self.new.sent L → command_at L i ≡ Some v → IsKeptBy (disks_by R.behaves) R.meaning self.new.genesis self.new.seats self.new.sent L i v }
-        // What was answered before a request was asked takes effect before it.
-        ensures order { InOrder self.new.genesis self.new.sent self.new.trace }
-        // Neither file of a node is ever longer than 262,144 bytes.
-        ensures room { (k : ℕ) (s : SeatValue R) → At self.new.seats k s → AreShort (disks_of (disks_by R.behaves) s.life) }
+        ensures promised { Promises R.behaves R.whole R.meaning self.new }
         // Where a node compacted, whatever a stop may leave of its disks has a snapshot of all that it has executed.
         ensures packed { OnOk result (LeavesPacked R.whole (disks_by R.behaves) R.meaning event self.new) }
     {
@@ -97,18 +80,7 @@ impl<R: MemoryReplica> World<R> {
     pub fn run(&mut self, events: &[Event]) -> RunEnd
         ensures runs { Runs R.behaves self.old events.now result self.new }
         ensures grows { Grows self.old self.new }
-        ensures explained { (L : List Command) × Chosen self.new.genesis self.new.sent L × Explains R.meaning self.new.genesis self.new.sent self.new.trace L }
-        ensures agree { (L K : List Command) → Chosen self.new.genesis self.new.sent L → Chosen self.new.genesis self.new.sent K → IsBeginning L K ⊎ IsBeginning K L }
-        ensures told { Tells self.new.sent (told_in self.new.trace) }
-        ensures states { (k : ℕ) (s : SeatValue R) → At self.new.seats k s → SumsUpChosen R.whole (disks_by R.behaves) R.meaning self.new.genesis self.new.sent s }
-        // Whatever a stop may leave of a node's disks covers all that the node has sent.
-        ensures covered { (k : ℕ) (s : SeatValue R) → At self.new.seats k s → CoversAll (disks_by R.behaves) R.meaning self.new.genesis self.new.sent s }
-        // A majority keeps each command of a chosen list, whatever stops may leave.
-        ensures kept { (L : List Command) (i : ℕ) (v : Command) → Chosen self.new.genesis self.new.sent L → command_at L i ≡ Some v → IsKeptBy (disks_by R.behaves) R.meaning self.new.genesis self.new.seats self.new.sent L i v }
-        // What was answered before a request was asked takes effect before it.
-        ensures order { InOrder self.new.genesis self.new.sent self.new.trace }
-        // Neither file of a node is ever longer than 262,144 bytes.
-        ensures room { (k : ℕ) (s : SeatValue R) → At self.new.seats k s → AreShort (disks_of (disks_by R.behaves) s.life) }
+        ensures promised { Promises R.behaves R.whole R.meaning self.new }
     {
         let how = happen_all(&mut self.parts, events);
         self.facts();
@@ -146,20 +118,9 @@ impl<R: MemoryReplica> World<R> {
         Some(lengths(&self.parts.seats[i]))
     }
 
-    /// Some list explains the world, chosen lists agree, and each node has executed one. It does nothing.
+    /// What is promised of every world holds of this one. It does nothing.
     pub fn facts(&self)
-        ensures explained { (L : List Command) × Chosen self.now.genesis self.now.sent L × Explains R.meaning self.now.genesis self.now.sent self.now.trace L }
-        ensures agree { (L K : List Command) → Chosen self.now.genesis self.now.sent L → Chosen self.now.genesis self.now.sent K → IsBeginning L K ⊎ IsBeginning K L }
-        ensures told { Tells self.now.sent (told_in self.now.trace) }
-        ensures states { (k : ℕ) (s : SeatValue R) → At self.now.seats k s → SumsUpChosen R.whole (disks_by R.behaves) R.meaning self.now.genesis self.now.sent s }
-        // Whatever a stop may leave of a node's disks covers all that the node has sent.
-        ensures covered { (k : ℕ) (s : SeatValue R) → At self.now.seats k s → CoversAll (disks_by R.behaves) R.meaning self.now.genesis self.now.sent s }
-        // A majority keeps each command of a chosen list, whatever stops may leave.
-        ensures kept { (L : List Command) (i : ℕ) (v : Command) → Chosen self.now.genesis self.now.sent L → command_at L i ≡ Some v → IsKeptBy (disks_by R.behaves) R.meaning self.now.genesis self.now.seats self.now.sent L i v }
-        // What was answered before a request was asked takes effect before it.
-        ensures order { InOrder self.now.genesis self.now.sent self.now.trace }
-        // Neither file of a node is ever longer than 262,144 bytes.
-        ensures room { (k : ℕ) (s : SeatValue R) → At self.now.seats k s → AreShort (disks_of (disks_by R.behaves) s.life) }
+        ensures promised { Promises R.behaves R.whole R.meaning self.now }
     {
         let _ = &self.parts;
     }

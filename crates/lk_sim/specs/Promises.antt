@@ -1,0 +1,34 @@
+-- What is promised of every world, whatever has happened in it.
+use Rattle.std.specs.Prelude.{◌≡◌, ℕ, ◌⊎◌, Some, List}
+use Rattle.lk_history.specs.Chosen.{command_at, Chosen, IsBeginning}
+use Rattle.lk_node.specs.Histories.{Command}
+use Rattle.lk_replica.specs.Behaviours.{Behaviour, disks_by}
+use Rattle.lk_sim.specs.Explained.{Explains}
+use Rattle.lk_sim.specs.Kept.{disks_of, CoversAll, IsKeptBy}
+use Rattle.lk_sim.specs.Orders.{InOrder}
+use Rattle.lk_sim.specs.Rooms.{AreShort}
+use Rattle.lk_sim.specs.Scenes.{Scene}
+use Rattle.lk_sim.specs.Seats.{At}
+use Rattle.lk_sim.specs.States.{SumsUpChosen}
+use Rattle.lk_sim.specs.Traces.{told_in, Tells}
+use Rattle.lk_sim.specs.declared.seat.Seat.{Seat}
+use Rattle.lk_state.specs.Meanings.{Meaning}
+use Rattle.lk_state.specs.States.{WholeValue}
+
+pub record Promises {R : Type 0} (b : Behaviour R) (whole : R → WholeValue) (m : Meaning) (w : Scene R) : Type 0 where
+  -- one list of no-ops and asked requests is chosen that explains all that was noted and sent
+  pub explained : (L : List Command) × Chosen w.genesis w.sent L × Explains m w.genesis w.sent w.trace L
+  -- of two chosen lists one begins the other
+  pub agree : (L K : List Command) → Chosen w.genesis w.sent L → Chosen w.genesis w.sent K → IsBeginning L K ⊎ IsBeginning K L
+  -- the trace tells, in order, of each answer that was sent
+  pub told : Tells w.sent (told_in w.trace)
+  -- each node that is up has executed a chosen list
+  pub states : (k : ℕ) (s : Seat R) → At w.seats k s → SumsUpChosen whole (disks_by b) m w.genesis w.sent s
+  -- whatever a stop may leave of a node's disks covers all that the node has sent
+  pub covered : (k : ℕ) (s : Seat R) → At w.seats k s → CoversAll (disks_by b) m w.genesis w.sent s
+  -- a majority keeps each command of a chosen list, whatever stops may leave
+  pub kept : (L : List Command) (i : ℕ) (v : Command) → Chosen w.genesis w.sent L → command_at L i ≡ Some v → IsKeptBy (disks_by b) m w.genesis w.seats w.sent L i v
+  -- what was answered before a request was asked takes effect before it
+  pub order : InOrder w.genesis w.sent w.trace
+  -- neither file of a node is ever longer than 262,144 bytes
+  pub room : (k : ℕ) (s : Seat R) → At w.seats k s → AreShort (disks_of (disks_by b) s.life)
