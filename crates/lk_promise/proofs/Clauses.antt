@@ -68,8 +68,8 @@ module _ (genesis : Genesis) (sent : List Datagram) (trace : List Note) where
   explained : (L : List Command) × Chosen genesis sent L × Explains table_meaning genesis sent trace L → IsExplained genesis sent trace
   explained e = (e.0, is_chosen genesis sent e.0 e.1, explains e.0 e.1 e.2)
 
-  counts : (L : List Command) (i : ℕ) (r : RequestValue) → TakesEffectAt genesis L i r → IsEffectiveAt L i r
-  counts L i r t =
+  effective : (L : List Command) (i : ℕ) (r : RequestValue) → TakesEffectAt genesis L i r → IsEffectiveAt L i r
+  effective L i r t =
       let front = take (i - 1) L in
       let older : list_all (is_older r) front ≡ true = (leaves genesis front).least r ∙ t.1 in
       (sym (at_is L i) ∙ t.0, rw older refl)
@@ -81,8 +81,8 @@ module _ (genesis : Genesis) (sent : List Datagram) (trace : List Note) where
 
   ordered : InOrder genesis sent trace → IsOrdered genesis sent trace
   ordered o front back parts n client number a answered_there r new L i chosen takes =
-      let b = o front back parts n client number a answered_there r new L i (chosen_is genesis sent L chosen) (counts L i r takes) in
-      (b.place, b.request, b.before, b.of_client, b.of_number, effective_back L b.place b.request b.counts)
+      let b = o front back parts n client number a answered_there r new L i (chosen_is genesis sent L chosen) (effective L i r takes) in
+      (b.place, b.request, b.before, b.of_client, b.of_number, effective_back L b.place b.request b.effective)
 
 -- ---- of the replica of the lock table
 

@@ -65,9 +65,9 @@ op_answered genesis L s now all client Raise = answer-text_of L all client Raisi
 effective_answer : (genesis : Genesis) (before later : List Command) (entry : Command) (client number : ℕ) (a : Answer) (o : Option RequestValue) → AllByRecursion IsCommand before → in_effect before entry ≡ o
     → session_in table_meaning (roster_of genesis before) (text_of table_meaning before) o ≡ Some (record { client = client; number = number; answer = a })
     → IsAnswered genesis (before ++ (entry ∷ later)) client number a
-effective_answer genesis before later entry client number a None all counts e = absurd cc
-effective_answer genesis before later entry client number a (Some q) all counts e =
-    let is = in_effect_after before entry q counts in
+effective_answer genesis before later entry client number a None all effective e = absurd cc
+effective_answer genesis before later entry client number a (Some q) all effective e =
+    let is = in_effect_after before entry q effective in
     let now = leaves genesis before in
     let given : Session = record { client = q.client; number = q.number; answer = op_answer table_meaning (roster_of genesis before) (text_of table_meaning before) q.client q.op } in
     let wanted : Session = record { client = client; number = number; answer = a } in

@@ -37,8 +37,8 @@ some_same e = cc
 reply_once : (L : List Command) (client number : ℕ) (a b : Answer) → IsReply L client number a → IsReply L client number b → a ≡ b
 reply_once L client number a b x y =
     let places : x.place ≡ y.place =
-    numbers_take_effect_once L x.place y.place x.request y.request x.stands y.stands x.counts y.counts (x.of_client ∙ sym y.of_client) (x.of_number ∙ sym y.of_number) in
-    let requests : x.request ≡ y.request = some_same (sym x.counts ∙ ap (λ (p : Placed). in_effect p.before p.entry) places ∙ y.counts) in
+    numbers_take_effect_once L x.place y.place x.request y.request x.stands y.stands x.effective y.effective (x.of_client ∙ sym y.of_client) (x.of_number ∙ sym y.of_number) in
+    let requests : x.request ≡ y.request = some_same (sym x.effective ∙ ap (λ (p : Placed). in_effect p.before p.entry) places ∙ y.effective) in
     some_same (sym x.answered ∙ ap (λ (r : RequestValue). table_answer r.client r.op (table_of x.place.before)) requests
     ∙ ap (λ (p : Placed). table_answer y.request.client y.request.op (table_of p.before)) places ∙ y.answered)
 

@@ -68,19 +68,19 @@ read_answer genesis p q = op_answer table_meaning (roster_of genesis p.before) (
 module _ (genesis : Genesis) (L : List Command) (asked : AllByRecursion AsksTable L) (p : Placed) (stands : Contains (placed L) p) where
   reply_at : (client number : ℕ) (a : Answer) (o : Option RequestValue) → in_effect p.before p.entry ≡ o
       → session_in table_meaning (roster_of genesis p.before) (text_of table_meaning p.before) o ≡ Some (record { client = client; number = number; answer = a }) → IsReply L client number a
-  reply_at client number a None counts e = absurd cc
-  reply_at client number a (Some q) counts e =
+  reply_at client number a None effective e = absurd cc
+  reply_at client number a (Some q) effective e =
       let s : Session = record { client = q.client; number = q.number; answer = read_answer genesis p q } in
       let t : Session = record { client = client; number = number; answer = a } in
       let is : s ≡ t = same s t e in
       let behind = placed_entries_stand L p stands in
       let parts = parts_of p.before p.entry behind.0 (subst (AllByRecursion AsksTable) behind.1 asked) in
-      let ask : AsksTable (Request q) = subst AsksTable (in_effect_after p.before p.entry q counts).0 parts.1 in
+      let ask : AsksTable (Request q) = subst AsksTable (in_effect_after p.before p.entry q effective).0 parts.1 in
       record {
         place = p;
         stands = stands;
         request = q;
-        counts = counts;
+        effective = effective;
         of_client = ap (λ (x : Session). x.client) is;
         of_number = ap (λ (x : Session). x.number) is;
         answered = table_answer-op_answer genesis p.before q.client q.op (commands_of p.before parts.0) ask.1 ∙ ap (λ (x : Session). Some x.answer) is;
@@ -168,14 +168,14 @@ pub runs : (L : List Command) (r : RequestValue) (a : Answer) (old new : TableSe
     → ((genesis : Genesis) (L : List Command) → StandsFor table_meaning genesis L old.whole → answered ≡ reply_of table_meaning genesis (L ++ Request r ∷ []) (in_effect L (Request r)))
     → HasServed L old → Replies (with_request L r) r (message.Answer (record { client = r.client; number = r.number; answer = a })) × HasServed (with_request L r) new
 runs L r a old new answered fits table above is same behind replied sums =
-    let counts : in_effect L (Request r) ≡ Some r = takes_effect_above_last table_meaning sums.genesis L r ∙ rw (last L r old sums, above) refl in
-    let longer : with_request L r ≡ L ++ Request r ∷ [] = rw counts refl in
+    let effective : in_effect L (Request r) ≡ Some r = takes_effect_above_last table_meaning sums.genesis L r ∙ rw (last L r old sums, above) refl in
+    let longer : with_request L r ≡ L ++ Request r ∷ [] = rw effective refl in
     let asked : AllByRecursion AsksTable (L ++ Request r ∷ []) = AllByRecursion-push AsksTable L (Request r) sums.asked (fits, table) in
     let told : reply table_meaning sums.genesis (L ++ Request r ∷ []) r.client r.number ≡ Some a =
-    sym (replied sums.genesis L sums.whole ∙ ap (reply_of table_meaning sums.genesis (L ++ Request r ∷ [])) counts) ∙ is in
+    sym (replied sums.genesis L sums.whole ∙ ap (reply_of table_meaning sums.genesis (L ++ Request r ∷ [])) effective) ∙ is in
     let m : NodeMessage = message.Answer (record { client = r.client; number = r.number; answer = a }) in
     subst (λ (K : List Command). Replies K r m × HasServed K new) (sym longer) (
-      answers a (IsLast-new L r (in_effect_after L (Request r) r counts).1) (reply_is_plain sums.genesis (L ++ Request r ∷ []) r.client r.number a asked told),
+      answers a (IsLast-new L r (in_effect_after L (Request r) r effective).1) (reply_is_plain sums.genesis (L ++ Request r ∷ []) r.client r.number a asked told),
       record { genesis = sums.genesis; first = first; asked = asked; whole = behind sums.genesis L sums.whole },
     )
   where

@@ -9,7 +9,7 @@ pub record IsReply (L : List Command) (client number : ℕ) (answer : Answer) : 
   pub place : Placed
   pub stands : Contains (placed L) place
   pub request : RequestValue
-  pub counts : in_effect place.before place.entry ≡ Some request
+  pub effective : in_effect place.before place.entry ≡ Some request
   pub of_client : request.client ≡ client
   pub of_number : request.number ≡ number
   pub answered : table_answer request.client request.op (table_of place.before) ≡ Some answer

@@ -72,7 +72,7 @@ module _ (m : Meaning) (genesis : Genesis) (L : List Command) (client number : �
             before = omega (arith, length-append L (Request r ∷ []));
             of_client = eqb-true r.client client parts.0;
             of_number = eqb-true r.number number parts.1;
-            counts = (get_last L (Request r), ap (λ k. in_effect (take k (L ++ Request r ∷ [])) (Request r)) (less_one (length L)) ∙ ap (λ l. in_effect l (Request r)) (take-append_seam L (Request r ∷ [])) ∙ rw all refl);
+            effective = (get_last L (Request r), ap (λ k. in_effect (take k (L ++ Request r ∷ [])) (Request r)) (less_one (length L)) ∙ ap (λ l. in_effect l (Request r)) (take-append_seam L (Request r ∷ [])) ∙ rw all refl);
           })
     ]
   ]
@@ -88,7 +88,7 @@ module _ (m : Meaning) (genesis : Genesis) (L : List Command) (client number : �
         before = omega (arith, k.before, length-append L (c ∷ []));
         of_client = k.of_client;
         of_number = k.of_number;
-        counts = effective_longer L (c ∷ []) k.place k.request k.counts;
+        effective = effective_longer L (c ∷ []) k.place k.request k.effective;
       }
   effect_found Noop None a earlier e = absurd cc
   effect_found (Request r) None a earlier e = last_takes_effect r a e
@@ -152,7 +152,7 @@ module _ (m : Meaning) (genesis : Genesis) (sent : List Datagram) (sound : Sound
         before = omega (arith, k.before, ends_before p.under L p.chosen l i r c.0 none);
         of_client = k.of_client;
         of_number = k.of_number;
-        counts = subst (λ z. IsEffectiveAt z k.place k.request) b.1 (effective_longer p.under b.0 k.place k.request k.counts);
+        effective = subst (λ z. IsEffectiveAt z k.place k.request) b.1 (effective_longer p.under b.0 k.place k.request k.effective);
       }
 
 -- ---- it stays so
