@@ -211,8 +211,9 @@ impl<M: Machine> Whole<M> {
             return Ok(None);
         }
         let answer = self.run_op(request.client, &request.op)?;
-        self.keep(&Session::of(request, answer));
-        Ok(Some(answer))
+        let session = Session::of(request, answer);
+        self.keep(&session);
+        Ok(Some(session.answer))
     }
 
     /// One position on with nothing that takes effect.
