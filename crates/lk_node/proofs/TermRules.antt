@@ -34,7 +34,7 @@ use Rattle.lk_node.proofs.Serving.{rests_here}
 
 -- ---- the view's term changes
 
-knows_alike : (w : View) (t : Option Term) (e : Entry) → IsKnown w e → IsKnown (changes.with_term w t) e
+knows_alike : (w : View) (t : Option Term) (e : Entry) → IsKnown w e → IsKnown (changes.view_in w t) e
 knows_alike w t (entry.Promise b) k = k
 knows_alike w t (entry.Vote x) k = k
 knows_alike w t (entry.Decided i c) k = k
@@ -47,11 +47,11 @@ some_value a b e = cc e
 
 -- a term of the same ballot that has all proposals of the one before, and for which the leader stands
 pub term_followed : (m : Meaning) (h : History) (n : ℕ) (old : NodeValue) (x : Holding) (t u : Term) (k : TermValue) → IsHeld m old h.genesis x → HoldingFits m h n x → IsLawful m h → x.view.term ≡ Some t
-    → Changes h.genesis h.sent n x.view (changes.with_term x.view (Some u)) → LeadsTerm old.learner.whole.roster.executed (length old.learner.whole.roster.sets) u k → u.ballot ≡ t.ballot
+    → Changes h.genesis h.sent n x.view (changes.view_in x.view (Some u)) → LeadsTerm old.learner.whole.roster.executed (length old.learner.whole.roster.sets) u k → u.ballot ≡ t.ballot
     → ((p : Pair) → Contains t.proposals p → Contains u.proposals p) → ((i : ℕ) (v : Command) → Contains u.proposals (i, v) → WasAsked h v)
     → IsFollowed m h n x.view (with_leader old (with_term k old.leader))
 term_followed m h n old x t u k held fits lawful is change stands ballot grows asked = record {
-  holding = record { view = changes.with_term x.view (Some u); waiting = x.waiting; gathered = x.gathered };
+  holding = record { view = changes.view_in x.view (Some u); waiting = x.waiting; gathered = x.gathered };
   held = record {
     acceptor = held.acceptor;
     follows = held.follows;
@@ -60,7 +60,7 @@ term_followed m h n old x t u k held fits lawful is change stands ballot grows a
     gathered = held.gathered;
   };
   fits = record {
-    view = change_fits h.genesis h.sent lawful.sound n x.view (changes.with_term x.view (Some u)) fits.view change;
+    view = change_fits h.genesis h.sent lawful.sound n x.view (changes.view_in x.view (Some u)) fits.view change;
     waiting = fits.waiting;
     proposals = λ w at i v c. asked i v (subst (λ (y : Term). Contains y.proposals (i, v)) (sym (some_term u w at)) c);
     gathered = fits.gathered;
