@@ -5,7 +5,8 @@ Usage: bench/steps.py [--times N] [PROGRAM ..]
 
 It asks for valgrind, whose callgrind counts instructions: the same for the same program and script, whatever else the machine does. A script of world mode
 brings three nodes to where a datagram of the kind was sent; then it is delivered N times more (1,000 if not given), and 2 N times more, and the
-difference is that of N lines of a script, N steps and what they send. Each PROGRAM is measured on the same scripts; the built one if none is named.
+difference is that of N lines of a script, N steps and what they send. What a node wants it wants once: there the node is stopped before each delivery, which leaves
+nothing of the one before it, and restarted, and what these two lines take by themselves is subtracted. Each PROGRAM is measured on the same scripts; the built one if none is named.
 """
 import argparse
 import re
@@ -44,14 +45,14 @@ def last(program, lines, here, there, kind):
 
 
 def cases(program):
-    """For each kind its script, and the line that is repeated."""
+    """For each kind its script, the line that is repeated, and those that stand before it each time."""
     begun = ["genesis 5 16 1:7001 2:7002 3:7003", "start 1", "start 2", "start 3", "tick 1 4"]
     elected = settled(program, begun, {1, 2, 3})
-    yield "Prepare", elected, last(program, elected, 1, 2, "prepare")
+    yield "Prepare", elected, last(program, elected, 1, 2, "prepare"), []
     asked = settled(program, [*elected, "client 1 7 1 acquire db"], {1, 2, 3})
-    yield "Request, answered before", asked, last(program, asked, 0, 1, "request")
-    yield "Accept", asked, last(program, asked, 1, 2, "accept")
-    yield "Accepted", asked, last(program, asked, 2, 1, "accepted")
+    yield "Request, answered before", asked, last(program, asked, 0, 1, "request"), []
+    yield "Accept", asked, last(program, asked, 1, 2, "accept"), []
+    yield "Accepted", asked, last(program, asked, 2, 1, "accepted"), []
     many = elected
     for client in range(1, 33):
         many = settled(program, [*many, f"client 1 {client} 1 acquire name-{client}"], {1, 2})
@@ -59,10 +60,11 @@ def cases(program):
     told += [last(program, told, 1, 3, "lead")]
     told += [last(program, told, 3, 1, "want")]
     told += [last(program, told, 1, 3, "decided")]
-    yield "Decided with 16 commands", told, told[-1]
+    yield "Decided with 16 commands, which the node has", told, told[-1], []
+    yield "Decided with 16 commands, which the node wants", told, told[-1], ["stop 3 0 0", "restart 3"]
     ballot = [*many, "tick 3 12"]
     ballot += [last(program, ballot, 3, 2, "prepare")]
-    yield "Promise with 32 votes", ballot, last(program, ballot, 2, 3, "promise")
+    yield "Promise with 32 votes", ballot, last(program, ballot, 2, 3, "promise"), []
 
 
 def instructions(program, lines):
@@ -72,15 +74,23 @@ def instructions(program, lines):
     return int(re.search(r"Collected : (\d+)", done.stderr)[1])
 
 
+def step(program, lines, line, before, times):
+    """How many instructions it takes for the line, each time after those before it."""
+
+    def of(repeated):
+        return instructions(program, lines + repeated * 2 * times) - instructions(program, lines + repeated * times) if repeated else 0
+
+    return (of([*before, line]) - of(before)) / times
+
+
 def main():
     parser = argparse.ArgumentParser(description="Counts the instructions of a step, by the kind of datagram.")
     parser.add_argument("--times", type=int, default=1000, help="how often each is delivered, 1000 if not given")
     parser.add_argument("program", nargs="*", help="the programs; the wrapper builds one if none is given")
     args = parser.parse_args()
     programs = args.program or [built()]
-    for kind, lines, repeated in cases(programs[0]):
-        counts = [instructions(it, lines + [repeated] * 2 * args.times) - instructions(it, lines + [repeated] * args.times) for it in programs]
-        print(f"{kind}: {', '.join(f'{count / args.times:,.0f}' for count in counts)} instructions", flush=True)
+    for kind, *case in cases(programs[0]):
+        print(f"{kind}: {', '.join(f'{step(it, *case, args.times):,.0f}' for it in programs)} instructions", flush=True)
 
 
 if __name__ == "__main__":
