@@ -26,17 +26,22 @@ pub struct Question {
     pub request: Request,
 }
 
+/// The bytes of a message.
+fn written(alloc: Global, message: &Message) -> Result<BytesMut, ServiceFault> {
+    let mut bytes = BytesMut::new(alloc);
+    match write(message, &mut bytes) {
+        Ok(()) => Ok(bytes),
+        Err(_) => Err(ServiceFault::NoMemory),
+    }
+}
+
 /// The bytes of the request.
 pub fn datagram(alloc: Global, question: &Question) -> Result<BytesMut, ServiceFault> {
     let message = Message {
         cluster: question.cluster,
         content: Content::Request(question.request.copy()),
     };
-    let mut bytes = BytesMut::new(alloc);
-    if write(&message, &mut bytes).is_err() {
-        return Err(ServiceFault::NoMemory);
-    }
-    Ok(bytes)
+    written(alloc, &message)
 }
 
 /// What comes next to a client that has asked.

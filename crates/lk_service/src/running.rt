@@ -69,28 +69,55 @@ pub fn revive<M: Machine, D: LogDisk + Drop, S: Datagrams + Drop, L: Log>(
     }
 }
 
+/// The files of a folder as a device.
+type FolderDisk = FileDisk<SystemFile<File>>;
+
 /// A node on the files of a folder, and its socket.
-type FolderServer<M> = Server<Replica<M, FileDisk<SystemFile<File>>>, LocalSocket>;
+type FolderServer<M> = Server<Replica<M, FolderDisk>, LocalSocket>;
+
+/// The replica that is taken up from the files of a folder. Where a file fails a line tells why.
+fn take_up_folder<M: Machine, L: Log, E: Write>(
+    alloc: Global,
+    plan: &NodePlan<'_>,
+    device: FolderDisk,
+    log: &L,
+    err: &mut E,
+) -> Result<Replica<M, FolderDisk>, ServiceFault> {
+    match take_up::<M, FolderDisk, L>(alloc, &plan.header, device, log) {
+        Ok(replica) => Ok(replica),
+        Err(refused) => {
+            let fault = ServiceFault::of_replica(&refused.fault);
+            Err(tell_device(fault, &refused.device, plan.folder, err))
+        }
+    }
+}
 
 /// The server of a node of a folder. Where a file fails a line tells why.
 fn revive_folder<M: Machine, L: Log, E: Write>(
     alloc: Global,
     plan: &NodePlan<'_>,
-    device: FileDisk<SystemFile<File>>,
+    device: FolderDisk,
     socket: LocalSocket,
     log: &L,
     err: &mut E,
 ) -> Result<FolderServer<M>, ServiceFault> {
-    match take_up::<M, _, L>(alloc, &plan.header, device, log) {
-        Ok(replica) => {
-            let header = &plan.header;
-            let cluster = header.genesis().cluster;
-            Ok(Server::new(alloc, cluster, header.node(), replica, socket))
-        }
-        Err(refused) => {
-            let fault = ServiceFault::of_replica(&refused.fault);
-            Err(tell_device(fault, &refused.device, plan.folder, err))
-        }
+    let replica = take_up_folder::<M, L, E>(alloc, plan, device, log, err)?;
+    let header = &plan.header;
+    let cluster = header.genesis().cluster;
+    Ok(Server::new(alloc, cluster, header.node(), replica, socket))
+}
+
+/// Takes one turn. Where a file fails a line tells why.
+fn take_turn<M: Machine, L: Log, E: Write>(
+    server: &mut FolderServer<M>,
+    ear: &mut Ear,
+    folder: &str,
+    log: &L,
+    err: &mut E,
+) -> Result<(), ServiceFault> {
+    match node_turn(server, ear, log) {
+        Ok(()) => Ok(()),
+        Err(fault) => Err(tell_device(fault, server.replica().device(), folder, err)),
     }
 }
 
@@ -103,9 +130,7 @@ fn take_turns<M: Machine, L: Log, E: Write>(
 ) -> Result<(), ServiceFault> {
     let mut ear = Ear::new();
     for _ in 0..TURNS {
-        if let Err(fault) = node_turn(server, &mut ear, log) {
-            return Err(tell_device(fault, server.replica().device(), folder, err));
-        }
+        take_turn::<M, L, E>(server, &mut ear, folder, log, err)?;
     }
     Ok(())
 }
