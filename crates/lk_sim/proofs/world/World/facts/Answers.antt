@@ -2,8 +2,8 @@ use Rattle.lk_sim.proofs.Explaining.{explains, agree, states, ordered}
 use Rattle.lk_sim.proofs.Keeping.{room, covered, kept}
 use Rattle.lk_sim.proofs.world.World.facts.Goals as goal
 
-pub returns : goal.returns
-returns g c =
+pub returns-clause-promised : goal.returns-clause-promised
+returns-clause-promised g c =
     let p = c.self.inside.parts in
     let w = c.self.invariant in
     rw (← c.self.view_is) (record {
