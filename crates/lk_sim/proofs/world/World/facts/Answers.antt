@@ -2,11 +2,11 @@ use Rattle.lk_sim.proofs.Explaining.{explains, agree, states, ordered}
 use Rattle.lk_sim.proofs.Keeping.{room, covered, kept}
 use Rattle.lk_sim.proofs.world.World.facts.Goals as goal
 
-pub returns-clause-promised : goal.returns-clause-promised
-returns-clause-promised g c =
+pub returns : goal.returns
+returns g c =
     let p = c.self.inside.parts in
     let w = c.self.invariant in
-    rw (← c.self.view_is) (record {
+    record { promised = rw (← c.self.view_is) (record {
       explained = (w.list, w.chosen, explains _ _ _ p.genesis p.seats.items p.sent.items p.trace.items w);
       agree = agree _ _ _ p.genesis p.seats.items p.sent.items p.trace.items w;
       told = w.told;
@@ -15,4 +15,4 @@ returns-clause-promised g c =
       kept = λ L i v chosen. kept _ _ _ p.genesis p.seats.items p.sent.items p.trace.items w L chosen i v;
       order = ordered _ _ _ p.genesis p.seats.items p.sent.items p.trace.items w;
       room = room _ _ _ p.genesis p.seats.items p.sent.items p.trace.items w;
-    })
+    }) }
