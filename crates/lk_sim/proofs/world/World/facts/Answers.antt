@@ -6,13 +6,15 @@ pub returns : goal.returns
 returns g c =
     let p = c.self.inside.parts in
     let w = c.self.invariant in
-    record { promised = rw (← c.self.view_is) (record {
-      explained = (w.list, w.chosen, explains _ _ _ p.genesis p.seats.items p.sent.items p.trace.items w);
-      agree = agree _ _ _ p.genesis p.seats.items p.sent.items p.trace.items w;
-      told = w.told;
-      states = states _ _ _ p.genesis p.seats.items p.sent.items p.trace.items w _ g.met.R.MemoryReplica.sums_up;
-      covered = covered _ _ _ p.genesis p.seats.items p.sent.items p.trace.items w;
-      kept = λ L i v chosen. kept _ _ _ p.genesis p.seats.items p.sent.items p.trace.items w L chosen i v;
-      order = ordered _ _ _ p.genesis p.seats.items p.sent.items p.trace.items w;
-      room = room _ _ _ p.genesis p.seats.items p.sent.items p.trace.items w;
-    }) }
+    record {
+      promised = rw (← c.self.view_is) (record {
+        explained = (w.list, w.chosen, explains _ _ _ p.genesis p.seats.items p.sent.items p.trace.items w);
+        agree = agree _ _ _ p.genesis p.seats.items p.sent.items p.trace.items w;
+        told = w.told;
+        states = states _ _ _ p.genesis p.seats.items p.sent.items p.trace.items w _ g.met.R.MemoryReplica.sums_up;
+        covered = covered _ _ _ p.genesis p.seats.items p.sent.items p.trace.items w;
+        kept = λ L i v chosen. kept _ _ _ p.genesis p.seats.items p.sent.items p.trace.items w L chosen i v;
+        order = ordered _ _ _ p.genesis p.seats.items p.sent.items p.trace.items w;
+        room = room _ _ _ p.genesis p.seats.items p.sent.items p.trace.items w;
+      });
+    }
