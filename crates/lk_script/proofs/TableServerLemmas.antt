@@ -18,11 +18,14 @@ use Rattle.lk_state.specs.Sessions.{session_of, is_new}
 use Rattle.lk_state.specs.States.{WholeValue, op_answer, session_in, text_of, reply, reply_of, last_served, whole_after, SumsUp as StandsFor}
 use Rattle.lk_state.specs.Runs.{seen_as}
 use Rattle.lk_state.specs.declared.session.Session.{Session}
+use Rattle.lk_state.specs.declared.whole.Seen.{Seen}
 use Rattle.lk_state.specs.declared.whole.Seen.TheVariants as seen
-use Rattle.lk_state.proofs.Wholes.{seen_last, takes_effect_above_last, last_is_greatest, last_is_replied, replies_stand}
+use Rattle.lk_state.proofs.Wholes.{same_is, passed_is, seen_last, takes_effect_above_last, last_is_greatest, last_is_replied, replies_stand}
 use Rattle.lk_locks.specs.Lists.{table_of, table_answer}
 use Rattle.lk_locks.specs.Meaning.{table_meaning}
 use Rattle.lk_locks.proofs.Tables.{answer-text_of}
+use Rattle.lk_node.specs.KeptReplies.{kept_reply}
+use Rattle.lk_node.proofs.Nodes.{answer_same, passed_same}
 use Rattle.lk_script.specs.Replies.{IsReply, with_request}
 use Rattle.lk_script.specs.TableMode.{is_for_table, Replies}
 use Rattle.lk_script.specs.TableMode.Replies.{answers, passes}
@@ -94,38 +97,6 @@ reply_is_plain genesis L client number a asked e =
     let found = replies_stand table_meaning genesis L client number a e in
     reply_at genesis L asked found.0 found.1 client number a (in_effect found.0.before found.0.entry) refl found.2
 
--- ---- where a number stands to the client's last one
-
-same_is : (o : Option Session) (number : ℕ) (a : Answer) → seen_as o number ≡ seen.Same a → (s : Session) × (o ≡ Some s) × (number ≡ s.number) × (s.answer ≡ a)
-same_is None number a e = absurd cc
-same_is (Some s) number a e =
-    elim (cases_Bool (eqb number s.number)) [
-      | inl equal ↦ (s, refl, eqb-true number s.number equal, answered (rw equal at e))
-      | inr other ↦
-          elim (cases_Bool (nat_lt number s.number)) [
-            | inl below ↦ let bad : seen.Passed s.number ≡ seen.Same a = rw (other, below) at e in absurd cc
-            | inr above ↦ let bad : seen.New ≡ seen.Same a = rw (other, above) at e in absurd cc
-          ]
-    ]
-  where
-    answered : seen.Same s.answer ≡ seen.Same a → s.answer ≡ a
-    answered e = cc
-
-passed_is : (o : Option Session) (number last : ℕ) → seen_as o number ≡ seen.Passed last → (s : Session) × (o ≡ Some s) × (s.number ≡ last) × (number < s.number)
-passed_is None number last e = absurd cc
-passed_is (Some s) number last e =
-    elim (cases_Bool (eqb number s.number)) [
-      | inl equal ↦ let bad : seen.Same s.answer ≡ seen.Passed last = rw equal at e in absurd cc
-      | inr other ↦
-          elim (cases_Bool (nat_lt number s.number)) [
-            | inl below ↦ (s, refl, passed (rw (other, below) at e), ltb-true number s.number below)
-            | inr above ↦ let bad : seen.New ≡ seen.Passed last = rw (other, above) at e in absurd cc
-          ]
-    ]
-  where
-    passed : seen.Passed s.number ≡ seen.Passed last → s.number ≡ last
-    passed e = cc
-
 -- ---- a request that does not take effect adds nothing
 
 module _ (L : List Command) (r : RequestValue) (server : TableServer) (sums : HasServed L server) where
@@ -158,6 +129,19 @@ module _ (L : List Command) (r : RequestValue) (server : TableServer) (sums : Ha
       let greatest = last_is_greatest table_meaning sums.genesis L r.client s.0 (last ∙ s.1) in
       unchanged (message.Passed (record { client = r.client; number = r.number; last = number })) s.0 s.1 (omega (arith, s.3))
       (passes number (subst (IsLast L r.client) s.2 greatest) (subst (λ (n : ℕ). r.number < n) s.2 s.3))
+
+  -- either of them
+  pub kept : (told : NodeMessage) → kept_reply r.client r.number (seen_as (session_of r.client server.whole.sessions) r.number) ≡ Some told
+      → Replies (with_request L r) r told × HasServed (with_request L r) server
+  kept told e = by_seen (seen_as (session_of r.client server.whole.sessions) r.number) refl e
+    where
+      Comes : NodeMessage → Type 0
+      Comes m = Replies (with_request L r) r m × HasServed (with_request L r) server
+
+      by_seen : (x : Seen) → seen_as (session_of r.client server.whole.sessions) r.number ≡ x → kept_reply r.client r.number x ≡ Some told → Comes told
+      by_seen seen.New is same = absurd (cc same)
+      by_seen (seen.Same a) is same = subst Comes (answer_same r.client r.number a told same) (again a is)
+      by_seen (seen.Passed number) is same = subst Comes (passed_same r.client r.number number told same) (passed number is)
 
 -- ---- a request that takes effect goes to the end
 
