@@ -12,7 +12,7 @@ use Rattle.lk_state.specs.States.{WholeValue, SumsUp, reply}
 use Rattle.lk_state.specs.declared.session.Session.{Session}
 use Rattle.lk_state.specs.declared.whole.Seen.{Seen}
 use Rattle.lk_state.specs.declared.whole.Seen.TheVariants as seen
-use Rattle.lk_state.proofs.Wholes.{last_is_replied, seen_last}
+use Rattle.lk_state.proofs.Wholes.{same_is, passed_is, last_is_replied, seen_last}
 use Rattle.lk_leader.specs.Terms.{TermValue}
 use Rattle.lk_leader.specs.Waits.{newer, asked}
 use Rattle.lk_node.specs.Asking.{with_waiting, leader_in, PointsTo, TakesNew, TakesAs, HearsRequest}
@@ -25,37 +25,7 @@ use Rattle.lk_node.proofs.Changing.{change_goes_on}
 use Rattle.lk_node.proofs.LevelRules.{idles, alone_goes_on}
 use Rattle.lk_node.proofs.Lists.{cons_cases, contains_more, only}
 
--- ---- where a number stands to the client's last one
-
-pub same_is : (o : Option Session) (number : ℕ) (a : Answer) → seen_as o number ≡ seen.Same a → (s : Session) × (o ≡ Some s) × (number ≡ s.number) × (s.answer ≡ a)
-same_is None number a e = absurd cc
-same_is (Some s) number a e =
-    elim (cases_Bool (eqb number s.number)) [
-      | inl equal ↦ (s, refl, eqb-true number s.number equal, answered (rw equal at e))
-      | inr other ↦
-          elim (cases_Bool (nat_lt number s.number)) [
-            | inl below ↦ let bad : seen.Passed s.number ≡ seen.Same a = rw (other, below) at e in absurd cc
-            | inr above ↦ let bad : seen.New ≡ seen.Same a = rw (other, above) at e in absurd cc
-          ]
-    ]
-  where
-    answered : seen.Same s.answer ≡ seen.Same a → s.answer ≡ a
-    answered e = cc
-
-pub passed_is : (o : Option Session) (number last : ℕ) → seen_as o number ≡ seen.Passed last → (s : Session) × (o ≡ Some s) × (s.number ≡ last) × (number < s.number)
-passed_is None number last e = absurd cc
-passed_is (Some s) number last e =
-    elim (cases_Bool (eqb number s.number)) [
-      | inl equal ↦ let bad : seen.Same s.answer ≡ seen.Passed last = rw equal at e in absurd cc
-      | inr other ↦
-          elim (cases_Bool (nat_lt number s.number)) [
-            | inl below ↦ (s, refl, passed (rw (other, below) at e), ltb-true number s.number below)
-            | inr above ↦ let bad : seen.New ≡ seen.Passed last = rw (other, above) at e in absurd cc
-          ]
-    ]
-  where
-    passed : seen.Passed s.number ≡ seen.Passed last → s.number ≡ last
-    passed e = cc
+-- ---- what the client's last request was replied
 
 module _ (m : Meaning) (genesis : Genesis) (done : List Command) (w : WholeValue) (client : ℕ) (sums : SumsUp m genesis done w) where
   last : (s : Session) → session_of client w.sessions ≡ Some s → reply m genesis done client s.number ≡ Some s.answer

@@ -7,6 +7,7 @@ mod Proposals
 mod AcceptorRules
 mod LevelRules
 mod AskingRules
+mod ReplyRules
 mod LearnerRules
 mod ExecutionRules
 mod Decisions

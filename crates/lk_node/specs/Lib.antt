@@ -13,6 +13,7 @@ pub mod Serving
 pub mod Yielding
 pub mod Replying
 pub mod CatchingUp
+pub mod KeptReplies
 pub mod Asking
 pub mod Answering
 pub mod Steps

@@ -4,12 +4,13 @@ ghost use Rattle.lk_node.specs.Asking.{leader_in, PointsTo, TakesNew, HearsReque
 ghost use Rattle.lk_node.specs.Outboxes.{nothing};
 ghost use Rattle.lk_node.specs.Serving.{GoesOn};
 
+use crate::kept_reply::kept_reply;
 use crate::node::Node;
 use crate::outbox::Outbox;
 use crate::to::To;
-use lk_state::{Machine, Seen};
+use lk_state::Machine;
 use lk_types::{ClientNo, Member, NoMemory, Request};
-use lk_wire::{Answered, Elsewhere, NodeMessage, Passed};
+use lk_wire::{Elsewhere, NodeMessage};
 
 impl<M: Machine> Node<M> {
     // The known leader with the port that the window gives it, where the window names it.
@@ -55,14 +56,9 @@ impl<M: Machine> Node<M> {
         ensures { IfOk result (λ o. HearsRequest self.old request.now self.new o) }
     {
         let (client, number) = (request.client, request.number);
-        let reply = match self.learner.whole().seen(client, number) {
-            Seen::New => return self.take_new(request),
-            Seen::Same(answer) => NodeMessage::Answer(Answered {
-                client,
-                number,
-                answer,
-            }),
-            Seen::Passed(last) => { NodeMessage::Passed(Passed::of(client, number, last).unwrap()) }
+        let seen = self.learner.whole().seen(client, number);
+        let Some(reply) = kept_reply(client, number, seen) else {
+            return self.take_new(request);
         };
         let out = self.say_alone(To::Client(client), reply)?;
         Ok(out)

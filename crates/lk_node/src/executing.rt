@@ -1,28 +1,24 @@
 // What a node executes, and which clients it answers by that.
-ghost use Rattle.std.specs.Prelude.{◌≡◌, IfOk, OnOk};
+ghost use Rattle.std.specs.Prelude.{◌≡◌, ◌≤◌, IfOk, OnOk};
 ghost use Rattle.lk_node.specs.Executing.{told, Settles, SettlesAny, session_by, RunsNext, has_term, is_outside, while_named, ExecutesOne, RunsAll};
 ghost use Rattle.lk_node.specs.Serving.{GoesOn};
 
+use crate::kept_reply::kept_reply;
 use crate::node::Node;
 use crate::note::Note;
 use crate::outbox::Outbox;
 use crate::to::To;
-use lk_state::{Machine, Ran, Session};
+use lk_state::{Machine, Ran, Seen, Session};
 use lk_types::{Answer, Command, NoMemory, RequestNumber};
-use lk_wire::{Answered, NodeMessage, Passed};
+use lk_wire::NodeMessage;
 
 // What the client's waiting request of this number is told, once the session's was executed.
 fn told(session: Session, number: RequestNumber) -> NodeMessage
+    requires { number ≤ session.number }
     ensures { result ≡ told session number }
 {
-    match Passed::of(session.client, number, session.number) {
-        Some(passed) => NodeMessage::Passed(passed),
-        None => NodeMessage::Answer(Answered {
-            client: session.client,
-            number,
-            answer: session.answer,
-        }),
-    }
+    let seen = Seen::of(Some(session), number);
+    kept_reply(session.client, number, seen).unwrap()
 }
 
 impl<M: Machine> Node<M> {

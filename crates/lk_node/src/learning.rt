@@ -1,10 +1,10 @@
 // What a node learns of the list.
-ghost use Rattle.std.specs.Prelude.{◌≡◌, ℕ, ◌+◌, ◌≤◌, length, IfOk, OnOk};
+ghost use Rattle.std.specs.Prelude.{◌≡◌, ℕ, ◌+◌, ◌≤◌, None, [], length, IfOk, IfSome, OnOk};
 ghost use Rattle.lk_types.specs.Limits.{max_count};
 ghost use Rattle.lk_wire.specs.declared.message.NodeMessage.TheVariants as kinds;
 ghost use Rattle.lk_history.specs.Chosen.{ChosenAt};
 ghost use Rattle.lk_history.specs.Datagrams.{HasSent};
-ghost use Rattle.lk_node.specs.DecidedPairs.{TakesPair, TakesPairs};
+ghost use Rattle.lk_node.specs.DecidedPairs.{TakesPair, TakesFirst, TakesPairs};
 ghost use Rattle.lk_node.specs.Learning.{Learns};
 ghost use Rattle.lk_node.specs.Outboxes.{nothing};
 ghost use Rattle.lk_node.specs.Serving.{GoesOn};
@@ -13,7 +13,7 @@ use crate::node::Node;
 use crate::outbox::Outbox;
 use lk_state::Machine;
 use lk_types::{Command, Entry, NoMemory, Position};
-use lk_wire::{CommandRef, DecidedRef};
+use lk_wire::{Commands, DecidedRef};
 
 // The position that lies so far after the first.
 fn position_behind(first: Position, offset: usize) -> Position
@@ -55,20 +55,26 @@ impl<M: Machine> Node<M> {
         Ok(())
     }
 
-    // A command is told that is decided at the position. It is read only where it is wanted.
-    fn hear_pair(
+    // The first of the commands that are told is decided at the position, and the others are still to be heard. It is read
+    // where it is wanted, and else stepped over.
+    fn hear_first<'a>(
         &mut self,
         position: Position,
-        told: &CommandRef<'_>,
+        told: &Commands<'a>,
         out: &mut Outbox,
-    ) -> Result<(), NoMemory>
-        ensures exact { OnOk result (TakesPair M.meaning (position, told.now) self.old out.old self.new out.new) }
-        ensures goes_on { OnOk result (GoesOn M.meaning (λ h. ChosenAt h.genesis h.sent position told.now) self.old self.new out.old out.new) }
+    ) -> Result<Option<Commands<'a>>, NoMemory>
+        ensures some { IfOk result (λ x. IfSome x (λ others. TakesFirst M.meaning position told.now others self.old out.old self.new out.new)) }
+        ensures none { IfOk result (λ x. x ≡ None → told.now ≡ []) }
     {
         if !self.learner.is_wanted(position) {
-            return self.execute(out);
+            self.execute(out)?;
+            return Ok(told.skip());
         }
-        self.take_pair(position, &told.command(), out)
+        let Some((command, others)) = told.read() else {
+            return Ok(None);
+        };
+        self.take_pair(position, &command, out)?;
+        Ok(Some(others))
     }
 
     /// Decided commands are told: they are taken in order.
@@ -80,12 +86,11 @@ impl<M: Machine> Node<M> {
         let mut out = Outbox::new(self.alloc);
         let mut rest = decided.commands().copy();
         'pairs: for index in 0..decided.commands().len() {
-            let Some(next) = rest.next() else {
+            let position = position_behind(decided.first(), index);
+            let Some(others) = self.hear_first(position, &rest, &mut out)? else {
                 return Ok(out);
             };
-            let position = position_behind(decided.first(), index);
-            self.hear_pair(position, &next.0, &mut out)?;
-            rest = next.1;
+            rest = others;
         }
         Ok(out)
     }

@@ -10,6 +10,7 @@ mod deciding;
 mod executing;
 mod input;
 mod installing;
+mod kept_reply;
 mod leading;
 mod learning;
 mod letter;
@@ -29,6 +30,7 @@ mod to;
 mod yielding;
 
 pub use input::Input;
+pub use kept_reply::kept_reply;
 pub use letter::Letter;
 pub use node::{Halted, Node};
 pub use note::Note;

@@ -19,7 +19,7 @@ use Rattle.lk_state.specs.States.{WholeValue, op_answer, session_in, text_of, re
 use Rattle.lk_state.specs.Runs.{seen_as}
 use Rattle.lk_state.specs.declared.session.Session.{Session}
 use Rattle.lk_state.specs.declared.whole.Seen.TheVariants as seen
-use Rattle.lk_state.proofs.Wholes.{seen_last, takes_effect_above_last, last_is_greatest, last_is_replied, replies_stand}
+use Rattle.lk_state.proofs.Wholes.{same_is, passed_is, seen_last, takes_effect_above_last, last_is_greatest, last_is_replied, replies_stand}
 use Rattle.lk_locks.specs.Lists.{table_of, table_answer}
 use Rattle.lk_locks.specs.Meaning.{table_meaning}
 use Rattle.lk_locks.proofs.Tables.{answer-text_of}
@@ -93,38 +93,6 @@ reply_is_plain : (genesis : Genesis) (L : List Command) (client number : ℕ) (a
 reply_is_plain genesis L client number a asked e =
     let found = replies_stand table_meaning genesis L client number a e in
     reply_at genesis L asked found.0 found.1 client number a (in_effect found.0.before found.0.entry) refl found.2
-
--- ---- where a number stands to the client's last one
-
-same_is : (o : Option Session) (number : ℕ) (a : Answer) → seen_as o number ≡ seen.Same a → (s : Session) × (o ≡ Some s) × (number ≡ s.number) × (s.answer ≡ a)
-same_is None number a e = absurd cc
-same_is (Some s) number a e =
-    elim (cases_Bool (eqb number s.number)) [
-      | inl equal ↦ (s, refl, eqb-true number s.number equal, answered (rw equal at e))
-      | inr other ↦
-          elim (cases_Bool (nat_lt number s.number)) [
-            | inl below ↦ let bad : seen.Passed s.number ≡ seen.Same a = rw (other, below) at e in absurd cc
-            | inr above ↦ let bad : seen.New ≡ seen.Same a = rw (other, above) at e in absurd cc
-          ]
-    ]
-  where
-    answered : seen.Same s.answer ≡ seen.Same a → s.answer ≡ a
-    answered e = cc
-
-passed_is : (o : Option Session) (number last : ℕ) → seen_as o number ≡ seen.Passed last → (s : Session) × (o ≡ Some s) × (s.number ≡ last) × (number < s.number)
-passed_is None number last e = absurd cc
-passed_is (Some s) number last e =
-    elim (cases_Bool (eqb number s.number)) [
-      | inl equal ↦ let bad : seen.Same s.answer ≡ seen.Passed last = rw equal at e in absurd cc
-      | inr other ↦
-          elim (cases_Bool (nat_lt number s.number)) [
-            | inl below ↦ (s, refl, passed (rw (other, below) at e), ltb-true number s.number below)
-            | inr above ↦ let bad : seen.New ≡ seen.Passed last = rw (other, above) at e in absurd cc
-          ]
-    ]
-  where
-    passed : seen.Passed s.number ≡ seen.Passed last → s.number ≡ last
-    passed e = cc
 
 -- ---- a request that does not take effect adds nothing
 

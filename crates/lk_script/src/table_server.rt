@@ -12,9 +12,10 @@ use crate::buffers::Buffers;
 use crate::fault::LineFault;
 use crate::hex_line::read_bytes;
 use lk_locks::LockTable;
-use lk_state::{Seen, Whole};
+use lk_node::kept_reply;
+use lk_state::Whole;
 use lk_types::{Answer, Command, Genesis, Member, NoMemory, NodeNo, Op, Request};
-use lk_wire::{Answered, Bad, Content, ContentRef, Message, MessageRef, NodeMessage, Passed, view};
+use lk_wire::{Answered, Bad, Content, ContentRef, Message, MessageRef, NodeMessage, view};
 use std::alloc::Global;
 
 /// The request that a message in a datagram is, where it is one to the cluster.
@@ -101,14 +102,11 @@ impl TableServer {
         ensures paces { executed_of self.new ≤ executed_of self.old + 1 }
     {
         let (client, number) = (request.client, request.number);
-        let answer = match self.whole.seen(client, number) {
-            Seen::New => self.run(request)?,
-            Seen::Same(answer) => answer,
-            Seen::Passed(last) => {
-                let passed = Passed::of(client, number, last).unwrap();
-                return Ok(NodeMessage::Passed(passed));
-            }
-        };
+        let seen = self.whole.seen(client, number);
+        if let Some(reply) = kept_reply(client, number, seen) {
+            return Ok(reply);
+        }
+        let answer = self.run(request)?;
         Ok(NodeMessage::Answer(Answered {
             client,
             number,

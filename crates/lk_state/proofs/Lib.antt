@@ -1,5 +1,6 @@
 mod SessionLaws
 mod StateLaws
+mod SeenLaws
 mod ReplyLaws
 mod PackedLaws
 mod LengthLaws

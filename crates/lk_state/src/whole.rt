@@ -22,6 +22,24 @@ pub enum Seen {
     Passed(RequestNumber),
 }
 
+impl Seen {
+    /// Where a number stands to its client's last request that took effect.
+    pub fn of(last: Option<Session>, number: RequestNumber) -> Seen
+        ensures { result ≡ seen_as last number }
+    {
+        let Some(last) = last else {
+            return Seen::New;
+        };
+        if number == last.number {
+            return Seen::Same(last.answer);
+        }
+        if number < last.number {
+            return Seen::Passed(last.number);
+        }
+        Seen::New
+    }
+}
+
 /// A command was executed.
 #[derive(Clone, Copy, Debug, PartialEq, Eq)]
 pub struct Ran {
@@ -109,7 +127,7 @@ impl<M: Machine> Whole<M> {
         ensures value { result ≡ seen_as (session_of client self.now.sessions) number }
         ensures last { (genesis : Genesis) (L : List Command) → SumsUp M.meaning genesis L self.now → result ≡ seen_as (last_served M.meaning genesis L client) number }
     {
-        stand(self.sessions.get(client), number)
+        Seen::of(self.sessions.get(client), number)
     }
 
     /// Whether the client's request of this number takes effect.
@@ -232,20 +250,4 @@ impl<M: Machine> Whole<M> {
         self.sessions.put(session);
         let _ = self.sessions.as_slice();
     }
-}
-
-/// Where a number stands to the client's last one.
-fn stand(last: Option<Session>, number: RequestNumber) -> Seen
-    ensures { result ≡ seen_as last number }
-{
-    let Some(last) = last else {
-        return Seen::New;
-    };
-    if number == last.number {
-        return Seen::Same(last.answer);
-    }
-    if number < last.number {
-        return Seen::Passed(last.number);
-    }
-    Seen::New
 }

@@ -9,9 +9,8 @@ ghost use Rattle.lk_wire.specs.Shown.{shown_node};
 ghost use Rattle.lk_wire.specs.Values.{IsDecided, are_commands_from, is_run};
 ghost use Rattle.lk_wire.specs.Views.{commands_in, AreCommands};
 
-use crate::viewing::command::CommandRef;
 use crate::viewing::message::NodeMessageRef;
-use lk_fields::{front_of, read_position, read_u8, skip_command};
+use lk_fields::{front_of, read_command, read_position, read_u8, skip_command};
 use lk_types::limits::{MAX_COMMANDS, MAX_COUNT};
 use lk_types::{Command, NoMemory, Position};
 use std::alloc::Global;
@@ -139,15 +138,30 @@ impl<'a> Commands<'a> {
         self.count as usize
     }
 
-    /// The first of them, and the others.
-    pub fn next(&self) -> Option<(CommandRef<'a>, Commands<'a>)>
+    /// The others than the first, where there is one: it is stepped over.
+    pub fn skip(&self) -> Option<Commands<'a>>
+        ensures some { IfSome result (λ others. (c : Command) × (self.now ≡ c ∷ others)) }
+        ensures none { result ≡ None → self.now ≡ [] }
+    {
+        if self.count == 0 {
+            return None;
+        }
+        let rest = skip_command(self.bytes)?;
+        Some(Commands {
+            count: self.count - 1,
+            bytes: rest,
+        })
+    }
+
+    /// The first of them, which is read, and the others.
+    pub fn read(&self) -> Option<(Command, Commands<'a>)>
         ensures some { IfSome result (λ x. self.now ≡ x.0 ∷ x.1) }
         ensures none { result ≡ None → self.now ≡ [] }
     {
         if self.count == 0 {
             return None;
         }
-        let Some((command, rest)) = CommandRef::of(self.bytes) else {
+        let Some((command, rest)) = read_command(self.bytes) else {
             return None;
         };
         let others = Commands {
@@ -165,10 +179,10 @@ impl<'a> Commands<'a> {
         list.reserve(self.len())?;
         let mut rest = self.copy();
         for _ in 0..self.len() {
-            let Some((command, others)) = rest.next() else {
+            let Some((command, others)) = rest.read() else {
                 return Ok(list);
             };
-            list.push(command.command())?;
+            list.push(command)?;
             rest = others;
         }
         Ok(list)

@@ -16,7 +16,7 @@ pub use fault::{Bad, ReadFault};
 pub use message::{Answered, Content, Elsewhere, Message, Nack, NodeMessage, Passed, Want};
 pub use part::{Part, PartRef};
 pub use promise::{Promise, PromiseRef, Votes};
-pub use viewing::command::{CommandRef, RequestRef, VoteRef};
+pub use viewing::command::{RequestRef, VoteRef};
 pub use viewing::message::{ContentRef, MessageRef, NodeMessageRef};
 pub use viewing::{read, view};
 pub use writing::write;

@@ -1,0 +1,14 @@
+-- What a client is told of a request that is not new.
+use Rattle.std.specs.Prelude.{ℕ, nat_lt, if◌then◌else◌, Option, Some, None}
+use Rattle.lk_wire.specs.declared.message.NodeMessage.{NodeMessage}
+use Rattle.lk_wire.specs.declared.message.NodeMessage.TheVariants.{Answer, Passed}
+use Rattle.lk_state.specs.declared.whole.Seen.{Seen}
+use Rattle.lk_state.specs.declared.whole.Seen.TheVariants as seen
+
+-- the number of the client's last request gets the answer that is kept, a smaller one the last number, and a new one nothing
+abbrev pub kept_reply : ℕ → ℕ → Seen → Option NodeMessage
+kept_reply client number seen.New = None
+kept_reply client number (seen.Same answer) = Some (Answer (record { client = client; number = number; answer = answer }))
+kept_reply client number (seen.Passed last) =
+    if nat_lt number last then Some (Passed (record { client = client; number = number; last = last }))
+    else None
