@@ -1,7 +1,7 @@
 -- What is told of a store, as the list of commands says it.
 use Rattle.std.specs.Prelude.{◌≡◌, ◌+◌, List, length}
 use Rattle.std.specs.FinMap as map
-use Rattle.lk_log.specs.Values.{StandingValue}
+use Rattle.lk_entries.specs.Values.{StandingValue}
 use Rattle.lk_members.specs.Effects.{Command}
 use Rattle.lk_members.specs.Rosters.{Genesis}
 use Rattle.lk_members.specs.Windows.{sets_from}

@@ -13,8 +13,8 @@ ghost use Rattle.lk_locks.specs.Packed.{IsText};
 ghost use Rattle.lk_inspect.specs.Inspections.{CannotStand, Tells};
 
 use crate::state::state_of;
+use lk_entries::Standing;
 use lk_locks::{Name, Slot};
-use lk_log::Standing;
 use lk_members::Window;
 use lk_service::fault::ServiceFault;
 use lk_types::Executed;

@@ -12,8 +12,8 @@ ghost use Rattle.lk_locks.specs.Meaning.{table_meaning};
 ghost use Rattle.lk_locks.specs.Packed.{IsText};
 ghost use Rattle.lk_inspect.specs.Inspections.{CannotStand};
 
+use lk_entries::Standing;
 use lk_locks::LockTable;
-use lk_log::Standing;
 use lk_service::fault::ServiceFault;
 use lk_state::{Ran, Whole};
 use lk_types::{Answer, Command, NoMemory, Position};

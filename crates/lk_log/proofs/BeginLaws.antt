@@ -9,25 +9,25 @@ use Rattle.lk_fields.specs.Fields.{two, four, eight, member}
 use Rattle.lk_disk.specs.Disk.{Disk, other, contents, appended, cut_to, flushed, CutShort, MayLeave}
 use Rattle.lk_disk.specs.declared.device.Side.{Side}
 use Rattle.lk_disk.specs.declared.device.Side.TheVariants.{A, B}
-use Rattle.lk_log.specs.Headers.{IsHeader}
-use Rattle.lk_log.specs.Entries.{base, spelling, IsStored}
-use Rattle.lk_log.specs.Formats.{is_mixed}
-use Rattle.lk_log.specs.Files.{NoneBegins, is_torn, IsFile}
+use Rattle.lk_entries.specs.Headers.{IsHeader}
+use Rattle.lk_entries.specs.Entries.{base, spelling, IsStored}
+use Rattle.lk_entries.specs.Formats.{is_mixed}
+use Rattle.lk_entries.specs.Files.{NoneBegins, is_torn, IsFile}
+use Rattle.lk_entries.specs.Values.{HeaderValue}
+use Rattle.lk_entries.specs.declared.stored.Stored.{Stored}
+use Rattle.lk_entries.specs.declared.stored.Stored.TheVariants.{Base}
+use Rattle.lk_entries.proofs.Spelling.{front_begins_none}
+use Rattle.lk_entries.proofs.Mixed.{sound_rest}
+use Rattle.lk_entries.proofs.Torn.{entry_front_torn}
+use Rattle.lk_entries.proofs.Whole.{file_spelled, front_past}
+use Rattle.lk_entries.proofs.StandingLaws.{base_stands}
 use Rattle.lk_log.specs.Images.{Image, MayLeaveBoth, IsLive, IsEmpty, Narrows, seen, SameMeaning}
 use Rattle.lk_log.specs.StoreValue.{pick}
 use Rattle.lk_log.specs.Stores.{first_base, IsWrittenOver, NarrowsOrBegins, OpensOn}
-use Rattle.lk_log.specs.Values.{HeaderValue}
-use Rattle.lk_log.specs.declared.stored.Stored.{Stored}
-use Rattle.lk_log.specs.declared.stored.Stored.TheVariants.{Base}
 use Rattle.lk_log.specs.declared.verdict.Verdict.TheVariants.{Empty}
-use Rattle.lk_log.proofs.Spelling.{front_begins_none}
-use Rattle.lk_log.proofs.Mixed.{sound_rest}
-use Rattle.lk_log.proofs.Torn.{entry_front_torn}
-use Rattle.lk_log.proofs.Whole.{file_spelled, front_past}
 use Rattle.lk_log.proofs.ImageLaws.{each_side, is_live, Nothing, nothing_there, means_same}
 use Rattle.lk_log.proofs.Steps.{take_nil, left_front, take_within}
 use Rattle.lk_log.proofs.Settle.{short_front, whole_left, both_same}
-use Rattle.lk_log.proofs.StandingLaws.{base_stands}
 
 -- ---- a file that is written over
 

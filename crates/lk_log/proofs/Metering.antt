@@ -6,17 +6,17 @@ use Rattle.lk_disk.specs.Meters.{Passes, start, Breaks, Calls, is_failing, calle
 use Rattle.lk_disk.specs.declared.device.Side.{Side}
 use Rattle.lk_disk.specs.declared.meter.Meter.{Meter}
 use Rattle.lk_disk.proofs.Devices.{passes_on, breaks_on, call_passes, call_breaks}
+use Rattle.lk_entries.specs.Entries.{spelling, spelling_of_all, plain}
+use Rattle.lk_entries.proofs.Spelling.{spelled_long}
+use Rattle.lk_entries.specs.declared.stored.Stored.{Stored}
+use Rattle.lk_entries.specs.declared.stored.Stored.TheVariants.{Plain}
 use Rattle.lk_log.specs.Causes.{ComesBy, IsRefusedBy, IsMetered, calls_for, put_calls}
-use Rattle.lk_log.specs.Entries.{spelling, spelling_of_all}
 use Rattle.lk_log.specs.Images.{Image, seen}
-use Rattle.lk_log.specs.Stores.{plain, cut_calls, OpensBy, FoundLive}
+use Rattle.lk_log.specs.Stores.{cut_calls, OpensBy, FoundLive}
 use Rattle.lk_log.proofs.ImageLaws.{found_is_live}
-use Rattle.lk_log.proofs.Spelling.{spelled_long}
 use Rattle.lk_types.specs.declared.entry.Entry.{Entry}
 use Rattle.lk_log.specs.declared.fault.StoreFault.{StoreFault}
 use Rattle.lk_log.specs.declared.fault.StoreFault.TheVariants.{Device, NoMemory, Damaged, WrongStore, Failed}
-use Rattle.lk_log.specs.declared.stored.Stored.{Stored}
-use Rattle.lk_log.specs.declared.stored.Stored.TheVariants.{Plain}
 
 -- no call was made
 pub none_made : (m : Meter) (k : ℕ) → k ≡ 0 → Passes m m k

@@ -13,23 +13,24 @@ use Rattle.lk_fields.specs.Fields.{two, four, eight, member, vote, pair}
 use Rattle.lk_disk.specs.Disk.{Disk, other, contents, CutShort, MayLeave}
 use Rattle.lk_disk.specs.declared.device.Side.{Side}
 use Rattle.lk_disk.specs.declared.device.Side.TheVariants.{A, B}
-use Rattle.lk_log.specs.Headers.{IsHeader}
-use Rattle.lk_log.specs.Entries.{base, spelling, IsPair, IsStored}
-use Rattle.lk_log.specs.Files.{IsFile}
-use Rattle.lk_log.specs.Images.{Image, is_misplaced, generation, IsLive}
+use Rattle.lk_entries.specs.Headers.{IsHeader}
+use Rattle.lk_entries.specs.Entries.{base, spelling, IsPair, IsStored}
+use Rattle.lk_entries.specs.Files.{IsFile}
+use Rattle.lk_entries.specs.Bases.{is_misplaced, generation}
+use Rattle.lk_entries.specs.Values.{BaseValue}
+use Rattle.lk_entries.specs.declared.stored.Stored.{Stored}
+use Rattle.lk_entries.specs.declared.stored.Stored.TheVariants.{Base}
+use Rattle.lk_entries.proofs.EntryLaws.{len_command}
+use Rattle.lk_entries.proofs.Mixed.{mixed-two}
+use Rattle.lk_entries.proofs.Spelling.{spelled-append, all-left, all-right}
+use Rattle.lk_entries.proofs.Whole.{front, file_behind, front_file, file_spelled}
+use Rattle.lk_log.specs.Images.{Image, IsLive}
 use Rattle.lk_log.specs.StoreValue.{pick}
 use Rattle.lk_log.specs.Stores.{IsOlder, HoldsOn, MayBegin, KeepsOrIs, IsWrittenOver}
-use Rattle.lk_log.specs.Values.{BaseValue}
-use Rattle.lk_log.specs.declared.stored.Stored.{Stored}
-use Rattle.lk_log.specs.declared.stored.Stored.TheVariants.{Base}
 use Rattle.lk_log.proofs.BeginLaws.{entry_or_nothing, members_long}
-use Rattle.lk_log.proofs.EntryLaws.{len_command}
 use Rattle.lk_log.proofs.ImageLaws.{misplaced-take, generation-append, generation-take, each_side, is_live}
 use Rattle.lk_log.proofs.Settle.{all_synced, short_front}
-use Rattle.lk_log.proofs.Mixed.{mixed-two}
-use Rattle.lk_log.proofs.Spelling.{spelled-append, all-left, all-right}
 use Rattle.lk_log.proofs.Steps.{OlderImage, grows_holds, keeps_at}
-use Rattle.lk_log.proofs.Whole.{front, file_behind, front_file, file_spelled}
 
 -- ---- a standing that may be written fits into a Base
 

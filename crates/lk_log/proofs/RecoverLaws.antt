@@ -2,11 +2,12 @@
 use Rattle.std.proofs.Common.{◌≡◌, inl, inr, ℕ, false, List, length, Result, Ok, Err, IfOk, sym, ap, subst, ◌∙◌}
 use Rattle.lk_disk.specs.Disk.{Disk, other, contents}
 use Rattle.lk_disk.specs.declared.device.Side.{Side}
-use Rattle.lk_log.specs.Files.{IsFile}
-use Rattle.lk_log.specs.Images.{IsLive, IsEmpty, seen, generation}
+use Rattle.lk_entries.specs.Files.{IsFile}
+use Rattle.lk_entries.specs.Bases.{generation}
+use Rattle.lk_entries.specs.Values.{HeaderValue, StandingValue}
+use Rattle.lk_entries.specs.declared.stored.Stored.{Stored}
+use Rattle.lk_log.specs.Images.{IsLive, IsEmpty, seen}
 use Rattle.lk_log.specs.Stores.{FoundLive, IsOlder, OpensOn, Found}
-use Rattle.lk_log.specs.Values.{HeaderValue, StandingValue}
-use Rattle.lk_log.specs.declared.stored.Stored.{Stored}
 use Rattle.lk_log.specs.declared.verdict.Verdict.TheVariants.{Empty, Live}
 use Rattle.lk_log.proofs.ImageLaws.{means_same}
 

@@ -10,14 +10,14 @@ use Rattle.lk_disk.specs.Disk.{Disk, other, contents, appended, flushed, cut_to,
 use Rattle.lk_disk.specs.declared.device.Side.{Side}
 use Rattle.lk_disk.specs.declared.device.Side.TheVariants.{A, B}
 use Rattle.lk_disk.proofs.Devices.{contents_may_be_left}
-use Rattle.lk_log.specs.Entries.{spelling, spelling_of_all, IsEntry, IsStored}
-use Rattle.lk_log.specs.Stores.{plain, IsWrittenOver}
-use Rattle.lk_log.specs.Values.{BaseValue}
-use Rattle.lk_log.specs.declared.stored.Stored.{Stored}
-use Rattle.lk_log.specs.declared.stored.Stored.TheVariants.{Base, Plain}
+use Rattle.lk_entries.specs.Entries.{spelling, spelling_of_all, IsEntry, IsStored, plain}
+use Rattle.lk_entries.specs.Values.{BaseValue}
+use Rattle.lk_entries.specs.declared.stored.Stored.{Stored}
+use Rattle.lk_entries.specs.declared.stored.Stored.TheVariants.{Base, Plain}
+use Rattle.lk_entries.proofs.EntryLaws.{len_ballot, len_command, body_short}
+use Rattle.lk_log.specs.Stores.{IsWrittenOver}
 use Rattle.lk_log.specs.Rooms.{StaysWithin}
 use Rattle.lk_log.specs.StoreValue.{StoreValue, pick, disks}
-use Rattle.lk_log.proofs.EntryLaws.{len_ballot, len_command, body_short}
 
 -- an entry that is no Base has at most 102 bytes: a vote is the longest
 entry_room : (e : Entry) → IsEntry e → length (spelling (Plain e)) ≤ 102

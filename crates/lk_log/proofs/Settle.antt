@@ -6,13 +6,14 @@ use Rattle.std.proofs.lemmas.Bool.{cases_lt}
 use Rattle.std.proofs.lemmas.List.{append-nil, take-take, take_all, take_at, length-take, nil_from_length}
 use Rattle.lk_disk.specs.Disk.{Disk, contents, cut_to, flushed, CutShort, MayLeave}
 use Rattle.lk_disk.specs.declared.device.Side.{Side}
-use Rattle.lk_log.specs.Entries.{spelling_of_all, IsStored}
-use Rattle.lk_log.specs.Files.{AreWholeEntries, IsFile}
-use Rattle.lk_log.specs.Formats.{is_mixed}
-use Rattle.lk_log.specs.Images.{is_misplaced, generation, Narrows}
+use Rattle.lk_entries.specs.Entries.{spelling_of_all, IsStored}
+use Rattle.lk_entries.specs.Files.{AreWholeEntries, IsFile}
+use Rattle.lk_entries.specs.Formats.{is_mixed}
+use Rattle.lk_entries.specs.Bases.{is_misplaced, generation}
+use Rattle.lk_entries.specs.declared.stored.Stored.{Stored}
+use Rattle.lk_entries.proofs.Whole.{file_unique, file_spelled, file_sound, front_past}
+use Rattle.lk_log.specs.Images.{Narrows}
 use Rattle.lk_log.specs.Stores.{IsOlder, HoldsOn, FileNarrows}
-use Rattle.lk_log.specs.declared.stored.Stored.{Stored}
-use Rattle.lk_log.proofs.Whole.{file_unique, file_spelled, file_sound, front_past}
 use Rattle.lk_log.proofs.Steps.{take_nil, left_front}
 
 -- what both bytes have as one file, they have as any

@@ -8,16 +8,17 @@ use Rattle.lk_types.specs.declared.entry.Entry.{Entry}
 use Rattle.lk_disk.specs.Disk.{Disk, other, contents, appended, flushed, AppendsSome, MayLeave}
 use Rattle.lk_disk.specs.declared.device.Side.{Side}
 use Rattle.lk_disk.specs.declared.device.Side.TheVariants.{A, B}
-use Rattle.lk_log.specs.Entries.{spelling_of_all, IsStored}
-use Rattle.lk_log.specs.Files.{IsFile}
-use Rattle.lk_log.specs.Formats.{format, is_mixed}
-use Rattle.lk_log.specs.Images.{Image, MayLeaveBoth, is_misplaced, generation, IsLive}
+use Rattle.lk_entries.specs.Entries.{spelling_of_all, IsStored, plain}
+use Rattle.lk_entries.specs.Files.{IsFile}
+use Rattle.lk_entries.specs.Formats.{format, is_mixed}
+use Rattle.lk_entries.specs.Bases.{is_misplaced, generation}
+use Rattle.lk_entries.specs.declared.stored.Stored.{Stored}
+use Rattle.lk_entries.proofs.Spelling.{spelled-append, all-append, all-left, all-right}
+use Rattle.lk_entries.proofs.Mixed.{mixed-two}
+use Rattle.lk_entries.proofs.Whole.{front, file_behind, front_file}
+use Rattle.lk_log.specs.Images.{Image, MayLeaveBoth, IsLive}
 use Rattle.lk_log.specs.StoreValue.{pick}
-use Rattle.lk_log.specs.Stores.{plain, IsOlder, HoldsOn}
-use Rattle.lk_log.specs.declared.stored.Stored.{Stored}
-use Rattle.lk_log.proofs.Spelling.{spelled-append, all-append, all-left, all-right}
-use Rattle.lk_log.proofs.Mixed.{mixed-two}
-use Rattle.lk_log.proofs.Whole.{front, file_behind, front_file}
+use Rattle.lk_log.specs.Stores.{IsOlder, HoldsOn}
 use Rattle.lk_log.proofs.ImageLaws.{misplaced-take, misplaced-plain, generation-append, generation-take, is_live}
 
 pub take_nil : (n : ℕ) → let nil : List ℕ = [] in take n nil ≡ nil

@@ -7,25 +7,26 @@ use Rattle.lk_disk.specs.Disk.{Disk}
 use Rattle.lk_disk.specs.declared.device.Side.{Side}
 use Rattle.lk_disk.specs.declared.device.Side.TheVariants.{A, B}
 use Rattle.lk_wire.specs.Values.{are_votes_above}
-use Rattle.lk_log.specs.Entries.{IsBase, IsStored, are_pairs_above}
+use Rattle.lk_entries.specs.Entries.{IsBase, IsStored, are_pairs_above, plain}
+use Rattle.lk_entries.specs.Files.{IsFile}
+use Rattle.lk_entries.specs.Formats.{is_mixed}
+use Rattle.lk_entries.specs.Bases.{has_base, is_misplaced, generation}
+use Rattle.lk_entries.specs.Standings.{HasHeader, StandsFor, with_plain, with_all, of_base}
+use Rattle.lk_entries.specs.Values.{HeaderValue, StandingValue, BaseValue}
+use Rattle.lk_entries.specs.declared.stored.Stored.{Stored}
+use Rattle.lk_entries.specs.declared.stored.Stored.TheVariants.{Base, Plain}
+use Rattle.lk_entries.proofs.Mixed.{mixed-take}
+use Rattle.lk_entries.proofs.OneStanding as one
+use Rattle.lk_entries.proofs.Spelling.{all-left, none_begins_nil}
+use Rattle.lk_entries.proofs.StandingLaws as standings
 use Rattle.lk_log.specs.EveryImage.{AllMean, EveryFound, NarrowsOrBeganSome}
-use Rattle.lk_log.specs.Files.{IsFile}
-use Rattle.lk_log.specs.Formats.{is_mixed}
-use Rattle.lk_log.specs.Images.{Image, MayLeaveBoth, has_base, is_misplaced, generation, Means, IsLive, IsEmpty, IsDamaged, SameMeaning, seen}
-use Rattle.lk_log.specs.Standings.{HasHeader, StandsFor, with_plain, with_all, of_base}
+use Rattle.lk_log.specs.Images.{Image, MayLeaveBoth, Means, IsLive, IsEmpty, IsDamaged, SameMeaning, seen}
 use Rattle.lk_log.specs.StoreValue.{StoreValue, pick, disks}
-use Rattle.lk_log.specs.Stores.{plain, Holds, KeepsAtLeast, KeepsOrIs, first_base, Found, NarrowsOrBegins, Opens}
-use Rattle.lk_log.specs.Values.{HeaderValue, StandingValue, BaseValue}
-use Rattle.lk_log.specs.declared.stored.Stored.{Stored}
-use Rattle.lk_log.specs.declared.stored.Stored.TheVariants.{Base, Plain}
+use Rattle.lk_log.specs.Stores.{Holds, KeepsAtLeast, KeepsOrIs, first_base, Found, NarrowsOrBegins, Opens}
 use Rattle.lk_log.specs.declared.verdict.Verdict.{Verdict}
 use Rattle.lk_log.specs.declared.verdict.Verdict.TheVariants.{Live, Empty, Damaged}
 use Rattle.lk_log.proofs.ImageLaws as images
-use Rattle.lk_log.proofs.Mixed.{mixed-take}
-use Rattle.lk_log.proofs.OneStanding as one
 use Rattle.lk_log.proofs.Settle.{whole_left}
-use Rattle.lk_log.proofs.Spelling.{all-left, none_begins_nil}
-use Rattle.lk_log.proofs.StandingLaws as standings
 use Rattle.lk_log.proofs.Steps.{keeps_at}
 
 -- ---- what entries stand for

@@ -1,11 +1,11 @@
 -- Both files as a stop may leave them, and what they come to.
-use Rattle.std.specs.Prelude.{◌≡◌, ℕ, Bool, true, false, nat_lt, ◌||◌, List, [], ◌∷◌, if◌then◌else◌}
+use Rattle.std.specs.Prelude.{◌≡◌, ℕ, Bool, nat_lt, ◌||◌, List, if◌then◌else◌}
 use Rattle.lk_disk.specs.Disk.{Disk, contents, MayLeave}
 use Rattle.lk_disk.specs.declared.device.Side.{Side}
 use Rattle.lk_disk.specs.declared.device.Side.TheVariants.{A, B}
-use Rattle.lk_log.specs.Files.{IsFile}
-use Rattle.lk_log.specs.declared.stored.Stored.{Stored}
-use Rattle.lk_log.specs.declared.stored.Stored.TheVariants.{Base, Plain}
+use Rattle.lk_entries.specs.Files.{IsFile}
+use Rattle.lk_entries.specs.declared.stored.Stored.{Stored}
+use Rattle.lk_entries.specs.Bases.{is_misplaced, generation}
 use Rattle.lk_log.specs.declared.verdict.Verdict.{Verdict}
 use Rattle.lk_log.specs.declared.verdict.Verdict.TheVariants.{Damaged, Empty, Live}
 
@@ -19,23 +19,6 @@ MayLeaveBoth disks image = (s : Side) → MayLeave (disks s) (image s)
 -- what a read of both files returns
 abbrev pub seen : (Side → Disk) → Image
 seen disks s = contents (disks s)
-
-abbrev pub has_base : List Stored → Bool
-has_base [] = false
-has_base (Base b ∷ es) = true
-has_base (Plain e ∷ es) = has_base es
-
--- the first entry is no Base, or a later one is
-abbrev pub is_misplaced : List Stored → Bool
-is_misplaced [] = false
-is_misplaced (Base b ∷ es) = has_base es
-is_misplaced (Plain e ∷ es) = true
-
--- of the Base in front, which has 1 at least; 0 where none stands there
-abbrev pub generation : List Stored → ℕ
-generation [] = 0
-generation (Base b ∷ es) = b.generation
-generation (Plain e ∷ es) = 0
 
 abbrev pub unless_damaged : Bool → Verdict → Verdict
 unless_damaged is_damaged v = if is_damaged then Damaged else v

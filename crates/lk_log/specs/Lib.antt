@@ -1,13 +1,6 @@
-pub mod Values
-pub mod Headers
 pub mod StoreValue
 pub mod Causes
-pub mod Formats
-pub mod Entries
-pub mod Parsing
-pub mod Files
 pub mod Images
-pub mod Standings
 pub mod Stores
 pub mod EveryImage
 pub mod Rooms

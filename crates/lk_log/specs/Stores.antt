@@ -7,22 +7,18 @@ use Rattle.lk_types.specs.declared.entry.Entry.{Entry}
 use Rattle.lk_wire.specs.Values.{are_votes_above}
 use Rattle.lk_disk.specs.Disk.{Disk, other, contents, MayLeave}
 use Rattle.lk_disk.specs.declared.device.Side.{Side}
-use Rattle.lk_log.specs.Entries.{spelling_of_all, IsStored, are_pairs_above}
-use Rattle.lk_log.specs.Files.{IsFile}
-use Rattle.lk_log.specs.Formats.{format, is_mixed}
-use Rattle.lk_log.specs.Images.{Image, MayLeaveBoth, is_misplaced, generation, IsLive, IsEmpty, IsDamaged, SameMeaning, seen}
-use Rattle.lk_log.specs.Standings.{HasHeader, StandsFor}
+use Rattle.lk_entries.specs.Entries.{spelling_of_all, IsStored, are_pairs_above}
+use Rattle.lk_entries.specs.Files.{IsFile}
+use Rattle.lk_entries.specs.Formats.{format, is_mixed}
+use Rattle.lk_entries.specs.Bases.{is_misplaced, generation}
+use Rattle.lk_entries.specs.Standings.{HasHeader, StandsFor}
+use Rattle.lk_entries.specs.Values.{HeaderValue, StandingValue, BaseValue}
+use Rattle.lk_entries.specs.declared.stored.Stored.{Stored}
+use Rattle.lk_entries.specs.declared.stored.Stored.TheVariants.{Base}
+use Rattle.lk_log.specs.Images.{Image, MayLeaveBoth, IsLive, IsEmpty, IsDamaged, SameMeaning, seen}
 use Rattle.lk_log.specs.StoreValue.{StoreValue, pick}
-use Rattle.lk_log.specs.Values.{HeaderValue, StandingValue, BaseValue}
 use Rattle.lk_log.specs.declared.fault.StoreFault.{StoreFault}
 use Rattle.lk_log.specs.declared.fault.StoreFault.TheVariants.{NoMemory}
-use Rattle.lk_log.specs.declared.stored.Stored.{Stored}
-use Rattle.lk_log.specs.declared.stored.Stored.TheVariants.{Base, Plain}
-
--- what is given to a store, as entries of its file
-abbrev pub plain : List Entry → List Stored
-plain [] = []
-plain (e ∷ es) = Plain e ∷ plain es
 
 -- a file whose Base, if any, has a smaller generation than this
 pub record IsOlder (d : Disk) (newest : ℕ) : Type 0 where

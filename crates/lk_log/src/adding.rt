@@ -1,16 +1,17 @@
 // Adding entries to the live file of a device.
 ghost use Rattle.std.specs.Prelude.{◌≡◌, ◌≤◌, ◌+◌, ◌*◌, ◌++◌, List, [], length, take, true, false, OnOk, OnErr, IsErrOf};
 ghost use Rattle.lk_disk.specs.Disk.{other, contents, appended, AppendsSome, HasCause};
+ghost use Rattle.lk_entries.specs.Formats.{format};
+ghost use Rattle.lk_entries.specs.Entries.{plain};
+ghost use Rattle.lk_entries.specs.declared.stored.Stored.{Stored};
 ghost use Rattle.lk_log.specs.Causes.{IsCaused, ComesBy, IsMetered, calls_for, put_calls};
-ghost use Rattle.lk_log.specs.Formats.{format};
 ghost use Rattle.lk_log.specs.Images.{Image, MayLeaveBoth, IsLive};
 ghost use Rattle.lk_log.specs.StoreValue.{pick};
-ghost use Rattle.lk_log.specs.Stores.{plain, HoldsOn, KeepsAtLeastOn};
-ghost use Rattle.lk_log.specs.declared.stored.Stored.{Stored};
+ghost use Rattle.lk_log.specs.Stores.{HoldsOn, KeepsAtLeastOn};
 
 use crate::fault::StoreFault;
-use crate::writing::{entries_facts, spelled};
 use lk_disk::{DeviceFault, LogDisk, Side};
+use lk_entries::{entries_facts, spelled};
 use lk_types::Entry;
 use std::alloc::Global;
 

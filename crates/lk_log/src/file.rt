@@ -2,19 +2,16 @@
 ghost use Rattle.std.specs.Prelude.{◌≡◌, ◌++◌, ◌||◌, not, length, false, IfOk, IfErr};
 ghost use Rattle.std.specs.List.{AllByRecursion};
 ghost use Rattle.lk_disk.specs.Disk.{contents};
+ghost use Rattle.lk_entries.specs.Entries.{spelling_of_all, IsStored};
+ghost use Rattle.lk_entries.specs.Files.{is_torn, IsFile};
+ghost use Rattle.lk_entries.specs.Formats.{is_mixed};
+ghost use Rattle.lk_entries.specs.Bases.{generation, is_misplaced, has_base};
 ghost use Rattle.lk_log.specs.Causes.{IsCaused, IsMetered};
-ghost use Rattle.lk_log.specs.Entries.{spelling_of_all, IsStored};
-ghost use Rattle.lk_log.specs.Files.{is_torn, IsFile};
-ghost use Rattle.lk_log.specs.Formats.{is_mixed};
-ghost use Rattle.lk_log.specs.Images.{generation, is_misplaced, has_base};
 ghost use Rattle.lk_log.specs.declared.fault.StoreFault.TheVariants.{NoMemory as memory_fault};
 
 use crate::fault::StoreFault;
-use crate::formats::is_mixed;
-use crate::reading::first_entry;
-use crate::stored::Stored;
-use crate::unread::Unread;
 use lk_disk::{LogDisk, Side};
+use lk_entries::{Stored, Unread, first_entry, is_mixed};
 use lk_fields::read_u32;
 use lk_types::limits::MAX_TORN;
 use std::alloc::Global;
@@ -33,7 +30,7 @@ pub struct File {
 }
 
 // Whether a stop may have left this after whole entries.
-#[tactic(auto, unfolding(crate::specs::Files::told_length, lk_fields::specs::FieldReading::read_four))]
+#[tactic(auto, unfolding(lk_entries::specs::Files::told_length, lk_fields::specs::FieldReading::read_four))]
 fn is_torn(rest: &[u8]) -> bool
     ensures { result ≡ is_torn rest.now }
 {

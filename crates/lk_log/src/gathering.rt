@@ -1,14 +1,12 @@
 // Gathering what entries stand for.
 ghost use Rattle.std.specs.Prelude.{◌≡◌, ◌≤◌, map, length, OnOk, OnErr, IfOk, IfErr};
-ghost use Rattle.lk_log.specs.Standings.{greater, greatest_of, ballot_of, pairs_below, with_pair, with_plain, of_base, ArePairsRising, Rises, StandsFor};
+ghost use Rattle.lk_entries.specs.Standings.{greater, greatest_of, ballot_of, pairs_below, with_pair, with_plain, of_base, ArePairsRising, Rises, StandsFor};
 ghost use Rattle.lk_log.specs.Stores.{MayStand};
 ghost use Rattle.lk_types.specs.declared.entry.Entry.TheVariants.{Vote as vote_entry, Decided as decided_entry};
 ghost use Rattle.lk_log.specs.declared.fault.StoreFault.TheVariants.{NoMemory as memory_fault};
 
-use crate::base::Base;
 use crate::fault::StoreFault;
-use crate::standing::Standing;
-use crate::stored::Stored;
+use lk_entries::{Base, Standing, Stored};
 use lk_types::{Ballot, Command, Entry, Executed, Position, Vote};
 use lk_votes::keep_vote;
 use std::alloc::{AllocFailed, Global};
@@ -40,7 +38,7 @@ fn pairs_below(position: Position, pairs: &[(Position, Command)]) -> usize
 }
 
 // Keeps a decided command in its place. Of two of a position the earlier is kept.
-#[tactic(auto, using(crate::proofs::InOrder::pair_at_end, crate::proofs::InOrder::pair_at_other, crate::proofs::InOrder::pair_at_same))]
+#[tactic(auto, using(lk_entries::proofs::InOrder::pair_at_end, lk_entries::proofs::InOrder::pair_at_other, lk_entries::proofs::InOrder::pair_at_same))]
 fn keep_pair(
     pairs: &mut Vec<(Position, Command)>,
     pair: (Position, Command),
@@ -88,50 +86,48 @@ fn of_base(base: Base) -> Standing
     standing
 }
 
-impl Standing {
-    // Adds an entry after those that it stands for. Of two votes at a position the one of greater ballot is kept, the
-    // earlier where they are equal, and the first decided command of a position.
-    fn add(&mut self, entry: Entry) -> Result<(), StoreFault>
-        requires { Rises self.old }
-        ensures ok { OnOk result (self.new ≡ with_plain entry self.old) }
-        ensures err { OnErr result (self.new ≡ self.old) }
-        ensures only { IfErr result (λ e. e ≡ memory_fault) }
-    {
-        match entry {
-            Entry::Promise(ballot) => {
-                self.promised = greater(self.promised, ballot.get());
-                Ok(())
-            }
-            Entry::Vote(vote) => self.add_vote(vote),
-            Entry::Decided(position, command) => self.add_pair((position, command)),
+// Adds an entry after those that it stands for. Of two votes at a position the one of greater ballot is kept, the
+// earlier where they are equal, and the first decided command of a position.
+fn add(standing: &mut Standing, entry: Entry) -> Result<(), StoreFault>
+    requires { Rises standing.old }
+    ensures ok { OnOk result (standing.new ≡ with_plain entry standing.old) }
+    ensures err { OnErr result (standing.new ≡ standing.old) }
+    ensures only { IfErr result (λ e. e ≡ memory_fault) }
+{
+    match entry {
+        Entry::Promise(ballot) => {
+            standing.promised = greater(standing.promised, ballot.get());
+            Ok(())
         }
+        Entry::Vote(vote) => add_vote(standing, vote),
+        Entry::Decided(position, command) => add_pair(standing, (position, command)),
     }
+}
 
-    fn add_vote(&mut self, vote: Vote) -> Result<(), StoreFault>
-        requires { Rises self.old }
-        ensures ok { OnOk result (self.new ≡ with_plain (vote_entry vote) self.old) }
-        ensures err { OnErr result (self.new ≡ self.old) }
-        ensures only { IfErr result (λ e. e ≡ memory_fault) }
-    {
-        let ballot = vote.ballot.get();
-        if vote.position.get() > self.position.get() {
-            keep_vote(&mut self.votes, vote)?;
-        }
-        self.promised = greater(self.promised, ballot);
-        Ok(())
+fn add_vote(standing: &mut Standing, vote: Vote) -> Result<(), StoreFault>
+    requires { Rises standing.old }
+    ensures ok { OnOk result (standing.new ≡ with_plain (vote_entry vote) standing.old) }
+    ensures err { OnErr result (standing.new ≡ standing.old) }
+    ensures only { IfErr result (λ e. e ≡ memory_fault) }
+{
+    let ballot = vote.ballot.get();
+    if vote.position.get() > standing.position.get() {
+        keep_vote(&mut standing.votes, vote)?;
     }
+    standing.promised = greater(standing.promised, ballot);
+    Ok(())
+}
 
-    fn add_pair(&mut self, pair: (Position, Command)) -> Result<(), StoreFault>
-        requires { Rises self.old }
-        ensures ok { OnOk result (self.new ≡ with_plain (decided_entry pair.0 pair.1) self.old) }
-        ensures err { OnErr result (self.new ≡ self.old) }
-        ensures only { IfErr result (λ e. e ≡ memory_fault) }
-    {
-        if pair.0.get() > self.position.get() {
-            keep_pair(&mut self.pairs, pair)?;
-        }
-        Ok(())
+fn add_pair(standing: &mut Standing, pair: (Position, Command)) -> Result<(), StoreFault>
+    requires { Rises standing.old }
+    ensures ok { OnOk result (standing.new ≡ with_plain (decided_entry pair.0 pair.1) standing.old) }
+    ensures err { OnErr result (standing.new ≡ standing.old) }
+    ensures only { IfErr result (λ e. e ≡ memory_fault) }
+{
+    if pair.0.get() > standing.position.get() {
+        keep_pair(&mut standing.pairs, pair)?;
     }
+    Ok(())
 }
 
 /// What entries with a Base in front stand for. Each is put into its place by halving, so the time grows with the number
@@ -145,7 +141,7 @@ pub fn gather(alloc: Global, entries: Vec<Stored>) -> Result<Standing, StoreFaul
     for entry in entries {
         match entry {
             Stored::Base(base) => standing = of_base(base),
-            Stored::Plain(entry) => standing.add(entry)?,
+            Stored::Plain(entry) => add(&mut standing, entry)?,
         }
     }
     Ok(standing)

@@ -1,39 +1,23 @@
-//! Laws of the files' grammar and of what a stop may leave of a store: each is the contract of a function that does nothing.
-ghost use Rattle.std.specs.Prelude.{◌≡◌, ◌<◌, ◌++◌, ◌∷◌, [], List, ℕ, Bool, true, length, take};
+//! Laws of what two files come to and of what a stop may leave of a store: each is the contract of a function that does nothing.
+ghost use Rattle.std.specs.Prelude.{◌≡◌, ◌++◌, ◌∷◌, [], List, ℕ, Bool, true};
 ghost use Rattle.lk_types.specs.declared.entry.Entry.{Entry};
 ghost use Rattle.lk_disk.specs.Disk.{Disk};
 ghost use Rattle.lk_disk.specs.declared.device.Side.{Side};
-ghost use Rattle.lk_log.specs.Entries.{IsStored, spelling, SpellsEntry};
+ghost use Rattle.lk_entries.specs.Entries.{plain};
+ghost use Rattle.lk_entries.specs.Standings.{StandsFor, with_plain};
+ghost use Rattle.lk_entries.specs.Values.{HeaderValue, StandingValue};
+ghost use Rattle.lk_entries.specs.declared.stored.Stored.{Stored};
+ghost use Rattle.lk_entries.specs.declared.stored.Stored.TheVariants.{Plain};
 ghost use Rattle.lk_log.specs.EveryImage.{EveryFound, AllMean, NarrowsOrBeganSome};
-ghost use Rattle.lk_log.specs.Files.{AreWholeEntries};
 ghost use Rattle.lk_log.specs.Images.{Image, MayLeaveBoth, Means, IsLive, IsEmpty, seen};
-ghost use Rattle.lk_log.specs.Standings.{StandsFor, with_plain};
 ghost use Rattle.lk_log.specs.StoreValue.{StoreValue, disks};
-ghost use Rattle.lk_log.specs.Stores.{plain, Holds, KeepsAtLeast, NarrowsOrBegins};
-ghost use Rattle.lk_log.specs.Values.{HeaderValue, StandingValue};
-ghost use Rattle.lk_log.specs.declared.stored.Stored.{Stored};
-ghost use Rattle.lk_log.specs.declared.stored.Stored.TheVariants.{Plain};
+ghost use Rattle.lk_log.specs.Stores.{Holds, KeepsAtLeast, NarrowsOrBegins};
 ghost use Rattle.lk_log.specs.declared.verdict.Verdict.{Verdict};
-
-/// All bytes have whole entries, and no others.
-pub fn whole_entries(bytes: &[u8])
-    ensures some { (es : List Stored) × AreWholeEntries bytes.now es }
-    ensures one { (es fs : List Stored) → AreWholeEntries bytes.now es → AreWholeEntries bytes.now fs → es ≡ fs }
-{
-    let _ = bytes;
-}
 
 /// Two files come to one thing: they are damaged, empty, or one of them is live.
 pub fn one_meaning()
     ensures verdict { (image : Image) (v w : Verdict) (es fs : Side → List Stored) → Means image v es → Means image w fs → v ≡ w }
     ensures entries { (image : Image) (v w : Verdict) (es fs : Side → List Stored) → Means image v es → Means image w fs → (s : Side) → es s ≡ fs s }
-{}
-
-/// Bytes spell one entry at most, no spelling begins another one, and none is empty.
-pub fn one_spelling()
-    ensures one { (e f : Stored) (bytes : List ℕ) → SpellsEntry e bytes → SpellsEntry f bytes → e ≡ f }
-    ensures no_front { (e f : Stored) (x y : List ℕ) → IsStored e → IsStored f → spelling e ++ x ≡ spelling f ++ y → (e ≡ f) × (x ≡ y) }
-    ensures long { (e : Stored) → 0 < length (spelling e) }
 {}
 
 /// The entries of a live file stand for one thing, and with an entry after them for that with this entry.

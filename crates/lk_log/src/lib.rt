@@ -2,7 +2,7 @@
 //!
 //! One of them is live. A Base has a generation, and each later Base of a store a greater one.
 //! - **Opening** (`opening`): 1. read A, then B, each up to its last whole entry (`file`); 2. the live file is the one of
-//!   the greater generation, and only damage in that one is damage (`verdict`); 3. where bytes stand after its last whole entry,
+//!   the greater generation, and only damage in that one matters (`verdict`); 3. where bytes stand after its last whole entry,
 //!   the beginning of an entry that a stop tore, cut them off; 4. sync it, so that all that was read stays; 5. gather what
 //!   its entries stand for (`gathering`). Where neither file has a Base, the first one is written over A.
 //! - **Adding** (`adding`): append to the live file, and sync it where something is to be sent that rests on the entries.
@@ -11,26 +11,16 @@
 #![tactic(auto)]
 
 mod adding;
-mod base;
 mod fault;
 mod file;
-mod formats;
 mod gathering;
-mod header;
 pub mod laws;
 mod opening;
-mod reading;
 mod rebasing;
 mod reopening;
-mod standing;
 mod store;
-mod stored;
-mod unread;
 mod verdict;
-mod writing;
 
 pub use fault::{ReopenFault, StoreFault};
-pub use header::Header;
 pub use reopening::{LiveFile, look, reopen};
-pub use standing::Standing;
 pub use store::Store;

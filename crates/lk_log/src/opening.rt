@@ -1,13 +1,14 @@
 // Opening a store that a stop may have left.
 ghost use Rattle.std.specs.Prelude.{◌≡◌, ◌+◌, List, [], ◌∷◌, false, length, IfOk, IfErr, IfSome, OnOk, IsErrOf, Ok};
 ghost use Rattle.lk_disk.specs.Disk.{contents, other, flushed, HasCause};
+ghost use Rattle.lk_entries.specs.Entries.{spelling_of_all};
+ghost use Rattle.lk_entries.specs.Files.{IsFile};
+ghost use Rattle.lk_entries.specs.Bases.{is_misplaced, generation};
+ghost use Rattle.lk_entries.specs.declared.stored.Stored.{Stored};
 ghost use Rattle.lk_log.specs.Causes.{IsCaused, FailuresRise, ComesBy, IsMetered};
-ghost use Rattle.lk_log.specs.Entries.{spelling_of_all};
-ghost use Rattle.lk_log.specs.Files.{IsFile};
 ghost use Rattle.lk_log.specs.Rooms.{StaysWithin};
-ghost use Rattle.lk_log.specs.Images.{unless_damaged, verdict, IsEmpty, IsDamaged, Narrows, seen, is_misplaced, generation};
+ghost use Rattle.lk_log.specs.Images.{unless_damaged, verdict, IsEmpty, IsDamaged, Narrows, seen};
 ghost use Rattle.lk_log.specs.Stores.{cut_calls, FileNarrows, HoldsOn, IsOlder, FoundLive, MayStand};
-ghost use Rattle.lk_log.specs.declared.stored.Stored.{Stored};
 
 use crate::fault::StoreFault;
 use crate::file::{File, generation_of, is_misplaced, read_file};

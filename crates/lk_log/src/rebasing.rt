@@ -2,14 +2,14 @@
 ghost use Rattle.std.specs.Prelude.{◌≡◌, ◌<◌, ◌≤◌, List, [], ◌∷◌, length, OnOk, IfErr};
 ghost use Rattle.lk_types.specs.Limits.{max_base};
 ghost use Rattle.lk_disk.specs.Disk.{contents, other};
+ghost use Rattle.lk_entries.specs.Entries.{IsStored, spelling};
+ghost use Rattle.lk_entries.specs.Bases.{generation};
+ghost use Rattle.lk_entries.specs.Values.{BaseValue};
+ghost use Rattle.lk_entries.specs.declared.stored.Stored.{Stored};
+ghost use Rattle.lk_entries.specs.declared.stored.Stored.TheVariants.{Base as base_entry};
 ghost use Rattle.lk_log.specs.Causes.{IsCaused, IsMetered, rebase_calls};
-ghost use Rattle.lk_log.specs.Entries.{IsStored, spelling};
-ghost use Rattle.lk_log.specs.Images.{generation};
 ghost use Rattle.lk_log.specs.Rooms.{StaysWithin};
 ghost use Rattle.lk_log.specs.Stores.{HoldsOn, KeepsOrIs};
-ghost use Rattle.lk_log.specs.Values.{BaseValue};
-ghost use Rattle.lk_log.specs.declared.stored.Stored.{Stored};
-ghost use Rattle.lk_log.specs.declared.stored.Stored.TheVariants.{Base as base_entry};
 
 use crate::fault::StoreFault;
 use crate::reopening::write_over;

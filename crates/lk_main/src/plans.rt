@@ -1,8 +1,8 @@
 //! What the words of a subcommand ask for, where they are understood.
 
 use clap::ArgMatches;
+use lk_entries::Header;
 use lk_fuzz::fuzzing::MAX_EVENTS;
-use lk_log::Header;
 use lk_service::command_words::operation_of;
 use lk_service::question::Question;
 use lk_service::running::NodePlan;

@@ -8,7 +8,7 @@ use Rattle.lk_wire.specs.declared.message.NodeMessage.{NodeMessage}
 use Rattle.lk_wire.specs.declared.message.NodeMessage.TheVariants as kinds
 use Rattle.lk_history.specs.Acceptors.{AcceptorState}
 use Rattle.lk_history.specs.Nodes.{Pair, Term, View, MayPromise, MaySend}
-use Rattle.lk_log.specs.Values.{HeaderValue}
+use Rattle.lk_entries.specs.Values.{HeaderValue}
 use Rattle.lk_state.specs.Meanings.{Meaning}
 use Rattle.lk_acceptor.specs.AcceptorValue.{AcceptorValue}
 use Rattle.lk_leader.specs.Terms.{LeaderValue, TermValue, idle}

@@ -19,7 +19,7 @@ use Rattle.lk_history.specs.Chosen.{Command, ChosenAt}
 use Rattle.lk_history.specs.Datagrams.{HasSent}
 use Rattle.lk_history.specs.Nodes.{Pair, Acceptance, Term, View, ViewFits}
 use Rattle.lk_history.proofs.Histories.{change_fits, accepted_is_chosen}
-use Rattle.lk_log.specs.Values.{HeaderValue}
+use Rattle.lk_entries.specs.Values.{HeaderValue}
 use Rattle.lk_state.specs.Meanings.{Meaning}
 use Rattle.lk_state.specs.Runs.{run_answer}
 use Rattle.lk_state.specs.States.{WholeValue, SumsUp, whole_after}

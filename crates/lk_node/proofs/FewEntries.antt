@@ -11,7 +11,7 @@ use Rattle.lk_wire.specs.declared.message.NodeMessage.{NodeMessage}
 use Rattle.lk_wire.specs.declared.message.NodeMessage.TheVariants as kinds
 use Rattle.lk_state.specs.Meanings.{Meaning}
 use Rattle.lk_state.specs.declared.session.Session.{Session}
-use Rattle.lk_log.specs.Values.{HeaderValue}
+use Rattle.lk_entries.specs.Values.{HeaderValue}
 use Rattle.lk_learner.specs.Learners.{Command, Pair}
 use Rattle.lk_history.specs.Ballots.{BallotValue}
 use Rattle.lk_node.specs.CatchingUp.{Feeds}

@@ -16,7 +16,7 @@ use Rattle.lk_history.specs.Nodes.{Pair, View}
 use Rattle.lk_history.specs.Snapshots.{IsSlice}
 use Rattle.lk_history.specs.Soundness.{Sound}
 use Rattle.lk_history.proofs.Histories.{command_within, entry_chosen, one_chosen, chosen_at_fits, chosen_fits, chosen_short, change_fits, filter_from, whole_slice}
-use Rattle.lk_log.specs.Values.{HeaderValue}
+use Rattle.lk_entries.specs.Values.{HeaderValue}
 use Rattle.lk_state.specs.Meanings.{Meaning, KeepsTexts}
 use Rattle.lk_state.specs.States.{WholeValue, SumsUp, whole_after}
 use Rattle.lk_state.proofs.Wholes.{one_packed, states_fit}

@@ -6,7 +6,7 @@ use Rattle.lk_wire.specs.declared.message.NodeMessage.{NodeMessage}
 use Rattle.lk_wire.specs.declared.message.NodeMessage.TheVariants as kinds
 use Rattle.lk_members.specs.Effects.{Command, Noop, Request}
 use Rattle.lk_members.specs.Ports.{is_named}
-use Rattle.lk_log.specs.Values.{HeaderValue}
+use Rattle.lk_entries.specs.Values.{HeaderValue}
 use Rattle.lk_state.specs.Meanings.{Meaning}
 use Rattle.lk_state.specs.Runs.{run_answer}
 use Rattle.lk_state.specs.declared.session.Session.{Session}

@@ -3,11 +3,12 @@ use Rattle.std.specs.Prelude.{◌≡◌, ◌⊎◌, ℕ, List, length, Some, Con
 use Rattle.std.specs.List.{AllByRecursion}
 use Rattle.lk_types.specs.declared.entry.Entry.{Entry}
 use Rattle.lk_types.specs.declared.entry.Entry.TheVariants.{Promise, Vote, Decided}
-use Rattle.lk_log.specs.Standings.{HasHeader, StandsFor}
+use Rattle.lk_entries.specs.Standings.{HasHeader, StandsFor}
+use Rattle.lk_entries.specs.Entries.{plain}
+use Rattle.lk_entries.specs.Values.{HeaderValue, StandingValue}
+use Rattle.lk_entries.specs.declared.stored.Stored.{Stored}
 use Rattle.lk_log.specs.StoreValue.{StoreValue}
-use Rattle.lk_log.specs.Stores.{plain, Holds}
-use Rattle.lk_log.specs.Values.{HeaderValue, StandingValue}
-use Rattle.lk_log.specs.declared.stored.Stored.{Stored}
+use Rattle.lk_log.specs.Stores.{Holds}
 use Rattle.lk_state.specs.Meanings.{Meaning}
 use Rattle.lk_history.specs.Acceptors.{AcceptorState}
 use Rattle.lk_history.specs.Chosen.{command_at}

@@ -3,11 +3,11 @@ use Rattle.std.specs.Prelude.{◌≡◌, ℕ, List, [], length, None}
 use Rattle.lk_state.specs.Meanings.{Meaning}
 use Rattle.lk_disk.specs.Disk.{Disk}
 use Rattle.lk_disk.specs.declared.device.Side.{Side}
-use Rattle.lk_log.specs.Values.{HeaderValue, StandingValue}
+use Rattle.lk_entries.specs.Values.{HeaderValue, StandingValue}
+use Rattle.lk_entries.specs.Standings.{HasHeader, StandsFor}
+use Rattle.lk_entries.specs.declared.stored.Stored.{Stored}
 use Rattle.lk_log.specs.Images.{Image, MayLeaveBoth}
-use Rattle.lk_log.specs.Standings.{HasHeader, StandsFor}
 use Rattle.lk_log.specs.Stores.{Found}
-use Rattle.lk_log.specs.declared.stored.Stored.{Stored}
 use Rattle.lk_history.specs.Datagrams.{NodeMessage}
 use Rattle.lk_history.specs.Acceptors.{AcceptorState, Covers, CoversSent}
 use Rattle.lk_history.specs.Nodes.{View, Stems}

@@ -1,5 +1,5 @@
 -- What a node writes as the Base of a further file.
-use Rattle.lk_log.specs.Values.{StandingValue}
+use Rattle.lk_entries.specs.Values.{StandingValue}
 use Rattle.lk_state.specs.Packed.{packed}
 use Rattle.lk_acceptor.specs.States.{without_votes_to, with_state}
 use Rattle.lk_acceptor.specs.VoteLists.{votes_above}

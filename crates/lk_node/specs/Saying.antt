@@ -4,7 +4,7 @@ use Rattle.lk_wire.specs.declared.message.Content.TheVariants as content
 use Rattle.lk_wire.specs.declared.message.Message.{Message}
 use Rattle.lk_wire.specs.declared.message.NodeMessage.{NodeMessage}
 use Rattle.lk_members.specs.Ports.{port_of}
-use Rattle.lk_log.specs.Values.{HeaderValue}
+use Rattle.lk_entries.specs.Values.{HeaderValue}
 use Rattle.lk_node.specs.NodeValue.{NodeValue}
 use Rattle.lk_node.specs.declared.to.To.{To}
 use Rattle.lk_node.specs.declared.to.To.TheVariants as to

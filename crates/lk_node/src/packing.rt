@@ -8,8 +8,8 @@ ghost use Rattle.lk_node.specs.Nearness.{AreNear};
 ghost use Rattle.lk_node.specs.Packing.{standing_of, standing_here};
 
 use crate::node::Node;
+use lk_entries::Standing;
 use lk_learner::Pair;
-use lk_log::Standing;
 use lk_state::Machine;
 use lk_types::{Command, Executed, NoMemory, Position, Vote};
 use std::alloc::Global;

@@ -5,9 +5,9 @@ use Rattle.lk_disk.specs.Disk.{Disk}
 use Rattle.lk_disk.specs.Memory.{disk_of}
 use Rattle.lk_disk.specs.declared.device.Side.{Side}
 use Rattle.lk_disk.specs.declared.device.Side.TheVariants.{A, B}
+use Rattle.lk_entries.specs.Values.{StandingValue}
 use Rattle.lk_log.specs.Images.{Image, MayLeaveBoth}
 use Rattle.lk_log.specs.StoreValue.{device_of}
-use Rattle.lk_log.specs.Values.{StandingValue}
 use Rattle.lk_wire.specs.declared.message.NodeMessage.{NodeMessage}
 use Rattle.lk_wire.specs.declared.message.NodeMessage.TheVariants as message
 use Rattle.lk_history.specs.Acceptors.{CoversSent, Covers}

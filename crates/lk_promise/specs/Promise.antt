@@ -30,13 +30,13 @@ use Rattle.lk_wire.specs.declared.message.Content.TheVariants as content
 use Rattle.lk_wire.specs.declared.message.Message.{Message}
 use Rattle.lk_wire.specs.declared.message.NodeMessage.{NodeMessage}
 use Rattle.lk_wire.specs.declared.message.NodeMessage.TheVariants as message
+use Rattle.lk_entries.specs.Standings.{HasHeader, StandsFor}
+use Rattle.lk_entries.specs.Values.{StandingValue}
+use Rattle.lk_entries.specs.declared.stored.Stored.{Stored}
+use Rattle.lk_entries.specs.declared.stored.Stored.TheVariants.{Base}
 use Rattle.lk_log.specs.Images.{IsLive, IsEmpty}
-use Rattle.lk_log.specs.Standings.{HasHeader, StandsFor}
 use Rattle.lk_log.specs.StoreValue.{device_of}
 use Rattle.lk_log.specs.Stores.{first_base}
-use Rattle.lk_log.specs.Values.{StandingValue}
-use Rattle.lk_log.specs.declared.stored.Stored.{Stored}
-use Rattle.lk_log.specs.declared.stored.Stored.TheVariants.{Base}
 use Rattle.lk_history.specs.Datagrams.{Datagram}
 use Rattle.lk_history.specs.declared.party.Party.TheVariants as party
 use Rattle.lk_node.specs.declared.note.Note.{Note}

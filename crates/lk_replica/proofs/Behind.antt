@@ -3,10 +3,10 @@ use Rattle.std.proofs.Common.{◌≡◌, ℕ, ◌≤◌, true, List, [], ◌∷�
 use Rattle.lk_wire.specs.Grammar.{Spells}
 use Rattle.lk_wire.specs.declared.message.NodeMessage.{NodeMessage}
 use Rattle.lk_wire.specs.declared.message.NodeMessage.TheVariants as kinds
+use Rattle.lk_entries.specs.Values.{StandingValue}
+use Rattle.lk_entries.specs.declared.stored.Stored.TheVariants.{Base}
 use Rattle.lk_log.specs.StoreValue.{StoreValue, disks}
 use Rattle.lk_log.specs.Stores.{Holds, MayBegin, next_base}
-use Rattle.lk_log.specs.Values.{StandingValue}
-use Rattle.lk_log.specs.declared.stored.Stored.TheVariants.{Base}
 use Rattle.lk_log.proofs.StoreLaws.{one_standing}
 use Rattle.lk_state.specs.Meanings.{Meaning}
 use Rattle.lk_history.specs.Acceptors.{Covers, CoversSent}

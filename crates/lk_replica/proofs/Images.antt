@@ -4,13 +4,14 @@ use Rattle.std.specs.List.{AllByRecursion}
 use Rattle.lk_types.specs.declared.entry.Entry.{Entry}
 use Rattle.lk_disk.specs.Disk.{Disk}
 use Rattle.lk_disk.specs.declared.device.Side.{Side}
+use Rattle.lk_entries.specs.Standings.{HasHeader, StandsFor, with_plain}
+use Rattle.lk_entries.specs.Entries.{plain}
+use Rattle.lk_entries.specs.Values.{StandingValue}
+use Rattle.lk_entries.specs.declared.stored.Stored.{Stored}
+use Rattle.lk_entries.specs.declared.stored.Stored.TheVariants.{Plain}
 use Rattle.lk_log.specs.EveryImage.{EveryFound}
-use Rattle.lk_log.specs.Standings.{HasHeader, StandsFor, with_plain}
 use Rattle.lk_log.specs.StoreValue.{StoreValue, disks}
-use Rattle.lk_log.specs.Stores.{plain, Holds, KeepsAtLeast, NarrowsOrBegins}
-use Rattle.lk_log.specs.Values.{StandingValue}
-use Rattle.lk_log.specs.declared.stored.Stored.{Stored}
-use Rattle.lk_log.specs.declared.stored.Stored.TheVariants.{Plain}
+use Rattle.lk_log.specs.Stores.{Holds, KeepsAtLeast, NarrowsOrBegins}
 use Rattle.lk_log.proofs.StoreLaws.{plain_stands, header_more, holds_keeps, of_every, keeps_every, put_keeps_every, opening_every}
 use Rattle.lk_state.specs.Meanings.{Meaning}
 use Rattle.lk_history.specs.Datagrams.{NodeMessage}

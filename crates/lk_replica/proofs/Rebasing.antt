@@ -7,16 +7,17 @@ use Rattle.lk_types.specs.declared.vote.Vote.{Vote}
 use Rattle.lk_types.proofs.Values.{below_by_test}
 use Rattle.lk_wire.specs.declared.message.NodeMessage.{NodeMessage}
 use Rattle.lk_wire.specs.declared.message.NodeMessage.TheVariants as kinds
-use Rattle.lk_log.specs.Standings.{greater, greatest_of, ballot_of, of_base, HasHeader, StandsFor}
 use Rattle.lk_disk.specs.Disk.{Disk, contents}
 use Rattle.lk_disk.specs.Meters.{Passes}
 use Rattle.lk_disk.proofs.Devices.{passes_on}
+use Rattle.lk_entries.specs.Standings.{greater, greatest_of, ballot_of, of_base, HasHeader, StandsFor}
+use Rattle.lk_entries.specs.Entries.{plain}
+use Rattle.lk_entries.specs.Values.{BaseValue}
+use Rattle.lk_entries.specs.declared.stored.Stored.{Stored}
+use Rattle.lk_entries.specs.declared.stored.Stored.TheVariants.{Base}
 use Rattle.lk_log.specs.Causes.{rebase_calls}
 use Rattle.lk_log.specs.StoreValue.{StoreValue, pick, disks}
-use Rattle.lk_log.specs.Stores.{plain, HoldsOn, Holds, MayBegin, next_base, KeepsOrIs}
-use Rattle.lk_log.specs.Values.{BaseValue}
-use Rattle.lk_log.specs.declared.stored.Stored.{Stored}
-use Rattle.lk_log.specs.declared.stored.Stored.TheVariants.{Base}
+use Rattle.lk_log.specs.Stores.{HoldsOn, Holds, MayBegin, next_base, KeepsOrIs}
 use Rattle.lk_log.specs.Rooms.{StaysWithin}
 use Rattle.lk_log.proofs.Room.{within_same, within_first}
 use Rattle.lk_log.proofs.StoreLaws.{rising_stands, one_standing, one_header, of_every, synced_live, rebase_every}

@@ -8,11 +8,11 @@ use Rattle.lk_types.proofs.Values.{same_genesis}
 use Rattle.lk_disk.specs.Disk.{Disk, other}
 use Rattle.lk_disk.specs.declared.device.Side.{Side}
 use Rattle.lk_disk.specs.declared.device.Side.TheVariants.{A, B}
+use Rattle.lk_entries.specs.Values.{HeaderValue, StandingValue}
 use Rattle.lk_log.specs.Images.{Image, seen}
 use Rattle.lk_log.specs.Rooms.{StaysWithin}
 use Rattle.lk_log.specs.StoreValue.{StoreValue, pick, disks}
 use Rattle.lk_log.specs.Stores.{Opens, NarrowsOrBegins}
-use Rattle.lk_log.specs.Values.{HeaderValue, StandingValue}
 use Rattle.lk_log.specs.declared.fault.StoreFault.{StoreFault}
 use Rattle.lk_log.specs.declared.fault.StoreFault.TheVariants as store
 use Rattle.lk_log.proofs.StoreLaws.{one_standing, opens_found, opens_holds}

@@ -5,9 +5,9 @@ use Rattle.std.proofs.lemmas.Bool.{cases_lt}
 use Rattle.lk_types.specs.Limits.{max_count}
 use Rattle.lk_disk.specs.Disk.{Disk, contents, other}
 use Rattle.lk_disk.specs.declared.device.Side.{Side}
+use Rattle.lk_entries.specs.Values.{HeaderValue}
 use Rattle.lk_log.specs.StoreValue.{StoreValue, pick, disks}
 use Rattle.lk_log.specs.Stores.{NarrowsOrBegins}
-use Rattle.lk_log.specs.Values.{HeaderValue}
 use Rattle.lk_log.specs.declared.fault.StoreFault.{StoreFault}
 use Rattle.lk_log.specs.declared.fault.StoreFault.TheVariants as store
 use Rattle.lk_learner.specs.Learners.{executed}

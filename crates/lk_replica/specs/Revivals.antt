@@ -7,14 +7,15 @@ use Rattle.lk_disk.specs.Memory.{Memory, disk_of}
 use Rattle.lk_disk.specs.Meters.{Passes}
 use Rattle.lk_disk.specs.declared.device.Side.{Side}
 use Rattle.lk_disk.specs.declared.meter.Meter.{Meter}
+use Rattle.lk_entries.specs.Formats.{format}
+use Rattle.lk_entries.specs.Bases.{generation}
+use Rattle.lk_entries.specs.Values.{HeaderValue, StandingValue, BaseValue}
+use Rattle.lk_entries.specs.declared.stored.Stored.{Stored}
+use Rattle.lk_entries.specs.declared.stored.Stored.TheVariants.{Base}
 use Rattle.lk_log.specs.Causes.{rebase_calls}
-use Rattle.lk_log.specs.Formats.{format}
-use Rattle.lk_log.specs.Images.{Image, MayLeaveBoth, IsDamaged, IsEmpty, IsLive, SameMeaning, generation, seen}
+use Rattle.lk_log.specs.Images.{Image, MayLeaveBoth, IsDamaged, IsEmpty, IsLive, SameMeaning, seen}
 use Rattle.lk_log.specs.Stores.{IsWrong, Opens, OpensBy, first_base}
 use Rattle.lk_log.specs.StoreValue.{StoreValue}
-use Rattle.lk_log.specs.Values.{HeaderValue, StandingValue, BaseValue}
-use Rattle.lk_log.specs.declared.stored.Stored.{Stored}
-use Rattle.lk_log.specs.declared.stored.Stored.TheVariants.{Base}
 use Rattle.lk_state.specs.Meanings.{Meaning}
 use Rattle.lk_state.specs.Packed.{Packs, packed}
 use Rattle.lk_state.specs.Runs.{ran}

@@ -2,11 +2,12 @@
 use Rattle.std.specs.Prelude.{◌≡◌, ℕ, ◌+◌, ◌<◌, ◌≤◌, ⊤, true, false, if◌then◌else◌, Option, Result, Ok, Err, List, [], ◌++◌, length}
 use Rattle.lk_disk.specs.Meters.{Passes}
 use Rattle.lk_types.specs.Limits.{max_count}
+use Rattle.lk_entries.specs.Entries.{plain}
+use Rattle.lk_entries.specs.declared.stored.Stored.{Stored}
 use Rattle.lk_log.specs.Causes.{put_calls, rebase_calls}
 use Rattle.lk_log.specs.StoreValue.{StoreValue, disks}
-use Rattle.lk_log.specs.Stores.{plain, Holds}
+use Rattle.lk_log.specs.Stores.{Holds}
 use Rattle.lk_state.specs.Meanings.{Meaning}
-use Rattle.lk_log.specs.declared.stored.Stored.{Stored}
 use Rattle.lk_disk.specs.Disk.{Disk, contents}
 use Rattle.lk_disk.specs.declared.device.Side.{Side}
 use Rattle.lk_history.specs.Datagrams.{NodeMessage}

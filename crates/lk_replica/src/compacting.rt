@@ -2,9 +2,9 @@
 ghost use Rattle.std.specs.Prelude.{◌≡◌, ◌+◌, ◌≤◌, ◌<◌, length, List, false, true, ◌↔◌, IsTrue, OnOk, IfOk, IfErr, IsErrAnd, IsErrOf, ⊤};
 ghost use Rattle.lk_types.specs.Limits.{max_base, max_count};
 ghost use Rattle.lk_disk.specs.Disk.{contents};
+ghost use Rattle.lk_entries.specs.declared.stored.Stored.{Stored};
 ghost use Rattle.lk_log.specs.StoreValue.{disks};
 ghost use Rattle.lk_log.specs.Stores.{Holds, KeepsOrIs, next_base};
-ghost use Rattle.lk_log.specs.declared.stored.Stored.{Stored};
 ghost use Rattle.lk_learner.specs.Learners.{executed};
 ghost use Rattle.lk_node.specs.Packing.{standing_of};
 ghost use Rattle.lk_replica.specs.Compacting.{IsDue, IsSameStore};

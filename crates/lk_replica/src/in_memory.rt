@@ -12,7 +12,7 @@ use crate::fault::ReplicaFault;
 use crate::memory_replica::{MemoryReplica, ReviveFault, Revived, Taken};
 use crate::replica::Replica;
 use lk_disk::{LogDisk, MemoryDisk, Trap};
-use lk_log::Header;
+use lk_entries::Header;
 use lk_node::Input;
 use lk_state::Machine;
 use lk_types::{NoMemory, NodeNo};

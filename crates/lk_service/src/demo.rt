@@ -10,7 +10,7 @@ use crate::running::revive;
 use crate::server::Server;
 use crate::socket::{Datagrams, LocalSocket, local};
 use lk_disk::MemoryDisk;
-use lk_log::Header;
+use lk_entries::Header;
 use lk_replica::Replica;
 use lk_state::Machine;
 use lk_types::{ClientNo, Genesis, Member, NodeNo, Port, Request, RequestNumber};

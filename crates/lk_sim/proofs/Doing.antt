@@ -3,7 +3,7 @@ use Rattle.std.proofs.Common.{◌≡◌, ℕ, ◌⊎◌, List, [], ◌++◌, len
 use Rattle.std.proofs.lemmas.List.{get_or_default}
 use Rattle.lk_disk.specs.Memory.{Memory}
 use Rattle.lk_disk.specs.Meters.{stopping}
-use Rattle.lk_log.specs.Values.{HeaderValue}
+use Rattle.lk_entries.specs.Values.{HeaderValue}
 use Rattle.lk_state.specs.Meanings.{Meaning}
 use Rattle.lk_history.specs.Nodes.{View}
 use Rattle.lk_node.specs.Histories.{History, Genesis, Datagram, RequestValue}

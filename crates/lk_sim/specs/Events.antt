@@ -5,8 +5,8 @@ use Rattle.lk_disk.specs.Memory.{Memory, empty}
 use Rattle.lk_disk.specs.Meters.{Passes, stopping}
 use Rattle.lk_disk.specs.declared.trap.Trap.{Trap}
 use Rattle.lk_disk.specs.declared.trap.Trap.TheVariants.{Off, Fail, Arm}
+use Rattle.lk_entries.specs.Values.{HeaderValue}
 use Rattle.lk_log.specs.Causes.{rebase_calls}
-use Rattle.lk_log.specs.Values.{HeaderValue}
 use Rattle.lk_wire.specs.Grammar.{Spells}
 use Rattle.lk_wire.specs.declared.message.Content.TheVariants as content
 use Rattle.lk_history.specs.declared.party.Party.TheVariants as party

@@ -2,8 +2,8 @@
 use Rattle.std.specs.Prelude.{◌≡◌, ℕ, List, [], ◌++◌, Option, Some, None, Ok, set}
 use Rattle.lk_disk.specs.Memory.{Memory}
 use Rattle.lk_disk.specs.Meters.{Passes, stopping}
+use Rattle.lk_entries.specs.Values.{HeaderValue}
 use Rattle.lk_log.specs.Causes.{rebase_calls}
-use Rattle.lk_log.specs.Values.{HeaderValue}
 use Rattle.lk_state.specs.Meanings.{Meaning}
 use Rattle.lk_history.specs.Nodes.{View}
 use Rattle.lk_node.specs.Histories.{History, Genesis, Datagram}

@@ -18,7 +18,7 @@ ghost use Rattle.lk_sim.specs.declared.seat.Life.TheVariants.{Up, Down};
 
 use crate::end::End;
 use lk_disk::{MemoryDisk, Trap, Trapped};
-use lk_log::Header;
+use lk_entries::Header;
 use lk_node::{Input, Note};
 use lk_replica::{Datagram, MemoryReplica, ReplicaFault, Taken};
 use lk_types::{Genesis, NoMemory, NodeNo};

@@ -2,9 +2,9 @@
 
 use crate::digits::bytes_of;
 use lk_disk::{LogDisk, MemoryDisk, Side};
+use lk_entries::Header;
 use lk_history::Party;
 use lk_locks::LockTable;
-use lk_log::Header;
 use lk_node::Input;
 use lk_replica::{Datagram, MemoryReplica, Replica, ReviveFault};
 use lk_types::{ClientNo, Genesis, Member, NodeNo, Port};

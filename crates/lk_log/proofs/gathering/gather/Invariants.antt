@@ -1,7 +1,7 @@
 use Rattle.std.specs.List.{AllByRecursion}
-use Rattle.lk_log.specs.Entries.{IsStored}
-use Rattle.lk_log.specs.Standings.{Rises}
-use Rattle.lk_log.proofs.StandingLaws.{StandsSoFar}
+use Rattle.lk_entries.specs.Entries.{IsStored}
+use Rattle.lk_entries.specs.Standings.{Rises}
+use Rattle.lk_entries.proofs.StandingLaws.{StandsSoFar}
 use Rattle.lk_log.proofs.gathering.gather.Given as goal
 
 -- what stands so far, in order, and what is left is in its range

@@ -1,6 +1,6 @@
 use Rattle.std.proofs.Common.{refl, inl, subst, List, rules}
-use Rattle.lk_log.specs.Standings.{HasHeader}
-use Rattle.lk_log.specs.declared.stored.Stored.{Stored}
+use Rattle.lk_entries.specs.Standings.{HasHeader}
+use Rattle.lk_entries.specs.declared.stored.Stored.{Stored}
 use Rattle.lk_log.proofs.BeginLaws.{begins_same, begins_narrows}
 use Rattle.lk_log.proofs.ImageLaws.{found_is_live}
 use Rattle.lk_log.proofs.reopening.open.Goals as goal

@@ -1,7 +1,8 @@
 use Rattle.std.proofs.Common.{◌≡◌, ℕ, ◌+◌, true, false, List, [], ◌++◌, ◌∙◌, ◌≤◌, length, refl, sym, ap, subst, arith}
 use Rattle.lk_types.specs.declared.entry.Entry.{Entry}
+use Rattle.lk_entries.specs.Entries.{plain}
 use Rattle.lk_log.specs.StoreValue.{disks}
-use Rattle.lk_log.specs.Stores.{plain, Holds, KeepsAtLeast}
+use Rattle.lk_log.specs.Stores.{Holds, KeepsAtLeast}
 use Rattle.lk_log.proofs.Room.{within_same, behind_room, refused_room}
 use Rattle.lk_state.specs.Meanings.{Meaning}
 use Rattle.lk_node.specs.Calls.{Goes}

@@ -2,10 +2,10 @@ use Rattle.std.proofs.Common.{◌≡◌, List, ℕ, [], inl, inr, Err, ◌∙◌
 use Rattle.lk_types.specs.Geneses.{IsGenesis}
 use Rattle.lk_disk.specs.Meters.{Passes, start}
 use Rattle.lk_replica.specs.Faults.{fault_number, RefusedAfter}
+use Rattle.lk_entries.specs.Values.{HeaderValue}
 use Rattle.lk_log.specs.Images.{seen}
 use Rattle.lk_log.specs.StoreValue.{disks}
 use Rattle.lk_log.specs.Stores.{Opens}
-use Rattle.lk_log.specs.Values.{HeaderValue}
 use Rattle.lk_state.specs.Meanings.{Meaning, KeepsTexts}
 use Rattle.lk_replica.specs.Faults.{fault_number}
 use Rattle.lk_replica.specs.declared.fault.ReplicaFault.{ReplicaFault}

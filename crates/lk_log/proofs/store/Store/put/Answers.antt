@@ -1,4 +1,4 @@
-use Rattle.lk_log.specs.Stores.{plain}
+use Rattle.lk_entries.specs.Entries.{plain}
 use Rattle.lk_log.proofs.Steps.{keeps_at}
 use Rattle.lk_log.proofs.store.Store.put.Goals as goal
 use Rattle.lk_disk.specs.Meters.{start}

@@ -1,6 +1,6 @@
 use Rattle.std.proofs.Common.{rules, ◌≡◌, ap, sym, subst, arith, List, ℕ, length}
+use Rattle.lk_entries.specs.Values.{StandingValue}
 use Rattle.lk_log.specs.Stores.{MayBegin}
-use Rattle.lk_log.specs.Values.{StandingValue}
 use Rattle.lk_node.specs.NodeValue.{NodeValue}
 use Rattle.lk_node.specs.Packing.{standing_of}
 use Rattle.lk_node.proofs.NearRules.{may_begin}

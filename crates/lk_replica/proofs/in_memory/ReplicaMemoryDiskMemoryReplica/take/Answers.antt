@@ -1,7 +1,7 @@
 use Rattle.std.proofs.Common.{◌≡◌, ◌∙◌, List, ◌++◌, Result, Ok, Err, OnErr, Contains, refl, ap, sym, subst}
 use Rattle.std.specs.Prelude.{⊤}
+use Rattle.lk_entries.specs.Values.{HeaderValue}
 use Rattle.lk_log.specs.StoreValue.{device_of}
-use Rattle.lk_log.specs.Values.{HeaderValue}
 use Rattle.lk_disk.specs.Memory.{disk_of}
 use Rattle.lk_state.specs.Meanings.{Meaning}
 use Rattle.lk_node.specs.Calls.{NodeFits, Goes}

@@ -1,0 +1,21 @@
+use crate::header::Header;
+use crate::standing::Standing;
+use std::marker::Model;
+
+/// What begins a file: a standing as it was when the file was begun. The files' generations tell which file is newer, and the
+/// format is 1 or 2.
+#[derive(Debug, Drop)]
+pub struct Base {
+    pub generation: u64,
+    pub format: u8,
+    pub header: Header,
+    pub standing: Standing,
+}
+
+impl Model for Base {
+    ghost use Rattle.lk_entries.specs.Values.{BaseValue};
+
+    ghost Value = { BaseValue };
+
+    ghost view = { λ b. record { generation = b.generation; format = b.format; header = b.header; standing = b.standing } };
+}

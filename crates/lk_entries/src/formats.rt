@@ -1,0 +1,69 @@
+// The format of a file, and whether its entries mix the two formats.
+ghost use Rattle.std.specs.Prelude.{◌≡◌};
+ghost use Rattle.std.specs.List.{list_any};
+ghost use Rattle.lk_entries.specs.Formats.{format, is_raise, tells_raise, is_mixed};
+
+use crate::stored::Stored;
+use lk_types::{Command, Entry, Op, Position, Vote};
+
+/// Of the Base in front, 0 where none stands there.
+pub fn format_of(entries: &[Stored]) -> u8
+    ensures { result ≡ format entries.now }
+{
+    match entries {
+        [Stored::Base(base), ..] => base.format,
+        _ => 0,
+    }
+}
+
+// Whether the command asks that the machine be raised.
+fn is_raise(command: &Command) -> bool
+    ensures { result ≡ is_raise command.now }
+{
+    match command {
+        Command::Request(request) => match &request.op {
+            Op::Raise => true,
+            Op::Table(_) | Op::Join(_, _) | Op::Leave(_) => false,
+        },
+        Command::Noop => false,
+    }
+}
+
+fn some_vote_raises(votes: &[Vote]) -> bool
+    ensures { result ≡ list_any (λ v. is_raise v.command) votes.now }
+{
+    votes.iter().any(|vote| is_raise(&vote.command))
+}
+
+fn some_pair_raises(pairs: &[(Position, Command)]) -> bool
+    ensures { result ≡ list_any (λ p. is_raise p.1) pairs.now }
+{
+    pairs.iter().any(|pair| is_raise(&pair.1))
+}
+
+// Whether the entry tells of a command that asks so.
+fn tells_raise(entry: &Stored) -> bool
+    ensures { result ≡ tells_raise entry.now }
+{
+    match entry {
+        Stored::Base(base) => {
+            some_vote_raises(&base.standing.votes) || some_pair_raises(&base.standing.pairs)
+        }
+        Stored::Plain(Entry::Promise(_)) => false,
+        Stored::Plain(Entry::Vote(vote)) => is_raise(&vote.command),
+        Stored::Plain(Entry::Decided(_, command)) => is_raise(command),
+    }
+}
+
+fn some_tells_raise(entries: &[Stored]) -> bool
+    ensures { result ≡ list_any tells_raise entries.now }
+{
+    entries.iter().any(|entry| tells_raise(entry))
+}
+
+/// Whether the Base in front has format 1, and some entry tells of a command that asks so.
+pub fn is_mixed(entries: &[Stored]) -> bool
+    ensures { result ≡ is_mixed entries.now }
+{
+    format_of(entries) == 1 && some_tells_raise(entries)
+}
