@@ -1,7 +1,1 @@
-pub mod Faults
-pub mod Addresses
-pub mod Posts
 pub mod Replies
-pub mod Servers
-pub mod Sights
-pub mod Sayings

@@ -2,9 +2,9 @@
 
 ghost use Rattle.std.specs.Prelude.{◌≡◌};
 
-use crate::fault::ServiceFault;
-use crate::socket::{LocalSocket, local};
 use lk_disk::{FileDisk, Side, SystemFile};
+use lk_server::fault::ServiceFault;
+use lk_server::socket::{LocalSocket, local};
 use std::alloc::Global;
 use std::fmt::Display;
 use std::fs::{Files, OpenFile, OpenOptions};

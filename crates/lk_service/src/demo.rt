@@ -2,16 +2,16 @@
 
 ghost use Rattle.std.specs.Prelude.{◌≤◌};
 
-use crate::ear::Ear;
-use crate::fault::ServiceFault;
 use crate::question::{Heard, Question, datagram, next_reply, write_reply};
 use crate::reply::Reply;
 use crate::running::revive;
-use crate::server::Server;
-use crate::socket::{Datagrams, LocalSocket, local};
 use lk_disk::MemoryDisk;
 use lk_entries::Header;
 use lk_replica::Replica;
+use lk_server::ear::Ear;
+use lk_server::fault::ServiceFault;
+use lk_server::server::Server;
+use lk_server::socket::{Datagrams, LocalSocket, local};
 use lk_state::Machine;
 use lk_types::{ClientNo, Genesis, Member, NodeNo, Port, Request, RequestNumber};
 use lk_words::operation::read_operation;

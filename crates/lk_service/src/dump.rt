@@ -4,10 +4,10 @@ ghost use Rattle.std.specs.Prelude.{◌≡◌, ◌≤◌};
 ghost use Rattle.lk_disk.specs.declared.device.Side.{Side};
 
 use crate::causes::tell_device;
-use crate::fault::ServiceFault;
 use crate::folder::look_at_device;
 use lk_disk::LogDisk;
 use lk_log::{LiveFile, look};
+use lk_server::fault::ServiceFault;
 use lk_types::Ballot;
 use std::alloc::Global;
 use std::fs::Files;

@@ -1,8 +1,8 @@
 //! The files of a folder, from which one process alone serves.
 
 use crate::causes::{open_file, tell_cause, tell_closed};
-use crate::fault::ServiceFault;
 use lk_disk::{FileDisk, SystemFile};
+use lk_server::fault::ServiceFault;
 use std::alloc::Global;
 use std::fs::{File, Files, OpenOptions, TryLockError};
 use std::io::Write;

@@ -2,11 +2,11 @@
 
 ghost use Rattle.std.specs.Prelude.{◌≤◌};
 
-use crate::ear::Ear;
-use crate::fault::ServiceFault;
 use crate::reply::{Reply, read_reply};
-use crate::socket::{Datagrams, local};
 use bytes::BytesMut;
+use lk_server::ear::Ear;
+use lk_server::fault::ServiceFault;
+use lk_server::socket::{Datagrams, local};
 use lk_types::{Port, Request};
 use lk_wire::{Content, Message, write};
 use std::alloc::Global;

@@ -4,12 +4,12 @@ ghost use Rattle.std.specs.Prelude.{◌≡◌, [], None};
 use lk_locks::LockTable;
 use lk_node::{Input, Note};
 use lk_replica::{Post, ReplicaFault, SendFault};
+use lk_server::ear::Ear;
+use lk_server::node_replica::NodeReplica;
+use lk_server::server::{Server, node_turn};
+use lk_server::sight::Sight;
+use lk_server::socket::Datagrams;
 use lk_service::demo::{Sockets, play};
-use lk_service::ear::Ear;
-use lk_service::node_replica::NodeReplica;
-use lk_service::server::{Server, node_turn};
-use lk_service::sight::Sight;
-use lk_service::socket::Datagrams;
 use lk_types::{Ballot, Command, Executed, NodeNo, Position, RealBallot};
 use log::sink::{Discard, Memory};
 use std::alloc::Global;
@@ -166,27 +166,27 @@ const CHANGES: [Change; 6] = [
     (
         NEW,
         (1, 0, 0, 3, 0),
-        b"[DEBUG lk_service::watching] term 3.1 begun\n",
+        b"[DEBUG lk_server::watching] term 3.1 begun\n",
     ),
     (
         (1, 0, 0, 3, 1),
         (1, 0, 0, 0, 2),
-        b"[DEBUG lk_service::watching] term 3.1 ended by a tick\n[DEBUG lk_service::watching] known leader 2\n",
+        b"[DEBUG lk_server::watching] term 3.1 ended by a tick\n[DEBUG lk_server::watching] known leader 2\n",
     ),
     (
         (1, 0, 256, 0, 2),
         (2, 256, 256, 0, 0),
-        b"[DEBUG lk_service::watching] known leader none\n[DEBUG lk_service::watching] compacted at 256\n",
+        b"[DEBUG lk_server::watching] known leader none\n[DEBUG lk_server::watching] compacted at 256\n",
     ),
     (
         (1, 0, 5, 0, 0),
         (2, 300, 300, 0, 0),
-        b"[DEBUG lk_service::watching] installed at 300\n",
+        b"[DEBUG lk_server::watching] installed at 300\n",
     ),
     (
         (1, 0, 256, 0, 0),
         (3, 600, 600, 0, 0),
-        b"[DEBUG lk_service::watching] compacted at 256\n[DEBUG lk_service::watching] installed at 600\n",
+        b"[DEBUG lk_server::watching] compacted at 256\n[DEBUG lk_server::watching] installed at 600\n",
     ),
 ];
 
@@ -210,8 +210,8 @@ fn what_changes_by_a_turn_is_logged(rt: HostRuntime) -> Result<(), Fail> {
 #[test]
 fn notes_are_logged_also_where_datagrams_were_lost(rt: HostRuntime) -> Result<(), Fail> {
     for (end, text) in [
-        (End::Notes, b"[INFO  lk_service::notes] ran 3\n".as_slice()),
-        (End::Lost, b"[INFO  lk_service::notes] ran 3\n".as_slice()),
+        (End::Notes, b"[INFO  lk_server::notes] ran 3\n".as_slice()),
+        (End::Lost, b"[INFO  lk_server::notes] ran 3\n".as_slice()),
         (End::Broken, b"".as_slice()),
     ] {
         assert_eq!(rt; logged(rt.alloc(), end, NEW, NEW)?.as_slice(), text);

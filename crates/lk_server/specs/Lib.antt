@@ -1,0 +1,6 @@
+pub mod Faults
+pub mod Addresses
+pub mod Posts
+pub mod Servers
+pub mod Sights
+pub mod Sayings

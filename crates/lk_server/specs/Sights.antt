@@ -1,0 +1,14 @@
+-- What is seen of a replica from outside.
+use Rattle.std.specs.Prelude.{◌≡◌}
+use Rattle.std.specs.Option.{option_map}
+use Rattle.lk_replica.specs.ReplicaValue.{ReplicaValue}
+use Rattle.lk_server.specs.declared.sight.Sight.{Sight}
+
+-- each part is the replica's
+pub record IsSight (r : ReplicaValue) (s : Sight) : Type 0 where
+  pub generation : s.generation ≡ r.store.generation
+  pub snapshot : s.snapshot ≡ r.node.acceptor.state.snapshot_position
+  pub executed : s.executed ≡ r.node.learner.whole.roster.executed
+  pub promised : s.promised ≡ r.node.acceptor.state.promised
+  pub term : s.term ≡ option_map (λ t. t.ballot) r.node.leader.term
+  pub known : s.known ≡ r.node.known

@@ -1,0 +1,17 @@
+//! A node that serves on a socket: what comes to it, from where others wrote, the post that sends what its replica says, and
+//! the server and its turns. Which folder and which files the replica lies in is for those above.
+#![tactic(auto)]
+
+pub mod addresses;
+pub mod came;
+pub mod ear;
+pub mod fault;
+mod hearing;
+pub mod node_replica;
+pub mod notes;
+pub mod post;
+pub mod server;
+pub mod sight;
+pub mod socket;
+pub mod strangers;
+pub mod watching;

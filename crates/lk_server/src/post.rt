@@ -1,0 +1,228 @@
+//! The post of a node that has a socket.
+
+ghost use Rattle.std.specs.Prelude.{◌≡◌, ◌↔◌, ◌++◌, ◌∷◌, ℕ, [], Some, None, true, false, is_ok, OnOk, OnErr, IfSome, IsNone};
+ghost use Rattle.lk_types.specs.Ranges.{IsClient};
+ghost use Rattle.lk_disk.specs.Disk.{HasCause};
+ghost use Rattle.lk_server.specs.Addresses.{client_at, node_at};
+ghost use Rattle.lk_server.specs.Posts.{IsRoute, IsBoundFor, Becomes, Hears, tray_of};
+
+use crate::addresses::Addresses;
+use crate::came::Came;
+use crate::ear::Ear;
+use crate::socket::{Datagrams, local};
+use lk_node::{Letter, To};
+use lk_replica::{Post, SendFault};
+use lk_types::{NoMemory, NodeNo};
+use std::alloc::Global;
+use std::collections::VecDeque;
+use std::io;
+use std::marker::Model;
+use std::net::SocketAddr;
+
+/// Where a datagram has its kind, and the kind of a Want.
+const KIND: usize = 3;
+
+const WANT: u8 = 7;
+
+/// A socket, and from where others wrote to it.
+///
+/// What is bound for a client goes to the address from which its last request came, and is dropped without one. What is
+/// bound for a node goes to its port on 127.0.0.1; where that is not known, to the address from which it wrote last. What is
+/// bound for the node whose post it is does not leave it: it is kept, unless memory is refused for it.
+#[derive(Drop)]
+pub struct SocketPost<S: Datagrams + Drop> {
+    alloc: Global,
+    node: NodeNo,
+    socket: S,
+    addresses: Addresses,
+    // the letters of the node to itself
+    own: VecDeque<Letter>,
+    // how many sends failed in this step
+    failures: u64,
+    // how many letters were sent or kept in it
+    sent: u64,
+    // the last node to which a Want was sent in it
+    wanted: Option<NodeNo>,
+}
+
+/// What became of the letters of a step, for the log.
+#[derive(Clone, Copy, Debug, PartialEq, Eq)]
+pub struct Carried {
+    /// How many were sent, or kept for the node itself.
+    pub sent: u64,
+    /// How many sends failed.
+    pub lost: u64,
+    /// The last node to which a Want was sent.
+    pub wanted: Option<NodeNo>,
+}
+
+impl<S: Datagrams + Drop> Model for SocketPost<S> {
+    ghost use Rattle.lk_server.specs.Posts.{PostValue};
+
+    ghost Value = { PostValue };
+
+    ghost view = { λ p. record { node = p.node; addresses = p.addresses; own = p.own.items; sent = S.sent p.socket; socket_failures = S.failures p.socket; failures = p.failures; next = S.next p.socket } };
+}
+
+/// Where a letter goes.
+fn route(addresses: &Addresses, to: &To) -> Option<SocketAddr>
+    ensures { IsRoute addresses.now to.now result }
+{
+    match to {
+        To::Client(client) => addresses.client(*client),
+        To::Node(node, 0) => addresses.node(*node),
+        To::Node(_, port) => Some(local(*port)),
+    }
+}
+
+impl<S: Datagrams + Drop> SocketPost<S> {
+    /// The post of a node that has a socket, to which nobody has written.
+    pub fn new(alloc: Global, node: NodeNo, socket: S) -> SocketPost<S>
+        ensures node { result.node ≡ node }
+        ensures clients { (c : ℕ) → IsClient c → client_at result.addresses c ≡ None }
+        ensures nodes { (n : ℕ) → node_at result.addresses n ≡ None }
+        ensures own { result.own ≡ [] }
+        ensures sent { result.sent ≡ S.sent socket }
+        ensures socket_failures { result.socket_failures ≡ S.failures socket }
+        ensures failures { result.failures ≡ 0 }
+        ensures next { result.next ≡ S.next socket }
+    {
+        SocketPost {
+            alloc,
+            node,
+            socket,
+            addresses: Addresses::new(),
+            own: VecDeque::new(alloc),
+            failures: 0,
+            sent: 0,
+            wanted: None,
+        }
+    }
+
+    /// Keeps from where a datagram of the cluster came, as `Addresses::hear` does.
+    pub fn hear(&mut self, cluster: u64, bytes: &[u8], from: SocketAddr) -> Came
+        ensures heard { Hears cluster bytes.now from self.old.addresses self.new.addresses }
+        ensures others { self.new ≡ record self.old { addresses = self.new.addresses } }
+    {
+        self.addresses.hear(cluster, bytes, from)
+    }
+
+    /// Takes out the first letter of the node to itself.
+    pub fn next_own(&mut self) -> Option<Letter>
+        ensures some { IfSome result (λ l. self.old.own ≡ l ∷ self.new.own) }
+        ensures none { IsNone result → self.old.own ≡ [] }
+        ensures unchanged { IsNone result → self.new ≡ self.old }
+        ensures others { self.new ≡ record self.old { own = self.new.own } }
+    {
+        self.own.pop_front()
+    }
+
+    /// The next datagram of the socket, and from where it came.
+    pub fn receive<'a>(&mut self, ear: &'a mut Ear) -> Option<(&'a [u8], SocketAddr)>
+        ensures some { S.is_telling → IfSome result (λ r. self.old.next ≡ Some (r.1, r.0.now)) }
+        ensures none { S.is_telling → IsNone result → self.old.next ≡ None }
+        ensures others { self.new ≡ record self.old { next = self.new.next } }
+    {
+        ear.receive(&mut self.socket)
+    }
+
+    /// Why the last send that failed did, where the system told it.
+    pub fn cause(&self) -> Option<io::Error> {
+        self.socket.cause()
+    }
+
+    /// A step begins.
+    pub fn begin(&mut self)
+        ensures { self.new ≡ record self.old { failures = 0 } }
+    {
+        self.failures = 0;
+        self.sent = 0;
+        self.wanted = None;
+    }
+
+    /// What became of what it was given in this step.
+    pub fn carried(&self) -> Carried
+        ensures { result.lost ≡ self.now.failures }
+    {
+        Carried {
+            sent: self.sent,
+            lost: self.failures,
+            wanted: self.wanted,
+        }
+    }
+
+    // Notes for the log that this was sent or kept.
+    fn note(&mut self, to: &To, bytes: &[u8])
+        ensures { self.new ≡ self.old }
+    {
+        self.sent = self.sent.saturating_add(1);
+        match to {
+            To::Node(node, _) if bytes.get(KIND) == Some(&WANT) => self.wanted = Some(*node),
+            _ => {}
+        }
+    }
+
+    // Whether it is bound for the node itself.
+    fn is_own(&self, to: &To) -> bool
+        ensures { result ≡ true ↔ IsBoundFor self.now.node to.now }
+    {
+        match to {
+            To::Node(node, _) => *node == self.node,
+            To::Client(_) => false,
+        }
+    }
+
+    // One more letter of the node to itself.
+    fn keep(&mut self, to: To, bytes: &[u8]) -> Result<(), NoMemory>
+        ensures ok { OnOk result (self.new ≡ record self.old { own = self.old.own ++ record { to = to; bytes = bytes.now } ∷ [] }) }
+        ensures err { OnErr result (self.new ≡ self.old) }
+    {
+        let kept = bytes.to_vec(self.alloc)?;
+        self.own.push_back(Letter { to, bytes: kept })?;
+        self.note(&to, bytes);
+        Ok(())
+    }
+
+    // Sends a letter through the system, also one of the node to itself.
+    fn carry(&mut self, to: To, bytes: &[u8]) -> Result<(), SendFault>
+        ensures becomes { Becomes S.is_telling self.old.node self.old.addresses (tray_of self.old) (record { to = to; bytes = bytes.now }) (is_ok result) (tray_of self.new) }
+        ensures own { self.new.own ≡ self.old.own }
+        ensures node { self.new.node ≡ self.old.node }
+        ensures addresses { self.new.addresses ≡ self.old.addresses }
+        ensures cause { HasCause self.old.failures self.new.failures result }
+    {
+        let Some(place) = route(&self.addresses, &to) else {
+            return Ok(());
+        };
+        match self.socket.send_to(place, bytes) {
+            Ok(()) => {
+                self.note(&to, bytes);
+                Ok(())
+            }
+            Err(SendFault) => {
+                self.failures = self.failures.saturating_add(1);
+                Err(SendFault)
+            }
+        }
+    }
+}
+
+impl<S: Datagrams + Drop> Post for SocketPost<S> {
+    ghost use Rattle.std.specs.Prelude.{[]};
+    ghost use Rattle.lk_server.specs.Posts.{CarriesLetter};
+
+    ghost sent = { λ _. [] };
+
+    ghost is_telling = { ⊥ };
+
+    ghost failures = { λ p. p.failures };
+
+    ghost Carries = { CarriesLetter S.is_telling };
+
+    fn send(&mut self, to: To, bytes: &[u8]) -> Result<(), SendFault> {
+        if self.is_own(&to) && self.keep(to, bytes).is_ok() {
+            return Ok(());
+        }
+        self.carry(to, bytes)
+    }
+}
