@@ -1,6 +1,6 @@
 -- What a node learns and executes goes on: it rests on what was chosen, and the node knows it.
 use Rattle.std.proofs.Common.{get_or, ◌≡◌, ℕ, ◌+◌, ◌-◌, ◌<◌, ◌≤◌, inl, inr, Bool, true, false, ◌||◌, ◌&&◌, nat_le, length, List, [], ◌∷◌, ◌++◌, Some, Contains, drop, refl, sym, ◌∙◌, ap, subst, subst₂, arith}
-use Rattle.std.specs.Prelude.{slice_get}
+use Rattle.std.specs.Prelude.{slice_get, Option, None, IfSome}
 use Rattle.std.specs.List.{AllByRecursion}
 use Rattle.std.proofs.Math.Numerals.{suc-eq-add-one}
 use Rattle.std.proofs.Math.Seq.{drop-cons}
@@ -21,11 +21,12 @@ use Rattle.lk_history.specs.Datagrams.{HasSent}
 use Rattle.lk_history.specs.Nodes.{Pair, View}
 use Rattle.lk_history.proofs.Histories.{change_fits}
 use Rattle.lk_acceptor.specs.States.{acceptor_with}
-use Rattle.lk_learner.specs.Learners.{keeping}
+use Rattle.lk_learner.specs.Learners.{IsWanted, keeping}
 use Rattle.lk_learner.proofs.Learnerships.{with_has, keeping_follows, learning_changes}
 use Rattle.lk_node.specs.Entries.{Rests}
+use Rattle.lk_node.specs.Executing.{RunsAll}
 use Rattle.lk_node.specs.Histories.{History}
-use Rattle.lk_node.specs.DecidedPairs.{TakesPair, TakesPairs, one_more}
+use Rattle.lk_node.specs.DecidedPairs.{TakesPair, TakesFirst, TakesPairs, one_more}
 use Rattle.lk_node.specs.Keeping.{IsDecided as TellsDecided, IsKnown}
 use Rattle.lk_node.specs.Learning.{with_learner, Learns}
 use Rattle.lk_node.specs.NodeValue.{NodeValue}
@@ -135,6 +136,19 @@ unheard m Heard old new before after f = heard_goes_on m Heard (λ h. Unit {0}) 
 pub pair_goes_on : (m : Meaning) (i : ℕ) (v : Command) (old mid new : NodeValue) (before between after : OutboxValue) → GoesOn m (Chooses i v) old mid before between
     → GoesOn m (λ h. Unit {0}) mid new between after → GoesOn m (Chooses i v) old new before after
 pair_goes_on m i v old mid new before between after f g = then_goes_on m (Chooses i v) old mid new before between after f (unheard m (Chooses i v) mid new between after g)
+
+-- a command whose position is not wanted is stepped over, and what can be is executed: so it is taken
+pub stepped_over : (m : Meaning) (position : ℕ) (commands : List Command) (left : Option (List Command)) (old new : NodeValue) (before after : OutboxValue)
+    → (IsWanted old.learner position → ⊥) → RunsAll m old before new after → GoesOn m (λ h. Unit {0}) old new before after
+    → IfSome left (λ others. (v : Command) × (commands ≡ v ∷ others)) → IfSome left (λ others. TakesFirst m position commands others old before new after)
+stepped_over m position commands None old new before after other runs goes_on skips = tt
+stepped_over m position commands (Some others) old new before after other runs goes_on skips =
+    record {
+      command = skips.0;
+      stands = skips.1;
+      takes = record { learned = old; written = before; learns = inr (other, refl, refl); runs = runs };
+      goes_on = unheard m (Chooses position skips.0) old new before after goes_on;
+    }
 
 -- ---- pairs that are told
 

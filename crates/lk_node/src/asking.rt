@@ -4,7 +4,7 @@ ghost use Rattle.lk_node.specs.Asking.{leader_in, PointsTo, TakesNew, HearsReque
 ghost use Rattle.lk_node.specs.Outboxes.{nothing};
 ghost use Rattle.lk_node.specs.Serving.{GoesOn};
 
-use crate::kept_reply::kept_reply;
+use crate::kept_replies::kept_reply;
 use crate::node::Node;
 use crate::outbox::Outbox;
 use crate::to::To;

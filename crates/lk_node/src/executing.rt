@@ -3,7 +3,7 @@ ghost use Rattle.std.specs.Prelude.{◌≡◌, ◌≤◌, IfOk, OnOk};
 ghost use Rattle.lk_node.specs.Executing.{told, Settles, SettlesAny, session_by, RunsNext, has_term, is_outside, while_named, ExecutesOne, RunsAll};
 ghost use Rattle.lk_node.specs.Serving.{GoesOn};
 
-use crate::kept_reply::kept_reply;
+use crate::kept_replies::kept_reply;
 use crate::node::Node;
 use crate::note::Note;
 use crate::outbox::Outbox;
@@ -17,8 +17,9 @@ fn told(session: Session, number: RequestNumber) -> NodeMessage
     requires { number ≤ session.number }
     ensures { result ≡ told session number }
 {
+    let client = session.client;
     let seen = Seen::of(Some(session), number);
-    kept_reply(session.client, number, seen).unwrap()
+    kept_reply(client, number, seen).unwrap()
 }
 
 impl<M: Machine> Node<M> {

@@ -10,7 +10,7 @@ mod deciding;
 mod executing;
 mod input;
 mod installing;
-mod kept_reply;
+mod kept_replies;
 mod leading;
 mod learning;
 mod letter;
@@ -30,7 +30,7 @@ mod to;
 mod yielding;
 
 pub use input::Input;
-pub use kept_reply::kept_reply;
+pub use kept_replies::kept_reply;
 pub use letter::Letter;
 pub use node::{Halted, Node};
 pub use note::Note;

@@ -1,9 +1,9 @@
-use Rattle.std.proofs.Common.{◌≡◌, ◌∙◌, ℕ, ◌+◌, List, length, refl, ap, sym, subst, arith}
+use Rattle.std.proofs.Common.{◌≡◌, ◌∙◌, ℕ, ◌+◌, List, length, ap, sym, subst, arith}
 use Rattle.lk_types.specs.declared.command.Command.{Command}
 use Rattle.lk_wire.specs.declared.message.NodeMessage.TheVariants as kinds
 use Rattle.lk_state.specs.Meanings.{Meaning}
 use Rattle.lk_history.specs.Datagrams.{HasSent}
-use Rattle.lk_node.specs.DecidedPairs.{TakesPairs, none_yet}
+use Rattle.lk_node.specs.DecidedPairs.{TakesFirst, TakesPairs, none_yet}
 use Rattle.lk_node.specs.Outboxes.{OutboxValue, nothing}
 use Rattle.lk_node.specs.Serving.{GoesOn}
 use Rattle.lk_node.proofs.LearnerRules.{told_goes_on, takes_more, walked, not_walked}
@@ -22,17 +22,20 @@ pub pairs-preserved : goal.pairs-preserved
 pairs-preserved g c =
     let place : c.position_behind-position.result ≡ c.args.decided.now.first + c.pairs.index = c.position_behind-position.ensures ∙ ap (λ (i : ℕ). i + c.pairs.index) c.first.ensures in
     let many : c.len-index-end.result ≡ length c.args.decided.now.commands = c.len-index-end.ensures ∙ ap (λ (l : List Command). length l) c.commands-2.ensures in
-    let went = walked c.args.decided.now.commands c.pairs.rest c.in-Some.next.1 c.pairs.index c.in-Some.next.0 c.pairs.invariant.2 (omega (arith, many, c.pairs-test.true)) c.in-Some.ensures.some in (
-      takes_more _ c.args.decided.now c.pairs.index c.position_behind-position.result c.in-Some.next.0 _ c.pairs.self _ _ c.pairs.out _ place went.0 c.pairs.invariant.0 c.in_ok-hear_pair.ensures.exact,
-      λ from. told_goes_on _ from c.args.decided.now c.pairs.index c.position_behind-position.result c.in-Some.next.0 _ c.pairs.self _ _ c.pairs.out _ place went.0 (c.pairs.invariant.1 from) c.in_ok-hear_pair.ensures.goes_on,
+    let taken : TakesFirst g.M.Machine.meaning c.position_behind-position.result c.pairs.rest c.in-Some.others c.pairs.self c.pairs.out c.hear_first.new.self c.hear_first.new.out =
+        rw c.in-Some.is at c.in_ok-others.ensures.some in
+    let went = walked c.args.decided.now.commands c.pairs.rest c.in-Some.others c.pairs.index taken.command c.pairs.invariant.2 (omega (arith, many, c.pairs-test.true)) taken.stands in (
+      takes_more _ c.args.decided.now c.pairs.index c.position_behind-position.result taken.command _ c.pairs.self _ _ c.pairs.out _ place went.0 c.pairs.invariant.0 taken.takes,
+      λ from. told_goes_on _ from c.args.decided.now c.pairs.index c.position_behind-position.result taken.command _ c.pairs.self _ _ c.pairs.out _ place went.0 (c.pairs.invariant.1 from) taken.goes_on,
       went.1,
     )
 
 pub returns-in_default-clause-exact : goal.returns-in_default-clause-exact
 returns-in_default-clause-exact g c =
     let many : c.len-index-end.result ≡ length c.args.decided.now.commands = c.len-index-end.ensures ∙ ap (λ (l : List Command). length l) c.commands-2.ensures in
-    let none = not_walked c.args.decided.now.commands c.pairs.rest c.pairs.index c.pairs.invariant.2 (omega (arith, many, c.pairs-test.true)) (c.in_default.ensures.none refl) in
-    absurd none
+    absurd (not_walked c.args.decided.now.commands c.pairs.rest c.pairs.index c.pairs.invariant.2 (omega (arith, many, c.pairs-test.true)) (c.in_ok-others.ensures.none c.in_default.is))
 
 pub returns-in_default-clause-goes_on : goal.returns-in_default-clause-goes_on
-returns-in_default-clause-goes_on g c = c.pairs.invariant.1
+returns-in_default-clause-goes_on g c =
+    let many : c.len-index-end.result ≡ length c.args.decided.now.commands = c.len-index-end.ensures ∙ ap (λ (l : List Command). length l) c.commands-2.ensures in
+    absurd (not_walked c.args.decided.now.commands c.pairs.rest c.pairs.index c.pairs.invariant.2 (omega (arith, many, c.pairs-test.true)) (c.in_ok-others.ensures.none c.in_default.is))
