@@ -3,8 +3,8 @@ use Rattle.lk_types.specs.declared.command.Command.{Command}
 use Rattle.lk_wire.specs.declared.message.NodeMessage.TheVariants as kinds
 use Rattle.lk_state.specs.Meanings.{Meaning}
 use Rattle.lk_history.specs.Datagrams.{HasSent}
+use Rattle.lk_step.specs.Outboxes.{OutboxValue, nothing}
 use Rattle.lk_node.specs.DecidedPairs.{TakesPairs, none_yet}
-use Rattle.lk_node.specs.Outboxes.{OutboxValue, nothing}
 use Rattle.lk_node.specs.Serving.{GoesOn}
 use Rattle.lk_node.proofs.LearnerRules.{told_goes_on, takes_more, walked, not_walked}
 use Rattle.lk_node.proofs.Serving.{rests_here}

@@ -1,6 +1,6 @@
 // What a client is told of a request that is not new.
 ghost use Rattle.std.specs.Prelude.{◌≡◌};
-ghost use Rattle.lk_node.specs.KeptReplies.{kept_reply};
+ghost use Rattle.lk_step.specs.KeptReplies.{kept_reply};
 
 use lk_state::Seen;
 use lk_types::{ClientNo, RequestNumber};
