@@ -3,7 +3,6 @@
 #![tactic(auto)]
 
 mod input;
-mod kept_reply;
 mod letter;
 mod members;
 mod news;
@@ -19,7 +18,6 @@ mod to;
 mod votes;
 
 pub use input::Input;
-pub use kept_reply::kept_reply;
 pub use letter::Letter;
 pub use members::{is_heard, nodes_of};
 pub use news::news_of;
@@ -27,7 +25,7 @@ pub use note::Note;
 pub use outbox::Outbox;
 pub use pairs::{copied, position_behind};
 pub use port::port_in;
-pub use replies::{is_granted, told};
+pub use replies::{is_granted, kept_reply, told};
 pub use seen_round::SeenRound;
 pub use spelling::spelled;
 pub use tick_count::{TICKS_A_PLACE, TickCount};
