@@ -1,6 +1,6 @@
 -- What a client is told of a request that is not new.
-use Rattle.std.proofs.Common.{◌≡◌, ℕ, ◌≤◌, ◌<◌, inl, inr, Bool, true, false, cond, Option, Some, None, refl, sym, ap, subst, arith, nat_lt, eqb}
-use Rattle.std.proofs.lemmas.Bool.{cases_Bool, eqb-true, eqb-refl, lt-ltb, ltb-false, ltb-true}
+use Rattle.std.proofs.Common.{◌≡◌, ℕ, ◌≤◌, ◌<◌, inl, inr, true, false, Option, Some, None, refl, subst, arith, nat_lt, eqb}
+use Rattle.std.proofs.lemmas.Bool.{cases_Bool, eqb-true, eq-eqb, lt-ltb, ltb-false, ltb-true}
 use Rattle.lk_types.specs.declared.answer.Answer.{Answer}
 use Rattle.lk_wire.specs.declared.message.NodeMessage.{NodeMessage}
 use Rattle.lk_wire.specs.declared.message.NodeMessage.TheVariants as kinds
@@ -53,7 +53,7 @@ reached_is_told s number le =
     ]
   where
     equal : number ≡ s.number → eqb number s.number ≡ true
-    equal same = rw same (eqb-refl s.number)
+    equal same = eq-eqb number s.number same
 
     other : nat_lt number s.number ≡ true → eqb number s.number ≡ false
     other below =

@@ -38,6 +38,7 @@ pub fn told(session: Session, number: RequestNumber) -> NodeMessage
     requires { number ≤ session.number }
     ensures { result ≡ told session number }
 {
+    let client = session.client;
     let seen = Seen::of(Some(session), number);
-    kept_reply(session.client, number, seen).unwrap()
+    kept_reply(client, number, seen).unwrap()
 }
