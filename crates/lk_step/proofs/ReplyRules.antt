@@ -48,7 +48,7 @@ none_is_new o client number e = by_seen (seen_as o number) refl e
 pub reached_is_told : (s : Session) (number : ℕ) → number ≤ s.number → kept_reply s.client number (seen_as (Some s) number) ≡ Some (told s number)
 reached_is_told s number le =
     elim (cases_Bool (nat_lt number s.number)) [
-      | inl below ↦ rw (other below, below) refl
+      | inl below ↦ rw (other below, below, below) refl
       | inr above ↦ (let same : number ≡ s.number = omega (arith, le, ltb-false number s.number above) in rw (equal same, above) refl)
     ]
   where
