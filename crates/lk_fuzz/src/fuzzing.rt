@@ -10,12 +10,12 @@ ghost use Rattle.lk_fuzz.specs.Schedules.{IsOfThree, IsNew, IsPassedBy, PassesBy
 ghost use Rattle.lk_fuzz.specs.Lines.{ran_at, IsFurthest, done_line, Reports};
 
 use crate::schedule::Schedule;
-use lk_node::Note;
 use lk_replica::MemoryReplica;
 use lk_script::ending::end;
 use lk_script::fault::ScriptFault;
 use lk_script::printing::print_refusal;
 use lk_sim::{Event, Refused, World};
+use lk_step::Note;
 use lk_types::{Genesis, Member, NodeNo, Port};
 use std::alloc::{AllocError, Global};
 use std::io::Write;

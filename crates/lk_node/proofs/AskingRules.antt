@@ -15,12 +15,12 @@ use Rattle.lk_state.specs.declared.whole.Seen.TheVariants as seen
 use Rattle.lk_state.proofs.Wholes.{same_is, passed_is, last_is_replied, seen_last}
 use Rattle.lk_leader.specs.Terms.{TermValue}
 use Rattle.lk_leader.specs.Waits.{newer, asked}
+use Rattle.lk_step.specs.Outboxes.{OutboxValue, nothing}
+use Rattle.lk_step.specs.declared.to.To.TheVariants as to
 use Rattle.lk_node.specs.Asking.{with_waiting, leader_in, PointsTo, TakesNew, TakesAs, HearsRequest}
 use Rattle.lk_node.specs.Histories.{History, Genesis, Command}
 use Rattle.lk_node.specs.NodeValue.{NodeValue}
-use Rattle.lk_node.specs.Outboxes.{OutboxValue, nothing}
 use Rattle.lk_node.specs.Serving.{GoesOn}
-use Rattle.lk_node.specs.declared.to.To.TheVariants as to
 use Rattle.lk_node.proofs.Changing.{change_goes_on}
 use Rattle.lk_node.proofs.LevelRules.{idles, alone_goes_on}
 use Rattle.lk_node.proofs.Lists.{cons_cases, contains_more, only}

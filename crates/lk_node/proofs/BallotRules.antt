@@ -17,11 +17,11 @@ use Rattle.lk_leader.specs.Terms.{TermValue, begun}
 use Rattle.lk_leader.proofs.Leaderships.{begun_stands}
 use Rattle.lk_leader.specs.Standing.{LeadsTerm}
 use Rattle.lk_learner.specs.Learners.{executed}
+use Rattle.lk_step.specs.Outboxes.{OutboxValue, nothing, with_entry}
+use Rattle.lk_step.specs.Saying.{saying}
 use Rattle.lk_node.specs.Beginning.{beginning, Begins}
 use Rattle.lk_node.specs.Histories.{History}
 use Rattle.lk_node.specs.NodeValue.{NodeValue}
-use Rattle.lk_node.specs.Outboxes.{OutboxValue, nothing, with_entry}
-use Rattle.lk_node.specs.Saying.{saying}
 use Rattle.lk_node.specs.Serving.{GoesOn}
 use Rattle.lk_node.specs.Telling.{telling}
 use Rattle.lk_node.specs.Waiting.{ticked}

@@ -31,19 +31,21 @@ use Rattle.lk_leader.specs.Terms.{TermValue, LeaderValue, ProposalValue, with_te
 use Rattle.lk_leader.specs.declared.leader.Chosen.{Chosen}
 use Rattle.lk_leader.proofs.Leaderships.{majority_rests, accepted_by, majority_stands}
 use Rattle.lk_learner.specs.Learners.{executed, advanced}
-use Rattle.lk_node.specs.Deciding.{IsForProposal, with_vote, BringsMajority, IsOnlyHeard, HearsVote, news_of, AreNews, HearsAccepted, Decides}
+use Rattle.lk_step.specs.News.{news_of}
+use Rattle.lk_step.specs.Letters.{LetterValue}
+use Rattle.lk_step.specs.Outboxes.{OutboxValue, nothing, with_note, with_letter, with_letters}
+use Rattle.lk_step.specs.Saying.{saying}
+use Rattle.lk_step.specs.declared.note.Note.TheVariants as note
+use Rattle.lk_node.specs.Deciding.{IsForProposal, with_vote, BringsMajority, IsOnlyHeard, HearsVote, AreNews, HearsAccepted, Decides}
 use Rattle.lk_node.specs.Executing.{SettlesAny, session_by, is_outside, while_named, Executes, Runs, stays, goes_on}
 use Rattle.lk_node.specs.Histories.{History}
 use Rattle.lk_node.specs.Keeping.{IsKnown}
 use Rattle.lk_node.specs.Learning.{with_learner, Learns}
-use Rattle.lk_node.specs.Letters.{LetterValue}
 use Rattle.lk_node.specs.NodeValue.{NodeValue}
-use Rattle.lk_node.specs.Outboxes.{OutboxValue, nothing, with_note, with_letter}
-use Rattle.lk_node.specs.Saying.{saying, to_node}
+use Rattle.lk_node.specs.Saying.{to_node}
 use Rattle.lk_node.specs.Serving.{Serves, GoesOn}
-use Rattle.lk_node.specs.Telling.{letter_to, with_letters}
+use Rattle.lk_node.specs.Telling.{letter_to}
 use Rattle.lk_node.specs.Yielding.{without_term}
-use Rattle.lk_node.specs.declared.note.Note.TheVariants as note
 use Rattle.lk_node.proofs.Changing.{change_goes_on}
 use Rattle.lk_node.proofs.Decisions.{for_proposal_or_not}
 use Rattle.lk_node.proofs.LearnerRules.{Chooses, unheard}

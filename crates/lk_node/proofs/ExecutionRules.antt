@@ -28,17 +28,18 @@ use Rattle.lk_learner.specs.Following.{Follows}
 use Rattle.lk_learner.specs.Learners.{LearnerValue, IsLearner, executed, IsNext, advanced, IsServed}
 use Rattle.lk_learner.specs.Pairs.{without}
 use Rattle.lk_learner.proofs.Learnerships.{ran_moves, advanced_follows, next_stands, running_changes, served_stands}
-use Rattle.lk_node.specs.Executing.{told, waiting_number, with_told, settled, Settles, SettlesAny, session_by, RunsNext, is_outside, while_named, Executes, ExecutesOne, Runs, goes_on, RunsAll}
+use Rattle.lk_step.specs.KeptReplies.{told}
+use Rattle.lk_step.specs.Outboxes.{OutboxValue, with_note, with_letter}
+use Rattle.lk_step.specs.Saying.{saying}
+use Rattle.lk_step.specs.declared.note.Note.TheVariants as note
+use Rattle.lk_step.specs.declared.to.To.TheVariants as to
+use Rattle.lk_node.specs.Executing.{waiting_number, with_told, settled, Settles, SettlesAny, session_by, RunsNext, is_outside, while_named, Executes, ExecutesOne, Runs, goes_on, RunsAll}
 use Rattle.lk_node.specs.Histories.{History}
 use Rattle.lk_node.specs.Keeping.{IsKnown}
 use Rattle.lk_node.specs.Learning.{with_learner}
 use Rattle.lk_node.specs.NodeValue.{NodeValue}
-use Rattle.lk_node.specs.Outboxes.{OutboxValue, with_note, with_letter}
-use Rattle.lk_node.specs.Saying.{saying}
 use Rattle.lk_node.specs.Serving.{GoesOn}
 use Rattle.lk_node.specs.Yielding.{without_term}
-use Rattle.lk_node.specs.declared.note.Note.TheVariants as note
-use Rattle.lk_node.specs.declared.to.To.TheVariants as to
 use Rattle.lk_node.proofs.Changing.{change_goes_on, leaves_goes_on}
 use Rattle.lk_node.proofs.Serving.{rests_here, then_goes_on, says, notes}
 

@@ -14,6 +14,9 @@ use Rattle.lk_state.specs.declared.session.Session.{Session}
 use Rattle.lk_entries.specs.Values.{HeaderValue}
 use Rattle.lk_learner.specs.Learners.{Command, Pair}
 use Rattle.lk_history.specs.Ballots.{BallotValue}
+use Rattle.lk_step.specs.Outboxes.{OutboxValue, nothing, with_rebase, with_entry, with_optional}
+use Rattle.lk_step.specs.declared.input.Input.{Input}
+use Rattle.lk_step.specs.declared.input.Input.TheVariants as input
 use Rattle.lk_node.specs.CatchingUp.{Feeds}
 use Rattle.lk_node.specs.Executing.{with_told, SettlesAny, waiting_number, while_named, Runs, goes_on, stays}
 use Rattle.lk_node.specs.Installing.{SettlesFirst, none_settled, one_settled, HearsPart}
@@ -21,7 +24,6 @@ use Rattle.lk_node.specs.Learning.{Learns}
 use Rattle.lk_node.specs.DecidedPairs.{TakesPairs, none_yet, one_more}
 use Rattle.lk_node.specs.Leading.{ProposesAll}
 use Rattle.lk_node.specs.Reminding.{OffersFirst, OffersAhead, OffersAgain, Ticks, none_offered, one_offered}
-use Rattle.lk_node.specs.Outboxes.{OutboxValue, nothing, with_rebase, with_entry, with_optional}
 use Rattle.lk_node.specs.NodeValue.{NodeValue}
 use Rattle.lk_node.specs.Steps.{Steps, HearsNode, Hears}
 use Rattle.lk_node.specs.Asking.{HearsRequest, PointsTo, TakesNew, TakesAs, leader_in}
@@ -32,8 +34,6 @@ use Rattle.lk_state.specs.Sessions.{session_of}
 use Rattle.lk_state.specs.Runs.{seen_as}
 use Rattle.lk_state.specs.declared.whole.Seen.{Seen}
 use Rattle.lk_state.specs.declared.whole.Seen.TheVariants as seen
-use Rattle.lk_node.specs.declared.input.Input.{Input}
-use Rattle.lk_node.specs.declared.input.Input.TheVariants as input
 
 -- the second has as many entries as the first, and at most so many more
 abbrev Few : ℕ → OutboxValue → OutboxValue → Type 0

@@ -26,6 +26,7 @@ use Rattle.lk_leader.proofs.Leaderships.{later_stands}
 use Rattle.lk_learner.specs.Installing.{with_gathered, hearing, MayInstall, pairs_above, installed, Installs}
 use Rattle.lk_learner.specs.Learners.{LearnerValue, GatheredValue, executed, alpha}
 use Rattle.lk_learner.proofs.Learnerships.{filter_has, executed_is, heard_front, installed_follows}
+use Rattle.lk_step.specs.Outboxes.{OutboxValue}
 use Rattle.lk_node.specs.Histories.{History, Genesis, Datagram, text}
 use Rattle.lk_node.specs.Holdings.{Holding, HoldingFits}
 use Rattle.lk_node.specs.Installing.{Gathers}
@@ -34,7 +35,6 @@ use Rattle.lk_node.specs.Learning.{with_learner}
 use Rattle.lk_node.specs.Leavings.{header_of}
 use Rattle.lk_node.specs.Nearness.{AreNear}
 use Rattle.lk_node.specs.NodeValue.{NodeValue}
-use Rattle.lk_node.specs.Outboxes.{OutboxValue}
 use Rattle.lk_node.specs.Serving.{GoesOn}
 use Rattle.lk_node.proofs.Changing.{IsFollowed, change_goes_on}
 use Rattle.lk_node.proofs.Serving.{rests_here, then_goes_on}

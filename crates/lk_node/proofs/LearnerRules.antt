@@ -23,6 +23,7 @@ use Rattle.lk_history.proofs.Histories.{change_fits}
 use Rattle.lk_acceptor.specs.States.{acceptor_with}
 use Rattle.lk_learner.specs.Learners.{IsWanted, keeping}
 use Rattle.lk_learner.proofs.Learnerships.{with_has, keeping_follows, learning_changes}
+use Rattle.lk_step.specs.Outboxes.{OutboxValue, with_entry}
 use Rattle.lk_node.specs.Entries.{Rests}
 use Rattle.lk_node.specs.Executing.{RunsAll}
 use Rattle.lk_node.specs.Histories.{History}
@@ -30,7 +31,6 @@ use Rattle.lk_node.specs.DecidedPairs.{TakesPair, TakesFirst, TakesPairs, one_mo
 use Rattle.lk_node.specs.Keeping.{IsDecided as TellsDecided, IsKnown}
 use Rattle.lk_node.specs.Learning.{with_learner, Learns}
 use Rattle.lk_node.specs.NodeValue.{NodeValue}
-use Rattle.lk_node.specs.Outboxes.{OutboxValue, with_entry}
 use Rattle.lk_node.specs.Serving.{with_entries, Serves, GoesOn}
 use Rattle.lk_node.proofs.Changing.{change_goes_on}
 use Rattle.lk_node.proofs.Serving.{rests_here, then_goes_on, heard_goes_on}

@@ -15,18 +15,19 @@ use Rattle.lk_learner.specs.Following.{Follows}
 use Rattle.lk_learner.specs.Learners.{LearnerValue, news_from, wanted}
 use Rattle.lk_learner.specs.Parts.{start_of}
 use Rattle.lk_learner.proofs.Learnerships.{served_chosen, parts_slice}
+use Rattle.lk_step.specs.Letters.{LetterValue}
+use Rattle.lk_step.specs.Outboxes.{OutboxValue, nothing, with_letter}
+use Rattle.lk_step.specs.Saying.{saying}
+use Rattle.lk_step.specs.declared.to.To.{To}
 use Rattle.lk_node.specs.CatchingUp.{sending_parts, FeedsParts, Feeds, AsksOn, Levels, HearsNack, following, AsksWhereMore, refusal, HearsLead}
 use Rattle.lk_node.specs.Histories.{History, Command, text}
-use Rattle.lk_node.specs.Letters.{LetterValue}
 use Rattle.lk_node.specs.NodeValue.{NodeValue}
-use Rattle.lk_node.specs.Outboxes.{OutboxValue, nothing, with_letter}
 use Rattle.lk_node.specs.Replying.{SaysAlone}
-use Rattle.lk_node.specs.Saying.{saying, to_node}
+use Rattle.lk_node.specs.Saying.{to_node}
 use Rattle.lk_node.specs.Served.{BearsOutMessage}
 use Rattle.lk_node.specs.Serving.{Serves, GoesOn}
 use Rattle.lk_node.specs.Telling.{letter_to}
 use Rattle.lk_node.specs.Yielding.{with_round, seeing}
-use Rattle.lk_node.specs.declared.to.To.{To}
 use Rattle.lk_node.proofs.Changing.{alike_goes_on, yielded_goes_on}
 use Rattle.lk_node.proofs.Lists.{contains_more}
 use Rattle.lk_node.proofs.ManyLetters.{lettered}

@@ -7,11 +7,12 @@ use Rattle.lk_history.specs.Acceptors.{Covers}
 use Rattle.lk_history.specs.Nodes.{MaySend}
 use Rattle.lk_members.specs.Ports.{IsNextAbove, AreAllAbove}
 use Rattle.lk_state.specs.Meanings.{Meaning}
+use Rattle.lk_step.specs.Letters.{LetterValue}
+use Rattle.lk_step.specs.Outboxes.{OutboxValue, with_letter}
+use Rattle.lk_step.specs.Saying.{saying}
 use Rattle.lk_node.specs.Histories.{History}
-use Rattle.lk_node.specs.Letters.{LetterValue}
 use Rattle.lk_node.specs.NodeValue.{NodeValue}
-use Rattle.lk_node.specs.Outboxes.{OutboxValue, with_letter}
-use Rattle.lk_node.specs.Saying.{saying, to_node}
+use Rattle.lk_node.specs.Saying.{to_node}
 use Rattle.lk_node.specs.Served.{IsServed}
 use Rattle.lk_node.specs.Serving.{IsLight, Serves, GoesOn}
 use Rattle.lk_node.specs.Telling.{letter_to, telling}

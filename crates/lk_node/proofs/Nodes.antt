@@ -2,4 +2,3 @@
 pub use Rattle.lk_node.proofs.Lists.{cons_cases, contains_more, take_contains, map_contains, map_has}
 pub use Rattle.lk_node.proofs.Serving.{letter_spelled, mapped_append}
 pub use Rattle.lk_node.proofs.FewEntries.{few_entries}
-pub use Rattle.lk_node.proofs.ReplyRules.{answer_same, passed_same, none_is_new}

@@ -7,15 +7,15 @@ use Rattle.lk_members.proofs.Memberships.{majorities_meet}
 use Rattle.lk_leader.specs.Proposing.{promisers}
 use Rattle.lk_leader.specs.Terms.{TermValue, begun}
 use Rattle.lk_state.specs.Meanings.{Meaning}
+use Rattle.lk_step.specs.Outboxes.{OutboxValue}
+use Rattle.lk_step.specs.declared.input.Input.{Input}
+use Rattle.lk_step.specs.declared.input.Input.TheVariants as input
 use Rattle.lk_node.specs.Leading.{having_proposed, NothingOpen, ProposesAll}
 use Rattle.lk_node.specs.NodeValue.{NodeValue}
-use Rattle.lk_node.specs.Outboxes.{OutboxValue}
 use Rattle.lk_node.specs.Reminding.{Ticks}
 use Rattle.lk_node.specs.Steps.{Steps}
 use Rattle.lk_node.specs.Waiting.{ticked, BeginsWhereDue}
 use Rattle.lk_node.specs.Beginning.{next_ballot, beginning}
-use Rattle.lk_node.specs.declared.input.Input.{Input}
-use Rattle.lk_node.specs.declared.input.Input.TheVariants as input
 
 -- after the last of them nothing is
 last_open : (xs : List Vote) (old new : NodeValue) (before out : OutboxValue) → ProposesAll xs old new before out → NothingOpen new

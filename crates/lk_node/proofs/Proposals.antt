@@ -27,14 +27,15 @@ use Rattle.lk_acceptor.specs.AcceptorValue.{AcceptorValue}
 use Rattle.lk_leader.specs.Proposing.{AreMembersAt, LeaderProposes, proposed}
 use Rattle.lk_leader.specs.Terms.{ProposalValue, TermValue, LeaderValue, RequestValue, with_term, proposal_at, in_window}
 use Rattle.lk_leader.proofs.Leaderships.{proposes_allowed, proposes_asked, proposed_stands}
+use Rattle.lk_step.specs.Members.{nodes_of}
+use Rattle.lk_step.specs.Outboxes.{OutboxValue}
+use Rattle.lk_step.specs.Saying.{saying}
 use Rattle.lk_node.specs.Histories.{History, IsLawful, WasAsked}
 use Rattle.lk_node.specs.Holdings.{Holding, HoldingFits}
 use Rattle.lk_node.specs.Keeping.{IsHeld}
-use Rattle.lk_node.specs.Leading.{with_leader, ProposesVote, having_proposed, NothingOpen, nodes_of, ProposesAll, ProposesOpen, ProposesNext}
+use Rattle.lk_node.specs.Leading.{with_leader, ProposesVote, having_proposed, NothingOpen, ProposesAll, ProposesOpen, ProposesNext}
 use Rattle.lk_node.specs.NodeValue.{NodeValue}
-use Rattle.lk_node.specs.Outboxes.{OutboxValue}
 use Rattle.lk_node.specs.Promised.{HasPromised}
-use Rattle.lk_node.specs.Saying.{saying}
 use Rattle.lk_node.specs.Served.{IsServed}
 use Rattle.lk_node.specs.Serving.{Serves, GoesOn}
 use Rattle.lk_node.specs.Telling.{telling}

@@ -13,9 +13,9 @@ use Rattle.lk_members.specs.Windows.{RosterValue}
 use Rattle.lk_leader.specs.Acceptances.{IsOpen}
 use Rattle.lk_leader.specs.Terms.{ProposalValue, TermValue, LeaderValue, proposal_at}
 use Rattle.lk_learner.specs.Learners.{executed}
+use Rattle.lk_step.specs.Outboxes.{OutboxValue}
 use Rattle.lk_node.specs.Histories.{History}
 use Rattle.lk_node.specs.NodeValue.{NodeValue}
-use Rattle.lk_node.specs.Outboxes.{OutboxValue}
 use Rattle.lk_node.specs.Promised.{HasPromised}
 use Rattle.lk_node.specs.Reminding.{IsTermOf, TellsThese, AsksAgain, unheard, vote_for, OffersAgain, TellsLead}
 use Rattle.lk_node.specs.Serving.{GoesOn}

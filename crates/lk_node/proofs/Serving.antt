@@ -12,18 +12,18 @@ use Rattle.lk_state.specs.Meanings.{Meaning}
 use Rattle.lk_history.specs.Acceptors.{Covers}
 use Rattle.lk_history.specs.Datagrams.{said_by}
 use Rattle.lk_history.specs.Nodes.{MaySend}
+use Rattle.lk_step.specs.Letters.{LetterValue, datagram_of, batch_of}
+use Rattle.lk_step.specs.Outboxes.{OutboxValue, nothing, with_letter, with_note}
+use Rattle.lk_step.specs.Saying.{saying}
+use Rattle.lk_step.specs.declared.note.Note.{Note}
+use Rattle.lk_step.specs.declared.to.To.{To}
 use Rattle.lk_node.specs.Calls.{MayGo}
 use Rattle.lk_node.specs.Histories.{History, Genesis, IsHeard}
 use Rattle.lk_node.specs.Leavings.{header_of}
-use Rattle.lk_node.specs.Letters.{LetterValue, datagram_of, batch_of}
 use Rattle.lk_node.specs.NodeValue.{NodeValue}
-use Rattle.lk_node.specs.Outboxes.{OutboxValue, nothing, with_letter, with_note}
-use Rattle.lk_node.specs.Saying.{saying}
 use Rattle.lk_node.specs.Served.{IsServed, IsOfNode, IsBorneOut}
 use Rattle.lk_node.specs.Serving.{IsLight, Tells, Serves, GoesOn}
 use Rattle.lk_node.specs.Steps.{WasHeard}
-use Rattle.lk_node.specs.declared.note.Note.{Note}
-use Rattle.lk_node.specs.declared.to.To.{To}
 use Rattle.lk_node.proofs.Lists.{only}
 
 -- nothing is done

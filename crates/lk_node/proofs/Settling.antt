@@ -19,7 +19,11 @@ use Rattle.lk_acceptor.specs.declared.response.Response.{Response}
 use Rattle.lk_leader.specs.Terms.{TermValue}
 use Rattle.lk_learner.specs.Installing.{with_gathered, hearing, Installs}
 use Rattle.lk_learner.specs.Learners.{Command, LearnerValue, IsNext}
-use Rattle.lk_node.specs.Answering.{is_granted, with_acceptor, replied, Responds}
+use Rattle.lk_step.specs.Grants.{is_granted}
+use Rattle.lk_step.specs.Outboxes.{OutboxValue}
+use Rattle.lk_step.specs.declared.input.Input.{Input}
+use Rattle.lk_step.specs.declared.input.Input.TheVariants as input
+use Rattle.lk_node.specs.Answering.{with_acceptor, replied, Responds}
 use Rattle.lk_node.specs.Asking.{leader_in, PointsTo, TakesNew, TakesAs}
 use Rattle.lk_node.specs.CatchingUp.{following, HearsLead}
 use Rattle.lk_node.specs.Deciding.{IsOnlyHeard, HearsAccepted}
@@ -28,13 +32,10 @@ use Rattle.lk_node.specs.Executing.{NothingToRun}
 use Rattle.lk_node.specs.Installing.{HearsPart}
 use Rattle.lk_node.specs.Leading.{HearsPromise, having_proposed, ProposesAll}
 use Rattle.lk_node.specs.NodeValue.{NodeValue}
-use Rattle.lk_node.specs.Outboxes.{OutboxValue}
 use Rattle.lk_node.specs.Reminding.{Ticks}
 use Rattle.lk_node.specs.Steps.{HearsNode, Hears, TakesBytes, Steps}
 use Rattle.lk_node.specs.Waiting.{ticked, BeginsWhereDue}
 use Rattle.lk_node.specs.Yielding.{without_term, is_term_below, yielded, with_round, seeing}
-use Rattle.lk_node.specs.declared.input.Input.{Input}
-use Rattle.lk_node.specs.declared.input.Input.TheVariants as input
 
 -- nothing is left to execute, where nothing was left before
 abbrev Settles : NodeValue → NodeValue → Type 0

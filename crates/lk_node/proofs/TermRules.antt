@@ -21,12 +21,12 @@ use Rattle.lk_acceptor.specs.AcceptorValue.{AcceptorValue}
 use Rattle.lk_leader.specs.Standing.{LeadsTerm}
 use Rattle.lk_leader.specs.Terms.{Report, TermValue, LeaderValue, with_term, with_report, is_promiser, IsFirstOf}
 use Rattle.lk_leader.proofs.Leaderships.{heard_stands}
+use Rattle.lk_step.specs.Outboxes.{OutboxValue, nothing}
 use Rattle.lk_node.specs.Histories.{History, IsLawful, WasAsked}
 use Rattle.lk_node.specs.Holdings.{Holding, HoldingFits}
 use Rattle.lk_node.specs.Keeping.{IsKnown, IsHeld}
 use Rattle.lk_node.specs.Leading.{with_leader, report_of, KeepsPromise, DropsPromise, HearsPromise}
 use Rattle.lk_node.specs.NodeValue.{NodeValue}
-use Rattle.lk_node.specs.Outboxes.{OutboxValue, nothing}
 use Rattle.lk_node.specs.Promised.{HasPromised}
 use Rattle.lk_node.specs.Serving.{GoesOn}
 use Rattle.lk_node.proofs.Changing.{IsFollowed, change_goes_on}

@@ -1,22 +1,18 @@
 -- What a node answers as an acceptor.
-use Rattle.std.specs.Prelude.{◌≡◌, ℕ, Bool, true, false, if◌then◌else◌}
+use Rattle.std.specs.Prelude.{◌≡◌, ℕ, if◌then◌else◌}
 use Rattle.lk_wire.specs.Grammar.{spelling, IsMessage}
 use Rattle.lk_wire.specs.declared.message.NodeMessage.{NodeMessage}
-use Rattle.lk_wire.specs.declared.message.NodeMessage.TheVariants as kinds
 use Rattle.lk_acceptor.specs.AcceptorValue.{AcceptorValue}
 use Rattle.lk_acceptor.specs.declared.response.Response.{Response}
+use Rattle.lk_step.specs.Grants.{is_granted}
+use Rattle.lk_step.specs.Outboxes.{OutboxValue, nothing, with_letter, with_optional}
+use Rattle.lk_step.specs.Saying.{saying}
 use Rattle.lk_node.specs.NodeValue.{NodeValue}
-use Rattle.lk_node.specs.Outboxes.{OutboxValue, nothing, with_letter, with_optional}
-use Rattle.lk_node.specs.Saying.{saying, to_node}
+use Rattle.lk_node.specs.Saying.{to_node}
 use Rattle.lk_node.specs.Yielding.{yielded}
 
 abbrev pub with_acceptor : NodeValue → AcceptorValue → NodeValue
 with_acceptor node a = record node { acceptor = a }
-
--- a reply of an acceptor that is no refusal
-abbrev pub is_granted : NodeMessage → Bool
-is_granted (kinds.Nack k) = false
-is_granted _ = true
 
 -- a leader was heard where the reply grants, and the term ends where the promised ballot is above it
 abbrev pub replied : NodeMessage → NodeValue → NodeValue

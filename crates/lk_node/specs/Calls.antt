@@ -8,13 +8,13 @@ use Rattle.lk_state.specs.Meanings.{Meaning}
 use Rattle.lk_history.specs.declared.party.Party.TheVariants as party
 use Rattle.lk_history.specs.Datagrams.{said_by}
 use Rattle.lk_history.specs.Nodes.{View, MaySend}
+use Rattle.lk_step.specs.declared.note.Note.{Note}
+use Rattle.lk_step.specs.declared.input.Input.{Input}
+use Rattle.lk_step.specs.declared.input.Input.TheVariants.{Tick, Datagram as Heard}
 use Rattle.lk_node.specs.Histories.{History, Datagram, later, IsLawful, IsHeard}
 use Rattle.lk_node.specs.Served.{IsOfNode, IsBorneOut, IsServed}
 use Rattle.lk_node.specs.Holdings.{Holding, HoldingFits}
 use Rattle.lk_node.specs.Leavings.{DisksFit}
-use Rattle.lk_node.specs.declared.note.Note.{Note}
-use Rattle.lk_node.specs.declared.input.Input.{Input}
-use Rattle.lk_node.specs.declared.input.Input.TheVariants.{Tick, Datagram as Heard}
 
 -- the bytes that a node is given, none at a tick
 abbrev pub heard_by : Input → Option (List ℕ)

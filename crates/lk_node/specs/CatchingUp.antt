@@ -9,11 +9,12 @@ use Rattle.lk_wire.specs.declared.message.Nack.{Nack}
 use Rattle.lk_wire.specs.declared.message.NodeMessage.TheVariants as kinds
 use Rattle.lk_learner.specs.Learners.{executed, IsServed, news_from, wanted}
 use Rattle.lk_learner.specs.Parts.{start_of, AreParts}
+use Rattle.lk_step.specs.Outboxes.{OutboxValue, nothing, with_letters}
+use Rattle.lk_step.specs.Saying.{saying}
 use Rattle.lk_node.specs.NodeValue.{NodeValue}
-use Rattle.lk_node.specs.Outboxes.{OutboxValue, nothing}
 use Rattle.lk_node.specs.Replying.{SaysAlone}
-use Rattle.lk_node.specs.Saying.{saying, to_node}
-use Rattle.lk_node.specs.Telling.{letter_to, with_letters}
+use Rattle.lk_node.specs.Saying.{to_node}
+use Rattle.lk_node.specs.Telling.{letter_to}
 use Rattle.lk_node.specs.Yielding.{seeing}
 
 -- the other node is sent these parts of a snapshot, in order

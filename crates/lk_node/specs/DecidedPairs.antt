@@ -3,10 +3,10 @@ use Rattle.std.specs.Prelude.{◌≡◌, ℕ, ◌+◌, Some, List, ◌∷◌, sl
 use Rattle.lk_state.specs.Meanings.{Meaning}
 use Rattle.lk_history.specs.Chosen.{ChosenAt}
 use Rattle.lk_learner.specs.Learners.{Command, Pair}
+use Rattle.lk_step.specs.Outboxes.{OutboxValue}
 use Rattle.lk_node.specs.Executing.{RunsAll}
 use Rattle.lk_node.specs.Learning.{Learns}
 use Rattle.lk_node.specs.NodeValue.{NodeValue}
-use Rattle.lk_node.specs.Outboxes.{OutboxValue}
 use Rattle.lk_node.specs.Serving.{GoesOn}
 
 -- a pair is learned, and then all that can be is executed

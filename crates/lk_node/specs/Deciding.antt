@@ -1,22 +1,21 @@
 -- What a node does with a vote that it hears.
-use Rattle.std.specs.Prelude.{◌≡◌, ◌⊎◌, ℕ, Option, Some, None, List, [], ◌∷◌, map}
+use Rattle.std.specs.Prelude.{◌≡◌, ◌⊎◌, ℕ, Option, Some, None, List, map}
 use Rattle.lk_types.specs.declared.member.Member.{Member}
 use Rattle.lk_types.specs.declared.vote.Vote.{Vote}
 use Rattle.lk_wire.specs.Grammar.{IsMessage}
-use Rattle.lk_wire.specs.declared.message.NodeMessage.{NodeMessage}
-use Rattle.lk_wire.specs.declared.message.NodeMessage.TheVariants as kinds
 use Rattle.lk_state.specs.Meanings.{Meaning}
 use Rattle.lk_leader.specs.Acceptances.{IsVoteFor, heard_at, GainsMajority}
 use Rattle.lk_leader.specs.Terms.{TermValue, ProposalValue, with_term, with_proposals}
 use Rattle.lk_learner.specs.Learners.{Pair}
+use Rattle.lk_step.specs.Letters.{LetterValue}
+use Rattle.lk_step.specs.News.{news_of}
+use Rattle.lk_step.specs.Outboxes.{OutboxValue, nothing, with_note, with_letters}
+use Rattle.lk_step.specs.Saying.{saying}
+use Rattle.lk_step.specs.declared.note.Note.TheVariants as note
 use Rattle.lk_node.specs.Executing.{RunsAll}
 use Rattle.lk_node.specs.Learning.{Learns}
-use Rattle.lk_node.specs.Letters.{LetterValue}
 use Rattle.lk_node.specs.NodeValue.{NodeValue}
-use Rattle.lk_node.specs.Outboxes.{OutboxValue, nothing, with_note}
-use Rattle.lk_node.specs.Saying.{saying}
-use Rattle.lk_node.specs.Telling.{AreOthers, letter_to, with_letters}
-use Rattle.lk_node.specs.declared.note.Note.TheVariants as note
+use Rattle.lk_node.specs.Telling.{AreOthers, letter_to}
 
 -- ---- the vote
 
@@ -46,10 +45,6 @@ HearsVote from x old new None = IsOnlyHeard from x old new
 HearsVote from x old new (Some set) = (k : IsForProposal old x) × BringsMajority from x old k × (k.set ≡ set) × (new ≡ with_vote from x old k)
 
 -- ---- the pair is decided
-
--- that the pair is decided
-abbrev pub news_of : Pair → NodeMessage
-news_of p = kinds.Decided (record { first = p.0; commands = p.1 ∷ [] })
 
 -- letters to the window's other nodes that tell them of the pair
 pub record AreNews (node : NodeValue) (p : Pair) (letters : List LetterValue) : Type 0 where

@@ -1,9 +1,7 @@
 -- What a node executes, and which clients it answers by that.
-use Rattle.std.specs.Prelude.{◌≡◌, ℕ, Bool, true, false, not, nat_lt, ◌&&◌, ◌+◌, if◌then◌else◌, Option, Some, None}
+use Rattle.std.specs.Prelude.{◌≡◌, ℕ, Bool, true, false, not, ◌&&◌, ◌+◌, if◌then◌else◌, Option, Some, None}
 use Rattle.lk_types.specs.declared.answer.Answer.{Answer}
 use Rattle.lk_wire.specs.Grammar.{spelling, IsMessage}
-use Rattle.lk_wire.specs.declared.message.NodeMessage.{NodeMessage}
-use Rattle.lk_wire.specs.declared.message.NodeMessage.TheVariants as kinds
 use Rattle.lk_members.specs.Effects.{Command, Noop, Request}
 use Rattle.lk_members.specs.Ports.{is_named}
 use Rattle.lk_entries.specs.Values.{HeaderValue}
@@ -14,22 +12,16 @@ use Rattle.lk_state.specs.declared.whole.Ran.{Ran}
 use Rattle.lk_leader.specs.Terms.{TermValue}
 use Rattle.lk_leader.specs.Waits.{waiting_of, number_up_to, left_by}
 use Rattle.lk_learner.specs.Learners.{executed, IsNext, advanced}
+use Rattle.lk_step.specs.KeptReplies.{told}
+use Rattle.lk_step.specs.Outboxes.{OutboxValue, with_letter, with_note}
+use Rattle.lk_step.specs.Saying.{saying}
+use Rattle.lk_step.specs.declared.note.Note.TheVariants as note
+use Rattle.lk_step.specs.declared.to.To.TheVariants as to
 use Rattle.lk_node.specs.Learning.{with_learner}
 use Rattle.lk_node.specs.NodeValue.{NodeValue}
-use Rattle.lk_node.specs.Outboxes.{OutboxValue, with_letter, with_note}
-use Rattle.lk_node.specs.Saying.{saying}
 use Rattle.lk_node.specs.Yielding.{without_term}
-use Rattle.lk_node.specs.declared.note.Note.TheVariants as note
-use Rattle.lk_node.specs.declared.to.To.TheVariants as to
 
 -- ---- the clients
-
--- what the waiting request of this number is told, once the session's was executed: where it is that one its answer, where
--- it is smaller the number that passed it
-abbrev pub told : Session → ℕ → NodeMessage
-told s number =
-    if nat_lt number s.number then kinds.Passed (record { client = s.client; number = number; last = s.number })
-    else kinds.Answer (record { client = s.client; number = number; answer = s.answer })
 
 -- the number of the client's waiting request, where it is at most the session's
 abbrev pub waiting_number : Session → NodeValue → Option ℕ

@@ -5,10 +5,10 @@ use Rattle.lk_state.specs.Meanings.{Meaning}
 use Rattle.lk_state.specs.declared.session.Session.{Session}
 use Rattle.lk_learner.specs.Installing.{hearing, Installs}
 use Rattle.lk_learner.specs.Learners.{LearnerValue}
+use Rattle.lk_step.specs.Outboxes.{OutboxValue, nothing, with_rebase}
 use Rattle.lk_node.specs.Executing.{Settles, while_named, RunsAll}
 use Rattle.lk_node.specs.Learning.{with_learner}
 use Rattle.lk_node.specs.NodeValue.{NodeValue}
-use Rattle.lk_node.specs.Outboxes.{OutboxValue, nothing, with_rebase}
 
 -- the learner gathers the part, and where with it a whole text is gathered that is installed, or else thrown away
 abbrev pub Gathers : (List ℕ → Type 0) → Bool → PartValue → NodeValue → NodeValue → Type 0

@@ -1,13 +1,13 @@
 -- What a node does as a leader.
-use Rattle.std.specs.Prelude.{◌≡◌, ◌⊎◌, ℕ, Bool, true, false, List, [], ◌∷◌, map, Some}
-use Rattle.lk_types.specs.declared.member.Member.{Member}
+use Rattle.std.specs.Prelude.{◌≡◌, ◌⊎◌, ℕ, Bool, true, false, List, [], ◌∷◌, Some}
 use Rattle.lk_types.specs.declared.vote.Vote.{Vote}
 use Rattle.lk_wire.specs.Values.{PromiseValue}
 use Rattle.lk_wire.specs.declared.message.NodeMessage.TheVariants as kinds
 use Rattle.lk_leader.specs.Proposing.{Proposes, LeaderProposes, proposed}
 use Rattle.lk_leader.specs.Terms.{Command, Report, TermValue, LeaderValue, with_term, with_report, IsFirstOf}
+use Rattle.lk_step.specs.Members.{nodes_of}
+use Rattle.lk_step.specs.Outboxes.{OutboxValue, nothing}
 use Rattle.lk_node.specs.NodeValue.{NodeValue}
-use Rattle.lk_node.specs.Outboxes.{OutboxValue, nothing}
 use Rattle.lk_node.specs.Telling.{telling}
 
 abbrev pub with_leader : NodeValue → LeaderValue → NodeValue
@@ -48,10 +48,6 @@ having_proposed old x p = with_leader old (with_term (proposed old.learner.whole
 -- nothing is left to propose
 abbrev pub NothingOpen : NodeValue → Type 0
 NothingOpen node = (i : ℕ) (v : Command) → LeaderProposes node.leader node.learner.whole.roster i v → ⊥
-
--- the nodes of a set, in rising order
-abbrev pub nodes_of : List Member → List ℕ
-nodes_of set = map (λ m. m.node) set
 
 -- the node proposes these, one after another, until nothing is open, and tells each to the members of its position
 abbrev pub ProposesAll : List Vote → NodeValue → NodeValue → OutboxValue → OutboxValue → Type 0

@@ -2,8 +2,8 @@
 use Rattle.std.specs.Prelude.{◌≡◌, ◌⊎◌}
 use Rattle.lk_types.specs.declared.entry.Entry.TheVariants.{Decided}
 use Rattle.lk_learner.specs.Learners.{Pair, LearnerValue, IsWanted, keeping}
+use Rattle.lk_step.specs.Outboxes.{OutboxValue, with_entry}
 use Rattle.lk_node.specs.NodeValue.{NodeValue}
-use Rattle.lk_node.specs.Outboxes.{OutboxValue, with_entry}
 
 abbrev pub with_learner : NodeValue → LearnerValue → NodeValue
 with_learner node l = record node { learner = l }

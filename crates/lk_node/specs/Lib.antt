@@ -1,5 +1,3 @@
-pub mod Letters
-pub mod Outboxes
 pub mod Histories
 pub mod Served
 pub mod Holdings
@@ -13,7 +11,6 @@ pub mod Serving
 pub mod Yielding
 pub mod Replying
 pub mod CatchingUp
-pub mod KeptReplies
 pub mod Asking
 pub mod Answering
 pub mod Steps

@@ -2,10 +2,10 @@
 use Rattle.std.specs.Prelude.{◌≡◌}
 use Rattle.lk_wire.specs.Grammar.{spelling, IsMessage}
 use Rattle.lk_wire.specs.declared.message.NodeMessage.{NodeMessage}
+use Rattle.lk_step.specs.Outboxes.{OutboxValue, nothing, with_letter}
+use Rattle.lk_step.specs.Saying.{saying}
+use Rattle.lk_step.specs.declared.to.To.{To}
 use Rattle.lk_node.specs.NodeValue.{NodeValue}
-use Rattle.lk_node.specs.Outboxes.{OutboxValue, nothing, with_letter}
-use Rattle.lk_node.specs.Saying.{saying}
-use Rattle.lk_node.specs.declared.to.To.{To}
 
 -- the node says this, which fits into a datagram, and nothing else comes of it
 abbrev pub SaysAlone : NodeValue → To → NodeMessage → OutboxValue → Type 0

@@ -1,4 +1,6 @@
 -- What the notes of a node and the datagrams to clients rest on: a chosen list that bears them out.
+use Rattle.lk_step.specs.declared.note.Note.{Note}
+use Rattle.lk_step.specs.declared.note.Note.TheVariants as note
 pub use Rattle.lk_node.specs.Histories.{text}
 use Rattle.std.specs.Prelude.{◌≡◌, ◌+◌, ◌≤◌, ◌<◌, List, length, take, drop, Some, Contains}
 use Rattle.lk_types.specs.declared.answer.Answer.{Answer}
@@ -10,8 +12,6 @@ use Rattle.lk_state.specs.Meanings.{Meaning}
 use Rattle.lk_state.specs.States.{reply}
 use Rattle.lk_history.specs.Chosen.{command_at, Chosen, ChosenAt}
 use Rattle.lk_node.specs.Histories.{History, Genesis, Command}
-use Rattle.lk_node.specs.declared.note.Note.{Note}
-use Rattle.lk_node.specs.declared.note.Note.TheVariants as note
 
 -- the list bears out the note
 abbrev pub BearsOut : Meaning → History → List Command → Note → Type 0

@@ -9,18 +9,18 @@ use Rattle.lk_entries.specs.Values.{HeaderValue}
 use Rattle.lk_state.specs.Meanings.{Meaning}
 use Rattle.lk_history.specs.Acceptors.{AcceptorState, Covers}
 use Rattle.lk_acceptor.specs.States.{acceptor_with}
+use Rattle.lk_step.specs.Letters.{LetterValue, batch_of}
+use Rattle.lk_step.specs.Outboxes.{OutboxValue}
+use Rattle.lk_step.specs.Saying.{saying}
+use Rattle.lk_step.specs.declared.note.Note.{Note}
 use Rattle.lk_node.specs.Calls.{MayGo}
 use Rattle.lk_node.specs.Entries.{Rests}
 use Rattle.lk_node.specs.Histories.{History, Datagram, IsLawful}
 use Rattle.lk_node.specs.Holdings.{Holding, HoldingFits}
 use Rattle.lk_node.specs.Keeping.{IsDecided, IsKnown, IsHeld}
 use Rattle.lk_node.specs.Leavings.{header_of}
-use Rattle.lk_node.specs.Letters.{LetterValue, batch_of}
 use Rattle.lk_node.specs.NodeValue.{NodeValue}
-use Rattle.lk_node.specs.Outboxes.{OutboxValue}
-use Rattle.lk_node.specs.Saying.{saying}
 use Rattle.lk_node.specs.Served.{IsBorneOut, IsOfNode}
-use Rattle.lk_node.specs.declared.note.Note.{Note}
 
 -- the message is no promise and no vote: what it may be sent by, a rebase leaves
 abbrev pub IsLight : NodeMessage → Type 0

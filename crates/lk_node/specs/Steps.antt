@@ -9,6 +9,9 @@ use Rattle.lk_wire.specs.declared.message.NodeMessage.TheVariants as kinds
 use Rattle.lk_acceptor.specs.Answers.{AnswersPrepare, AnswersAccept}
 use Rattle.lk_history.specs.Datagrams.{HasSent}
 use Rattle.lk_state.specs.Meanings.{Meaning}
+use Rattle.lk_step.specs.Outboxes.{OutboxValue, nothing}
+use Rattle.lk_step.specs.declared.input.Input.{Input}
+use Rattle.lk_step.specs.declared.input.Input.TheVariants as input
 use Rattle.lk_node.specs.Answering.{Responds}
 use Rattle.lk_node.specs.Asking.{HearsRequest}
 use Rattle.lk_node.specs.CatchingUp.{HearsWant, HearsNack, HearsLead}
@@ -18,11 +21,8 @@ use Rattle.lk_node.specs.Deciding.{HearsAccepted}
 use Rattle.lk_node.specs.DecidedPairs.{TakesPairs}
 use Rattle.lk_node.specs.Installing.{HearsPart}
 use Rattle.lk_node.specs.NodeValue.{NodeValue}
-use Rattle.lk_node.specs.Outboxes.{OutboxValue, nothing}
 use Rattle.lk_node.specs.Yielding.{with_round}
 use Rattle.lk_node.specs.Reminding.{Ticks}
-use Rattle.lk_node.specs.declared.input.Input.{Input}
-use Rattle.lk_node.specs.declared.input.Input.TheVariants as input
 
 -- what was heard was said, and what was asked of the node was asked
 abbrev pub WasHeard : History → Content → Type 0

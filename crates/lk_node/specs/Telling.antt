@@ -1,12 +1,13 @@
 -- Which nodes a node tells, and several of them the same.
-use Rattle.std.specs.Prelude.{◌≡◌, ℕ, not, ◌==◌, List, ◌++◌, map, filter}
+use Rattle.std.specs.Prelude.{◌≡◌, ℕ, not, ◌==◌, List, map, filter}
 use Rattle.lk_wire.specs.Grammar.{spelling}
 use Rattle.lk_wire.specs.declared.message.NodeMessage.{NodeMessage}
 use Rattle.lk_members.specs.Ports.{is_named, AreAllAbove}
-use Rattle.lk_node.specs.Letters.{LetterValue}
+use Rattle.lk_step.specs.Letters.{LetterValue}
+use Rattle.lk_step.specs.Outboxes.{OutboxValue, with_letters}
+use Rattle.lk_step.specs.Saying.{saying}
 use Rattle.lk_node.specs.NodeValue.{NodeValue}
-use Rattle.lk_node.specs.Outboxes.{OutboxValue}
-use Rattle.lk_node.specs.Saying.{saying, to_node}
+use Rattle.lk_node.specs.Saying.{to_node}
 
 -- the nodes that some set of the window names, in rising order
 abbrev pub AreWindowNodes : NodeValue → List ℕ → Type 0
@@ -19,10 +20,6 @@ AreOthers node ns = (all : List ℕ) × AreWindowNodes node all × (ns ≡ filte
 -- the node tells this one so
 abbrev pub letter_to : NodeValue → NodeMessage → ℕ → LetterValue
 letter_to node message k = record { to = to_node node k; bytes = spelling (saying node.header message) }
-
--- with these letters more
-abbrev pub with_letters : List LetterValue → OutboxValue → OutboxValue
-with_letters ls o = record { rebase = o.rebase; entries = o.entries; sync = o.sync; notes = o.notes; letters = o.letters ++ ls }
 
 -- it tells each of these so
 abbrev pub telling : NodeValue → List ℕ → NodeMessage → OutboxValue → OutboxValue

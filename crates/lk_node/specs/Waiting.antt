@@ -3,9 +3,10 @@ use Rattle.std.specs.Prelude.{◌≡◌, ◌⊎◌, ℕ, ◌+◌, ◌*◌, ◌�
 use Rattle.std.specs.List.{position}
 use Rattle.lk_types.specs.Limits.{max_count}
 use Rattle.lk_types.specs.declared.member.Member.{Member}
+use Rattle.lk_step.specs.Outboxes.{OutboxValue, nothing}
+use Rattle.lk_step.specs.Ticks.{ticks_a_place, max_ticks}
 use Rattle.lk_node.specs.Beginning.{greatest_round, next_ballot, Begins}
 use Rattle.lk_node.specs.NodeValue.{NodeValue}
-use Rattle.lk_node.specs.Outboxes.{OutboxValue, nothing}
 
 -- the members of the next position
 abbrev pub next_members : List (List Member) → List Member
@@ -15,14 +16,6 @@ next_members (set ∷ sets) = set
 -- the place of the node among them, from 0
 abbrev pub place_of : NodeValue → Option ℕ
 place_of node = position (λ m. m.node == node.header.node) (next_members node.learner.whole.roster.sets)
-
--- the first member waits so many ticks for a leader before it begins a ballot, and each other one so many more than the one in front of it
-abbrev pub ticks_a_place : ℕ
-ticks_a_place = 4
-
--- so long waits the last of seven members, and no more ticks are counted
-abbrev pub max_ticks : ℕ
-max_ticks = 28
 
 -- so many ticks are enough at this place
 abbrev pub is_enough : ℕ → Option ℕ → Bool

@@ -4,25 +4,17 @@ ghost use Rattle.lk_wire.specs.Grammar.{IsMessage};
 ghost use Rattle.lk_wire.specs.declared.message.NodeMessage.TheVariants as kinds;
 ghost use Rattle.lk_acceptor.specs.Answers.{AnswersPrepare, AnswersAccept};
 ghost use Rattle.lk_history.specs.Datagrams.{HasSent};
-ghost use Rattle.lk_node.specs.Answering.{is_granted, replied, reply_to, Responds};
-ghost use Rattle.lk_node.specs.Outboxes.{nothing};
-ghost use Rattle.lk_node.specs.Saying.{saying};
+ghost use Rattle.lk_step.specs.Outboxes.{nothing};
+ghost use Rattle.lk_step.specs.Saying.{saying};
+ghost use Rattle.lk_node.specs.Answering.{replied, reply_to, Responds};
 ghost use Rattle.lk_node.specs.Serving.{GoesOn};
 ghost use Rattle.lk_node.specs.Yielding.{yielded, with_round};
 
 use crate::node::Node;
-use crate::outbox::Outbox;
 use lk_acceptor::Response;
 use lk_state::Machine;
+use lk_step::{Outbox, is_granted};
 use lk_types::{NoMemory, NodeNo, Position, RealBallot, Vote};
-use lk_wire::NodeMessage;
-
-// Whether a reply of an acceptor grants what was asked.
-fn is_granted(reply: &NodeMessage) -> bool
-    ensures { result ≡ is_granted reply.now }
-{
-    !matches!(reply, NodeMessage::Nack(_))
-}
 
 impl<M: Machine> Node<M> {
     // The response's entry, and its reply to the node that asked.

@@ -1,14 +1,12 @@
 // What a node does with a client's request.
 ghost use Rattle.std.specs.Prelude.{◌≡◌, Contains, IfOk};
+ghost use Rattle.lk_step.specs.Outboxes.{nothing};
 ghost use Rattle.lk_node.specs.Asking.{leader_in, PointsTo, TakesNew, HearsRequest};
-ghost use Rattle.lk_node.specs.Outboxes.{nothing};
 ghost use Rattle.lk_node.specs.Serving.{GoesOn};
 
-use crate::kept_replies::kept_reply;
 use crate::node::Node;
-use crate::outbox::Outbox;
-use crate::to::To;
 use lk_state::Machine;
+use lk_step::{Outbox, To, kept_reply};
 use lk_types::{ClientNo, Member, NoMemory, Request};
 use lk_wire::{Elsewhere, NodeMessage};
 

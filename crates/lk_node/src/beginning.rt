@@ -2,13 +2,13 @@
 ghost use Rattle.std.specs.Prelude.{◌≡◌, ◌+◌, ◌<◌, ◌≤◌, MatchOption, IfOk, OnOk};
 ghost use Rattle.lk_types.specs.Ballots.{IsBelow};
 ghost use Rattle.lk_types.specs.Limits.{max_count};
+ghost use Rattle.lk_step.specs.Outboxes.{nothing};
 ghost use Rattle.lk_node.specs.Beginning.{greatest_round, next_ballot, Begins};
-ghost use Rattle.lk_node.specs.Outboxes.{nothing};
 ghost use Rattle.lk_node.specs.Serving.{GoesOn};
 
 use crate::node::Node;
-use crate::outbox::Outbox;
 use lk_state::Machine;
+use lk_step::Outbox;
 use lk_types::limits::MAX_COUNT;
 use lk_types::{NoMemory, Position, RealBallot, Round};
 use lk_wire::NodeMessage;

@@ -3,15 +3,16 @@ ghost use Rattle.std.specs.Prelude.{◌≡◌, ◌<◌, ◌≤◌, Contains, IfO
 ghost use Rattle.lk_wire.specs.Grammar.{IsMessage};
 ghost use Rattle.lk_wire.specs.Values.{PartValue};
 ghost use Rattle.lk_wire.specs.declared.message.NodeMessage.TheVariants as kinds;
+ghost use Rattle.lk_step.specs.Outboxes.{nothing};
+ghost use Rattle.lk_step.specs.Saying.{saying};
 ghost use Rattle.lk_node.specs.CatchingUp.{sending_parts, FeedsParts, Feeds, HearsWant, AsksOn, Levels, HearsNack, following, AsksWhereMore, refusal, HearsLead};
-ghost use Rattle.lk_node.specs.Outboxes.{nothing};
 ghost use Rattle.lk_node.specs.Replying.{SaysAlone};
-ghost use Rattle.lk_node.specs.Saying.{saying, to_node};
+ghost use Rattle.lk_node.specs.Saying.{to_node};
 ghost use Rattle.lk_node.specs.Serving.{GoesOn};
 
 use crate::node::Node;
-use crate::outbox::Outbox;
 use lk_state::Machine;
+use lk_step::Outbox;
 use lk_types::{Executed, NoMemory, NodeNo, Position, RealBallot};
 use lk_wire::{Nack, NodeMessage, Part, Want};
 

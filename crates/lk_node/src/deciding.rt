@@ -1,31 +1,17 @@
 // How a node decides a position: by the votes that it hears.
-ghost use Rattle.std.specs.Prelude.{◌≡◌, IfOk, OnOk};
+ghost use Rattle.std.specs.Prelude.{IfOk, OnOk};
 ghost use Rattle.lk_wire.specs.declared.message.NodeMessage.TheVariants as kinds;
 ghost use Rattle.lk_history.specs.Chosen.{ChosenAt};
 ghost use Rattle.lk_history.specs.Datagrams.{HasSent};
 ghost use Rattle.lk_leader.specs.Proposing.{AreMembersAt};
-ghost use Rattle.lk_node.specs.Deciding.{HearsVote, news_of, AreNews, Decides, HearsAccepted};
-ghost use Rattle.lk_node.specs.Outboxes.{nothing};
+ghost use Rattle.lk_step.specs.Outboxes.{nothing};
+ghost use Rattle.lk_node.specs.Deciding.{HearsVote, AreNews, Decides, HearsAccepted};
 ghost use Rattle.lk_node.specs.Serving.{GoesOn};
 
-use crate::letter::Letter;
 use crate::node::Node;
-use crate::note::Note;
-use crate::outbox::Outbox;
 use lk_state::Machine;
+use lk_step::{Letter, Note, Outbox, news_of};
 use lk_types::{Command, Members, NoMemory, NodeNo, Position, Vote};
-use lk_wire::{Decided, NodeMessage};
-use std::alloc::Global;
-
-// That one command is decided at the position.
-fn news_of(alloc: Global, position: Position, command: &Command) -> Result<NodeMessage, NoMemory>
-    ensures { IfOk result (λ m. m ≡ news_of (position, command.now)) }
-{
-    let mut commands = Vec::new(alloc);
-    commands.push(command.copy())?;
-    let _ = position.get();
-    Ok(NodeMessage::Decided(Decided::of(position, commands).unwrap()))
-}
 
 impl<M: Machine> Node<M> {
     // A node was heard to vote. The members of the position, where by that a majority of them has.

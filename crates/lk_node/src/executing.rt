@@ -1,26 +1,12 @@
 // What a node executes, and which clients it answers by that.
-ghost use Rattle.std.specs.Prelude.{◌≡◌, ◌≤◌, IfOk, OnOk};
-ghost use Rattle.lk_node.specs.Executing.{told, Settles, SettlesAny, session_by, RunsNext, has_term, is_outside, while_named, ExecutesOne, RunsAll};
+ghost use Rattle.std.specs.Prelude.{◌≡◌, IfOk, OnOk};
+ghost use Rattle.lk_node.specs.Executing.{Settles, SettlesAny, session_by, RunsNext, has_term, is_outside, while_named, ExecutesOne, RunsAll};
 ghost use Rattle.lk_node.specs.Serving.{GoesOn};
 
-use crate::kept_replies::kept_reply;
 use crate::node::Node;
-use crate::note::Note;
-use crate::outbox::Outbox;
-use crate::to::To;
-use lk_state::{Machine, Ran, Seen, Session};
-use lk_types::{Answer, Command, NoMemory, RequestNumber};
-use lk_wire::NodeMessage;
-
-// What the client's waiting request of this number is told, once the session's was executed.
-fn told(session: Session, number: RequestNumber) -> NodeMessage
-    requires { number ≤ session.number }
-    ensures { result ≡ told session number }
-{
-    let client = session.client;
-    let seen = Seen::of(Some(session), number);
-    kept_reply(client, number, seen).unwrap()
-}
+use lk_state::{Machine, Ran, Session};
+use lk_step::{Note, Outbox, To, told};
+use lk_types::{Answer, Command, NoMemory};
 
 impl<M: Machine> Node<M> {
     /// The session has become its client's last: the waiting request up to it is told, and waits no longer.

@@ -2,13 +2,13 @@
 ghost use Rattle.std.specs.Prelude.{◌≡◌, ℕ, IfOk, OnOk};
 ghost use Rattle.lk_wire.specs.declared.message.NodeMessage.TheVariants as kinds;
 ghost use Rattle.lk_history.specs.Datagrams.{HasSent};
+ghost use Rattle.lk_step.specs.Outboxes.{nothing};
 ghost use Rattle.lk_node.specs.Installing.{Gathers, SettlesAll, TakesUp, HearsPart};
-ghost use Rattle.lk_node.specs.Outboxes.{nothing};
 ghost use Rattle.lk_node.specs.Serving.{GoesOn};
 
 use crate::node::Node;
-use crate::outbox::Outbox;
 use lk_state::Machine;
+use lk_step::Outbox;
 use lk_types::NoMemory;
 use lk_wire::PartRef;
 

@@ -5,19 +5,19 @@ ghost use Rattle.lk_wire.specs.Grammar.{IsMessage};
 ghost use Rattle.lk_wire.specs.declared.message.NodeMessage.TheVariants as kinds;
 ghost use Rattle.lk_history.specs.Datagrams.{HasSent};
 ghost use Rattle.lk_leader.specs.Proposing.{AreMembersAt};
-ghost use Rattle.lk_node.specs.Leading.{KeepsPromise, DropsPromise, HearsPromise, ProposesVote, having_proposed, NothingOpen, nodes_of, ProposesNext, ProposesOpen};
-ghost use Rattle.lk_node.specs.Outboxes.{nothing};
+ghost use Rattle.lk_step.specs.Members.{nodes_of};
+ghost use Rattle.lk_step.specs.Outboxes.{nothing};
+ghost use Rattle.lk_step.specs.Saying.{saying};
+ghost use Rattle.lk_node.specs.Leading.{KeepsPromise, DropsPromise, HearsPromise, ProposesVote, having_proposed, NothingOpen, ProposesNext, ProposesOpen};
 ghost use Rattle.lk_node.specs.Promised.{HasPromised};
-ghost use Rattle.lk_node.specs.Saying.{saying};
 ghost use Rattle.lk_node.specs.Serving.{GoesOn};
 ghost use Rattle.lk_node.specs.Telling.{telling};
 
 use crate::node::Node;
-use crate::outbox::Outbox;
 use lk_state::Machine;
-use lk_types::{Members, NoMemory, NodeNo, Vote};
+use lk_step::{Outbox, nodes_of};
+use lk_types::{NoMemory, NodeNo, Vote};
 use lk_wire::{NodeMessage, PromiseRef};
-use std::alloc::Global;
 
 impl<M: Machine> Node<M> {
     // The leader hears a promise.
@@ -44,18 +44,6 @@ impl<M: Machine> Node<M> {
         self.keep_promise(from, promise)?;
         Ok(Outbox::new(self.alloc))
     }
-}
-
-/// The nodes of a set, in rising order.
-pub fn nodes_of(alloc: Global, set: &Members) -> Result<Vec<NodeNo>, NoMemory>
-    ensures { IfOk result (λ ns. ns.items ≡ nodes_of set.now) }
-{
-    let members = set.as_slice();
-    let mut nodes = Vec::new(alloc);
-    'members: for member in members {
-        nodes.push(member.node)?;
-    }
-    Ok(nodes)
 }
 
 impl<M: Machine> Node<M> {

@@ -1,27 +1,18 @@
 // What a node learns of the list.
-ghost use Rattle.std.specs.Prelude.{◌≡◌, ℕ, ◌+◌, ◌≤◌, None, [], length, IfOk, IfSome, OnOk};
-ghost use Rattle.lk_types.specs.Limits.{max_count};
+ghost use Rattle.std.specs.Prelude.{◌≡◌, ℕ, None, [], length, IfOk, IfSome, OnOk};
 ghost use Rattle.lk_wire.specs.declared.message.NodeMessage.TheVariants as kinds;
 ghost use Rattle.lk_history.specs.Chosen.{ChosenAt};
 ghost use Rattle.lk_history.specs.Datagrams.{HasSent};
+ghost use Rattle.lk_step.specs.Outboxes.{nothing};
 ghost use Rattle.lk_node.specs.DecidedPairs.{TakesPair, TakesFirst, TakesPairs};
 ghost use Rattle.lk_node.specs.Learning.{Learns};
-ghost use Rattle.lk_node.specs.Outboxes.{nothing};
 ghost use Rattle.lk_node.specs.Serving.{GoesOn};
 
 use crate::node::Node;
-use crate::outbox::Outbox;
 use lk_state::Machine;
+use lk_step::{Outbox, position_behind};
 use lk_types::{Command, Entry, NoMemory, Position};
 use lk_wire::{Commands, DecidedRef};
-
-// The position that lies so far after the first.
-fn position_behind(first: Position, offset: usize) -> Position
-    requires { first + offset ≤ max_count }
-    ensures { result ≡ first + offset }
-{
-    Position::of(first.get() + offset as u64).unwrap()
-}
 
 impl<M: Machine> Node<M> {
     /// A command is decided at the position. Where it is wanted it is kept, and written.

@@ -1,26 +1,21 @@
 // The node: what it is, and what it does with any input. No disk, socket or clock is in its reach.
-ghost use Rattle.std.specs.Prelude.{◌≡◌, ◌∷◌, [], None, true, false, IfOk, OnOk, OnErr, IsErr};
+ghost use Rattle.std.specs.Prelude.{◌≡◌, ◌∷◌, [], None, true, false, OnOk, OnErr, IsErr};
 ghost use Rattle.lk_wire.specs.Grammar.{spelling, IsMessage};
-ghost use Rattle.lk_members.specs.Ports.{port_of};
 ghost use Rattle.lk_leader.specs.Terms.{idle};
+ghost use Rattle.lk_step.specs.Outboxes.{nothing, with_letter};
+ghost use Rattle.lk_step.specs.Saying.{saying};
 ghost use Rattle.lk_node.specs.Nearness.{AreNear};
-ghost use Rattle.lk_node.specs.Outboxes.{nothing, with_letter};
-ghost use Rattle.lk_node.specs.Saying.{saying, to_node, port_or_none};
+ghost use Rattle.lk_node.specs.Saying.{to_node};
 
-use crate::letter::Letter;
-use crate::outbox::Outbox;
-use crate::seen_round::SeenRound;
-use crate::tick_count::TickCount;
-use crate::to::To;
-use bytes::BytesMut;
 use lk_acceptor::Acceptor;
 use lk_entries::Header;
 use lk_leader::Leader;
 use lk_learner::Learner;
 use lk_members::Roster;
 use lk_state::Machine;
+use lk_step::{Letter, Outbox, SeenRound, TickCount, To, port_in, spelled};
 use lk_types::{NoMemory, NodeNo};
-use lk_wire::{Content, Message, NodeMessage, write};
+use lk_wire::NodeMessage;
 use std::alloc::Global;
 use std::marker::Model;
 use thiserror::Error;
@@ -54,30 +49,6 @@ impl<M: Machine> Model for Node<M> {
     ghost invariant = { λ n. HasPromised n.acceptor n.leader × AreNear n.acceptor n.learner };
 
     ghost view = { λ n. record { header = n.header; acceptor = n.acceptor; learner = n.learner; leader = n.leader; ticks = n.ticks; rounds = n.rounds; known = n.known; halted = n.halted } };
-}
-
-/// The bytes by which a node of this header says so.
-pub fn spelled(alloc: Global, header: &Header, message: NodeMessage) -> Result<Vec<u8>, NoMemory>
-    ensures bytes { IfOk result (λ bytes. bytes.items ≡ spelling (saying header.now message)) }
-    ensures fits { IfOk result (λ bytes. IsMessage (saying header.now message)) }
-{
-    let message = Message {
-        cluster: header.genesis().cluster,
-        content: Content::Node(header.node(), message),
-    };
-    let mut out = BytesMut::new(alloc);
-    write(&message, &mut out)?;
-    Ok(out.as_slice().to_vec(alloc)?)
-}
-
-/// The port of a node by the window, or 0 where no set names it.
-pub fn port_in(roster: &Roster, node: NodeNo) -> u16
-    ensures { result ≡ port_or_none (port_of node roster.now.sets) }
-{
-    match roster.port_of(node) {
-        Some(port) => port.get(),
-        None => 0,
-    }
 }
 
 impl<M: Machine> Node<M> {

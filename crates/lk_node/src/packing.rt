@@ -1,6 +1,5 @@
 // What a node writes as the Base of a further file, and what it then holds.
 ghost use Rattle.std.specs.Prelude.{◌≡◌, ◌+◌, ◌≤◌, ◌↔◌, IsTrue, IfOk};
-ghost use Rattle.lk_acceptor.specs.VoteLists.{votes_above};
 ghost use Rattle.lk_learner.specs.Learners.{executed};
 ghost use Rattle.lk_log.specs.Stores.{MayBegin};
 ghost use Rattle.lk_state.specs.Packed.{packed};
@@ -9,34 +8,9 @@ ghost use Rattle.lk_node.specs.Packing.{standing_of, standing_here};
 
 use crate::node::Node;
 use lk_entries::Standing;
-use lk_learner::Pair;
 use lk_state::Machine;
-use lk_types::{Command, Executed, NoMemory, Position, Vote};
-use std::alloc::Global;
-
-// The votes above a position.
-fn votes_above(alloc: Global, votes: &[Vote], executed: Executed) -> Result<Vec<Vote>, NoMemory>
-    ensures { IfOk result (λ vs. vs.items ≡ votes_above executed votes.now) }
-{
-    let mut above = Vec::new(alloc);
-    for vote in votes {
-        if vote.position.get() > executed.get() {
-            above.push(vote.copy())?;
-        }
-    }
-    Ok(above)
-}
-
-// The same pairs.
-fn copied(alloc: Global, pairs: &[Pair]) -> Result<Vec<(Position, Command)>, NoMemory>
-    ensures { IfOk result (λ ps. ps.items ≡ pairs.now) }
-{
-    let mut copies = Vec::new(alloc);
-    for pair in pairs {
-        copies.push((pair.position(), pair.command().copy()))?;
-    }
-    Ok(copies)
-}
+use lk_step::{copied, votes_above};
+use lk_types::NoMemory;
 
 impl<M: Machine> Node<M> {
     /// What is written as the Base of a further file: all that the node holds, with a snapshot of its state in the place of

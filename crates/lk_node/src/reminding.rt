@@ -1,24 +1,15 @@
 // What a node with a term tells again as time passes.
-ghost use Rattle.std.specs.Prelude.{◌≡◌, ◌+◌, not, ◌==◌, IfOk, OnOk};
-ghost use Rattle.std.specs.List.{list_any};
+ghost use Rattle.std.specs.Prelude.{◌≡◌, ◌+◌, not, IfOk, OnOk};
+ghost use Rattle.lk_step.specs.Outboxes.{nothing};
 ghost use Rattle.lk_node.specs.Leading.{NothingOpen};
-ghost use Rattle.lk_node.specs.Outboxes.{nothing};
 ghost use Rattle.lk_node.specs.Reminding.{IsTermOf, keeps_promise, AreSilent, AsksAgain, unheard, OffersAgain, OffersAll, TellsLead, Reminds};
 ghost use Rattle.lk_node.specs.Serving.{GoesOn};
 
-use crate::leading::nodes_of;
 use crate::node::Node;
-use crate::outbox::Outbox;
 use lk_state::Machine;
+use lk_step::{Outbox, is_heard, nodes_of};
 use lk_types::{Members, NoMemory, NodeNo, Position, RealBallot, Vote};
 use lk_wire::NodeMessage;
-
-// Whether the node is among these.
-fn is_heard(accepted: &[NodeNo], node: NodeNo) -> bool
-    ensures { result ≡ list_any (λ n. n == node) accepted.now }
-{
-    accepted.iter().any(|heard| *heard == node)
-}
 
 impl<M: Machine> Node<M> {
     // Whether the term keeps no promise of the node.

@@ -2,18 +2,17 @@
 ghost use Rattle.std.specs.Prelude.{◌≡◌, true, false, IfOk, OnOk, OnErr, IsErr};
 ghost use Rattle.lk_wire.specs.Shown.{shown_node, shown_content};
 ghost use Rattle.lk_history.specs.Datagrams.{HasSent};
+ghost use Rattle.lk_step.specs.Outboxes.{nothing};
 ghost use Rattle.lk_node.specs.Calls.{InputFits};
 ghost use Rattle.lk_node.specs.Executing.{NothingToRun};
 ghost use Rattle.lk_node.specs.Histories.{IsHeard};
 ghost use Rattle.lk_node.specs.Leading.{NothingOpen};
-ghost use Rattle.lk_node.specs.Outboxes.{nothing};
 ghost use Rattle.lk_node.specs.Serving.{GoesOn};
 ghost use Rattle.lk_node.specs.Steps.{Hears, HearsNode, TakesBytes, TakesDatagram, Steps, WasHeard};
 
-use crate::input::Input;
 use crate::node::{Halted, Node};
-use crate::outbox::Outbox;
 use lk_state::Machine;
+use lk_step::{Input, Outbox};
 use lk_types::{NoMemory, NodeNo};
 use lk_wire::{ContentRef, NodeMessageRef, view};
 

@@ -1,15 +1,14 @@
 // What a node tells several nodes.
 ghost use Rattle.std.specs.Prelude.{◌≡◌, IfOk, OnOk};
 ghost use Rattle.lk_wire.specs.Grammar.{IsMessage};
-ghost use Rattle.lk_node.specs.Outboxes.{with_letter};
-ghost use Rattle.lk_node.specs.Saying.{saying, to_node};
+ghost use Rattle.lk_step.specs.Outboxes.{with_letter};
+ghost use Rattle.lk_step.specs.Saying.{saying};
+ghost use Rattle.lk_node.specs.Saying.{to_node};
 ghost use Rattle.lk_node.specs.Telling.{AreWindowNodes, AreOthers, telling};
 
-use crate::letter::Letter;
-use crate::node::{Node, port_in, spelled};
-use crate::outbox::Outbox;
-use crate::to::To;
+use crate::node::Node;
 use lk_state::Machine;
+use lk_step::{Letter, Outbox, To, port_in, spelled};
 use lk_types::{NoMemory, NodeNo};
 use lk_wire::NodeMessage;
 

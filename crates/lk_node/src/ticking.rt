@@ -1,14 +1,13 @@
 // What a node does as time passes.
 ghost use Rattle.std.specs.Prelude.{◌≡◌, IfOk};
-ghost use Rattle.lk_node.specs.Outboxes.{nothing};
+ghost use Rattle.lk_step.specs.Outboxes.{nothing};
 ghost use Rattle.lk_node.specs.Reminding.{Ticks};
 ghost use Rattle.lk_node.specs.Serving.{GoesOn};
 ghost use Rattle.lk_node.specs.Waiting.{place_of, is_enough, ticked, BeginsWhereDue};
 
 use crate::node::Node;
-use crate::outbox::Outbox;
-use crate::tick_count::TICKS_A_PLACE;
 use lk_state::Machine;
+use lk_step::{Outbox, TICKS_A_PLACE};
 use lk_types::NoMemory;
 
 impl<M: Machine> Node<M> {

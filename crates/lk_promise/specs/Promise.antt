@@ -39,8 +39,8 @@ use Rattle.lk_log.specs.StoreValue.{device_of}
 use Rattle.lk_log.specs.Stores.{first_base}
 use Rattle.lk_history.specs.Datagrams.{Datagram}
 use Rattle.lk_history.specs.declared.party.Party.TheVariants as party
-use Rattle.lk_node.specs.declared.note.Note.{Note}
-use Rattle.lk_node.specs.declared.note.Note.TheVariants as note
+use Rattle.lk_step.specs.declared.note.Note.{Note}
+use Rattle.lk_step.specs.declared.note.Note.TheVariants as note
 use Rattle.lk_replica.specs.ReplicaValue.{ReplicaValue}
 use Rattle.lk_sim.specs.Scenes.{Scene}
 use Rattle.lk_sim.specs.declared.end.RunEnd.{RunEnd}

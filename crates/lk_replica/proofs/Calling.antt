@@ -9,7 +9,7 @@ use Rattle.lk_log.specs.Causes.{IsRefusedBy, put_calls, rebase_calls}
 use Rattle.lk_log.specs.declared.fault.StoreFault.{StoreFault}
 use Rattle.lk_log.specs.declared.fault.StoreFault.TheVariants as store
 use Rattle.lk_replica.specs.Faults.{fault_number, fault_of, RefusedAfter, IsOfCalls, IsNumberOfCalls}
-use Rattle.lk_node.specs.Outboxes.{OutboxValue}
+use Rattle.lk_step.specs.Outboxes.{OutboxValue}
 use Rattle.lk_replica.specs.Taking.{write_calls}
 use Rattle.lk_replica.specs.declared.fault.ReplicaFault.{ReplicaFault}
 use Rattle.lk_replica.specs.declared.fault.ReplicaFault.TheVariants as fault

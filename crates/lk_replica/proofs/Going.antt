@@ -18,19 +18,19 @@ use Rattle.lk_history.specs.Acceptors.{AcceptorState, Covers, CoversSent}
 use Rattle.lk_history.specs.Datagrams.{said_by}
 use Rattle.lk_history.specs.Nodes.{View, ViewFits}
 use Rattle.lk_history.proofs.Histories.{said_alike, still_stems, still_was, still_chosen_at, covers_both, entry_chosen}
+use Rattle.lk_step.specs.Letters.{LetterValue, datagram_of, batch_of}
+use Rattle.lk_step.specs.Outboxes.{OutboxValue, nothing}
+use Rattle.lk_step.specs.declared.input.Input.{Input}
 use Rattle.lk_node.specs.Calls.{InputFits, NodeFits, Goes}
 use Rattle.lk_node.specs.Entries.{EntriesFit, Rests}
 use Rattle.lk_node.specs.Histories.{History, Genesis, Datagram, later}
 use Rattle.lk_node.specs.Holdings.{Holding}
 use Rattle.lk_node.specs.Keeping.{IsDecided, IsKnown, Keeps, Stands}
 use Rattle.lk_node.specs.Leavings.{header_of, acceptor_of, view_of, DisksFit, AllCover}
-use Rattle.lk_node.specs.Letters.{LetterValue, datagram_of, batch_of}
 use Rattle.lk_replica.specs.Posts.{AreOf}
 use Rattle.lk_replica.specs.Remembering.{Remembers}
 use Rattle.lk_node.specs.NodeValue.{NodeValue}
-use Rattle.lk_node.specs.Outboxes.{OutboxValue, nothing}
 use Rattle.lk_node.specs.Serving.{IsLight, with_entries, Tells, Binds, Serves, GoesOn}
-use Rattle.lk_node.specs.declared.input.Input.{Input}
 use Rattle.lk_replica.proofs.Images.{held_fit, fit_disks, cover_disks, put_fits, put_covers}
 use Rattle.lk_node.proofs.Nodes.{take_contains, map_contains}
 use Rattle.lk_node.proofs.Nodes.{letter_spelled}

@@ -7,7 +7,7 @@ use Rattle.std.specs.Global.{Global}
 use Rattle.lk_replica.specs.Faults.{fault_number, fault_of, IfSend, IfGoesOn}
 use Rattle.lk_replica.specs.declared.fault.ReplicaFault.{ReplicaFault}
 use Rattle.lk_replica.specs.declared.fault.ReplicaFault.TheVariants as fault
-use Rattle.lk_node.specs.declared.note.Note.{Note}
+use Rattle.lk_step.specs.declared.note.Note.{Note}
 
 pub store_never_sends : (f : StoreFault) → IfSend (λ notes. ⊥) (fault_of f)
 store_never_sends store.Device = tt

@@ -20,6 +20,7 @@ use Rattle.lk_log.specs.StoreValue.{StoreValue, disks}
 use Rattle.lk_log.specs.Stores.{KeepsOrIs, next_base, NarrowsOrBegins, Opens}
 use Rattle.lk_log.proofs.StoreLaws.{opens_holds, live_unique, not_both}
 use Rattle.lk_state.specs.Meanings.{Meaning}
+use Rattle.lk_step.specs.declared.note.Note.{Note}
 use Rattle.lk_node.specs.Calls.{Goes, NodeFits}
 use Rattle.lk_node.specs.Histories.{History, Genesis, IsLawful}
 use Rattle.lk_node.specs.Holdings.{Holding}
@@ -27,7 +28,6 @@ use Rattle.lk_node.specs.Keeping.{Keeps}
 use Rattle.lk_node.specs.Leavings.{header_of, DisksFit}
 use Rattle.lk_node.specs.NodeValue.{NodeValue}
 use Rattle.lk_node.specs.Served.{text}
-use Rattle.lk_node.specs.declared.note.Note.{Note}
 use Rattle.lk_replica.specs.Compacted.{IsStoreFault}
 use Rattle.lk_replica.specs.Compacting.{renew_calls}
 use Rattle.lk_replica.specs.declared.fault.ReplicaFault.{ReplicaFault}

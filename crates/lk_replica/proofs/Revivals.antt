@@ -28,6 +28,7 @@ use Rattle.lk_history.proofs.Histories.{chosen_push, chosen_fits, chosen_short}
 use Rattle.lk_learner.specs.Following.{Follows}
 use Rattle.lk_learner.specs.Learners.{Pair}
 use Rattle.lk_learner.proofs.Learnerships.{executed_is}
+use Rattle.lk_step.specs.declared.note.Note.{Note}
 use Rattle.lk_node.specs.Entries.{EntriesFit}
 use Rattle.lk_replica.specs.Faults.{fault_number, fault_of}
 use Rattle.lk_replica.specs.declared.fault.ReplicaFault.{ReplicaFault}
@@ -41,7 +42,6 @@ use Rattle.lk_node.specs.NodeValue.{NodeValue}
 use Rattle.lk_replica.specs.Remembering.{Remembers}
 use Rattle.lk_replica.specs.Revivals.{run_from, all_ran, notes_of, relearned, Restores}
 use Rattle.lk_node.specs.Served.{text, IsOfNode, IsBorneOut}
-use Rattle.lk_node.specs.declared.note.Note.{Note}
 use Rattle.lk_replica.proofs.Images.{fit_entries, opening_fits, opening_covers}
 use Rattle.lk_node.proofs.Nodes.{cons_cases, contains_more}
 

@@ -6,8 +6,8 @@ use Rattle.lk_disk.specs.Meters.{trapped}
 use Rattle.lk_disk.specs.declared.device.Side.{Side}
 use Rattle.lk_disk.specs.declared.trap.Trap.{Trap}
 use Rattle.lk_entries.specs.Values.{HeaderValue}
+use Rattle.lk_step.specs.declared.note.Note.{Note}
 use Rattle.lk_node.specs.Histories.{Datagram}
-use Rattle.lk_node.specs.declared.note.Note.{Note}
 
 -- a replica was given a tick, or these bytes, and became another: with its notes and what it sent, or with the number of a fault
 abbrev pub Taking : Type 0 → Type 1

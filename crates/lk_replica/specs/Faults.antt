@@ -8,7 +8,7 @@ use Rattle.lk_log.specs.declared.fault.StoreFault.{StoreFault}
 use Rattle.lk_log.specs.declared.fault.StoreFault.TheVariants as store
 use Rattle.lk_state.specs.declared.machine.UnpackFault.{UnpackFault}
 use Rattle.lk_state.specs.declared.machine.UnpackFault.TheVariants as unpack
-use Rattle.lk_node.specs.declared.note.Note.{Note}
+use Rattle.lk_step.specs.declared.note.Note.{Note}
 use Rattle.lk_replica.specs.declared.fault.ReplicaFault.{ReplicaFault}
 use Rattle.lk_replica.specs.declared.fault.ReplicaFault.TheVariants as fault
 

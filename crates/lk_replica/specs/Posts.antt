@@ -1,7 +1,7 @@
 -- What was given to a post, and what is sent of that.
 use Rattle.std.specs.Prelude.{◌≡◌, ◌≢◌, ℕ, zero, suc, ◌+◌, ◌⊎◌, Bool, true, false, Result, Ok, Err, List, [], ◌∷◌, ◌++◌, Contains}
 use Rattle.lk_disk.specs.Disk.{one_more}
-use Rattle.lk_node.specs.Letters.{LetterValue}
+use Rattle.lk_step.specs.Letters.{LetterValue}
 
 -- these letters were given to a post one after another, in order, and nothing else was. `Carries` says what becomes of it by one of
 -- them: as it was, the letter, whether that was sent, and as it is then

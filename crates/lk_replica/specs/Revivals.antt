@@ -23,6 +23,8 @@ use Rattle.lk_state.specs.States.{WholeValue}
 use Rattle.lk_leader.specs.Terms.{idle}
 use Rattle.lk_learner.specs.Learners.{Pair, LearnerValue}
 pub use Rattle.lk_learner.specs.Unpacking.{Unpacks}
+use Rattle.lk_step.specs.declared.note.Note.{Note}
+use Rattle.lk_step.specs.declared.note.Note.TheVariants.{Ran}
 use Rattle.lk_node.specs.Executing.{NothingToRun}
 use Rattle.lk_node.specs.Histories.{Genesis, Command}
 use Rattle.lk_node.specs.Leavings.{header_of, acceptor_of, StandsAs}
@@ -31,8 +33,6 @@ use Rattle.lk_replica.specs.Compacting.{AreSame, Renews}
 use Rattle.lk_replica.specs.Faults.{failures_by, RefusedAfter}
 use Rattle.lk_replica.specs.ReplicaValue.{ReplicaValue}
 use Rattle.lk_node.specs.Served.{text}
-use Rattle.lk_node.specs.declared.note.Note.{Note}
-use Rattle.lk_node.specs.declared.note.Note.TheVariants.{Ran}
 
 -- the commands of the pairs from the next position on, up to the first gap
 abbrev pub run_from : ℕ → List Pair → List Command

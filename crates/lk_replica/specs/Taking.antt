@@ -12,23 +12,23 @@ use Rattle.lk_disk.specs.Disk.{Disk, contents}
 use Rattle.lk_disk.specs.declared.device.Side.{Side}
 use Rattle.lk_history.specs.Datagrams.{NodeMessage}
 use Rattle.lk_log.specs.Rooms.{StaysWithin}
+use Rattle.lk_step.specs.Letters.{LetterValue, batch_of}
+use Rattle.lk_step.specs.Outboxes.{OutboxValue}
+use Rattle.lk_step.specs.declared.input.Input.{Input}
+use Rattle.lk_step.specs.declared.note.Note.{Note}
 use Rattle.lk_node.specs.Calls.{heard_by, NodeFits}
 use Rattle.lk_node.specs.Executing.{NothingToRun}
 use Rattle.lk_node.specs.Histories.{Datagram, History, Genesis}
 use Rattle.lk_node.specs.Keeping.{Stands}
 use Rattle.lk_node.specs.Leavings.{DisksFit, AllCover}
 use Rattle.lk_replica.specs.Remembering.{Remembers}
-use Rattle.lk_node.specs.Letters.{LetterValue, batch_of}
 use Rattle.lk_replica.specs.Compacting.{AreLeft, IsDue, Rebases, RebasesWhereDue, CallsWhereDue}
 use Rattle.lk_replica.specs.Faults.{fault_number, failures_by, RefusedAfter, IfSend, IfSpared, IsOfCalls, IsNumberOfCalls, WantsNoMemory}
 use Rattle.lk_replica.specs.declared.fault.ReplicaFault.{ReplicaFault}
 use Rattle.lk_replica.specs.declared.fault.ReplicaFault.TheVariants as fault
 use Rattle.lk_replica.specs.ReplicaValue.{ReplicaValue}
 use Rattle.lk_node.specs.NodeValue.{NodeValue}
-use Rattle.lk_node.specs.Outboxes.{OutboxValue}
 use Rattle.lk_node.specs.Steps.{Steps}
-use Rattle.lk_node.specs.declared.input.Input.{Input}
-use Rattle.lk_node.specs.declared.note.Note.{Note}
 
 -- the outbox's entries stand after what the store held, and all of it is synced where the outbox says so
 abbrev pub Puts : StoreValue → OutboxValue → StoreValue → Type 0

@@ -1,11 +1,11 @@
 // A post that keeps what is sent.
 ghost use Rattle.std.specs.Prelude.{◌≡◌, ◌∷◌, ◌++◌, [], IfOk, OnOk, OnErr};
-ghost use Rattle.lk_node.specs.Letters.{LetterValue, party_of, datagram_of, batch_of};
+ghost use Rattle.lk_step.specs.Letters.{LetterValue, party_of, datagram_of, batch_of};
 
 use crate::datagram::Datagram;
 use crate::post::{Post, SendFault};
 use lk_history::Party;
-use lk_node::{Letter, To};
+use lk_step::{Letter, To};
 use lk_types::{NoMemory, NodeNo};
 use std::alloc::Global;
 use std::marker::Model;

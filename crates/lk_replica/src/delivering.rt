@@ -4,7 +4,7 @@ ghost use Rattle.lk_disk.specs.Disk.{one_more};
 ghost use Rattle.lk_replica.specs.Posts.{CarriesAll, SendsSome, more_by};
 
 use crate::post::{Post, SendFault};
-use lk_node::Letter;
+use lk_step::Letter;
 
 // Sends a letter, and tells whether it was sent.
 fn is_sent<P: Post>(letter: &Letter, post: &mut P) -> bool

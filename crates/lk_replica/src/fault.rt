@@ -3,8 +3,9 @@ ghost use Rattle.lk_replica.specs.Faults.{fault_number, fault_of, unpack_fault};
 ghost use Rattle.lk_replica.specs.declared.fault.ReplicaFault.TheVariants as fault;
 
 use lk_log::StoreFault;
-use lk_node::{Halted, Note};
+use lk_node::Halted;
 use lk_state::UnpackFault;
+use lk_step::Note;
 use lk_types::NoMemory;
 use thiserror::Error;
 

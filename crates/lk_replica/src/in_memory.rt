@@ -13,8 +13,8 @@ use crate::memory_replica::{MemoryReplica, ReviveFault, Revived, Taken};
 use crate::replica::Replica;
 use lk_disk::{LogDisk, MemoryDisk, Trap};
 use lk_entries::Header;
-use lk_node::Input;
 use lk_state::Machine;
+use lk_step::Input;
 use lk_types::{NoMemory, NodeNo};
 use std::alloc::Global;
 

@@ -23,7 +23,7 @@ use crate::datagram::Datagram;
 use crate::fault::ReplicaFault;
 use lk_disk::{MemoryDisk, Trap};
 use lk_entries::Header;
-use lk_node::{Input, Note};
+use lk_step::{Input, Note};
 use std::alloc::Global;
 
 /// A replica, and what it executed as it came up.

@@ -1,8 +1,8 @@
 ghost use Rattle.std.specs.Prelude.{◌≡◌, ◌∷◌, ◌++◌, ℕ, Bool, is_ok, List, [], OnOk, OnErr};
 ghost use Rattle.lk_disk.specs.Disk.{HasCause};
-ghost use Rattle.lk_node.specs.Letters.{LetterValue};
+ghost use Rattle.lk_step.specs.Letters.{LetterValue};
 
-use lk_node::To;
+use lk_step::To;
 use thiserror::Error;
 
 /// A datagram was not sent: refusal 15 of the replica.

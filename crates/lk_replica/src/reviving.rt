@@ -29,8 +29,9 @@ use lk_acceptor::Acceptor;
 use lk_disk::LogDisk;
 use lk_entries::{Header, Standing};
 use lk_log::{Store, reopen};
-use lk_node::{Node, Note};
+use lk_node::Node;
 use lk_state::{Machine, Whole};
+use lk_step::Note;
 use lk_types::{Executed, Genesis, NoMemory, Vote};
 use std::alloc::Global;
 

@@ -4,9 +4,9 @@ ghost use Rattle.std.specs.Prelude.{◌≡◌, ◌++◌, OnOk};
 ghost use Rattle.lk_script.specs.Worlds.{refusal_name, refused_line};
 
 use lk_history::Party;
-use lk_node::Note;
 use lk_replica::Datagram;
 use lk_sim::{End, Refused};
+use lk_step::Note;
 use lk_types::{Command, NoMemory, NodeNo, Position};
 use std::alloc::Global;
 use std::io::Write;

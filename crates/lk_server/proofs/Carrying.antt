@@ -1,6 +1,6 @@
 -- What became of letters, one step after another.
 use Rattle.std.proofs.Common.{◌≡◌, ℕ, Bool, true, false, List, [], ◌∷◌, ◌++◌, Option, refl, sym, ap, ◌∙◌, subst, append_assoc, append-nil, inl, inr}
-use Rattle.lk_node.specs.Letters.{LetterValue}
+use Rattle.lk_step.specs.Letters.{LetterValue}
 use Rattle.lk_replica.specs.Posts.{CarriesAll, GivesLetters}
 use Rattle.lk_server.specs.Addresses.{AddressBook}
 use Rattle.lk_server.specs.Sayings.{SaysAll}

@@ -3,10 +3,10 @@ use Rattle.std.proofs.Common.{◌≡◌, ◌⊎◌, ℕ, inl, inr, Bool, List, [
 use Rattle.std.specs.Prelude.{Vec}
 use Rattle.std.specs.Global.{Global}
 use Rattle.lk_state.specs.Meanings.{Meaning}
+use Rattle.lk_step.specs.Letters.{LetterValue}
+use Rattle.lk_step.specs.declared.input.Input.{Input}
+use Rattle.lk_step.specs.declared.note.Note.{Note}
 use Rattle.lk_node.specs.Calls.{heard_by}
-use Rattle.lk_node.specs.Letters.{LetterValue}
-use Rattle.lk_node.specs.declared.input.Input.{Input}
-use Rattle.lk_node.specs.declared.note.Note.{Note}
 use Rattle.lk_replica.specs.Faults.{fault_number, IfGoesOn}
 use Rattle.lk_replica.specs.Posts.{GivesLetters, RefusesSends}
 use Rattle.lk_replica.specs.ReplicaValue.{ReplicaValue}

@@ -8,9 +8,9 @@ use Rattle.lk_wire.specs.Grammar.{Spells}
 use Rattle.lk_wire.specs.declared.message.Message.{Message}
 use Rattle.lk_wire.specs.declared.message.Content.{Content}
 use Rattle.lk_wire.specs.declared.message.Content.TheVariants as content
-use Rattle.lk_node.specs.Letters.{LetterValue}
-use Rattle.lk_node.specs.declared.to.To.{To}
-use Rattle.lk_node.specs.declared.to.To.TheVariants.{Node, Client}
+use Rattle.lk_step.specs.Letters.{LetterValue}
+use Rattle.lk_step.specs.declared.to.To.{To}
+use Rattle.lk_step.specs.declared.to.To.TheVariants.{Node, Client}
 use Rattle.lk_server.specs.Addresses.{AddressBook, client_at, node_at, moved_up}
 
 -- whose it is, from where others wrote, the letters of the node to itself that are kept, what the socket has sent, how often a send

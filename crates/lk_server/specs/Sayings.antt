@@ -1,10 +1,10 @@
 -- What a replica says by what it is given.
 use Rattle.std.specs.Prelude.{◌≡◌, ◌⊎◌, ℕ, true, List, [], ◌∷◌, ◌++◌, Option}
 use Rattle.lk_state.specs.Meanings.{Meaning}
+use Rattle.lk_step.specs.Letters.{LetterValue}
+use Rattle.lk_step.specs.declared.input.Input.{Input}
+use Rattle.lk_step.specs.declared.note.Note.{Note}
 use Rattle.lk_node.specs.Calls.{heard_by}
-use Rattle.lk_node.specs.Letters.{LetterValue}
-use Rattle.lk_node.specs.declared.input.Input.{Input}
-use Rattle.lk_node.specs.declared.note.Note.{Note}
 use Rattle.lk_replica.specs.ReplicaValue.{ReplicaValue}
 use Rattle.lk_replica.specs.Taking.{IsTaken}
 

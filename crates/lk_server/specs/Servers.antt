@@ -1,7 +1,7 @@
 -- What a server gives to its replica, and what becomes of what that says.
 use Rattle.std.specs.Prelude.{◌≡◌, ◌⊎◌, Bool, ◌==◌, ◌+◌, ◌%◌, ◌^◌, ℕ, List, [], ◌∷◌, ◌++◌, Option, Some, None, if◌then◌else◌}
 use Rattle.std.specs.declared.net.socket_addr.SocketAddr.{SocketAddr}
-use Rattle.lk_node.specs.Letters.{LetterValue}
+use Rattle.lk_step.specs.Letters.{LetterValue}
 use Rattle.lk_server.specs.Addresses.{AddressBook}
 use Rattle.lk_replica.specs.Posts.{CarriesAll}
 use Rattle.lk_server.specs.Posts.{Hears, Tray, Becomes}

@@ -1,8 +1,8 @@
 //! A replica as a server runs it.
 
 ghost use Rattle.std.specs.Prelude.{◌≡◌, ◌++◌, ◌∷◌, ℕ, List, [], Option, Bool, true, false, OnOk, IfErr};
+ghost use Rattle.lk_step.specs.Letters.{LetterValue};
 ghost use Rattle.lk_node.specs.Calls.{heard_by};
-ghost use Rattle.lk_node.specs.Letters.{LetterValue};
 ghost use Rattle.lk_replica.specs.Faults.{fault_number, IfSend};
 ghost use Rattle.lk_replica.specs.Posts.{GivesLetters};
 ghost use Rattle.lk_server.specs.Sayings.{SaysOf};
@@ -10,9 +10,9 @@ ghost use Rattle.lk_server.specs.Sights.{IsSight};
 
 use crate::sight::Sight;
 use lk_disk::LogDisk;
-use lk_node::{Input, Note};
 use lk_replica::{Post, Replica, ReplicaFault};
 use lk_state::Machine;
+use lk_step::{Input, Note};
 
 /// A replica as a server runs it: what is given to it, it takes.
 pub trait NodeReplica: Sized + Drop {

@@ -1,6 +1,6 @@
 //! The notes of a node as lines of a log.
 
-use lk_node::Note;
+use lk_step::Note;
 use log::{Log, info};
 
 /// Logs what a node counted and executed, a line each at the level of information: `counted POSITION`, `ran POSITION`. A line

@@ -15,12 +15,12 @@ use Rattle.lk_history.proofs.Histories.{still_chosen, still_stems}
 use Rattle.lk_history.proofs.Histories.{only}
 use Rattle.lk_history.proofs.Histories.{sent_cases, asked_is_no_saying}
 use Rattle.lk_history.proofs.Histories.{asked_fits}
+use Rattle.lk_step.specs.declared.note.Note.{Note}
+use Rattle.lk_step.specs.declared.note.Note.TheVariants as note
 use Rattle.lk_node.specs.Histories.{History, Genesis, Datagram, RequestValue}
 use Rattle.lk_node.specs.Served.{BearsOut}
 use Rattle.lk_node.specs.Holdings.{Holding}
 use Rattle.lk_node.specs.Leavings.{DisksFit}
-use Rattle.lk_node.specs.declared.note.Note.{Note}
-use Rattle.lk_node.specs.declared.note.Note.TheVariants as note
 use Rattle.lk_sim.specs.Traces.{asked_in, happened, told_in, Tells}
 use Rattle.lk_sim.proofs.Told.{tells_append, told_in-append}
 use Rattle.lk_sim.specs.Seats.{SeatFits, At}

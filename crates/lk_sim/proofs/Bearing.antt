@@ -11,10 +11,10 @@ use Rattle.lk_history.specs.Chosen.{command_at, Chosen, IsBeginning}
 use Rattle.lk_history.specs.Soundness.{Sound}
 use Rattle.lk_history.proofs.Histories.{chosen_agree}
 use Rattle.lk_history.proofs.Histories.{cons_cases, contains_more}
+use Rattle.lk_step.specs.declared.note.Note.{Note}
+use Rattle.lk_step.specs.declared.note.Note.TheVariants as note
 use Rattle.lk_node.specs.Histories.{History, Genesis, Datagram, Command}
 use Rattle.lk_node.specs.Served.{text, BearsOut, BearsOutPart, BearsOutMessage}
-use Rattle.lk_node.specs.declared.note.Note.{Note}
-use Rattle.lk_node.specs.declared.note.Note.TheVariants as note
 
 get_front : {X : Type 0} (xs ys : List X) (k : ℕ) (v : X) → slice_get xs k ≡ Some v → slice_get (xs ++ ys) k ≡ Some v
 get_front [] ys k v h = absurd cc

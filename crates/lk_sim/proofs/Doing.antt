@@ -6,10 +6,10 @@ use Rattle.lk_disk.specs.Meters.{stopping}
 use Rattle.lk_entries.specs.Values.{HeaderValue}
 use Rattle.lk_state.specs.Meanings.{Meaning}
 use Rattle.lk_history.specs.Nodes.{View}
+use Rattle.lk_step.specs.declared.note.Note.{Note}
 use Rattle.lk_node.specs.Histories.{History, Genesis, Datagram, RequestValue}
 use Rattle.lk_node.specs.Holdings.{Holding}
 use Rattle.lk_node.specs.Leavings.{header_of}
-use Rattle.lk_node.specs.declared.note.Note.{Note}
 use Rattle.lk_sim.specs.Traces.{asked_in, happened, Tells, asked_note}
 use Rattle.lk_sim.specs.Scenes.{Scene}
 use Rattle.lk_sim.specs.Seats.{At, SeatFits, SeatGoes, stopped_on, fallen_on, rested_on, device_in}

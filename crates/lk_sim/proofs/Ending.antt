@@ -7,10 +7,10 @@ use Rattle.lk_disk.specs.Memory.{Memory}
 use Rattle.lk_disk.specs.declared.device.Side.{Side}
 use Rattle.lk_state.specs.Meanings.{Meaning}
 use Rattle.lk_history.specs.Nodes.{View}
+use Rattle.lk_step.specs.declared.note.Note.{Note}
 use Rattle.lk_node.specs.Histories.{History, Genesis, Datagram, RequestValue}
 use Rattle.lk_node.specs.Holdings.{Holding}
 use Rattle.lk_node.specs.Leavings.{DisksFit}
-use Rattle.lk_node.specs.declared.note.Note.{Note}
 use Rattle.lk_sim.specs.Traces.{happened}
 use Rattle.lk_sim.specs.Seats.{UpFits, SeatFits, SeatGoes, At}
 use Rattle.lk_sim.specs.Worlds.{Holds}

@@ -13,11 +13,11 @@ use Rattle.lk_history.specs.Snapshots.{IsSlice}
 use Rattle.lk_history.specs.Soundness.{Sound}
 use Rattle.lk_history.proofs.Histories.{entry_chosen, one_chosen, chosen_agree, chosen_was_accepted, beginning_slice}
 use Rattle.lk_history.proofs.Histories.{only, contains_more}
+use Rattle.lk_step.specs.declared.note.Note.{Note}
+use Rattle.lk_step.specs.declared.note.Note.TheVariants as note
 use Rattle.lk_node.specs.Histories.{Genesis, Datagram, Command, Request, RequestValue, WasAsked, IsLawful, text}
 use Rattle.lk_node.specs.Holdings.{Holding}
 use Rattle.lk_node.specs.Leavings.{DisksFit}
-use Rattle.lk_node.specs.declared.note.Note.{Note}
-use Rattle.lk_node.specs.declared.note.Note.TheVariants as note
 use Rattle.lk_sim.specs.Traces.{asked_by, asked_in, happened}
 use Rattle.lk_sim.specs.Explained.{Explains}
 use Rattle.lk_sim.specs.Orders.{InOrder}

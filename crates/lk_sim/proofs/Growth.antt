@@ -7,12 +7,12 @@ use Rattle.lk_history.specs.Acceptors.{AcceptorState, CoversSent}
 use Rattle.lk_history.specs.Nodes.{View, Stems, ViewFits}
 use Rattle.lk_history.proofs.Histories.{still_chosen_at}
 use Rattle.lk_history.proofs.Histories.{still_slice}
+use Rattle.lk_step.specs.declared.note.Note.{Note}
+use Rattle.lk_step.specs.declared.note.Note.TheVariants as note
 use Rattle.lk_node.specs.Histories.{History, Genesis, Datagram, Command, Noop, Request, RequestValue, WasAsked}
 use Rattle.lk_node.specs.Served.{text, BearsOut}
 use Rattle.lk_node.specs.Holdings.{Holding, HoldingFits}
 use Rattle.lk_node.specs.Leavings.{DisksFit}
-use Rattle.lk_node.specs.declared.note.Note.{Note}
-use Rattle.lk_node.specs.declared.note.Note.TheVariants as note
 
 -- images fit to another history that they cover, and from which they stem
 pub disks_move : (m : Meaning) (genesis : Genesis) (sent now : List Datagram) (asked since : List RequestValue) (n : ℕ) (disks : Side → Disk)

@@ -7,10 +7,10 @@ use Rattle.lk_history.specs.Acceptors.{CoversSent}
 use Rattle.lk_history.specs.Datagrams.{Accepted}
 use Rattle.lk_history.specs.Chosen.{command_at, Chosen}
 use Rattle.lk_history.proofs.Histories.{chosen_agree, kept_by_majority}
+use Rattle.lk_step.specs.declared.note.Note.{Note}
 use Rattle.lk_node.specs.Histories.{Genesis, Datagram, Command}
 use Rattle.lk_node.specs.Holdings.{Holding}
 use Rattle.lk_node.specs.Leavings.{view_of, DisksFit}
-use Rattle.lk_node.specs.declared.note.Note.{Note}
 use Rattle.lk_sim.specs.Traces.{happened}
 use Rattle.lk_sim.specs.Kept.{disks_of, CoversAll, IsKeptBy}
 use Rattle.lk_sim.specs.Rooms.{AreShort}

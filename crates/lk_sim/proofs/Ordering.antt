@@ -18,9 +18,9 @@ use Rattle.lk_state.proofs.Wholes.{by_pushes, ledger-push}
 use Rattle.lk_history.specs.Chosen.{command_at, Chosen, IsBeginning}
 use Rattle.lk_history.specs.Soundness.{Sound}
 use Rattle.lk_history.proofs.Histories.{command_within, entry_chosen, one_chosen, chosen_agree, still_chosen}
+use Rattle.lk_step.specs.declared.note.Note.{Note}
+use Rattle.lk_step.specs.declared.note.Note.TheVariants as note
 use Rattle.lk_node.specs.Histories.{Genesis, Datagram, Command, Noop, Request, RequestValue}
-use Rattle.lk_node.specs.declared.note.Note.{Note}
-use Rattle.lk_node.specs.declared.note.Note.TheVariants as note
 use Rattle.lk_sim.specs.Traces.{asked_in}
 use Rattle.lk_sim.specs.Orders.{IsEffectiveAt, IsEffectiveBefore, InOrder, IsAnsweredBy, InTime}
 use Rattle.lk_sim.proofs.Lists.{asked_among}

@@ -4,7 +4,7 @@ use Rattle.lk_disk.specs.Memory.{Memory, empty}
 use Rattle.lk_replica.specs.Behaviours.{Behaviour}
 use Rattle.std.specs.Prelude.{Option, Result, Ok, Err, Vec, OnOk, IfErr, IsErrAnd}
 use Rattle.std.specs.Global.{Global}
-use Rattle.lk_node.specs.declared.note.Note.{Note}
+use Rattle.lk_step.specs.declared.note.Note.{Note}
 use Rattle.lk_sim.specs.Events.{IsGiven, ComesUp, Brings, Does, Wants, IsRefused, IsNotInjected, Grows}
 use Rattle.lk_sim.specs.Runs.{Passes, StopsAt, Runs}
 use Rattle.lk_sim.specs.Scenes.{Scene}

@@ -18,12 +18,13 @@ use Rattle.lk_history.specs.Worlds.{World, with_view, with_sent, WorldFits}
 use Rattle.lk_history.proofs.Histories.{still_chosen, still_stems}
 use Rattle.lk_history.proofs.Histories.{said_alike, sent_cases}
 use Rattle.lk_history.proofs.Histories.{with_view_fits, batch_fits, covers_elsewhere}
+use Rattle.lk_step.specs.declared.note.Note.{Note}
+use Rattle.lk_step.specs.declared.note.Note.TheVariants as note
 use Rattle.lk_node.specs.Histories.{History, Genesis, Datagram, Command, RequestValue, WasAsked, later}
 use Rattle.lk_node.specs.Served.{BearsOut, BearsOutMessage}
 use Rattle.lk_node.specs.Holdings.{Holding}
 use Rattle.lk_node.specs.Leavings.{DisksFit}
 use Rattle.lk_node.specs.Calls.{Goes}
-use Rattle.lk_node.specs.declared.note.Note.{Note}
 use Rattle.lk_sim.specs.Traces.{asked_in, happened, told_by, told_in, Tells}
 use Rattle.lk_sim.specs.Rooms.{AreShort}
 use Rattle.lk_sim.specs.Seats.{UpFits, SeatFits, At}
@@ -38,7 +39,6 @@ use Rattle.lk_sim.proofs.Ordering.{still_in_time}
 use Rattle.lk_sim.proofs.Explaining.{request_asked}
 use Rattle.lk_sim.specs.Orders.{IsAnsweredBy}
 use Rattle.lk_types.specs.declared.answer.Answer.{Answer}
-use Rattle.lk_node.specs.declared.note.Note.TheVariants as note
 
 -- one view in the place of a number's
 pub same_view : (n : ℕ) (y v : View) → (t : Bool) → (n == n) ≡ t → cond t y v ≡ y

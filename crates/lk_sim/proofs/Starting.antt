@@ -11,12 +11,12 @@ use Rattle.lk_history.specs.Datagrams.{NodeMessage, HasSent}
 use Rattle.lk_history.specs.Nodes.{fresh}
 use Rattle.lk_history.proofs.Histories.{still_stems}
 use Rattle.lk_history.proofs.Histories.{start_fits}
+use Rattle.lk_step.specs.declared.note.Note.{Note}
+use Rattle.lk_step.specs.declared.note.Note.TheVariants as note
 use Rattle.lk_node.specs.Histories.{History, Genesis, Datagram}
 use Rattle.lk_node.specs.Served.{text}
 use Rattle.lk_node.specs.Holdings.{Holding}
 use Rattle.lk_node.specs.Leavings.{header_of, DisksFit}
-use Rattle.lk_node.specs.declared.note.Note.{Note}
-use Rattle.lk_node.specs.declared.note.Note.TheVariants as note
 use Rattle.lk_sim.specs.Traces.{happened}
 use Rattle.lk_sim.specs.Rooms.{AreShort}
 use Rattle.lk_sim.proofs.Shortness.{empty_short}

@@ -11,11 +11,11 @@ use Rattle.lk_disk.specs.declared.trap.Trap.{Trap}
 use Rattle.lk_disk.specs.declared.trap.Trap.TheVariants.{Off, Fail, Arm}
 use Rattle.lk_state.specs.Meanings.{Meaning}
 use Rattle.lk_history.specs.Nodes.{View}
+use Rattle.lk_step.specs.declared.note.Note.{Note}
 use Rattle.lk_node.specs.Histories.{History, Genesis, Datagram, later}
 use Rattle.lk_node.specs.Holdings.{Holding}
 use Rattle.lk_node.specs.Leavings.{DisksFit}
 use Rattle.lk_node.specs.Calls.{Goes}
-use Rattle.lk_node.specs.declared.note.Note.{Note}
 use Rattle.lk_replica.specs.Behaviours.{Behaviour, TrapsAlone, disks_by}
 use Rattle.lk_sim.specs.Events.{SentUpTo, counting}
 use Rattle.lk_sim.specs.Outcomes.{Rests}

@@ -11,10 +11,10 @@ use Rattle.lk_state.specs.Meanings.{Meaning}
 use Rattle.lk_history.specs.Datagrams.{said_by}
 use Rattle.lk_history.proofs.Histories.{only, contains_more}
 use Rattle.lk_sim.proofs.Lists.{take_next}
+use Rattle.lk_step.specs.declared.note.Note.{Note}
+use Rattle.lk_step.specs.declared.note.Note.TheVariants as note
 use Rattle.lk_node.specs.Histories.{History, Datagram, Command}
 use Rattle.lk_node.specs.Served.{IsOfNode, BearsOut, BearsOutMessage}
-use Rattle.lk_node.specs.declared.note.Note.{Note}
-use Rattle.lk_node.specs.declared.note.Note.TheVariants as note
 use Rattle.lk_sim.specs.Traces.{told_by_node, told_by, told_of, told_in, Tells}
 
 pub tells_append : (a b : List Datagram) (x y : List Note) → Tells a x → Tells b y → Tells (a ++ b) (x ++ y)

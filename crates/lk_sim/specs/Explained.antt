@@ -10,10 +10,10 @@ use Rattle.lk_state.specs.Meanings.{Meaning}
 use Rattle.lk_state.specs.States.{reply}
 use Rattle.lk_history.specs.Datagrams.{HasSent}
 use Rattle.lk_history.specs.Chosen.{command_at}
+use Rattle.lk_step.specs.declared.note.Note.{Note}
+use Rattle.lk_step.specs.declared.note.Note.TheVariants as note
 use Rattle.lk_node.specs.Histories.{Genesis, Datagram, Command, Request, RequestValue}
 use Rattle.lk_node.specs.Served.{BearsOutPart}
-use Rattle.lk_node.specs.declared.note.Note.{Note}
-use Rattle.lk_node.specs.declared.note.Note.TheVariants as note
 
 pub record Explains (m : Meaning) (genesis : Genesis) (sent : List Datagram) (trace : List Note) (L : List Command) : Type 0 where
   -- each entry is a no-op, or a request that was asked

@@ -3,8 +3,8 @@ use Rattle.std.specs.Prelude.{ℕ, ◌≤◌, ◌<◌, length, Option, Some, Non
 use Rattle.std.specs.Global.{Global}
 use Rattle.lk_disk.specs.Disk.{Disk, contents}
 use Rattle.lk_disk.specs.declared.device.Side.{Side}
+use Rattle.lk_step.specs.declared.note.Note.{Note}
 use Rattle.lk_node.specs.Histories.{RequestValue}
-use Rattle.lk_node.specs.declared.note.Note.{Note}
 
 -- the most bytes that a file ever has
 abbrev pub max_file : ℕ

@@ -1,7 +1,7 @@
 -- What is seen of a world.
 use Rattle.std.specs.Prelude.{List, Option}
+use Rattle.lk_step.specs.declared.note.Note.{Note}
 use Rattle.lk_node.specs.Histories.{Genesis, Datagram}
-use Rattle.lk_node.specs.declared.note.Note.{Note}
 use Rattle.lk_sim.specs.declared.end.End.{End}
 use Rattle.lk_sim.specs.declared.seat.Seat.{Seat}
 

@@ -6,9 +6,9 @@ use Rattle.lk_wire.specs.declared.message.Content.TheVariants as content
 use Rattle.lk_wire.specs.declared.message.Message.{Message}
 use Rattle.lk_wire.specs.declared.message.NodeMessage.{NodeMessage}
 use Rattle.lk_wire.specs.declared.message.NodeMessage.TheVariants as kinds
+use Rattle.lk_step.specs.declared.note.Note.{Note}
+use Rattle.lk_step.specs.declared.note.Note.TheVariants as note
 use Rattle.lk_node.specs.Histories.{History, Genesis, Datagram, RequestValue}
-use Rattle.lk_node.specs.declared.note.Note.{Note}
-use Rattle.lk_node.specs.declared.note.Note.TheVariants as note
 
 -- the request that the note tells of
 abbrev pub asked_by : Note → List RequestValue

@@ -9,10 +9,10 @@ use Rattle.lk_history.specs.Datagrams.{NodeMessage, Vote, Accept, HasSent, WasSe
 use Rattle.lk_history.specs.Chosen.{Chosen}
 use Rattle.lk_history.specs.Nodes.{View}
 use Rattle.lk_history.specs.Worlds.{WorldFits}
+use Rattle.lk_step.specs.declared.note.Note.{Note}
 use Rattle.lk_node.specs.Histories.{Genesis, Datagram, Command, RequestValue, WasAsked}
 use Rattle.lk_node.specs.Served.{BearsOut, BearsOutMessage}
 use Rattle.lk_node.specs.Holdings.{Holding}
-use Rattle.lk_node.specs.declared.note.Note.{Note}
 use Rattle.lk_sim.specs.Orders.{InTime}
 use Rattle.lk_sim.specs.Scenes.{Scene}
 use Rattle.lk_sim.specs.Traces.{asked_in, happened, told_in, Tells}

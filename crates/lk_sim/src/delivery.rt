@@ -19,8 +19,8 @@ use crate::giving::give;
 use crate::parts::Parts;
 use crate::refused::Refused;
 use lk_history::Party;
-use lk_node::{Input, Note};
 use lk_replica::{Datagram, MemoryReplica};
+use lk_step::{Input, Note};
 use lk_types::{NoMemory, NodeNo, Request};
 use lk_wire::{ContentRef, view};
 

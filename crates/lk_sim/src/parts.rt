@@ -1,7 +1,7 @@
 use crate::end::End;
 use crate::seat::Seat;
-use lk_node::Note;
 use lk_replica::Datagram;
+use lk_step::Note;
 use lk_types::Genesis;
 use std::alloc::Global;
 

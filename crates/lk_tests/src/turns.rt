@@ -2,7 +2,6 @@
 ghost use Rattle.std.specs.Prelude.{◌≡◌, [], None};
 
 use lk_locks::LockTable;
-use lk_node::{Input, Note};
 use lk_replica::{Post, ReplicaFault, SendFault};
 use lk_server::ear::Ear;
 use lk_server::node_replica::NodeReplica;
@@ -10,6 +9,7 @@ use lk_server::server::{Server, node_turn};
 use lk_server::sight::Sight;
 use lk_server::socket::Datagrams;
 use lk_service::demo::{Sockets, play};
+use lk_step::{Input, Note};
 use lk_types::{Ballot, Command, Executed, NodeNo, Position, RealBallot};
 use log::sink::{Discard, Memory};
 use std::alloc::Global;

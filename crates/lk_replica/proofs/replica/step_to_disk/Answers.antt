@@ -5,11 +5,11 @@ use Rattle.lk_log.specs.StoreValue.{disks}
 use Rattle.lk_log.specs.Stores.{Holds, KeepsAtLeast}
 use Rattle.lk_log.proofs.Room.{within_same, behind_room, refused_room}
 use Rattle.lk_state.specs.Meanings.{Meaning}
+use Rattle.lk_step.specs.Letters.{batch_of}
+use Rattle.lk_step.specs.Outboxes.{OutboxValue}
 use Rattle.lk_node.specs.Calls.{Goes}
 use Rattle.lk_node.specs.Keeping.{Stands}
-use Rattle.lk_node.specs.Letters.{batch_of}
 use Rattle.lk_node.specs.NodeValue.{NodeValue}
-use Rattle.lk_node.specs.Outboxes.{OutboxValue}
 use Rattle.lk_replica.proofs.Behind.{still_keeps, still_remembers, sent_is_covered, stepped_fits, installed_goes}
 use Rattle.lk_replica.proofs.Going.{put_leaves, put_goes, remembered, step_keeps, step_remembers, step_syncs, step_covers}
 use Rattle.lk_replica.proofs.replica.step_to_disk.Goals as goal

@@ -1,5 +1,5 @@
 use Rattle.std.proofs.Common.{◌≡◌, ◌++◌, List, take}
-use Rattle.lk_node.specs.declared.note.Note.{Note}
+use Rattle.lk_step.specs.declared.note.Note.{Note}
 use Rattle.lk_sim.specs.Traces.{Tells}
 use Rattle.lk_sim.proofs.telling.tell.Given as goal
 

@@ -1,10 +1,10 @@
 use Rattle.std.proofs.Common.{◌≡◌, ◌∙◌, ap, sym, subst}
 use Rattle.lk_state.specs.Meanings.{Meaning}
 use Rattle.lk_history.specs.Chosen.{Command, ChosenAt}
+use Rattle.lk_step.specs.Outboxes.{OutboxValue, with_note}
+use Rattle.lk_step.specs.declared.note.Note.TheVariants as note
 use Rattle.lk_node.specs.Learning.{Learns}
-use Rattle.lk_node.specs.Outboxes.{OutboxValue, with_note}
 use Rattle.lk_node.specs.Serving.{GoesOn}
-use Rattle.lk_node.specs.declared.note.Note.TheVariants as note
 use Rattle.lk_node.proofs.DecidingRules.{decides_goes_on}
 use Rattle.lk_node.proofs.node.Node.decide.Goals as goal
 

@@ -3,8 +3,8 @@ use Rattle.lk_types.specs.declared.command.Command.{Command}
 use Rattle.lk_wire.specs.declared.message.NodeMessage.TheVariants as kinds
 use Rattle.lk_state.specs.Meanings.{Meaning}
 use Rattle.lk_history.specs.Datagrams.{HasSent}
+use Rattle.lk_step.specs.Outboxes.{OutboxValue, nothing}
 use Rattle.lk_node.specs.DecidedPairs.{TakesFirst, TakesPairs, none_yet}
-use Rattle.lk_node.specs.Outboxes.{OutboxValue, nothing}
 use Rattle.lk_node.specs.Serving.{GoesOn}
 use Rattle.lk_node.proofs.LearnerRules.{told_goes_on, takes_more, walked, not_walked}
 use Rattle.lk_node.proofs.Serving.{rests_here}
@@ -23,7 +23,7 @@ pairs-preserved g c =
     let place : c.position_behind-position.result ≡ c.args.decided.now.first + c.pairs.index = c.position_behind-position.ensures ∙ ap (λ (i : ℕ). i + c.pairs.index) c.first.ensures in
     let many : c.len-index-end.result ≡ length c.args.decided.now.commands = c.len-index-end.ensures ∙ ap (λ (l : List Command). length l) c.commands-2.ensures in
     let taken : TakesFirst g.M.Machine.meaning c.position_behind-position.result c.pairs.rest c.in-Some.others c.pairs.self c.pairs.out c.hear_first.new.self c.hear_first.new.out =
-        rw c.in-Some.is at c.in_ok-others.ensures.some in
+    rw c.in-Some.is at c.in_ok-others.ensures.some in
     let went = walked c.args.decided.now.commands c.pairs.rest c.in-Some.others c.pairs.index taken.command c.pairs.invariant.2 (omega (arith, many, c.pairs-test.true)) taken.stands in (
       takes_more _ c.args.decided.now c.pairs.index c.position_behind-position.result taken.command _ c.pairs.self _ _ c.pairs.out _ place went.0 c.pairs.invariant.0 taken.takes,
       λ from. told_goes_on _ from c.args.decided.now c.pairs.index c.position_behind-position.result taken.command _ c.pairs.self _ _ c.pairs.out _ place went.0 (c.pairs.invariant.1 from) taken.goes_on,

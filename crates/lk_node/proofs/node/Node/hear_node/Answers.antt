@@ -5,8 +5,8 @@ use Rattle.lk_wire.specs.declared.viewing.message.NodeMessageRef.{NodeMessageRef
 use Rattle.lk_history.specs.Datagrams.{HasSent}
 use Rattle.lk_state.specs.Meanings.{Meaning}
 use Rattle.lk_types.specs.declared.vote.Vote.{Vote}
+use Rattle.lk_step.specs.Outboxes.{nothing}
 use Rattle.lk_node.specs.Deciding.{HearsAccepted}
-use Rattle.lk_node.specs.Outboxes.{nothing}
 use Rattle.lk_node.specs.Serving.{GoesOn}
 use Rattle.lk_node.specs.Steps.{HearsNode}
 use Rattle.lk_node.proofs.node.Node.hear_node.Goals as goal

@@ -3,8 +3,8 @@ use Rattle.lk_types.specs.Limits.{max_count}
 use Rattle.lk_state.specs.Meanings.{Meaning}
 use Rattle.lk_state.specs.States.{WholeValue}
 use Rattle.lk_learner.specs.Learners.{executed}
+use Rattle.lk_step.specs.Outboxes.{OutboxValue}
 use Rattle.lk_node.specs.NodeValue.{NodeValue}
-use Rattle.lk_node.specs.Outboxes.{OutboxValue}
 use Rattle.lk_node.specs.Reminding.{OffersAgain, OffersFirst, none_offered, one_offered}
 use Rattle.lk_node.specs.Serving.{GoesOn}
 use Rattle.lk_node.proofs.Serving.{rests_here, then_goes_on}

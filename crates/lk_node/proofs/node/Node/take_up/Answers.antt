@@ -2,9 +2,9 @@ use Rattle.std.proofs.Common.{◌∙◌, ap, subst}
 use Rattle.lk_state.specs.Meanings.{Meaning}
 use Rattle.lk_state.specs.Sessions.{AreSessions}
 use Rattle.lk_state.specs.States.{WholeValue}
+use Rattle.lk_step.specs.Outboxes.{OutboxValue, with_rebase}
 use Rattle.lk_node.specs.Installing.{SettlesAll}
 use Rattle.lk_node.specs.NodeValue.{NodeValue}
-use Rattle.lk_node.specs.Outboxes.{OutboxValue, with_rebase}
 use Rattle.lk_node.specs.Serving.{GoesOn}
 use Rattle.lk_node.proofs.TakingUp.{takes_up_goes_on}
 use Rattle.lk_node.proofs.node.Node.take_up.Goals as goal

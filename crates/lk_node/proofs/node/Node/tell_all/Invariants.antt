@@ -1,7 +1,7 @@
 -- The letters to the nodes so far.
 use Rattle.std.proofs.Common.{◌≡◌, map, take}
+use Rattle.lk_step.specs.Outboxes.{with_letters}
 use Rattle.lk_node.specs.Saying.{to_node}
-use Rattle.lk_node.specs.Telling.{with_letters}
 use Rattle.lk_node.proofs.node.Node.tell_all.Given as goal
 
 abbrev pub invariant-nodes : goal.invariant-nodes

@@ -4,12 +4,12 @@ use Rattle.std.proofs.lemmas.List.Elements.{Contains-push_cases}
 use Rattle.lk_wire.specs.Grammar.{IsMessage}
 use Rattle.lk_wire.specs.Values.{PartValue}
 use Rattle.lk_wire.specs.declared.message.NodeMessage.TheVariants as kinds
+use Rattle.lk_step.specs.Letters.{LetterValue}
+use Rattle.lk_step.specs.Outboxes.{nothing, with_letter, with_letters}
+use Rattle.lk_step.specs.Saying.{saying}
 use Rattle.lk_node.specs.CatchingUp.{sending_parts}
-use Rattle.lk_node.specs.Letters.{LetterValue}
 use Rattle.lk_node.specs.NodeValue.{NodeValue}
-use Rattle.lk_node.specs.Outboxes.{nothing, with_letter}
-use Rattle.lk_node.specs.Saying.{saying}
-use Rattle.lk_node.specs.Telling.{letter_to, with_letters}
+use Rattle.lk_node.specs.Telling.{letter_to}
 use Rattle.lk_node.proofs.node.Node.tell_parts.Goals as goal
 
 map_push : {X Y : Type 0} (f : X → Y) (xs : List X) (x : X) → map f xs ++ f x ∷ [] ≡ map f (xs ++ x ∷ [])

@@ -4,9 +4,9 @@ use Rattle.std.specs.Vec.Iter.{into_iter_items, into_iter_len}
 use Rattle.lk_wire.specs.Grammar.{IsMessage}
 use Rattle.lk_wire.specs.Values.{PartValue}
 use Rattle.lk_wire.specs.declared.message.NodeMessage.TheVariants as kinds
+use Rattle.lk_step.specs.Outboxes.{nothing}
+use Rattle.lk_step.specs.Saying.{saying}
 use Rattle.lk_node.specs.CatchingUp.{sending_parts}
-use Rattle.lk_node.specs.Outboxes.{nothing}
-use Rattle.lk_node.specs.Saying.{saying}
 use Rattle.lk_node.proofs.node.Node.tell_parts.Given as goal
 
 abbrev pub invariant-parts : goal.invariant-parts

@@ -1,5 +1,5 @@
 use Rattle.std.proofs.Common.{◌≡◌}
-use Rattle.lk_node.specs.Letters.{batch_of}
+use Rattle.lk_step.specs.Letters.{batch_of}
 use Rattle.lk_replica.proofs.collected.Collected.into_datagrams.Given as goal
 
 abbrev pub invariant-loop-letter : goal.invariant-loop-letter

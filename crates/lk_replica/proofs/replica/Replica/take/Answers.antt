@@ -1,16 +1,16 @@
 use Rattle.std.proofs.Common.{◌≡◌, true, false, List, [], ◌++◌, Contains, IfErr, inl, inr, refl, sym, ◌∙◌, ap, subst, arith}
 use Rattle.lk_log.specs.StoreValue.{disks}
+use Rattle.lk_step.specs.Letters.{LetterValue, batch_of}
+use Rattle.lk_step.specs.Outboxes.{OutboxValue}
+use Rattle.lk_step.specs.declared.note.Note.{Note}
 use Rattle.lk_node.specs.Calls.{InputFits, NodeFits, Goes}
 use Rattle.lk_node.specs.Keeping.{Stands}
-use Rattle.lk_node.specs.Letters.{LetterValue, batch_of}
 use Rattle.lk_replica.specs.Posts.{CarriesAll, SendsSome}
 use Rattle.lk_replica.specs.ReplicaValue.{ReplicaValue}
-use Rattle.lk_node.specs.Outboxes.{OutboxValue}
 use Rattle.lk_replica.specs.Compacting.{RebasesWhereDue}
 use Rattle.lk_replica.specs.Taking.{CallsOfStep, IsRefused, LeavesDisks}
 use Rattle.lk_replica.proofs.NoSend.{goes_not}
 use Rattle.lk_replica.proofs.Refusals.{refused_by_parts}
-use Rattle.lk_node.specs.declared.note.Note.{Note}
 use Rattle.lk_replica.proofs.Thinning.{thins_are_of, batch_among}
 use Rattle.lk_log.proofs.Room.{within_same}
 use Rattle.lk_replica.proofs.replica.Replica.take.Goals as goal

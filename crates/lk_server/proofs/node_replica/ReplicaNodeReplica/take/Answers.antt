@@ -1,5 +1,5 @@
 use Rattle.std.proofs.Common.{List}
-use Rattle.lk_node.specs.Letters.{LetterValue}
+use Rattle.lk_step.specs.Letters.{LetterValue}
 use Rattle.lk_replica.specs.Posts.{SendsAs}
 use Rattle.lk_server.proofs.Sayings.{says_of}
 use Rattle.lk_server.proofs.node_replica.ReplicaNodeReplica.take.Goals as goal

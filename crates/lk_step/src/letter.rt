@@ -9,7 +9,7 @@ pub struct Letter {
 }
 
 impl Model for Letter {
-    ghost use Rattle.lk_node.specs.Letters.{LetterValue};
+    ghost use Rattle.lk_step.specs.Letters.{LetterValue};
 
     ghost Value = { LetterValue };
 

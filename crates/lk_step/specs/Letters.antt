@@ -3,8 +3,8 @@ use Rattle.std.specs.Prelude.{ℕ, List, map}
 use Rattle.lk_history.specs.declared.party.Party.{Party}
 use Rattle.lk_history.specs.declared.party.Party.TheVariants as party
 use Rattle.lk_history.specs.Datagrams.{Datagram}
-use Rattle.lk_node.specs.declared.to.To.{To}
-use Rattle.lk_node.specs.declared.to.To.TheVariants as to
+use Rattle.lk_step.specs.declared.to.To.{To}
+use Rattle.lk_step.specs.declared.to.To.TheVariants as to
 
 -- for whom it is bound, and its bytes
 pub record LetterValue : Type 0 where

@@ -2,6 +2,7 @@
 use Rattle.std.specs.Prelude.{ℕ, nat_lt, if◌then◌else◌, Option, Some, None}
 use Rattle.lk_wire.specs.declared.message.NodeMessage.{NodeMessage}
 use Rattle.lk_wire.specs.declared.message.NodeMessage.TheVariants.{Answer, Passed}
+use Rattle.lk_state.specs.declared.session.Session.{Session}
 use Rattle.lk_state.specs.declared.whole.Seen.{Seen}
 use Rattle.lk_state.specs.declared.whole.Seen.TheVariants as seen
 
@@ -12,3 +13,10 @@ kept_reply client number (seen.Same answer) = Some (Answer (record { client = cl
 kept_reply client number (seen.Passed last) =
     if nat_lt number last then Some (Passed (record { client = client; number = number; last = last }))
     else None
+
+-- what the waiting request of this number is told, once the session's was executed: where it is that one its answer, where
+-- it is smaller the number that passed it
+abbrev pub told : Session → ℕ → NodeMessage
+told s number =
+    if nat_lt number s.number then Passed (record { client = s.client; number = number; last = s.number })
+    else Answer (record { client = s.client; number = number; answer = s.answer })

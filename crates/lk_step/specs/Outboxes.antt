@@ -2,8 +2,8 @@
 use Rattle.std.specs.Prelude.{Bool, true, false, ◌||◌, Option, Some, None, List, [], ◌∷◌, ◌++◌}
 use Rattle.lk_types.specs.declared.entry.Entry.{Entry}
 use Rattle.lk_types.specs.declared.entry.Entry.TheVariants.{Promise, Vote, Decided}
-use Rattle.lk_node.specs.Letters.{LetterValue}
-use Rattle.lk_node.specs.declared.note.Note.{Note}
+use Rattle.lk_step.specs.Letters.{LetterValue}
+use Rattle.lk_step.specs.declared.note.Note.{Note}
 
 -- whether the store is rebased on what the node then holds, in place of putting the entries, the entries to write, whether they
 -- are synced before anything is sent, what is noted, and what is sent, in order
@@ -24,6 +24,10 @@ with_rebase o = record { rebase = true; entries = o.entries; sync = o.sync; note
 -- with one more letter
 abbrev pub with_letter : LetterValue → OutboxValue → OutboxValue
 with_letter l o = record { rebase = o.rebase; entries = o.entries; sync = o.sync; notes = o.notes; letters = o.letters ++ l ∷ [] }
+
+-- with these letters more
+abbrev pub with_letters : List LetterValue → OutboxValue → OutboxValue
+with_letters ls o = record { rebase = o.rebase; entries = o.entries; sync = o.sync; notes = o.notes; letters = o.letters ++ ls }
 
 -- the entry is synced before anything is sent: a promise and a vote are
 abbrev pub is_synced : Entry → Bool

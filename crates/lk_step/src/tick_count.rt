@@ -1,6 +1,6 @@
 // How many ticks have passed since a leader was heard.
 ghost use Rattle.std.specs.Prelude.{◌≡◌, ◌+◌, ◌≤◌, min};
-ghost use Rattle.lk_node.specs.Waiting.{max_ticks};
+ghost use Rattle.lk_step.specs.Ticks.{max_ticks};
 
 use std::marker::Model;
 

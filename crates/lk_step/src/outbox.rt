@@ -1,6 +1,5 @@
 ghost use Rattle.std.specs.Prelude.{◌≡◌, OnOk};
-ghost use Rattle.lk_node.specs.Outboxes.{nothing, is_synced, with_rebase, with_entry, with_note};
-ghost use Rattle.lk_node.specs.Telling.{with_letters};
+ghost use Rattle.lk_step.specs.Outboxes.{nothing, is_synced, with_rebase, with_entry, with_note, with_letters};
 
 use crate::letter::Letter;
 use crate::note::Note;
@@ -21,7 +20,7 @@ pub struct Outbox {
 }
 
 impl Model for Outbox {
-    ghost use Rattle.lk_node.specs.Outboxes.{OutboxValue};
+    ghost use Rattle.lk_step.specs.Outboxes.{OutboxValue};
 
     ghost Value = { OutboxValue };
 
@@ -43,7 +42,7 @@ impl Outbox {
     }
 
     /// One more entry. A promise or a vote is synced, and with it all that is written.
-    pub(crate) fn write(&mut self, entry: Entry) -> Result<(), NoMemory>
+    pub fn write(&mut self, entry: Entry) -> Result<(), NoMemory>
         ensures { OnOk result (self.new ≡ with_entry entry self.old) }
     {
         if is_synced(&entry) {
@@ -54,14 +53,14 @@ impl Outbox {
     }
 
     /// The store is rebased.
-    pub(crate) fn rebase_store(&mut self)
+    pub fn rebase_store(&mut self)
         ensures { self.new ≡ with_rebase self.old }
     {
         self.rebase = true;
     }
 
     /// One more note.
-    pub(crate) fn note(&mut self, note: Note) -> Result<(), NoMemory>
+    pub fn note(&mut self, note: Note) -> Result<(), NoMemory>
         ensures { OnOk result (self.new ≡ with_note note self.old) }
     {
         self.notes.push(note)?;
@@ -71,7 +70,7 @@ impl Outbox {
 
 impl Outbox {
     /// These letters more.
-    pub(crate) fn post(&mut self, letters: Vec<Letter>) -> Result<(), NoMemory>
+    pub fn post(&mut self, letters: Vec<Letter>) -> Result<(), NoMemory>
         ensures { OnOk result (self.new ≡ with_letters letters.items self.old) }
     {
         let mut letters = letters;

@@ -1,0 +1,44 @@
+// What an acceptor replies, and what a client is told of a request that is not new.
+ghost use Rattle.std.specs.Prelude.{◌≡◌, ◌≤◌};
+ghost use Rattle.lk_step.specs.Grants.{is_granted};
+ghost use Rattle.lk_step.specs.KeptReplies.{kept_reply, told};
+
+use lk_state::{Seen, Session};
+use lk_types::{ClientNo, RequestNumber};
+use lk_wire::{Answered, NodeMessage, Passed};
+
+/// Whether a reply of an acceptor grants what was asked.
+pub fn is_granted(reply: &NodeMessage) -> bool
+    ensures { result ≡ is_granted reply.now }
+{
+    !matches!(reply, NodeMessage::Nack(_))
+}
+
+/// What a client's request of this number is told, by where it stands to the client's last one: the answer that is kept, or
+/// the number that passed it. Nothing where it is new.
+pub fn kept_reply(client: ClientNo, number: RequestNumber, seen: Seen) -> Option<NodeMessage>
+    ensures { result ≡ kept_reply client number seen }
+{
+    match seen {
+        Seen::New => None,
+        Seen::Same(answer) => Some(NodeMessage::Answer(Answered {
+            client,
+            number,
+            answer,
+        })),
+        Seen::Passed(last) => {
+            let passed = Passed::of(client, number, last)?;
+            Some(NodeMessage::Passed(passed))
+        }
+    }
+}
+
+/// What the client's waiting request of this number is told, once the session's was executed.
+pub fn told(session: Session, number: RequestNumber) -> NodeMessage
+    requires { number ≤ session.number }
+    ensures { result ≡ told session number }
+{
+    let client = session.client;
+    let seen = Seen::of(Some(session), number);
+    kept_reply(client, number, seen).unwrap()
+}
