@@ -1,6 +1,7 @@
 //! A client that asks once.
 
-ghost use Rattle.std.specs.Prelude.{◌≤◌};
+ghost use Rattle.std.specs.Prelude.{◌≡◌, ◌≤◌, IfOk, IfErr};
+ghost use Rattle.lk_wire.specs.Grammar.{Spells};
 
 use crate::reply::{Reply, read_reply};
 use bytes::BytesMut;
@@ -26,8 +27,11 @@ pub struct Question {
     pub request: Request,
 }
 
-/// The bytes of a message.
-fn written(alloc: Global, message: &Message) -> Result<BytesMut, ServiceFault> {
+/// The bytes of a message. It refuses where memory was refused.
+fn written(alloc: Global, message: &Message) -> Result<BytesMut, ServiceFault>
+    ensures spells { IfOk result (λ bytes. Spells message.now bytes.items) }
+    ensures only { IfErr result (λ f. f ≡ ServiceFault.NoMemory) }
+{
     let mut bytes = BytesMut::new(alloc);
     match write(message, &mut bytes) {
         Ok(()) => Ok(bytes),

@@ -1,7 +1,10 @@
 //! A node over the files of a folder and a socket.
 
-ghost use Rattle.std.specs.Prelude.{◌≡◌, ◌≤◌};
+ghost use Rattle.std.specs.Prelude.{◌≡◌, ◌≤◌, true, false, IfOk, IfErr, OnOk, OnErr};
 ghost use Rattle.lk_members.specs.Ports.{port_in};
+ghost use Rattle.lk_replica.specs.Faults.{fault_number};
+ghost use Rattle.lk_replica.specs.Revivals.{MayGoOn};
+ghost use Rattle.lk_server.specs.Faults.{replica_fault};
 
 use crate::causes::{open_socket, tell_device};
 use crate::folder::{FolderLock, open_device};
@@ -41,7 +44,12 @@ fn take_up<M: Machine, D: LogDisk + Drop, L: Log>(
     header: &Header,
     device: D,
     log: &L,
-) -> Result<Replica<M, D>, ReviveFault<D>> {
+) -> Result<Replica<M, D>, ReviveFault<D>>
+    // It can take calls: nothing of it has failed.
+    ensures ready { IfOk result (λ r. MayGoOn r) }
+    // It is refused with 7 to 11.
+    ensures refused { IfErr result (λ e. (7 ≤ fault_number e.fault) × (fault_number e.fault ≤ 11)) }
+{
     let mut device = device;
     let is_new = matches!(look(alloc, &mut device), Ok(None));
     let revived = Replica::<M, D>::revive(alloc, device, header)?;
@@ -76,20 +84,33 @@ type FolderDisk = FileDisk<SystemFile<File>>;
 /// A node on the files of a folder, and its socket.
 type FolderServer<M> = Server<Replica<M, FolderDisk>, LocalSocket>;
 
+/// The fault of a revival that was refused. Where a file fails a line tells why.
+fn tell_refused<E: Write>(
+    refused: &ReviveFault<FolderDisk>,
+    folder: &str,
+    err: &mut E,
+) -> ServiceFault
+    ensures { result ≡ replica_fault refused.now.fault }
+{
+    let fault = ServiceFault::of_replica(&refused.fault);
+    tell_device(fault, &refused.device, folder, err)
+}
+
 /// The replica that is taken up from the files of a folder. Where a file fails a line tells why.
+#[tactic(auto, using(crate::proofs::Refusals::no_send))]
 fn take_up_folder<M: Machine, L: Log, E: Write>(
     alloc: Global,
     plan: &NodePlan<'_>,
     device: FolderDisk,
     log: &L,
     err: &mut E,
-) -> Result<Replica<M, FolderDisk>, ServiceFault> {
+) -> Result<Replica<M, FolderDisk>, ServiceFault>
+    ensures ready { IfOk result (λ r. MayGoOn r) }
+    ensures passes { IfErr result (λ f. f ≡ ServiceFault.Send → ⊥) }
+{
     match take_up::<M, FolderDisk, L>(alloc, &plan.header, device, log) {
         Ok(replica) => Ok(replica),
-        Err(refused) => {
-            let fault = ServiceFault::of_replica(&refused.fault);
-            Err(tell_device(fault, &refused.device, plan.folder, err))
-        }
+        Err(refused) => Err(tell_refused(&refused, plan.folder, err)),
     }
 }
 
@@ -108,6 +129,18 @@ fn revive_folder<M: Machine, L: Log, E: Write>(
     Ok(Server::new(alloc, cluster, header.node(), replica, socket))
 }
 
+/// The fault by which a turn has ended. Where a file fails a line tells why.
+fn tell_ended<M: Machine, E: Write>(
+    fault: ServiceFault,
+    server: &FolderServer<M>,
+    folder: &str,
+    err: &mut E,
+) -> ServiceFault
+    ensures { result ≡ fault }
+{
+    tell_device(fault, server.replica().device(), folder, err)
+}
+
 /// Takes one turn. Where a file fails a line tells why.
 fn take_turn<M: Machine, L: Log, E: Write>(
     server: &mut FolderServer<M>,
@@ -115,10 +148,16 @@ fn take_turn<M: Machine, L: Log, E: Write>(
     folder: &str,
     log: &L,
     err: &mut E,
-) -> Result<(), ServiceFault> {
+) -> Result<(), ServiceFault>
+    ensures cluster { server.new.cluster ≡ server.old.cluster }
+    ensures node { server.new.node ≡ server.old.node }
+    ensures passes { IfErr result (λ f. f ≡ ServiceFault.Send → ⊥) }
+    ensures alive { OnOk result (server.new.failed ≡ false) }
+    ensures broken { OnErr result (server.new.failed ≡ true) }
+{
     match node_turn(server, ear, log) {
         Ok(()) => Ok(()),
-        Err(fault) => Err(tell_device(fault, server.replica().device(), folder, err)),
+        Err(fault) => Err(tell_ended(fault, server, folder, err)),
     }
 }
 
