@@ -1,9 +1,9 @@
-use Rattle.std.proofs.Common.{sym, ◌∙◌}
+use Rattle.std.proofs.Common.{◌∙◌, sym, ap}
+use Rattle.lk_step.specs.KeptReplies.{kept_reply}
 use Rattle.lk_script.proofs.TableServerLemmas.{kept}
 use Rattle.lk_script.proofs.table_server.TableServer.reply.Goals as goal
 
 pub returns-in-Some-clause-ok : goal.returns-in-Some-clause-ok
-returns-in-Some-clause-ok c = ?
-
-pub returns-clause-ok : goal.returns-clause-ok
-returns-clause-ok c = ?
+returns-in-Some-clause-ok c = λ L sums.
+    kept L c.args.request.now c.args.self.now sums c.in-Some.reply
+    (ap (kept_reply c.args.request.now.client c.args.request.now.number) (sym c.seen-seen.ensures.value) ∙ sym c.kept_reply.ensures ∙ c.in-Some.is)
