@@ -20,22 +20,14 @@ impl<M: Machine> Node<M> {
         Ok(())
     }
 
-    // The command has run and was answered so: where it took effect, its session is settled.
-    fn settle_ran(
-        &mut self,
-        command: &Command,
-        answer: Option<Answer>,
-        out: &mut Outbox,
-    ) -> Result<(), NoMemory>
-        ensures { OnOk result (SettlesAny (session_by command.now answer) self.old out.old self.new out.new) }
+    // The session that has become its client's last, if one has, is settled.
+    fn settle_ran(&mut self, session: Option<Session>, out: &mut Outbox) -> Result<(), NoMemory>
+        ensures { OnOk result (SettlesAny session self.old out.old self.new out.new) }
     {
-        let Command::Request(request) = command else {
+        let Some(session) = session else {
             return Ok(());
         };
-        let Some(answer) = answer else {
-            return Ok(());
-        };
-        self.settle(Session::of(request, answer), out)?;
+        self.settle(session, out)?;
         Ok(())
     }
 
@@ -85,8 +77,9 @@ impl<M: Machine> Node<M> {
         let Some((command, ran)) = self.run_next()? else {
             return Ok(false);
         };
-        out.note(Note::Ran(self.header.node(), ran.position, command.copy()))?;
-        self.settle_ran(&command, ran.answer, out)?;
+        let session = session_of(&command, ran.answer);
+        out.note(Note::Ran(self.header.node(), ran.position, command))?;
+        self.settle_ran(session, out)?;
         self.leave_outside();
         Ok(true)
     }
@@ -101,5 +94,15 @@ impl<M: Machine> Node<M> {
                 return Ok(());
             }
         }
+    }
+}
+
+// The session that a command leaves which was answered so, where it took effect.
+fn session_of(command: &Command, answer: Option<Answer>) -> Option<Session>
+    ensures { result ≡ session_by command.now answer }
+{
+    match command {
+        Command::Request(request) => Some(Session::of(request, answer?)),
+        Command::Noop => None,
     }
 }
