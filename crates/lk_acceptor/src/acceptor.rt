@@ -20,7 +20,7 @@ use std::marker::Model;
 
 /// What a node promised and voted for: one promised ballot for all positions, and above the snapshot the vote of
 /// greatest ballot at each position.
-#[derive(Debug, Drop)]
+#[derive(Drop)]
 pub struct Acceptor {
     alloc: Global,
     alpha: u8,

@@ -2,7 +2,7 @@ use lk_types::Entry;
 use lk_wire::NodeMessage;
 
 /// What a Prepare or an Accept is answered.
-#[derive(Debug, Drop)]
+#[derive(Drop)]
 pub struct Response {
     /// A Promise, an Accepted or a Nack, for the node that asked.
     pub reply: NodeMessage,

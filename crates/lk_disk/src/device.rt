@@ -8,7 +8,7 @@ ghost use Rattle.lk_disk.specs.declared.meter.Meter.{Meter};
 use thiserror::Error;
 
 /// Names one of the two disks of a device.
-#[derive(Clone, Copy, Debug, PartialEq, Eq)]
+#[derive(Clone, Copy, PartialEq, Eq)]
 pub enum Side {
     A,
     B,

@@ -13,7 +13,7 @@ use std::marker::Model;
 /// Two files as a device. It is honest where the files are.
 ///
 /// After an append, a sync or a cut that failed a file is not used again: each further call at its side fails too.
-#[derive(Debug, Drop)]
+#[derive(Drop)]
 pub struct FileDisk<F: AppendFile + Drop> {
     a: UsedFile<F>,
     b: UsedFile<F>,

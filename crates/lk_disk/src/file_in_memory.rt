@@ -9,7 +9,7 @@ use std::alloc::Global;
 use std::marker::Model;
 
 /// One file in memory. An append fails when out of memory; else a call fails where it has to, and then it changes nothing.
-#[derive(Debug, Drop)]
+#[derive(Drop)]
 pub struct FileInMemory {
     bytes: MemoryFile,
     // so many of its bytes it shows, where it was shortened and not yet synced

@@ -18,7 +18,7 @@ use std::marker::Model;
 /// A call fails by the trap, by the fuse, as it was asked to, when out of memory or past the end of a disk, and by nothing else; it
 /// is counted as a failure, and but at an armed stop changes no disk. Appends, syncs and cuts, also those that fail, are the
 /// changing calls, `length` and `read_into` the reading ones.
-#[derive(Debug, Drop)]
+#[derive(Drop)]
 pub struct MemoryDisk {
     a: MemoryFile,
     b: MemoryFile,

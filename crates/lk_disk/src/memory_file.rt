@@ -6,7 +6,7 @@ use std::alloc::{AllocError, Global};
 use std::marker::Model;
 
 /// The bytes of one disk, and how many of them are synced: those in front.
-#[derive(Debug, Drop)]
+#[derive(Drop)]
 pub(crate) struct MemoryFile {
     bytes: Vec<u8>,
     synced: usize,

@@ -4,7 +4,7 @@ use crate::trap::Trap;
 
 /// What makes a device in memory fail, and what it counts. Changing calls are appends, syncs and cuts, also those that fail;
 /// reading ones `length` and `read_into`.
-#[derive(Clone, Copy, Debug)]
+#[derive(Clone, Copy)]
 pub struct Meter {
     /// What befalls a changing call to come.
     pub trap: Trap,

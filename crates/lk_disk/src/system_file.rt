@@ -18,7 +18,7 @@ use thiserror::Error;
 /// That it is honest is a premise which nothing proves, here or above: it is trusted that the bytes of a write go to the
 /// end of the file, that what `sync_data` has returned of outlasts a stop of the machine, with the length that it then
 /// had, and that nobody else writes to it.
-#[derive(Debug, Drop)]
+#[derive(Drop)]
 pub struct SystemFile<F> {
     file: F,
     failures: u64,

@@ -8,7 +8,7 @@ use std::marker::Model;
 
 /// A file that refuses all calls after an append, a sync or a cut that failed: what it shows is then not known. Its length is
 /// asked of the file once, and counted from then on.
-#[derive(Debug, Drop)]
+#[derive(Drop)]
 pub(crate) struct UsedFile<F: AppendFile + Drop> {
     file: F,
     // the number of its bytes, where it is known

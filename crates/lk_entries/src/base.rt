@@ -4,7 +4,7 @@ use std::marker::Model;
 
 /// What begins a file: a standing as it was when the file was begun. The files' generations tell which file is newer, and the
 /// format is 1 or 2.
-#[derive(Debug, Drop)]
+#[derive(Drop)]
 pub struct Base {
     pub generation: u64,
     pub format: u8,

@@ -7,7 +7,7 @@ use lk_types::{Genesis, Member, NodeNo};
 use std::marker::Model;
 
 /// Whose store it is: a node, and how its cluster began.
-#[derive(Debug, Drop)]
+#[derive(Drop)]
 pub struct Header {
     node: NodeNo,
     genesis: Genesis,

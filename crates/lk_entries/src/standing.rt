@@ -8,7 +8,7 @@ use lk_types::{Ballot, Command, Executed, Position, Vote};
 use std::marker::Model;
 
 /// What a node remembers.
-#[derive(Debug, Drop)]
+#[derive(Drop)]
 pub struct Standing {
     /// No ballot below it gets a promise or a vote any more. `Ballot::ZERO` where nothing was promised.
     pub promised: Ballot,

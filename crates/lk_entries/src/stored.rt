@@ -2,7 +2,7 @@ use crate::base::Base;
 use lk_types::Entry;
 
 /// An entry of a file.
-#[derive(Debug, Drop)]
+#[derive(Drop)]
 pub enum Stored {
     Base(Base),
     Plain(Entry),

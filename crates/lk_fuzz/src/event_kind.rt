@@ -1,5 +1,5 @@
 /// The kinds of events that are drawn.
-#[derive(Clone, Copy, Debug, PartialEq, Eq)]
+#[derive(Clone, Copy, PartialEq, Eq)]
 pub enum EventKind {
     Restart,
     Tick,

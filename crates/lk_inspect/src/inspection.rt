@@ -21,7 +21,7 @@ use lk_types::Executed;
 use std::alloc::Global;
 
 /// What a list of commands comes to.
-#[derive(Debug, Drop)]
+#[derive(Drop)]
 pub struct Inspection {
     /// How many positions are executed.
     pub executed: Executed,

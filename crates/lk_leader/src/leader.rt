@@ -19,14 +19,14 @@ use std::alloc::Global;
 use std::marker::Model;
 
 /// A command that a majority of the members of its position has accepted.
-#[derive(Debug, PartialEq, Eq, Drop)]
+#[derive(PartialEq, Eq, Drop)]
 pub struct Chosen {
     pub position: Position,
     pub command: Command,
 }
 
 /// A command that is proposed and not decided yet, and the members that were heard to accept it.
-#[derive(Debug, Drop)]
+#[derive(Drop)]
 pub struct Open<'a> {
     pub command: &'a Command,
     pub accepted: &'a [NodeNo],

@@ -10,7 +10,7 @@ use lk_types::{Command, Executed, Members, NodeNo, Position, Request};
 use std::marker::Model;
 
 /// A command that was proposed at a position, and the members that were heard to accept it since then.
-#[derive(Debug, Drop)]
+#[derive(Drop)]
 pub(crate) struct Proposal {
     pub(crate) position: Position,
     pub(crate) command: Command,

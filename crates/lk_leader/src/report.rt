@@ -10,7 +10,7 @@ use std::alloc::Global;
 use std::marker::Model;
 
 /// A promise that was heard: who gave it, and the votes that it tells of, from `first` on.
-#[derive(Debug, Drop)]
+#[derive(Drop)]
 pub(crate) struct Report {
     pub(crate) node: NodeNo,
     pub(crate) first: Position,

@@ -18,7 +18,7 @@ use std::alloc::Global;
 use std::marker::Model;
 
 /// A ballot in progress: the first promise of each node that was heard, and what was proposed at the positions of the window.
-#[derive(Debug, Drop)]
+#[derive(Drop)]
 pub(crate) struct Term {
     ballot: RealBallot,
     reports: Vec<Report>,

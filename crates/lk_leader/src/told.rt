@@ -4,7 +4,7 @@ ghost use Rattle.lk_leader.specs.Values.{IsNotAbove, IsBest};
 use lk_types::{NodeNo, Vote};
 
 /// A vote, and the node whose promise tells of it.
-#[derive(Debug, Drop)]
+#[derive(Drop)]
 pub(crate) struct Told {
     pub(crate) node: NodeNo,
     pub(crate) vote: Vote,

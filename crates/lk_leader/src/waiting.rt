@@ -9,7 +9,7 @@ use std::alloc::Global;
 use std::marker::Model;
 
 /// What a client asks for under a number.
-#[derive(Debug, Drop)]
+#[derive(Drop)]
 pub(crate) struct Asked {
     number: RequestNumber,
     op: Op,

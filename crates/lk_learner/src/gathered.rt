@@ -11,7 +11,7 @@ use std::alloc::Global;
 use std::marker::Model;
 
 /// The beginning of a snapshot's text, as far as its parts were heard.
-#[derive(Debug, Drop)]
+#[derive(Drop)]
 pub struct Gathered {
     position: Position,
     total: u32,

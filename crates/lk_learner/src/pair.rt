@@ -6,7 +6,7 @@ use lk_types::{Command, Position};
 use std::marker::Model;
 
 /// A decided command and its position, kept until it is executed.
-#[derive(Debug, Drop)]
+#[derive(Drop)]
 pub struct Pair {
     pub(crate) position: Position,
     pub(crate) command: Command,

@@ -8,7 +8,7 @@ use lk_types::limits::MAX_NAME;
 use std::marker::Model;
 
 /// The name of a lock: 1 to 32 bytes of `a` to `z`, `0` to `9`, `-`, `.` and `/`.
-#[derive(Clone, Debug, PartialEq, Eq, PartialOrd, Ord, Drop)]
+#[derive(Clone, PartialEq, Eq, PartialOrd, Ord, Drop)]
 pub struct Name {
     bytes: ArrayVec<u8, MAX_NAME>,
 }

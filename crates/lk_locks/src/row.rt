@@ -2,7 +2,7 @@ use crate::slot::Slot;
 use lk_types::Answer;
 
 /// What a body comes to: its answer, and what the name then has, where it changes.
-#[derive(Debug, Drop)]
+#[derive(Drop)]
 pub struct Row {
     pub answer: Answer,
     pub change: Option<Slot>,

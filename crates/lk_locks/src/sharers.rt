@@ -10,7 +10,7 @@ use lk_types::{ClientNo, SharerCount};
 use std::marker::Model;
 
 /// The clients that share a name: 1 to 8, rising. No call takes memory.
-#[derive(Clone, Debug, PartialEq, Eq, Drop)]
+#[derive(Clone, PartialEq, Eq, Drop)]
 pub struct Sharers {
     clients: ArrayVec<ClientNo, 8>,
 }

@@ -7,7 +7,7 @@ use crate::sharers::Sharers;
 use lk_types::{ClientNo, Fence};
 
 /// Who holds a name: a set of clients with a mode.
-#[derive(Debug, PartialEq, Eq, Drop)]
+#[derive(PartialEq, Eq, Drop)]
 pub enum Holders {
     Nobody,
     /// That client, and no other may.
@@ -17,7 +17,7 @@ pub enum Holders {
 }
 
 /// The last fence of a name, and who holds it.
-#[derive(Debug, PartialEq, Eq, Drop)]
+#[derive(PartialEq, Eq, Drop)]
 pub struct Slot {
     pub fence: Fence,
     pub holders: Holders,

@@ -70,7 +70,7 @@ impl<T: Drop> From<AllocFailed<T>> for StoreFault {
 }
 
 /// Why no store was opened, and the device.
-#[derive(Debug, Drop)]
+#[derive(Drop)]
 pub struct ReopenFault<D> {
     pub fault: StoreFault,
     pub device: D,

@@ -17,7 +17,7 @@ use lk_types::limits::MAX_TORN;
 use std::alloc::Global;
 
 /// A file as it was read.
-#[derive(Debug, Drop)]
+#[derive(Drop)]
 pub struct File {
     // The whole entries.
     pub entries: Vec<Stored>,

@@ -26,7 +26,7 @@ use lk_types::{Ballot, Executed};
 use std::alloc::{AllocError, Global};
 
 // What an opening comes to.
-#[derive(Debug, Drop)]
+#[derive(Drop)]
 struct Opened {
     live: Side,
     generation: u64,
@@ -252,7 +252,7 @@ pub fn reopen<D: LogDisk + Drop>(
 }
 
 /// What stands in the live file.
-#[derive(Debug, Drop)]
+#[derive(Drop)]
 pub struct LiveFile {
     pub generation: u64,
     /// 1 or 2.

@@ -11,7 +11,7 @@ use std::marker::Model;
 
 /// The members of the next alpha positions, the greatest number that was ever a member, and the position of the last
 /// change. A change at a position is in force alpha positions later (Lamport, Malkhi, Zhou 2010). No call takes memory.
-#[derive(Debug, Drop)]
+#[derive(Drop)]
 pub struct Roster {
     executed: Executed,
     window: Window,

@@ -10,7 +10,7 @@ use lk_types::{Member, Members, NodeNo, Port};
 use std::marker::Model;
 
 /// The set of one position.
-#[derive(Debug, Drop)]
+#[derive(Drop)]
 pub struct Place {
     set: Members,
 }
@@ -61,7 +61,7 @@ impl Place {
 }
 
 /// The sets of the next positions, the nearest first: at most 16. No call takes memory.
-#[derive(Debug, Drop)]
+#[derive(Drop)]
 pub struct Window {
     places: ArrayVec<Place, 16>,
 }

@@ -2,7 +2,7 @@ use lk_history::Party;
 use std::marker::Model;
 
 /// A datagram: who sends it, for whom it is bound, and its bytes.
-#[derive(Debug, Drop)]
+#[derive(Drop)]
 pub struct Datagram {
     pub from: Party,
     pub to: Party,

@@ -2,7 +2,7 @@ use lk_sim::Event;
 use lk_types::NodeNo;
 
 /// What a line of world mode asks for.
-#[derive(Debug, Drop)]
+#[derive(Drop)]
 pub enum Order {
     /// A node ticks so many times, each of them an event.
     Ticks(NodeNo, u16),

@@ -20,7 +20,7 @@ const RECEIVES: u32 = 50;
 const FOLLOWED: u32 = 20;
 
 /// A request, and where it is asked first.
-#[derive(Debug, Drop)]
+#[derive(Drop)]
 pub struct Question {
     pub cluster: u64,
     pub port: Port,
@@ -49,7 +49,7 @@ pub fn datagram(alloc: Global, question: &Question) -> Result<BytesMut, ServiceF
 }
 
 /// What comes next to a client that has asked.
-#[derive(Clone, Copy, Debug, PartialEq, Eq)]
+#[derive(Clone, Copy, PartialEq, Eq)]
 pub enum Heard {
     Nothing,
     /// A datagram that is no reply to the request.

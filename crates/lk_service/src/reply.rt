@@ -10,7 +10,7 @@ use lk_wire::{Content, Message, NodeMessage, read};
 use std::alloc::Global;
 
 /// A reply to a request.
-#[derive(Clone, Copy, Debug, PartialEq, Eq)]
+#[derive(Clone, Copy, PartialEq, Eq)]
 pub enum Reply {
     Answer(Answer),
     /// The request will not be executed any more: one of this greater number of its client was.

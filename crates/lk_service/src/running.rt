@@ -31,7 +31,7 @@ use std::net::Net;
 const TURNS: u64 = 1 << 48;
 
 /// Which node is run, at which port of 127.0.0.1, and in which folder its files are.
-#[derive(Debug, Drop)]
+#[derive(Drop)]
 pub struct NodePlan<'a> {
     pub header: Header,
     pub port: Port,

@@ -1,7 +1,7 @@
 use lk_types::{NodeNo, Request};
 
 /// What happens in a world.
-#[derive(Debug, Drop)]
+#[derive(Drop)]
 pub enum Event {
     /// A node with two empty disks is revived.
     Start(NodeNo),

@@ -8,7 +8,7 @@ use lk_types::{Answer, ClientNo, Request, RequestNumber};
 use std::marker::Model;
 
 /// A client's last request that took effect, and what it was answered.
-#[derive(Clone, Copy, Debug, PartialEq, Eq)]
+#[derive(Clone, Copy, PartialEq, Eq)]
 pub struct Session {
     pub client: ClientNo,
     pub number: RequestNumber,
@@ -47,7 +47,7 @@ impl Default for Session {
 }
 
 /// The sessions, rising by client: at most 256, since there are no more clients. No call takes memory.
-#[derive(Debug, Drop)]
+#[derive(Drop)]
 pub(crate) struct Sessions {
     list: ArrayVec<Session, 256>,
 }

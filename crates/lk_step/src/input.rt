@@ -1,5 +1,5 @@
 /// What a node is given.
-#[derive(Debug, Drop)]
+#[derive(Drop)]
 pub enum Input<'a> {
     /// Some time has passed.
     Tick,

@@ -2,7 +2,7 @@ use crate::to::To;
 use std::marker::Model;
 
 /// What a node sends: for whom it is bound, and its bytes.
-#[derive(Debug, Drop)]
+#[derive(Drop)]
 pub struct Letter {
     pub to: To,
     pub bytes: Vec<u8>,

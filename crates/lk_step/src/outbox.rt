@@ -10,7 +10,7 @@ use std::marker::Model;
 /// What a step comes to: entries to write, and whether they are synced before anything is sent, what is noted, and
 /// what is sent, in order. Where it says so the store is rebased on what the node then holds, before anything is sent, and the
 /// entries are not put.
-#[derive(Debug, Drop)]
+#[derive(Drop)]
 pub struct Outbox {
     pub rebase: bool,
     pub entries: Vec<Entry>,

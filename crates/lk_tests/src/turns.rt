@@ -18,7 +18,7 @@ use std::net::SocketAddr;
 use std::test::Fail;
 
 // How each call of a replica ends.
-#[derive(Clone, Copy, Debug, PartialEq, Eq)]
+#[derive(Clone, Copy, PartialEq, Eq)]
 enum End {
     Notes,
     Lost,

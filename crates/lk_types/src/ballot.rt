@@ -8,7 +8,7 @@ use std::marker::Model;
 
 /// A ballot: a round and the node that leads it, ordered by round and then by node, so that no two nodes share one
 /// (Lamport 2001, section 2.4). `ZERO` is below all others and nobody's.
-#[derive(Clone, Copy, Debug, PartialEq, Eq, PartialOrd, Ord, Hash)]
+#[derive(Clone, Copy, Debug, PartialEq, Eq, PartialOrd, Ord)]
 pub struct Ballot {
     round: u64,
     node: u32,
@@ -70,7 +70,7 @@ impl Ballot {
 }
 
 /// A ballot that a node can lead: any but `Ballot::ZERO`.
-#[derive(Clone, Copy, Debug, PartialEq, Eq, PartialOrd, Ord, Hash)]
+#[derive(Clone, Copy, Debug, PartialEq, Eq)]
 pub struct RealBallot {
     ballot: Ballot,
 }

@@ -5,7 +5,7 @@ use crate::limits::MAX_CLIENT;
 use std::marker::Model;
 
 /// A client's number, from 1 to 256.
-#[derive(Clone, Copy, Debug, PartialEq, Eq, PartialOrd, Ord, Hash)]
+#[derive(Clone, Copy, Debug, PartialEq, Eq, PartialOrd, Hash)]
 pub struct ClientNo {
     value: u16,
 }

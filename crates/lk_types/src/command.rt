@@ -11,7 +11,7 @@ use arrayvec::ArrayVec;
 use std::marker::Model;
 
 /// The body of a request to the machine: 1 to 64 bytes, which only the machine reads.
-#[derive(Clone, Debug, PartialEq, Eq, PartialOrd, Ord, Hash, Drop)]
+#[derive(Clone, Debug, PartialEq, Eq, Drop)]
 pub struct Payload {
     bytes: ArrayVec<u8, MAX_PAYLOAD>,
 }

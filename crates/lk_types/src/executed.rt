@@ -5,7 +5,7 @@ use crate::limits::MAX_COUNT;
 use std::marker::Model;
 
 /// How many positions are executed, from 0 to 2^48.
-#[derive(Clone, Copy, Debug, PartialEq, Eq, PartialOrd, Ord, Hash)]
+#[derive(Clone, Copy, Debug, PartialEq, Eq)]
 pub struct Executed {
     value: u64,
 }

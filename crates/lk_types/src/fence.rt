@@ -5,7 +5,7 @@ use crate::limits::MAX_COUNT;
 use std::marker::Model;
 
 /// A fence: how often a name was granted when this holder got it, from 1 to 2^48.
-#[derive(Clone, Copy, Debug, PartialEq, Eq, PartialOrd, Ord, Hash)]
+#[derive(Clone, Copy, Debug, PartialEq, Eq)]
 pub struct Fence {
     value: u64,
 }

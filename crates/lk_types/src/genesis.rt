@@ -29,7 +29,7 @@ impl GenesisFault {
 }
 
 /// How a cluster begins: its number, how many positions ahead its members are known, and its first members.
-#[derive(Debug, PartialEq, Eq, Drop)]
+#[derive(PartialEq, Eq, Drop)]
 pub struct Genesis {
     pub cluster: u64,
     pub alpha: u8,

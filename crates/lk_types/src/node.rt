@@ -5,7 +5,7 @@ use crate::limits::MAX_NODE;
 use std::marker::Model;
 
 /// A node's number, from 1 to 2^31.
-#[derive(Clone, Copy, Debug, PartialEq, Eq, PartialOrd, Ord, Hash)]
+#[derive(Clone, Copy, Debug, PartialEq, Eq, PartialOrd)]
 pub struct NodeNo {
     value: u32,
 }

@@ -5,7 +5,7 @@ use crate::limits::MAX_PORT;
 use std::marker::Model;
 
 /// A UDP port, from 1 to 65,535.
-#[derive(Clone, Copy, Debug, PartialEq, Eq, PartialOrd, Ord, Hash)]
+#[derive(Clone, Copy, Debug, PartialEq, Eq)]
 pub struct Port {
     value: u16,
 }

@@ -5,7 +5,7 @@ use crate::limits::MAX_COUNT;
 use std::marker::Model;
 
 /// The number that a client gives to its request, from 1 to 2^48.
-#[derive(Clone, Copy, Debug, PartialEq, Eq, PartialOrd, Ord, Hash)]
+#[derive(Clone, Copy, Debug, PartialEq, Eq, PartialOrd)]
 pub struct RequestNumber {
     value: u64,
 }
