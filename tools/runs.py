@@ -3,7 +3,7 @@
 
 A file is rows with an empty line between them; a line `# ..` is a comment. The lines of a row:
 
-    $ WORDS     the arguments, parted by one space each
+    $ WORDS     the arguments, with one space between each
     < LINE      a line of standard input
     <- LINE     the last line of standard input, which nothing ends
     > LINE      a line that has to stand on standard output; there are no others
