@@ -268,21 +268,18 @@ pub fn read_answer(bytes: &[u8]) -> Option<(Answer, &[u8])>
             };
             Some((Answer::Granted(fence), rest))
         }
-        2 => {
+        2 | 6 => {
             let Some((holder, fence, rest)) = read_held(rest) else {
                 return None;
             };
-            Some((Answer::Busy(holder, fence), rest))
+            if tag == 2 {
+                return Some((Answer::Busy(holder, fence), rest));
+            }
+            Some((Answer::Held(holder, fence), rest))
         }
         5 => {
             let (fence, rest) = read_u64(rest)?;
             Some((Answer::Free(LastFence::of(fence)?), rest))
-        }
-        6 => {
-            let Some((holder, fence, rest)) = read_held(rest) else {
-                return None;
-            };
-            Some((Answer::Held(holder, fence), rest))
         }
         12 => {
             let Some((fence, rest)) = read_fence(rest) else {

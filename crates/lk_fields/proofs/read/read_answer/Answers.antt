@@ -7,21 +7,17 @@ pub returns-in_default-read_held-clause-front : goal.returns-in_default-read_hel
 unfolding answer_of
 returns-in_default-read_held-clause-front c = answer_front _ _ _ (λ i. omega (arith, c.type_inv.bytes i)) (search rules)
 
-pub returns-in_default-read_held-2-clause-front : goal.returns-in_default-read_held-2-clause-front
+pub returns-then-tag-eq2-clause-front : goal.returns-then-tag-eq2-clause-front
 unfolding answer_of
-returns-in_default-read_held-2-clause-front c = answer_front _ _ _ (λ i. omega (arith, c.type_inv.bytes i)) (search rules)
+returns-then-tag-eq2-clause-front c = answer_front _ _ _ (λ i. omega (arith, c.type_inv.bytes i)) (search rules)
+
+pub returns-else-tag-eq2-clause-front : goal.returns-else-tag-eq2-clause-front
+unfolding answer_of
+returns-else-tag-eq2-clause-front c = answer_front _ _ _ (λ i. omega (arith, c.type_inv.bytes i)) (search rules)
 
 pub returns-in_default-read_sharing-clause-front : goal.returns-in_default-read_sharing-clause-front
 unfolding answer_of
 returns-in_default-read_sharing-clause-front c = answer_front _ _ _ (λ i. omega (arith, c.type_inv.bytes i)) (search rules)
-
-pub returns-in-Some-read_held-clause-front : goal.returns-in-Some-read_held-clause-front
-unfolding answer_of
-returns-in-Some-read_held-clause-front c = answer_front _ _ _ (λ i. omega (arith, c.type_inv.bytes i)) (search rules)
-
-pub returns-in-Some-read_held-2-clause-front : goal.returns-in-Some-read_held-2-clause-front
-unfolding answer_of
-returns-in-Some-read_held-2-clause-front c = answer_front _ _ _ (λ i. omega (arith, c.type_inv.bytes i)) (search rules)
 
 pub returns-in-Some-read_sharing-clause-front : goal.returns-in-Some-read_sharing-clause-front
 unfolding answer_of
