@@ -1,10 +1,12 @@
 //! A client that asks once.
 
-ghost use Rattle.std.specs.Prelude.{◌≡◌, ◌≤◌, IfOk, IfErr};
+ghost use Rattle.std.specs.Prelude.{◌≡◌, ◌≤◌, ℕ, List, IfOk, OnOk, IfErr, IfSome};
 ghost use Rattle.lk_wire.specs.Grammar.{Spells};
+ghost use Rattle.lk_service.specs.Questions.{asking, GoesTo, Hears, SendsAlone, IsTold};
 
 use crate::reply::{Reply, read_reply};
 use bytes::BytesMut;
+use lk_replica::SendFault;
 use lk_server::ear::Ear;
 use lk_server::fault::ServiceFault;
 use lk_server::socket::{Datagrams, local};
@@ -40,7 +42,10 @@ fn written(alloc: Global, message: &Message) -> Result<BytesMut, ServiceFault>
 }
 
 /// The bytes of the request.
-pub fn datagram(alloc: Global, question: &Question) -> Result<BytesMut, ServiceFault> {
+pub fn datagram(alloc: Global, question: &Question) -> Result<BytesMut, ServiceFault>
+    ensures asks { IfOk result (λ bytes. Spells (asking question.now) bytes.items) }
+    ensures only { IfErr result (λ f. f ≡ ServiceFault.NoMemory) }
+{
     let message = Message {
         cluster: question.cluster,
         content: Content::Request(question.request.copy()),
@@ -63,7 +68,10 @@ pub fn next_reply<S: Datagrams>(
     ear: &mut Ear,
     socket: &mut S,
     question: &Question,
-) -> Heard {
+) -> Heard
+    ensures heard { S.is_telling → Hears question.now (S.next socket.old) result }
+    ensures unchanged { S.sent socket.new ≡ S.sent socket.old }
+{
     let Some((bytes, _)) = ear.receive(socket) else {
         return Heard::Nothing;
     };
@@ -73,21 +81,36 @@ pub fn next_reply<S: Datagrams>(
     }
 }
 
+/// Sends bytes to a port of 127.0.0.1. What could not be sent is lost.
+fn send<S: Datagrams>(socket: &mut S, port: Port, bytes: &[u8])
+    ensures sends { S.is_telling → SendsAlone bytes.now (S.sent socket.old) (S.sent socket.new) }
+    ensures port { S.is_telling → GoesTo port (S.sent socket.old) (S.sent socket.new) }
+{
+    match socket.send_to(local(port.get()), bytes) {
+        Ok(()) | Err(SendFault) => {}
+    }
+}
+
 /// Sends the request to a port of 127.0.0.1, follows the first 20 Elsewhere, and gives what it is replied, or `None` where
 /// nothing is in 50 receives. What could not be sent is lost.
 pub fn exchange<S: Datagrams>(
     alloc: Global,
     socket: &mut S,
     question: &Question,
-) -> Result<Option<Reply>, ServiceFault> {
+) -> Result<Option<Reply>, ServiceFault>
+    // The bytes of the question are sent, and nothing else.
+    ensures sends { S.is_telling → OnOk result ((bytes : List ℕ) × Spells (asking question.now) bytes × SendsAlone bytes (S.sent socket.old) (S.sent socket.new)) }
+    ensures told { IfOk result (λ reply. IfSome reply IsTold) }
+    ensures only { IfErr result (λ f. f ≡ ServiceFault.NoMemory) }
+{
     let bytes = datagram(alloc, question)?;
-    let _ = socket.send_to(local(question.port.get()), &bytes);
+    send(socket, question.port, &bytes);
     let (mut ear, mut followed) = (Ear::new(), 0);
-    for _ in 0..RECEIVES {
+    'receives: for _ in 0..RECEIVES {
         match next_reply(alloc, &mut ear, socket, question) {
             Heard::Reply(Reply::Elsewhere(member)) if followed < FOLLOWED => {
                 followed += 1;
-                let _ = socket.send_to(local(member.port.get()), &bytes);
+                send(socket, member.port, &bytes);
             }
             Heard::Reply(Reply::Elsewhere(_)) | Heard::Other | Heard::Nothing => {}
             Heard::Reply(reply) => return Ok(Some(reply)),
