@@ -1,10 +1,11 @@
 //! A node over the files of a folder and a socket.
 
-ghost use Rattle.std.specs.Prelude.{◌≡◌, ◌≤◌, true, false, IfOk, IfErr, OnOk, OnErr};
+ghost use Rattle.std.specs.Prelude.{◌≡◌, ◌≤◌, ◌⊎◌, [], true, false, IfOk, IfErr, OnOk, OnErr};
 ghost use Rattle.lk_members.specs.Ports.{port_in};
 ghost use Rattle.lk_replica.specs.Faults.{fault_number};
 ghost use Rattle.lk_replica.specs.Revivals.{MayGoOn};
 ghost use Rattle.lk_server.specs.Faults.{replica_fault};
+ghost use Rattle.lk_server.specs.Servers.{TakesOwn};
 
 use crate::causes::{open_socket, tell_device};
 use crate::folder::{FolderLock, open_device};
@@ -65,7 +66,15 @@ pub fn revive<M: Machine, D: LogDisk + Drop, S: Datagrams + Drop, L: Log>(
     device: D,
     socket: S,
     log: &L,
-) -> Result<Server<Replica<M, D>, S>, ServiceFault> {
+) -> Result<Server<Replica<M, D>, S>, ServiceFault>
+    // It serves as the node of this header, in its cluster.
+    ensures cluster { IfOk result (λ s. s.cluster ≡ header.now.cluster) }
+    ensures node { IfOk result (λ s. s.node ≡ header.now.node) }
+    // It can take calls, and nothing has come to it.
+    ensures alive { IfOk result (λ s. s.failed ≡ false) }
+    ensures own { IfOk result (λ s. s.own ≡ []) }
+    ensures received { IfOk result (λ s. s.received ≡ 0) }
+{
     match take_up::<M, D, L>(alloc, header, device, log) {
         Ok(replica) => Ok(Server::new(
             alloc,
@@ -122,7 +131,14 @@ fn revive_folder<M: Machine, L: Log, E: Write>(
     socket: LocalSocket,
     log: &L,
     err: &mut E,
-) -> Result<FolderServer<M>, ServiceFault> {
+) -> Result<FolderServer<M>, ServiceFault>
+    // It serves as the node of the plan, in its cluster.
+    ensures cluster { IfOk result (λ s. s.cluster ≡ plan.now.header.cluster) }
+    ensures node { IfOk result (λ s. s.node ≡ plan.now.header.node) }
+    ensures alive { IfOk result (λ s. s.failed ≡ false) }
+    ensures own { IfOk result (λ s. s.own ≡ []) }
+    ensures passes { IfErr result (λ f. f ≡ ServiceFault.Send → ⊥) }
+{
     let replica = take_up_folder::<M, L, E>(alloc, plan, device, log, err)?;
     let header = &plan.header;
     let cluster = header.genesis().cluster;
@@ -149,6 +165,8 @@ fn take_turn<M: Machine, L: Log, E: Write>(
     log: &L,
     err: &mut E,
 ) -> Result<(), ServiceFault>
+    // Where the node wrote to itself it takes the first letter of that, and no tick.
+    ensures own { OnOk result ((server.old.own ≡ []) ⊎ TakesOwn ⊥ server.old server.new) }
     ensures cluster { server.new.cluster ≡ server.old.cluster }
     ensures node { server.new.node ≡ server.old.node }
     ensures passes { IfErr result (λ f. f ≡ ServiceFault.Send → ⊥) }
