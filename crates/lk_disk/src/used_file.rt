@@ -25,9 +25,9 @@ fn lengthened(known: Option<usize>, more: usize) -> Option<usize>
 
 impl<F: AppendFile + Drop> Model for UsedFile<F> {
     ghost use Rattle.std.specs.Prelude.{◌≡◌, false};
-    ghost use Rattle.lk_disk.specs.Files.{UsedFile as Used, left_of, IsWhole, HasLength};
+    ghost use Rattle.lk_disk.specs.Files.{UsedFile as UsedFileValue, left_of, IsWhole, HasLength};
 
-    ghost Value = { Used };
+    ghost Value = { UsedFileValue };
 
     ghost view = { λ u. record { file = F.file u.file; failures = F.failures u.file; failed = u.failed } };
 

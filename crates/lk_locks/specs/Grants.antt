@@ -11,7 +11,7 @@ use Rattle.lk_members.specs.Effects.{Command, RequestValue, effects}
 use Rattle.lk_state.specs.Meanings.{Task, Running, Raising}
 use Rattle.lk_locks.specs.Bodies.{body_of, name_of}
 use Rattle.lk_locks.specs.Meaning.{next_by_task, task_answer}
-use Rattle.lk_locks.specs.Plain.{Table as Locks, empty}
+use Rattle.lk_locks.specs.Plain.{Table as TableValue, empty}
 use Rattle.lk_locks.specs.declared.body.Body.{Body}
 
 -- a client, and what it asks of the table
@@ -34,7 +34,7 @@ fences (Shared fence) = fence ∷ []
 fences _ = []
 
 -- the fences that the calls are answered for the name, in order, from this table on
-abbrev pub fences_from : List ℕ → Locks → List Call → List ℕ
+abbrev pub fences_from : List ℕ → TableValue → List Call → List ℕ
 fences_from name t [] = []
 fences_from name t (call ∷ calls) = (if asks_for name call.1 then fences (task_answer call.0 call.1 t) else []) ++ fences_from name (next_by_task call.0 call.1 t) calls
 

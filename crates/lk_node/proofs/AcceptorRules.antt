@@ -30,7 +30,7 @@ use Rattle.lk_step.specs.declared.note.Note.{Note}
 use Rattle.lk_node.specs.Answering.{with_acceptor, replied, reply_to, Responds}
 use Rattle.lk_node.specs.Entries.{Rests}
 use Rattle.lk_node.specs.Histories.{History, Genesis, Datagram, IsLawful}
-use Rattle.lk_node.specs.Keeping.{IsDecided, IsKnown}
+use Rattle.lk_node.specs.Keeping.{TellsDecided, IsKnown}
 use Rattle.lk_node.specs.NodeValue.{NodeValue}
 use Rattle.lk_node.specs.Saying.{to_node}
 use Rattle.lk_node.specs.Served.{BearsOutMessage}
@@ -59,7 +59,7 @@ no_rebase None e = cc e
 no_rebase (Some x) e = cc e
 
 pub moves_goes_on : (m : Meaning) (Heard : History → Type 0) (node : NodeValue) (a : AcceptorValue) (o : Option Entry) → a.state ≡ with_written o node.acceptor.state
-    → ((e : Entry) → o ≡ Some e → IsDecided e → ⊥) → ((h : History) (n : ℕ) → IsLawful m h → Heard h → Moves h n node.acceptor.state a.state o)
+    → ((e : Entry) → o ≡ Some e → TellsDecided e → ⊥) → ((h : History) (n : ℕ) → IsLawful m h → Heard h → Moves h n node.acceptor.state a.state o)
     → GoesOn m Heard node (with_acceptor node a) nothing (with_optional o nothing)
 moves_goes_on m Heard node a o written binding moves = record {
   binds = λ first b. record {
@@ -98,20 +98,20 @@ moves_goes_on m Heard node a o written binding moves = record {
     one None s = refl
     one (Some e) s = refl
 
-    all_decided : (o : Option Entry) → ((e : Entry) → o ≡ Some e → IsDecided e → ⊥) → (with_optional o nothing).sync ≡ false → AllByRecursion IsDecided (with_optional o nothing).entries
+    all_decided : (o : Option Entry) → ((e : Entry) → o ≡ Some e → TellsDecided e → ⊥) → (with_optional o nothing).sync ≡ false → AllByRecursion TellsDecided (with_optional o nothing).entries
     all_decided None b e = tt
     all_decided (Some k) b e = by_kind k b e
       where
-        by_kind : (k : Entry) → ((e : Entry) → Some k ≡ Some e → IsDecided e → ⊥) → (with_optional (Some k) nothing).sync ≡ false → AllByRecursion IsDecided (k ∷ [])
+        by_kind : (k : Entry) → ((e : Entry) → Some k ≡ Some e → TellsDecided e → ⊥) → (with_optional (Some k) nothing).sync ≡ false → AllByRecursion TellsDecided (k ∷ [])
         by_kind (entry.Promise x) b e = absurd (cc e)
         by_kind (entry.Vote x) b e = absurd (cc e)
         by_kind (entry.Decided i c) b e = (tt, tt)
 
-    all_known : (o : Option Entry) → ((e : Entry) → o ≡ Some e → IsDecided e → ⊥) → (w : View) → (with_optional o nothing).sync ≡ false → AllByRecursion (IsKnown w) (with_optional o nothing).entries
+    all_known : (o : Option Entry) → ((e : Entry) → o ≡ Some e → TellsDecided e → ⊥) → (w : View) → (with_optional o nothing).sync ≡ false → AllByRecursion (IsKnown w) (with_optional o nothing).entries
     all_known None b w e = tt
     all_known (Some k) b w e = by_kind k b e
       where
-        by_kind : (k : Entry) → ((e : Entry) → Some k ≡ Some e → IsDecided e → ⊥) → (with_optional (Some k) nothing).sync ≡ false → AllByRecursion (IsKnown w) (k ∷ [])
+        by_kind : (k : Entry) → ((e : Entry) → Some k ≡ Some e → TellsDecided e → ⊥) → (with_optional (Some k) nothing).sync ≡ false → AllByRecursion (IsKnown w) (k ∷ [])
         by_kind (entry.Promise x) b e = absurd (cc e)
         by_kind (entry.Vote x) b e = absurd (cc e)
         by_kind (entry.Decided i c) b e = absurd (b (entry.Decided i c) refl tt)
@@ -175,17 +175,17 @@ accept_moves m h n a e x r new lawful was ordered (inl granted) = voted_moves m 
 accept_moves m h n a e x r new lawful was ordered (inr refused) = unmoved h n a new r.entry refused.1.state refused.1.entry
 
 -- their entries are promises and votes
-prepare_binding : (a : AcceptorValue) (e : ℕ) (b : BallotValue) (first : ℕ) (r : Response) (new : AcceptorValue) → AnswersPrepare a e b first r new → (x : Entry) → r.entry ≡ Some x → IsDecided x → ⊥
+prepare_binding : (a : AcceptorValue) (e : ℕ) (b : BallotValue) (first : ℕ) (r : Response) (new : AcceptorValue) → AnswersPrepare a e b first r new → (x : Entry) → r.entry ≡ Some x → TellsDecided x → ⊥
 prepare_binding a e b first r new (inl granted) x is decided = elim granted.1.entry [
-  | inl above ↦ subst IsDecided (some_is x (entry.Promise b) (sym is ∙ above.1)) decided
+  | inl above ↦ subst TellsDecided (some_is x (entry.Promise b) (sym is ∙ above.1)) decided
   | inr same ↦ none_is x (sym same.1 ∙ is)
 ]
 prepare_binding a e b first r new (inr refused) x is decided = none_is x (sym refused.1.entry ∙ is)
 
-accept_binding : (a : AcceptorValue) (e : ℕ) (v : Vote) (r : Response) (new : AcceptorValue) → AnswersAccept a e v r new → (x : Entry) → r.entry ≡ Some x → IsDecided x → ⊥
+accept_binding : (a : AcceptorValue) (e : ℕ) (v : Vote) (r : Response) (new : AcceptorValue) → AnswersAccept a e v r new → (x : Entry) → r.entry ≡ Some x → TellsDecided x → ⊥
 accept_binding a e v r new (inl granted) x is decided = elim granted.1.entry [
   | inl listed ↦ none_is x (sym listed.1 ∙ is)
-  | inr fresh ↦ subst IsDecided (some_is x (entry.Vote v) (sym is ∙ fresh.1)) decided
+  | inr fresh ↦ subst TellsDecided (some_is x (entry.Vote v) (sym is ∙ fresh.1)) decided
 ]
 accept_binding a e v r new (inr refused) x is decided = none_is x (sym refused.1.entry ∙ is)
 
@@ -217,7 +217,7 @@ replied_alike m Heard reply node out = by_test (is_granted reply)
 
 responds_goes_on : (m : Meaning) (Heard : History → Type 0) (old new : NodeValue) (from : ℕ) (Answer : Response → AcceptorValue → Type 0) (out : OutboxValue) (k : Responds old from Answer new out)
     → k.acceptor.state ≡ with_written k.response.entry old.acceptor.state
-    → ((e : Entry) → k.response.entry ≡ Some e → IsDecided e → ⊥)
+    → ((e : Entry) → k.response.entry ≡ Some e → TellsDecided e → ⊥)
     → ((h : History) (n : ℕ) → IsLawful m h → Heard h → Moves h n old.acceptor.state k.acceptor.state k.response.entry)
     → Covers k.acceptor.state k.response.reply
     → ((genesis : Genesis) (sent : List Datagram) (w : View) → w.acceptor ≡ k.acceptor.state → MaySend genesis sent w k.response.reply)

@@ -28,7 +28,7 @@ use Rattle.lk_node.specs.Entries.{Rests}
 use Rattle.lk_node.specs.Executing.{RunsAll}
 use Rattle.lk_node.specs.Histories.{History}
 use Rattle.lk_node.specs.DecidedPairs.{TakesPair, TakesFirst, TakesPairs, one_more}
-use Rattle.lk_node.specs.Keeping.{IsDecided as TellsDecided, IsKnown}
+use Rattle.lk_node.specs.Keeping.{TellsDecided, IsKnown}
 use Rattle.lk_node.specs.Learning.{with_learner, Learns}
 use Rattle.lk_node.specs.NodeValue.{NodeValue}
 use Rattle.lk_node.specs.Serving.{with_entries, Serves, GoesOn}

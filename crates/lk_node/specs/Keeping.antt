@@ -23,10 +23,10 @@ use Rattle.lk_node.specs.Leavings.{header_of, acceptor_of}
 use Rattle.lk_node.specs.NodeValue.{NodeValue}
 
 -- the entry tells of a decided command
-abbrev pub IsDecided : Entry → Type 0
-IsDecided (Promise b) = ⊥
-IsDecided (Vote x) = ⊥
-IsDecided (Decided i c) = Unit {0}
+abbrev pub TellsDecided : Entry → Type 0
+TellsDecided (Promise b) = ⊥
+TellsDecided (Vote x) = ⊥
+TellsDecided (Decided i c) = Unit {0}
 
 -- the entry tells of a decided command that the view knows: it is among its pairs, or was executed
 abbrev pub IsKnown : View → Entry → Type 0
@@ -39,7 +39,7 @@ pub record Keeps (whose : HeaderValue) (store : StoreValue) (acceptor : Acceptor
   pub entries : List Stored
   pub loose : List Entry
   pub holds : Holds store entries (plain loose)
-  pub decided : AllByRecursion IsDecided loose
+  pub decided : AllByRecursion TellsDecided loose
   pub header : HasHeader entries whose
   pub standing : StandingValue
   pub stands : StandsFor entries standing

@@ -17,7 +17,7 @@ use Rattle.lk_node.specs.Calls.{MayGo}
 use Rattle.lk_node.specs.Entries.{Rests}
 use Rattle.lk_node.specs.Histories.{History, Datagram, IsLawful}
 use Rattle.lk_node.specs.Holdings.{Holding, HoldingFits}
-use Rattle.lk_node.specs.Keeping.{IsDecided, IsKnown, IsHeld}
+use Rattle.lk_node.specs.Keeping.{TellsDecided, IsKnown, IsHeld}
 use Rattle.lk_node.specs.Leavings.{header_of}
 use Rattle.lk_node.specs.NodeValue.{NodeValue}
 use Rattle.lk_node.specs.Served.{IsBorneOut, IsOfNode}
@@ -46,7 +46,7 @@ with_entries (e ∷ es) s = with_entries es (acceptor_with e s)
 pub record Binds (first now : NodeValue) (out : OutboxValue) : Type 0 where
   pub header : now.header ≡ first.header
   pub written : now.acceptor.state ≡ with_entries out.entries first.acceptor.state
-  pub unsynced : out.sync ≡ false → AllByRecursion IsDecided out.entries
+  pub unsynced : out.sync ≡ false → AllByRecursion TellsDecided out.entries
   pub still : out.rebase ≡ true → now.acceptor.state ≡ first.acceptor.state
   pub tells : (l : LetterValue) → Contains out.letters l → Tells now.header now.acceptor.state out.rebase l
 

@@ -25,7 +25,7 @@ use Rattle.lk_node.specs.Calls.{InputFits, NodeFits, Goes}
 use Rattle.lk_node.specs.Entries.{EntriesFit, Rests}
 use Rattle.lk_node.specs.Histories.{History, Genesis, Datagram, later}
 use Rattle.lk_node.specs.Holdings.{Holding}
-use Rattle.lk_node.specs.Keeping.{IsDecided, IsKnown, Keeps, Stands}
+use Rattle.lk_node.specs.Keeping.{TellsDecided, IsKnown, Keeps, Stands}
 use Rattle.lk_node.specs.Leavings.{header_of, acceptor_of, view_of, DisksFit, AllCover}
 use Rattle.lk_replica.specs.Posts.{AreOf}
 use Rattle.lk_replica.specs.Remembering.{Remembers}
@@ -55,14 +55,14 @@ pub record KeepsToo (whose : HeaderValue) (new : StoreValue) (b : AcceptorState)
   pub keeps : Keeps whose new b
   pub known : (w : View) → AllByRecursion (IsKnown w) loose → (sync ≡ false → AllByRecursion (IsKnown w) es) → AllByRecursion (IsKnown w) keeps.loose
 
-pub put_keeps : (whose : HeaderValue) (old new : StoreValue) (a b : AcceptorState) (es : List Entry) (sync : Bool) (k : Keeps whose old a) → b ≡ with_entries es a → (sync ≡ false → AllByRecursion IsDecided es)
+pub put_keeps : (whose : HeaderValue) (old new : StoreValue) (a b : AcceptorState) (es : List Entry) (sync : Bool) (k : Keeps whose old a) → b ≡ with_entries es a → (sync ≡ false → AllByRecursion TellsDecided es)
     → (sync ≡ false → Holds new k.entries (plain k.loose ++ plain es)) → (sync ≡ true → Holds new (k.entries ++ (plain k.loose ++ plain es)) []) → KeepsToo whose new b k.loose es sync
 put_keeps whose old new a b es false k written decided added synced = record {
   keeps = record {
     entries = k.entries;
     loose = k.loose ++ es;
     holds = subst (Holds new k.entries) (sym (plain_append k.loose es)) (added refl);
-    decided = all_append IsDecided k.loose es k.decided (decided refl);
+    decided = all_append TellsDecided k.loose es k.decided (decided refl);
     header = k.header;
     standing = k.standing;
     stands = k.stands;

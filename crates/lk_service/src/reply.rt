@@ -3,7 +3,7 @@
 ghost use Rattle.std.specs.Prelude.{◌≡◌, ℕ, IfSome, IsNone};
 ghost use Rattle.lk_wire.specs.Grammar.{Spells};
 ghost use Rattle.lk_service.specs.Replies.{reply_message, reply_of};
-ghost use Rattle.lk_service.specs.declared.reply.Reply.{Reply as Answered};
+ghost use Rattle.lk_service.specs.declared.reply.Reply.{Reply as ReplyValue};
 
 use lk_types::{Answer, Member, Request, RequestNumber};
 use lk_wire::{Content, Message, NodeMessage, read};
@@ -22,7 +22,7 @@ pub enum Reply {
 /// The reply that a node's message is to a client's request of that number.
 fn reply_in(message: &NodeMessage, request: &Request) -> Option<Reply>
     ensures some { IfSome result (λ r. message.now ≡ reply_message request.now.client request.now.number r) }
-    ensures none { IsNone result → (r : Answered) → message.now ≡ reply_message request.now.client request.now.number r → ⊥ }
+    ensures none { IsNone result → (r : ReplyValue) → message.now ≡ reply_message request.now.client request.now.number r → ⊥ }
 {
     let key = (request.client, request.number);
     match message {
