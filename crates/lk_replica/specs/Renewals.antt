@@ -19,11 +19,12 @@ pub record IsRenewed (m : Meaning) (node : NodeValue) (store : StoreValue) (new 
   pub goes : (h : History) (n : ℕ) → NodeFits m h n (Stands m node store h.genesis n) (disks store) → NodeFits m h n (Stands m new after h.genesis n) (disks after)
   pub remembers : (genesis : Genesis) (n : ℕ) → Remembers node store genesis n → Remembers new after genesis n
 
--- the store has format 2, and has not failed where it had not; and where the node had executed all that it can, it has
+-- the store has format 2, and has not failed where it had not; the node is the same one, and where it had executed all that it can, it has
 pub record HasFormatTwo (node : NodeValue) (store : StoreValue) (new : NodeValue) (after : StoreValue) : Type 0 where
   pub format : after.format ≡ 2
   pub alive : store.failed ≡ false → after.failed ≡ false
   pub runs : NothingToRun node → NothingToRun new
+  pub header : new.header ≡ node.header
 
 -- a store that has not format 2 was refused with the fault of this number: the device has failed, memory was wanting, or, where it has
 -- failed before or no generation is left, with 11

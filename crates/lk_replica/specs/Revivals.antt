@@ -103,13 +103,15 @@ pub record TakesUp (m : Meaning) (IsText : List ℕ → Type 0) (disks : Side �
 -- that can execute it has executed
 pub record IsTakenUp (header : HeaderValue) (node : NodeValue) (store : StoreValue) : Type 0 where
   pub whose : store.header ≡ header
+  pub of_node : node.header ≡ header
   pub store_alive : store.failed ≡ false
   pub awake : node.halted ≡ false
   pub runs : NothingToRun node
 
--- the replica goes on: neither it nor its store has failed, its node has not halted, what that can execute it has executed, and the store
--- has format 2
-pub record MayGoOn (r : ReplicaValue) : Type 0 where
+-- the replica goes on as the node of this header: neither it nor its store has failed, its node has not halted, what that can execute it has
+-- executed, and the store has format 2
+pub record MayGoOn (header : HeaderValue) (r : ReplicaValue) : Type 0 where
+  pub whose : r.node.header ≡ header
   pub format : r.store.format ≡ 2
   pub alive : r.failed ≡ false
   pub store_alive : r.store.failed ≡ false

@@ -195,8 +195,8 @@ impl<M: Machine, D: LogDisk + Drop> Replica<M, D> {
         // What the disks stand for is what is revived, and nothing else is executed. A file of format 1 that has generation 2^48 is never
         // revived.
         ensures exact { D.is_honest → IfOk result (λ r. Revives M.meaning M.IsText (D.disk device) header.now r.replica r.notes.items) }
-        // It can take calls: nothing of it has failed, and it has executed what it can.
-        ensures ready { IfOk result (λ r. MayGoOn r.replica) }
+        // Whatever the device does, it can take calls as the node of this header: nothing of it has failed, and it has executed what it can.
+        ensures ready { IfOk result (λ r. MayGoOn header.now r.replica) }
         // A refusal has its cause. A damaged store and another's stay as they are.
         ensures refused { D.is_honest → IfErr result (λ e. IsRefusedFor M.meaning M.IsText (D.disk device) header.now (fault_number e.fault) (D.disk e.device)) }
         // After a refusal each image comes to what an image before it came to, or to a store that is begun, or to what was found in a

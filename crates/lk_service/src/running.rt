@@ -46,8 +46,8 @@ fn take_up<M: Machine, D: LogDisk + Drop, L: Log>(
     device: D,
     log: &L,
 ) -> Result<Replica<M, D>, ReviveFault<D>>
-    // It can take calls: nothing of it has failed.
-    ensures ready { IfOk result (λ r. MayGoOn r) }
+    // It can take calls as the node of this header: nothing of it has failed.
+    ensures ready { IfOk result (λ r. MayGoOn header.now r) }
     // It is refused with 7 to 11.
     ensures refused { IfErr result (λ e. (7 ≤ fault_number e.fault) × (fault_number e.fault ≤ 11)) }
 {
@@ -67,10 +67,11 @@ pub fn revive<M: Machine, D: LogDisk + Drop, S: Datagrams + Drop, L: Log>(
     socket: S,
     log: &L,
 ) -> Result<Server<Replica<M, D>, S>, ServiceFault>
-    // It serves as the node of this header, in its cluster.
+    // It serves as the node of this header, in its cluster, on a replica that can take calls as that node.
     ensures cluster { IfOk result (λ s. s.cluster ≡ header.now.cluster) }
     ensures node { IfOk result (λ s. s.node ≡ header.now.node) }
-    // It can take calls, and nothing has come to it.
+    ensures ready { IfOk result (λ s. MayGoOn header.now s.replica) }
+    // It has not failed, and nothing has come to it.
     ensures alive { IfOk result (λ s. s.failed ≡ false) }
     ensures own { IfOk result (λ s. s.own ≡ []) }
     ensures received { IfOk result (λ s. s.received ≡ 0) }
@@ -114,7 +115,7 @@ fn take_up_folder<M: Machine, L: Log, E: Write>(
     log: &L,
     err: &mut E,
 ) -> Result<Replica<M, FolderDisk>, ServiceFault>
-    ensures ready { IfOk result (λ r. MayGoOn r) }
+    ensures ready { IfOk result (λ r. MayGoOn plan.now.header r) }
     ensures passes { IfErr result (λ f. f ≡ ServiceFault.Send → ⊥) }
 {
     match take_up::<M, FolderDisk, L>(alloc, &plan.header, device, log) {
@@ -132,9 +133,10 @@ fn revive_folder<M: Machine, L: Log, E: Write>(
     log: &L,
     err: &mut E,
 ) -> Result<FolderServer<M>, ServiceFault>
-    // It serves as the node of the plan, in its cluster.
+    // It serves as the node of the plan, in its cluster, on a replica that can take calls as that node.
     ensures cluster { IfOk result (λ s. s.cluster ≡ plan.now.header.cluster) }
     ensures node { IfOk result (λ s. s.node ≡ plan.now.header.node) }
+    ensures ready { IfOk result (λ s. MayGoOn plan.now.header s.replica) }
     ensures alive { IfOk result (λ s. s.failed ≡ false) }
     ensures own { IfOk result (λ s. s.own ≡ []) }
     ensures passes { IfErr result (λ f. f ≡ ServiceFault.Send → ⊥) }

@@ -1,4 +1,5 @@
-use Rattle.std.proofs.Common.{◌≡◌, ℕ, Bool, false, eqb, refl, arith, sym, subst}
+use Rattle.std.proofs.Common.{◌≡◌, ℕ, Bool, false, eqb, refl, arith, sym, subst, ap}
+use Rattle.lk_node.specs.NodeValue.{NodeValue}
 use Rattle.std.specs.Prelude.{if◌then◌else◌}
 use Rattle.std.proofs.lemmas.Bool.{ne_eqb}
 use Rattle.lk_log.specs.Causes.{rebase_calls}
@@ -29,6 +30,7 @@ returns-then-format-eq2-clause-ready g c = record {
   format = omega (arith, c.if-format-eq2.true, c.format.ensures);
   alive = λ alive. alive;
   runs = λ runs. runs;
+  header = refl;
 }
 
 pub returns-then-format-eq2-clause-safe : goal.returns-then-format-eq2-clause-safe
@@ -60,6 +62,7 @@ returns-clause-ready g c = record {
   format = c.in_ok-write_base.ensures.becomes.format;
   alive = λ alive. c.in_ok-write_base.ensures.becomes.store_alive;
   runs = c.in_ok-write_base.ensures.becomes.runs;
+  header = ap (λ (node : NodeValue). node.header) c.in_ok-write_base.ensures.becomes.becomes;
 }
 
 pub returns-clause-safe : goal.returns-clause-safe

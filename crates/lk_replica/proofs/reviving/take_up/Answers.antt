@@ -143,6 +143,7 @@ pub returns-in-Ok-restored-clause-ready : goal.returns-in-Ok-restored-clause-rea
 returns-in-Ok-restored-clause-ready g c = record {
   whose = c.in-Ok-reopen.ensures.open.1;
   store_alive = c.in-Ok-reopen.ensures.open.0;
+  of_node = ap (λ (node : NodeValue). node.header) c.in-Ok-restored.ensures.restores.node_is;
   awake = ap (λ (node : NodeValue). node.halted) c.in-Ok-restored.ensures.restores.node_is;
   runs = c.in-Ok-restored.ensures.runs;
 }

@@ -61,6 +61,7 @@ returns-in-Ok-renew-clause-exact g c honest =
 
 pub returns-in-Ok-renew-clause-ready : goal.returns-in-Ok-renew-clause-ready
 returns-in-Ok-renew-clause-ready g c = record {
+  whose = c.in-Ok-renew.ensures.ready.header ∙ c.in-Ok.ensures.ready.of_node;
   format = c.in-Ok-renew.ensures.ready.format;
   alive = refl;
   store_alive = c.in-Ok-renew.ensures.ready.alive c.in-Ok.ensures.ready.store_alive;
