@@ -1,2 +1,3 @@
 mod Refusals
+mod Replying
 mod Sending

@@ -1,33 +1,35 @@
--- What was sent alone, one send after another.
-use Rattle.std.proofs.Common.{◌≡◌, ◌++◌, ◌∙◌, List, ℕ, [], ◌∷◌, ap, sym, subst}
-use Rattle.std.specs.Prelude.{map, Result, Ok, Err, OnOk, OnErr}
-use Rattle.std.proofs.lemmas.List.{map-append, append_assoc, append-nil}
+-- What is sent to several ports, one after another.
+use Rattle.std.proofs.Common.{◌≡◌, ◌+◌, ◌++◌, List, ℕ, [], ◌∷◌, length, length-append, arith, subst, inl, inr}
+use Rattle.std.specs.Prelude.{Result, Ok, Err, OnOk, OnErr}
+use Rattle.std.specs.Net.Socket.{socket_port}
 use Rattle.std.specs.declared.net.socket_addr.SocketAddr.{SocketAddr}
-use Rattle.lk_service.specs.Questions.{SendsAlone}
+use Rattle.lk_disk.specs.Disk.{HasCause}
+use Rattle.lk_service.specs.Questions.{SendsOnce, SendsEach}
 
--- a send, of which a failed one sends nothing
-pub sends_once : {T E : Type 0} (r : Result T E) (place : SocketAddr) (bytes : List ℕ) (old new : List (SocketAddr × List ℕ))
-    → OnOk r (new ≡ old ++ (place, bytes) ∷ []) → OnErr r (new ≡ old) → SendsAlone bytes old new
-sends_once (Ok x) place bytes old new is none = (place ∷ [], is)
-sends_once (Err e) place bytes old new is none = ([], none ∙ sym (append-nil old))
+-- a send, of which a failed one sends nothing and is counted
+pub sends_once : {T E : Type 0} (r : Result T E) (place : SocketAddr) (port : ℕ) (bytes : List ℕ) (old : List (SocketAddr × List ℕ)) (failures : ℕ)
+    (new : List (SocketAddr × List ℕ)) (failures_new : ℕ) → socket_port place ≡ port → OnOk r (new ≡ old ++ (place, bytes) ∷ []) → OnErr r (new ≡ old)
+    → HasCause failures failures_new r → SendsOnce port bytes old failures new failures_new
+sends_once (Ok x) place port bytes old failures new failures_new at is none cause = inl (place, at, is, cause)
+sends_once (Err e) place port bytes old failures new failures_new at is none cause = inr (none, cause)
 
--- one after another
-pub sends_more : (bytes : List ℕ) (old mid new : List (SocketAddr × List ℕ)) → SendsAlone bytes old mid → SendsAlone bytes mid new → SendsAlone bytes old new
-sends_more bytes old mid new first second =
-    let f : SocketAddr → SocketAddr × List ℕ = λ place. (place, bytes) in (
-      first.0 ++ second.0,
-      second.1 ∙ ap (λ (l : List (SocketAddr × List ℕ)). l ++ map f second.0) first.1 ∙ append_assoc old (map f first.0) (map f second.0)
-          ∙ ap (λ (l : List (SocketAddr × List ℕ)). old ++ l) (sym (map-append f first.0 second.0)),
-    )
+-- some after others
+sends_both : (first second : List ℕ) (bytes : List ℕ) (old : List (SocketAddr × List ℕ)) (f : ℕ) (mid : List (SocketAddr × List ℕ)) (g : ℕ)
+    (new : List (SocketAddr × List ℕ)) (h : ℕ) → SendsEach first bytes old f mid g → SendsEach second bytes mid g new h → SendsEach (first ++ second) bytes old f new h
+sends_both [] second bytes old f mid g new h one two =
+    subst (λ (n : ℕ). SendsEach second bytes old n new h) one.1 (subst (λ (l : List (SocketAddr × List ℕ)). SendsEach second bytes l g new h) one.0 two)
+sends_both (p ∷ ps) second bytes old f mid g new h one two = (one.0, one.1, one.2, sends_both ps second bytes one.0 one.1 mid g new h one.3 two)
 
--- the same, where what stands between is told by equations
-pub sends_on : (bytes said : List ℕ) (old a b c d : List (SocketAddr × List ℕ)) → SendsAlone bytes old a → b ≡ a → SendsAlone said b c → said ≡ bytes → d ≡ c
-    → SendsAlone bytes old d
-sends_on bytes said old a b c d first same second is now =
-    let onwards : SendsAlone bytes b c = subst (λ (x : List ℕ). SendsAlone x b c) is second in
-    let from : SendsAlone bytes a c = subst (λ (x : List (SocketAddr × List ℕ)). SendsAlone bytes x c) same onwards in
-    subst (λ (x : List (SocketAddr × List ℕ)). SendsAlone bytes old x) (sym now) (sends_more bytes old a c first from)
+-- the bytes were sent to this port, and then to so many others
+abbrev pub SendsTo : ℕ → ℕ → List ℕ → List (SocketAddr × List ℕ) → ℕ → List (SocketAddr × List ℕ) → ℕ → Type 0
+SendsTo port count bytes old f new h = (others : List ℕ) × (length others ≡ count) × SendsEach (port ∷ others) bytes old f new h
 
--- nothing was sent meanwhile
-pub sends_no_more : (bytes : List ℕ) (old a b d : List (SocketAddr × List ℕ)) → SendsAlone bytes old a → b ≡ a → d ≡ b → SendsAlone bytes old d
-sends_no_more bytes old a b d first same now = subst (λ (x : List (SocketAddr × List ℕ)). SendsAlone bytes old x) (sym (now ∙ same)) first
+-- and then to more
+pub sends_further : (port count : ℕ) (more bytes said : List ℕ) (old : List (SocketAddr × List ℕ)) (f : ℕ) (mid : List (SocketAddr × List ℕ)) (g : ℕ)
+    (new : List (SocketAddr × List ℕ)) (h after : ℕ) → said ≡ bytes → after ≡ count + length more → SendsTo port count bytes old f mid g
+    → SendsEach more said mid g new h → SendsTo port after bytes old f new h
+sends_further port count more bytes said old f mid g new h after is counts t second = (
+  t.0 ++ more,
+  omega (arith, t.1, counts, length-append t.0 more),
+  sends_both (port ∷ t.0) more bytes old f mid g new h t.2 (subst (λ (b : List ℕ). SendsEach more b mid g new h) is second),
+)

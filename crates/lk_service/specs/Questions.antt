@@ -1,7 +1,8 @@
 -- What a client asks, and what it hears.
 use Rattle.std.specs.Net.Socket.{socket_port}
-use Rattle.std.specs.Prelude.{◌≡◌, ◌⊎◌, ℕ, Option, Some, None, List, [], ◌∷◌, ◌++◌, map}
+use Rattle.std.specs.Prelude.{◌≡◌, ◌⊎◌, ℕ, nat_lt, Option, Some, None, List, [], ◌∷◌, ◌++◌, if◌then◌else◌}
 use Rattle.std.specs.declared.net.socket_addr.SocketAddr.{SocketAddr}
+use Rattle.lk_disk.specs.Disk.{one_more}
 use Rattle.lk_wire.specs.Grammar.{Spells}
 use Rattle.lk_wire.specs.declared.message.Content.TheVariants as content
 use Rattle.lk_wire.specs.declared.message.Message.{Message}
@@ -9,29 +10,54 @@ use Rattle.lk_service.specs.Replies.{reply_of}
 use Rattle.lk_service.specs.declared.question.Question.{Question}
 use Rattle.lk_service.specs.declared.question.Heard.{Heard}
 use Rattle.lk_service.specs.declared.question.Heard.TheVariants.{Nothing, Other, Reply}
-use Rattle.lk_service.specs.declared.reply.Reply.{Reply as Answered}
+use Rattle.lk_service.specs.declared.reply.Reply.{Reply as ReplyValue}
 use Rattle.lk_service.specs.declared.reply.Reply.TheVariants.{Answer, Passed, Elsewhere}
 
 -- the message by which it is asked
 abbrev pub asking : Question → Message
 asking q = record { cluster = q.cluster; content = content.Request q.request }
 
--- what is heard where this comes next: nothing where nothing comes, and a reply only where that is one to the request, of its cluster
+-- the datagram is that reply of a node of its cluster to the request
+abbrev pub IsReply : Question → List ℕ → ReplyValue → Type 0
+IsReply q bytes r = (node : ℕ) × Spells (reply_of q.cluster node q.request.client q.request.number r) bytes
+
+-- what is heard where this comes next: a reply where that is one to the request, nothing where nothing comes
 abbrev pub Hears : Question → Option (SocketAddr × List ℕ) → Heard → Type 0
 Hears q next Nothing = next ≡ None
-Hears q next Other = (d : SocketAddr × List ℕ) × (next ≡ Some d)
-Hears q next (Reply r) = (from : SocketAddr) × (bytes : List ℕ) × (node : ℕ) × (next ≡ Some (from, bytes)) × Spells (reply_of q.cluster node q.request.client q.request.number r) bytes
+Hears q next Other = (d : SocketAddr × List ℕ) × (next ≡ Some d) × ((r : ReplyValue) → IsReply q d.1 r → ⊥)
+Hears q next (Reply r) = (d : SocketAddr × List ℕ) × (next ≡ Some d) × IsReply q d.1 r
 
--- these bytes were sent to some places, and nothing else
-abbrev pub SendsAlone : List ℕ → List (SocketAddr × List ℕ) → List (SocketAddr × List ℕ) → Type 0
-SendsAlone bytes old new = (places : List SocketAddr) × (new ≡ old ++ map (λ place. (place, bytes)) places)
+-- to which port the request is sent again by what is heard: where fewer than 20 Elsewhere were followed, by one of them to its member's
+abbrev pub followed_to : Heard → ℕ → List ℕ
+followed_to (Reply (Elsewhere m)) count = if nat_lt count 20 then m.port ∷ [] else []
+followed_to (Reply (Answer a)) count = []
+followed_to (Reply (Passed last)) count = []
+followed_to Nothing count = []
+followed_to Other count = []
 
--- one datagram more went to that port of this machine, or none
-abbrev pub GoesTo : ℕ → List (SocketAddr × List ℕ) → List (SocketAddr × List ℕ) → Type 0
-GoesTo port old new = (new ≡ old) ⊎ ((place : SocketAddr) × (bytes : List ℕ) × (socket_port place ≡ port) × (new ≡ old ++ (place, bytes) ∷ []))
+-- what is heard tells what becomes of the request, and so ends the exchange
+abbrev pub ended_by : Heard → Option ReplyValue
+ended_by (Reply (Elsewhere m)) = None
+ended_by (Reply (Answer a)) = Some (Answer a)
+ended_by (Reply (Passed last)) = Some (Passed last)
+ended_by Nothing = None
+ended_by Other = None
+
+-- the bytes were sent once, to that port of this machine, or a send failed, which is counted, and nothing was sent
+abbrev pub SendsOnce : ℕ → List ℕ → List (SocketAddr × List ℕ) → ℕ → List (SocketAddr × List ℕ) → ℕ → Type 0
+SendsOnce port bytes old failures new failures_new =
+    ((place : SocketAddr) × (socket_port place ≡ port) × (new ≡ old ++ (place, bytes) ∷ []) × (failures_new ≡ failures))
+    ⊎ ((new ≡ old) × (failures_new ≡ one_more failures))
+
+-- so to each of these ports in turn, and nothing else
+abbrev pub SendsEach : List ℕ → List ℕ → List (SocketAddr × List ℕ) → ℕ → List (SocketAddr × List ℕ) → ℕ → Type 0
+SendsEach [] bytes old failures new failures_new = (new ≡ old) × (failures_new ≡ failures)
+SendsEach (port ∷ ports) bytes old failures new failures_new =
+    (mid : List (SocketAddr × List ℕ)) × (failures_mid : ℕ) × SendsOnce port bytes old failures mid failures_mid
+    × SendsEach ports bytes mid failures_mid new failures_new
 
 -- it tells what becomes of the request, and not where to ask
-abbrev pub IsTold : Answered → Type 0
+abbrev pub IsTold : ReplyValue → Type 0
 IsTold (Answer a) = Unit {0}
 IsTold (Passed last) = Unit {0}
 IsTold (Elsewhere m) = ⊥

@@ -156,8 +156,8 @@ impl<M: Machine, S: Datagrams + Drop> Cluster<M, S> {
     }
 
     /// What the clients hear next. An Elsewhere is followed.
-    fn hear(&mut self, alloc: Global, question: &Question, bytes: &[u8]) -> Heard {
-        match next_reply(alloc, &mut self.ear, &mut self.client, question) {
+    fn hear(&mut self, question: &Question, bytes: &[u8]) -> Heard {
+        match next_reply(&mut self.ear, &mut self.client, question) {
             Heard::Reply(Reply::Elsewhere(member)) => {
                 let _ = self.client.send_to(local(member.port.get()), bytes);
                 Heard::Other
@@ -169,13 +169,12 @@ impl<M: Machine, S: Datagrams + Drop> Cluster<M, S> {
     /// Serves until a reply comes, or no datagram waits.
     fn serve_waiting(
         &mut self,
-        alloc: Global,
         question: &Question,
         bytes: &[u8],
     ) -> Result<Option<Reply>, ServiceFault> {
         for _ in 0..TURNS {
             let was_served = self.serve()?;
-            match self.hear(alloc, question, bytes) {
+            match self.hear(question, bytes) {
                 Heard::Reply(reply) => return Ok(Some(reply)),
                 Heard::Nothing if !was_served => return Ok(None),
                 Heard::Nothing | Heard::Other => {}
@@ -192,7 +191,7 @@ impl<M: Machine, S: Datagrams + Drop> Cluster<M, S> {
             if idle % PATIENCE == 0 {
                 let _ = self.client.send_to(local(self.port.get()), &bytes);
             }
-            if let Some(reply) = self.serve_waiting(alloc, question, &bytes)? {
+            if let Some(reply) = self.serve_waiting(question, &bytes)? {
                 return Ok(Some(reply));
             }
             self.tick()?;

@@ -1,12 +1,12 @@
 //! A client that asks once.
 
-ghost use Rattle.std.specs.Prelude.{◌≡◌, ◌≤◌, ℕ, List, IfOk, OnOk, IfErr, IfSome};
+ghost use Rattle.std.specs.Prelude.{◌≡◌, ◌≤◌, ◌+◌, ◌∷◌, ℕ, List, IfOk, OnOk, IfErr, IfSome, length};
 ghost use Rattle.lk_wire.specs.Grammar.{Spells};
-ghost use Rattle.lk_service.specs.Questions.{asking, GoesTo, Hears, SendsAlone, IsTold};
+ghost use Rattle.lk_service.specs.Questions.{asking, Hears, followed_to, ended_by, SendsOnce, SendsEach, IsTold};
+ghost use Rattle.lk_service.specs.declared.question.Heard.{Heard};
 
 use crate::reply::{Reply, read_reply};
 use bytes::BytesMut;
-use lk_replica::SendFault;
 use lk_server::ear::Ear;
 use lk_server::fault::ServiceFault;
 use lk_server::socket::{Datagrams, local};
@@ -54,7 +54,7 @@ pub fn datagram(alloc: Global, question: &Question) -> Result<BytesMut, ServiceF
 }
 
 /// What comes next to a client that has asked.
-#[derive(Clone, Copy, PartialEq, Eq)]
+#[derive(Clone, Copy)]
 pub enum Heard {
     Nothing,
     /// A datagram that is no reply to the request.
@@ -63,19 +63,15 @@ pub enum Heard {
 }
 
 /// What comes next to whoever asked that.
-pub fn next_reply<S: Datagrams>(
-    alloc: Global,
-    ear: &mut Ear,
-    socket: &mut S,
-    question: &Question,
-) -> Heard
+pub fn next_reply<S: Datagrams>(ear: &mut Ear, socket: &mut S, question: &Question) -> Heard
     ensures heard { S.is_telling → Hears question.now (S.next socket.old) result }
     ensures unchanged { S.sent socket.new ≡ S.sent socket.old }
+    ensures spares { S.failures socket.new ≡ S.failures socket.old }
 {
     let Some((bytes, _)) = ear.receive(socket) else {
         return Heard::Nothing;
     };
-    match read_reply(alloc, question.cluster, &question.request, bytes) {
+    match read_reply(question.cluster, &question.request, bytes) {
         Some(reply) => Heard::Reply(reply),
         None => Heard::Other,
     }
@@ -83,23 +79,48 @@ pub fn next_reply<S: Datagrams>(
 
 /// Sends bytes to a port of 127.0.0.1. What could not be sent is lost.
 fn send<S: Datagrams>(socket: &mut S, port: Port, bytes: &[u8])
-    ensures sends { S.is_telling → SendsAlone bytes.now (S.sent socket.old) (S.sent socket.new) }
-    ensures port { S.is_telling → GoesTo port (S.sent socket.old) (S.sent socket.new) }
+    ensures { S.is_telling → SendsOnce port bytes.now (S.sent socket.old) (S.failures socket.old) (S.sent socket.new) (S.failures socket.new) }
 {
-    match socket.send_to(local(port.get()), bytes) {
-        Ok(()) | Err(SendFault) => {}
+    let _ = socket.send_to(local(port.get()), bytes);
+}
+
+/// What has become of the request, where that comes next. An Elsewhere is followed, where fewer than 20 were: the bytes go
+/// to its member.
+fn take_next<S: Datagrams>(
+    ear: &mut Ear,
+    socket: &mut S,
+    question: &Question,
+    bytes: &[u8],
+    followed: &mut u32,
+) -> Option<Reply>
+    // What comes next is heard, and ends the exchange or is followed, to the port that it tells, by what it is.
+    ensures heard { S.is_telling → (heard : Heard) × Hears question.now (S.next socket.old) heard × (result ≡ ended_by heard)
+        × (followed.new ≡ followed.old + length (followed_to heard followed.old))
+        × SendsEach (followed_to heard followed.old) bytes.now (S.sent socket.old) (S.failures socket.old) (S.sent socket.new) (S.failures socket.new) }
+    ensures told { IfSome result IsTold }
+    ensures most { followed.old ≤ 20 → followed.new ≤ 20 }
+{
+    match next_reply(ear, socket, question) {
+        Heard::Reply(Reply::Elsewhere(member)) if *followed < FOLLOWED => {
+            *followed += 1;
+            send(socket, member.port, bytes);
+            None
+        }
+        Heard::Reply(Reply::Elsewhere(_)) | Heard::Other | Heard::Nothing => None,
+        Heard::Reply(reply) => Some(reply),
     }
 }
 
 /// Sends the request to a port of 127.0.0.1, follows the first 20 Elsewhere, and gives what it is replied, or `None` where
-/// nothing is in 50 receives. What could not be sent is lost.
+/// 50 receives bring no such reply. What could not be sent is lost.
 pub fn exchange<S: Datagrams>(
     alloc: Global,
     socket: &mut S,
     question: &Question,
 ) -> Result<Option<Reply>, ServiceFault>
-    // The bytes of the question are sent, and nothing else.
-    ensures sends { S.is_telling → OnOk result ((bytes : List ℕ) × Spells (asking question.now) bytes × SendsAlone bytes (S.sent socket.old) (S.sent socket.new)) }
+    // The bytes of the question go to its port and then to at most 20 others, each once, and nothing else is sent.
+    ensures sends { S.is_telling → OnOk result ((bytes : List ℕ) × (others : List ℕ) × Spells (asking question.now) bytes × (length others ≤ 20)
+        × SendsEach (question.now.port ∷ others) bytes (S.sent socket.old) (S.failures socket.old) (S.sent socket.new) (S.failures socket.new)) }
     ensures told { IfOk result (λ reply. IfSome reply IsTold) }
     ensures only { IfErr result (λ f. f ≡ ServiceFault.NoMemory) }
 {
@@ -107,13 +128,9 @@ pub fn exchange<S: Datagrams>(
     send(socket, question.port, &bytes);
     let (mut ear, mut followed) = (Ear::new(), 0);
     'receives: for _ in 0..RECEIVES {
-        match next_reply(alloc, &mut ear, socket, question) {
-            Heard::Reply(Reply::Elsewhere(member)) if followed < FOLLOWED => {
-                followed += 1;
-                send(socket, member.port, &bytes);
-            }
-            Heard::Reply(Reply::Elsewhere(_)) | Heard::Other | Heard::Nothing => {}
-            Heard::Reply(reply) => return Ok(Some(reply)),
+        let reply = take_next(&mut ear, socket, question, &bytes, &mut followed);
+        if reply.is_some() {
+            return Ok(reply);
         }
     }
     Ok(None)
