@@ -70,6 +70,6 @@ pub data IsLeadersValue (t : TermValue) (waiting : List RequestValue) (roster : 
   -- where none is told, the first waiting request that is not under way
   first_new : (q : RequestValue) → told_at i (reports_at set i t.reports) ≡ [] → IsFirstNew roster.executed t.proposals waiting q
       → IsLeadersValue t waiting roster set i (Request q)
-  -- else nothing, in a gap
+  -- else a no-op, where a promise tells of a vote at it or after it, or the last change of members is not in force before it
   fills : told_at i (reports_at set i t.reports) ≡ [] → NoneIsNew roster.executed t.proposals waiting → IsTrue (is_reached t.reports i || is_changing_at roster i)
       → IsLeadersValue t waiting roster set i Noop

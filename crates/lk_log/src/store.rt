@@ -87,8 +87,9 @@ impl<D: LogDisk + Drop> Store<D> {
         Ok(())
     }
 
-    /// Writes a standing as the Base of a further file, the next generation's, and goes over to that file: the other one
-    /// is cut to nothing. The further file has format 2, whatever the live one had. It stands for this standing alone, and for nothing that was put before.
+    /// Writes a standing as the Base of the file that is not live, with the next generation, and goes over to it: the file that
+    /// was live is cut to nothing. The new one has format 2, whatever the other had, and stands for this standing alone, and for
+    /// nothing that was put before.
     ///
     /// It refuses with `Device` (7) and `NoMemory` (8); after that each later call answers `Failed` (11). At generation 2^48
     /// it refuses with `Failed` and changes nothing. Memory is wanted before the device is called.

@@ -5,7 +5,7 @@ use lk_types::NoMemory;
 use thiserror::Error;
 
 /// Why an event was refused. Of several that fit the smallest number is told, and `WorldMemory` last.
-#[derive(Clone, Copy, Debug, PartialEq, Eq, Error)]
+#[derive(Clone, Copy, Debug, Error)]
 pub enum Refused {
     /// The node was never started.
     #[error("no such node")]
@@ -23,7 +23,7 @@ pub enum Refused {
     /// 16 nodes were started, or more than 99,000 datagrams stand.
     #[error("the world is full")]
     WorldFull = 21,
-    /// A growth was refused. The node that was stepping or coming up has stopped, and kept none of its unsynced bytes.
+    /// A growth was refused. Where a node was stepping, or was restarted, it may have stopped, and kept none of its unsynced bytes.
     #[error("no memory")]
     WorldMemory = 22,
 }

@@ -62,7 +62,7 @@ impl<R: MemoryReplica> World<R> {
     /// One event happens. Whatever happens, what is promised of every world holds: one list of no-ops and asked requests is chosen
     /// that explains all that was noted and sent, and the rest of `Promises`.
     ///
-    /// A refused event changes nothing; under `WorldMemory` the node that was stepping or coming up has stopped.
+    /// A refused event changes nothing, but that under `WorldMemory` the node that was stepping or was restarted may have stopped.
     pub fn apply(&mut self, event: Event) -> Result<(), Refused>
         ensures does { OnOk result (Does R.behaves self.old event self.new) }
         ensures refused { IfErr result (λ e. IsRefused R.behaves self.old event e self.new) }
