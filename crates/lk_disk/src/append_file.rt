@@ -6,7 +6,7 @@ ghost use Rattle.lk_disk.specs.Files.{File, whole, shortened, left_of, IsWhole};
 use thiserror::Error;
 
 /// A call of a file failed.
-#[derive(Clone, Copy, Debug, PartialEq, Eq, Error)]
+#[derive(Clone, Copy, Debug, Error)]
 #[error("the file failed")]
 pub struct FileFault;
 

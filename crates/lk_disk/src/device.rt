@@ -8,14 +8,14 @@ ghost use Rattle.lk_disk.specs.declared.meter.Meter.{Meter};
 use thiserror::Error;
 
 /// Names one of the two disks of a device.
-#[derive(Clone, Copy, PartialEq, Eq)]
+#[derive(Clone, Copy)]
 pub enum Side {
     A,
     B,
 }
 
 /// The device failed in a call: refusal 7.
-#[derive(Clone, Copy, Debug, PartialEq, Eq, Error)]
+#[derive(Clone, Copy, Debug, Error)]
 #[error("the device failed")]
 pub struct DeviceFault;
 

@@ -94,7 +94,7 @@ impl<F: OpenFile + Read + Write + Seek> AppendFile for SystemFile<F> {
 }
 
 /// A socket, a folder or a file could not be opened.
-#[derive(Clone, Copy, Debug, PartialEq, Eq, Error)]
+#[derive(Clone, Copy, Debug, Error)]
 #[error("cannot open")]
 pub struct CannotOpen;
 

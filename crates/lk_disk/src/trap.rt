@@ -6,7 +6,7 @@ ghost use Rattle.lk_disk.specs.declared.device.Side.{Side};
 use crate::device::LogDisk;
 
 /// What befalls a changing call (an append, a sync or a cut) to come. Calls are counted from 1 from now on; none has number 0.
-#[derive(Clone, Copy, PartialEq, Eq)]
+#[derive(Clone, Copy)]
 pub enum Trap {
     /// No call.
     Off,

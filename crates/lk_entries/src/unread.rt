@@ -4,7 +4,7 @@ ghost use Rattle.lk_entries.specs.declared.unread.Unread.TheVariants.{NoMemory a
 use std::alloc::{AllocError, AllocFailed};
 
 /// Why no entry was read.
-#[derive(Clone, Copy, PartialEq, Eq)]
+#[derive(Clone, Copy)]
 pub enum Unread {
     // The bytes do not begin with one.
     NoEntry,

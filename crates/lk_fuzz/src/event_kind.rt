@@ -1,5 +1,5 @@
 /// The kinds of events that are drawn.
-#[derive(Clone, Copy, PartialEq, Eq)]
+#[derive(Clone, Copy)]
 pub enum EventKind {
     Restart,
     Tick,

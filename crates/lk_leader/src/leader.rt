@@ -19,7 +19,7 @@ use std::alloc::Global;
 use std::marker::Model;
 
 /// A command that a majority of the members of its position has accepted.
-#[derive(PartialEq, Eq, Drop)]
+#[derive(Drop)]
 pub struct Chosen {
     pub position: Position,
     pub command: Command,

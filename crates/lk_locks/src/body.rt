@@ -9,7 +9,7 @@ use lk_fields::{read_fence, read_u8};
 use lk_types::{Fence, Payload};
 
 /// What a client asks of the table.
-#[derive(PartialEq, Eq, Drop)]
+#[derive(Drop)]
 pub enum Body {
     /// To hold the name.
     Acquire(Name),

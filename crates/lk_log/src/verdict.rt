@@ -1,7 +1,7 @@
 use lk_disk::Side;
 
 /// What both files come to.
-#[derive(Clone, Copy, PartialEq, Eq)]
+#[derive(Clone, Copy)]
 pub enum Verdict {
     Damaged,
     // Neither has a Base.

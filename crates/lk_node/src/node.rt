@@ -21,7 +21,7 @@ use std::marker::Model;
 use thiserror::Error;
 
 /// The node was refused memory, in this step or an earlier one: refusal 14 of the replica.
-#[derive(Clone, Copy, Debug, PartialEq, Eq, Error)]
+#[derive(Clone, Copy, Debug, Error)]
 #[error("the node has halted")]
 pub struct Halted;
 

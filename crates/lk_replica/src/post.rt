@@ -6,7 +6,7 @@ use lk_step::To;
 use thiserror::Error;
 
 /// A datagram was not sent: refusal 15 of the replica.
-#[derive(Clone, Copy, Debug, PartialEq, Eq, Error)]
+#[derive(Clone, Copy, Debug, Error)]
 #[error("the datagram was not sent")]
 pub struct SendFault;
 

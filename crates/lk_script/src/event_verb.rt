@@ -4,7 +4,7 @@ ghost use Rattle.lk_script.specs.WorldLines.{word_of};
 ghost use Rattle.lk_script.specs.declared.event_verb.EventVerb.{EventVerb as EventVerbValue};
 
 /// What a line of world mode asks for.
-#[derive(Clone, Copy, PartialEq, Eq)]
+#[derive(Clone, Copy)]
 pub enum EventVerb {
     Start,
     Restart,

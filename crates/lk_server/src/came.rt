@@ -5,7 +5,7 @@ use lk_wire::{ContentRef, MessageRef, NodeMessageRef, view};
 use std::fmt;
 
 /// What came to a server, as far as it was read.
-#[derive(Clone, Copy, PartialEq, Eq)]
+#[derive(Clone, Copy)]
 pub enum Came {
     /// Some time has passed.
     Tick,

@@ -11,7 +11,7 @@ use std::alloc::{AllocError, AllocFailed};
 use std::io::Write;
 
 /// Why a command ended early. Its text is the last line of standard error.
-#[derive(Clone, Copy, Debug, PartialEq, Eq)]
+#[derive(Clone, Copy, Debug)]
 pub enum ServiceFault {
     /// A folder, a file or a socket did not open.
     CannotOpen,

@@ -46,7 +46,7 @@ pub struct SocketPost<S: Datagrams + Drop> {
 }
 
 /// What became of the letters of a step, for the log.
-#[derive(Clone, Copy, PartialEq, Eq)]
+#[derive(Clone, Copy)]
 pub struct Carried {
     /// How many were sent, or kept for the node itself.
     pub sent: u64,

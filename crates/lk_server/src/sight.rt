@@ -3,7 +3,7 @@
 use lk_types::{Ballot, Executed, NodeNo, RealBallot};
 
 /// What is seen of a replica from outside, between two turns.
-#[derive(Clone, Copy, PartialEq, Eq)]
+#[derive(Clone, Copy)]
 pub struct Sight {
     /// The generation of its store.
     pub generation: u64,

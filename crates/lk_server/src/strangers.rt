@@ -4,7 +4,7 @@ use crate::came::Came;
 use log::{Log, debug};
 
 /// How many datagrams came that do not read, and how many of another cluster.
-#[derive(Clone, Copy, PartialEq, Eq)]
+#[derive(Clone, Copy)]
 pub struct Strangers {
     bad: u64,
     foreign: u64,

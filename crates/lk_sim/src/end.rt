@@ -2,7 +2,7 @@ use crate::refused::Refused;
 use lk_types::NodeNo;
 
 /// How an event ended a node.
-#[derive(Clone, Copy, PartialEq, Eq)]
+#[derive(Clone, Copy)]
 pub enum End {
     /// The replica of this node, or its revival, ended by the fault of this number. The node went down, with its disks as
     /// they were.
@@ -12,7 +12,7 @@ pub enum End {
 }
 
 /// How a run of events ended: how many were done, and what refused the next one, if there is one.
-#[derive(Clone, Copy, PartialEq, Eq)]
+#[derive(Clone, Copy)]
 pub struct RunEnd {
     pub done: usize,
     pub refused: Option<Refused>,

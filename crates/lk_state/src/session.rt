@@ -8,7 +8,7 @@ use lk_types::{Answer, ClientNo, Request, RequestNumber};
 use std::marker::Model;
 
 /// A client's last request that took effect, and what it was answered.
-#[derive(Clone, Copy, PartialEq, Eq)]
+#[derive(Clone, Copy)]
 pub struct Session {
     pub client: ClientNo,
     pub number: RequestNumber,

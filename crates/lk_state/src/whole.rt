@@ -12,7 +12,7 @@ use std::alloc::Global;
 use std::marker::Model;
 
 /// Where a request stands to the last one of its client that took effect.
-#[derive(Clone, Copy, PartialEq, Eq)]
+#[derive(Clone, Copy)]
 pub enum Seen {
     /// Its number is above the client's last one.
     New,
@@ -41,7 +41,7 @@ impl Seen {
 }
 
 /// A command was executed.
-#[derive(Clone, Copy, PartialEq, Eq)]
+#[derive(Clone, Copy)]
 pub struct Ran {
     /// The position of the command.
     pub position: Position,

@@ -4,7 +4,7 @@ ghost use Rattle.std.specs.Prelude.{◌≡◌, max};
 use std::marker::Model;
 
 /// The greatest round of a ballot that was seen in a refusal, a proposal or a leader's notice: 0 to 2^48, 0 where none was.
-#[derive(Clone, Copy, PartialEq, Eq)]
+#[derive(Clone, Copy)]
 pub struct SeenRound {
     round: u64,
 }

@@ -12,7 +12,7 @@ pub const TICKS_A_PLACE: u8 = 4;
 const MAX_TICKS: u8 = 28;
 
 /// How many ticks have passed since a leader was heard: 0 to 28, where the count stays.
-#[derive(Clone, Copy, PartialEq, Eq)]
+#[derive(Clone, Copy)]
 pub struct TickCount {
     count: u8,
 }

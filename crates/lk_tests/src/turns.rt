@@ -18,7 +18,7 @@ use std::net::SocketAddr;
 use std::test::Fail;
 
 // How each call of a replica ends.
-#[derive(Clone, Copy, PartialEq, Eq)]
+#[derive(Clone, Copy)]
 enum End {
     Notes,
     Lost,

@@ -7,7 +7,7 @@ use crate::sharer_count::SharerCount;
 use std::fmt;
 
 /// What a request that takes effect is answered.
-#[derive(Clone, Copy, Debug, PartialEq, Eq)]
+#[derive(Clone, Copy, Debug)]
 pub enum Answer {
     /// The client holds the name, at this fence.
     Granted(Fence),

@@ -4,7 +4,7 @@ use crate::position::Position;
 use crate::vote::Vote;
 
 /// What a node writes so that a restart finds it.
-#[derive(PartialEq, Eq, Drop)]
+#[derive(Drop)]
 pub enum Entry {
     /// It promised, or began, this ballot.
     Promise(RealBallot),

@@ -7,7 +7,7 @@ use crate::member::{Member, Members};
 use thiserror::Error;
 
 /// Why there is no such genesis. Where several hold, the first of this order is told.
-#[derive(Clone, Copy, Debug, PartialEq, Eq, Error)]
+#[derive(Clone, Copy, Debug, Error)]
 pub enum GenesisFault {
     #[error("no members")]
     NoMembers = 1,
@@ -29,7 +29,7 @@ impl GenesisFault {
 }
 
 /// How a cluster begins: its number, how many positions ahead its members are known, and its first members.
-#[derive(PartialEq, Eq, Drop)]
+#[derive(Drop)]
 pub struct Genesis {
     pub cluster: u64,
     pub alpha: u8,

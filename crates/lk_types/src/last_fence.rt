@@ -5,7 +5,7 @@ use crate::limits::MAX_COUNT;
 use std::marker::Model;
 
 /// The last fence of a name, from 0 (never granted) to 2^48.
-#[derive(Clone, Copy, Debug, PartialEq, Eq)]
+#[derive(Clone, Copy, Debug)]
 pub struct LastFence {
     value: u64,
 }

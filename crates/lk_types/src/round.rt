@@ -5,7 +5,7 @@ use crate::limits::MAX_COUNT;
 use std::marker::Model;
 
 /// The round of a ballot, from 1 to 2^48.
-#[derive(Clone, Copy, PartialEq, Eq)]
+#[derive(Clone, Copy)]
 pub struct Round {
     value: u64,
 }

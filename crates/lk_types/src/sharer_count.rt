@@ -5,7 +5,7 @@ use crate::limits::MAX_SHARERS;
 use std::marker::Model;
 
 /// How many clients share a name, from 1 to 8.
-#[derive(Clone, Copy, Debug, PartialEq, Eq)]
+#[derive(Clone, Copy, Debug)]
 pub struct SharerCount {
     value: u8,
 }

@@ -14,7 +14,7 @@ use std::marker::Model;
 
 /// What a node that lies behind asks for: the commands from a position on, or, where these are gone, a snapshot from
 /// an offset on.
-#[derive(Clone, Copy, Debug, PartialEq, Eq)]
+#[derive(Clone, Copy, Debug)]
 pub struct Want {
     first: Position,
     offset: u32,
@@ -66,7 +66,7 @@ impl Want {
 }
 
 /// What a node tells a client whose number lies below its last one: it is never answered.
-#[derive(Clone, Copy, Debug, PartialEq, Eq)]
+#[derive(Clone, Copy, Debug)]
 pub struct Passed {
     client: ClientNo,
     number: RequestNumber,
@@ -130,7 +130,7 @@ impl Passed {
 }
 
 /// A refusal: the ballot that was refused, the one that is promised, and how many positions its sender has executed.
-#[derive(Clone, Copy, Debug, PartialEq, Eq)]
+#[derive(Clone, Copy, Debug)]
 pub struct Nack {
     pub ballot: RealBallot,
     pub promised: Ballot,
@@ -138,7 +138,7 @@ pub struct Nack {
 }
 
 /// What a client's request is answered.
-#[derive(Clone, Copy, Debug, PartialEq, Eq)]
+#[derive(Clone, Copy, Debug)]
 pub struct Answered {
     pub client: ClientNo,
     pub number: RequestNumber,
@@ -146,7 +146,7 @@ pub struct Answered {
 }
 
 /// Where a client had better ask.
-#[derive(Clone, Copy, Debug, PartialEq, Eq)]
+#[derive(Clone, Copy, Debug)]
 pub struct Elsewhere {
     pub client: ClientNo,
     pub number: RequestNumber,

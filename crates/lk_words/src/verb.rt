@@ -4,7 +4,7 @@ ghost use Rattle.lk_words.specs.Verbs.{word_of};
 ghost use Rattle.lk_words.specs.declared.verb.Verb.{Verb};
 
 /// What a client asks of the locks or of the members.
-#[derive(Clone, Copy, PartialEq, Eq)]
+#[derive(Clone, Copy)]
 pub enum Verb {
     Acquire,
     Release,
