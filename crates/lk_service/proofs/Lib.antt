@@ -1,3 +1,6 @@
+mod Chaining
+mod Receiving
 mod Refusals
 mod Replying
 mod Sending
+mod Turning

@@ -1,2 +1,4 @@
+pub mod Chains
 pub mod Questions
 pub mod Replies
+pub mod Turns

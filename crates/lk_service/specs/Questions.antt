@@ -1,11 +1,12 @@
--- What a client asks, and what it hears.
+-- What a client asks, what it hears, and what it sends by that.
 use Rattle.std.specs.Net.Socket.{socket_port}
-use Rattle.std.specs.Prelude.{◌≡◌, ◌⊎◌, ℕ, nat_lt, Option, Some, None, List, [], ◌∷◌, ◌++◌, if◌then◌else◌}
+use Rattle.std.specs.Prelude.{◌≡◌, ◌⊎◌, ◌+◌, ◌<◌, ℕ, nat_lt, Option, Some, None, List, [], ◌∷◌, ◌++◌, length, if◌then◌else◌}
 use Rattle.std.specs.declared.net.socket_addr.SocketAddr.{SocketAddr}
 use Rattle.lk_disk.specs.Disk.{one_more}
 use Rattle.lk_wire.specs.Grammar.{Spells}
 use Rattle.lk_wire.specs.declared.message.Content.TheVariants as content
 use Rattle.lk_wire.specs.declared.message.Message.{Message}
+use Rattle.lk_service.specs.Chains.{Repeats}
 use Rattle.lk_service.specs.Replies.{reply_of}
 use Rattle.lk_service.specs.declared.question.Question.{Question}
 use Rattle.lk_service.specs.declared.question.Heard.{Heard}
@@ -61,3 +62,34 @@ abbrev pub IsTold : ReplyValue → Type 0
 IsTold (Answer a) = Unit {0}
 IsTold (Passed last) = Unit {0}
 IsTold (Elsewhere m) = ⊥
+
+-- a client that has asked: its socket, and how many Elsewhere it has followed
+pub record Asker (S : Type 0) : Type 0 where
+  pub socket : S
+  pub followed : ℕ
+
+-- what a kind of socket has sent, how often a send of it has failed, and what comes to it next; and the question of a client at such a socket
+module _ {S : Type 0} (sent : S → List (SocketAddr × List ℕ)) (failures : S → ℕ) (next : S → Option (SocketAddr × List ℕ)) (q : Question) where
+  -- what comes next is heard, and told nothing or this; where it is an Elsewhere that is followed the bytes go to the port that it tells,
+  -- and nothing else is sent
+  pub record Receives (bytes : List ℕ) (told : Option ReplyValue) (old new : Asker S) : Type 0 where
+    pub heard : Heard
+    pub hears : Hears q (next old.socket) heard
+    pub tells : told ≡ ended_by heard
+    pub follows : new.followed ≡ old.followed + length (followed_to heard old.followed)
+    pub sends : SendsEach (followed_to heard old.followed) bytes (sent old.socket) (failures old.socket) (sent new.socket) (failures new.socket)
+
+  -- it was told this after fewer than 50 receives that told nothing, or 50 have told nothing
+  abbrev pub Waits : List ℕ → Option ReplyValue → Asker S → Asker S → Type 0
+  Waits bytes None old new = Repeats (Receives bytes None) 50 old new
+  Waits bytes (Some reply) old new =
+      (count : ℕ) × (count < 50) × (last : Asker S) × Repeats (Receives bytes None) count old last × Receives bytes (Some reply) last new
+
+  -- the bytes of the question went to its port, and then it waited
+  pub record Exchanges (told : Option ReplyValue) (old new : S) : Type 0 where
+    pub bytes : List ℕ
+    pub spelled : Spells (asking q) bytes
+    pub begun : S
+    pub asks : SendsOnce q.port bytes (sent old) (failures old) (sent begun) (failures begun)
+    pub followed : ℕ
+    pub waits : Waits bytes told (record { socket = begun; followed = 0 }) (record { socket = new; followed = followed })

@@ -1,9 +1,8 @@
 //! A client that asks once.
 
-ghost use Rattle.std.specs.Prelude.{◌≡◌, ◌≤◌, ◌+◌, ◌∷◌, ℕ, List, IfOk, OnOk, IfErr, IfSome, length};
+ghost use Rattle.std.specs.Prelude.{◌≡◌, ◌≤◌, ◌∷◌, ℕ, List, IfOk, OnOk, IfErr, OnErr, IfSome, length};
 ghost use Rattle.lk_wire.specs.Grammar.{Spells};
-ghost use Rattle.lk_service.specs.Questions.{asking, Hears, followed_to, ended_by, SendsOnce, SendsEach, IsTold};
-ghost use Rattle.lk_service.specs.declared.question.Heard.{Heard};
+ghost use Rattle.lk_service.specs.Questions.{asking, Hears, SendsOnce, SendsEach, Receives, Exchanges, IsTold};
 
 use crate::reply::{Reply, read_reply};
 use bytes::BytesMut;
@@ -94,9 +93,8 @@ fn take_next<S: Datagrams>(
     followed: &mut u32,
 ) -> Option<Reply>
     // What comes next is heard, and ends the exchange or is followed, to the port that it tells, by what it is.
-    ensures heard { S.is_telling → (heard : Heard) × Hears question.now (S.next socket.old) heard × (result ≡ ended_by heard)
-        × (followed.new ≡ followed.old + length (followed_to heard followed.old))
-        × SendsEach (followed_to heard followed.old) bytes.now (S.sent socket.old) (S.failures socket.old) (S.sent socket.new) (S.failures socket.new) }
+    ensures heard { S.is_telling → Receives S.sent S.failures S.next question.now bytes.now result
+        (record { socket = socket.old; followed = followed.old }) (record { socket = socket.new; followed = followed.new }) }
     ensures told { IfSome result IsTold }
     ensures most { followed.old ≤ 20 → followed.new ≤ 20 }
 {
@@ -121,7 +119,11 @@ pub fn exchange<S: Datagrams>(
     // The bytes of the question go to its port and then to at most 20 others, each once, and nothing else is sent.
     ensures sends { S.is_telling → OnOk result ((bytes : List ℕ) × (others : List ℕ) × Spells (asking question.now) bytes × (length others ≤ 20)
         × SendsEach (question.now.port ∷ others) bytes (S.sent socket.old) (S.failures socket.old) (S.sent socket.new) (S.failures socket.new)) }
+    // Of what comes next after that it hears one after another, at most 50, until it is told something: to follow an Elsewhere that it hears it
+    // sends to the port that this tells, and else it sends nothing more.
+    ensures hears { S.is_telling → IfOk result (λ told. Exchanges S.sent S.failures S.next question.now told socket.old socket.new) }
     ensures told { IfOk result (λ reply. IfSome reply IsTold) }
+    ensures unchanged { OnErr result (socket.new ≡ socket.old) }
     ensures only { IfErr result (λ f. f ≡ ServiceFault.NoMemory) }
 {
     let bytes = datagram(alloc, question)?;

@@ -1,11 +1,13 @@
 //! A node over the files of a folder and a socket.
 
-ghost use Rattle.std.specs.Prelude.{◌≡◌, ◌≤◌, ◌⊎◌, [], true, false, IfOk, IfErr, OnOk, OnErr};
+ghost use Rattle.std.specs.Prelude.{◌≡◌, ◌≤◌, ◌⊎◌, ◌^◌, [], true, false, drop, IfOk, IfErr, OnOk, OnErr};
 ghost use Rattle.lk_members.specs.Ports.{port_in};
 ghost use Rattle.lk_replica.specs.Faults.{fault_number};
 ghost use Rattle.lk_replica.specs.Revivals.{MayGoOn};
 ghost use Rattle.lk_server.specs.Faults.{replica_fault};
-ghost use Rattle.lk_server.specs.Servers.{TakesOwn};
+ghost use Rattle.lk_server.specs.Servers.{HandsOn, TakesOwn};
+ghost use Rattle.lk_service.specs.Chains.{Repeats};
+ghost use Rattle.lk_service.specs.Turns.{TakesTurn, BreaksOff, Serves};
 
 use crate::causes::{open_socket, tell_device};
 use crate::folder::{FolderLock, open_device};
@@ -169,6 +171,8 @@ fn take_turn<M: Machine, L: Log, E: Write>(
 ) -> Result<(), ServiceFault>
     // Where the node wrote to itself it takes the first letter of that, and no tick.
     ensures own { OnOk result ((server.old.own ≡ []) ⊎ TakesOwn ⊥ server.old server.new) }
+    // Of the letters that the replica said it keeps none but those of the node to itself, after the ones that wait.
+    ensures hands_on { HandsOn ⟦<Replica<M, FolderDisk> as NodeReplica>⟧.Says ⊥ ⊥ (drop 1 server.old.own) server.old server.new }
     ensures cluster { server.new.cluster ≡ server.old.cluster }
     ensures node { server.new.node ≡ server.old.node }
     ensures passes { IfErr result (λ f. f ≡ ServiceFault.Send → ⊥) }
@@ -187,9 +191,15 @@ fn take_turns<M: Machine, L: Log, E: Write>(
     folder: &str,
     log: &L,
     err: &mut E,
-) -> Result<(), ServiceFault> {
+) -> Result<(), ServiceFault>
+    // At Ok just so many turns were taken, one after another.
+    ensures ok { OnOk result (Repeats (TakesTurn ⟦<Replica<M, FolderDisk> as NodeReplica>⟧.Says) (2 ^ 48) server.old server.new) }
+    // At a fault fewer were, and then one that ended the replica.
+    ensures err { OnErr result (BreaksOff ⟦<Replica<M, FolderDisk> as NodeReplica>⟧.Says (2 ^ 48) server.old server.new) }
+    ensures passes { IfErr result (λ f. f ≡ ServiceFault.Send → ⊥) }
+{
     let mut ear = Ear::new();
-    for _ in 0..TURNS {
+    'turns: for _ in 0..TURNS {
         take_turn::<M, L, E>(server, &mut ear, folder, log, err)?;
     }
     Ok(())
@@ -202,7 +212,10 @@ fn serve<M: Machine, R: Files<File = File> + Net, L: Log, E: Write>(
     plan: &NodePlan<'_>,
     log: &L,
     err: &mut E,
-) -> Result<(), ServiceFault> {
+) -> Result<(), ServiceFault>
+    // At Ok the server of the plan's node, on a replica that can take calls as that node, has taken so many turns.
+    ensures { OnOk result (Serves ⟦<Replica<M, FolderDisk> as NodeReplica>⟧.Says plan.now.header (2 ^ 48)) }
+{
     let socket = open_socket(rt, plan.port.get(), err)?;
     let _lock = FolderLock::take(rt, alloc, plan.folder, err)?;
     let device = open_device(rt, alloc, plan.folder, err)?;
@@ -251,7 +264,9 @@ pub fn run_node<M: Machine, R: Files<File = File> + Net, L: Log, E: Write>(
     log: &L,
     err: &mut E,
 ) -> u8
-    ensures { result ≤ 1 }
+    ensures status { result ≤ 1 }
+    // Status 0 only where the server of the plan's node, on a replica that can take calls as that node, has taken so many turns.
+    ensures served { result ≡ 0 → Serves ⟦<Replica<M, FolderDisk> as NodeReplica>⟧.Says plan.now.header (2 ^ 48) }
 {
     warn_of_port(plan, err);
     match serve::<M, R, L, E>(rt, alloc, plan, log, err) {

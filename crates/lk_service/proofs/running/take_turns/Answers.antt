@@ -1,0 +1,18 @@
+use Rattle.std.proofs.Common.{◌≡◌, arith}
+use Rattle.lk_service.proofs.Chaining.{repeats_as}
+use Rattle.lk_service.proofs.Turning.{on_err, turns_more, turns_end}
+use Rattle.lk_service.proofs.running.take_turns.Goals as goal
+
+pub turns-preserved : goal.turns-preserved
+turns-preserved g c =
+    let taken = c.in_ok-take_turn.ensures in turns_more c.turns.invariant taken.own taken.hands_on taken.cluster taken.node taken.alive
+
+pub returns-clause-ok : goal.returns-clause-ok
+returns-clause-ok g c =
+    let all : c.turns.counter ≡ 281474976710656 = omega arith in
+    repeats_as all c.turns.invariant
+
+pub returns-in_err-take_turn-clause-err : goal.returns-in_err-take_turn-clause-err
+returns-in_err-take_turn-clause-err g c =
+    let ended = c.in_err-take_turn.ensures in
+    on_err c.from_residual.result (turns_end 281474976710656 c.turns-test.true c.turns.invariant ended.hands_on ended.cluster ended.node ended.broken)
