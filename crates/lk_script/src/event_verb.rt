@@ -18,24 +18,44 @@ pub enum EventVerb {
     Arm,
 }
 
+/// All of them.
+const ALL: [EventVerb; 10] = [
+    EventVerb::Start,
+    EventVerb::Restart,
+    EventVerb::Tick,
+    EventVerb::Compact,
+    EventVerb::Deliver,
+    EventVerb::Client,
+    EventVerb::Inject,
+    EventVerb::Stop,
+    EventVerb::Fail,
+    EventVerb::Arm,
+];
+
 impl EventVerb {
+    /// Its word.
+    fn word(self) -> &'static [u8]
+        ensures { result.now ≡ word_of self }
+    {
+        match self {
+            EventVerb::Start => b"start",
+            EventVerb::Restart => b"restart",
+            EventVerb::Tick => b"tick",
+            EventVerb::Compact => b"compact",
+            EventVerb::Deliver => b"deliver",
+            EventVerb::Client => b"client",
+            EventVerb::Inject => b"inject",
+            EventVerb::Stop => b"stop",
+            EventVerb::Fail => b"fail",
+            EventVerb::Arm => b"arm",
+        }
+    }
+
     /// The verb of that word.
     pub fn of(word: &[u8]) -> Option<EventVerb>
         ensures some { IfSome result (λ v. word.now ≡ word_of v) }
         ensures none { IsNone result → (v : EventVerbValue) → word.now ≡ word_of v → ⊥ }
     {
-        match word {
-            b"start" => Some(EventVerb::Start),
-            b"restart" => Some(EventVerb::Restart),
-            b"tick" => Some(EventVerb::Tick),
-            b"compact" => Some(EventVerb::Compact),
-            b"deliver" => Some(EventVerb::Deliver),
-            b"client" => Some(EventVerb::Client),
-            b"inject" => Some(EventVerb::Inject),
-            b"stop" => Some(EventVerb::Stop),
-            b"fail" => Some(EventVerb::Fail),
-            b"arm" => Some(EventVerb::Arm),
-            _ => None,
-        }
+        ALL.iter().find(|verb| verb.word() == word).copied()
     }
 }

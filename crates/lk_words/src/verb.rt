@@ -18,24 +18,44 @@ pub enum Verb {
     Raw,
 }
 
+/// All of them.
+const ALL: [Verb; 10] = [
+    Verb::Acquire,
+    Verb::Release,
+    Verb::Ask,
+    Verb::Check,
+    Verb::Share,
+    Verb::Break,
+    Verb::Join,
+    Verb::Leave,
+    Verb::Raise,
+    Verb::Raw,
+];
+
 impl Verb {
+    /// Its word.
+    fn word(self) -> &'static [u8]
+        ensures { result.now ≡ word_of self }
+    {
+        match self {
+            Verb::Acquire => b"acquire",
+            Verb::Release => b"release",
+            Verb::Ask => b"ask",
+            Verb::Check => b"check",
+            Verb::Share => b"share",
+            Verb::Break => b"break",
+            Verb::Join => b"join",
+            Verb::Leave => b"leave",
+            Verb::Raise => b"raise",
+            Verb::Raw => b"raw",
+        }
+    }
+
     /// The verb of that word.
     pub fn of(word: &[u8]) -> Option<Verb>
         ensures some { IfSome result (λ v. word.now ≡ word_of v) }
         ensures none { IsNone result → (v : Verb) → word.now ≡ word_of v → ⊥ }
     {
-        match word {
-            b"acquire" => Some(Verb::Acquire),
-            b"release" => Some(Verb::Release),
-            b"ask" => Some(Verb::Ask),
-            b"check" => Some(Verb::Check),
-            b"share" => Some(Verb::Share),
-            b"break" => Some(Verb::Break),
-            b"join" => Some(Verb::Join),
-            b"leave" => Some(Verb::Leave),
-            b"raise" => Some(Verb::Raise),
-            b"raw" => Some(Verb::Raw),
-            _ => None,
-        }
+        ALL.iter().find(|verb| verb.word() == word).copied()
     }
 }
