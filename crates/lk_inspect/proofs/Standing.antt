@@ -15,7 +15,7 @@ use Rattle.lk_learner.proofs.Learnerships.{ran_moves}
 use Rattle.lk_replica.specs.Revivals.{run_from, all_ran}
 use Rattle.lk_locks.specs.Lists.{table_of}
 use Rattle.lk_locks.specs.Meaning.{table_meaning}
-use Rattle.lk_locks.specs.Packed.{IsTable, text, table_in}
+use Rattle.lk_locks.specs.Packed.{IsTable, table_text, table_in}
 use Rattle.lk_locks.specs.PackedLaws.{again}
 use Rattle.lk_locks.specs.Plain.{Table}
 use Rattle.lk_locks.proofs.Tables.{text_of-text, table_of-is_table}
@@ -68,5 +68,5 @@ stands_behind m genesis L v w ps qs sums same is =
     ∙ sums_behind m genesis L (run_from (length L) qs)
 
 -- a table whose text is that of the list is its plain table
-pub same_table : (t : Table) (L : List Command) → IsTable t → AllByRecursion IsCommand L → text t ≡ text_of table_meaning L → t ≡ table_of L
+pub same_table : (t : Table) (L : List Command) → IsTable t → AllByRecursion IsCommand L → table_text t ≡ text_of table_meaning L → t ≡ table_of L
 same_table t L fits all is = sym (again t fits) ∙ ap table_in (is ∙ text_of-text L all) ∙ again (table_of L) (table_of-is_table L all)

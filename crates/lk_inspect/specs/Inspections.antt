@@ -10,7 +10,7 @@ use Rattle.lk_state.specs.States.{WholeValue, sessions_of}
 use Rattle.lk_locks.specs.Held.{held_in}
 use Rattle.lk_locks.specs.Lists.{table_of}
 use Rattle.lk_locks.specs.Meaning.{table_meaning}
-use Rattle.lk_locks.specs.Packed.{IsText}
+use Rattle.lk_locks.specs.Packed.{IsTableText}
 use Rattle.lk_inspect.specs.declared.inspection.Inspection.{Inspection}
 
 -- how long the list is, who decides the next positions, the names of its plain table and those that are held, and of how many
@@ -24,4 +24,4 @@ pub record Tells (genesis : Genesis) (L : List Command) (i : Inspection) : Type 
 
 -- its snapshot packs no state at its position
 abbrev pub CannotStand : StandingValue → Type 0
-CannotStand s = (w : WholeValue) → Packs IsText w s.snapshot → w.roster.executed ≡ s.position → ⊥
+CannotStand s = (w : WholeValue) → Packs IsTableText w s.snapshot → w.roster.executed ≡ s.position → ⊥

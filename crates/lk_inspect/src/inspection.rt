@@ -9,7 +9,7 @@ ghost use Rattle.lk_state.specs.Packed.{Packs};
 ghost use Rattle.lk_state.specs.States.{whole_after};
 ghost use Rattle.lk_replica.specs.Revivals.{run_from};
 ghost use Rattle.lk_locks.specs.Meaning.{table_meaning};
-ghost use Rattle.lk_locks.specs.Packed.{IsText};
+ghost use Rattle.lk_locks.specs.Packed.{IsTableText};
 ghost use Rattle.lk_inspect.specs.Inspections.{CannotStand, Tells};
 
 use crate::state::state_of;
@@ -38,7 +38,7 @@ pub struct Inspection {
 /// What the snapshot of a standing and the decided commands above it come to, up to the first gap. It refuses with `Damaged`
 /// where the snapshot packs no state at its position, and with `NoMemory`.
 pub fn inspected(alloc: Global, standing: &Standing) -> Result<Inspection, ServiceFault>
-    ensures tells { (genesis : GenesisValue) (L : List CommandValue) → Packs IsText (whole_after table_meaning genesis L) standing.now.snapshot
+    ensures tells { (genesis : GenesisValue) (L : List CommandValue) → Packs IsTableText (whole_after table_meaning genesis L) standing.now.snapshot
         → AllByRecursion IsCommand (L ++ run_from (length L) standing.now.pairs)
         → IfOk result (Tells genesis (L ++ run_from (length L) standing.now.pairs)) }
     ensures damaged { IsErrOf result ServiceFault.Damaged → CannotStand standing.now }

@@ -9,7 +9,7 @@ ghost use Rattle.lk_state.specs.Runs.{ran};
 ghost use Rattle.lk_state.specs.States.{WholeValue, SumsUp, whole_after};
 ghost use Rattle.lk_replica.specs.Revivals.{run_from, all_ran};
 ghost use Rattle.lk_locks.specs.Meaning.{table_meaning};
-ghost use Rattle.lk_locks.specs.Packed.{IsText};
+ghost use Rattle.lk_locks.specs.Packed.{IsTableText};
 ghost use Rattle.lk_inspect.specs.Inspections.{CannotStand};
 
 use lk_entries::Standing;
@@ -21,7 +21,7 @@ use std::alloc::Global;
 
 /// The state that the snapshot packs, at its position.
 fn unpacked(alloc: Global, standing: &Standing) -> Result<Whole<LockTable>, ServiceFault>
-    ensures one { (w : WholeValue) → Packs IsText w standing.now.snapshot → IfOk result (λ v. v ≡ w) }
+    ensures one { (w : WholeValue) → Packs IsTableText w standing.now.snapshot → IfOk result (λ v. v ≡ w) }
     ensures stands { IfOk result (λ w. w.roster.executed ≡ standing.now.position) }
     ensures damaged { IsErrOf result ServiceFault.Damaged → CannotStand standing.now }
     ensures only { IfErr result (λ e. (e ≡ ServiceFault.Damaged) ⊎ (e ≡ ServiceFault.NoMemory)) }
@@ -58,7 +58,7 @@ fn run_on(whole: &mut Whole<LockTable>, pairs: &[(Position, Command)]) -> Result
 /// The state after the snapshot and the decided commands above it, up to the first gap. It refuses with `Damaged` where the
 /// snapshot packs no state at its position, and with `NoMemory`.
 pub fn state_of(alloc: Global, standing: &Standing) -> Result<Whole<LockTable>, ServiceFault>
-    ensures sums { (genesis : GenesisValue) (L : List CommandValue) → Packs IsText (whole_after table_meaning genesis L) standing.now.snapshot
+    ensures sums { (genesis : GenesisValue) (L : List CommandValue) → Packs IsTableText (whole_after table_meaning genesis L) standing.now.snapshot
         → IfOk result (SumsUp table_meaning genesis (L ++ run_from (length L) standing.now.pairs)) }
     ensures damaged { IsErrOf result ServiceFault.Damaged → CannotStand standing.now }
     ensures only { IfErr result (λ e. (e ≡ ServiceFault.Damaged) ⊎ (e ≡ ServiceFault.NoMemory)) }

@@ -12,7 +12,7 @@ use Rattle.lk_state.specs.Meanings.{KeepsTexts}
 use Rattle.lk_state.specs.States.{next_text, text_of}
 use Rattle.lk_state.proofs.Wholes.{by_pushes, text_behind, text_of-push}
 use Rattle.lk_locks.specs.Plain.{Table, empty, next, raised}
-use Rattle.lk_locks.specs.Packed.{IsTable, IsText, text, table_in}
+use Rattle.lk_locks.specs.Packed.{IsTable, IsTableText, table_text, table_in}
 use Rattle.lk_locks.specs.PackedLaws.{again, empty_are_names, empty_is_text}
 use Rattle.lk_locks.specs.NextLaws.{next_is_table, raised_is_table, next_is_text, answer_is_answer}
 use Rattle.lk_locks.specs.Meaning.{table_meaning, task_answer}
@@ -55,15 +55,15 @@ in_effect_is_of_client L (Request r) fits = elim (list_all (is_older r) L) as (�
 
 -- the bytes are the text of this table
 abbrev IsTextOf : Table → List ℕ → Type 0
-IsTextOf m bytes = IsTable m × (bytes ≡ text m)
+IsTextOf m bytes = IsTable m × (bytes ≡ table_text m)
 
-op_keeps : (client : ℕ) (op : Op) (m : Table) → IsClient client → IsTable m → IsTextOf (table_after client op m) (next_text table_meaning (text m) client op)
-op_keeps client (TableOp body) m is_client fits = (next_is_table client body m is_client fits, ap (λ (t : Table). text (next client body t)) (again m fits))
+op_keeps : (client : ℕ) (op : Op) (m : Table) → IsClient client → IsTable m → IsTextOf (table_after client op m) (next_text table_meaning (table_text m) client op)
+op_keeps client (TableOp body) m is_client fits = (next_is_table client body m is_client fits, ap (λ (t : Table). table_text (next client body t)) (again m fits))
 op_keeps client (Join node port) m is_client fits = (fits, refl)
 op_keeps client (Leave node) m is_client fits = (fits, refl)
-op_keeps client Raise m is_client fits = (raised_is_table m fits, ap (λ (t : Table). text (raised t)) (again m fits))
+op_keeps client Raise m is_client fits = (raised_is_table m fits, ap (λ (t : Table). table_text (raised t)) (again m fits))
 
-in_effect_keeps : (o : Option RequestValue) (m : Table) → IsOfClient o → IsTable m → IsTextOf (table_behind m o) (text_behind table_meaning (text m) o)
+in_effect_keeps : (o : Option RequestValue) (m : Table) → IsOfClient o → IsTable m → IsTextOf (table_behind m o) (text_behind table_meaning (table_text m) o)
 in_effect_keeps None m is_client fits = (fits, refl)
 in_effect_keeps (Some r) m is_client fits = op_keeps r.client r.op m is_client fits
 
@@ -82,7 +82,7 @@ more_is_plain L c so_far all =
     let o : Option RequestValue = in_effect L c in
     let behind = in_effect_keeps o (table_of L) (in_effect_is_of_client L c parts.1) before.0 in (
       subst IsTable (sym (table_of-push L c)) behind.0,
-      text_of-push table_meaning L c ∙ ap (λ (t : List ℕ). text_behind table_meaning t o) before.1 ∙ behind.1 ∙ ap text (sym (table_of-push L c)),
+      text_of-push table_meaning L c ∙ ap (λ (t : List ℕ). text_behind table_meaning t o) before.1 ∙ behind.1 ∙ ap table_text (sym (table_of-push L c)),
     )
 
 is_plain : (L : List Command) → TextIsPlain L
@@ -95,7 +95,7 @@ pub table_of-is_table : (L : List Command) → AllByRecursion IsCommand L → Is
 table_of-is_table L all = (is_plain L all).0
 
 -- the text that the machine has after a list is that of its table
-pub text_of-text : (L : List Command) → AllByRecursion IsCommand L → text_of table_meaning L ≡ text (table_of L)
+pub text_of-text : (L : List Command) → AllByRecursion IsCommand L → text_of table_meaning L ≡ table_text (table_of L)
 text_of-text L all = (is_plain L all).1
 
 -- what the machine answers after a list is what its table answers
@@ -103,5 +103,5 @@ pub answer-text_of : (L : List Command) → AllByRecursion IsCommand L → (clie
 answer-text_of L all client task = ap (task_answer client task) (ap table_in (text_of-text L all) ∙ again (table_of L) (table_of-is_table L all))
 
 -- the table keeps to its texts, and its answers are in their ranges
-pub table_keeps_texts : KeepsTexts IsText table_meaning
+pub table_keeps_texts : KeepsTexts IsTableText table_meaning
 table_keeps_texts = record { first = empty_is_text; next = next_is_text; answer = answer_is_answer }

@@ -10,7 +10,7 @@ use Rattle.std.proofs.lemmas.Bool.{eqb-true, le-leb}
 use Rattle.std.proofs.lemmas.List.{length-append, nil_from_length}
 use Rattle.std.specs.FinMap.Entries.{below_all}
 use Rattle.lk_locks.specs.Plain.{Names, Table}
-use Rattle.lk_locks.specs.Packed.{Entry, entry, entries, read_entry, read_size, read_entries, read_table, text, rise, DoNotRise}
+use Rattle.lk_locks.specs.Packed.{Entry, entry, entries, read_entry, read_size, read_entries, read_table, table_text, rise, DoNotRise}
 use Rattle.lk_locks.specs.declared.slot.Slot.{Slot}
 use Rattle.lk_fields.specs.Fields.{two}
 use Rattle.lk_fields.specs.FieldReading.{read_two}
@@ -164,10 +164,10 @@ unfolding read_table
 plain_table bytes behind n r front other e = rw (front, other) (whole_made (λ (es : List Entry). let v : Bool × List Entry = (false, es) in v) (read_entries false) bytes ∙ ap (mapped (λ (es : List Entry). let v : Bool × List Entry = (false, es) in v)) e)
 
 -- a text written after its mark, or without one
-pub marked : (t : Table) (old new : List ℕ) → t.raised ≡ true → new ≡ (old ++ two 65282) ++ entries t.raised (map.entries t.names) → new ≡ old ++ text t
-unfolding text
+pub marked : (t : Table) (old new : List ℕ) → t.raised ≡ true → new ≡ (old ++ two 65282) ++ entries t.raised (map.entries t.names) → new ≡ old ++ table_text t
+unfolding table_text
 marked t old new is e = e ∙ append_assoc old (two 65282) (entries t.raised (map.entries t.names)) ∙ rw is refl
 
-pub unmarked : (t : Table) (old new : List ℕ) → t.raised ≡ false → new ≡ old ++ entries t.raised (map.entries t.names) → new ≡ old ++ text t
-unfolding text
+pub unmarked : (t : Table) (old new : List ℕ) → t.raised ≡ false → new ≡ old ++ entries t.raised (map.entries t.names) → new ≡ old ++ table_text t
+unfolding table_text
 unmarked t old new is e = e ∙ rw is refl

@@ -2,7 +2,7 @@
 use Rattle.std.specs.Prelude.{ℕ}
 use Rattle.lk_types.specs.declared.answer.Answer.{Answer}
 use Rattle.lk_state.specs.Meanings.{Meaning, Task, Running, Raising}
-use Rattle.lk_locks.specs.Packed.{text, table_in}
+use Rattle.lk_locks.specs.Packed.{table_text, table_in}
 use Rattle.lk_locks.specs.Plain.{Table, empty, answer, next, raise_answer, raised}
 
 -- the table after a task of a client
@@ -16,4 +16,4 @@ task_answer client (Running bytes) t = answer client bytes t
 task_answer client Raising t = raise_answer t
 
 abbrev pub table_meaning : Meaning
-table_meaning = record { first = text empty; next = λ client task before. text (next_by_task client task (table_in before)); answer = λ client task before. task_answer client task (table_in before) }
+table_meaning = record { first = table_text empty; next = λ client task before. table_text (next_by_task client task (table_in before)); answer = λ client task before. task_answer client task (table_in before) }

@@ -17,7 +17,7 @@ use Rattle.lk_locks.specs.Holders.{is_held, held_by, left_by, is_kept, IsHolders
 use Rattle.lk_locks.specs.Sharers.{AreSharers, is_among, without}
 use Rattle.lk_locks.specs.SharerLaws.{with_client-fits, held_by-fits, one_sharer, least-fits}
 use Rattle.lk_locks.specs.Plain.{Names, Table, row, row_in, changed, next_by, next, answer_to, raised, given, fence_after, first_fence, acquired_at, acquired, joined, shared_at, shared, left_at, released, is_held_at, broken, asked_at, asked, checked}
-use Rattle.lk_locks.specs.Packed.{Entry, IsSlotIn, IsTableEntry, AreNames, IsTable, IsText, table_in}
+use Rattle.lk_locks.specs.Packed.{Entry, IsSlotIn, IsTableEntry, AreNames, IsTable, IsTableText, table_in}
 use Rattle.lk_locks.specs.declared.body.Body.{Body}
 use Rattle.lk_locks.specs.declared.body.Body.TheVariants.{Acquire, Release, Ask, Check, Share, Break}
 use Rattle.lk_locks.specs.declared.slot.Holders.{Holders}
@@ -248,7 +248,7 @@ pub raised_is_table : (t : Table) → IsTable t → IsTable (raised t)
 raised_is_table t fits = raised_are_names t.raised t.names fits
 
 -- the text after a task, by the text before it
-pub next_is_text : (client : ℕ) (task : Task) (before : List ℕ) → IsClient client → IsText before → IsText (table_meaning.next client task before)
+pub next_is_text : (client : ℕ) (task : Task) (before : List ℕ) → IsClient client → IsTableText before → IsTableText (table_meaning.next client task before)
 next_is_text client (Running body) before is_client t =
     let is = text_is before t in
     (next client body (table_in before), next_is_table client body (table_in before) is_client (subst IsTable (sym is.3) is.1), refl)
@@ -339,7 +339,7 @@ raise_answers true = tt
 raise_answers false = tt
 
 -- what a client is answered, by the text before its task
-pub answer_is_answer : (client : ℕ) (task : Task) (before : List ℕ) → IsClient client → IsText before → IsAnswer (table_meaning.answer client task before)
+pub answer_is_answer : (client : ℕ) (task : Task) (before : List ℕ) → IsClient client → IsTableText before → IsAnswer (table_meaning.answer client task before)
 answer_is_answer client (Running body) before is_client t =
     let is = text_is before t in
     let now : Table = table_in before in

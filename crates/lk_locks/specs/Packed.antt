@@ -66,8 +66,8 @@ packed_table (false, es) = entries false es
 packed_table (true, es) = two raised_mark ++ entries true es
 
 -- the names stand in rising order
-unfoldable pub text : Table → List ℕ
-text t = packed_table (t.raised, map.entries t.names)
+unfoldable pub table_text : Table → List ℕ
+table_text t = packed_table (t.raised, map.entries t.names)
 
 -- ---- which tables there are
 
@@ -89,8 +89,8 @@ abbrev pub IsTable : Table → Type 0
 IsTable t = AreNames t.raised t.names
 
 -- the bytes are the text of a table
-abbrev pub IsText : List ℕ → Type 0
-IsText bytes = (t : Table) × IsTable t × (bytes ≡ text t)
+abbrev pub IsTableText : List ℕ → Type 0
+IsTableText bytes = (t : Table) × IsTable t × (bytes ≡ table_text t)
 
 -- ---- the same, from the bytes to the table
 

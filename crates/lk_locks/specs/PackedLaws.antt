@@ -21,7 +21,7 @@ use Rattle.lk_locks.specs.Bodies.{lock_name, read_name}
 use Rattle.lk_locks.specs.Holders.{IsHolders, is_kept}
 use Rattle.lk_locks.specs.Sharers.{AreSharers, are_clients_above}
 use Rattle.lk_locks.specs.Plain.{Names, Table, empty}
-use Rattle.lk_locks.specs.Packed.{Entry, holder_number, mode, sharers, in_mode, holders, slot, entry, entries, raised_mark, packed_table, text, IsSlotIn, IsTableEntry, AreNames, IsTable, IsText, holder_of, read_holder, read_sharers, holders_of, read_holders, read_slot, read_entry, read_size, rise, read_entries, read_by, read_table, table_of_entries, table_in}
+use Rattle.lk_locks.specs.Packed.{Entry, holder_number, mode, sharers, in_mode, holders, slot, entry, entries, raised_mark, packed_table, table_text, IsSlotIn, IsTableEntry, AreNames, IsTable, IsTableText, holder_of, read_holder, read_sharers, holders_of, read_holders, read_slot, read_entry, read_size, rise, read_entries, read_by, read_table, table_of_entries, table_in}
 use Rattle.lk_locks.specs.declared.slot.Holders.{Holders}
 use Rattle.lk_locks.specs.declared.slot.Holders.TheVariants.{Nobody, Alone, Together}
 use Rattle.lk_locks.specs.declared.slot.Slot.{Slot}
@@ -184,34 +184,34 @@ are_entries raised m fits = ((subst (λ (n : ℕ). n ≤ 512) (map.len-entries m
 abbrev pub parts_of : Table → Versioned
 parts_of t = (t.raised, map.entries t.names)
 
-pub entries_again : (t : Table) → IsTable t → whole read_table (text t) ≡ Some (parts_of t)
-unfolding text
+pub entries_again : (t : Table) → IsTable t → whole read_table (table_text t) ≡ Some (parts_of t)
+unfolding table_text
 entries_again t fits = whole_again read_table packed_table Fits table_reads (parts_of t) (are_entries t.raised t.names fits)
 
 same_again : (m : Names) → map.from_sorted (map.entries m) ≡ m
 same_again m = map.same_entries_map (map.from_sorted (map.entries m)) m (map.entries-from_sorted (slice_cmp nat_cmp) (map.entries m) (map.entries_sorted m))
 
-pub again : (t : Table) → IsTable t → table_in (text t) ≡ t
+pub again : (t : Table) → IsTable t → table_in (table_text t) ≡ t
 unfolding table_in
 again t fits = ap table_of_entries (entries_again t fits) ∙ ap (λ (m : Names). let x : Table = record { raised = t.raised; names = m } in x) (same_again t.names)
 
 -- the table of some bytes that were read
-pub takes : (bytes : List ℕ) (v : Versioned) → IsBytes bytes → whole read_table bytes ≡ Some v → let t : Table = record { raised = v.0; names = map.from_sorted v.1 } in IsTable t × (bytes ≡ text t)
-unfolding AreNames text
+pub takes : (bytes : List ℕ) (v : Versioned) → IsBytes bytes → whole read_table bytes ≡ Some v → let t : Table = record { raised = v.0; names = map.from_sorted v.1 } in IsTable t × (bytes ≡ table_text t)
+unfolding AreNames table_text
 takes bytes v h e =
     let t = whole_takes read_table packed_table Fits table_reads bytes v h e in
     let same : map.entries (map.from_sorted v.1) ≡ v.1 = map.entries-from_sorted (slice_cmp nat_cmp) v.1 (of_true _ t.0.1) in
     let len : map.len (map.from_sorted v.1) ≡ length v.1 = map.len-entries (map.from_sorted v.1) ∙ ap length same in
     ((subst (λ (n : ℕ). n ≤ 512) (sym len) t.0.0.0, subst (AllByRecursion (IsTableEntry v.0)) (sym same) t.0.0.1), t.1 ∙ ap (λ (es : List Entry). packed_table (v.0, es)) (sym same))
 
-pub unpacked : (bytes : List ℕ) (t : Table) → IsBytes bytes → whole read_table bytes ≡ Some (parts_of t) → IsTable t × (text t ≡ bytes)
+pub unpacked : (bytes : List ℕ) (t : Table) → IsBytes bytes → whole read_table bytes ≡ Some (parts_of t) → IsTable t × (table_text t ≡ bytes)
 unpacked bytes t h e =
     let k = takes bytes (parts_of t) h e in
     let is : ◌≡◌ {A = Table} (record { raised = t.raised; names = map.from_sorted (map.entries t.names) }) t = ap (λ (m : Names). let x : Table = record { raised = t.raised; names = m } in x) (same_again t.names) in
-    (subst IsTable is k.0, ap text (sym is) ∙ sym k.1)
+    (subst IsTable is k.0, ap table_text (sym is) ∙ sym k.1)
 
 -- what is read of a text
-pub text_is : (bytes : List ℕ) → IsText bytes → (t : Table) × IsTable t × (whole read_table bytes ≡ Some (parts_of t)) × (table_in bytes ≡ t)
+pub text_is : (bytes : List ℕ) → IsTableText bytes → (t : Table) × IsTable t × (whole read_table bytes ≡ Some (parts_of t)) × (table_in bytes ≡ t)
 text_is bytes t = (t.0, t.1, ap (whole read_table) t.2 ∙ entries_again t.0 t.1, ap table_in t.2 ∙ again t.0 t.1)
 
 -- ---- how long a text is
@@ -256,14 +256,14 @@ packed_length : (raised : Bool) (es : List Entry) → length es ≤ 512 → AllB
 packed_length false es few fits = omega (arith, all_length false es few fits)
 packed_length true es few fits = omega (arith, all_length true es few fits, length-append (two raised_mark) (entries true es), two_length raised_mark)
 
-pub short : (bytes : List ℕ) → IsText bytes → length bytes ≤ 30212
-unfolding text AreNames
+pub short : (bytes : List ℕ) → IsTableText bytes → length bytes ≤ 30212
+unfolding table_text AreNames
 short bytes t =
     let es = map.entries t.0.names in
     let some : length es ≤ 512 = subst (λ (n : ℕ). n ≤ 512) (map.len-entries t.0.names) t.1.0 in
     omega (arith, packed_length t.0.raised es some t.1.1, ap length t.2)
 
-pub at_most_36000 : (bytes : List ℕ) → IsText bytes → length bytes ≤ 36000
+pub at_most_36000 : (bytes : List ℕ) → IsTableText bytes → length bytes ≤ 36000
 at_most_36000 bytes t = omega (arith, short bytes t)
 
 -- ---- what keeps a table one
@@ -277,7 +277,7 @@ empty_are_names raised =
     let len : map.len {X = Slot} map.empty ≡ 0 = map.len-empty (slice_cmp nat_cmp) Slot in
     (rw len (omega arith), rw empty_entries tt)
 
-pub empty_is_text : IsText (text empty)
+pub empty_is_text : IsTableText (table_text empty)
 empty_is_text = (empty, empty_are_names false, refl)
 
 module _ (raised : Bool) where

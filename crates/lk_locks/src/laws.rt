@@ -15,7 +15,7 @@ ghost use Rattle.lk_locks.specs.Bodies.{SpellsBody, body_of, name_of};
 ghost use Rattle.lk_locks.specs.Holders.{is_held};
 ghost use Rattle.lk_state.specs.Meanings.{Task};
 ghost use Rattle.lk_locks.specs.Plain.{Table, answer, next};
-ghost use Rattle.lk_locks.specs.Packed.{IsTable, IsText, text, table_in};
+ghost use Rattle.lk_locks.specs.Packed.{IsTable, IsTableText, table_text, table_in};
 ghost use Rattle.lk_locks.specs.Grants.{Call, is_for, fences, fences_in, grants, grants_in, numbers_from};
 ghost use Rattle.lk_locks.specs.Meaning.{table_meaning, task_answer};
 ghost use Rattle.lk_locks.specs.Lists.{table_of};
@@ -38,17 +38,17 @@ pub fn one_body()
 
 /// A table is the one of its text, so no two tables have one text.
 pub fn one_table()
-    ensures { (t : Table) → IsTable t → table_in (text t) ≡ t }
+    ensures { (t : Table) → IsTable t → table_in (table_text t) ≡ t }
 {}
 
 /// The text of a table has at most 30,212 bytes: 4, and for each of 512 names 59.
 pub fn short_texts()
-    ensures { (bytes : List ℕ) → IsText bytes → length bytes ≤ 30212 }
+    ensures { (bytes : List ℕ) → IsTableText bytes → length bytes ≤ 30212 }
 {}
 
 /// The text that the table has as a machine, once a list was run, is that of the plain table after the list.
 pub fn texts_are_of_tables()
-    ensures { (L : List Command) → AllByRecursion IsCommand L → text_of table_meaning L ≡ text (table_of L) }
+    ensures { (L : List Command) → AllByRecursion IsCommand L → text_of table_meaning L ≡ table_text (table_of L) }
 {}
 
 /// What the machine answers after a list is what the plain table after the list answers.

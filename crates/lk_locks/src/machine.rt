@@ -78,7 +78,7 @@ impl Machine for LockTable {
     ghost use Rattle.std.specs.Prelude.{ℕ};
     ghost use Rattle.lk_locks.specs.Bodies.{body_of, known};
     ghost use Rattle.lk_locks.specs.Plain.{IsNewName};
-    ghost use Rattle.lk_locks.specs.Packed.{text as table_text, IsText as IsTableText};
+    ghost use Rattle.lk_locks.specs.Packed.{table_text, IsTableText};
     ghost use Rattle.lk_locks.specs.Meaning.{table_meaning};
     ghost use Rattle.lk_state.specs.Meanings.{Running};
     ghost use Rattle.lk_locks.specs.PackedLaws.{empty_is_text, at_most_36000};

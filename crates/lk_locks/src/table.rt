@@ -6,7 +6,7 @@ ghost use Rattle.lk_types.specs.Limits.{max_names};
 ghost use Rattle.lk_locks.specs.Bodies.{body_of, is_known, known};
 ghost use Rattle.lk_locks.specs.Holders.{is_kept};
 ghost use Rattle.lk_locks.specs.Held.{held_in};
-ghost use Rattle.lk_locks.specs.Packed.{IsTable, rise, entries, text};
+ghost use Rattle.lk_locks.specs.Packed.{IsTable, rise, entries, table_text};
 ghost use Rattle.lk_locks.specs.declared.slot.Slot.{Slot};
 ghost use Rattle.lk_fields.specs.Fronts.{Keeps};
 ghost use Rattle.lk_locks.specs.Plain.{row_in, next_by, answer, next, raise_answer, raised, IsNewName};
@@ -145,7 +145,7 @@ impl LockTable {
     /// Writes the packed text. Where memory is refused, a beginning of it may stand after what stood.
     #[tactic(auto, using(lk_fields::proofs::Spellings::keeps_same, lk_fields::proofs::Spellings::keeps_behind))]
     pub(crate) fn put(&self, out: &mut BytesMut) -> Result<(), AllocError>
-        ensures ok { OnOk result (out.new.items ≡ out.old.items ++ text self.now) }
+        ensures ok { OnOk result (out.new.items ≡ out.old.items ++ table_text self.now) }
         ensures err { OnErr result (Keeps out.old.items out.new.items) }
     {
         if self.raised {

@@ -14,7 +14,7 @@ use Rattle.lk_sim.specs.Orders.{IsEffectiveAt, InOrder}
 use Rattle.std.specs.Prelude.{Result, Ok, Err, OnOk, IfErr}
 use Rattle.lk_disk.specs.Meters.{trapped}
 use Rattle.lk_log.specs.StoreValue.{device_of}
-use Rattle.lk_locks.specs.Packed.{IsText}
+use Rattle.lk_locks.specs.Packed.{IsTableText}
 use Rattle.lk_replica.specs.Behaviours.{Behaviour, disks_by}
 use Rattle.lk_replica.specs.Compacted.{CompactsTo}
 use Rattle.lk_replica.specs.ReplicaValue.{ReplicaValue}
@@ -91,8 +91,8 @@ abbrev pub locks_behave : Behaviour ReplicaValue
 locks_behave = record {
   memory = λ r. device_of r.store;
   with_trap = λ t r. record r { store = record r.store { meter = trapped t r.store.meter } };
-  Takes = λ old bytes new came. ComesTo table_meaning IsText old bytes new came;
-  Revives = λ device whose came. RevivesTo table_meaning IsText device whose came;
+  Takes = λ old bytes new came. ComesTo table_meaning IsTableText old bytes new came;
+  Revives = λ device whose came. RevivesTo table_meaning IsTableText device whose came;
   Compacts = λ old new came. CompactsTo table_meaning old new came;
 }
 

@@ -17,9 +17,9 @@ use Rattle.lk_state.specs.declared.session.Session.{Session}
 use Rattle.lk_state.specs.States.{WholeValue, whole_after, SumsUp, last_served, sessions_of, text_of}
 use Rattle.lk_state.proofs.Wholes.{last_is_replied, last_is_greatest, none_is_unused, sessions_are_last, last_served-session_of}
 use Rattle.lk_locks.specs.Meaning.{table_meaning}
-use Rattle.lk_locks.specs.Packed.{text}
+use Rattle.lk_locks.specs.Packed.{table_text}
 use Rattle.lk_locks.proofs.Tables.{text_of-text}
-use Rattle.lk_node.specs.Served.{text as packed_text, BearsOutPart}
+use Rattle.lk_node.specs.Served.{text, BearsOutPart}
 use Rattle.lk_replica.specs.ReplicaValue.{ReplicaValue}
 use Rattle.lk_promise.specs.Plain.{Kept, IsKeptOf, IsSnapshot}
 use Rattle.lk_promise.specs.Promise.{HasExecuted, IsPart}
@@ -122,7 +122,7 @@ is_kept genesis L w fit sums =
           let k = client_kept genesis L q (last_served table_meaning genesis L q.client) refl used in
           (k.0, subst (λ (l : List Session). Contains l k.0) (sym sessions) k.1, k.2);
       rise = subst Rise (sym sessions) (sessions_rise table_meaning genesis L);
-      locks = text_of_whole genesis L w sums ∙ text_of-text L fit ∙ ap text now.locks;
+      locks = text_of_whole genesis L w sums ∙ text_of-text L fit ∙ ap table_text now.locks;
     }
 
 pub has_executed : (genesis : Genesis) (sent : List Datagram) (r : ReplicaValue) (L : List Command) → Chosen genesis sent L → SumsUp table_meaning genesis L r.node.learner.whole → HasExecuted genesis sent r
@@ -130,7 +130,7 @@ has_executed genesis sent r L chosen sums = (L, is_chosen genesis sent L chosen,
 
 -- ---- snapshots
 
-pub is_snapshot : (genesis : Genesis) (L : List Command) → AllByRecursion IsCommand L → IsSnapshot genesis L (packed_text table_meaning genesis L)
+pub is_snapshot : (genesis : Genesis) (L : List Command) → AllByRecursion IsCommand L → IsSnapshot genesis L (text table_meaning genesis L)
 is_snapshot genesis L fit = let w = whole_after table_meaning genesis L in (kept_in w, is_kept genesis L w fit refl, refl)
 
 pub all_taken : (n : ℕ) (L : List Command) → AllByRecursion IsCommand L → AllByRecursion IsCommand (take n L)
@@ -141,7 +141,7 @@ all_taken (suc n) (c ∷ L) all = (all.0, all_taken n L all.1)
 pub is_part : (genesis : Genesis) (L : List Command) (p : PartValue) → AllByRecursion IsCommand L → BearsOutPart table_meaning genesis L p → IsPart genesis L p
 is_part genesis L p fit b = record {
   reached = b.reaches;
-  snapshot = packed_text table_meaning genesis (take p.position L);
+  snapshot = text table_meaning genesis (take p.position L);
   is_snapshot = is_snapshot genesis (take p.position L) (all_taken p.position L fit);
   total = b.total;
   piece = b.slice;

@@ -17,7 +17,7 @@ use Rattle.lk_types.specs.declared.member.Member.{Member}
 use Rattle.lk_fields.specs.Fields as field
 use Rattle.lk_state.specs.declared.session.Session.{Session}
 use Rattle.lk_locks.specs.Bodies.{body_of}
-use Rattle.lk_locks.specs.Packed.{text as table_text}
+use Rattle.lk_locks.specs.Packed.{table_text}
 use Rattle.lk_locks.specs.Plain.{Table as TableValue}
 use Rattle.lk_locks.specs.declared.body.Body.{Body}
 use Rattle.lk_locks.specs.declared.body.Body.TheVariants.{Acquire, Release, Ask, Check, Share, Break}
