@@ -1,4 +1,4 @@
-use Rattle.std.proofs.Common.{◌≡◌, ℕ, List, subst}
+use Rattle.std.proofs.Common.{◌≡◌, ℕ, List, subst, rules}
 use Rattle.std.specs.Prelude.{IfErr}
 use Rattle.lk_sim.specs.Events.{IsNotInjected}
 use Rattle.lk_sim.specs.Worlds.{scene_of}
@@ -16,3 +16,9 @@ returns-in-Inject-clause-err g c =
     rw c.in-Inject.is
     (if_err _ _ c.inject.result (λ e k. injected_refused g.R.MemoryReplica.behaves (scene_of p) (scene_of c.inject.new.parts) n c.in-Inject.bytes e k)
     (subst (λ (l : List ℕ). IfErr c.inject.result (λ e. IsNotInjected g.R.MemoryReplica.behaves (scene_of p) n l e (scene_of c.inject.new.parts))) same c.inject.ensures.err))
+
+pub returns-in-Tick-clause-ok : goal.returns-in-Tick-clause-ok
+returns-in-Tick-clause-ok g c = search rules
+
+pub returns-in-Compact-clause-ok : goal.returns-in-Compact-clause-ok
+returns-in-Compact-clause-ok g c = search rules

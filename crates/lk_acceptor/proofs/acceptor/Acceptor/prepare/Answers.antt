@@ -1,4 +1,4 @@
-use Rattle.std.proofs.Common.{◌≤◌, List, IsTrue, refl, sym, subst, ◌∙◌, ap, arith}
+use Rattle.std.proofs.Common.{◌≤◌, List, IsTrue, refl, sym, subst, ◌∙◌, ap, arith, rules}
 use Rattle.lk_types.specs.declared.vote.Vote.{Vote}
 use Rattle.lk_wire.specs.Values.{are_votes_from}
 use Rattle.lk_acceptor.specs.AcceptorValue.{AcceptorValue}
@@ -17,3 +17,6 @@ unwrap-promise-requires c =
     let votes = c.in_ok-votes.ensures.ok ∙ ap (votes_from c.args.first) all in
     c.of.ensures.some.1 (subst (λ (l : List Vote). IsTrue (are_votes_from c.args.first l)) (sym votes)
     (from_fits now.state.snapshot_position c.args.first now.alpha now.state.votes (omega (arith, grants.above)) alpha kept.rising grants.near))
+
+pub returns-then-not-grants_prepare-clause-answer : goal.returns-then-not-grants_prepare-clause-answer
+returns-then-not-grants_prepare-clause-answer c = search rules

@@ -1,4 +1,4 @@
-use Rattle.std.proofs.Common.{List, Contains, ◌<◌, sym, subst, ◌∙◌, ap}
+use Rattle.std.proofs.Common.{List, Contains, ◌<◌, sym, subst, ◌∙◌, ap, rules}
 use Rattle.std.specs.List.{AllByRecursion}
 use Rattle.lk_types.specs.Votes.{IsVote}
 use Rattle.lk_types.specs.declared.vote.Vote.{Vote}
@@ -29,3 +29,6 @@ invariant_of-self-2 c =
       subst IsOrdered (λ i. record { promised = sym c.get-self-inside.ensures.value i; votes = votes i; snapshot_position = c.self.inside.snapshot_position })
           (vote_kept state c.args.vote.now most above c.self.invariant.2),
     )
+
+pub returns-clause-entry : goal.returns-clause-entry
+returns-clause-entry c = search rules

@@ -12,3 +12,6 @@ returns-clause-some c =
       λ is e. omega (arith, some, ap length left, ap length e),
       λ h. c.of.ensures.some.1 (subst (λ (cs : List ℕ). are_clients_above 0 cs ≡ true) (sym left) (without-fits c.args.client c.args.self.now c.as_slice-other-items.ensures.fits h).3),
     )
+
+pub loop-other-preserved : goal.loop-other-preserved
+loop-other-preserved c = grind (arith, common_steps)

@@ -1,5 +1,5 @@
 -- What a row writes may stand.
-use Rattle.std.proofs.Common.{◌≡◌, ◌∙◌, ℕ, Option, Some, ap, subst, sym}
+use Rattle.std.proofs.Common.{◌≡◌, ◌∙◌, ℕ, Option, Some, ap, subst, sym, rules}
 use Rattle.std.specs.FinMap as map
 use Rattle.lk_locks.specs.Bodies.{name_of}
 use Rattle.lk_locks.specs.NextLaws.{MayStand, row_in_may}
@@ -29,3 +29,6 @@ set-requires-clause-room c =
     let change : (row_in c.args.client body t.names).change ≡ Some c.in-Some.slot = ap (λ (r : Row). r.change) (sym is) ∙ c.in-Some.is in
     let may = subst (MayStand t.raised (map.get t.names (name_of body)) (map.len t.names)) change (row_in_may t.raised c.args.client body t.names c.requires c.get.ensures.in_range c.facts.ensures) in
     λ none. may.1 (ap (map.get t.names) (sym (c.copy.ensures ∙ c.name-name.ensures)) ∙ none)
+
+pub returns-clause-ok : goal.returns-clause-ok
+returns-clause-ok c = search rules

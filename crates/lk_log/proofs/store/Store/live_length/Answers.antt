@@ -1,4 +1,4 @@
-use Rattle.std.proofs.Common.{subst}
+use Rattle.std.proofs.Common.{subst, rules}
 use Rattle.lk_disk.specs.Meters.{Passes, start}
 use Rattle.lk_disk.proofs.Devices.{read_passes, read_breaks}
 use Rattle.lk_log.specs.Causes.{IsMetered}
@@ -18,3 +18,6 @@ returns-in_err-length-clause-metered g c metered =
 pub returns-clause-metered : goal.returns-clause-metered
 returns-clause-metered g c metered =
     subst (λ (s : StoreValue). Passes s.meter (g.D.LogDisk.meter c.length.new.self) 0) c.self.view_is (read_passes _ _ (c.in_ok-length.ensures.metered metered))
+
+pub returns-clause-value : goal.returns-clause-value
+returns-clause-value g c = search rules

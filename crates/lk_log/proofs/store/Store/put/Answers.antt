@@ -1,3 +1,4 @@
+use Rattle.std.proofs.Common.{rules}
 use Rattle.lk_entries.specs.Entries.{plain}
 use Rattle.lk_log.proofs.Steps.{keeps_at}
 use Rattle.lk_log.proofs.store.Store.put.Goals as goal
@@ -9,3 +10,6 @@ returns-then-self-clause-any g c honest ks ls holds = keeps_at c.args.self.now.l
 
 pub returns-then-self-clause-metered : goal.returns-then-self-clause-metered
 returns-then-self-clause-metered g c metered = (0, start)
+
+pub returns-in_err-add-clause-failing : goal.returns-in_err-add-clause-failing
+returns-in_err-add-clause-failing g c = search rules

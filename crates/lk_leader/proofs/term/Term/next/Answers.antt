@@ -1,0 +1,9 @@
+-- One tactic for each goal that a wrong body breaks.
+use Rattle.std.proofs.Common.{rules}
+use Rattle.lk_leader.proofs.term.Term.next.Goals as goal
+
+pub returns-then-not-is_promised : goal.returns-then-not-is_promised
+returns-then-not-is_promised c = search rules
+
+pub returns : goal.returns
+returns c = search rules

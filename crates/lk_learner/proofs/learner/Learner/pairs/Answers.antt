@@ -1,0 +1,6 @@
+-- One tactic for each goal that a wrong body breaks.
+use Rattle.std.proofs.Common.{rules}
+use Rattle.lk_learner.proofs.learner.Learner.pairs.Goals as goal
+
+pub returns : goal.returns
+returns g c = search rules

@@ -1,0 +1,6 @@
+-- One tactic for each goal that a wrong body breaks.
+use Rattle.std.proofs.Common.{rules}
+use Rattle.lk_replica.proofs.replica.Replica.trap.Goals as goal
+
+pub returns-clause-failed : goal.returns-clause-failed
+returns-clause-failed g c = search rules

@@ -1,0 +1,6 @@
+-- One tactic for each goal that a wrong body breaks.
+use Rattle.std.proofs.Common.{rules}
+use Rattle.lk_server.proofs.post.SocketPost.carry.Goals as goal
+
+pub returns-in-Err-clause-cause : goal.returns-in-Err-clause-cause
+returns-in-Err-clause-cause g c = search rules
