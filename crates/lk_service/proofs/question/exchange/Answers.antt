@@ -1,8 +1,19 @@
-use Rattle.std.proofs.Common.{◌≡◌, ◌∙◌, arith, sym}
+use Rattle.std.proofs.Common.{◌≡◌, ◌∙◌, [], arith, refl, sym}
 use Rattle.lk_service.specs.Questions.{followed_to}
 use Rattle.lk_service.proofs.Receiving.{receives_more, receives_told, receives_none}
 use Rattle.lk_service.proofs.Sending.{sends_further}
 use Rattle.lk_service.proofs.question.exchange.Goals as goal
+
+pub receives-init : goal.receives-init
+receives-init g c = (
+  omega arith,
+  λ tells. (
+    [],
+    refl,
+    (g.S.Datagrams.sent c.send.new.socket, g.S.Datagrams.failures c.send.new.socket, rw c.deref.ensures at (c.send.ensures tells), (refl, refl)),
+  ),
+  λ tells. record { states = []; are = refl; chain = refl },
+)
 
 pub receives-preserved : goal.receives-preserved
 receives-preserved g c = (
