@@ -34,7 +34,7 @@ use Rattle.lk_locks.specs.Lists.{table_after, table_of}
 use Rattle.lk_locks.specs.Grants.{Call, is_for, asks_for, fences, fences_from, once_behind, grants, call_of, calls_of, fences_in, numbers_from}
 
 -- the last fence of a name
-abbrev last_fence : Option Slot → ℕ
+abbrev pub last_fence : Option Slot → ℕ
 last_fence None = 0
 last_fence (Some s) = s.fence
 
@@ -44,7 +44,7 @@ after s None = s
 after s (Some t) = Some t
 
 -- nothing is given and the last fence stays, or the next one is given, or the last one is told to one more who shares it
-abbrev Goes : ℕ → ℕ → List ℕ → Type 0
+abbrev pub Goes : ℕ → ℕ → List ℕ → Type 0
 Goes old new told = ((told ≡ []) × (new ≡ old)) ⊎ (((told ≡ (old + 1) ∷ []) × (new ≡ old + 1)) ⊎ ((told ≡ old ∷ []) × (new ≡ old)))
 
 stays : (n : ℕ) (told : List ℕ) → told ≡ [] → Goes n n told
@@ -114,7 +114,7 @@ break_goes fence (Some s) =
       | inr h ↦ rw h (stays s.fence [] refl)
     ]
 
-ask_goes : (s : Option Slot) → fences (asked s) ≡ []
+pub ask_goes : (s : Option Slot) → fences (asked s) ≡ []
 ask_goes None = refl
 ask_goes (Some s) = by s.fence s.holders
   where
@@ -123,7 +123,7 @@ ask_goes (Some s) = by s.fence s.holders
     by fence (Alone holder) = refl
     by fence (Together clients) = refl
 
-check_goes : (fence : ℕ) (s : Option Slot) → fences (checked fence s) ≡ []
+pub check_goes : (fence : ℕ) (s : Option Slot) → fences (checked fence s) ≡ []
 check_goes fence s = elim (is_held_at fence s) as (λ b. fences (cond b Valid Stale) ≡ []) [ true ↦ refl | false ↦ refl ]
 
 row_goes : (client : ℕ) (body : Body) (s : Option Slot) (names : ℕ) → RowGoes s (row client body s names)
@@ -177,7 +177,7 @@ known_goes q raised_now client (Some body) m = elim (decided (is_known raised_no
     nothing true = refl
     nothing false = refl
 
-task_goes : (client : ℕ) (task : Task) (t : Table) (q : List ℕ) → Goes (last_fence (map.get t.names q)) (last_fence (map.get (next_by_task client task t).names q)) (cond (asks_for q task) (fences (task_answer client task t)) [])
+pub task_goes : (client : ℕ) (task : Task) (t : Table) (q : List ℕ) → Goes (last_fence (map.get t.names q)) (last_fence (map.get (next_by_task client task t).names q)) (cond (asks_for q task) (fences (task_answer client task t)) [])
 task_goes client (Running bytes) t q = known_goes q t.raised client (body_of bytes) t.names
 task_goes client Raising t q = stays _ _ refl
 
@@ -212,7 +212,7 @@ is_for_its_name name body = (to, λ e. subst (λ (n : List ℕ). eq_by_cmp (slic
     to e = elim (same_or_not name (name_of body)) [ inl same ↦ sym same.1 | inr other ↦ let no = other in absurd cc ]
 
 -- the table after some calls
-abbrev behind : Table → List Call → Table
+abbrev pub behind : Table → List Call → Table
 behind t [] = t
 behind t (call ∷ calls) = behind (next_by_task call.0 call.1 t) calls
 
@@ -223,7 +223,7 @@ fences_from-append q t (call ∷ calls) more =
     ap (λ (l : List ℕ). here ++ l) (fences_from-append q (next_by_task call.0 call.1 t) calls more)
     ∙ sym (append_assoc here (fences_from q (next_by_task call.0 call.1 t) calls) (fences_from q (behind (next_by_task call.0 call.1 t) calls) more))
 
-behind_calls : (rs : List RequestValue) (t : Table) → fold (λ (t : Table) (r : RequestValue). table_after r.client r.op t) t rs ≡ behind t (flat_map (λ (r : RequestValue). call_of r r.op) rs)
+pub behind_calls : (rs : List RequestValue) (t : Table) → fold (λ (t : Table) (r : RequestValue). table_after r.client r.op t) t rs ≡ behind t (flat_map (λ (r : RequestValue). call_of r r.op) rs)
 behind_calls [] t = refl
 behind_calls (r ∷ rs) t = rw (flat_map-cons (λ (r : RequestValue). call_of r r.op) r rs) (by_op r.op (behind_calls rs))
   where

@@ -1,6 +1,7 @@
 mod Maps
 mod BodyLaws
 mod GrantLaws
+mod NextFences
 mod TableLaws
 mod ListLaws
 pub mod Tables

@@ -1,8 +1,8 @@
 //! Laws of the definitions alone.
-ghost use Rattle.std.specs.Prelude.{◌≡◌, ◌≤◌, ◌↔◌, ◌⊎◌, ◌∷◌, ◌++◌, List, [], ℕ, Some, length, true, IsTrue};
+ghost use Rattle.std.specs.Prelude.{◌≡◌, ◌≤◌, ◌+◌, ◌↔◌, ◌⊎◌, ◌∷◌, ◌++◌, List, [], ℕ, Some, length, true, IsTrue};
 ghost use Rattle.std.specs.List.{AllByRecursion};
 ghost use Rattle.std.specs.FinMap as map;
-ghost use Rattle.lk_types.specs.declared.answer.Answer.TheVariants.{Valid, Stale};
+ghost use Rattle.lk_types.specs.declared.answer.Answer.TheVariants.{Granted, Valid, Stale};
 ghost use Rattle.lk_types.specs.declared.command.Op.TheVariants.{Table as TableOp};
 ghost use Rattle.lk_types.specs.Commands.{IsCommand};
 ghost use Rattle.lk_members.specs.Effects.{Command, RequestValue, Request, in_effect};
@@ -12,6 +12,7 @@ ghost use Rattle.lk_locks.specs.declared.body.Body.TheVariants.{Check, Break};
 ghost use Rattle.lk_locks.specs.declared.slot.Holders.{Holders};
 ghost use Rattle.lk_locks.specs.declared.slot.Holders.TheVariants.{Nobody};
 ghost use Rattle.lk_locks.specs.Bodies.{SpellsBody, body_of, name_of};
+ghost use Rattle.lk_locks.specs.Held.{IsFree};
 ghost use Rattle.lk_locks.specs.Holders.{is_held};
 ghost use Rattle.lk_state.specs.Meanings.{Task};
 ghost use Rattle.lk_locks.specs.Plain.{Table, answer, next};
@@ -24,6 +25,17 @@ ghost use Rattle.lk_locks.specs.Lists.{table_of};
 /// with those who do takes no new one.
 pub fn fences_count_up()
     ensures { (name : List ℕ) (L : List Command) → grants_in name L ≡ numbers_from 1 (length (grants_in name L)) }
+{}
+
+/// After any list of commands, a name that nobody holds is given at the fence after all at which it was given before, alone or to share: so no
+/// fence is given twice.
+pub fn a_free_name_is_given_at_the_next_fence()
+    ensures { (client : ℕ) (bytes : List ℕ) (body : Body) (fence : ℕ) (L : List Command) → body_of bytes ≡ Some body → IsFree (map.get (table_of L).names (name_of body)) → fences (answer client bytes (table_of L)) ≡ fence ∷ [] → fence ≡ length (grants_in (name_of body) L) + 1 }
+{}
+
+/// A name is granted to one client alone only where nobody holds it.
+pub fn a_name_is_granted_where_nobody_holds_it()
+    ensures { (client : ℕ) (bytes : List ℕ) (body : Body) (fence : ℕ) (t : Table) → body_of bytes ≡ Some body → answer client bytes t ≡ Granted fence → IsFree (map.get t.names (name_of body)) }
 {}
 
 /// Over any calls of clients, the fences at which a name is given are 1, 2, 3 and so on.
