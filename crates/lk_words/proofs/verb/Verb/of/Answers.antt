@@ -34,5 +34,5 @@ none_of word v (Some x) Hit within none same = cc
 pub returns-clause-none : goal.returns-clause-none
 returns-clause-none c none v same =
     none_of c.args.word.now v c.find.result _
-        (first_from_find {all = all} _ _ c.find.result (λ y. c.args.word.now ≡ word_of y) (λ y. c.args.word.now ≡ word_of y → ⊥) c.find.ensures.ran (YieldsList-from_slice _ cc) (λ x q k. search rules) (λ x q k. search rules))
-        (subst IsNone c.copied.ensures none) same
+    (first_from_find {all = all} _ _ c.find.result (λ y. c.args.word.now ≡ word_of y) (λ y. c.args.word.now ≡ word_of y → ⊥) c.find.ensures.ran (YieldsList-from_slice _ cc) (λ x q k. search rules) (λ x q k. search rules))
+    (subst IsNone c.copied.ensures none) same
