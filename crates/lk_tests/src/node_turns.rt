@@ -74,20 +74,32 @@ pub fn taken_up(alloc: Global, alpha: u8, texts: &[&str]) -> Result<Locks, Fail>
     revived(alloc, device, &header(1, alpha, 3)?)
 }
 
+// The promises of nodes 1 and 2 of the ballot (1, 1), from the first position on.
+const PROMISES: [Heard<'static>; 2] = [
+    Heard::Said(
+        "00000001",
+        "02",
+        "0000000000000001 00000001 0000000000000001 00",
+    ),
+    Heard::Said(
+        "00000002",
+        "02",
+        "0000000000000001 00000001 0000000000000001 00",
+    ),
+];
+
+// The replica begins a ballot at the fourth tick, and hears its promises.
+fn lead(alloc: Global, replica: &mut Locks) -> Result<(), Fail> {
+    if first_loud(alloc, replica, 4)? != Some(4) {
+        return Err("begun")?;
+    }
+    hear_all(alloc, replica, &PROMISES)
+}
+
 /// Node 1's replica in a cluster of three, whose ballot (1, 1) nodes 1 and 2 have promised.
 pub fn led(alloc: Global, alpha: u8) -> Result<Locks, Fail> {
     let mut replica = begun(alloc, 1, alpha, 3)?;
-    let promise = "0000000000000001 00000001 0000000000000001 00";
-    let promises = [
-        Heard::Said("00000001", "02", promise),
-        Heard::Said("00000002", "02", promise),
-    ];
-    if first_loud(alloc, &mut replica, 4)? != Some(4) {
-        return Err("begun")?;
-    }
-    for heard in promises {
-        hear(alloc, &mut replica, heard)?;
-    }
+    lead(alloc, &mut replica)?;
     Ok(replica)
 }
 
@@ -112,6 +124,13 @@ fn hear(alloc: Global, replica: &mut Locks, heard: Heard<'_>) -> Result<Vec<Data
             take(replica, Input::Datagram(&bytes))
         }
     }
+}
+
+fn hear_all(alloc: Global, replica: &mut Locks, heard: &[Heard<'_>]) -> Result<(), Fail> {
+    for one in heard {
+        hear(alloc, replica, *one)?;
+    }
+    Ok(())
 }
 
 fn party(who: For) -> Result<Party, Fail> {

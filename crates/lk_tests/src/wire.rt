@@ -1,7 +1,7 @@
 //! Datagrams by bytes.
 use crate::digits::bytes_of;
 use bytes::BytesMut;
-use lk_wire::{read, write};
+use lk_wire::{Message, read, write};
 use std::alloc::Global;
 use std::test::Fail;
 
@@ -48,12 +48,16 @@ const DATAGRAMS: [Row; 34] = [
 ];
 
 // What the bytes say, and how that is written.
+// The message as text, and its bytes.
+fn written(alloc: Global, message: &Message) -> Result<(String, BytesMut), Fail> {
+    let mut out = BytesMut::new(alloc);
+    write(message, &mut out)?;
+    Ok((format!(in alloc; "{message:?}")?, out))
+}
+
 fn read_again(alloc: Global, bytes: &[u8]) -> Result<(String, BytesMut), Fail> {
     let message = read(alloc, bytes)?;
-    let told = format!(in alloc; "{message:?}")?;
-    let mut out = BytesMut::new(alloc);
-    write(&message, &mut out)?;
-    Ok((told, out))
+    written(alloc, &message)
 }
 
 // Whether the bytes say the text, and are written again.
