@@ -210,7 +210,7 @@ impl<M: Machine, S: Datagrams + Drop> Cluster<M, S> {
             Some(question) => self.ask(alloc, &question)?,
             None => None,
         };
-        write_reply(reply.as_ref(), out).map_err(|_| ServiceFault::Write)
+        write_reply(reply, out).map_err(|_| ServiceFault::Write)
     }
 }
 

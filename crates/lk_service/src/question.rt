@@ -1,8 +1,9 @@
 //! A client that asks once.
 
-ghost use Rattle.std.specs.Prelude.{◌≡◌, ◌≤◌, ◌∷◌, ℕ, List, IfOk, OnOk, IfErr, OnErr, IfSome, length};
+ghost use Rattle.std.specs.Prelude.{◌≡◌, ◌≤◌, ◌∷◌, ℕ, true, List, Some, IfOk, OnOk, IfErr, OnErr, IfSome, IsSomeAnd, length};
 ghost use Rattle.lk_wire.specs.Grammar.{Spells};
 ghost use Rattle.lk_service.specs.Questions.{asking, Hears, SendsOnce, SendsEach, Receives, Exchanges, IsTold};
+ghost use Rattle.lk_service.specs.declared.reply.Reply.{Reply as ReplyValue};
 
 use crate::reply::{Reply, read_reply};
 use bytes::BytesMut;
@@ -139,7 +140,9 @@ pub fn exchange<S: Datagrams>(
 }
 
 /// Writes an answer's text or `passed LAST` in a line. Whether the reply is one of these.
-fn write_told<W: Write>(reply: &Reply, out: &mut W) -> io::Result<bool> {
+fn write_told<W: Write>(reply: &Reply, out: &mut W) -> io::Result<bool>
+    ensures told { IfOk result (λ is_told. is_told ≡ true → IsTold reply.now) }
+{
     match reply {
         Reply::Answer(answer) => writeln!(out, "{answer}")?,
         Reply::Passed(last) => writeln!(out, "passed {}", last.get())?,
@@ -149,9 +152,11 @@ fn write_told<W: Write>(reply: &Reply, out: &mut W) -> io::Result<bool> {
 }
 
 /// Writes what was replied: an answer's text, `passed LAST`, or `no answer`. Whether it was an answer or a Passed.
-pub fn write_reply<W: Write>(reply: Option<&Reply>, out: &mut W) -> io::Result<bool> {
+pub fn write_reply<W: Write>(reply: Option<Reply>, out: &mut W) -> io::Result<bool>
+    ensures told { IfOk result (λ is_told. is_told ≡ true → IsSomeAnd reply IsTold) }
+{
     let is_told = match reply {
-        Some(reply) => write_told(reply, out)?,
+        Some(reply) => write_told(&reply, out)?,
         None => false,
     };
     if !is_told {
@@ -169,13 +174,15 @@ pub fn ask<S: Datagrams, W: Write, E: Write>(
     out: &mut W,
     err: &mut E,
 ) -> u8
-    ensures { result ≤ 1 }
+    ensures status { result ≤ 1 }
+    // Status 0 only where it has asked, and was told what becomes of the request.
+    ensures asked { S.is_telling → result ≡ 0 → (reply : ReplyValue) × Exchanges S.sent S.failures S.next question.now (Some reply) socket.old socket.new }
 {
     let reply = match exchange(alloc, socket, question) {
         Ok(reply) => reply,
         Err(fault) => return fault.tell(err),
     };
-    match (write_reply(reply.as_ref(), out), out.flush()) {
+    match (write_reply(reply, out), out.flush()) {
         (Ok(true), Ok(())) => 0,
         (Ok(false), Ok(())) => 1,
         _ => ServiceFault::Write.tell(err),

@@ -3,10 +3,12 @@
 ghost use Rattle.std.specs.Prelude.{◌≡◌, ◌≤◌, ◌⊎◌, ◌^◌, [], true, false, drop, IfOk, IfErr, OnOk, OnErr};
 ghost use Rattle.lk_members.specs.Ports.{port_in};
 ghost use Rattle.lk_replica.specs.Faults.{fault_number};
+ghost use Rattle.lk_replica.specs.ReplicaValue.{ReplicaValue};
 ghost use Rattle.lk_replica.specs.Revivals.{MayGoOn};
 ghost use Rattle.lk_server.specs.Faults.{replica_fault};
-ghost use Rattle.lk_server.specs.Servers.{HandsOn, TakesOwn};
+ghost use Rattle.lk_server.specs.Servers.{ServerValue, HandsOn, TakesOwn};
 ghost use Rattle.lk_service.specs.Chains.{Repeats};
+ghost use Rattle.lk_service.specs.Revivals.{IsOfRevival};
 ghost use Rattle.lk_service.specs.Turns.{TakesTurn, BreaksOff, Serves};
 
 use crate::causes::{open_socket, tell_device};
@@ -61,7 +63,8 @@ fn take_up<M: Machine, D: LogDisk + Drop, L: Log>(
     Ok(revived.replica)
 }
 
-/// The server of a node that is taken up from a device, and what it executed as it came up.
+/// The server of a node that is taken up from a device. How it came up and what it executed by that is logged.
+#[tactic(auto, using(crate::proofs::Refusals::of_revival))]
 pub fn revive<M: Machine, D: LogDisk + Drop, S: Datagrams + Drop, L: Log>(
     alloc: Global,
     header: &Header,
@@ -77,6 +80,8 @@ pub fn revive<M: Machine, D: LogDisk + Drop, S: Datagrams + Drop, L: Log>(
     ensures alive { IfOk result (λ s. s.failed ≡ false) }
     ensures own { IfOk result (λ s. s.own ≡ []) }
     ensures received { IfOk result (λ s. s.received ≡ 0) }
+    // It is refused for what stands on the device, or for memory.
+    ensures refused { IfErr result IsOfRevival }
 {
     match take_up::<M, D, L>(alloc, header, device, log) {
         Ok(replica) => Ok(Server::new(
@@ -109,7 +114,7 @@ fn tell_refused<E: Write>(
 }
 
 /// The replica that is taken up from the files of a folder. Where a file fails a line tells why.
-#[tactic(auto, using(crate::proofs::Refusals::no_send))]
+#[tactic(auto, using(crate::proofs::Refusals::of_revival))]
 fn take_up_folder<M: Machine, L: Log, E: Write>(
     alloc: Global,
     plan: &NodePlan<'_>,
@@ -118,7 +123,7 @@ fn take_up_folder<M: Machine, L: Log, E: Write>(
     err: &mut E,
 ) -> Result<Replica<M, FolderDisk>, ServiceFault>
     ensures ready { IfOk result (λ r. MayGoOn plan.now.header r) }
-    ensures passes { IfErr result (λ f. f ≡ ServiceFault.Send → ⊥) }
+    ensures refused { IfErr result IsOfRevival }
 {
     match take_up::<M, FolderDisk, L>(alloc, &plan.header, device, log) {
         Ok(replica) => Ok(replica),
@@ -141,7 +146,7 @@ fn revive_folder<M: Machine, L: Log, E: Write>(
     ensures ready { IfOk result (λ s. MayGoOn plan.now.header s.replica) }
     ensures alive { IfOk result (λ s. s.failed ≡ false) }
     ensures own { IfOk result (λ s. s.own ≡ []) }
-    ensures passes { IfErr result (λ f. f ≡ ServiceFault.Send → ⊥) }
+    ensures refused { IfErr result IsOfRevival }
 {
     let replica = take_up_folder::<M, L, E>(alloc, plan, device, log, err)?;
     let header = &plan.header;
@@ -205,6 +210,37 @@ fn take_turns<M: Machine, L: Log, E: Write>(
     Ok(())
 }
 
+/// Takes 2^48 turns with a server that ends then. That it serves, and at which port, is logged.
+fn serve_turns<M: Machine, L: Log, E: Write>(
+    server: FolderServer<M>,
+    plan: &NodePlan<'_>,
+    log: &L,
+    err: &mut E,
+) -> Result<(), ServiceFault>
+    ensures { OnOk result ((ended : ServerValue ReplicaValue) × Repeats (TakesTurn ⟦<Replica<M, FolderDisk> as NodeReplica>⟧.Says) (2 ^ 48) server ended) }
+{
+    let mut server = server;
+    log_port(log, plan.port);
+    take_turns(&mut server, plan.folder, log, err)
+}
+
+/// Serves for 2^48 turns on that socket, from a folder that nobody else serves from.
+fn serve_folder<M: Machine, R: Files<File = File>, L: Log, E: Write>(
+    rt: &R,
+    alloc: Global,
+    plan: &NodePlan<'_>,
+    socket: LocalSocket,
+    log: &L,
+    err: &mut E,
+) -> Result<(), ServiceFault>
+    // At Ok the server of the plan's node, on a replica that can take calls as that node, has taken so many turns.
+    ensures { OnOk result (Serves ⟦<Replica<M, FolderDisk> as NodeReplica>⟧.Says plan.now.header (2 ^ 48)) }
+{
+    let device = open_device(rt, alloc, plan.folder, err)?;
+    let server = revive_folder::<M, L, E>(alloc, plan, device, socket, log, err)?;
+    serve_turns(server, plan, log, err)
+}
+
 /// Serves for 2^48 turns, from a folder that is locked meanwhile.
 fn serve<M: Machine, R: Files<File = File> + Net, L: Log, E: Write>(
     rt: &R,
@@ -213,15 +249,11 @@ fn serve<M: Machine, R: Files<File = File> + Net, L: Log, E: Write>(
     log: &L,
     err: &mut E,
 ) -> Result<(), ServiceFault>
-    // At Ok the server of the plan's node, on a replica that can take calls as that node, has taken so many turns.
     ensures { OnOk result (Serves ⟦<Replica<M, FolderDisk> as NodeReplica>⟧.Says plan.now.header (2 ^ 48)) }
 {
     let socket = open_socket(rt, plan.port.get(), err)?;
     let _lock = FolderLock::take(rt, alloc, plan.folder, err)?;
-    let device = open_device(rt, alloc, plan.folder, err)?;
-    let mut server = revive_folder::<M, L, E>(alloc, plan, device, socket, log, err)?;
-    log_port(log, plan.port);
-    take_turns(&mut server, plan.folder, log, err)
+    serve_folder::<M, R, L, E>(rt, alloc, plan, socket, log, err)
 }
 
 /// The port at which the members have the node, where they do.

@@ -38,3 +38,30 @@ returns-then-not-has_header-clause-room g c honest = within_same 0 (g.D.LogDisk.
 
 pub returns-then-not-has_header-clause-metered : goal.returns-then-not-has_header-clause-metered
 returns-then-not-has_header-clause-metered g c metered honest found = (0, start)
+
+pub returns-in_err-settle-clause-room : goal.returns-in_err-settle-clause-room
+returns-in_err-settle-clause-room g c honest = c.settle.ensures.room honest
+
+pub returns-in_err-settle-clause-cause : goal.returns-in_err-settle-clause-cause
+returns-in_err-settle-clause-cause g c = search rules depth 2
+
+pub returns-in_err-settle-clause-metered : goal.returns-in_err-settle-clause-metered
+returns-in_err-settle-clause-metered g c = search rules depth 2
+
+pub returns-in_err-standing-clause-room : goal.returns-in_err-standing-clause-room
+returns-in_err-standing-clause-room g c honest = c.settle.ensures.room honest
+
+pub returns-in_err-standing-clause-cause : goal.returns-in_err-standing-clause-cause
+returns-in_err-standing-clause-cause g c = search rules depth 2
+
+pub returns-in_err-standing-clause-metered : goal.returns-in_err-standing-clause-metered
+returns-in_err-standing-clause-metered g c = search rules depth 2
+
+pub returns-clause-room : goal.returns-clause-room
+returns-clause-room g c honest = c.settle.ensures.room honest
+
+pub returns-clause-cause : goal.returns-clause-cause
+returns-clause-cause g c = search rules depth 2
+
+pub returns-clause-metered : goal.returns-clause-metered
+returns-clause-metered g c = search rules depth 2

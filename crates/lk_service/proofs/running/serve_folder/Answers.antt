@@ -1,10 +1,10 @@
 use Rattle.std.proofs.lemmas.Result.{on_ok_weaker}
-use Rattle.lk_service.proofs.running.serve.Goals as goal
+use Rattle.lk_service.proofs.running.serve_folder.Goals as goal
 
 pub returns : goal.returns
-returns g c = on_ok_weaker c.take_turns.result (λ turns. record {
+returns g c = on_ok_weaker c.serve_turns.result (λ served. record {
   begun = c.in_ok-server.server;
-  ended = c.take_turns.new.server;
+  ended = served.0;
   ready = record {
     cluster = c.in_ok-server.ensures.cluster;
     node = c.in_ok-server.ensures.node;
@@ -12,5 +12,5 @@ returns g c = on_ok_weaker c.take_turns.result (λ turns. record {
     alive = c.in_ok-server.ensures.alive;
     own = c.in_ok-server.ensures.own;
   };
-  turns = turns;
-}) c.take_turns.ensures.ok
+  turns = served.1;
+}) c.serve_turns.ensures
