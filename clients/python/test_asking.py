@@ -53,6 +53,28 @@ ANSWERS = [
     ("27", "already raised"),
 ]
 
+# What is asked by these words: the op, its length and its body, or a node and a port.
+WORDS = [
+    ("acquire db", "00 04 01 02 6462"),
+    ("acquire a/b.c-9", "00 09 01 07 612f622e632d39"),
+    ("acquire A\r\t\u00ff", "00 07 01 05 410d09c3bf"),
+    ("release db 1", "00 0c 02 02 6462 0000000000000001"),
+    ("release db 0", "00 0c 02 02 6462 0000000000000000"),
+    ("release db 281474976710656", "00 0c 02 02 6462 0001000000000000"),
+    ("ask db", "00 04 03 02 6462"),
+    ("check db 258", "00 0c 04 02 6462 0000000000000102"),
+    ("share db", "00 04 05 02 6462"),
+    ("break db 258", "00 0c 06 02 6462 0000000000000102"),
+    ("raw 00", "00 01 00"),
+    ("raw aBCd", "00 02 abcd"),
+    ("raw 0100", "00 02 0100"),
+    ("raw " + "00" * 64, "00 40" + "00" * 64),
+    ("acquire 123456789012345678901234567890123456789012345678901234", "00 38 01 36" + b"123456789012345678901234567890123456789012345678901234".hex()),
+    ("join 4 7004", "01 00000004 1b5c"),
+    ("leave 4", "02 00000004"),
+    ("raise 2", "03 02"),
+]
+
 
 @unittest.skipUnless(PROGRAM, "LOCKS_PROGRAM does not tell the program")
 class AskingTest(unittest.TestCase):
@@ -82,10 +104,14 @@ class AskingTest(unittest.TestCase):
                 return count
             count += 1
 
+    def started(self, *words):
+        """The program, which asks the first port with these words."""
+        place = ["--cluster", "5", "--port", str(self.first.getsockname()[1]), "--client", "7", "--request", "1"]
+        return subprocess.Popen([PROGRAM, "ask", *place, *words], stdout=subprocess.PIPE, stderr=subprocess.PIPE, text=True)
+
     def asks(self, replies):
         """The status and the output where the first port replies these; and how often each port is asked."""
-        words = ["--cluster", "5", "--port", str(self.first.getsockname()[1]), "--client", "7", "--request", "1", "acquire", "db"]
-        with subprocess.Popen([PROGRAM, "ask", *words], stdout=subprocess.PIPE, stderr=subprocess.PIPE, text=True) as process:
+        with self.started("acquire", "db") as process:
             data, client = self.first.recvfrom(9000)
             self.assertEqual(data.hex(), bytes_of(ASKED).hex())
             for reply in replies:
@@ -103,6 +129,14 @@ class AskingTest(unittest.TestCase):
             with self.subTest(text=text):
                 reply = f"4c4b010a 0000000000000005 00000001 0007 0000000000000001 {answer}"
                 self.assertEqual(self.asks([reply]), ((0, f"{text}\n"), (1, 0)))
+
+    def test_words_ask_for_bytes(self):
+        for words, op in WORDS:
+            with self.subTest(words=words), self.started(*words.split(" ")) as process:
+                data, client = self.first.recvfrom(9000)
+                self.assertEqual(data.hex(), bytes_of("4c4b0109 0000000000000005 00000000 0007 0000000000000001", op).hex())
+                self.first.sendto(bytes_of(GRANTED), client)
+                self.assertEqual(process.communicate(timeout=60), ("granted 1\n", ""))
 
     def test_an_elsewhere_is_followed(self):
         self.assertEqual(self.asks([self.elsewhere(), GRANTED]), ((0, "granted 1\n"), (1, 1)))

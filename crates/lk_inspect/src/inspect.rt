@@ -39,7 +39,21 @@ pub fn inspect_device<D: LogDisk>(
     }
 }
 
-/// Writes what the files of a folder come to, none of which is made. Whether a store stands there.
+/// What the store of a folder comes to, none of whose files is made. Where a file fails a line tells why.
+fn inspection_in<R: Files, E: Write>(
+    rt: &R,
+    alloc: Global,
+    folder: &str,
+    err: &mut E,
+) -> Result<Option<Inspection>, ServiceFault> {
+    let mut device = look_at_device(rt, alloc, folder, err)?;
+    match inspect_device(alloc, &mut device) {
+        Ok(found) => Ok(found),
+        Err(fault) => Err(tell_device(fault, &device, folder, err)),
+    }
+}
+
+/// Writes what the store of a folder comes to. Whether there is one.
 fn inspect_folder<R: Files, W: Write, E: Write>(
     rt: &R,
     alloc: Global,
@@ -47,11 +61,8 @@ fn inspect_folder<R: Files, W: Write, E: Write>(
     out: &mut W,
     err: &mut E,
 ) -> Result<bool, ServiceFault> {
-    let mut device = look_at_device(rt, alloc, folder, err)?;
-    match inspect_device(alloc, &mut device) {
-        Ok(found) => write_found(found.as_ref(), out).map_err(|_| ServiceFault::Write),
-        Err(fault) => Err(tell_device(fault, &device, folder, err)),
-    }
+    let found = inspection_in(rt, alloc, folder, err)?;
+    write_found(found.as_ref(), out).map_err(|_| ServiceFault::Write)
 }
 
 /// Prints what the store of a folder comes to, also while a node serves from it. The status is 0; 1 where no store stands

@@ -21,11 +21,11 @@ enum Kind {
 type Row<'a> = (Kind, &'a str, &'a str);
 
 /// A subcommand: its name, what it does, and its arguments.
-type Subcommand<'a> = (&'a str, &'a str, &'a [Row<'a>]);
+type Usage<'a> = (&'a str, &'a str, &'a [Row<'a>]);
 
 /// The subcommands.
 #[rattlefmt::skip]
-const SUBCOMMANDS: &[Subcommand] = &[
+const SUBCOMMANDS: &[Usage] = &[
     ("sim", "runs a script from standard input", &[]),
     ("fuzz", "runs random events in a world of three nodes", &[
         (Kind::Word, "start", "the number that the events are drawn from"),
@@ -96,7 +96,7 @@ fn alone<'a>(alloc: Global) -> Command<'a> {
 }
 
 /// The program with these subcommands.
-fn with_all<'a>(alloc: Global, rows: &'a [Subcommand<'a>]) -> Result<Command<'a>, AllocError> {
+fn with_all<'a>(alloc: Global, rows: &'a [Usage<'a>]) -> Result<Command<'a>, AllocError> {
     let mut program = alone(alloc);
     for (name, about, arguments) in rows {
         let command = subcommand(alloc, name, about, arguments)?;

@@ -3,6 +3,7 @@
 
 mod commands;
 mod plans;
+mod subcommand;
 mod words;
 
 use std::alloc::Global;
@@ -14,6 +15,29 @@ use std::rt::Env;
 use std::{env, io};
 use words::{run_words, tell_start};
 
+/// The words of the command line as texts. The usage text begins with the first, the program's name, and not with the path of
+/// its file.
+fn texts_of<'a>(alloc: Global, words: &'a [String]) -> io::Result<Vec<&'a str>> {
+    let mut texts = Vec::new(alloc);
+    texts.push("locks")?;
+    for word in words.get(1..).unwrap_or(&[]) {
+        texts.push(word.as_str())?;
+    }
+    Ok(texts)
+}
+
+/// Runs a command line on the program's streams.
+fn run_texts<'a, R: Input + Print + Eprint + Files<File = File> + Net, E: Write>(
+    rt: &R,
+    alloc: Global,
+    texts: &'a [&'a str],
+    err: &mut E,
+) -> io::Result<u8> {
+    let mut reader = BufReader::new(alloc, rt.reader())?;
+    let mut out = BufWriter::new(alloc, io::writer(rt))?;
+    Ok(run_words(rt, alloc, texts, &mut reader, &mut out, err))
+}
+
 /// Runs the command line that the program was given, on its streams. It fails where nothing could be run: memory was
 /// refused, or a word is no text.
 fn run<R: Env + Input + Print + Eprint + Files<File = File> + Net + Alloc<A = Global>, E: Write>(
@@ -22,15 +46,8 @@ fn run<R: Env + Input + Print + Eprint + Files<File = File> + Net + Alloc<A = Gl
 ) -> io::Result<u8> {
     let alloc = rt.alloc();
     let words: Vec<String> = env::args(rt)?.collect(alloc)?;
-    // The usage text begins with the program's name and not with the path of its file.
-    let mut texts = Vec::new(alloc);
-    texts.push("locks")?;
-    for word in words.get(1..).unwrap_or(&[]) {
-        texts.push(word.as_str())?;
-    }
-    let mut reader = BufReader::new(alloc, rt.reader())?;
-    let mut out = BufWriter::new(alloc, io::writer(rt))?;
-    Ok(run_words(rt, alloc, &texts, &mut reader, &mut out, err))
+    let texts = texts_of(alloc, &words)?;
+    run_texts(rt, alloc, &texts, err)
 }
 
 /// Ends with the status of the command line.

@@ -4,6 +4,7 @@ ghost use Rattle.std.specs.Prelude.{◌≤◌};
 
 use crate::commands::program;
 use crate::plans::{ask_plan, fuzz_plan, node_plan};
+use crate::subcommand::Subcommand;
 use clap::error::ErrorKind;
 use clap::{ArgMatches, Error};
 use lk_disk::MemoryDisk;
@@ -45,6 +46,11 @@ fn level_of(matches: &ArgMatches<'_>) -> Option<Level> {
         return Some(Level::Debug);
     }
     matches.get_flag("log").then_some(Level::Info)
+}
+
+/// The folder that was named.
+fn folder_in<'a>(matches: &ArgMatches<'a>) -> &'a str {
+    matches.get_str("dir").unwrap_or("")
 }
 
 /// Runs a node.
@@ -102,6 +108,29 @@ fn fuzz_words<W: Write, E: Write>(
     }
 }
 
+/// Runs a subcommand, given its words.
+fn run_subcommand<H: Files<File = File> + Net + Eprint, R: BufRead, W: Write, E: Write>(
+    rt: &H,
+    alloc: Global,
+    subcommand: Subcommand,
+    matches: &ArgMatches<'_>,
+    reader: &mut R,
+    out: &mut W,
+    err: &mut E,
+) -> u8
+    ensures { result ≤ 2 }
+{
+    match subcommand {
+        Subcommand::Sim => run_to_end::<Nodes, R, W, E>(alloc, reader, out, err),
+        Subcommand::Fuzz => fuzz_words(alloc, matches, out, err),
+        Subcommand::Node => run_node_words(rt, alloc, matches, err),
+        Subcommand::Ask => ask_words(rt, alloc, matches, out, err),
+        Subcommand::Demo => demo::<LockTable, H, W, E>(rt, alloc, out, err),
+        Subcommand::Dump => dump(rt, alloc, folder_in(matches), out, err),
+        Subcommand::Inspect => inspect(rt, alloc, folder_in(matches), out, err),
+    }
+}
+
 /// Runs the subcommand that was named.
 fn run_matches<H: Files<File = File> + Net + Eprint, R: BufRead, W: Write, E: Write>(
     rt: &H,
@@ -113,17 +142,12 @@ fn run_matches<H: Files<File = File> + Net + Eprint, R: BufRead, W: Write, E: Wr
 ) -> u8
     ensures { result ≤ 2 }
 {
-    match matches.subcommand() {
-        Some(("sim", _)) => run_to_end::<Nodes, R, W, E>(alloc, reader, out, err),
-        Some(("fuzz", words)) => fuzz_words(alloc, words, out, err),
-        Some(("node", words)) => run_node_words(rt, alloc, words, err),
-        Some(("ask", words)) => ask_words(rt, alloc, words, out, err),
-        Some(("demo", _)) => demo::<LockTable, H, W, E>(rt, alloc, out, err),
-        Some(("dump", words)) => dump(rt, alloc, words.get_str("dir").unwrap_or(""), out, err),
-        Some(("inspect", words)) => {
-            inspect(rt, alloc, words.get_str("dir").unwrap_or(""), out, err)
-        }
-        _ => 2,
+    let Some((name, words)) = matches.subcommand() else {
+        return 2;
+    };
+    match Subcommand::of(name) {
+        Some(subcommand) => run_subcommand(rt, alloc, subcommand, words, reader, out, err),
+        None => 2,
     }
 }
 

@@ -20,5 +20,3 @@ mod state;
 mod turns;
 #[cfg(test)]
 mod wire;
-#[cfg(test)]
-mod words;
