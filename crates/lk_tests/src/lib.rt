@@ -15,8 +15,6 @@ mod node_turns;
 #[cfg(test)]
 mod parts;
 #[cfg(test)]
-mod state;
-#[cfg(test)]
 mod turns;
 #[cfg(test)]
 mod wire;

@@ -1,45 +1,44 @@
-//! Packed states by bytes, and each limit of theirs.
-use crate::digits::{add_hex, bytes_of};
-use bytes::BytesMut;
-use lk_locks::LockTable;
-use lk_state::{UnpackFault, Whole};
-use std::alloc::Global;
-use std::test::Fail;
+"""Which texts the store takes for a packed state, and which not: LOCKS_PROGRAM=PATH python3 -m unittest discover clients/python"""
+import os
+import subprocess
+import sys
+import tempfile
+import unittest
 
-type State = Whole<LockTable>;
+HERE = os.path.dirname(os.path.abspath(__file__))
+sys.path.insert(0, HERE)
+from by_bytes import bytes_of  # noqa: E402
 
-// The first state of node 1 at port 7001 with alpha 2, and one after a join of node 4 and a leave of node 1.
-const STATES: [&[&str]; 2] = [
-    &[
-        "0000000000000000 02 01 00000001 1b59 01 00000001 1b59 00000001 0000000000000000",
-        "0000 0000",
-    ],
-    &[
-        "0000000000000002 02 04 00000001 1b59 00000002 1b5a 00000003 1b5b 00000004 1b5c",
-        "03 00000002 1b5a 00000003 1b5b 00000004 1b5c 00000004 0000000000000002",
-        "0001 0009 0000000000000002 23 0000",
-    ],
-];
+PROGRAM = os.environ.get("LOCKS_PROGRAM")
 
-// A state of two positions by the parts of its text, as hex where spaces are for reading alone: how many positions are
-// executed, the sets of members, the greatest number ever a member, the last change, the sessions and the names.
-#[rattlefmt::skip]
-const PARTS: [&str; 6] = [
+# The Base of node 1, up to the position of its snapshot, and what stands after the text of it: no vote and no pair.
+HEADER = "01 0000000000000001 02 0000000000000005 00000001 02 01 00000001 1b59 0000000000000000 00000000"
+NONE = "0000 0000"
+
+# The last position.
+LAST = bytes.fromhex("0001000000000000")
+
+# The first state of node 1 at port 7001 with alpha 2, and one after a join of node 4 and a leave of node 1.
+STATES = [
+    "0000000000000000 02 01 00000001 1b59 01 00000001 1b59 00000001 0000000000000000 0000 0000",
+    "0000000000000002 02 04 00000001 1b59 00000002 1b5a 00000003 1b5b 00000004 1b5c"
+    " 03 00000002 1b5a 00000003 1b5b 00000004 1b5c 00000004 0000000000000002 0001 0009 0000000000000002 23 0000",
+]
+
+# A state of two positions by the parts of its text: how many positions are executed, the sets of members, the greatest number ever a
+# member, the last change, the sessions and the names.
+PARTS = [
     "0000000000000002",
     "02 02 00000001 1b59 00000002 1b5a 02 00000002 1b5a 00000003 1b5b",
     "80000000",
     "0000000000000002",
     "0002 0007 0000000000000001 01 0000000000000001 0009 0000000000000002 20",
     "0002 01 61 0000000000000001 0007 02 612e 0000000000000003 0000",
-];
+]
 
-// A rule, the place of a part, what may stand there, and what breaks the rule.
-type Limit<'a> = (&'a str, usize, &'a str, &'a str);
-
-// No rule goes across the parts but the one on the greatest number: a last change above the executed positions may stand, and
-// a holder without a session.
-#[rattlefmt::skip]
-const LIMITS: [Limit; 38] = [
+# A rule, the place of a part, what may stand there, and what breaks the rule. No rule goes across the parts but the one on the greatest
+# number: a last change above the executed positions may stand, and a holder without a session.
+LIMITS = [
     ("executed above 2^48", 0, "0001000000000000", "0001000000000001"),
     ("alpha 0", 1, "01 01 00000001 1b59", "00"),
     ("a set of 0 members", 1, "01 01 00000001 1b59", "01 00"),
@@ -78,68 +77,46 @@ const LIMITS: [Limit; 38] = [
     ("a sharer twice", 5, "ff02 0001 01 61 0000000000000001 02 02 0001 0002", "ff02 0001 01 61 0000000000000001 02 02 0001 0001"),
     ("a byte too few", 5, "0000", "00"),
     ("a byte too many", 5, "0000", "0000 00"),
-];
+]
 
-/// The bytes of all parts, where this one has its place.
-fn text_with(alloc: Global, place: usize, part: &str) -> Result<Vec<u8>, Fail> {
-    let mut bytes = Vec::new(alloc);
-    for (index, stands) in PARTS.iter().enumerate() {
-        let stands = if index == place { part } else { *stands };
-        add_hex(alloc, &mut bytes, stands)?;
-    }
-    Ok(bytes)
-}
 
-fn is_refused(alloc: Global, bytes: &[u8]) -> bool {
-    let state: Result<State, UnpackFault> = Whole::unpack(alloc, bytes);
-    state.err() == Some(UnpackFault::NotPacked)
-}
+def base_of(text):
+    """A file of one Base whose snapshot has this text, at the position up to which the text has executed, or at the last one."""
+    state = bytes_of(text)
+    position = min(state[:8], LAST)
+    body = bytes_of(HEADER) + position + len(state).to_bytes(4, "big") + state + bytes_of(NONE)
+    return len(body).to_bytes(4, "big") + body
 
-/// Whether the bytes are unpacked, and packed again.
-fn is_taken(alloc: Global, bytes: &[u8]) -> bool {
-    let state: Result<State, UnpackFault> = Whole::unpack(alloc, bytes);
-    let Ok(state) = state else {
-        return false;
-    };
-    let mut out = BytesMut::new(alloc);
-    state.pack(&mut out).is_ok() && &out[..] == bytes
-}
 
-/// Whether the good part is taken in its place, and the bad one refused.
-fn is_limit(alloc: Global, place: usize, good: &str, bad: &str) -> Result<bool, Fail> {
-    let taken = text_with(alloc, place, good)?;
-    let refused = text_with(alloc, place, bad)?;
-    Ok(is_taken(alloc, &taken) && is_refused(alloc, &refused))
-}
+def text_with(place, part):
+    """The text of all parts, where this one has its place."""
+    return " ".join(part if index == place else stands for index, stands in enumerate(PARTS))
 
-/// The first rule that is not kept.
-fn broken<'a>(alloc: Global, limits: &[Limit<'a>]) -> Result<Option<&'a str>, Fail> {
-    for (rule, place, good, bad) in limits {
-        if !is_limit(alloc, *place, good, bad)? {
-            return Ok(Some(rule));
-        }
-    }
-    Ok(None)
-}
 
-#[test]
-fn each_limit_is_the_last_that_is_taken(rt: HostRuntime) -> Result<(), Fail> {
-    assert_eq!(rt; broken(rt.alloc(), &LIMITS)?, None);
-    Ok(())
-}
+@unittest.skipUnless(PROGRAM, "LOCKS_PROGRAM does not tell the program")
+class StateTest(unittest.TestCase):
+    def setUp(self):
+        self.folder = self.enterContext(tempfile.TemporaryDirectory())
 
-/// The first of the texts that is not unpacked and packed again.
-fn first_lost(alloc: Global, texts: &[&[&str]]) -> Result<Option<usize>, Fail> {
-    for (at, text) in texts.iter().enumerate() {
-        if !is_taken(alloc, &bytes_of(alloc, text)?) {
-            return Ok(Some(at));
-        }
-    }
-    Ok(None)
-}
+    def inspected(self, text):
+        """The status and the last line of standard error, where a store holds this text."""
+        for name, data in (("a", base_of(text)), ("b", b"")):
+            with open(os.path.join(self.folder, name), "wb") as file:
+                file.write(data)
+        told = subprocess.run([PROGRAM, "inspect", "--dir", self.folder], capture_output=True, text=True)
+        return told.returncode, told.stderr
 
-#[test]
-fn states_have_these_bytes(rt: HostRuntime) -> Result<(), Fail> {
-    assert_eq!(rt; first_lost(rt.alloc(), &STATES)?, None);
-    Ok(())
-}
+    def test_states_have_these_bytes(self):
+        for text in STATES:
+            with self.subTest(text=text):
+                self.assertEqual(self.inspected(text), (0, ""))
+
+    def test_each_limit_is_the_last_that_is_taken(self):
+        for rule, place, good, bad in LIMITS:
+            with self.subTest(rule=rule):
+                self.assertEqual(self.inspected(text_with(place, good)), (0, ""))
+                self.assertEqual(self.inspected(text_with(place, bad)), (1, "fault 9\n"))
+
+
+if __name__ == "__main__":
+    unittest.main()
