@@ -68,9 +68,22 @@ def apply(crate, changes):
     return kept
 
 
+NAME = re.compile(r"has no (field|`)|is not in scope|not found|was not (admitted|checked)")
+
+
+def by_a_name(name, functions, told):
+    """Those of the functions whose proof files have no other error than that a name is gone. That shows nothing of a clause, unless a goal of theirs
+    is open too, which the check tells by its line in the source: read it, and let the wrong body keep the names."""
+    for function in sorted(functions):
+        path = function.removeprefix(f"{name}::").replace("::", "/")
+        errors = re.findall(rf"(?m)^\./proofs/{path}/\w+\.antt:\S+ error: (.*)$", told)
+        if errors and all(map(NAME.search, errors)) and f"fn {function}: no proof: expected" not in told:
+            yield function.removeprefix(f"{name}::")
+
+
 def refused(name, crate):
-    """The functions of whose own goals the check leaves one open, or of whose own answers it refuses one. It goes past
-    open goals, since else a caller is not tried where a function that it calls was refused. A body whose form the prover
+    """The functions of whose own goals the check leaves one open, or of whose own answers it refuses one, and those of them of which
+    that may show nothing. It goes past open goals, since else a caller is not tried where a function that it calls was refused. A body whose form the prover
     does not cover shows nothing of a clause, and is not among them."""
     check = subprocess.run(["rt", "check", "--jobs", "1", "--allow-holes"], cwd=crate, stdin=subprocess.DEVNULL,
                            stdout=subprocess.PIPE, stderr=subprocess.STDOUT, text=True)
@@ -79,7 +92,7 @@ def refused(name, crate):
         path = function.removeprefix(f"{name}::").replace("::", ".")
         if f"`Rattle.{name}.proofs.{path}.Answers." in why:
             own.add(function)
-    return own
+    return own, [*by_a_name(name, own, check.stdout)]
 
 
 def main():
@@ -93,13 +106,14 @@ def main():
                 continue
             changes, named = parts(edit)
             kept = apply(crate, changes)
-            own = refused(name, crate)
+            own, unsure = refused(name, crate)
             for path, text in kept.items():
                 with open(path, "w", encoding="utf-8") as source:
                     source.write(text)
             missed = [it for it in named if f"{name}::{it}" not in own]
             bad = bad or bool(missed) or not own
             told = f"{len(own)} refused" + (f", but not {', '.join(missed)}" if missed else "")
+            told += f"; perhaps for a name alone: {', '.join(unsure)}" if unsure else ""
             print(f"{title}: {told}", flush=True)
     sys.exit(bad)
 
