@@ -14,12 +14,11 @@ from locks_client import Client, milliseconds  # noqa: E402
 
 
 def built(program=None):
-    """The path of the program: the one that is given, or that which the wrapper builds where its sources have changed."""
+    """The path of the program: the one that is given, or that which the wrapper runs, the proved one where it is built."""
     if program:
         return program
-    wrapper = os.path.join(HERE, "locks")
-    subprocess.run([wrapper, "sim"], stdin=subprocess.DEVNULL, check=True)
-    return os.path.join(HERE, "crates", "lk_main", "out", "lk_main")
+    told = subprocess.run([os.path.join(HERE, "locks"), "--path"], stdin=subprocess.DEVNULL, stdout=subprocess.PIPE, text=True, check=True)
+    return told.stdout.strip()
 
 
 def free_ports(count):
