@@ -14,11 +14,11 @@ from locks_client import Client, milliseconds  # noqa: E402
 
 
 def built(program=None):
-    """The path of the program: the one that is given, or that which the wrapper runs, the proved one where it is built."""
+    """The path of the given program, or of the one that ./locks runs."""
     if program:
         return program
-    told = subprocess.run([os.path.join(HERE, "locks"), "--path"], stdin=subprocess.DEVNULL, stdout=subprocess.PIPE, text=True, check=True)
-    return told.stdout.strip()
+    told = subprocess.run([os.path.join(HERE, "locks"), "--path"], stdin=subprocess.DEVNULL, stdout=subprocess.PIPE, text=True)
+    return told.stdout.strip() or sys.exit(told.returncode)
 
 
 def free_ports(count):
@@ -67,3 +67,7 @@ class Cluster:
         """A client of the cluster that knows each node's port, and whose numbers go on from the milliseconds since 1970."""
         how.setdefault("first", milliseconds())
         return kind(self.cluster, number, list(self.ports.values()), **how)
+
+
+if __name__ == "__main__":
+    print(__doc__)

@@ -11,6 +11,7 @@ import argparse
 import base64
 import http.client
 import json
+import shutil
 import subprocess
 import tempfile
 import time
@@ -68,6 +69,8 @@ def main():
     parser.add_argument("--clients", type=int, default=8, help="clients at once, 8 if not given")
     parser.add_argument("--dir", help="where the folders of the members are made")
     args = parser.parse_args()
+    if not shutil.which("etcd"):
+        parser.error("etcd is not on the path; Debian: apt-get install etcd-server")
     with tempfile.TemporaryDirectory(dir=args.dir) as folder:
         started, port = members(folder)
         try:

@@ -10,6 +10,7 @@ nothing of the one before it, and restarted, and what these two lines take by th
 """
 import argparse
 import re
+import shutil
 import subprocess
 
 from cluster import built
@@ -88,6 +89,8 @@ def main():
     parser.add_argument("--times", type=int, default=1000, help="how often each is delivered, 1000 if not given")
     parser.add_argument("program", nargs="*", help="the programs; the wrapper builds one if none is given")
     args = parser.parse_args()
+    if not shutil.which("valgrind"):
+        parser.error("valgrind is not on the path; Debian: apt-get install valgrind")
     programs = args.program or [built()]
     for kind, *case in cases(programs[0]):
         print(f"{kind}: {', '.join(f'{step(it, *case, args.times):,.0f}' for it in programs)} instructions", flush=True)

@@ -1,11 +1,10 @@
 #!/usr/bin/env python3
 """Measures `locks sim` in table mode on generated requests: requests per second and peak memory.
 
-Usage: bench/table_mode.py [REQUESTS]   (1,000,000 by default)
-
 The input mixes grants, refusals, repeated numbers and unreadable datagrams of 256 clients over 512 names. It is made
 before the clock starts, from a fixed start, so each run measures the same input.
 """
+import argparse
 import os
 import random
 import resource
@@ -42,7 +41,9 @@ def lines(count):
 
 
 def main():
-    count = int(sys.argv[1]) if len(sys.argv) > 1 else 1_000_000
+    parser = argparse.ArgumentParser(description=__doc__, formatter_class=argparse.RawDescriptionHelpFormatter)
+    parser.add_argument("requests", nargs="?", type=int, default=1_000_000, help="how many, 1,000,000 by default")
+    count = parser.parse_args().requests
     program = os.path.join(HERE, "locks")
     subprocess.run([program, "sim"], stdin=subprocess.DEVNULL, check=True)
     with tempfile.TemporaryDirectory() as folder:

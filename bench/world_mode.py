@@ -1,12 +1,11 @@
 #!/usr/bin/env python3
 """Measures `locks sim` in world mode on generated events: events per second and peak memory.
 
-Usage: bench/world_mode.py [EVENTS]   (100,000 by default)
-
 One node is elected. Then clients ask in turn, and each request, its Accept and its Accepted are delivered, so that four events
 execute one position and send four datagrams; where 99,000 datagrams would stand, bytes that are no datagram make up the rest. The script is made before the
 clock starts, so each run measures the same input.
 """
+import argparse
 import os
 import subprocess
 import sys
@@ -54,7 +53,9 @@ def peak_of(process):
 
 
 def main():
-    count = int(sys.argv[1]) if len(sys.argv) > 1 else 100_000
+    parser = argparse.ArgumentParser(description=__doc__, formatter_class=argparse.RawDescriptionHelpFormatter)
+    parser.add_argument("events", nargs="?", type=int, default=100_000, help="how many, 100,000 by default")
+    count = parser.parse_args().events
     subprocess.run([os.path.join(HERE, "locks"), "sim"], stdin=subprocess.DEVNULL, check=True)
     with tempfile.TemporaryDirectory() as folder:
         for part in (count // 4, count // 2, count):

@@ -1,12 +1,13 @@
 #!/usr/bin/env python3
-"""cost.py CRATE [WORDS ..]: what each function of a crate costs the prover, the dearest last.
+"""Shows what each function of a crate costs the prover, the dearest last.
 
-It runs `rt check --jobs 1 WORDS ..` in crates/CRATE, of `lk_tests` with `--test`. A check names some functions as they end; the processor seconds
-that were spent since the line before are those of the functions that it has checked since then, the named one the last of them, so a figure that
-surprises is looked at again by `rt check --only`. What is kept costs nothing: for all figures remove crates/CRATE/out."""
-import os, pathlib, re, subprocess, sys
+It runs `rt check --jobs 1 WORDS ..` in crates/CRATE, of `lk_tests` with `--test`. A check names some functions as they
+end. The processor seconds since the line before are those of all functions that it has checked since then, the named
+one the last of them, so look at a surprising figure again with `rt check --only`. What is kept costs nothing: for all
+figures remove crates/CRATE/out first."""
+import argparse, os, pathlib, re, subprocess, sys
 
-TOP = pathlib.Path(__file__).resolve().parent.parent
+from scripting import TOP, need, parser
 
 
 def spent(session):
@@ -23,8 +24,12 @@ def spent(session):
 
 
 def main():
-    crate, *words = sys.argv[1:]
-    words = ["--test"] * (crate == "lk_tests") + words
+    arguments = parser(__doc__)
+    arguments.add_argument("crate", choices=sorted(it.name for it in (TOP / "crates").iterdir()), metavar="CRATE", help="the crate")
+    arguments.add_argument("words", nargs=argparse.REMAINDER, metavar="WORDS", help="arguments of `rt check`")
+    given = arguments.parse_args()
+    need("rt")
+    crate, words = given.crate, ["--test"] * (given.crate == "lk_tests") + given.words
     costs, before, checked = [], 0.0, 0
     how = {"stdin": subprocess.DEVNULL, "stdout": subprocess.PIPE, "stderr": subprocess.STDOUT, "text": True, "start_new_session": True}
     with subprocess.Popen(["rt", "check", "--jobs", "1", *words], cwd=TOP / "crates" / crate, **how) as check:
@@ -40,4 +45,5 @@ def main():
     sys.exit(check.returncode)
 
 
-main()
+if __name__ == "__main__":
+    main()

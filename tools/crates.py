@@ -1,16 +1,16 @@
 #!/usr/bin/env python3
-"""crates.py > PICTURE.svg: draws the crates of crates.txt, each above those that it stands on.
+"""Draws the crates of crates.txt as SVG on standard output, each above those that it stands on.
 
-A line goes from a crate to each one that it stands on, where no other path leads there. The crates of tests and those of the kit
-are left out. Run it at the top of the repository."""
-import sys
+A line goes from a crate to each one that it stands on, where no other path leads there. The crate of tests and the
+libraries of the kit are left out."""
+from scripting import TOP, parser
 
 ROW, WIDTH, GAP, HEIGHT = 74, 104, 18, 30
 
 
 def stands_on():
     """For each crate of crates.txt those of the same file that it stands on, in the order of the file."""
-    with open("crates.txt", encoding="utf-8") as file:
+    with open(TOP / "crates.txt", encoding="utf-8") as file:
         lines = [line.split("#")[0].strip() for line in file]
     named = dict(line.split(":") for line in lines if line)
     return {crate: [it for it in below.split() if it in named] for crate, below in named.items() if crate != "lk_tests"}
@@ -58,10 +58,10 @@ def draw(below):
     yield "</svg>"
 
 
-def main(words):
-    if words:
-        sys.exit(__doc__)
+def main():
+    parser(__doc__).parse_args()
     print("\n".join(draw(stands_on())))
 
 
-main(sys.argv[1:])
+if __name__ == "__main__":
+    main()

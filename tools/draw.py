@@ -1,12 +1,13 @@
 #!/usr/bin/env python3
-"""draw.py SCRIPT [PROGRAM]: runs PROGRAM (./locks) in world mode on SCRIPT and writes a picture of what happened, as SVG, to standard output.
-draw.py --check [PROGRAM]: makes each picture docs/pictures/NAME.svg again from examples/NAME.txt, and tells which differ.
+"""Draws what a script of world mode does, as SVG on standard output.
 
-A lane stands for each client and node, time goes downwards, and each line that is printed has a line of the picture to itself, so
-that no text lies upon another. What belongs to an event is found by running each beginning of the script."""
+With --check it draws each picture docs/pictures/NAME.svg again from examples/NAME.txt, and says which differ.
+
+Each client and node has a lane, time goes downwards, and each line that the program prints has a line of the picture to
+itself, so no text lies upon another. It runs each prefix of the script to find what belongs to an event."""
 import html, pathlib, subprocess, sys
 
-TOP = pathlib.Path(__file__).resolve().parent.parent
+from scripting import TOP, a_program, parser
 WIDTH, PITCH, HEAD, LEFT, RIGHT = 1000, 20, 58, 205, 125
 STYLE = """
 .paper{fill:#fff} .band{fill:#f3f5f8} text{font:13px sans-serif;fill:#1c2733}
@@ -265,15 +266,19 @@ def check(program):
     return int(differ > 0)
 
 
-def main(words):
-    if words[:1] in (["--help"], ["-h"]):
-        sys.exit(print(__doc__))
-    if not 1 <= len(words) <= 2:
-        sys.exit(__doc__)
-    program = [words[1] if len(words) == 2 else str(TOP / "locks")]
-    if words[0] == "--check":
-        sys.exit(check(program))
-    sys.stdout.write(draw(program, pathlib.Path(words[0])))
+def main():
+    arguments = parser(__doc__)
+    arguments.add_argument("--check", action="store_true", help="draw the pictures of the tour again and compare them")
+    arguments.add_argument("script", nargs="?", type=pathlib.Path, help="the script to draw; not with --check")
+    arguments.add_argument("program", nargs="?", default=TOP / "locks", type=a_program, help="the program, ./locks by default")
+    given = arguments.parse_args()
+    if given.check:
+        # The one word that may follow --check names the program.
+        sys.exit(check([a_program(given.script or given.program)]))
+    if not given.script or not given.script.is_file():
+        arguments.error(f"no script: {given.script}" if given.script else "a script or --check is required")
+    sys.stdout.write(draw([given.program], given.script))
 
 
-main(sys.argv[1:])
+if __name__ == "__main__":
+    main()

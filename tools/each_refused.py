@@ -1,12 +1,10 @@
 #!/usr/bin/env python3
 """Shows that the prover refuses each wrong body of a crate, function by function.
 
-    tools/each_refused.py CRATE [EDIT ..]
-
 Each file of crates/CRATE/must-fail (or those named, without .edit) is applied to a copy of the crate, which is then
 checked. A line `refused: module::function` of the file names a function that the check has to refuse; the script says
-which of them it did not. `rt ci` asks only that the crate is refused, and passes over these lines. Run it at the top of
-the repository once the crate is proved (`rt check`), so that kept work serves. Status 1 where something was not refused.
+which of them it did not. `rt ci` asks only that the crate is refused, and passes over these lines. Run it once the
+crate is proved (`rt check`), so that kept work serves. The status is 1 where something was not refused.
 """
 import glob
 import os
@@ -15,6 +13,8 @@ import shutil
 import subprocess
 import sys
 import tempfile
+
+from scripting import TOP, need, parser
 
 
 def below(name, lines):
@@ -96,8 +96,13 @@ def refused(name, crate):
 
 
 def main():
-    name, picked = sys.argv[1], sys.argv[2:]
-    bad = False
+    arguments = parser(__doc__)
+    arguments.add_argument("crate", metavar="CRATE", help="the crate")
+    arguments.add_argument("edits", nargs="*", metavar="EDIT", help="files of wrong bodies, all by default")
+    given = arguments.parse_args()
+    need("rt")
+    os.chdir(TOP)
+    name, picked, bad = given.crate, given.edits, False
     with tempfile.TemporaryDirectory() as folder:
         crate = copied(name, folder)
         for edit in sorted(glob.glob(f"crates/{name}/must-fail/*.edit")):

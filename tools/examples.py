@@ -1,11 +1,14 @@
 #!/usr/bin/env python3
-"""examples.py [PROGRAM]: runs `PROGRAM sim` (./locks) on each script examples/NAME.txt. It has to print examples/NAME.out and nothing on
-standard error, with status 0, or 1 where the last line tells that an event was refused; where there is an examples/NAME.err, that is what
-it prints on standard error, with status 1. Each examples/NAME/run.py PROGRAM has to print examples/NAME/run.out, with status 0. The last
-line is `N passed, M failed`, and the status 1 where one failed."""
-import pathlib, subprocess, sys
+"""Runs the examples and compares what they print.
 
-TOP = pathlib.Path(__file__).resolve().parent.parent
+`PROGRAM sim` on examples/NAME.txt has to print examples/NAME.out and nothing on standard error, with status 0, or 1
+where the last line says that an event was refused. Where there is an examples/NAME.err, it has to print that on standard
+error, with status 1. Each `examples/NAME/run.py PROGRAM` has to print examples/NAME/run.out, with status 0.
+
+The last line is `N passed, M failed`, and the status is 1 if one failed."""
+import subprocess, sys
+
+from scripting import TOP, with_program
 
 
 def is_as_written(program, script):
@@ -27,7 +30,7 @@ def is_shown(program, script):
 
 
 def main():
-    program = pathlib.Path(sys.argv[1] if len(sys.argv) > 1 else TOP / "locks").resolve()
+    program = with_program(__doc__).parse_args().program
     scripts, shown = sorted((TOP / "examples").glob("*.txt")), sorted((TOP / "examples").glob("*/run.py"))
     bad = [script for script in scripts if not is_as_written(program, script)]
     bad += [script for script in shown if not is_shown(program, script)]
@@ -37,4 +40,5 @@ def main():
     sys.exit(bool(bad))
 
 
-main()
+if __name__ == "__main__":
+    main()

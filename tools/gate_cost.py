@@ -1,12 +1,15 @@
 #!/usr/bin/env python3
-"""gate_cost.py [COMMAND ..]: what each crate costs in a run of the gate, `./check` if no command is given.
+"""Shows what each crate costs in a run of the gate.
 
-It runs the command and looks twice a second at the processor time of each process of the prover that the command started: which crate it checks, and
-whether its proof, its tests or its wrong bodies. What a process spent since it was last seen is lost, a second or so of each; one that has ended and waits
-for its parent has no words left, and is not looked at again. At the end it prints a table in minutes of a processor, as docs/GATE.md has it, with the machine's load and the share of time that the host took away (`steal`)."""
-import collections, os, pathlib, re, subprocess, sys, threading, time
+It runs the command and looks twice a second at the processor time of each process of the prover that the command
+started: which crate it checks, and whether its proof, its tests or its wrong bodies. What a process spent since it was
+last seen is lost, a second or so of each. One that has ended and waits for its parent has no words left, and is not
+looked at again. At the end it prints the table of docs/GATE.md in minutes of a processor, with the machine's load and
+the share of time that the host took away (`steal`)."""
+import argparse, collections, os, pathlib, re, subprocess, sys, time
 
-TOP = pathlib.Path(__file__).resolve().parent.parent
+from scripting import TOP, parser
+
 TICKS = os.sysconf("SC_CLK_TCK")
 
 
@@ -53,9 +56,12 @@ def machine():
 
 
 def main():
+    arguments = parser(__doc__)
+    arguments.add_argument("command", nargs=argparse.REMAINDER, metavar="COMMAND", help="what to run, ./check by default")
+    command = arguments.parse_args().command or ["./check"]
     start, (all_before, stolen_before) = time.time(), machine()
     spent, loads = {}, []
-    run = subprocess.Popen(sys.argv[1:] or ["./check"], cwd=TOP)
+    run = subprocess.Popen(command, cwd=TOP)
     while run.poll() is None:
         for number, (ticks, words, where) in below(run.pid).items():
             spent[number, kind_of(words, where)] = ticks
@@ -76,4 +82,5 @@ def main():
     sys.exit(run.returncode)
 
 
-main()
+if __name__ == "__main__":
+    main()

@@ -1,15 +1,18 @@
 #!/usr/bin/env python3
-"""growths.py PROGRAM [SCRIPT ..]: each request for memory refused in turn, while PROGRAM runs a script.
+"""Refuses each request for memory in turn while the program runs a script.
 
-PROGRAM is one that the gate has built; tools/refusing.c, built by `cc` and loaded in front of its C library, refuses its N-th request for
-memory, N = 1, 2, .. until none is refused. The scripts are those of examples/ and a table whose names are all taken, or those given.
+tools/refusing.c, compiled by `cc` and loaded in front of the C library, refuses the N-th request for memory of the
+program, N = 1, 2, .. until none is refused. The scripts are those of examples/ and a table whose names are all taken.
 
-Each run may end in three ways: as the script ends where nothing is refused; by fault 25, after all that the lines in front of the one that
-wanted memory print; and in world mode by `refused 22 WorldMemory`, after the same. Which line wanted memory is known from how many
-requests a run of the lines up to it makes. The last line is `N passed, M failed`, of scripts, and the status 1 where one failed."""
+Each run may end in three ways: as the script ends where nothing is refused; by fault 25, after all that the lines in
+front of the one that asked for memory print; and in world mode by `refused 22 WorldMemory`, after the same. How many
+requests a run of the lines up to it makes tells which line asked for memory.
+
+The last line is `N passed, M failed`, of scripts, and the status is 1 if one failed."""
 import concurrent.futures, os, pathlib, re, subprocess, sys, tempfile
 
-TOP = pathlib.Path(__file__).resolve().parent.parent
+from scripting import TOP, a_program, need, parser
+
 NO_MEMORY = b"refused 22 WorldMemory\n"
 
 
@@ -90,12 +93,15 @@ def sweep(refuser, lines):
 
 
 def main():
-    if len(sys.argv) < 2:
-        sys.exit(__doc__)
-    chosen = [*scripts(sys.argv[2:])]
+    arguments = parser(__doc__)
+    arguments.add_argument("program", type=a_program, help="the program, itself and not a script that runs it")
+    arguments.add_argument("scripts", nargs="*", help="scripts to run in place of those above")
+    given = arguments.parse_args()
+    need("cc")
+    chosen = [*scripts(given.scripts)]
     failed = total = 0
     with tempfile.TemporaryDirectory() as folder, concurrent.futures.ThreadPoolExecutor(os.cpu_count()) as pool:
-        refuser = Refuser(pathlib.Path(sys.argv[1]).resolve(), folder)
+        refuser = Refuser(given.program, folder)
         for (name, _), (most, wrong) in zip(chosen, pool.map(lambda script: sweep(refuser, script[1]), chosen)):
             total, failed = total + most, failed + bool(wrong)
             for text in wrong:
@@ -105,4 +111,5 @@ def main():
     sys.exit(failed > 0)
 
 
-main()
+if __name__ == "__main__":
+    main()

@@ -1,5 +1,5 @@
 #!/usr/bin/env python3
-"""runs.py [PROGRAM]: runs PROGRAM (./locks) as each row of the files runs/*.txt says, and compares what comes of it.
+"""Runs the program as each row of the files runs/*.txt says, and compares what comes of it.
 
 A file is rows with an empty line between them; a line `# ..` is a comment. The lines of a row:
 
@@ -13,11 +13,13 @@ A file is rows with an empty line between them; a line `# ..` is a comment. The 
     % NAME HEX  a file of the folder, and its bytes; several lines of a file follow one another; NAME/ is a folder in it
     <* LINE     as `<`, one of several in a row, each of which stands in this place in a run of its own
 
-A row with several lines `$` is run with each of them. Bytes are written as in Python, `\\x20` for a space at an end. A run has
-60 seconds and a new empty folder. The last line is `N passed, M failed`, of rows, and the status 1 where one failed."""
+A row with several lines `$` is run with each of them. Bytes are written as in Python, `\\x20` for a space at an end. A
+run has 60 seconds and a new empty folder.
+
+The last line is `N passed, M failed`, of rows, and the status is 1 if one failed."""
 import codecs, itertools, pathlib, subprocess, sys, tempfile
 
-TOP = pathlib.Path(__file__).resolve().parent.parent
+from scripting import TOP, with_program
 
 
 def read(text):
@@ -97,7 +99,7 @@ def rows(file):
 
 
 def main():
-    program = pathlib.Path(sys.argv[1] if len(sys.argv) > 1 else TOP / "locks").resolve()
+    program = with_program(__doc__).parse_args().program
     passed = failed = 0
     for file in sorted((TOP / "runs").glob("*.txt")):
         for row in [*rows(file)]:
@@ -111,4 +113,5 @@ def main():
     sys.exit(failed > 0)
 
 
-main()
+if __name__ == "__main__":
+    main()

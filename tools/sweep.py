@@ -1,19 +1,21 @@
 #!/usr/bin/env python3
-"""sweep.py [PROGRAM]: a stop and a failure at every call and every send of the world scripts of examples/, run on PROGRAM (./locks).
+"""Stops and fails nodes at every call and every send of the world scripts of examples/.
 
 Each event that makes a node work (a tick, a datagram that it takes, a restart, a compaction) of each world script that sets no trap of
 its own is preceded by `arm NODE COUNT BYTES`, in a run for each COUNT 1, 2, .. until the event no longer stops its node, and for each
 number of unsynced BYTES 0, 1 and all; then by `fail NODE COUNT` in the same way. Where the node has gone down it is restarted, and the
 rest of the script follows, once with that event again in front of it and once without.
 
-What stands before the trap has to be printed as before, and no revival may end by a fault. The run goes on to the script's end or
-to a refusal 16 to 19, since a later line may name a datagram that was never sent. Of a node that has executed 256 requests the tick is swept
-so at which it writes its snapshot. Whatever has run at a position, and whatever a
-request was answered, is the same at each node and each time. The last line is `N passed, M failed`, of scripts, and the status 1
-where one failed."""
-import concurrent.futures, itertools, os, pathlib, re, subprocess, sys
+What stands before the trap has to be printed as before, and no revival may end by a fault. The run goes on to the
+script's end or to a refusal 16 to 19, since a later line may name a datagram that was never sent. The tick at which a
+node writes its snapshot, after 256 executed requests, is swept in the same way. Whatever has run at a position, and
+whatever a request was answered, is the same at each node and each time.
 
-TOP = pathlib.Path(__file__).resolve().parent.parent
+The last line is `N passed, M failed`, of scripts, and the status is 1 if one failed."""
+import concurrent.futures, itertools, os, re, subprocess, sys
+
+from scripting import TOP, with_program
+
 ALL = 1 << 48
 TRAPS = ("arm {node} {count} 0", "arm {node} {count} 1", f"arm {{node}} {{count}} {ALL}", "fail {node} {count}")
 DOWN = re.compile(r"(?:stopped \d+|fault \d+ 7 device)\n")
@@ -109,7 +111,7 @@ def scripts(program):
 
 
 def main():
-    program = pathlib.Path(sys.argv[1] if len(sys.argv) > 1 else TOP / "locks").resolve()
+    program = with_program(__doc__).parse_args().program
     stops = failures = failed = 0
     chosen = [*scripts(program)]
     with concurrent.futures.ThreadPoolExecutor(os.cpu_count()) as pool:
@@ -122,4 +124,5 @@ def main():
     sys.exit(failed > 0)
 
 
-main()
+if __name__ == "__main__":
+    main()
