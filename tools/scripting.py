@@ -2,6 +2,7 @@
 import argparse
 import pathlib
 import shutil
+import subprocess
 import sys
 
 TOP = pathlib.Path(__file__).resolve().parent.parent
@@ -44,9 +45,29 @@ def need(*commands):
             sys.exit(f"{pathlib.Path(sys.argv[0]).name}: {it} is not on the path: {HINTS[it]}")
 
 
+def program_file(program):
+    """The file of a program: for ./locks the one that it runs."""
+    if program != TOP / "locks":
+        return program
+    ran = subprocess.run([program, "--path"], stdout=subprocess.PIPE, text=True)
+    return pathlib.Path(ran.stdout.strip() or sys.exit(ran.returncode))
+
+
+def scratch(folder):
+    """Copies the repository into a folder, without its crates and all that is built. It has an empty crate lk_main."""
+    dropped = shutil.ignore_patterns(".git", "crates", "out", "run", "target", "__pycache__")
+    made = pathlib.Path(shutil.copytree(TOP, folder, ignore=dropped, dirs_exist_ok=True))
+    (made / "crates/lk_main/src").mkdir(parents=True)
+    return made
+
+
 def is_proved(program):
     """Whether a program says in itself that it is proved."""
     return LABEL in pathlib.Path(program).read_bytes()
+
+
+class Untried(Exception):
+    """Why a row cannot be tried on this machine."""
 
 
 class Tally:
@@ -59,6 +80,14 @@ class Tally:
         """Counts a row, which failed where something was wrong with it."""
         self.passed, self.failed = self.passed + (not wrong), self.failed + bool(wrong)
         print(f"{name}: {wrong}" if wrong else f"{name}: as it should", flush=True)
+
+    def check(self, function, *arguments):
+        """Counts the row that a function is, by its docstring. It gives what is wrong, or raises that it cannot be tried."""
+        name = function.__doc__.rstrip(".")
+        try:
+            self.row(name, function(*arguments))
+        except Untried as why:
+            print(f"{name}: not tried, {why}", flush=True)
 
     def end(self):
         """Prints the last line of the script and ends it."""
