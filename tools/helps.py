@@ -1,9 +1,9 @@
 #!/usr/bin/env python3
 """Asks each script of the repository for its help, which it has to print and do nothing else.
 
-The scripts are the files that may be executed at the top, in tools/, bench/ and clients/, and the Python files beside
-them. ./locks is the program itself. A script also has to refuse an option that it does not know with status 2. No file
-may be changed.
+The scripts are the files that may be executed at the top, in tools/, bench/, clients/ and the examples, and the Python
+files of tools/ and bench/. ./locks is the program itself. A script also has to refuse an option that it does not know
+with status 2. No file may be changed.
 
 The last line is `N passed, M failed`, and the status is 1 if one failed."""
 import os
@@ -14,7 +14,7 @@ import tempfile
 
 from scripting import TOP, Tally, parser
 
-FOLDERS = ("", "tools", "tools/systemd", "bench", "clients")
+FOLDERS = ("", "tools", "tools/systemd", "bench", "clients", "examples/one_writer")
 SECONDS = 30
 
 
@@ -22,7 +22,7 @@ def scripts():
     """The scripts, but for this one and ./locks."""
     for folder in FOLDERS:
         for it in sorted((TOP / folder).iterdir()):
-            is_script = it.is_file() and (os.access(it, os.X_OK) or it.suffix == ".py")
+            is_script = it.is_file() and (os.access(it, os.X_OK) or folder in ("tools", "bench") and it.suffix == ".py")
             if is_script and it not in (TOP / "locks", pathlib.Path(__file__).resolve()):
                 yield it
 

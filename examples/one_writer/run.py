@@ -1,12 +1,11 @@
 #!/usr/bin/env python3
 """Two writers, one lock, and a page that looks at fences: the late write of a writer that was asleep does no harm.
 
-Usage: examples/one_writer/run.py [PROGRAM]
-
 Writer 1 holds the lock and is paused as by a machine that is overloaded (SIGSTOP). A lock has no time limit, so an operator, who
 takes it for dead, breaks it; the table is raised for that. Writer 2 gets the lock, at a higher fence. Then writer 1 wakes up and
 writes, since it has seen nothing of all this.
 """
+import argparse
 import os
 import signal
 import subprocess
@@ -71,7 +70,9 @@ def late_write(cluster, path):
 
 
 def main():
-    program = built(*sys.argv[1:2])
+    parser = argparse.ArgumentParser(description=__doc__, formatter_class=argparse.RawDescriptionHelpFormatter)
+    parser.add_argument("program", nargs="?", help="the program, by default the one that ./locks runs")
+    program = built(parser.parse_args().program)
     with tempfile.TemporaryDirectory() as folder, Cluster(program, folder) as cluster:
         path = os.path.join(folder, "page.sqlite")
         page.make(path)
