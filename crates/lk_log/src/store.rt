@@ -87,6 +87,34 @@ impl<D: LogDisk + Drop> Store<D> {
         Ok(())
     }
 
+    /// Syncs the live file, and so all that was put into it.
+    ///
+    /// It takes no memory, and refuses with `Device` (7) alone; after that each later call answers `Failed` (11).
+    pub fn sync(&mut self) -> Result<(), StoreFault>
+        // At Ok all entries are synced.
+        ensures synced { D.is_honest → (ks ls : List Stored) → Holds self.old ks ls
+            → OnOk result (Holds self.new (ks ++ ls) []) }
+        // After any exit each image that a stop may leave has all synced entries, and a beginning of the others.
+        ensures any { D.is_honest → (ks ls : List Stored) → Holds self.old ks ls
+            → KeepsAtLeast self.new ks ls }
+        // Neither file is longer, after any exit.
+        ensures room { D.is_honest → StaysWithin 0 (disks self.old) (disks self.new) }
+        ensures file { KeepsItsFile self.old self.new }
+        ensures failing { FailsByRefusing self.new result }
+        ensures refuses { RefusesFor IsOfDevice self.old self.new result }
+        ensures cause { FailuresRise self.old.failures self.new.failures result }
+        // Of a metered device: one call.
+        ensures metered { D.is_metered → IsMetered self.old.meter self.new.meter 1 result }
+    {
+        if self.failed {
+            return Err(StoreFault::Failed);
+        }
+        self.failed = true;
+        self.device.sync(self.live)?;
+        self.failed = false;
+        Ok(())
+    }
+
     /// Writes a standing as the Base of the file that is not live, with the next generation, and goes over to it: the file that
     /// was live is cut to nothing. The new one has format 2, whatever the other had, and stands for this standing alone, and for
     /// nothing that was put before.

@@ -9,4 +9,6 @@ mod Keeping
 mod Doing
 mod Fixed
 mod Once
-mod Clauses
+pub mod Clauses
+mod Linear
+mod Guarded

@@ -1,2 +1,4 @@
 pub mod Plain
 pub mod Promise
+pub mod Linear
+pub mod Guarded

@@ -1,8 +1,13 @@
 //! Laws of the definitions alone.
-ghost use Rattle.std.specs.Prelude.{List};
+ghost use Rattle.std.specs.Prelude.{ℕ, List};
 ghost use Rattle.lk_types.specs.declared.command.Command.{Command};
 ghost use Rattle.lk_types.specs.declared.genesis.Genesis.{Genesis};
+ghost use Rattle.lk_replica.specs.ReplicaValue.{ReplicaValue};
+ghost use Rattle.lk_sim.specs.Scenes.{Scene};
+ghost use Rattle.lk_promise.specs.Guarded.{AreListed, IsGuarded, Write};
+ghost use Rattle.lk_promise.specs.Linear.{IsLinearizable};
 ghost use Rattle.lk_promise.specs.Plain.{HasFixedMembers, TakesEffectOnce};
+ghost use Rattle.lk_promise.specs.Promise.{KeepsPromise};
 
 /// A list in which nobody asks to join or to leave names the members of the genesis at each position.
 pub fn members_stay_fixed()
@@ -12,4 +17,21 @@ pub fn members_stay_fixed()
 /// Each number of a client takes effect at one position of a list at most.
 pub fn numbers_take_effect_once()
     ensures { (genesis : Genesis) (L : List Command) → TakesEffectOnce genesis L }
+{}
+
+/// What clients see of a world that keeps the promise is linearizable: there is a legal sequential history of the lock table and the members that
+/// completes each request that was answered and keeps the order of real time.
+pub fn worlds_are_linearizable()
+    ensures { (world : Scene ReplicaValue) → KeepsPromise world → IsLinearizable world.genesis world.trace }
+{}
+
+/// A resource that accepts a write only at or above the highest fence that it has seen is guarded by the name: its accepted writes of one fence are of
+/// one grant, and after one under a later grant comes none under an earlier one.
+pub fn fences_guard_resources()
+    ensures { (genesis : Genesis) (L : List Command) (name : List ℕ) (writes : List Write) → IsGuarded genesis L name writes }
+{}
+
+/// Of a world that keeps the promise each grant that a client was told stands in one chosen list, for a name that its request acquires.
+pub fn grants_are_listed()
+    ensures { (world : Scene ReplicaValue) → KeepsPromise world → AreListed world.genesis world.sent world.trace }
 {}

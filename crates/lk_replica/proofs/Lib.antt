@@ -18,3 +18,4 @@ mod Going
 pub mod Replicas
 mod Rerunning
 mod Restoring
+mod Grouped

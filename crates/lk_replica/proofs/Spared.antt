@@ -13,9 +13,11 @@ use Rattle.lk_log.specs.declared.fault.StoreFault.TheVariants as store
 use Rattle.lk_learner.specs.Learners.{executed}
 use Rattle.lk_node.specs.NodeValue.{NodeValue}
 use Rattle.lk_replica.specs.Compacting.{AreSame, AreLeft, IsDue, IsSameStore, RebasesWhereDue}
+use Rattle.lk_replica.specs.Compacted.{IsStoreFault}
 use Rattle.lk_replica.specs.Faults.{fault_number, fault_of, IfSpared}
 use Rattle.lk_replica.specs.declared.fault.ReplicaFault.{ReplicaFault}
 use Rattle.lk_replica.specs.declared.fault.ReplicaFault.TheVariants as fault
+use Rattle.lk_replica.proofs.Compactions.{put_refused}
 use Rattle.lk_replica.proofs.Revivals.{picked}
 
 -- ---- of a refusal of the store
@@ -74,6 +76,17 @@ put_spares old new f live there memory before otherwise = by_state old.failed re
     by_state : (b : Bool) → old.failed ≡ b → IfSpared (AreSame (disks old) (disks new)) (fault_of f)
     by_state true is = spared_all (AreSame (disks old) (disks new)) (fault_of f) (same_as old new (before is))
     by_state false is = by_memory (AreSame (disks old) (disks new)) f (λ wanting s i. pick (live i) (memory wanting i) (there i) s) (otherwise is)
+
+-- of a sync
+pub sync_refused : (old : StoreValue) (f : StoreFault) → (old.failed ≡ true → IsErrOf {T = Unit {0}} (Err f) store.Failed) → (old.failed ≡ false → f ≡ store.Device) → IsStoreFault (fault_number (fault_of f))
+sync_refused old f before otherwise = put_refused old f before (λ alive. inl (otherwise alive))
+
+pub sync_spares : (old new : StoreValue) (f : StoreFault) → (old.failed ≡ true → new ≡ old) → (old.failed ≡ false → f ≡ store.Device) → IfSpared (AreSame (disks old) (disks new)) (fault_of f)
+sync_spares old new f before otherwise = by_state old.failed refl
+  where
+    by_state : (b : Bool) → old.failed ≡ b → IfSpared (AreSame (disks old) (disks new)) (fault_of f)
+    by_state true is = spared_all (AreSame (disks old) (disks new)) (fault_of f) (same_as old new (before is))
+    by_state false is = subst (λ z. IfSpared (AreSame (disks old) (disks new)) (fault_of z)) (sym (otherwise is)) tt
 
 -- of a rebase
 pub rebase_spares : (old new : StoreValue) (f : StoreFault) → (IsErrOf {T = Unit {0}} (Err f) store.NoMemory → AreSame (disks old) (disks new)) → (old.failed ≡ true → new ≡ old) → (max_count ≤ old.generation → new ≡ old)
@@ -137,6 +150,9 @@ not_failed_so f by is = elim by [
   | inl device ↦ let e : 7 ≡ 11 = sym (ap (λ z. fault_number (fault_of z)) device) ∙ ap fault_number is in omega (arith, e)
   | inr memory ↦ let e : 8 ≡ 11 = sym (ap (λ z. fault_number (fault_of z)) memory) ∙ ap fault_number is in omega (arith, e)
 ]
+
+pub sync_not_failed : (f : StoreFault) → f ≡ store.Device → fault_of f ≡ fault.Failed → ⊥
+sync_not_failed f device is = not_failed_so f (inl device) is
 
 pub not_failed : (f : ReplicaFault) → (f ≡ fault.Damaged) ⊎ (f ≡ fault.NoMemory) → fault_number f ≡ 11 → ⊥
 not_failed f by eleven = elim by [

@@ -10,3 +10,4 @@ pub mod Rebased
 pub mod Rooms
 pub mod Remembering
 pub mod Renewals
+pub mod Groups

@@ -1,5 +1,6 @@
 -- What a call of a replica has done, that and nothing else, and what it leaves, also where it was refused.
-use Rattle.std.specs.Prelude.{◌≡◌, ℕ, ◌+◌, ◌<◌, ◌≤◌, ⊤, true, false, if◌then◌else◌, Option, Result, Ok, Err, List, [], ◌++◌, length}
+use Rattle.std.specs.Prelude.{◌≡◌, ℕ, ◌+◌, ◌<◌, ◌≤◌, ⊤, true, false, if◌then◌else◌, Option, Result, Ok, Err, List, [], ◌++◌, length, Contains, Vec}
+use Rattle.std.specs.Global.{Global}
 use Rattle.lk_disk.specs.Meters.{Passes}
 use Rattle.lk_types.specs.Limits.{max_count}
 use Rattle.lk_entries.specs.Entries.{plain}
@@ -10,20 +11,21 @@ use Rattle.lk_log.specs.Stores.{Holds}
 use Rattle.lk_state.specs.Meanings.{Meaning}
 use Rattle.lk_disk.specs.Disk.{Disk, contents}
 use Rattle.lk_disk.specs.declared.device.Side.{Side}
-use Rattle.lk_history.specs.Datagrams.{NodeMessage}
+use Rattle.lk_history.specs.Datagrams.{NodeMessage, said_by}
+use Rattle.lk_wire.specs.Grammar.{Spells}
 use Rattle.lk_log.specs.Rooms.{StaysWithin}
 use Rattle.lk_step.specs.Letters.{LetterValue, batch_of}
 use Rattle.lk_step.specs.Outboxes.{OutboxValue}
 use Rattle.lk_step.specs.declared.input.Input.{Input}
 use Rattle.lk_step.specs.declared.note.Note.{Note}
-use Rattle.lk_node.specs.Calls.{heard_by, NodeFits}
+use Rattle.lk_node.specs.Calls.{heard_by, InputFits, NodeFits, Goes}
 use Rattle.lk_node.specs.Executing.{NothingToRun}
 use Rattle.lk_node.specs.Histories.{Datagram, History, Genesis}
 use Rattle.lk_node.specs.Keeping.{Stands}
 use Rattle.lk_node.specs.Leavings.{DisksFit, AllCover}
 use Rattle.lk_replica.specs.Remembering.{Remembers}
 use Rattle.lk_replica.specs.Compacting.{AreLeft, IsDue, Rebases, RebasesWhereDue, CallsWhereDue}
-use Rattle.lk_replica.specs.Faults.{fault_number, failures_by, RefusedAfter, IfSend, IfSpared, IsOfCalls, IsNumberOfCalls, WantsNoMemory}
+use Rattle.lk_replica.specs.Faults.{fault_number, failures_by, RefusedAfter, IfGoesOn, IfSend, IfSpared, IsOfCalls, IsNumberOfCalls, WantsNoMemory}
 use Rattle.lk_replica.specs.declared.fault.ReplicaFault.{ReplicaFault}
 use Rattle.lk_replica.specs.declared.fault.ReplicaFault.TheVariants as fault
 use Rattle.lk_replica.specs.ReplicaValue.{ReplicaValue}
@@ -71,6 +73,16 @@ pub record IsTaken (m : Meaning) (IsText : List ℕ → Type 0) (Metered : Type 
   pub alive : new.failed ≡ false
   pub store_alive : new.store.failed ≡ false
   pub awake : new.node.halted ≡ false
+
+-- what a call tells of the letters that it gave to its post, whatever the post: where it goes on it has taken its step, and these are the step's
+-- letters; all that it notes and gives it may note and send by what it holds; and, after any exit, whatever has happened and whatever it was
+-- revived on, each image that a stop may leave covers what they say for the node: it was synced before they were given
+pub record GivesBy (m : Meaning) (IsText : List ℕ → Type 0) (Metered : Type 0) (old : ReplicaValue) (i : Input) (new : ReplicaValue) (r : Result (Vec Note Global) ReplicaFault) (letters : List LetterValue) (Sends : List LetterValue → Type 0) : Type 0 where
+  pub taken : IfGoesOn r (λ notes. IsTaken m IsText Metered old i new notes (λ all. (all ≡ letters) × Sends all))
+  pub goes : (h : History) (n : ℕ) → NodeFits m h n (Stands m old.node old.store h.genesis n) (disks old.store) → InputFits h i
+      → IfGoesOn r (λ notes. Goes m h n (Stands m new.node new.store h.genesis n) (disks new.store) notes (batch_of n letters))
+  pub syncs : (genesis : Genesis) (n : ℕ) (x : NodeMessage) → Remembers old.node old.store genesis n
+      → (d : Datagram) → Contains (batch_of n letters) d → Spells (said_by genesis n x) d.bytes → AllCover m genesis n (disks new.store) x
 
 -- a call was refused with the fault of this number, for its cause: 7 exactly where the device has failed once more, 11 only after an
 -- earlier refusal, after which there is no other, or where fewer than two further generations are left: a call rebases twice at most, and

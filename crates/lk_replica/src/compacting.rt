@@ -53,9 +53,9 @@ pub fn write_base<M: Machine, D: LogDisk + Drop>(
     Ok(())
 }
 
-// Whether a rebase is due: the live file has grown to half of what a file may hold, or 256 positions are executed above the
-// snapshot.
-fn is_due<M: Machine, D: LogDisk + Drop>(
+/// Whether a rebase is due: the live file has grown to half of what a file may hold, or 256 positions are executed above the
+/// snapshot.
+pub fn is_due<M: Machine, D: LogDisk + Drop>(
     node: &Node<M>,
     store: &mut Store<D>,
 ) -> Result<bool, ReplicaFault>

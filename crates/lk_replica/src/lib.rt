@@ -6,6 +6,7 @@ mod compacting;
 mod datagram;
 mod delivering;
 mod fault;
+mod grouping;
 mod in_memory;
 mod memory_replica;
 mod post;
@@ -16,6 +17,7 @@ mod reviving;
 
 pub use datagram::Datagram;
 pub use fault::ReplicaFault;
+pub use grouping::Group;
 pub use memory_replica::{MemoryReplica, ReviveFault, Revived, Taken};
 pub use post::{Post, SendFault};
 pub use replica::Replica;

@@ -16,7 +16,7 @@ ghost use Rattle.lk_node.specs.Keeping.{Stands};
 ghost use Rattle.lk_node.specs.Leavings.{AllCover};
 ghost use Rattle.lk_replica.specs.Posts.{AreOf, GivesLetters, SendsAs, RefusesSends};
 ghost use Rattle.lk_node.specs.Steps.{Steps};
-ghost use Rattle.lk_replica.specs.Taking.{Writes, CallsOfStep, IsTaken, IsRefused, IsCutShort, StaysUp, StepsOn, LeavesDisks, StepsToDisk, StepLeavesDisks};
+ghost use Rattle.lk_replica.specs.Taking.{Writes, CallsOfStep, GivesBy, IsRefused, IsCutShort, StaysUp, StepsOn, LeavesDisks, StepsToDisk, StepLeavesDisks};
 ghost use Rattle.lk_replica.specs.Faults.{fault_number, RaisesFailures, IfGoesOn, WantsNoMemory};
 ghost use Rattle.lk_replica.specs.Remembering.{Remembers};
 ghost use Rattle.lk_replica.specs.Rooms.{max_after};
@@ -63,19 +63,12 @@ impl<M: Machine, D: LogDisk + Drop> Replica<M, D> {
     /// 2^48; after that each later call answers `Failed` (11). With `Send` (15) some datagrams are lost, and the replica goes on.
     #[tactic(auto, using(crate::proofs::NoSend::never_sends))]
     pub fn take<P: Post>(&mut self, input: Input, post: &mut P) -> Result<Vec<Note>, ReplicaFault>
-        // Where it goes on, all that it notes and sends it may note and send by what it holds.
-        ensures goes { D.is_honest → P.is_telling → (h : History) (n : ℕ) → NodeFits M.meaning h n (Stands M.meaning self.old.node self.old.store h.genesis n) (disks self.old.store) → InputFits h input.entry
-            → IfGoesOn result (λ notes. (sent : List LetterValue) × (P.sent post.new ≡ P.sent post.old ++ sent)
-            × Goes M.meaning h n (Stands M.meaning self.new.node self.new.store h.genesis n) (disks self.new.store) notes (batch_of n sent)) }
         // Letters were given to the post in order, each once, and nothing else. Where it goes on it has then written the outbox of its step,
-        // given its notes, and these are its letters. Under `Send` those whose send failed are lost.
-        ensures exact { GivesLetters P.Carries post.old post.new (λ letters. D.is_honest → IfGoesOn result (λ notes. IsTaken M.meaning M.IsText D.is_metered self.old input.entry self.new notes
-            (λ all. (all ≡ letters) × (P.is_telling → SendsAs result all (P.sent post.old) (P.sent post.new) (P.failures post.old) (P.failures post.new))))) }
+        // given its notes, and these are its letters: all of this it may note and send by what it holds. Sync before send: whatever the post,
+        // what it was given every image covers. Under `Send` those whose send failed are lost.
+        ensures gives { GivesLetters P.Carries post.old post.new (λ letters. D.is_honest → GivesBy M.meaning M.IsText D.is_metered self.old input.entry self.new result letters
+            (λ all. P.is_telling → SendsAs result all (P.sent post.old) (P.sent post.new) (P.failures post.old) (P.failures post.new))) }
         ensures alive { IfGoesOn result (λ notes. StaysUp D.is_honest self.old self.new) }
-        // Sync before send, whatever has happened, and whatever it was revived on: what was sent every image covers, after any exit.
-        ensures syncs { D.is_honest → P.is_telling → (genesis : Genesis) (n : ℕ) (x : NodeMessage) → Remembers self.old.node self.old.store genesis n
-            → (sent : List LetterValue) × (P.sent post.new ≡ P.sent post.old ++ sent)
-            × ((d : DatagramValue) → Contains (batch_of n sent) d → Spells (said_by genesis n x) d.bytes → AllCover M.meaning genesis n (disks self.new.store) x) }
         // What is on the disks after any exit: neither file has grown above half of what a file may hold, and a step.
         ensures disks { D.is_honest → LeavesDisks M.meaning (λ h. InputFits h input.entry) max_after self.old.node self.old.store (disks self.new.store) }
         // Nothing but 7, 8, 11, 14 and 15 comes, each for its cause, and all but 15 end it.

@@ -1,3 +1,5 @@
 mod Books
 mod Carrying
 mod Sayings
+mod Turning
+mod Cutting

@@ -4,3 +4,5 @@ pub mod Posts
 pub mod Servers
 pub mod Sights
 pub mod Sayings
+pub mod Hearing
+pub mod Sockets

@@ -7,6 +7,7 @@ pub mod came;
 pub mod ear;
 pub mod fault;
 mod hearing;
+pub mod memory_socket;
 pub mod node_replica;
 pub mod notes;
 pub mod post;

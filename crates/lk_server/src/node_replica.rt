@@ -1,6 +1,6 @@
 //! A replica as a server runs it.
 
-ghost use Rattle.std.specs.Prelude.{◌≡◌, ◌++◌, ◌∷◌, ℕ, List, [], Option, Bool, true, false, OnOk, IfErr};
+ghost use Rattle.std.specs.Prelude.{◌≡◌, ℕ, List, Option, Bool, true, false, OnOk, IfErr};
 ghost use Rattle.lk_step.specs.Letters.{LetterValue};
 ghost use Rattle.lk_node.specs.Calls.{heard_by};
 ghost use Rattle.lk_replica.specs.Faults.{fault_number, IfSend};
@@ -16,22 +16,15 @@ use lk_step::{Input, Note};
 
 /// A replica as a server runs it: what is given to it, it takes.
 pub trait NodeReplica: Sized + Drop {
-    /// What it was given, in order: the bytes of a datagram, or none at a tick.
-    ghost given: { Self → List (Option (List ℕ)) };
-
-    /// It tells what it was given. It is a fact of its kind, so no call can end it.
-    ghost is_telling: { Type 0 };
-
     /// A call has ended it.
     ghost failed: { Self → Bool };
 
-    /// What becomes of it by a tick or a datagram, and the letters that it says by that: as it was, what it was given, the
-    /// letters, and as it is then.
+    /// What becomes of it by a tick or a datagram, and the letters that it says by that: as it was, what it was given (the bytes of a
+    /// datagram, or none at a tick), the letters, and as it is then.
     ghost Says: { Self → Option (List ℕ) → List LetterValue → Self → Type 0 };
 
     /// Takes a tick or a datagram, as `Replica::take` does. Any refusal but `Send` ends it.
     fn take<P: Post>(&mut self, input: Input, post: &mut P) -> Result<Vec<Note>, ReplicaFault>
-        ensures given { is_telling → given self.new ≡ given self.old ++ heard_by input.entry ∷ [] }
         // The letters that it says it gives to the post in order, each once, and nothing else.
         ensures hands { GivesLetters P.Carries post.old post.new (λ letters. Says self.old (heard_by input.entry) letters self.new) }
         ensures alive { OnOk result (failed self.new ≡ false) }
@@ -43,10 +36,6 @@ pub trait NodeReplica: Sized + Drop {
 }
 
 impl<M: Machine, D: LogDisk + Drop> NodeReplica for Replica<M, D> {
-    ghost given = { λ _. [] };
-
-    ghost is_telling = { ⊥ };
-
     ghost failed = { λ r. r.failed };
 
     ghost Says = { λ old bytes letters new. D.is_honest → SaysOf M.meaning M.IsText D.is_metered old bytes letters new };

@@ -117,13 +117,12 @@ impl<S: Datagrams + Drop> SocketPost<S> {
         self.own.pop_front()
     }
 
-    /// The next datagram of the socket, and from where it came.
-    pub fn receive<'a>(&mut self, ear: &'a mut Ear) -> Option<(&'a [u8], SocketAddr)>
-        ensures some { S.is_telling → IfSome result (λ r. self.old.next ≡ Some (r.1, r.0.now)) }
-        ensures none { S.is_telling → IsNone result → self.old.next ≡ None }
+    /// The ear hears the next datagram of the socket, if one comes.
+    pub fn listen(&mut self, ear: &mut Ear)
+        ensures comes { S.is_telling → self.old.next ≡ ear.new }
         ensures others { self.new ≡ record self.old { next = self.new.next } }
     {
-        ear.receive(&mut self.socket)
+        ear.receive(&mut self.socket);
     }
 
     /// Why the last send that failed did, where the system told it.

@@ -1,12 +1,12 @@
 //! A node that serves on a socket.
 
-ghost use Rattle.std.specs.Prelude.{◌≡◌, ◌⊎◌, ℕ, ◌+◌, ◌%◌, ◌^◌, ◌++◌, ◌∷◌, [], None, true, false, drop, OnOk, OnErr, IfOk, IfErr};
+ghost use Rattle.std.specs.Prelude.{◌≡◌, ℕ, ◌∷◌, [], None, true, false, OnOk, OnErr, IfOk, IfErr};
 ghost use Rattle.lk_types.specs.Ranges.{IsClient};
 ghost use Rattle.lk_node.specs.Calls.{heard_by};
 ghost use Rattle.lk_replica.specs.Faults.{fault_number, IfSend};
 ghost use Rattle.lk_server.specs.Addresses.{client_at, node_at};
 ghost use Rattle.lk_server.specs.Posts.{Hears};
-ghost use Rattle.lk_server.specs.Servers.{inputs, EndsBehind, FindsNone, HandsOn, Runs, ServesOn, TakesOne, TakesNext, TakesOwn, TicksIdle};
+ghost use Rattle.lk_server.specs.Servers.{EndsIn, EndsOn, FindsNone, HandsOn, LastTurn, Runs, ServesOn, Takes, TakesIn, Turn};
 
 use crate::came::Came;
 use crate::ear::Ear;
@@ -46,7 +46,7 @@ impl<R: NodeReplica, S: Datagrams + Drop> Model for Server<R, S> {
 
     ghost Value = { ServerValue R };
 
-    ghost view = { λ s. record { cluster = s.cluster; node = s.post.node; replica = s.replica; own = s.post.own; given = R.given s.replica; addresses = s.post.addresses; received = s.received; failed = R.failed s.replica; sent = s.post.sent; socket_failures = s.post.socket_failures; next = s.post.next } };
+    ghost view = { λ s. record { cluster = s.cluster; node = s.post.node; replica = s.replica; own = s.post.own; addresses = s.post.addresses; received = s.received; failed = R.failed s.replica; sent = s.post.sent; socket_failures = s.post.socket_failures; next = s.post.next } };
 }
 
 impl<R: NodeReplica, S: Datagrams + Drop> Server<R, S> {
@@ -54,7 +54,7 @@ impl<R: NodeReplica, S: Datagrams + Drop> Server<R, S> {
     pub fn new(alloc: Global, cluster: u64, node: NodeNo, replica: R, socket: S) -> Server<R, S>
         ensures cluster { result.cluster ≡ cluster }
         ensures node { result.node ≡ node }
-        ensures replica { Runs replica (R.given replica) (R.failed replica) result }
+        ensures replica { Runs replica (R.failed replica) result }
         ensures own { result.own ≡ [] }
         ensures clients { (c : ℕ) → IsClient c → client_at result.addresses c ≡ None }
         ensures nodes { (n : ℕ) → node_at result.addresses n ≡ None }
@@ -73,15 +73,15 @@ impl<R: NodeReplica, S: Datagrams + Drop> Server<R, S> {
     /// The replica.
     pub fn replica(&self) -> &R
         ensures is { result.now ≡ self.now.replica }
-        ensures given { R.given result.now ≡ self.now.given }
+        // Whether the server has ended is its replica's to tell.
+        ensures failed { self.now.failed ≡ R.failed self.now.replica }
     {
         &self.replica
     }
 
     /// The replica, as the server leaves it.
     pub fn into_replica(self) -> R
-        ensures is { result ≡ self.replica }
-        ensures given { R.given result ≡ self.given }
+        ensures { result ≡ self.replica }
     {
         let Server {
             cluster: _,
@@ -100,12 +100,11 @@ impl<R: NodeReplica, S: Datagrams + Drop> Server<R, S> {
         came: &Came,
         log: &L,
     ) -> Result<Vec<Note>, ReplicaFault>
-        ensures given { R.is_telling → self.new.given ≡ self.old.given ++ heard_by input.entry ∷ [] }
         ensures addresses { self.new.addresses ≡ self.old.addresses }
         ensures cluster { self.new.cluster ≡ self.old.cluster }
         ensures node { self.new.node ≡ self.old.node }
-        // What the replica said was sent or kept, or a send of it failed, and nothing else was sent.
-        ensures hands_on { HandsOn R.Says S.is_telling R.is_telling self.old.own self.old self.new }
+        // The replica was given that and nothing else; what it said was sent or kept, or a send of it failed, and nothing else was sent.
+        ensures hands_on { HandsOn R.Says S.is_telling (heard_by input.entry ∷ []) self.old.own self.old self.new }
         ensures received { self.new.received ≡ self.old.received }
         ensures alive { OnOk result (self.new.failed ≡ false) }
         ensures sends_on { IfErr result (IfSend (λ notes. self.new.failed ≡ false)) }
@@ -121,12 +120,11 @@ impl<R: NodeReplica, S: Datagrams + Drop> Server<R, S> {
 
     /// Its replica takes a tick or a datagram. What could not be sent is lost, and the notes count all the same.
     fn take<L: Log>(&mut self, input: Input, came: &Came, log: &L) -> Result<(), ServiceFault>
-        ensures given { R.is_telling → self.new.given ≡ self.old.given ++ heard_by input.entry ∷ [] }
         ensures addresses { self.new.addresses ≡ self.old.addresses }
         ensures cluster { self.new.cluster ≡ self.old.cluster }
         ensures node { self.new.node ≡ self.old.node }
-        // What the replica said was sent or kept, or a send of it failed, and nothing else was sent.
-        ensures hands_on { HandsOn R.Says S.is_telling R.is_telling self.old.own self.old self.new }
+        // The replica was given that and nothing else; what it said was sent or kept, or a send of it failed, and nothing else was sent.
+        ensures hands_on { HandsOn R.Says S.is_telling (heard_by input.entry ∷ []) self.old.own self.old self.new }
         ensures received { self.new.received ≡ self.old.received }
         ensures passes { IfErr result (λ f. f ≡ ServiceFault.Send → ⊥) }
         ensures alive { OnOk result (self.new.failed ≡ false) }
@@ -143,12 +141,11 @@ impl<R: NodeReplica, S: Datagrams + Drop> Server<R, S> {
 
     /// Some time has passed.
     pub fn tick<L: Log>(&mut self, log: &L) -> Result<(), ServiceFault>
-        ensures given { R.is_telling → self.new.given ≡ self.old.given ++ None ∷ [] }
         ensures addresses { self.new.addresses ≡ self.old.addresses }
         ensures cluster { self.new.cluster ≡ self.old.cluster }
         ensures node { self.new.node ≡ self.old.node }
-        // What the replica said was sent or kept, or a send of it failed, and nothing else was sent.
-        ensures hands_on { HandsOn R.Says S.is_telling R.is_telling self.old.own self.old self.new }
+        // The replica was given that and nothing else; what it said was sent or kept, or a send of it failed, and nothing else was sent.
+        ensures hands_on { HandsOn R.Says S.is_telling (None ∷ []) self.old.own self.old self.new }
         ensures received { self.new.received ≡ self.old.received }
         ensures passes { IfErr result (λ f. f ≡ ServiceFault.Send → ⊥) }
         ensures alive { OnOk result (self.new.failed ≡ false) }
@@ -164,13 +161,11 @@ impl<R: NodeReplica, S: Datagrams + Drop> Server<R, S> {
         came: &Came,
         log: &L,
     ) -> Result<(), ServiceFault>
-        ensures given { R.is_telling → OnOk result (self.new.given ≡ self.old.given ++ inputs self.new.received bytes.now) }
-        ensures ended { R.is_telling → OnErr result (EndsBehind bytes.now self.old.given self.new.given) }
-        ensures counted { self.new.received ≡ (self.old.received + 1) % 2 ^ 64 }
+        ensures takes { OnOk result (Takes R.Says S.is_telling bytes.now self.old.own self.old self.new) }
+        ensures ends { OnErr result (EndsOn R.Says S.is_telling bytes.now self.old.own self.old self.new) }
         ensures addresses { self.new.addresses ≡ self.old.addresses }
         ensures cluster { self.new.cluster ≡ self.old.cluster }
         ensures node { self.new.node ≡ self.old.node }
-        ensures hands_on { HandsOn R.Says S.is_telling R.is_telling self.old.own self.old self.new }
         ensures passes { IfErr result (λ f. f ≡ ServiceFault.Send → ⊥) }
         ensures alive { OnOk result (self.new.failed ≡ false) }
         ensures broken { OnErr result (self.new.failed ≡ true) }
@@ -190,13 +185,11 @@ impl<R: NodeReplica, S: Datagrams + Drop> Server<R, S> {
         from: SocketAddr,
         log: &L,
     ) -> Result<(), ServiceFault>
-        ensures given { R.is_telling → OnOk result (self.new.given ≡ self.old.given ++ inputs self.new.received bytes.now) }
-        ensures ended { R.is_telling → OnErr result (EndsBehind bytes.now self.old.given self.new.given) }
+        ensures takes { OnOk result (Takes R.Says S.is_telling bytes.now self.old.own self.old self.new) }
+        ensures ends { OnErr result (EndsOn R.Says S.is_telling bytes.now self.old.own self.old self.new) }
         ensures heard { Hears self.old.cluster bytes.now from self.old.addresses self.new.addresses }
-        ensures counted { self.new.received ≡ (self.old.received + 1) % 2 ^ 64 }
         ensures cluster { self.new.cluster ≡ self.old.cluster }
         ensures node { self.new.node ≡ self.old.node }
-        ensures hands_on { HandsOn R.Says S.is_telling R.is_telling self.old.own self.old self.new }
         ensures passes { IfErr result (λ f. f ≡ ServiceFault.Send → ⊥) }
         ensures alive { OnOk result (self.new.failed ≡ false) }
         ensures broken { OnErr result (self.new.failed ≡ true) }
@@ -208,12 +201,11 @@ impl<R: NodeReplica, S: Datagrams + Drop> Server<R, S> {
 
     // Takes a letter of the node to itself, as the datagram that it is.
     fn take_own<L: Log>(&mut self, letter: &Letter, log: &L) -> Result<(), ServiceFault>
-        ensures given { R.is_telling → OnOk result (self.new.given ≡ self.old.given ++ inputs self.new.received letter.now.bytes) }
-        ensures counted { self.new.received ≡ (self.old.received + 1) % 2 ^ 64 }
+        ensures takes { OnOk result (Takes R.Says S.is_telling letter.now.bytes self.old.own self.old self.new) }
+        ensures ends { OnErr result (EndsOn R.Says S.is_telling letter.now.bytes self.old.own self.old self.new) }
         ensures addresses { self.new.addresses ≡ self.old.addresses }
         ensures cluster { self.new.cluster ≡ self.old.cluster }
         ensures node { self.new.node ≡ self.old.node }
-        ensures hands_on { HandsOn R.Says S.is_telling R.is_telling self.old.own self.old self.new }
         ensures passes { IfErr result (λ f. f ≡ ServiceFault.Send → ⊥) }
         ensures alive { OnOk result (self.new.failed ≡ false) }
         ensures broken { OnErr result (self.new.failed ≡ true) }
@@ -224,18 +216,19 @@ impl<R: NodeReplica, S: Datagrams + Drop> Server<R, S> {
 
     // Takes the next datagram from the socket, if one comes. Whether one did.
     fn serve_socket<L: Log>(&mut self, ear: &mut Ear, log: &L) -> Result<bool, ServiceFault>
-        ensures given { R.is_telling → IfOk result (λ came. came ≡ true → TakesOne self.old self.new) }
-        ensures hands { S.is_telling → R.is_telling → IfOk result (λ came. came ≡ true → TakesNext self.old self.new) }
-        ensures idle { S.is_telling → IfOk result (λ came. came ≡ false → self.old.next ≡ None) }
-        ensures none { IfOk result (λ came. came ≡ false → record self.new { next = self.old.next } ≡ self.old) }
-        ensures hands_on { HandsOn R.Says S.is_telling R.is_telling self.old.own self.old self.new }
+        requires { self.old.own ≡ [] }
+        ensures turn { IfOk result (λ came. came ≡ true → TakesIn R.Says S.is_telling [] ear.new self.old self.new) }
+        ensures ends { OnErr result (EndsIn R.Says S.is_telling [] ear.new self.old self.new) }
+        ensures comes { S.is_telling → self.old.next ≡ ear.new }
+        ensures none { IfOk result (λ came. came ≡ false → (record self.new { next = self.old.next } ≡ self.old) × (ear.new ≡ None)) }
         ensures cluster { self.new.cluster ≡ self.old.cluster }
         ensures node { self.new.node ≡ self.old.node }
         ensures passes { IfErr result (λ f. f ≡ ServiceFault.Send → ⊥) }
         ensures alive { IfOk result (λ came. came ≡ true → self.new.failed ≡ false) }
         ensures broken { OnErr result (self.new.failed ≡ true) }
     {
-        let Some((bytes, from)) = self.post.receive(ear) else {
+        self.post.listen(ear);
+        let Some((bytes, from)) = ear.heard() else {
             return Ok(false);
         };
         self.take_datagram(bytes, from, log)?;
@@ -245,14 +238,12 @@ impl<R: NodeReplica, S: Datagrams + Drop> Server<R, S> {
     /// Takes the next datagram, if one comes: the first one that the node wrote to itself, and where there is none that of the socket.
     /// Whether one did.
     pub fn serve_next<L: Log>(&mut self, ear: &mut Ear, log: &L) -> Result<bool, ServiceFault>
-        ensures given { R.is_telling → IfOk result (λ came. came ≡ true → TakesOne self.old self.new) }
-        // What the node wrote to itself it takes once and in order, and before it looks at the socket.
-        ensures own { IfOk result (λ came. came ≡ true → (self.old.own ≡ []) ⊎ TakesOwn R.is_telling self.old self.new) }
-        // Else it is the whole of what came, from where it came.
-        ensures hands { S.is_telling → R.is_telling → IfOk result (λ came. came ≡ true → self.old.own ≡ [] → TakesNext self.old self.new) }
-        ensures none { IfOk result (λ came. came ≡ false → FindsNone S.is_telling self.old self.new) }
-        // What the replica said by that was sent or kept, or a send of it failed, in order, and nothing else was sent.
-        ensures hands_on { HandsOn R.Says S.is_telling R.is_telling (drop 1 self.old.own) self.old self.new }
+        // What the node wrote to itself it takes once and in order, and before it looks at the socket. Else it is the whole of what came, from
+        // where it came. What the replica said by that was sent or kept, or a send of it failed, in order, and nothing else was sent.
+        ensures turn { IfOk result (λ came. came ≡ true → TakesIn R.Says S.is_telling self.old.own ear.new self.old self.new) }
+        ensures ends { OnErr result (EndsIn R.Says S.is_telling self.old.own ear.new self.old self.new) }
+        ensures comes { S.is_telling → self.old.own ≡ [] → self.old.next ≡ ear.new }
+        ensures none { IfOk result (λ came. came ≡ false → FindsNone S.is_telling self.old self.new × (ear.new ≡ None)) }
         ensures cluster { self.new.cluster ≡ self.old.cluster }
         ensures node { self.new.node ≡ self.old.node }
         ensures passes { IfErr result (λ f. f ≡ ServiceFault.Send → ⊥) }
@@ -275,19 +266,14 @@ pub fn node_turn<R: NodeReplica, S: Datagrams + Drop, L: Log>(
     ear: &mut Ear,
     log: &L,
 ) -> Result<(), ServiceFault>
-    ensures given { R.is_telling → OnOk result (TakesOne server.old server.new ⊎ (server.new.given ≡ server.old.given ++ None ∷ [])) }
-    // Where the node wrote to itself it takes the first letter of that, and no tick.
-    ensures own { OnOk result ((server.old.own ≡ []) ⊎ TakesOwn R.is_telling server.old server.new) }
-    // Else it takes the whole of what came, from where it came, and a tick where nothing did.
-    ensures hands { S.is_telling → R.is_telling → OnOk result (server.old.own ≡ [] → TakesNext server.old server.new ⊎ TicksIdle server.old server.new) }
-    // The letters that the replica said in this turn were each sent where they go, kept for the node itself, or lost by a send that failed,
-    // in order, and nothing else was sent.
-    ensures hands_on { HandsOn R.Says S.is_telling R.is_telling (drop 1 server.old.own) server.old server.new }
-    ensures cluster { server.new.cluster ≡ server.old.cluster }
-    ensures node { server.new.node ≡ server.old.node }
+    // Where the node wrote to itself it takes the first letter of that, and no tick. Else it takes the whole of what came, from where it came, and
+    // a tick where nothing did; what came stands in the ear. Its replica was given just that. The letters that it said were each sent where
+    // they go, kept for the node itself, or lost by a send that failed, in order, and nothing else was sent.
+    ensures turn { OnOk result (Turn R.Says S.is_telling ear.new server.old server.new) }
+    ensures ends { OnErr result (LastTurn R.Says S.is_telling ear.new server.old server.new) }
+    // A socket that tells what comes next has given just that.
+    ensures comes { S.is_telling → server.old.own ≡ [] → server.old.next ≡ ear.new }
     ensures passes { IfErr result (λ f. f ≡ ServiceFault.Send → ⊥) }
-    ensures alive { OnOk result (server.new.failed ≡ false) }
-    ensures broken { OnErr result (server.new.failed ≡ true) }
 {
     if server.serve_next(ear, log)? {
         return Ok(());

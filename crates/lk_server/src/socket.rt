@@ -44,6 +44,8 @@ pub trait Datagrams {
     /// Puts the next datagram into the buffer, and tells its length and from where it came. What does not fit is lost.
     /// `None` where none came within 100 ms, or the receive failed.
     fn receive(&mut self, buffer: &mut [u8]) -> Option<(usize, SocketAddr)>
+        // There is room for the longest datagram, and a byte more.
+        requires room { 8193 ≤ length buffer.old }
         ensures within { IfSome result (λ r. r.0 ≤ length buffer.new) }
         ensures some { is_telling → IfSome result (λ r. next self.old ≡ Some (r.1, take r.0 buffer.new)) }
         ensures none { is_telling → IsNone result → next self.old ≡ None }

@@ -1,28 +1,23 @@
 -- The turns of a server, one after another.
-use Rattle.std.specs.Prelude.{◌≡◌, ◌⊎◌, ◌<◌, ℕ, true, false, List, [], Option, drop}
+use Rattle.std.specs.Prelude.{◌≡◌, ◌<◌, ℕ, false, List, [], Option}
+use Rattle.std.specs.declared.net.socket_addr.SocketAddr.{SocketAddr}
 use Rattle.lk_entries.specs.Values.{HeaderValue}
 use Rattle.lk_step.specs.Letters.{LetterValue}
 use Rattle.lk_replica.specs.ReplicaValue.{ReplicaValue}
 use Rattle.lk_replica.specs.Revivals.{MayGoOn}
-use Rattle.lk_server.specs.Servers.{ServerValue, HandsOn, TakesOwn}
+use Rattle.lk_server.specs.Servers.{ServerValue, Turn, LastTurn}
 use Rattle.lk_service.specs.Chains.{Repeats}
 
--- a turn of a server of which nobody tells what it is given and sends: where letters of the node to itself waited it took the first of them; of
--- what its replica said it kept none but letters of the node to itself, after those that wait; the node and its cluster are the same, and
--- the replica goes on
+-- a turn of a server of which nobody tells what its socket sends and what comes to it: something came to it or nothing, its replica was given the first
+-- letter of the node to itself, or where none waited just that, or a tick, and goes on
 pub record TakesTurn {R : Type 0} (Says : R → Option (List ℕ) → List LetterValue → R → Type 0) (old new : ServerValue R) : Type 0 where
-  pub own : (old.own ≡ []) ⊎ TakesOwn ⊥ old new
-  pub hands_on : HandsOn Says ⊥ ⊥ (drop 1 old.own) old new
-  pub cluster : new.cluster ≡ old.cluster
-  pub node : new.node ≡ old.node
-  pub alive : new.failed ≡ false
+  pub came : Option (SocketAddr × List ℕ)
+  pub turn : Turn Says ⊥ came old new
 
 -- a turn that ended the replica
 pub record EndsTurn {R : Type 0} (Says : R → Option (List ℕ) → List LetterValue → R → Type 0) (old new : ServerValue R) : Type 0 where
-  pub hands_on : HandsOn Says ⊥ ⊥ (drop 1 old.own) old new
-  pub cluster : new.cluster ≡ old.cluster
-  pub node : new.node ≡ old.node
-  pub ended : new.failed ≡ true
+  pub came : Option (SocketAddr × List ℕ)
+  pub turn : LastTurn Says ⊥ came old new
 
 -- fewer turns than so many were taken, and then one that ended the replica
 pub record BreaksOff {R : Type 0} (Says : R → Option (List ℕ) → List LetterValue → R → Type 0) (most : ℕ) (old new : ServerValue R) : Type 0 where

@@ -68,7 +68,8 @@ pub fn next_reply<S: Datagrams>(ear: &mut Ear, socket: &mut S, question: &Questi
     ensures unchanged { S.sent socket.new ≡ S.sent socket.old }
     ensures spares { S.failures socket.new ≡ S.failures socket.old }
 {
-    let Some((bytes, _)) = ear.receive(socket) else {
+    ear.receive(socket);
+    let Some((bytes, _)) = ear.heard() else {
         return Heard::Nothing;
     };
     match read_reply(question.cluster, &question.request, bytes) {

@@ -1,14 +1,14 @@
 //! A node over the files of a folder and a socket.
 
-ghost use Rattle.std.specs.Prelude.{◌≡◌, ◌≤◌, ◌⊎◌, ◌^◌, [], true, false, drop, IfOk, IfErr, OnOk, OnErr};
+ghost use Rattle.std.specs.Prelude.{◌≡◌, ◌≤◌, ◌^◌, [], true, false, IfOk, IfErr, OnOk, OnErr};
 ghost use Rattle.lk_members.specs.Ports.{port_in};
 ghost use Rattle.lk_replica.specs.Faults.{fault_number};
 ghost use Rattle.lk_replica.specs.ReplicaValue.{ReplicaValue};
 ghost use Rattle.lk_replica.specs.Revivals.{MayGoOn};
 ghost use Rattle.lk_server.specs.Faults.{replica_fault};
-ghost use Rattle.lk_server.specs.Servers.{ServerValue, HandsOn, TakesOwn};
+ghost use Rattle.lk_server.specs.Servers.{ServerValue, Turn, LastTurn};
 ghost use Rattle.lk_service.specs.Chains.{Repeats};
-ghost use Rattle.lk_service.specs.Revivals.{IsOfRevival};
+ghost use Rattle.lk_service.specs.Revivals.{ComesUp, IsOfRevival};
 ghost use Rattle.lk_service.specs.Turns.{TakesTurn, BreaksOff, Serves};
 
 use crate::causes::{open_socket, tell_device};
@@ -52,6 +52,8 @@ fn take_up<M: Machine, D: LogDisk + Drop, L: Log>(
 ) -> Result<Replica<M, D>, ReviveFault<D>>
     // It can take calls as the node of this header: nothing of it has failed.
     ensures ready { IfOk result (λ r. MayGoOn header.now r) }
+    // It comes up by what the device has.
+    ensures comes_up { D.is_honest → IfOk result (ComesUp M.meaning header.now (D.disk device)) }
     // It is refused with 7 to 11.
     ensures refused { IfErr result (λ e. (7 ≤ fault_number e.fault) × (fault_number e.fault ≤ 11)) }
 {
@@ -76,6 +78,8 @@ pub fn revive<M: Machine, D: LogDisk + Drop, S: Datagrams + Drop, L: Log>(
     ensures cluster { IfOk result (λ s. s.cluster ≡ header.now.cluster) }
     ensures node { IfOk result (λ s. s.node ≡ header.now.node) }
     ensures ready { IfOk result (λ s. MayGoOn header.now s.replica) }
+    // It comes up by what the device has.
+    ensures comes_up { D.is_honest → IfOk result (λ s. ComesUp M.meaning header.now (D.disk device) s.replica) }
     // It has not failed, and nothing has come to it.
     ensures alive { IfOk result (λ s. s.failed ≡ false) }
     ensures own { IfOk result (λ s. s.own ≡ []) }
@@ -174,15 +178,11 @@ fn take_turn<M: Machine, L: Log, E: Write>(
     log: &L,
     err: &mut E,
 ) -> Result<(), ServiceFault>
-    // Where the node wrote to itself it takes the first letter of that, and no tick.
-    ensures own { OnOk result ((server.old.own ≡ []) ⊎ TakesOwn ⊥ server.old server.new) }
-    // Of the letters that the replica said it keeps none but those of the node to itself, after the ones that wait.
-    ensures hands_on { HandsOn ⟦<Replica<M, FolderDisk> as NodeReplica>⟧.Says ⊥ ⊥ (drop 1 server.old.own) server.old server.new }
-    ensures cluster { server.new.cluster ≡ server.old.cluster }
-    ensures node { server.new.node ≡ server.old.node }
+    // What came stands in the ear, and its replica was given just that, or what it wrote to itself. Of the letters that it said it keeps none but
+    // those of the node to itself, after the ones that wait.
+    ensures turn { OnOk result (Turn ⟦<Replica<M, FolderDisk> as NodeReplica>⟧.Says ⊥ ear.new server.old server.new) }
+    ensures ends { OnErr result (LastTurn ⟦<Replica<M, FolderDisk> as NodeReplica>⟧.Says ⊥ ear.new server.old server.new) }
     ensures passes { IfErr result (λ f. f ≡ ServiceFault.Send → ⊥) }
-    ensures alive { OnOk result (server.new.failed ≡ false) }
-    ensures broken { OnErr result (server.new.failed ≡ true) }
 {
     match node_turn(server, ear, log) {
         Ok(()) => Ok(()),

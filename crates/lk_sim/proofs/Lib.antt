@@ -16,3 +16,5 @@ mod Doing
 mod Snapshots
 mod Running
 mod Stopping
+pub mod Networks
+mod Grouping

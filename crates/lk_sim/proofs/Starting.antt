@@ -46,7 +46,7 @@ empty_fits m h n disks empty silent image may = record {
     none zero = refl
     none (suc k) = refl
 
-at_push : {X : Type 0} (xs : List X) (y : X) (j : ℕ) (x : X) → At (xs ++ y ∷ []) j x → At xs j x ⊎ ((j ≡ length xs) × (y ≡ x))
+pub at_push : {X : Type 0} (xs : List X) (y : X) (j : ℕ) (x : X) → At (xs ++ y ∷ []) j x → At xs j x ⊎ ((j ≡ length xs) × (y ≡ x))
 at_push [] y zero x c = inr (refl, c.1)
 at_push [] y (suc j) x c = absurd (omega (arith, c.0))
 at_push (z ∷ xs) y zero x c = inl (omega arith, c.1)

@@ -38,7 +38,7 @@ front_of_front j k xs = elim (cases_lt k j) [
 
 module _ (m : Meaning) (h : History) (n : ℕ) (Shows : Holding → Type 0) (disks : Side → Disk) (notes : List Note) where
   -- what a call leaves with its datagrams it leaves with a beginning of them
-  goes_before : (k : ℕ) (all : List Datagram) → Goes m h n Shows disks notes all → Goes m h n Shows disks notes (take k all)
+  pub goes_before : (k : ℕ) (all : List Datagram) → Goes m h n Shows disks notes all → Goes m h n Shows disks notes (take k all)
   goes_before k all g = record {
     holding = g.holding;
     shown = g.shown;

@@ -14,3 +14,4 @@ pub mod Packed
 pub mod Worlds
 pub mod Promises
 pub mod Runs
+pub mod Networks

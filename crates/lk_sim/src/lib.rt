@@ -8,6 +8,7 @@ mod event;
 mod finding;
 mod giving;
 mod happening;
+pub mod laws;
 mod lives;
 mod packing;
 mod parts;

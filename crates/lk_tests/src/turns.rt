@@ -49,10 +49,6 @@ fn ran(alloc: Global) -> Result<Vec<Note>, ReplicaFault> {
 }
 
 impl NodeReplica for Told {
-    ghost given = { λ _. [] };
-
-    ghost is_telling = { ⊥ };
-
     ghost failed = { λ t. t.failed };
 
     ghost Says = { λ _ _ letters _. letters ≡ [] };

@@ -5,7 +5,7 @@ use Rattle.lk_service.proofs.running.take_turns.Goals as goal
 
 pub turns-preserved : goal.turns-preserved
 turns-preserved g c =
-    let taken = c.in_ok-take_turn.ensures in turns_more c.turns.invariant taken.own taken.hands_on taken.cluster taken.node taken.alive
+    turns_more c.take_turn.new.ear c.turns.invariant c.in_ok-take_turn.ensures.turn
 
 pub returns-clause-ok : goal.returns-clause-ok
 returns-clause-ok g c =
@@ -14,5 +14,4 @@ returns-clause-ok g c =
 
 pub returns-in_err-take_turn-clause-err : goal.returns-in_err-take_turn-clause-err
 returns-in_err-take_turn-clause-err g c =
-    let ended = c.in_err-take_turn.ensures in
-    on_err c.from_residual.result (turns_end 281474976710656 c.turns-test.true c.turns.invariant ended.hands_on ended.cluster ended.node ended.broken)
+    on_err c.from_residual.result (turns_end c.take_turn.new.ear 281474976710656 c.turns-test.true c.turns.invariant c.in_err-take_turn.ensures.ends)

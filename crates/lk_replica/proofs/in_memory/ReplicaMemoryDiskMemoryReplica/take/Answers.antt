@@ -25,25 +25,29 @@ pub returns-in-Ok-clause-goes : goal.returns-in-Ok-clause-goes
 returns-in-Ok-clause-goes g c h n fits heard =
     let m : Meaning = g.M.Machine.meaning in
     let own = c.args.self.now in
-    let went = c.in_ok-notes.ensures.goes tt tt h n (off_device (λ d. NodeFits m h n (Stands m own.node own.store h.genesis n) d) own.store fits) heard in
-    let letters : c.take.new.post.letters ≡ went.0 = went.1 ∙ ap (λ (p : CollectedValue). p.letters ++ went.0) c.empty_post-post.ensures in
+    let all = c.in_ok-notes.ensures.gives.letters in
+    let by = c.in_ok-notes.ensures.gives.holds tt in
+    let went = by.goes h n (off_device (λ d. NodeFits m h n (Stands m own.node own.store h.genesis n) d) own.store fits) heard in
+    let letters : c.take.new.post.letters ≡ all = by.taken.sent.1 tt ∙ ap (λ (p : CollectedValue). p.letters ++ by.taken.out.letters) c.empty_post-post.ensures ∙ by.taken.sent.0 in
     let is : c.number-node.result ≡ n = c.number-node.ensures ∙ ap (λ (w : HeaderValue). w.node) fits.shown.whose in
-    let batch : c.in-Ok.sent.items ≡ batch_of n went.0 = c.in-Ok.ensures.ok ∙ (λ i. batch_of (is i) (letters i)) in
+    let batch : c.in-Ok.sent.items ≡ batch_of n all = c.in-Ok.ensures.ok ∙ (λ i. batch_of (is i) (letters i)) in
     subst (λ (ds : List Datagram). Goes m h n (Stands m c.take.new.self.node c.take.new.self.store h.genesis n) (disk_of (device_of c.take.new.self.store)) c.in_ok-notes.notes.items ds) (sym batch)
-    (on_device (λ d. Goes m h n (Stands m c.take.new.self.node c.take.new.self.store h.genesis n) d c.in_ok-notes.notes.items (batch_of n went.0)) c.take.new.self.store went.2)
+    (on_device (λ d. Goes m h n (Stands m c.take.new.self.node c.take.new.self.store h.genesis n) d c.in_ok-notes.notes.items (batch_of n all)) c.take.new.self.store went)
 
 pub returns-in-Ok-clause-syncs : goal.returns-in-Ok-clause-syncs
 returns-in-Ok-clause-syncs g c genesis n held x shown =
     let m : Meaning = g.M.Machine.meaning in
-    let synced = c.take.ensures.syncs tt tt genesis n x (remembered m genesis n held c.args.self.now.node c.args.self.now.store shown) in
-    let letters : c.take.new.post.letters ≡ synced.0 = synced.1 ∙ ap (λ (p : CollectedValue). p.letters ++ synced.0) c.empty_post-post.ensures in
+    let all = c.in_ok-notes.ensures.gives.letters in
+    let by = c.in_ok-notes.ensures.gives.holds tt in
+    let letters : c.take.new.post.letters ≡ all = by.taken.sent.1 tt ∙ ap (λ (p : CollectedValue). p.letters ++ by.taken.out.letters) c.empty_post-post.ensures ∙ by.taken.sent.0 in
     let is : c.number-node.result ≡ n = c.number-node.ensures ∙ ap (λ (w : HeaderValue). w.node) shown.whose in
-    let batch : c.in-Ok.sent.items ≡ batch_of n synced.0 = c.in-Ok.ensures.ok ∙ (λ i. batch_of (is i) (letters i)) in
-    λ d listed said. on_device (λ z. AllCover m genesis n z x) c.take.new.self.store (synced.2 d (subst (λ (ds : List Datagram). Contains ds d) batch listed) said)
+    let batch : c.in-Ok.sent.items ≡ batch_of n all = c.in-Ok.ensures.ok ∙ (λ i. batch_of (is i) (letters i)) in
+    λ d listed said. on_device (λ z. AllCover m genesis n z x) c.take.new.self.store
+    (by.syncs genesis n x (remembered m genesis n held c.args.self.now.node c.args.self.now.store shown) d (subst (λ (ds : List Datagram). Contains ds d) batch listed) said)
 
 pub returns-in-Ok-clause-exact : goal.returns-in-Ok-clause-exact
 returns-in-Ok-clause-exact g c =
-    let taken = c.in_ok-notes.ensures.exact.holds tt in
+    let taken = (c.in_ok-notes.ensures.gives.holds tt).taken in
     let letters : c.take.new.post.letters ≡ taken.out.letters = taken.sent.1 tt ∙ ap (λ (p : CollectedValue). p.letters ++ taken.out.letters) c.empty_post-post.ensures in
     record {
       input = c.args.input;

@@ -11,111 +11,93 @@ use Rattle.lk_replica.specs.Compacting.{RebasesWhereDue}
 use Rattle.lk_replica.specs.Taking.{CallsOfStep, IsRefused, LeavesDisks}
 use Rattle.lk_replica.proofs.NoSend.{goes_not}
 use Rattle.lk_replica.proofs.Refusals.{refused_by_parts}
-use Rattle.lk_replica.proofs.Thinning.{thins_are_of, batch_among}
 use Rattle.lk_log.proofs.Room.{within_same}
 use Rattle.lk_replica.proofs.replica.Replica.take.Goals as goal
 use Rattle.lk_disk.specs.Meters.{start}
 use Rattle.lk_replica.specs.Remembering.{Remembers}
 use Rattle.lk_replica.specs.Faults.{fault_number}
 
-pub returns-in-Ok-clause-goes : goal.returns-in-Ok-clause-goes
-returns-in-Ok-clause-goes g c honest telling h n f heard =
+pub returns-then-self-clause-gives : goal.returns-then-self-clause-gives
+returns-then-self-clause-gives g c = record {
+  letters = [];
+  carried = refl;
+  holds = λ honest. record { taken = tt; goes = λ h n f heard. tt; syncs = λ genesis n x shown d listed said. absurd (omega (arith, listed.1)) };
+}
+
+pub returns-in_err-outbox-clause-gives : goal.returns-in_err-outbox-clause-gives
+returns-in_err-outbox-clause-gives g c = record {
+  letters = [];
+  carried = refl;
+  holds = λ honest. record {
+    taken = goes_not _ _ _ c.from_residual.ensures.1 c.in_err-outbox.ensures.refused.only;
+    goes = λ h n f heard. goes_not _ _ _ c.from_residual.ensures.1 c.in_err-outbox.ensures.refused.only;
+    syncs = λ genesis n x shown d listed said. absurd (omega (arith, listed.1));
+  };
+}
+
+pub returns-in-Ok-clause-gives : goal.returns-in-Ok-clause-gives
+returns-in-Ok-clause-gives g c =
     let m = g.M.Machine.meaning in
-    let fits : NodeFits m h n (Stands m c.self.inside.node c.self.inside.store h.genesis n) (disks c.self.inside.store) =
-    subst (λ (r : ReplicaValue). NodeFits m h n (Stands m r.node r.store h.genesis n) (disks r.store)) (sym c.self.view_is) f in
-    let letters : c.in_ok-outbox.outbox.letters ≡ c.deref.result.now = sym (c.deref.ensures.value ∙ ap (λ (o : OutboxValue). o.letters) c.outbox.view_is) in (
-      c.deref.result.now,
-      c.in-Ok.ensures.all telling,
-      subst (λ (notes : List Note). Goes m h n (Stands m c.rebase_and_step.new.node c.rebase_and_step.new.store h.genesis n) (disks c.rebase_and_step.new.store) notes (batch_of n c.deref.result.now)) (sym (ap (λ (o : OutboxValue). o.notes) c.outbox.view_is))
-          (subst (λ (sent : List LetterValue). Goes m h n (Stands m c.rebase_and_step.new.node c.rebase_and_step.new.store h.genesis n) (disks c.rebase_and_step.new.store) c.in_ok-outbox.outbox.notes (batch_of n sent)) letters
-          (c.in_ok-outbox.ensures.goes honest h n fits heard c.in_ok-outbox.outbox.letters (λ l listed. listed))),
-    )
-
-pub returns-clause-goes : goal.returns-clause-goes
-returns-clause-goes g c honest telling h n f heard =
-    let m = g.M.Machine.meaning in
-    let fits : NodeFits m h n (Stands m c.self.inside.node c.self.inside.store h.genesis n) (disks c.self.inside.store) =
-    subst (λ (r : ReplicaValue). NodeFits m h n (Stands m r.node r.store h.genesis n) (disks r.store)) (sym c.self.view_is) f in
-    let letters : c.deref.result.now ≡ c.in_ok-outbox.outbox.letters = c.deref.ensures.value ∙ ap (λ (o : OutboxValue). o.letters) c.outbox.view_is in
-    let kept = (c.in-Err.ensures.some telling).1 in (
-      kept.0,
-      kept.2,
-      subst (λ (notes : List Note). Goes m h n (Stands m c.rebase_and_step.new.node c.rebase_and_step.new.store h.genesis n) (disks c.rebase_and_step.new.store) notes (batch_of n kept.0)) (sym (ap (λ (o : OutboxValue). o.notes) c.outbox.view_is))
-          (c.in_ok-outbox.ensures.goes honest h n fits heard kept.0 (subst (λ (all : List LetterValue). (l : LetterValue) → Contains kept.0 l → Contains all l) letters (thins_are_of c.deref.result.now (c.in-Err.ensures.some telling).0 kept.0 kept.1))),
-    )
-
-pub returns-in_err-outbox-clause-goes : goal.returns-in_err-outbox-clause-goes
-returns-in_err-outbox-clause-goes g c honest telling h n f heard = goes_not _ _ _ c.from_residual.ensures.1 c.in_err-outbox.ensures.refused.only
-
-pub returns-in-Ok-clause-syncs : goal.returns-in-Ok-clause-syncs
-returns-in-Ok-clause-syncs g c honest telling genesis n x shown =
-    let m = g.M.Machine.meaning in
-    let letters : c.deref.result.now ≡ c.in_ok-outbox.outbox.letters = c.deref.ensures.value ∙ ap (λ (o : OutboxValue). o.letters) c.outbox.view_is in (
-      c.deref.result.now,
-      c.in-Ok.ensures.all telling,
-      λ d listed said. c.in_ok-outbox.ensures.syncs honest genesis n x (subst (λ (r : ReplicaValue). Remembers r.node r.store genesis n) (sym c.self.view_is) shown) d (subst (λ (ls : List LetterValue). Contains (batch_of n ls) d) letters listed) said,
-    )
-
-pub returns-clause-syncs : goal.returns-clause-syncs
-returns-clause-syncs g c honest telling genesis n x shown =
-    let m = g.M.Machine.meaning in
-    let letters : c.deref.result.now ≡ c.in_ok-outbox.outbox.letters = c.deref.ensures.value ∙ ap (λ (o : OutboxValue). o.letters) c.outbox.view_is in
-    let kept = (c.in-Err.ensures.some telling).1 in (
-      kept.0,
-      kept.2,
-      λ d listed said. c.in_ok-outbox.ensures.syncs honest genesis n x (subst (λ (r : ReplicaValue). Remembers r.node r.store genesis n) (sym c.self.view_is) shown) d
-          (subst (λ (ls : List LetterValue). Contains (batch_of n ls) d) letters (batch_among n kept.0 c.deref.result.now (thins_are_of c.deref.result.now (c.in-Err.ensures.some telling).0 kept.0 kept.1) d listed)) said,
-    )
-
-pub returns-then-self-clause-exact : goal.returns-then-self-clause-exact
-returns-then-self-clause-exact g c = record { letters = []; carried = refl; holds = λ honest. tt }
-
-pub returns-in_err-outbox-clause-exact : goal.returns-in_err-outbox-clause-exact
-returns-in_err-outbox-clause-exact g c = record { letters = []; carried = refl; holds = λ honest. goes_not _ _ _ c.from_residual.ensures.1 c.in_err-outbox.ensures.refused.only }
-
-pub returns-in-Ok-clause-exact : goal.returns-in-Ok-clause-exact
-returns-in-Ok-clause-exact g c =
     let letters : c.deref.result.now ≡ c.in_ok-outbox.outbox.letters = c.deref.ensures.value ∙ ap (λ (o : OutboxValue). o.letters) c.outbox.view_is in
     record {
       letters = c.in_ok-outbox.outbox.letters;
       carried = subst (λ (ls : List LetterValue). CarriesAll g.P.Post.Carries c.args.post.now ls c.deliver.new.post) letters c.deliver.ensures.carries;
       holds = λ honest. record {
-        out = c.in_ok-outbox.outbox;
-        mid = (c.in_ok-outbox.ensures.exact honest).0;
-        between = (c.in_ok-outbox.ensures.exact honest).1;
-        rebases = subst (λ (r : ReplicaValue). RebasesWhereDue r.node r.store (c.in_ok-outbox.ensures.exact honest).0 (c.in_ok-outbox.ensures.exact honest).1) c.self.view_is (c.in_ok-outbox.ensures.exact honest).2;
-        stepped = (c.in_ok-outbox.ensures.exact honest).3;
-        steps = (c.in_ok-outbox.ensures.exact honest).4;
-        writes = (c.in_ok-outbox.ensures.exact honest).5;
-        noted = ap (λ (o : OutboxValue). o.notes) c.outbox.view_is;
-        sent = (refl, λ telling. c.in-Ok.ensures.all telling ∙ ap (λ (ls : List LetterValue). g.P.Post.sent c.args.post.now ++ ls) letters);
-        calls = λ metered. subst (λ (r : ReplicaValue). CallsOfStep r.node r.store c.in_ok-outbox.outbox c.rebase_and_step.new.store) c.self.view_is (c.in_ok-outbox.ensures.calls metered honest);
-        alive = refl;
-        store_alive = c.in_ok-outbox.ensures.alive.store_alive;
-        awake = c.in_ok-outbox.ensures.alive.awake;
+        taken = record {
+          out = c.in_ok-outbox.outbox;
+          mid = (c.in_ok-outbox.ensures.exact honest).0;
+          between = (c.in_ok-outbox.ensures.exact honest).1;
+          rebases = subst (λ (r : ReplicaValue). RebasesWhereDue r.node r.store (c.in_ok-outbox.ensures.exact honest).0 (c.in_ok-outbox.ensures.exact honest).1) c.self.view_is (c.in_ok-outbox.ensures.exact honest).2;
+          stepped = (c.in_ok-outbox.ensures.exact honest).3;
+          steps = (c.in_ok-outbox.ensures.exact honest).4;
+          writes = (c.in_ok-outbox.ensures.exact honest).5;
+          noted = ap (λ (o : OutboxValue). o.notes) c.outbox.view_is;
+          sent = (refl, λ telling. c.in-Ok.ensures.all telling ∙ ap (λ (ls : List LetterValue). g.P.Post.sent c.args.post.now ++ ls) letters);
+          calls = λ metered. subst (λ (r : ReplicaValue). CallsOfStep r.node r.store c.in_ok-outbox.outbox c.rebase_and_step.new.store) c.self.view_is (c.in_ok-outbox.ensures.calls metered honest);
+          alive = refl;
+          store_alive = c.in_ok-outbox.ensures.alive.store_alive;
+          awake = c.in_ok-outbox.ensures.alive.awake;
+        };
+        goes = λ h n f heard.
+            let fits : NodeFits m h n (Stands m c.self.inside.node c.self.inside.store h.genesis n) (disks c.self.inside.store) =
+            subst (λ (r : ReplicaValue). NodeFits m h n (Stands m r.node r.store h.genesis n) (disks r.store)) (sym c.self.view_is) f in
+            subst (λ (notes : List Note). Goes m h n (Stands m c.rebase_and_step.new.node c.rebase_and_step.new.store h.genesis n) (disks c.rebase_and_step.new.store) notes (batch_of n c.in_ok-outbox.outbox.letters)) (sym (ap (λ (o : OutboxValue). o.notes) c.outbox.view_is))
+            (c.in_ok-outbox.ensures.goes honest h n fits heard c.in_ok-outbox.outbox.letters (λ l listed. listed));
+        syncs = λ genesis n x shown d listed said.
+            c.in_ok-outbox.ensures.syncs honest genesis n x (subst (λ (r : ReplicaValue). Remembers r.node r.store genesis n) (sym c.self.view_is) shown) d listed said;
       };
     }
 
-pub returns-clause-exact : goal.returns-clause-exact
-returns-clause-exact g c =
+pub returns-clause-gives : goal.returns-clause-gives
+returns-clause-gives g c =
+    let m = g.M.Machine.meaning in
     let letters : c.deref.result.now ≡ c.in_ok-outbox.outbox.letters = c.deref.ensures.value ∙ ap (λ (o : OutboxValue). o.letters) c.outbox.view_is in
     record {
       letters = c.in_ok-outbox.outbox.letters;
       carried = subst (λ (ls : List LetterValue). CarriesAll g.P.Post.Carries c.args.post.now ls c.deliver.new.post) letters c.deliver.ensures.carries;
       holds = λ honest. record {
-        out = c.in_ok-outbox.outbox;
-        mid = (c.in_ok-outbox.ensures.exact honest).0;
-        between = (c.in_ok-outbox.ensures.exact honest).1;
-        rebases = subst (λ (r : ReplicaValue). RebasesWhereDue r.node r.store (c.in_ok-outbox.ensures.exact honest).0 (c.in_ok-outbox.ensures.exact honest).1) c.self.view_is (c.in_ok-outbox.ensures.exact honest).2;
-        stepped = (c.in_ok-outbox.ensures.exact honest).3;
-        steps = (c.in_ok-outbox.ensures.exact honest).4;
-        writes = (c.in_ok-outbox.ensures.exact honest).5;
-        noted = ap (λ (o : OutboxValue). o.notes) c.outbox.view_is;
-        sent = (refl, λ telling. subst (λ (ls : List LetterValue). SendsSome ls (g.P.Post.sent c.args.post.now) (g.P.Post.sent c.deliver.new.post) (g.P.Post.failures c.args.post.now) (g.P.Post.failures c.deliver.new.post)) letters (c.in-Err.ensures.some telling));
-        calls = λ metered. subst (λ (r : ReplicaValue). CallsOfStep r.node r.store c.in_ok-outbox.outbox c.rebase_and_step.new.store) c.self.view_is (c.in_ok-outbox.ensures.calls metered honest);
-        alive = refl;
-        store_alive = c.in_ok-outbox.ensures.alive.store_alive;
-        awake = c.in_ok-outbox.ensures.alive.awake;
+        taken = record {
+          out = c.in_ok-outbox.outbox;
+          mid = (c.in_ok-outbox.ensures.exact honest).0;
+          between = (c.in_ok-outbox.ensures.exact honest).1;
+          rebases = subst (λ (r : ReplicaValue). RebasesWhereDue r.node r.store (c.in_ok-outbox.ensures.exact honest).0 (c.in_ok-outbox.ensures.exact honest).1) c.self.view_is (c.in_ok-outbox.ensures.exact honest).2;
+          stepped = (c.in_ok-outbox.ensures.exact honest).3;
+          steps = (c.in_ok-outbox.ensures.exact honest).4;
+          writes = (c.in_ok-outbox.ensures.exact honest).5;
+          noted = ap (λ (o : OutboxValue). o.notes) c.outbox.view_is;
+          sent = (refl, λ telling. subst (λ (ls : List LetterValue). SendsSome ls (g.P.Post.sent c.args.post.now) (g.P.Post.sent c.deliver.new.post) (g.P.Post.failures c.args.post.now) (g.P.Post.failures c.deliver.new.post)) letters (c.in-Err.ensures.some telling));
+          calls = λ metered. subst (λ (r : ReplicaValue). CallsOfStep r.node r.store c.in_ok-outbox.outbox c.rebase_and_step.new.store) c.self.view_is (c.in_ok-outbox.ensures.calls metered honest);
+          alive = refl;
+          store_alive = c.in_ok-outbox.ensures.alive.store_alive;
+          awake = c.in_ok-outbox.ensures.alive.awake;
+        };
+        goes = λ h n f heard.
+            let fits : NodeFits m h n (Stands m c.self.inside.node c.self.inside.store h.genesis n) (disks c.self.inside.store) =
+            subst (λ (r : ReplicaValue). NodeFits m h n (Stands m r.node r.store h.genesis n) (disks r.store)) (sym c.self.view_is) f in
+            subst (λ (notes : List Note). Goes m h n (Stands m c.rebase_and_step.new.node c.rebase_and_step.new.store h.genesis n) (disks c.rebase_and_step.new.store) notes (batch_of n c.in_ok-outbox.outbox.letters)) (sym (ap (λ (o : OutboxValue). o.notes) c.outbox.view_is))
+            (c.in_ok-outbox.ensures.goes honest h n fits heard c.in_ok-outbox.outbox.letters (λ l listed. listed));
+        syncs = λ genesis n x shown d listed said.
+            c.in_ok-outbox.ensures.syncs honest genesis n x (subst (λ (r : ReplicaValue). Remembers r.node r.store genesis n) (sym c.self.view_is) shown) d listed said;
       };
     }
 

@@ -18,8 +18,7 @@ pub returns-clause-hands_on : goal.returns-clause-hands_on
 returns-clause-hands_on g c =
     let hands = c.take-taken.ensures.hands in
     let tells = g.S.Datagrams.is_telling in
-    let given : g.R.NodeReplica.given c.self.inside.replica ≡ c.args.self.now.given = search rules in
     let begun : tray_of c.begin.new.self ≡ tray_at c.args.self.now.own c.args.self.now = search rules in
-    rw (← c.self.view_is) (hands_on_one g.R.NodeReplica.Says tells g.R.NodeReplica.is_telling _ _ c.begin.new.self c.take-taken.new.post _ hands c.take-taken.ensures.given
+    rw (← c.self.view_is) (hands_on_one g.R.NodeReplica.Says tells _ _ c.begin.new.self c.take-taken.new.post _ hands
     (same_node tells c.begin.new.self c.take-taken.new.post hands.letters hands.carried) (same_addresses tells c.begin.new.self c.take-taken.new.post hands.letters hands.carried)
     (search rules) refl)

@@ -1,0 +1,258 @@
+-- What happens to a cluster keeps all that holds of it.
+use Rattle.std.proofs.Common.{◌≡◌, ℕ, ◌⊎◌, ◌==◌, ◌%◌, true, false, Bool, Option, Some, None, List, [], ◌∷◌, ◌++◌, drop, set, Contains, refl, ap, sym, ◌∙◌, subst, subst₂, inl, inr, append-nil, arith}
+use Rattle.std.specs.Prelude.{map}
+use Rattle.std.proofs.lemmas.Bool.{cases_Bool}
+use Rattle.std.proofs.lemmas.List.Elements.{Contains-append_left, Contains-append_right, Contains-push_cases}
+use Rattle.std.specs.declared.net.socket_addr.SocketAddr.{SocketAddr}
+use Rattle.lk_disk.specs.Memory.{Memory, disk_of}
+use Rattle.lk_disk.specs.declared.device.Side.{Side}
+use Rattle.lk_locks.specs.Meaning.{table_meaning}
+use Rattle.lk_log.specs.StoreValue.{disks, device_of}
+use Rattle.lk_history.proofs.Histories.{heard_was_sent, cons_cases, contains_more}
+use Rattle.lk_step.specs.Letters.{LetterValue, batch_of, datagram_of}
+use Rattle.lk_step.specs.declared.note.Note.{Note}
+use Rattle.lk_node.specs.Histories.{Genesis, Datagram}
+use Rattle.lk_node.specs.Leavings.{DisksFit}
+use Rattle.lk_replica.specs.Posts.{CarriesAll}
+use Rattle.lk_replica.specs.ReplicaValue.{ReplicaValue}
+use Rattle.lk_server.specs.Addresses.{AddressBook}
+use Rattle.lk_server.specs.Posts.{Tray, Becomes}
+use Rattle.lk_server.specs.Servers.{ServerValue, HandsOn, inputs, given_in, EndsBehind, EndsBehindIn, tray_at}
+use Rattle.lk_sim.specs.Events.{Turns, Adds}
+use Rattle.lk_sim.specs.Networks.{MayCome, Steps, Appears, Rises, Rests, Stops, nothing}
+use Rattle.lk_sim.specs.Scenes.{Scene}
+use Rattle.lk_sim.specs.Rooms.{AreShort}
+use Rattle.lk_sim.specs.Seats.{At, UpFits}
+use Rattle.lk_sim.specs.Traces.{happened}
+use Rattle.lk_sim.specs.Worlds.{Holds}
+use Rattle.lk_sim.specs.declared.seat.Life.{Life}
+use Rattle.lk_sim.specs.declared.seat.Life.TheVariants.{Up, Down}
+use Rattle.lk_sim.specs.declared.seat.Seat.{Seat}
+use Rattle.lk_sim.proofs.Networks.{step_holds, at_set, at_set_here, at_push, nothing_holds, set_twice, went_down}
+use Rattle.lk_cluster.specs.Clusters.{Node, Cluster, ServerStands, server_disks, Says, Calls, bytes_of, Starts, TakesTurn, EndsByTurn, Happens, HappenAll, ComesAbout}
+use Rattle.lk_cluster.proofs.Calls.{AllMay, chain, Leaves}
+use Rattle.lk_cluster.proofs.Mapped.{device_disks}
+
+-- ---- letters of a node to itself
+
+in_map : {X Y : Type 0} (f : X → Y) (xs : List X) (x : X) → Contains xs x → Contains (map f xs) (f x)
+in_map f [] x c = absurd (omega (arith, c.1))
+in_map f (y ∷ xs) x c = elim (cons_cases y xs x c) [
+  | inl here ↦ (0, omega arith, ap f here)
+  | inr later ↦ contains_more (f y) (map f xs) (f x) (in_map f xs x later)
+]
+
+in_rest : (own : List LetterValue) (l : LetterValue) → Contains (drop 1 own) l → Contains own l
+in_rest [] l c = c
+in_rest (x ∷ own) l c = contains_more x own l c
+
+kept_one : (tells : Type 0) (node : ℕ) (book : AddressBook) (old new : Tray) (x : LetterValue) (is_sent : Bool) → Becomes tells node book old x is_sent new → (l : LetterValue) → Contains new.own l → Contains old.own l ⊎ (x ≡ l)
+kept_one tells node book old new x true (inl keeps) l c = Contains-push_cases old.own x l (subst (λ (ls : List LetterValue). Contains ls l) keeps.own c)
+kept_one tells node book old new x true (inr sends) l c = inl (subst (λ (ls : List LetterValue). Contains ls l) sends.own c)
+kept_one tells node book old new x false loses l c = inl (subst (λ (ls : List LetterValue). Contains ls l) loses.own c)
+
+-- what is kept stood there or was given
+kept_of : (tells : Type 0) (node : ℕ) (book : AddressBook) (old new : Tray) (letters : List LetterValue) → CarriesAll (Becomes tells node book) old letters new → (l : LetterValue) → Contains new.own l → Contains old.own l ⊎ Contains letters l
+kept_of tells node book old new [] all l c = inl (subst (λ (t : Tray). Contains t.own l) all c)
+kept_of tells node book old new (x ∷ letters) all l c = elim (kept_of tells node book all.1 new letters all.3 l c) [
+  | inl before ↦ elim (kept_one tells node book old all.1 x all.0 all.2 l before) [ inl old_one ↦ inl old_one | inr here ↦ inr (0, omega arith, here) ]
+  | inr later ↦ inr (contains_more x letters l later)
+]
+
+-- a server that goes on, all of whose letters to itself were given to be sent
+record IsKept (sent : List Datagram) (n : ℕ) (q : ServerValue ReplicaValue) : Type 0 where
+  alive : q.replica.failed ≡ false
+  own : (l : LetterValue) → Contains q.own l → Contains sent (datagram_of n l)
+
+abbrev OwnOf : List Node → List Datagram → Type 0
+OwnOf seats sent = (k : ℕ) (s : Node) → At seats k s → (q : ServerValue ReplicaValue) → s.life ≡ Up q → IsKept sent s.number q
+
+own_later : (sent now : List Datagram) (n : ℕ) (q : ServerValue ReplicaValue) → ((d : Datagram) → Contains sent d → Contains now d) → IsKept sent n q → IsKept now n q
+own_later sent now n q among k = record { alive = k.alive; own = λ l c. among (datagram_of n l) (k.own l c) }
+
+same_up : (p q : ServerValue ReplicaValue) → Up p ≡ Up q → p ≡ q
+same_up p q e = cc e
+
+own_set : (seats : List Node) (place : ℕ) (next : Node) (sent now : List Datagram) → OwnOf seats sent → ((d : Datagram) → Contains sent d → Contains now d)
+    → ((q : ServerValue ReplicaValue) → next.life ≡ Up q → IsKept now next.number q) → OwnOf (set seats place next) now
+own_set seats place next sent now old among mine k s at q up = elim (at_set seats place next k s at) [
+  | inl here ↦ subst (λ (z : Node). (p : ServerValue ReplicaValue) → z.life ≡ Up p → IsKept now z.number p) here.1 mine q up
+  | inr other ↦ own_later sent now s.number q among (old k s other.1 q up)
+]
+
+-- a server that has taken a turn
+after_turn : (tells : Type 0) (Says : ReplicaValue → Option (List ℕ) → List LetterValue → ReplicaValue → Type 0) (given : List (Option (List ℕ))) (sent : List Datagram) (n : ℕ) (server after : ServerValue ReplicaValue)
+    → IsKept sent n server → (h : HandsOn Says tells given (drop 1 server.own) server after) → after.replica.failed ≡ false → IsKept (sent ++ batch_of n h.letters) n after
+after_turn tells Says given sent n server after kept h alive = record {
+  alive = alive;
+  own = λ l c. elim (kept_of tells after.node after.addresses (tray_at (drop 1 server.own) server) (tray_at after.own after) h.letters h.carried l c) [
+    | inl old ↦ Contains-append_left sent (batch_of n h.letters) (datagram_of n l) (kept.own l (in_rest server.own l old))
+    | inr new ↦ Contains-append_right sent (batch_of n h.letters) (datagram_of n l) (in_map (datagram_of n) h.letters l new)
+  ];
+}
+
+-- ---- what comes in a turn
+
+module _ (genesis : Genesis) (sent : List Datagram) where
+  inputs_may : (number : ℕ) (bytes : List ℕ) → MayCome genesis sent (Some bytes) → AllMay genesis sent (inputs number bytes)
+  inputs_may number bytes may = elim (cases_Bool (number % 64 == 0)) [ inl e ↦ rw e (may, (tt, tt)) | inr e ↦ rw e (may, tt) ]
+
+  behind_may : (bytes : List ℕ) (given : List (Option (List ℕ))) → EndsBehind bytes given → MayCome genesis sent (Some bytes) → AllMay genesis sent given
+  behind_may bytes given (inl e) may = subst (λ (g : List (Option (List ℕ))). AllMay genesis sent g) (sym e) (may, tt)
+  behind_may bytes given (inr e) may = subst (λ (g : List (Option (List ℕ))). AllMay genesis sent g) (sym e) (may, (tt, tt))
+
+  given_may : (own : List LetterValue) (came : Option (SocketAddr × List ℕ)) (number : ℕ) → ((l : LetterValue) → Contains own l → MayCome genesis sent (Some l.bytes)) → MayCome genesis sent (bytes_of ⊥ ⊥ came)
+      → AllMay genesis sent (given_in own came number)
+  given_may (l ∷ own) came number mine may = inputs_may number l.bytes (mine l (0, omega arith, refl))
+  given_may [] (Some c) number mine may = inputs_may number c.1 may
+  given_may [] None number mine may = (tt, tt)
+
+  ended_may : (own : List LetterValue) (came : Option (SocketAddr × List ℕ)) (given : List (Option (List ℕ))) → EndsBehindIn own came given → ((l : LetterValue) → Contains own l → MayCome genesis sent (Some l.bytes))
+      → MayCome genesis sent (bytes_of ⊥ ⊥ came) → AllMay genesis sent given
+  ended_may (l ∷ own) came given e mine may = behind_may l.bytes given e (mine l (0, omega arith, refl))
+  ended_may [] (Some c) given e mine may = behind_may c.1 given e may
+  ended_may [] None given e mine may = subst (λ (g : List (Option (List ℕ))). AllMay genesis sent g) (sym e) (tt, tt)
+
+-- ---- what holds of a cluster
+
+record IsSound (c : Cluster) : Type 0 where
+  holds : Holds ServerStands server_disks table_meaning c.genesis c.seats c.sent c.trace
+  own : OwnOf c.seats c.sent
+
+module _ (Metered tells : Type 0) where
+  module _ (old new : Cluster) (w : IsSound old) where
+    by_step : Steps ServerStands server_disks table_meaning old new → Holds ServerStands server_disks table_meaning new.genesis new.seats new.sent new.trace
+    by_step s = step_holds ServerStands server_disks table_meaning old new w.holds s
+
+    among_more : (more : List Datagram) → new.sent ≡ old.sent ++ more → (d : Datagram) → Contains old.sent d → Contains new.sent d
+    among_more more e d c = subst (λ (l : List Datagram). Contains l d) (sym e) (Contains-append_left old.sent more d c)
+
+    own_moved : (s t : Node) (turns : Turns old.seats new.seats s t) (more : List Datagram) → new.sent ≡ old.sent ++ more → ((q : ServerValue ReplicaValue) → t.life ≡ Up q → IsKept new.sent t.number q) → OwnOf new.seats new.sent
+    own_moved s t turns more e mine = subst (λ (l : List Node). OwnOf l new.sent) (sym turns.seats) (own_set old.seats turns.place t old.sent new.sent w.own (among_more more e) mine)
+
+    no_up : (t : Node) (d : Memory) → t.life ≡ Down d → (q : ServerValue ReplicaValue) → t.life ≡ Up q → IsKept new.sent t.number q
+    no_up t d down q up = absurd (cc (down, up))
+
+    appears : Appears old new → IsSound new
+    appears a = record {
+      holds = by_step (inl a);
+      own = subst (λ (l : List Node). OwnOf l new.sent) (sym a.seats) (λ k s at q up. elim (at_push old.seats a.seat k s at) [
+        | inl before ↦ own_later old.sent new.sent s.number q (among_more [] a.adds.sent) (w.own k s before q up)
+        | inr here ↦ absurd (let same : Up q ≡ Down a.device = sym up ∙ ap (λ (z : Node). z.life) (sym here.1) ∙ a.down in cc same)
+      ]);
+    }
+
+    starts : Starts Metered tells old new → IsSound new
+    starts a =
+        let r = a.rises in
+        record {
+          holds = by_step (inr (inl r));
+          own = own_moved r.seat r.next r.turns [] r.adds.sent (λ q up.
+              subst (λ (z : ServerValue ReplicaValue). IsKept new.sent r.next.number z) (same_up r.replica q (sym r.up ∙ up))
+              (record { alive = a.alive; own = λ l c. absurd (omega (arith, (subst (λ (ls : List LetterValue). Contains ls l) a.own c).1)) }));
+        }
+
+    rests : Rests table_meaning old new → IsSound new
+    rests a = record { holds = by_step (inr (inr (inl a))); own = own_moved a.seat a.next a.turns [] a.adds.sent (no_up a.next a.left a.still) }
+
+    stops : Stops server_disks old new → IsSound new
+    stops a = record { holds = by_step (inr (inr (inr (inr (inr a))))); own = own_moved a.seat a.next a.turns [] a.adds.sent (no_up a.next a.left a.down) }
+
+    -- a letter of the node to itself may come
+    own_may : (n : ℕ) (server : ServerValue ReplicaValue) → IsKept old.sent n server → (l : LetterValue) → Contains server.own l → MayCome old.genesis old.sent (Some l.bytes)
+    own_may n server k l c = λ j x said. heard_was_sent old.genesis old.sent w.holds.world.sound (datagram_of n l) (k.own l c) j x said
+
+    moved : (seats : List Node) (notes : List Note) (batch : List Datagram) → new.seats ≡ seats → Adds old new notes batch
+        → Holds ServerStands server_disks table_meaning old.genesis seats (old.sent ++ batch) (old.trace ++ notes) → Holds ServerStands server_disks table_meaning new.genesis new.seats new.sent new.trace
+    moved seats notes batch same a h =
+        subst (λ g. Holds ServerStands server_disks table_meaning g new.seats new.sent new.trace) (sym a.genesis)
+        (subst (λ z. Holds ServerStands server_disks table_meaning old.genesis z new.sent new.trace) (sym same)
+        (subst₂ (λ x y. Holds ServerStands server_disks table_meaning old.genesis seats x y) (sym a.sent) (sym a.trace) h))
+
+    -- a server with another one's replica, in its place
+    with_replica : (place : ℕ) (node : Node) → At old.seats place node → (server other : ServerValue ReplicaValue) → node.life ≡ Up server
+        → Holds ServerStands server_disks table_meaning old.genesis (set old.seats place (record { number = node.number; life = Up (record other { replica = server.replica }) })) old.sent old.trace
+    with_replica place node at server other was =
+        let h = happened old.genesis old.sent old.trace in
+        let v = w.holds.views node.number in
+        let q : ServerValue ReplicaValue = record other { replica = server.replica } in
+        let f = (w.holds.seated place node at).up server was in
+        let fits : UpFits ServerStands server_disks table_meaning h v node.number q = record { holding = f.holding; view = f.view; shown = f.shown; fits = f.fits; left = f.left; room = f.room } in
+        went_down ServerStands server_disks table_meaning old.genesis old.seats old.sent old.trace w.holds place node (record { number = node.number; life = Up q }) at refl (record {
+          up = λ p up. subst (λ (z : ServerValue ReplicaValue). UpFits ServerStands server_disks table_meaning h v node.number z) (same_up q p up) fits;
+          down = λ d is. absurd (cc is);
+          room = λ d is. absurd (cc is);
+        })
+
+    takes_turn : TakesTurn Metered tells old new → IsSound new
+    takes_turn a =
+        let n : ℕ = a.node.number in
+        let kept = w.own a.turns.place a.node a.turns.at a.server a.was in
+        let given = given_in a.server.own a.came a.after.received in
+        let may = given_may old.genesis old.sent a.server.own a.came a.after.received (own_may n a.server kept) a.may in
+        let left = chain Metered tells old.genesis n old.seats a.turns.place a.node a.turns.at refl a.after given a.server.replica kept.alive a.turn.hands_on.letters a.trace a.after.replica a.calls old.sent old.trace may
+        (with_replica a.turns.place a.node a.turns.at a.server a.after a.was) in
+        record {
+          holds = moved (set old.seats a.turns.place a.next) a.trace (batch_of n a.turn.hands_on.letters) a.turns.seats a.adds
+              (subst (λ (z : Node). Holds ServerStands server_disks table_meaning old.genesis (set old.seats a.turns.place z) (old.sent ++ batch_of n a.turn.hands_on.letters) (old.trace ++ a.trace))
+              (λ i. record { number = sym a.turns.number i; life = sym a.up i }) (left.up a.alive));
+          own = own_moved a.node a.next a.turns (batch_of n a.turn.hands_on.letters) a.adds.sent (λ q up.
+              subst (λ (z : ServerValue ReplicaValue). IsKept new.sent a.next.number z) (same_up a.after q (sym a.up ∙ up))
+              (subst₂ (λ (l : List Datagram) (k : ℕ). IsKept l k a.after) (sym a.adds.sent) (sym a.turns.number)
+              (after_turn tells (Says Metered tells) given old.sent n a.server a.after kept a.turn.hands_on a.alive)));
+        }
+
+    -- other devices with the same disks
+    other_device : (after : ServerValue ReplicaValue) (left : Memory) → ((s : Side) → disk_of left s ≡ server_disks after s) → disk_of (device_of after.replica.store) ≡ disk_of left
+    other_device after left same = λ i side. (sym (device_disks after.replica.store side) ∙ sym (same side)) i
+
+    ends_by_turn : EndsByTurn Metered tells old new → IsSound new
+    ends_by_turn a =
+        let n : ℕ = a.node.number in
+        let kept = w.own a.turns.place a.node a.turns.at a.server a.was in
+        let batch : List Datagram = batch_of n a.turn.hands_on.letters in
+        let may = ended_may old.genesis old.sent a.server.own a.came a.turn.given a.turn.behind (own_may n a.server kept) a.may in
+        let device : Memory = device_of a.after.replica.store in
+        let seat : Node = record { number = n; life = Down device } in
+        let next : Node = record { number = n; life = Down a.left } in
+        let left = chain Metered tells old.genesis n old.seats a.turns.place a.node a.turns.at refl a.after a.turn.given a.server.replica kept.alive a.turn.hands_on.letters a.trace a.after.replica a.calls old.sent old.trace may
+        (with_replica a.turns.place a.node a.turns.at a.server a.after a.was) in
+        let first : Cluster = record { genesis = old.genesis; seats = set old.seats a.turns.place seat; sent = old.sent ++ batch; trace = old.trace ++ a.trace; ended = None } in
+        let last : Cluster = record { genesis = old.genesis; seats = set old.seats a.turns.place next; sent = old.sent ++ batch; trace = old.trace ++ a.trace; ended = None } in
+        let path = other_device a.after a.left a.same in
+        let rests : Rests table_meaning first last = record {
+          seat = seat;
+          next = next;
+          turns = record { place = a.turns.place; at = at_set_here old.seats a.turns.place seat a.turns.at.0; number = refl; seats = sym (set_twice old.seats a.turns.place seat next) };
+          device = device;
+          down = refl;
+          left = a.left;
+          still = refl;
+          rests = record { ends = λ h e lawful f. subst (λ d. DisksFit table_meaning h n d) path f; short = λ short. subst (λ d. AreShort d) path short };
+          adds = record { genesis = refl; sent = sym (append-nil (old.sent ++ batch)); trace = sym (append-nil (old.trace ++ a.trace)) };
+        } in
+        let then_holds = step_holds ServerStands server_disks table_meaning first last (left.down a.ended) (inr (inr (inl rests))) in
+        record {
+          holds = moved (set old.seats a.turns.place a.next) a.trace batch a.turns.seats a.adds
+              (subst (λ (z : Node). Holds ServerStands server_disks table_meaning old.genesis (set old.seats a.turns.place z) (old.sent ++ batch) (old.trace ++ a.trace))
+              (λ i. record { number = sym a.turns.number i; life = sym a.down i }) then_holds);
+          own = own_moved a.node a.next a.turns batch a.adds.sent (no_up a.next a.left a.down);
+        }
+
+    happens : Happens Metered tells old new → IsSound new
+    happens (inl a) = appears a
+    happens (inr (inl a)) = starts a
+    happens (inr (inr (inl a))) = rests a
+    happens (inr (inr (inr (inl a)))) = takes_turn a
+    happens (inr (inr (inr (inr (inl a))))) = ends_by_turn a
+    happens (inr (inr (inr (inr (inr a))))) = stops a
+
+  all_happen : (first last : Cluster) (clusters : List Cluster) → IsSound first → HappenAll Metered tells first clusters last → IsSound last
+  all_happen first last [] w all = subst IsSound (sym all) w
+  all_happen first last (next ∷ clusters) w all = all_happen next last clusters (happens first next w all.0) all.1
+
+  -- whatever has happened since it began
+  pub comes_about : (genesis : Genesis) (c : Cluster) → ComesAbout Metered tells genesis c → Holds ServerStands server_disks table_meaning c.genesis c.seats c.sent c.trace
+  comes_about genesis c all =
+      let begun : IsSound (nothing genesis) = record { holds = nothing_holds ServerStands server_disks table_meaning genesis; own = λ k s at q up. absurd (omega (arith, at.0)) } in
+      (all_happen (nothing genesis) c all.0 begun all.1).holds

@@ -1,0 +1,4 @@
+mod Mapped
+mod Calls
+mod Keeping
+mod Saying

@@ -1,0 +1,151 @@
+-- Nodes of the lock table that run as processes: each is up as a server, or down with its disks. They take turns, start and stop one after
+-- another, in any order.
+use Rattle.std.proofs.Common.{inl, inr}
+use Rattle.std.specs.Prelude.{◌≡◌, ◌⊎◌, ℕ, true, false, Option, Some, None, List, [], ◌∷◌, ◌++◌}
+use Rattle.std.specs.Prelude.{map}
+use Rattle.std.specs.declared.net.socket_addr.SocketAddr.{SocketAddr}
+use Rattle.lk_types.specs.declared.genesis.Genesis.{Genesis}
+use Rattle.lk_disk.specs.Disk.{Disk}
+use Rattle.lk_disk.specs.Memory.{Memory, disk_of}
+use Rattle.lk_disk.specs.declared.device.Side.{Side}
+use Rattle.lk_locks.specs.Meaning.{table_meaning}
+use Rattle.lk_locks.specs.Packed.{IsTableText}
+use Rattle.lk_log.specs.StoreValue.{disks}
+use Rattle.lk_step.specs.Letters.{LetterValue, batch_of}
+use Rattle.lk_step.specs.declared.note.Note.{Note}
+use Rattle.lk_node.specs.Histories.{RequestValue}
+use Rattle.lk_node.specs.Holdings.{Holding}
+use Rattle.lk_node.specs.Keeping.{Stands}
+use Rattle.lk_replica.specs.ReplicaValue.{ReplicaValue}
+use Rattle.lk_server.specs.Sayings.{SaysByStep, IsSilenced, SaysOf}
+use Rattle.lk_server.specs.Servers.{ServerValue, Turn, LastTurn, given_in}
+use Rattle.lk_sim.specs.Events.{Turns, Adds}
+use Rattle.lk_sim.specs.Networks.{MayCome, AreAsking, TellsOf, RisesBy, Appears, Rises, Rests, Stops, nothing}
+use Rattle.lk_sim.specs.Scenes.{Scene}
+use Rattle.lk_sim.specs.Traces.{asked_note}
+use Rattle.lk_sim.specs.declared.seat.Life.{Life}
+use Rattle.lk_sim.specs.declared.seat.Life.TheVariants.{Up, Down}
+use Rattle.lk_sim.specs.declared.seat.Seat.{Seat}
+
+-- a node: its number, and that it is up as a server, or down with its disks
+abbrev pub Node : Type 0
+Node = Seat (ServerValue ReplicaValue)
+
+-- how a cluster began, its nodes, all datagrams that they have given to be sent, in order, also those to themselves and those whose send has
+-- failed, and what has happened
+abbrev pub Cluster : Type 0
+Cluster = Scene (ServerValue ReplicaValue)
+
+-- its replicas
+abbrev pub life_of : Life (ServerValue ReplicaValue) → Life ReplicaValue
+life_of (Up s) = Up s.replica
+life_of (Down d) = Down d
+
+abbrev pub seat_of : Node → Seat ReplicaValue
+seat_of s = record { number = s.number; life = life_of s.life }
+
+abbrev pub scene_of : Cluster → Scene ReplicaValue
+scene_of c = record { genesis = c.genesis; seats = map seat_of c.seats; sent = c.sent; trace = c.trace; ended = None }
+
+-- what a server holds, and what stands on its disks
+abbrev pub ServerStands : ServerValue ReplicaValue → Genesis → ℕ → Holding → Type 0
+ServerStands s genesis n x = Stands table_meaning s.replica.node s.replica.store genesis n x
+
+abbrev pub server_disks : ServerValue ReplicaValue → Side → Disk
+server_disks s = disks s.replica.store
+
+-- it has come up as the server of that node by what these disks have, and nothing waits that it wrote to itself
+pub record IsBegun (genesis : Genesis) (n : ℕ) (old : Side → Disk) (s : ServerValue ReplicaValue) : Type 0 where
+  pub notes : List Note
+  pub rises : RisesBy ServerStands server_disks table_meaning genesis n old s notes
+  pub own : s.own ≡ []
+  pub alive : s.replica.failed ≡ false
+
+-- `Metered` says that the devices count their calls, and `tells` that the sockets tell what they send
+module _ (Metered tells : Type 0) where
+  abbrev pub Says : ReplicaValue → Option (List ℕ) → List LetterValue → ReplicaValue → Type 0
+  Says = SaysOf table_meaning IsTableText Metered
+
+  -- what a call notes
+  abbrev pub noted : {old new : ReplicaValue} {o : Option (List ℕ)} {letters : List LetterValue} → SaysByStep table_meaning IsTableText Metered old o letters new ⊎ IsSilenced letters new → List Note
+  noted (inl s) = s.notes
+  noted (inr s) = []
+
+  -- a call of the replica of that node, and what joins the trace by it: the request that is asked by what it was given, what it noted, and the
+  -- answers and passes that it gave to be sent
+  pub record Call (n : ℕ) (old : ReplicaValue) (o : Option (List ℕ)) (letters : List LetterValue) (trace : List Note) (new : ReplicaValue) : Type 0 where
+    pub says : Says old o letters new
+    pub request : Option RequestValue
+    pub asks : AreAsking o request
+    pub told : List Note
+    pub tells_of : TellsOf (batch_of n letters) told
+    pub joins : trace ≡ (asked_note request ++ noted says.comes) ++ told
+
+  abbrev pub Calls : ℕ → ReplicaValue → List (Option (List ℕ)) → List LetterValue → List Note → ReplicaValue → Type 0
+  Calls n old [] letters trace new = (letters ≡ []) × (trace ≡ []) × (new ≡ old)
+  Calls n old (o ∷ given) letters trace new =
+      (mid : ReplicaValue) × (first : List LetterValue) × (rest : List LetterValue) × (here : List Note) × (more : List Note)
+      × (letters ≡ first ++ rest) × (trace ≡ here ++ more) × Call n old o first here mid × Calls n mid given rest more new
+
+  -- the bytes that came
+  abbrev pub bytes_of : Option (SocketAddr × List ℕ) → Option (List ℕ)
+  bytes_of None = None
+  bytes_of (Some c) = Some c.1
+
+  -- a node has come up as a server on what its disks have, and nothing waits that it wrote to itself
+  pub record Starts (old new : Cluster) : Type 0 where
+    pub rises : Rises ServerStands server_disks table_meaning old new
+    pub own : rises.replica.own ≡ []
+    pub alive : rises.replica.replica.failed ≡ false
+
+  -- a node that is up takes a turn, in which something may come or nothing: what it is given by that its replica takes, and the letters of that
+  -- join what was given to be sent
+  pub record TakesTurn (old new : Cluster) : Type 0 where
+    pub node : Node
+    pub next : Node
+    pub turns : Turns old.seats new.seats node next
+    pub server : ServerValue ReplicaValue
+    pub was : node.life ≡ Up server
+    pub after : ServerValue ReplicaValue
+    pub up : next.life ≡ Up after
+    pub came : Option (SocketAddr × List ℕ)
+    pub may : MayCome old.genesis old.sent (bytes_of came)
+    pub turn : Turn Says tells came server after
+    pub alive : after.replica.failed ≡ false
+    pub trace : List Note
+    pub calls : Calls node.number server.replica (given_in server.own came after.received) turn.hands_on.letters trace after.replica
+    pub adds : Adds old new trace (batch_of node.number turn.hands_on.letters)
+
+  -- a turn ends it, and it is down on the disks that its replica has left
+  pub record EndsByTurn (old new : Cluster) : Type 0 where
+    pub node : Node
+    pub next : Node
+    pub turns : Turns old.seats new.seats node next
+    pub server : ServerValue ReplicaValue
+    pub was : node.life ≡ Up server
+    pub after : ServerValue ReplicaValue
+    pub left : Memory
+    pub down : next.life ≡ Down left
+    pub same : (s : Side) → disk_of left s ≡ server_disks after s
+    pub came : Option (SocketAddr × List ℕ)
+    pub may : MayCome old.genesis old.sent (bytes_of came)
+    pub turn : LastTurn Says tells came server after
+    pub ended : after.replica.failed ≡ true
+    pub trace : List Note
+    pub calls : Calls node.number server.replica turn.given turn.hands_on.letters trace after.replica
+    pub adds : Adds old new trace (batch_of node.number turn.hands_on.letters)
+
+  -- a node appears, with empty disks; it starts, or does not; it takes a turn, or ends by one; or it stops, up or down, and its disks have what a
+  -- stop may leave
+  abbrev pub Happens : Cluster → Cluster → Type 0
+  Happens old new =
+      Appears old new ⊎ Starts old new ⊎ Rests table_meaning old new ⊎ TakesTurn old new ⊎ EndsByTurn old new ⊎ Stops server_disks old new
+
+  -- one after another, up to this
+  abbrev pub HappenAll : Cluster → List Cluster → Cluster → Type 0
+  HappenAll first [] last = last ≡ first
+  HappenAll first (next ∷ clusters) last = Happens first next × HappenAll next clusters last
+
+  -- since the cluster began
+  abbrev pub ComesAbout : Genesis → Cluster → Type 0
+  ComesAbout genesis c = (clusters : List Cluster) × HappenAll (nothing genesis) clusters c

@@ -1,0 +1,48 @@
+//! What a server does as it comes up, and in a turn, is what the theorem takes it to do.
+ghost use Rattle.std.specs.Prelude.{◌≡◌, IfOk, OnOk, OnErr};
+ghost use Rattle.lk_types.specs.declared.genesis.Genesis.{Genesis as GenesisValue};
+ghost use Rattle.lk_node.specs.Leavings.{header_of};
+ghost use Rattle.lk_cluster.specs.Clusters.{IsBegun, Says};
+ghost use Rattle.lk_server.specs.Servers.{Turn, LastTurn};
+
+use lk_disk::LogDisk;
+use lk_entries::Header;
+use lk_locks::LockTable;
+use lk_replica::Replica;
+use lk_server::ear::Ear;
+use lk_server::fault::ServiceFault;
+use lk_server::server::{Server, node_turn};
+use lk_server::socket::Datagrams;
+use lk_service::running::revive;
+use log::Log;
+use std::alloc::Global;
+
+/// One turn of a server of the lock table, on any honest device and any socket.
+pub fn turn<D: LogDisk + Drop, S: Datagrams + Drop, L: Log>(
+    server: &mut Server<Replica<LockTable, D>, S>,
+    ear: &mut Ear,
+    log: &L,
+) -> Result<(), ServiceFault>
+    ensures turn { D.is_honest → OnOk result (Turn (Says D.is_metered S.is_telling) S.is_telling ear.new server.old server.new) }
+    ensures ends { D.is_honest → OnErr result (LastTurn (Says D.is_metered S.is_telling) S.is_telling ear.new server.old server.new) }
+    ensures failed { server.new.failed ≡ server.new.replica.failed }
+{
+    let taken = node_turn(server, ear, log);
+    let _ = server.replica();
+    taken
+}
+
+/// A server of the lock table is taken up from any honest device.
+pub fn start<D: LogDisk + Drop, S: Datagrams + Drop, L: Log>(
+    alloc: Global,
+    header: &Header,
+    device: D,
+    socket: S,
+    log: &L,
+) -> Result<Server<Replica<LockTable, D>, S>, ServiceFault>
+    ensures { D.is_honest → (genesis : GenesisValue) → header.now ≡ header_of genesis header.now.node → IfOk result (IsBegun genesis header.now.node (D.disk device)) }
+{
+    let server = revive::<LockTable, D, S, L>(alloc, header, device, socket, log)?;
+    let _ = server.replica();
+    Ok(server)
+}

@@ -1,0 +1,664 @@
+-- What a step of a group leaves, and the sync after it.
+use Rattle.std.proofs.Common.{◌≡◌, ℕ, ◌+◌, ◌<◌, ◌≤◌, ◌||◌, Bool, true, false, List, [], ◌∷◌, ◌++◌, length, map, take, Contains, inl, inr, Result, IsErrAnd, refl, sym, ◌∙◌, ap, subst, append_assoc, append-nil, arith}
+use Rattle.std.specs.Prelude.{⊤, Ok, Err, OnErr, IfErr, if◌then◌else◌}
+use Rattle.std.specs.List.{AllByRecursion}
+use Rattle.std.proofs.Math.Seq.{take-length}
+use Rattle.std.proofs.lemmas.List.Elements.{Contains-append_cases}
+use Rattle.lk_types.specs.declared.entry.Entry.{Entry}
+use Rattle.lk_disk.specs.declared.device.Side.{Side}
+use Rattle.lk_disk.specs.Disk.{contents, flushed}
+use Rattle.lk_disk.specs.declared.device.Side.TheVariants.{A, B}
+use Rattle.lk_log.specs.Rooms.{StaysWithin}
+use Rattle.lk_disk.specs.Meters.{Passes, start}
+use Rattle.lk_disk.specs.declared.meter.Meter.{Meter}
+use Rattle.lk_disk.proofs.Devices.{passes_on}
+use Rattle.lk_log.specs.Causes.{put_calls, rebase_calls}
+use Rattle.lk_wire.specs.Grammar.{Spells}
+use Rattle.lk_wire.specs.declared.message.NodeMessage.{NodeMessage}
+use Rattle.lk_entries.specs.Bases.{is_misplaced, generation}
+use Rattle.lk_entries.specs.Entries.{plain, IsStored}
+use Rattle.lk_entries.specs.Formats.{is_mixed}
+use Rattle.lk_entries.specs.Standings.{with_all}
+use Rattle.lk_entries.specs.Values.{HeaderValue, StandingValue, BaseValue}
+use Rattle.lk_entries.specs.declared.stored.Stored.{Stored}
+use Rattle.lk_entries.specs.declared.stored.Stored.TheVariants.{Base, Plain}
+use Rattle.lk_entries.proofs.Mixed.{format-append}
+use Rattle.lk_entries.proofs.Spelling.{spelled-append, all-append}
+use Rattle.lk_log.specs.Images.{Image, MayLeaveBoth, IsLive}
+use Rattle.lk_log.specs.StoreValue.{StoreValue, pick, disks}
+use Rattle.lk_log.specs.Stores.{Holds, IsOlder, KeepsAtLeast, KeepsItsFile, MayBegin, next_base}
+use Rattle.lk_log.proofs.StoreLaws.{all_stand, header_more, plain_append, holds_keeps, synced_live, of_every}
+use Rattle.lk_state.specs.Meanings.{Meaning}
+use Rattle.lk_history.specs.Acceptors.{AcceptorState}
+use Rattle.lk_history.specs.Datagrams.{said_by}
+use Rattle.lk_history.specs.Nodes.{View}
+use Rattle.lk_step.specs.Letters.{LetterValue, datagram_of, batch_of}
+use Rattle.lk_step.specs.Outboxes.{OutboxValue, nothing}
+use Rattle.lk_step.specs.declared.input.Input.{Input}
+use Rattle.lk_step.specs.declared.note.Note.{Note}
+use Rattle.lk_learner.specs.Learners.{executed}
+use Rattle.lk_node.specs.Calls.{InputFits, NodeFits, Goes}
+use Rattle.lk_node.specs.Entries.{EntriesFit, Rests}
+use Rattle.lk_node.specs.Histories.{History, Genesis, Datagram}
+use Rattle.lk_node.specs.Holdings.{Holding}
+use Rattle.lk_node.specs.Keeping.{TellsDecided, IsKnown, Keeps, Stands}
+use Rattle.lk_node.specs.Leavings.{header_of, acceptor_of, DisksFit, AllCover}
+use Rattle.lk_node.specs.NodeValue.{NodeValue}
+use Rattle.lk_node.specs.Packing.{standing_of, standing_here}
+use Rattle.lk_node.specs.Served.{text}
+use Rattle.lk_node.specs.Serving.{with_entries, GoesOn}
+use Rattle.lk_replica.specs.Compacting.{IsSameStore, Rebases}
+use Rattle.lk_replica.specs.Groups.{as_synced, as_sent, waits_after, Gathers, Recalls, Gathered, GroupFits, GroupGoes, GroupStays, Settles, GroupValue, Adds, IsCovered, IsRefusedInGroup, StepSaid, letters_of, GoesThrough, StepsToFile, settle_calls, gather_calls}
+use Rattle.lk_replica.specs.Compacted.{IsStoreFault}
+use Rattle.lk_replica.specs.Faults.{fault_number, failures_by, WantsNoMemory}
+use Rattle.lk_replica.specs.Posts.{AreOf}
+use Rattle.lk_replica.specs.ReplicaValue.{ReplicaValue}
+use Rattle.lk_replica.specs.Taking.{IsCutShort}
+use Rattle.lk_replica.specs.declared.fault.ReplicaFault.{ReplicaFault}
+use Rattle.lk_replica.proofs.Calling.{err_as, number_of_calls, halted_alone}
+use Rattle.lk_replica.proofs.Compactions.{failed_alone}
+use Rattle.lk_replica.proofs.NoSend.{sends_not}
+use Rattle.lk_replica.specs.Remembering.{Remembers}
+use Rattle.lk_replica.proofs.Behind.{installed_goes}
+use Rattle.lk_replica.proofs.Going.{KeepsToo, put_leaves, put_goes, serves, bound, step_syncs, step_covers, known_rests}
+use Rattle.lk_replica.proofs.Images.{EntriesCover, held_fit, fit_disks, cover_entries, cover_disks, put_fits, put_covers}
+use Rattle.lk_replica.proofs.Rebasing.{same_holds}
+use Rattle.lk_replica.proofs.Standings.{entries_are, decided_leave, entries_behind}
+use Rattle.lk_replica.proofs.Thinning.{batch_among}
+
+-- ---- a store as it will be synced
+
+generation_more : (ks more : List Stored) → 0 < generation ks → generation (ks ++ more) ≡ generation ks
+generation_more [] more some = absurd (omega arith)
+generation_more (Base b ∷ ks) more some = refl
+generation_more (Plain e ∷ ks) more some = refl
+
+pub as_synced_holds : (s : StoreValue) (ks ls : List Stored) → Holds s ks ls → Holds (as_synced s) (ks ++ ls) []
+as_synced_holds s ks ls h =
+    let some : 0 < generation ks = omega (arith, h.on.older.less) in
+    let all = append-nil (ks ++ ls) in
+    record {
+      on = record {
+        synced = (λ i. h.on.synced i ++ h.on.unsynced i) ∙ sym (spelled-append ks ls);
+        unsynced = refl;
+        fit = subst (AllByRecursion IsStored) (sym all) h.on.fit;
+        placed = subst (λ (l : List Stored). is_misplaced l ≡ false) (sym all) h.on.placed;
+        sound = subst (λ (l : List Stored). is_mixed l ≡ false) (sym all) h.on.sound;
+        older = subst (IsOlder s.other_disk) (sym (generation_more ks ls some)) h.on.older;
+      };
+      generation_is = h.generation_is ∙ sym (generation_more ks ls some);
+      format_is = h.format_is ∙ sym (format-append ks ls some);
+      header_is = header_more ks ls s.header h.header_is;
+    }
+
+-- where all is synced each image has all of it
+whole_keeps : (s : StoreValue) (ks more : List Stored) → Holds s (ks ++ more) [] → KeepsAtLeast s ks more
+whole_keeps s ks more h image left = (length more, subst (λ (l : List Stored). IsLive image (ks ++ l)) (sym (take-length more)) (synced_live s (ks ++ more) h image left))
+
+-- ---- what such a store keeps
+
+-- as it will be, it keeps what the acceptor holds
+abbrev pub group_keeps : (whose : HeaderValue) (s : StoreValue) (waits : Bool) (a : AcceptorState) → Gathers whose s waits a → Keeps whose (as_sent waits s) a
+group_keeps whose s false a k = record {
+  entries = k.entries;
+  loose = k.loose;
+  holds = k.holds;
+  decided = k.decided refl;
+  header = k.header;
+  standing = k.standing;
+  stands = k.stands;
+  remembers = sym (decided_leave k.loose (acceptor_of k.standing) (k.decided refl)) ∙ k.remembers;
+}
+group_keeps whose s true a k = record {
+  entries = k.entries ++ plain k.loose;
+  loose = [];
+  holds = as_synced_holds s k.entries (plain k.loose) k.holds;
+  decided = tt;
+  header = header_more k.entries (plain k.loose) whose k.header;
+  standing = with_all k.loose k.standing;
+  stands = all_stand k.entries k.standing k.loose k.stands;
+  remembers = entries_are k.standing k.loose ∙ k.remembers;
+}
+
+-- a group that begins
+abbrev pub group_begins : (whose : HeaderValue) (s : StoreValue) (a : AcceptorState) → Keeps whose s a → Gathers whose s false a
+group_begins whose s a k = record {
+  entries = k.entries;
+  loose = k.loose;
+  holds = k.holds;
+  decided = λ none. k.decided;
+  header = k.header;
+  standing = k.standing;
+  stands = k.stands;
+  remembers = decided_leave k.loose (acceptor_of k.standing) k.decided ∙ k.remembers;
+}
+
+abbrev pub group_stands : (m : Meaning) (node : NodeValue) (s : StoreValue) (waits : Bool) (genesis : Genesis) (n : ℕ) (x : Holding) → Gathered m node s waits genesis n x → Stands m node (as_sent waits s) genesis n x
+group_stands m node s false genesis n x g = record { whose = g.whose; keeps = group_keeps (header_of genesis n) s false node.acceptor.state g.keeps; known = g.known refl; held = g.held }
+group_stands m node s true genesis n x g = record { whose = g.whose; keeps = group_keeps (header_of genesis n) s true node.acceptor.state g.keeps; known = tt; held = g.held }
+
+abbrev pub group_fits : (m : Meaning) (h : History) (n : ℕ) (node : NodeValue) (s : StoreValue) (waits : Bool) → GroupFits m h n node s waits → NodeFits m h n (Stands m node (as_sent waits s) h.genesis n) (disks (as_sent waits s))
+group_fits m h n node s waits f = record { lawful = f.lawful; holding = f.holding; shown = group_stands m node s waits h.genesis n f.holding f.shown; fits = f.fits; left = f.left }
+
+pub begin_fits : (m : Meaning) (h : History) (n : ℕ) (node : NodeValue) (s : StoreValue) → NodeFits m h n (Stands m node s h.genesis n) (disks s) → GroupStays m h n node s false
+begin_fits m h n node s f = record {
+  fits = record {
+    lawful = f.lawful;
+    holding = f.holding;
+    shown = record { whose = f.shown.whose; keeps = group_begins (header_of h.genesis n) s node.acceptor.state f.shown.keeps; known = λ none. f.shown.known; held = f.shown.held };
+    fits = f.fits;
+    left = f.left;
+  };
+  rests = all_known h n f.holding.view f.shown.keeps.loose f.shown.known (known_rests h n f.holding.view f.fits.view);
+  left = f.left;
+}
+  where
+    all_known : (h : History) (n : ℕ) (w : View) (es : List Entry) → AllByRecursion (IsKnown w) es → ((e : Entry) → IsKnown w e → Rests h e) → AllByRecursion (Rests h) es
+    all_known h n w [] all f = tt
+    all_known h n w (e ∷ es) all f = (f e all.0, all_known h n w es all.1 f)
+
+-- ---- one more step
+
+pub none_waits : (r w s : Bool) → r ≡ false → false ≡ (if r then false else (w || s)) → (w ≡ false) × (s ≡ false)
+none_waits false false false is e = (refl, refl)
+none_waits false false true is e = absurd (cc e)
+none_waits false true s is e = absurd (cc e)
+none_waits true w s is e = absurd (cc is)
+
+module _ (whose : HeaderValue) (old store : StoreValue) (a b : AcceptorState) (out : OutboxValue) (is : out.rebase ≡ false) (written : b ≡ with_entries out.entries a) (unsynced : out.sync ≡ false → AllByRecursion TellsDecided out.entries) where
+  abbrev pub gathers_more : (waits after : Bool) → after ≡ waits_after waits out → (k : Gathers whose old waits a) → Holds store k.entries (plain k.loose ++ plain out.entries) → Gathers whose store after b
+  gathers_more waits after e k added = record {
+    entries = k.entries;
+    loose = k.loose ++ out.entries;
+    holds = subst (Holds store k.entries) (sym (plain_append k.loose out.entries)) added;
+    decided = λ none. let z = none_waits out.rebase waits out.sync is (sym none ∙ e) in all-append TellsDecided k.loose out.entries (k.decided z.0) (unsynced z.1);
+    header = k.header;
+    standing = k.standing;
+    stands = k.stands;
+    remembers = entries_behind k.loose out.entries (acceptor_of k.standing) ∙ ap (with_entries out.entries) k.remembers ∙ sym written;
+  }
+
+  -- of what it keeps as it will be, it then keeps all, and the entries
+  pub keeps_more : (waits after : Bool) → after ≡ waits_after waits out → (k : Gathers whose old waits a) → Holds store k.entries (plain k.loose ++ plain out.entries)
+      → KeepsAtLeast (as_sent after store) (group_keeps whose old waits a k).entries (plain (group_keeps whose old waits a k).loose ++ plain out.entries)
+  keeps_more false false e k added = holds_keeps store k.entries (plain k.loose ++ plain out.entries) added
+  keeps_more true false e k added = absurd (let z = none_waits out.rebase true out.sync is e in cc (z.0))
+  keeps_more false true e k added = whole_keeps (as_synced store) k.entries (plain k.loose ++ plain out.entries) (as_synced_holds store k.entries (plain k.loose ++ plain out.entries) added)
+  keeps_more true true e k added =
+      whole_keeps (as_synced store) (k.entries ++ plain k.loose) (plain out.entries)
+      (subst (λ (l : List Stored). Holds (as_synced store) l []) (sym (append_assoc k.entries (plain k.loose) (plain out.entries))) (as_synced_holds store k.entries (plain k.loose ++ plain out.entries) added))
+
+  -- and knows what it has written unsynced
+  pub known_more : (w : View) (waits after : Bool) → after ≡ waits_after waits out → (loose : List Entry) → (waits ≡ false → AllByRecursion (IsKnown w) loose) → (out.sync ≡ false → AllByRecursion (IsKnown w) out.entries)
+      → after ≡ false → AllByRecursion (IsKnown w) (loose ++ out.entries)
+  known_more w waits after e loose known news none = let z = none_waits out.rebase waits out.sync is (sym none ∙ e) in all-append (IsKnown w) loose out.entries (known z.0) (news z.1)
+
+  -- so it keeps too
+  pub keeps_too : (waits after : Bool) (e : after ≡ waits_after waits out) (k : Gathers whose old waits a) (added : Holds store k.entries (plain k.loose ++ plain out.entries))
+      → KeepsToo whose (as_sent after store) b (group_keeps whose old waits a k).loose out.entries out.sync
+  keeps_too false false e k added = record { keeps = group_keeps whose store false b (gathers_more false false e k added); known = λ w known news. known_more w false false e k.loose (λ none. known) news refl }
+  keeps_too true false e k added = absurd (let z = none_waits out.rebase true out.sync is e in cc (z.0))
+  keeps_too false true e k added = record { keeps = group_keeps whose store true b (gathers_more false true e k added); known = λ w known news. tt }
+  keeps_too true true e k added = record { keeps = group_keeps whose store true b (gathers_more true true e k added); known = λ w known news. tt }
+
+-- what it knew unsynced as it will be, it knew unsynced
+known_before : (m : Meaning) (h : History) (n : ℕ) (node : NodeValue) (s : StoreValue) (waits : Bool) (f : GroupFits m h n node s waits) (w : View)
+    → AllByRecursion (IsKnown w) (group_fits m h n node s waits f).shown.keeps.loose → waits ≡ false → AllByRecursion (IsKnown w) f.shown.keeps.loose
+known_before m h n node s false f w known none = known
+known_before m h n node s true f w known none = absurd (cc none)
+
+module _ (m : Meaning) (h : History) (n : ℕ) (node new : NodeValue) (old store : StoreValue) (waits : Bool) (i : Input) (out : OutboxValue)
+    (f : GroupFits m h n node old waits) (heard : InputFits h i) (g : GoesOn m (λ k. InputFits k i) node new nothing out) (is : out.rebase ≡ false)
+    (added : Holds store f.shown.keeps.entries (plain f.shown.keeps.loose ++ plain out.entries)) where
+  abbrev mine : HeaderValue
+  mine = header_of h.genesis n
+
+  abbrev after : Bool
+  after = waits_after waits out
+
+  abbrev fits : NodeFits m h n (Stands m node (as_sent waits old) h.genesis n) (disks (as_sent waits old))
+  fits = group_fits m h n node old waits f
+
+  abbrev pub gathered_more : Gathers mine store after new.acceptor.state
+  gathered_more = let b = bound m (λ k. InputFits k i) node new out g in gathers_more mine old store node.acceptor.state new.acceptor.state out is b.written b.unsynced waits after refl f.shown.keeps added
+
+  at_least : KeepsAtLeast (as_sent after store) fits.shown.keeps.entries (plain fits.shown.keeps.loose ++ plain out.entries)
+  at_least = let b = bound m (λ k. InputFits k i) node new out g in by_waits b.written b.unsynced waits f added
+    where
+      by_waits : new.acceptor.state ≡ with_entries out.entries node.acceptor.state → (out.sync ≡ false → AllByRecursion TellsDecided out.entries) → (w : Bool) (k : GroupFits m h n node old w)
+          → Holds store k.shown.keeps.entries (plain k.shown.keeps.loose ++ plain out.entries)
+          → KeepsAtLeast (as_sent (waits_after w out) store) (group_fits m h n node old w k).shown.keeps.entries (plain (group_fits m h n node old w k).shown.keeps.loose ++ plain out.entries)
+      by_waits written unsynced false k added = keeps_more mine old store node.acceptor.state new.acceptor.state out is written unsynced false (waits_after false out) refl k.shown.keeps added
+      by_waits written unsynced true k added = keeps_more mine old store node.acceptor.state new.acceptor.state out is written unsynced true (waits_after true out) refl k.shown.keeps added
+
+  too : KeepsToo mine (as_sent after store) new.acceptor.state fits.shown.keeps.loose out.entries out.sync
+  too = let b = bound m (λ k. InputFits k i) node new out g in by_waits b.written b.unsynced waits f added
+    where
+      by_waits : new.acceptor.state ≡ with_entries out.entries node.acceptor.state → (out.sync ≡ false → AllByRecursion TellsDecided out.entries) → (w : Bool) (k : GroupFits m h n node old w)
+          → Holds store k.shown.keeps.entries (plain k.shown.keeps.loose ++ plain out.entries)
+          → KeepsToo mine (as_sent (waits_after w out) store) new.acceptor.state (group_fits m h n node old w k).shown.keeps.loose out.entries out.sync
+      by_waits written unsynced false k added = keeps_too mine old store node.acceptor.state new.acceptor.state out is written unsynced false (waits_after false out) refl k.shown.keeps added
+      by_waits written unsynced true k added = keeps_too mine old store node.acceptor.state new.acceptor.state out is written unsynced true (waits_after true out) refl k.shown.keeps added
+
+  pub leaves_as_sent : DisksFit m h n (disks (as_sent after store))
+  leaves_as_sent = put_leaves m h n node new (as_sent waits old) (as_sent after store) i out fits heard g at_least
+
+  known_now : (w : View) → AllByRecursion (IsKnown w) fits.shown.keeps.loose → (out.sync ≡ false → AllByRecursion (IsKnown w) out.entries) → after ≡ false → AllByRecursion (IsKnown w) (f.shown.keeps.loose ++ out.entries)
+  known_now w known news =
+      let b = bound m (λ k. InputFits k i) node new out g in
+      known_more mine old store node.acceptor.state new.acceptor.state out is b.written b.unsynced w waits after refl f.shown.keeps.loose (known_before m h n node old waits f w known) news
+
+  -- it goes on, and says these of its letters
+  pub gather_goes : (sent : List LetterValue) → AreOf sent out.letters → GroupGoes m h n new store after out.notes (batch_of n sent)
+  gather_goes sent among =
+      let s = serves m h n node new (as_sent waits old) (as_sent after store) i out fits heard g in
+      let p = put_goes m h n node new (as_sent waits old) (as_sent after store) i out fits heard g too leaves_as_sent sent among in
+      record {
+        holding = s.holding;
+        shown = record { whose = s.whose; keeps = gathered_more; known = known_now s.holding.view s.known s.news; held = s.held };
+        fits = s.fits;
+        may = λ d c. s.may d (batch_among n sent out.letters among d c);
+        noted = s.noted;
+        left = p.left;
+      }
+
+-- ---- the same in a history in which nothing of it is sent
+
+module _ (m : Meaning) (h : History) (n : ℕ) (node new : NodeValue) (old store : StoreValue) (waits : Bool) (i : Input) (out : OutboxValue)
+    (s : GroupStays m h n node old waits) (heard : InputFits h i) (g : GoesOn m (λ k. InputFits k i) node new nothing out) where
+  abbrev pretended : NodeFits m h n (Stands m node (as_sent waits old) h.genesis n) (disks (as_sent waits old))
+  pretended = group_fits m h n node old waits s.fits
+
+  -- what it writes rests on what was sent
+  rests_too : AllByRecursion (Rests h) (s.fits.shown.keeps.loose ++ out.entries)
+  rests_too = all-append (Rests h) s.fits.shown.keeps.loose out.entries s.rests (serves m h n node new (as_sent waits old) old i out pretended heard g).rests
+
+  -- after any exit of the put whatever a stop may leave of the files fits
+  pub group_leaves : KeepsAtLeast store s.fits.shown.keeps.entries (plain s.fits.shown.keeps.loose ++ plain out.entries) → DisksFit m h n (disks store)
+  group_leaves keeps = put_fits m h n old store s.fits.shown.keeps.entries s.fits.shown.keeps.loose out.entries s.fits.shown.keeps.holds keeps rests_too s.left
+
+  pub group_stays : out.rebase ≡ false → KeepsAtLeast store s.fits.shown.keeps.entries (plain s.fits.shown.keeps.loose ++ plain out.entries)
+      → Holds store s.fits.shown.keeps.entries (plain s.fits.shown.keeps.loose ++ plain out.entries) → GroupStays m h n new store (waits_after waits out)
+  group_stays is keeps added =
+      let v = serves m h n node new (as_sent waits old) old i out pretended heard g in
+      record {
+        fits = record {
+          lawful = s.fits.lawful;
+          holding = v.holding;
+          shown = record {
+            whose = v.whose;
+            keeps = gathered_more m h n node new old store waits i out s.fits heard g is added;
+            known = known_now m h n node new old store waits i out s.fits heard g is added v.holding.view v.known v.news;
+            held = v.held;
+          };
+          fits = v.fits;
+          left = leaves_as_sent m h n node new old store waits i out s.fits heard g is added;
+        };
+        rests = rests_too;
+        left = group_leaves keeps;
+      }
+
+-- ---- sync before send, whatever has happened
+
+-- as it will be, it remembers
+abbrev pub recalled : (node : NodeValue) (s : StoreValue) (waits : Bool) (genesis : Genesis) (n : ℕ) → Recalls node s waits genesis n → Remembers node (as_sent waits s) genesis n
+recalled node s waits genesis n r = record { whose = r.whose; keeps = group_keeps (header_of genesis n) s waits node.acceptor.state r.keeps }
+
+module _ (m : Meaning) (genesis : Genesis) (n : ℕ) (node new : NodeValue) (old store : StoreValue) (waits : Bool) (Heard : History → Type 0) (out : OutboxValue)
+    (r : Recalls node old waits genesis n) (g : GoesOn m Heard node new nothing out) (is : out.rebase ≡ false) (added : Holds store r.keeps.entries (plain r.keeps.loose ++ plain out.entries)) where
+  pub gather_recalls : Recalls new store (waits_after waits out) genesis n
+  gather_recalls =
+      let b = bound m Heard node new out g in
+      record {
+        whose = b.header ∙ r.whose;
+        keeps = gathers_more (header_of genesis n) old store node.acceptor.state new.acceptor.state out is b.written b.unsynced waits (waits_after waits out) refl r.keeps added;
+      }
+
+  -- once all is synced that waits for it, whatever the step says is covered
+  pub gather_syncs : (x : NodeMessage) (d : Datagram) → Contains (batch_of n out.letters) d → Spells (said_by genesis n x) d.bytes → AllCover m genesis n (disks (as_sent (waits_after waits out) store)) x
+  gather_syncs x d c said =
+      step_syncs m genesis n node new (as_sent waits old) (as_sent (waits_after waits out) store) Heard out (recalled node old waits genesis n r) g
+      (group_keeps (header_of genesis n) store (waits_after waits out) new.acceptor.state gather_recalls.keeps) x d c said
+
+  -- and whatever was
+  pub gather_covers : (x : NodeMessage) → AllCover m genesis n (disks (as_sent waits old)) x → AllCover m genesis n (disks (as_sent (waits_after waits out) store)) x
+  gather_covers x c =
+      let b = bound m Heard node new out g in
+      step_covers m genesis n node new (as_sent waits old) (as_sent (waits_after waits out) store) Heard out (recalled node old waits genesis n r) g
+      (keeps_more (header_of genesis n) old store node.acceptor.state new.acceptor.state out is b.written b.unsynced waits (waits_after waits out) refl r.keeps added) x c
+
+-- of the files as they are
+pub gather_still_covers : (m : Meaning) (genesis : Genesis) (n : ℕ) (node : NodeValue) (old store : StoreValue) (waits : Bool) (es : List Entry) (r : Recalls node old waits genesis n)
+    → KeepsAtLeast store r.keeps.entries (plain r.keeps.loose ++ plain es) → (x : NodeMessage) → AllCover m genesis n (disks old) x → AllCover m genesis n (disks store) x
+gather_still_covers m genesis n node old store waits es r keeps x c = put_covers m genesis n old store r.keeps.entries r.keeps.loose es x r.keeps.holds keeps c
+
+-- ---- the sync
+
+pub settled_keeps : (whose : HeaderValue) (old new : StoreValue) (waits : Bool) (a : AcceptorState) → Settles waits old new → Gathers whose old waits a → Keeps whose new a
+settled_keeps whose old new false a same k = subst (λ (s : StoreValue). Keeps whose s a) (sym same) (group_keeps whose old false a k)
+settled_keeps whose old new true a synced k = record {
+  entries = k.entries ++ plain k.loose;
+  loose = [];
+  holds = synced k.entries (plain k.loose) k.holds;
+  decided = tt;
+  header = header_more k.entries (plain k.loose) whose k.header;
+  standing = with_all k.loose k.standing;
+  stands = all_stand k.entries k.standing k.loose k.stands;
+  remembers = entries_are k.standing k.loose ∙ k.remembers;
+}
+
+-- the group is over: the node fits, in the history in which all that the group said is sent
+pub settled_fits : (m : Meaning) (h : History) (n : ℕ) (node : NodeValue) (old new : StoreValue) (waits : Bool) → Settles waits old new → GroupFits m h n node old waits → NodeFits m h n (Stands m node new h.genesis n) (disks new)
+settled_fits m h n node old new false same f =
+    subst (λ (s : StoreValue). NodeFits m h n (Stands m node s h.genesis n) (disks s)) (sym same) (group_fits m h n node old false f)
+settled_fits m h n node old new true synced f =
+    let k = f.shown.keeps in
+    let all = k.entries ++ plain k.loose in
+    record {
+      lawful = f.lawful;
+      holding = f.holding;
+      shown = record {
+        whose = f.shown.whose;
+        keeps = record {
+          entries = k.entries ++ plain k.loose;
+          loose = [];
+          holds = synced k.entries (plain k.loose) k.holds;
+          decided = tt;
+          header = header_more k.entries (plain k.loose) (header_of h.genesis n) k.header;
+          standing = with_all k.loose k.standing;
+          stands = all_stand k.entries k.standing k.loose k.stands;
+          remembers = entries_are k.standing k.loose ∙ k.remembers;
+        };
+        known = tt;
+        held = f.shown.held;
+      };
+      fits = f.fits;
+      left = fit_disks m h n new all [] (synced k.entries (plain k.loose) k.holds) tt
+          (held_fit m h n (as_synced old) all [] (as_synced_holds old k.entries (plain k.loose) k.holds) f.left);
+    }
+
+-- and whatever was covered as it would be is covered
+pub settled_covers : (m : Meaning) (genesis : Genesis) (n : ℕ) (node : NodeValue) (old new : StoreValue) (waits : Bool) → Settles waits old new → Recalls node old waits genesis n
+    → (x : NodeMessage) → AllCover m genesis n (disks (as_sent waits old)) x → AllCover m genesis n (disks new) x
+settled_covers m genesis n node old new false same r x c = subst (λ (s : StoreValue). AllCover m genesis n (disks s) x) (sym same) c
+settled_covers m genesis n node old new true synced r x c =
+    let k = r.keeps in
+    let all = k.entries ++ plain k.loose in
+    cover_disks m genesis n new all [] x (synced k.entries (plain k.loose) k.holds)
+    (of_every (EntriesCover genesis n x) (as_synced old) all [] (header_of genesis n) (text m genesis []) (as_synced_holds old k.entries (plain k.loose) k.holds) (cover_entries m genesis n (disks (as_synced old)) x c))
+
+-- whatever a stop may leave fits, and covers what was covered, after any exit of it
+pub settle_leaves : (m : Meaning) (h : History) (n : ℕ) (node : NodeValue) (old new : StoreValue) (waits : Bool) → (s : GroupStays m h n node old waits)
+    → KeepsAtLeast new s.fits.shown.keeps.entries (plain s.fits.shown.keeps.loose) → DisksFit m h n (disks new)
+settle_leaves m h n node old new waits s keeps =
+    let k = s.fits.shown.keeps in
+    put_fits m h n old new k.entries k.loose [] k.holds (subst (KeepsAtLeast new k.entries) (sym (append-nil (plain k.loose))) keeps)
+    (subst (AllByRecursion (Rests h)) (sym (append-nil k.loose)) s.rests) s.left
+
+pub settle_covers : (m : Meaning) (genesis : Genesis) (n : ℕ) (node : NodeValue) (old new : StoreValue) (waits : Bool) (r : Recalls node old waits genesis n)
+    → KeepsAtLeast new r.keeps.entries (plain r.keeps.loose) → (x : NodeMessage) → AllCover m genesis n (disks old) x → AllCover m genesis n (disks new) x
+settle_covers m genesis n node old new waits r keeps x c =
+    put_covers m genesis n old new r.keeps.entries r.keeps.loose [] x r.keeps.holds (subst (KeepsAtLeast new r.keeps.entries) (sym (append-nil (plain r.keeps.loose))) keeps) c
+
+-- ---- a step that rebases, after a sync where something waited for it
+
+rebased_waits : (waits : Bool) (out : OutboxValue) → out.rebase ≡ true → waits_after waits out ≡ false
+rebased_waits waits out is = by_rebase out.rebase is
+  where
+    by_rebase : (r : Bool) → r ≡ true → (if r then false else (waits || out.sync)) ≡ false
+    by_rebase true is = refl
+    by_rebase false is = absurd (cc is)
+
+begin_goes : (m : Meaning) (h : History) (n : ℕ) (node : NodeValue) (s : StoreValue) (notes : List Note) (batch : List Datagram) → Goes m h n (Stands m node s h.genesis n) (disks s) notes batch → GroupGoes m h n node s false notes batch
+begin_goes m h n node s notes batch g = record {
+  holding = g.holding;
+  shown = record { whose = g.shown.whose; keeps = group_begins (header_of h.genesis n) s node.acceptor.state g.shown.keeps; known = λ none. g.shown.known; held = g.shown.held };
+  fits = g.fits;
+  may = g.may;
+  noted = g.noted;
+  left = g.left;
+}
+
+pub begun : (node : NodeValue) (s : StoreValue) (genesis : Genesis) (n : ℕ) → Remembers node s genesis n → Recalls node s false genesis n
+begun node s genesis n r = record { whose = r.whose; keeps = group_begins (header_of genesis n) s node.acceptor.state r.keeps }
+
+pub begin_recalls : (node : NodeValue) (s : StoreValue) (genesis : Genesis) (n : ℕ) (waits : Bool) (out : OutboxValue) → out.rebase ≡ true → Remembers node s genesis n → Recalls node s (waits_after waits out) genesis n
+begin_recalls node s genesis n waits out is r =
+    subst (λ (w : Bool). Recalls node s w genesis n) (sym (rebased_waits waits out is)) (begun node s genesis n r)
+
+-- what is on its files it has synced
+pub based_cover : (m : Meaning) (genesis : Genesis) (n : ℕ) (s : StoreValue) (waits : Bool) (out : OutboxValue) (x : NodeMessage) → out.rebase ≡ true → AllCover m genesis n (disks s) x → AllCover m genesis n (disks (as_sent (waits_after waits out) s)) x
+based_cover m genesis n s waits out x is c = subst (λ (w : Bool). AllCover m genesis n (disks (as_sent w s)) x) (sym (rebased_waits waits out is)) c
+
+module _ (m : Meaning) (h : History) (n : ℕ) (node stepped : NodeValue) (mid new : StoreValue) (waits : Bool) (i : Input) (out : OutboxValue)
+    (f : NodeFits m h n (Stands m node mid h.genesis n) (disks mid)) (heard : InputFits h i) (g : GoesOn m (λ k. InputFits k i) node stepped nothing out) (is : out.rebase ≡ true)
+    (may : MayBegin (standing_of stepped)) (within : stepped.acceptor.state.snapshot_position ≤ executed stepped.learner) (holds : Holds new (Base (next_base mid (standing_of stepped)) ∷ []) []) where
+  pub based_goes : (sent : List LetterValue) → AreOf sent out.letters → GroupGoes m h n (standing_here stepped) new (waits_after waits out) out.notes (batch_of n sent)
+  based_goes sent among =
+      subst (λ (w : Bool). GroupGoes m h n (standing_here stepped) new w out.notes (batch_of n sent)) (sym (rebased_waits waits out is))
+      (begin_goes m h n (standing_here stepped) new out.notes (batch_of n sent) (installed_goes m h n node stepped mid i out f heard g is new may within holds sent among))
+
+  pub based_stays : DisksFit m h n (disks new) → GroupStays m h n (standing_here stepped) new (waits_after waits out)
+  based_stays left =
+      let q = installed_goes m h n node stepped mid i out f heard g is new may within holds [] (λ l c. absurd (omega (arith, c.1))) in
+      subst (λ (w : Bool). GroupStays m h n (standing_here stepped) new w) (sym (rebased_waits waits out is))
+      (begin_fits m h n (standing_here stepped) new (record { lawful = f.lawful; holding = q.holding; shown = q.shown; fits = q.fits; left = left }))
+
+-- ---- a store that was asked how long its live file is
+
+module _ (m : Meaning) (old new : StoreValue) (same : IsSameStore old new) where
+  pub same_as_sent : (waits : Bool) → disks (as_sent waits new) ≡ disks (as_sent waits old)
+  same_as_sent true = λ i. pick (same.live i) (flushed (same.live_disk i)) (same.other_disk i)
+  same_as_sent false = λ i. pick (same.live i) (same.live_disk i) (same.other_disk i)
+
+  abbrev same_gathers : (whose : HeaderValue) (waits : Bool) (a : AcceptorState) → Gathers whose old waits a → Gathers whose new waits a
+  same_gathers whose waits a k = record {
+    entries = k.entries;
+    loose = k.loose;
+    holds = same_holds m old new same k.entries (plain k.loose) k.holds;
+    decided = k.decided;
+    header = k.header;
+    standing = k.standing;
+    stands = k.stands;
+    remembers = k.remembers;
+  }
+
+  pub same_recalls : (node : NodeValue) (waits : Bool) (genesis : Genesis) (n : ℕ) → Recalls node old waits genesis n → Recalls node new waits genesis n
+  same_recalls node waits genesis n r = record { whose = r.whose; keeps = same_gathers (header_of genesis n) waits node.acceptor.state r.keeps }
+
+  abbrev pub same_group_fits : (h : History) (n : ℕ) (node : NodeValue) (waits : Bool) → GroupFits m h n node old waits → GroupFits m h n node new waits
+  same_group_fits h n node waits f = record {
+    lawful = f.lawful;
+    holding = f.holding;
+    shown = record { whose = f.shown.whose; keeps = same_gathers (header_of h.genesis n) waits node.acceptor.state f.shown.keeps; known = f.shown.known; held = f.shown.held };
+    fits = f.fits;
+    left = subst (DisksFit m h n) (sym (same_as_sent waits)) f.left;
+  }
+
+  pub same_group_stays : (h : History) (n : ℕ) (node : NodeValue) (waits : Bool) → GroupStays m h n node old waits → GroupStays m h n node new waits
+  same_group_stays h n node waits s = record { fits = same_group_fits h n node waits s.fits; rests = s.rests; left = subst (DisksFit m h n) (sym (same_as_sent false)) s.left }
+
+  pub same_group_covers : (genesis : Genesis) (n : ℕ) (x : NodeMessage) (waits : Bool) → AllCover m genesis n (disks (as_sent waits old)) x → AllCover m genesis n (disks (as_sent waits new)) x
+  same_group_covers genesis n x waits = subst (λ d. AllCover m genesis n d x) (sym (same_as_sent waits))
+
+-- ---- a group, in the words of single calls
+
+-- what fits as it will be fits as it is
+pub as_gathered : (m : Meaning) (genesis : Genesis) (k : ℕ) (node : NodeValue) (s : StoreValue) (waits : Bool) → Recalls node s waits genesis k → (h : History) (n : ℕ)
+    → NodeFits m h n (Stands m node (as_sent waits s) h.genesis n) (disks (as_sent waits s)) → GroupFits m h n node s waits
+as_gathered m genesis k node s false r h n f = (begin_fits m h n node s f).fits
+as_gathered m genesis k node s true r h n f = record {
+  lawful = f.lawful;
+  holding = f.holding;
+  shown = record {
+    whose = f.shown.whose;
+    keeps = subst (λ (w : HeaderValue). Gathers w s true node.acceptor.state) (sym r.whose ∙ f.shown.whose) r.keeps;
+    known = λ none. absurd (cc none);
+    held = f.shown.held;
+  };
+  fits = f.fits;
+  left = f.left;
+}
+
+pub goes_as_sent : (m : Meaning) (h : History) (n : ℕ) (node : NodeValue) (s : StoreValue) (waits : Bool) (notes : List Note) (batch : List Datagram) → GroupGoes m h n node s waits notes batch
+    → Goes m h n (Stands m node (as_sent waits s) h.genesis n) (disks (as_sent waits s)) notes batch
+goes_as_sent m h n node s waits notes batch g = record {
+  holding = g.holding;
+  shown = group_stands m node s waits h.genesis n g.holding g.shown;
+  fits = g.fits;
+  may = g.may;
+  noted = g.noted;
+  left = g.left;
+}
+
+-- one more step: what it says is covered, and what was said before
+pub says_more : (m : Meaning) (genesis : Genesis) (n : ℕ) (old new : GroupValue) (before after : StoreValue)
+    → ((x : NodeMessage) → AllCover m genesis n (disks (as_sent old.waits before)) x → AllCover m genesis n (disks (as_sent new.waits after)) x)
+    → ((x : NodeMessage) → Adds old new (λ notes letters. (d : Datagram) → Contains (batch_of n letters) d → Spells (said_by genesis n x) d.bytes → AllCover m genesis n (disks (as_sent new.waits after)) x))
+    → IsCovered m genesis n old before → IsCovered m genesis n new after
+says_more m genesis n old new first last still adds was x d c said =
+    let a = adds x in
+    let listed : Contains (batch_of n old.letters ++ batch_of n a.letters) d = subst (λ (l : List Datagram). Contains l d) (ap (batch_of n) a.said ∙ map_append (datagram_of n) old.letters a.letters) c in
+    elim (Contains-append_cases (batch_of n old.letters) (batch_of n a.letters) d listed) [
+      | inl earlier ↦ still x (was x d earlier said)
+      | inr now ↦ a.are d now said
+    ]
+  where
+    map_append : {X Y : Type 0} (f : X → Y) (xs ys : List X) → map f (xs ++ ys) ≡ map f xs ++ map f ys
+    map_append f [] ys = refl
+    map_append f (x ∷ xs) ys = ap (λ l. f x ∷ l) (map_append f xs ys)
+
+-- ---- which calls were made
+
+pub settled_none : (m : Meter) (waits : Bool) → waits ≡ false → Passes m m (settle_calls waits)
+settled_none m false is = start
+settled_none m true is = absurd (cc is)
+
+pub settled_once : (m n : Meter) (waits : Bool) → waits ≡ true → Passes m n 1 → Passes m n (settle_calls waits)
+settled_once m n true is calls = calls
+settled_once m n false is calls = absurd (cc is)
+
+pub gathered_put : (m n : Meter) (waits : Bool) (o : OutboxValue) (entries : List Entry) → entries ≡ o.entries → o.rebase ≡ false → Passes m n (put_calls entries false) → Passes m n (gather_calls waits o)
+gathered_put m n waits o entries these not_so calls =
+    subst (λ (b : Bool). Passes m n (if b then settle_calls waits + rebase_calls else put_calls o.entries false)) (sym not_so) (subst (λ (es : List Entry). Passes m n (put_calls es false)) these calls)
+
+pub gathered_base : (l m n : Meter) (waits : Bool) (o : OutboxValue) → o.rebase ≡ true → Passes l m (settle_calls waits) → Passes m n rebase_calls → Passes l n (gather_calls waits o)
+gathered_base l m n waits o so first then_calls =
+    subst (λ (b : Bool). Passes l n (if b then settle_calls waits + rebase_calls else put_calls o.entries false)) (sym so) (passes_on (settle_calls waits) first rebase_calls then_calls)
+
+-- ---- a Base that is written after a sync
+
+pub settled_writes : (old mid after : StoreValue) (waits : Bool) (t : StandingValue) → Settles waits old mid → KeepsItsFile old mid → ((ks ls : List Stored) → Holds mid ks ls → Holds after (Base (next_base mid t) ∷ []) [])
+    → (ks ls : List Stored) → Holds old ks ls → Holds after (Base (next_base old t) ∷ []) []
+settled_writes old mid after waits t settles same writes ks ls h =
+    let b : next_base mid t ≡ next_base old t = λ i. record { generation = same.1 i + 1; format = 2; header = same.3 i; standing = t } in
+    subst (λ (x : BaseValue). Holds after (Base x ∷ []) []) b (by_waits waits settles)
+  where
+    by_waits : (w : Bool) → Settles w old mid → Holds after (Base (next_base mid t) ∷ []) []
+    by_waits true synced = writes (ks ++ ls) [] (synced ks ls h)
+    by_waits false is = writes ks ls (subst (λ (s : StoreValue). Holds s ks ls) (sym is) h)
+
+pub settled_rebases : (node new : NodeValue) (old mid after : StoreValue) (waits : Bool) → Settles waits old mid → KeepsItsFile old mid → Rebases node mid new after → Rebases node old new after
+settled_rebases node new old mid after waits settles same r = record { becomes = r.becomes; writes = settled_writes old mid after waits (standing_of node) settles same r.writes }
+
+-- that of a store that was asked how long its live file is
+pub same_rebases : (m : Meaning) (node new : NodeValue) (old mid after : StoreValue) → IsSameStore old mid → Rebases node mid new after → Rebases node old new after
+same_rebases m node new old mid after same r = record {
+  becomes = r.becomes;
+  writes = λ ks ls h.
+      let b : next_base mid (standing_of node) ≡ next_base old (standing_of node) = λ i. record { generation = same.generation i + 1; format = 2; header = same.header i; standing = standing_of node } in
+      subst (λ (x : BaseValue). Holds after (Base x ∷ []) []) b (r.writes ks ls (same_holds m old mid same ks ls h));
+}
+
+pub uncounted : (m : Meaning) (IsText : List ℕ → Type 0) (Metered : Type 0) (node new : NodeValue) (store after : StoreValue) (waits : Bool) (i : Input) (out : OutboxValue) → StepsToFile m IsText Metered node store waits i out new after → StepsToFile m IsText ⊥ node store waits i out new after
+uncounted m IsText Metered node new store later waits i out s = record { stepped = s.stepped; steps = s.steps; rebases = s.rebases; puts = s.puts; calls = λ none. absurd none }
+
+-- ---- what a refused call of a group leaves
+
+pub group_refused : {T : Type 0} (Honest Metered : Type 0) (r : Result T ReplicaFault) (f : ReplicaFault) (old : ReplicaValue) (node : NodeValue) (store : StoreValue)
+    → IsErrAnd r (λ e. e ≡ f) → old.failed ≡ false → store.failures ≡ failures_by (fault_number f) old.store.failures
+    → IsCutShort Honest Metered 2 old.node old.store node store ⊤ f
+    → IfErr r (λ e. IsRefusedInGroup Honest Metered old (record { node = node; store = store; failed = true }) (fault_number e))
+group_refused Honest Metered r f old node store is alive failures cut =
+    let kept : IsRefusedInGroup Honest Metered old (record { node = node; store = store; failed = true }) (fault_number f) =
+    record {
+      told = number_of_calls f cut.told;
+      no_send = sends_not f cut.only;
+      failures = failures;
+      calls = cut.calls;
+      earlier = λ number before store_alive further. cut.earlier (failed_alone f number) store_alive (omega (arith, further));
+      once = λ ended. absurd (let both : false ≡ true = sym alive ∙ ended in cc both);
+      ends = refl;
+      halts = λ number. cut.halts (halted_alone f number);
+      awake = cut.awake;
+    } in
+    err_as (λ e. IsRefusedInGroup Honest Metered old (record { node = node; store = store; failed = true }) (fault_number e)) r f is kept
+
+-- a refusal that refused memory does not bring is one of the store
+pub of_store_too : (number : ℕ) → WantsNoMemory number → IsStoreFault number
+of_store_too number by = elim by [ inl device ↦ inl device | inr failed ↦ inr (inr failed) ]
+
+-- what holds after any exit holds after a refusal
+pub on_err : {T E : Type 0} {P : Type 0} (r : Result T E) → P → OnErr r P
+on_err (Ok x) p = tt
+on_err (Err e) p = p
+
+-- ---- room
+
+as_long : (waits : Bool) (s : StoreValue) (side : Side) → length (contents (disks (as_sent waits s) side)) ≡ length (contents (disks s side))
+as_long false s side = refl
+as_long true s side = at s.live side
+  where
+    at : (live side : Side) → length (contents (pick live (flushed s.live_disk) s.other_disk side)) ≡ length (contents (pick live s.live_disk s.other_disk side))
+    at A A = ap length (append-nil (contents s.live_disk))
+    at A B = refl
+    at B A = refl
+    at B B = ap length (append-nil (contents s.live_disk))
+
+-- the files as they will be are as long as they are
+pub room_as_sent : (most : ℕ) (before after : Bool) (old new : StoreValue) → StaysWithin most (disks old) (disks new) → StaysWithin most (disks (as_sent before old)) (disks (as_sent after new))
+room_as_sent most before after old new stays side = omega (arith, stays side, as_long before old side, as_long after new side)
+
+-- ---- a whole group
+
+-- what is still to come makes the whole of what has come so far
+pub record GoesSoFar (m : Meaning) (r : ReplicaValue) (all : List Input) (node : NodeValue) (store : StoreValue) (letters : List LetterValue) (rest : List Input) : Type 0 where
+  pub said : List StepSaid
+  pub are : letters_of said ≡ letters
+  pub whole : (n : ℕ) (q : ReplicaValue) (more : List StepSaid) → GoesThrough m n (record { node = node; store = store; failed = false }) rest q more → GoesThrough m n r all q (said ++ more)
+
+letters_append : (xs ys : List StepSaid) → letters_of (xs ++ ys) ≡ letters_of xs ++ letters_of ys
+letters_append [] ys = refl
+letters_append (x ∷ xs) ys = ap (λ l. x.1 ++ l) (letters_append xs ys) ∙ sym (append_assoc x.1 (letters_of xs) (letters_of ys))
+
+-- nothing has come: the replica is as it is, whether it has failed or not
+pub none_so_far : (m : Meaning) (r : ReplicaValue) (all : List Input) → GoesSoFar m r all r.node r.store [] all
+none_so_far m r all = record { said = []; are = refl; whole = λ n q more goes. unfailed m n r all q more goes }
+  where
+    unfailed : (m : Meaning) (n : ℕ) (r : ReplicaValue) (all : List Input) (q : ReplicaValue) (more : List StepSaid) → GoesThrough m n (record { node = r.node; store = r.store; failed = false }) all q more → GoesThrough m n r all q more
+    unfailed m n r [] q more goes = goes
+    unfailed m n r (i ∷ is) q more goes = goes
+
+-- one more
+pub one_so_far : (m : Meaning) (r : ReplicaValue) (all : List Input) (node new : NodeValue) (store after : StoreValue) (old now : List LetterValue) (i : Input) (rest : List Input) (notes : List Note) (letters : List LetterValue)
+    → GoesSoFar m r all node store old (i ∷ rest) → now ≡ old ++ letters
+    → ((n : ℕ) (h : History) → NodeFits m h n (Stands m node store h.genesis n) (disks store) → InputFits h i → (sent : List LetterValue) → AreOf sent letters → Goes m h n (Stands m new after h.genesis n) (disks after) notes (batch_of n sent))
+    → StaysWithin 132704 (disks store) (disks after) → GoesSoFar m r all new after now rest
+one_so_far m r all node new store after old now i rest notes letters s is link room = record {
+  said = s.said ++ (notes, letters) ∷ [];
+  are = letters_append s.said ((notes, letters) ∷ []) ∙ (λ k. s.are k ++ append-nil letters k) ∙ sym is;
+  whole = λ n q more goes.
+      subst (λ (l : List StepSaid). GoesThrough m n r all q l) (sym (append_assoc s.said ((notes, letters) ∷ []) more))
+      (s.whole n q ((notes, letters) ∷ more) (record { node = new; store = after; failed = false }, notes, letters, more, refl, link n, room, goes));
+}
+
+-- all
+pub all_so_far : (m : Meaning) (r q : ReplicaValue) (all : List Input) (node : NodeValue) (store : StoreValue) (letters : List LetterValue) (rest : List Input) → GoesSoFar m r all node store letters rest → rest ≡ []
+    → ((n : ℕ) (h : History) → NodeFits m h n (Stands m node store h.genesis n) (disks store) → NodeFits m h n (Stands m q.node q.store h.genesis n) (disks q.store)) → StaysWithin 132704 (disks store) (disks q.store)
+    → (said : List StepSaid) × (letters_of said ≡ letters) × ((n : ℕ) → GoesThrough m n r all q said)
+all_so_far m r q all node store letters rest s none last room = (
+  s.said,
+  s.are,
+  λ n. subst (λ (l : List StepSaid). GoesThrough m n r all q l) (append-nil s.said)
+      (s.whole n q [] (subst (λ (l : List Input). GoesThrough m n (record { node = node; store = store; failed = false }) l q []) (sym none) (refl, last n, room))),
+)

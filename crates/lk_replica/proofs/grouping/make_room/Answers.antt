@@ -1,0 +1,220 @@
+use Rattle.std.proofs.Common.{◌≡◌, Err, rules, true, false, List, [], ◌++◌, ◌∙◌, refl, sym, ap, subst, arith}
+use Rattle.lk_entries.specs.Entries.{plain}
+use Rattle.lk_log.specs.StoreValue.{disks}
+use Rattle.lk_state.specs.Meanings.{Meaning}
+use Rattle.lk_replica.proofs.Grouped.{of_store_too, settled_rebases, same_rebases, begin_fits, begun, settled_keeps, settled_fits, settled_covers, settle_leaves, settle_covers, same_recalls, same_group_fits, same_group_stays, same_group_covers}
+use Rattle.lk_log.proofs.Room.{within_first, within_more}
+use Rattle.lk_replica.proofs.Rebasing.{goes_fits, same_room}
+use Rattle.lk_disk.proofs.Devices.{passes_on}
+use Rattle.lk_replica.proofs.Calling.{err_as, refused_on}
+use Rattle.lk_replica.proofs.Refusals.{store_told, store_only, store_awake}
+use Rattle.lk_replica.proofs.Spared.{spared_all}
+use Rattle.lk_replica.proofs.grouping.make_room.Goals as goal
+
+-- ---- none is due
+
+pub returns-then-not-due-clause-fits : goal.returns-then-not-due-clause-fits
+returns-then-not-due-clause-fits g c honest h n f = same_group_fits g.M.Machine.meaning c.args.store.now c.is_due.new.store (c.is_due.ensures.same honest) h n c.args.node.now c.args.waits f
+
+pub returns-then-not-due-clause-stays : goal.returns-then-not-due-clause-stays
+returns-then-not-due-clause-stays g c honest h n s = same_group_stays g.M.Machine.meaning c.args.store.now c.is_due.new.store (c.is_due.ensures.same honest) h n c.args.node.now c.args.waits s
+
+pub returns-then-not-due-clause-ends : goal.returns-then-not-due-clause-ends
+returns-then-not-due-clause-ends g c honest h n s = (same_group_stays g.M.Machine.meaning c.args.store.now c.is_due.new.store (c.is_due.ensures.same honest) h n c.args.node.now c.args.waits s).left
+
+pub returns-in_err-due-clause-ends : goal.returns-in_err-due-clause-ends
+returns-in_err-due-clause-ends g c honest h n s = (same_group_stays g.M.Machine.meaning c.args.store.now c.is_due.new.store (c.is_due.ensures.same honest) h n c.args.node.now c.args.waits s).left
+
+pub returns-then-not-due-clause-recalls : goal.returns-then-not-due-clause-recalls
+returns-then-not-due-clause-recalls g c honest genesis n r = same_recalls g.M.Machine.meaning c.args.store.now c.is_due.new.store (c.is_due.ensures.same honest) c.args.node.now c.args.waits genesis n r
+
+pub returns-then-not-due-clause-still : goal.returns-then-not-due-clause-still
+returns-then-not-due-clause-still g c honest genesis n x r every = same_group_covers g.M.Machine.meaning c.args.store.now c.is_due.new.store (c.is_due.ensures.same honest) genesis n x c.args.waits every
+
+pub returns-then-not-due-clause-covers : goal.returns-then-not-due-clause-covers
+returns-then-not-due-clause-covers g c honest genesis n x r every = same_group_covers g.M.Machine.meaning c.args.store.now c.is_due.new.store (c.is_due.ensures.same honest) genesis n x false every
+
+pub returns-in_err-due-clause-covers : goal.returns-in_err-due-clause-covers
+returns-in_err-due-clause-covers g c honest genesis n x r every = same_group_covers g.M.Machine.meaning c.args.store.now c.is_due.new.store (c.is_due.ensures.same honest) genesis n x false every
+
+-- ---- one is due
+
+pub returns-clause-fits : goal.returns-clause-fits
+returns-clause-fits g c honest h n f =
+    let m : Meaning = g.M.Machine.meaning in
+    let mine = same_group_fits m c.args.store.now c.is_due.new.store (c.is_due.ensures.same honest) h n c.args.node.now c.args.waits f in
+    let mid = settled_fits m h n c.args.node.now c.is_due.new.store c.settle.new.store c.args.waits (c.in_ok-settle.ensures.settles honest) mine in
+    (begin_fits m h n c.write_base.new.node c.write_base.new.store
+    (goes_fits m h n c.write_base.new.node c.write_base.new.store f.lawful ((c.write_base.ensures.disks honest).fits h n mid) ((c.in_ok-write_base.ensures.done honest).goes h n mid))).fits
+
+pub returns-clause-stays : goal.returns-clause-stays
+returns-clause-stays g c honest h n s =
+    let m : Meaning = g.M.Machine.meaning in
+    let mine = same_group_fits m c.args.store.now c.is_due.new.store (c.is_due.ensures.same honest) h n c.args.node.now c.args.waits s.fits in
+    let mid = settled_fits m h n c.args.node.now c.is_due.new.store c.settle.new.store c.args.waits (c.in_ok-settle.ensures.settles honest) mine in
+    begin_fits m h n c.write_base.new.node c.write_base.new.store
+    (goes_fits m h n c.write_base.new.node c.write_base.new.store s.fits.lawful ((c.write_base.ensures.disks honest).fits h n mid) ((c.in_ok-write_base.ensures.done honest).goes h n mid))
+
+pub returns-clause-ends : goal.returns-clause-ends
+returns-clause-ends g c honest h n s =
+    let m : Meaning = g.M.Machine.meaning in
+    let mine = same_group_fits m c.args.store.now c.is_due.new.store (c.is_due.ensures.same honest) h n c.args.node.now c.args.waits s.fits in
+    let mid = settled_fits m h n c.args.node.now c.is_due.new.store c.settle.new.store c.args.waits (c.in_ok-settle.ensures.settles honest) mine in
+    (c.write_base.ensures.disks honest).fits h n mid
+
+pub returns-in_err-write_base-clause-ends : goal.returns-in_err-write_base-clause-ends
+returns-in_err-write_base-clause-ends g c honest h n s =
+    let m : Meaning = g.M.Machine.meaning in
+    let mine = same_group_fits m c.args.store.now c.is_due.new.store (c.is_due.ensures.same honest) h n c.args.node.now c.args.waits s.fits in
+    let mid = settled_fits m h n c.args.node.now c.is_due.new.store c.settle.new.store c.args.waits (c.in_ok-settle.ensures.settles honest) mine in
+    (c.write_base.ensures.disks honest).fits h n mid
+
+pub returns-in_err-settle-clause-ends : goal.returns-in_err-settle-clause-ends
+returns-in_err-settle-clause-ends g c honest h n s =
+    let m : Meaning = g.M.Machine.meaning in
+    let mine = same_group_stays m c.args.store.now c.is_due.new.store (c.is_due.ensures.same honest) h n c.args.node.now c.args.waits s in
+    let k = mine.fits.shown.keeps in
+    settle_leaves m h n c.args.node.now c.is_due.new.store c.settle.new.store c.args.waits mine (c.settle.ensures.any honest k.entries (plain k.loose) k.holds)
+
+pub returns-clause-recalls : goal.returns-clause-recalls
+returns-clause-recalls g c honest genesis n r =
+    let mine = same_recalls g.M.Machine.meaning c.args.store.now c.is_due.new.store (c.is_due.ensures.same honest) c.args.node.now c.args.waits genesis n r in
+    let mid = settled_keeps _ c.is_due.new.store c.settle.new.store c.args.waits _ (c.in_ok-settle.ensures.settles honest) mine.keeps in
+    begun _ c.write_base.new.store genesis n ((c.in_ok-write_base.ensures.done honest).remembers genesis n (record { whose = r.whose; keeps = mid }))
+
+pub returns-clause-still : goal.returns-clause-still
+returns-clause-still g c honest genesis n x r every =
+    let m : Meaning = g.M.Machine.meaning in
+    let mine = same_recalls m c.args.store.now c.is_due.new.store (c.is_due.ensures.same honest) c.args.node.now c.args.waits genesis n r in
+    let mid = settled_keeps _ c.is_due.new.store c.settle.new.store c.args.waits _ (c.in_ok-settle.ensures.settles honest) mine.keeps in
+    (c.write_base.ensures.disks honest).covers genesis n x mid
+    (settled_covers m genesis n c.args.node.now c.is_due.new.store c.settle.new.store c.args.waits (c.in_ok-settle.ensures.settles honest) mine x
+    (same_group_covers m c.args.store.now c.is_due.new.store (c.is_due.ensures.same honest) genesis n x c.args.waits every))
+
+pub returns-clause-covers : goal.returns-clause-covers
+returns-clause-covers g c honest genesis n x r every =
+    let m : Meaning = g.M.Machine.meaning in
+    let mine = same_recalls m c.args.store.now c.is_due.new.store (c.is_due.ensures.same honest) c.args.node.now c.args.waits genesis n r in
+    let mid = settled_keeps _ c.is_due.new.store c.settle.new.store c.args.waits _ (c.in_ok-settle.ensures.settles honest) mine.keeps in
+    (c.write_base.ensures.disks honest).covers genesis n x mid
+    (settle_covers m genesis n c.args.node.now c.is_due.new.store c.settle.new.store c.args.waits mine (c.settle.ensures.any honest mine.keeps.entries (plain mine.keeps.loose) mine.keeps.holds) x
+    (same_group_covers m c.args.store.now c.is_due.new.store (c.is_due.ensures.same honest) genesis n x false every))
+
+pub returns-in_err-write_base-clause-covers : goal.returns-in_err-write_base-clause-covers
+returns-in_err-write_base-clause-covers g c honest genesis n x r every =
+    let m : Meaning = g.M.Machine.meaning in
+    let mine = same_recalls m c.args.store.now c.is_due.new.store (c.is_due.ensures.same honest) c.args.node.now c.args.waits genesis n r in
+    let mid = settled_keeps _ c.is_due.new.store c.settle.new.store c.args.waits _ (c.in_ok-settle.ensures.settles honest) mine.keeps in
+    (c.write_base.ensures.disks honest).covers genesis n x mid
+    (settle_covers m genesis n c.args.node.now c.is_due.new.store c.settle.new.store c.args.waits mine (c.settle.ensures.any honest mine.keeps.entries (plain mine.keeps.loose) mine.keeps.holds) x
+    (same_group_covers m c.args.store.now c.is_due.new.store (c.is_due.ensures.same honest) genesis n x false every))
+
+pub returns-in_err-settle-clause-covers : goal.returns-in_err-settle-clause-covers
+returns-in_err-settle-clause-covers g c honest genesis n x r every =
+    let m : Meaning = g.M.Machine.meaning in
+    let mine = same_recalls m c.args.store.now c.is_due.new.store (c.is_due.ensures.same honest) c.args.node.now c.args.waits genesis n r in
+    settle_covers m genesis n c.args.node.now c.is_due.new.store c.settle.new.store c.args.waits mine (c.settle.ensures.any honest mine.keeps.entries (plain mine.keeps.loose) mine.keeps.holds) x
+    (same_group_covers m c.args.store.now c.is_due.new.store (c.is_due.ensures.same honest) genesis n x false every)
+
+-- ---- room
+
+pub returns-in_err-due-clause-room : goal.returns-in_err-due-clause-room
+returns-in_err-due-clause-room g c honest = same_room g.M.Machine.meaning c.args.store.now c.is_due.new.store (c.is_due.ensures.same honest)
+
+pub returns-then-not-due-clause-room : goal.returns-then-not-due-clause-room
+returns-then-not-due-clause-room g c honest = same_room g.M.Machine.meaning c.args.store.now c.is_due.new.store (c.is_due.ensures.same honest)
+
+pub returns-in_err-settle-clause-room : goal.returns-in_err-settle-clause-room
+returns-in_err-settle-clause-room g c honest =
+    within_first 49152 (disks c.args.store.now) (disks c.is_due.new.store) (disks c.settle.new.store) (same_room g.M.Machine.meaning c.args.store.now c.is_due.new.store (c.is_due.ensures.same honest))
+    (within_more 49152 (disks c.is_due.new.store) (disks c.settle.new.store) (c.settle.ensures.room honest))
+
+pub returns-in_err-write_base-clause-room : goal.returns-in_err-write_base-clause-room
+returns-in_err-write_base-clause-room g c honest =
+    within_first 49152 (disks c.args.store.now) (disks c.settle.new.store) (disks c.write_base.new.store)
+    (within_first 49152 (disks c.args.store.now) (disks c.is_due.new.store) (disks c.settle.new.store) (same_room g.M.Machine.meaning c.args.store.now c.is_due.new.store (c.is_due.ensures.same honest))
+    (within_more 49152 (disks c.is_due.new.store) (disks c.settle.new.store) (c.settle.ensures.room honest)))
+    (c.write_base.ensures.disks honest).room
+
+pub returns-clause-room : goal.returns-clause-room
+returns-clause-room g c honest =
+    within_first 49152 (disks c.args.store.now) (disks c.settle.new.store) (disks c.write_base.new.store)
+    (within_first 49152 (disks c.args.store.now) (disks c.is_due.new.store) (disks c.settle.new.store) (same_room g.M.Machine.meaning c.args.store.now c.is_due.new.store (c.is_due.ensures.same honest))
+    (within_more 49152 (disks c.is_due.new.store) (disks c.settle.new.store) (c.settle.ensures.room honest)))
+    (c.write_base.ensures.disks honest).room
+
+-- ---- what it has done
+
+pub returns-then-not-due-clause-exact : goal.returns-then-not-due-clause-exact
+returns-then-not-due-clause-exact g c honest = record {
+  due = λ is. absurd (let yes : c.in_ok-due.due ≡ true = (c.in_ok-due.ensures.value honest).1 is in let both : false ≡ true = sym (search rules) ∙ yes in cc both);
+  rests = λ other. (refl, c.is_due.ensures.same honest);
+}
+
+pub returns-clause-exact : goal.returns-clause-exact
+returns-clause-exact g c honest =
+    let due = (c.in_ok-due.ensures.value honest).0 (search rules) in
+    record {
+      due = λ is. same_rebases g.M.Machine.meaning c.args.node.now c.write_base.new.node c.args.store.now c.is_due.new.store c.write_base.new.store (c.is_due.ensures.same honest)
+          (settled_rebases c.args.node.now c.write_base.new.node c.is_due.new.store c.settle.new.store c.write_base.new.store c.args.waits (c.in_ok-settle.ensures.settles honest) c.settle.ensures.file (c.in_ok-write_base.ensures.done honest).rebases);
+      rests = λ other. absurd (other due);
+    }
+
+pub returns-then-not-due-clause-calls : goal.returns-then-not-due-clause-calls
+returns-then-not-due-clause-calls g c metered honest = (0, c.in_ok-due.ensures.metered metered)
+
+pub returns-clause-calls : goal.returns-clause-calls
+returns-clause-calls g c metered honest =
+    (_, passes_on 0 (c.in_ok-due.ensures.metered metered) _ (passes_on _ (c.in_ok-settle.ensures.metered metered) _ ((c.in_ok-write_base.ensures.done honest).calls metered)))
+
+pub returns-then-not-due-clause-alive : goal.returns-then-not-due-clause-alive
+returns-then-not-due-clause-alive g c = record { store_alive = c.in_ok-due.ensures.alive; further = omega (arith, c.is_due.ensures.generation); runs = λ none. none }
+
+pub returns-clause-alive : goal.returns-clause-alive
+returns-clause-alive g c = record {
+  store_alive = c.in_ok-write_base.ensures.becomes.store_alive;
+  further = omega (arith, c.is_due.ensures.generation, c.settle.ensures.file.1, c.in_ok-write_base.ensures.becomes.generation);
+  runs = c.in_ok-write_base.ensures.becomes.runs;
+}
+
+-- ---- where it was refused
+
+pub returns-in_err-due-clause-refused : goal.returns-in_err-due-clause-refused
+returns-in_err-due-clause-refused g c =
+    let was = c.in_err-due.ensures in
+    let of_store = of_store_too _ was.memory in
+    err_as _ _ _ c.from_residual.ensures.1 (record {
+      told = store_told _ of_store;
+      only = store_only _ of_store;
+      calls = λ metered honest. was.metered metered;
+      earlier = λ is alive further. was.failed_before alive (ap Err is);
+      stays = λ honest. spared_all _ _ tt;
+      halts = λ is. absurd (store_awake _ of_store is);
+      awake = λ wakes other. wakes;
+    })
+
+pub returns-in_err-settle-clause-refused : goal.returns-in_err-settle-clause-refused
+returns-in_err-settle-clause-refused g c =
+    let was = c.in_err-settle.ensures.refused in
+    err_as _ _ _ c.from_residual-in_err-settle.ensures.1 (record {
+      told = store_told _ was.of_store;
+      only = store_only _ was.of_store;
+      calls = λ metered honest. refused_on 0 (c.in_ok-due.ensures.metered metered) _ _ (was.calls metered honest);
+      earlier = λ is alive further. was.earlier is c.in_ok-due.ensures.alive (omega (arith, further, c.is_due.ensures.generation));
+      stays = λ honest. spared_all _ _ tt;
+      halts = λ is. absurd (store_awake _ was.of_store is);
+      awake = λ wakes other. wakes;
+    })
+
+pub returns-in_err-write_base-clause-refused : goal.returns-in_err-write_base-clause-refused
+returns-in_err-write_base-clause-refused g c =
+    let was = c.in_err-write_base.ensures.refused in
+    err_as _ _ _ c.from_residual-in_err-write_base.ensures.1 (record {
+      told = store_told _ was.of_store;
+      only = store_only _ was.of_store;
+      calls = λ metered honest. refused_on 0 (c.in_ok-due.ensures.metered metered) _ _ (refused_on _ (c.in_ok-settle.ensures.metered metered) _ _ (was.calls metered honest));
+      earlier = λ is alive further. was.earlier is (c.in_ok-settle.ensures.alive c.in_ok-due.ensures.alive) (omega (arith, further, c.is_due.ensures.generation, c.settle.ensures.file.1));
+      stays = λ honest. spared_all _ _ tt;
+      halts = λ is. absurd (store_awake _ was.of_store is);
+      awake = λ wakes other. c.write_base.ensures.wakes ∙ wakes;
+    })

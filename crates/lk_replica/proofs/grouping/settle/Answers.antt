@@ -1,0 +1,30 @@
+use Rattle.std.proofs.Common.{refl}
+use Rattle.lk_log.specs.StoreValue.{disks}
+use Rattle.lk_log.proofs.Room.{within_same}
+use Rattle.lk_log.proofs.StoreLaws.{holds_keeps}
+use Rattle.lk_replica.proofs.Grouped.{settled_none, settled_once}
+use Rattle.lk_replica.proofs.Calling.{err_as, refused_after}
+use Rattle.lk_replica.proofs.Spared.{sync_refused, sync_spares, sync_not_failed}
+use Rattle.lk_replica.proofs.grouping.settle.Goals as goal
+
+pub returns-then-not-waits-clause-any : goal.returns-then-not-waits-clause-any
+returns-then-not-waits-clause-any g c honest ks ls holds = holds_keeps c.args.store.now ks ls holds
+
+pub returns-then-not-waits-clause-room : goal.returns-then-not-waits-clause-room
+returns-then-not-waits-clause-room g c honest = within_same 0 (disks c.args.store.now) (disks c.args.store.now) (λ s. refl)
+
+pub returns-then-not-waits-clause-metered : goal.returns-then-not-waits-clause-metered
+returns-then-not-waits-clause-metered g c metered = settled_none c.args.store.now.meter c.args.waits (cc c.if-not-waits.true)
+
+pub returns-clause-metered : goal.returns-clause-metered
+returns-clause-metered g c metered = settled_once c.args.store.now.meter c.sync.new.self.meter c.args.waits (cc c.if-not-waits.false) (c.in_ok-sync.ensures.metered metered)
+
+pub returns-in_err-sync-clause-refused : goal.returns-in_err-sync-clause-refused
+returns-in_err-sync-clause-refused g c =
+    let was = c.in_err-sync.ensures in
+    err_as _ _ _ c.from_residual.ensures.1 (record {
+      of_store = sync_refused c.args.store.now _ (λ dead. (was.refuses.0 dead).1) was.refuses.1;
+      calls = λ metered honest. refused_after _ _ _ (was.metered metered);
+      earlier = λ is alive less. sync_not_failed _ (was.refuses.1 alive) is;
+      stays = λ honest. sync_spares c.args.store.now c.sync.new.self _ (λ dead. (c.sync.ensures.refuses.0 dead).0) was.refuses.1;
+    })

@@ -1,0 +1,185 @@
+-- A node in the middle of a group: it has taken some inputs and has written, unsynced, what they told to write, and nothing of what it said is sent.
+use Rattle.std.specs.Prelude.{◌≡◌, ℕ, ◌+◌, ◌<◌, ◌||◌, Bool, true, false, if◌then◌else◌, List, [], ◌∷◌, ◌++◌, Contains}
+use Rattle.std.specs.List.{AllByRecursion}
+use Rattle.lk_types.specs.declared.entry.Entry.{Entry}
+use Rattle.lk_disk.specs.Disk.{flushed}
+use Rattle.lk_disk.specs.Meters.{Passes}
+use Rattle.lk_log.specs.Causes.{put_calls, rebase_calls}
+use Rattle.lk_entries.specs.Entries.{plain}
+use Rattle.lk_entries.specs.Standings.{HasHeader, StandsFor}
+use Rattle.lk_entries.specs.Values.{HeaderValue, StandingValue}
+use Rattle.lk_entries.specs.declared.stored.Stored.{Stored}
+use Rattle.lk_log.specs.Rooms.{StaysWithin}
+use Rattle.lk_log.specs.StoreValue.{StoreValue, disks}
+use Rattle.lk_log.specs.Stores.{Holds}
+use Rattle.lk_state.specs.Meanings.{Meaning}
+use Rattle.lk_wire.specs.Grammar.{Spells}
+use Rattle.lk_history.specs.Acceptors.{AcceptorState}
+use Rattle.lk_history.specs.Datagrams.{NodeMessage, said_by}
+use Rattle.lk_step.specs.Letters.{LetterValue, batch_of}
+use Rattle.lk_step.specs.Outboxes.{OutboxValue}
+use Rattle.lk_step.specs.declared.input.Input.{Input}
+use Rattle.lk_step.specs.declared.note.Note.{Note}
+use Rattle.lk_node.specs.Steps.{Steps}
+use Rattle.lk_types.specs.Limits.{max_count}
+use Rattle.lk_replica.specs.Compacting.{Rebases, RebasesWhereDue}
+use Rattle.lk_replica.specs.Faults.{failures_by, RefusedAfter, IsNumberOfCalls}
+use Rattle.lk_replica.specs.Posts.{AreOf}
+use Rattle.lk_replica.specs.Rooms.{max_after}
+use Rattle.lk_replica.specs.ReplicaValue.{ReplicaValue}
+use Rattle.lk_node.specs.Calls.{InputFits, NodeFits, Goes}
+use Rattle.lk_node.specs.Entries.{Rests}
+use Rattle.lk_node.specs.Histories.{History, Genesis, Datagram}
+use Rattle.lk_node.specs.Holdings.{Holding}
+use Rattle.lk_node.specs.Keeping.{TellsDecided, IsKnown, IsHeld, Stands}
+use Rattle.lk_node.specs.Leavings.{header_of, acceptor_of, DisksFit, AllCover}
+use Rattle.lk_node.specs.NodeValue.{NodeValue}
+use Rattle.lk_node.specs.Serving.{with_entries}
+
+-- the store, with all bytes of its live file synced
+abbrev pub as_synced : StoreValue → StoreValue
+as_synced s = record s { live_disk = flushed s.live_disk }
+
+-- the store as it will be when what the group said is sent: synced, where something waits for that
+abbrev pub as_sent : Bool → StoreValue → StoreValue
+as_sent true s = as_synced s
+as_sent false s = s
+
+-- whether something waits for a sync after one more step: a rebase has synced all
+abbrev pub waits_after : Bool → OutboxValue → Bool
+waits_after waits out = if out.rebase then false else (waits || out.sync)
+
+-- The store is that of this header, and its entries, synced or not, stand for what the acceptor holds. Where nothing waits for a sync, those that are not
+-- synced are decided commands.
+pub record Gathers (whose : HeaderValue) (store : StoreValue) (waits : Bool) (acceptor : AcceptorState) : Type 0 where
+  pub entries : List Stored
+  pub loose : List Entry
+  pub holds : Holds store entries (plain loose)
+  pub decided : waits ≡ false → AllByRecursion TellsDecided loose
+  pub header : HasHeader entries whose
+  pub standing : StandingValue
+  pub stands : StandsFor entries standing
+  pub remembers : with_entries loose (acceptor_of standing) ≡ acceptor
+
+-- the replica, by its parts, is that of the node in the cluster that began so, and its store has what its acceptor holds
+pub record Recalls (node : NodeValue) (store : StoreValue) (waits : Bool) (genesis : Genesis) (n : ℕ) : Type 0 where
+  pub whose : node.header ≡ header_of genesis n
+  pub keeps : Gathers (header_of genesis n) store waits node.acceptor.state
+
+-- so it is, and holds this
+pub record Gathered (m : Meaning) (node : NodeValue) (store : StoreValue) (waits : Bool) (genesis : Genesis) (n : ℕ) (x : Holding) : Type 0 where
+  pub whose : node.header ≡ header_of genesis n
+  pub keeps : Gathers (header_of genesis n) store waits node.acceptor.state
+  pub known : waits ≡ false → AllByRecursion (IsKnown x.view) keeps.loose
+  pub held : IsHeld m node genesis x
+
+-- in this history, in which what the group has said so far is sent, the node fits as if all were synced that waits for it
+abbrev pub GroupFits : Meaning → History → ℕ → NodeValue → StoreValue → Bool → Type 0
+GroupFits m h n node store waits = NodeFits m h n (Gathered m node store waits h.genesis n) (disks (as_sent waits store))
+
+-- so a step of a group goes on that says this
+abbrev pub GroupGoes : Meaning → History → ℕ → NodeValue → StoreValue → Bool → List Note → List Datagram → Type 0
+GroupGoes m h n node store waits notes batch = Goes m h n (Gathered m node store waits h.genesis n) (disks (as_sent waits store)) notes batch
+
+-- in this history, in which nothing of what the group has said is sent, the node fits, what it has written rests on what was sent, and whatever a stop may
+-- leave of the files as they are fits
+pub record GroupStays (m : Meaning) (h : History) (n : ℕ) (node : NodeValue) (store : StoreValue) (waits : Bool) : Type 0 where
+  pub fits : GroupFits m h n node store waits
+  pub rests : AllByRecursion (Rests h) fits.shown.keeps.loose
+  pub left : DisksFit m h n (disks store)
+
+-- what a sync does, where something waits for it
+abbrev pub Settles : Bool → StoreValue → StoreValue → Type 0
+Settles true old new = (ks ls : List Stored) → Holds old ks ls → Holds new (ks ++ ls) []
+Settles false old new = new ≡ old
+
+-- what a group has noted and what it has said so far, in order, and whether something that it has written waits for a sync
+pub record GroupValue : Type 0 where
+  pub notes : List Note
+  pub letters : List LetterValue
+  pub waits : Bool
+
+-- with what one more step came to
+abbrev pub with_step : Bool → OutboxValue → GroupValue → GroupValue
+with_step waits out g = record { notes = g.notes ++ out.notes; letters = g.letters ++ out.letters; waits = waits_after waits out }
+
+-- a step has added these notes and letters
+pub record Adds (old new : GroupValue) (Are : List Note → List LetterValue → Type 0) : Type 0 where
+  pub notes : List Note
+  pub letters : List LetterValue
+  pub noted : new.notes ≡ old.notes ++ notes
+  pub said : new.letters ≡ old.letters ++ letters
+  pub are : Are notes letters
+
+-- once all is synced that waits for it, whatever the group has said is covered
+abbrev pub IsCovered : Meaning → Genesis → ℕ → GroupValue → StoreValue → Type 0
+IsCovered m genesis n g s = (x : NodeMessage) (d : Datagram) → Contains (batch_of n g.letters) d → Spells (said_by genesis n x) d.bytes → AllCover m genesis n (disks (as_sent g.waits s)) x
+
+-- ---- what the steps of a group have done, that and nothing else
+
+-- how many changing calls of the device the sync takes
+abbrev pub settle_calls : Bool → ℕ
+settle_calls waits = if waits then 1 else 0
+
+-- and what a step writes: its entries, or a Base, after a sync where something waited for that
+abbrev pub gather_calls : Bool → OutboxValue → ℕ
+gather_calls waits out = if out.rebase then settle_calls waits + rebase_calls else put_calls out.entries false
+
+-- the outbox's entries stand after what the store held, and no more is synced
+abbrev pub Appends : StoreValue → OutboxValue → StoreValue → Type 0
+Appends old out new = (ks ls : List Stored) → Holds old ks ls → Holds new ks (ls ++ plain out.entries)
+
+-- a step was taken, and what its outbox says is written, unsynced, in the calls that this takes of a device that counts them (`Metered`)
+pub record StepsToFile (m : Meaning) (IsText : List ℕ → Type 0) (Metered : Type 0) (node : NodeValue) (store : StoreValue) (waits : Bool) (i : Input) (out : OutboxValue) (new : NodeValue) (after : StoreValue) : Type 0 where
+  pub stepped : NodeValue
+  pub steps : Steps m IsText node i stepped out
+  pub rebases : out.rebase ≡ true → Rebases stepped store new after
+  pub puts : out.rebase ≡ false → (new ≡ stepped) × Appends store out after
+  pub calls : Metered → Passes store.meter after.meter (gather_calls waits out)
+
+-- one more input of a group was taken: a rebase was made where that was due, a step was taken, and what its outbox says is written, unsynced; its notes and its
+-- letters stand behind those of the steps before it, and nothing else was done
+pub record IsGathered (m : Meaning) (IsText : List ℕ → Type 0) (node : NodeValue) (store : StoreValue) (before : GroupValue) (i : Input) (new : NodeValue) (after : StoreValue) (now : GroupValue) : Type 0 where
+  pub mid : NodeValue
+  pub between : StoreValue
+  pub rebases : RebasesWhereDue node store mid between
+  pub waits : Bool
+  pub out : OutboxValue
+  pub steps : StepsToFile m IsText ⊥ mid between waits i out new after
+  pub adds : now ≡ with_step waits out before
+
+-- A call of a group was refused with the fault of this number, as one of `take` is (`IsRefused`), and has ended the replica: nothing of the group is sent.
+-- What the files then have `ends` and `covers` say.
+pub record IsRefusedInGroup (Honest Metered : Type 0) (old new : ReplicaValue) (number : ℕ) : Type 0 where
+  pub told : IsNumberOfCalls number
+  pub no_send : number ≡ 15 → ⊥
+  pub failures : new.store.failures ≡ failures_by number old.store.failures
+  pub calls : Metered → Honest → RefusedAfter number old.store.meter new.store.meter
+  pub earlier : number ≡ 11 → old.failed ≡ false → old.store.failed ≡ false → old.store.generation + 1 < max_count → ⊥
+  pub once : old.failed ≡ true → (number ≡ 11) × (new ≡ old)
+  pub ends : new.failed ≡ true
+  pub halts : number ≡ 14 → new.node.halted ≡ true
+  pub awake : old.node.halted ≡ false → (number ≡ 14 → ⊥) → new.node.halted ≡ false
+
+-- ---- a whole group
+
+-- what a step of a group noted, and what it said
+abbrev pub StepSaid : Type 0
+StepSaid = List Note × List LetterValue
+
+-- all that the steps said
+abbrev pub letters_of : List StepSaid → List LetterValue
+letters_of [] = []
+letters_of (x ∷ xs) = x.1 ++ letters_of xs
+
+-- The replica took these inputs one after another: in each history to which it fits, in which what it said before is sent, it goes on by each of them, as by
+-- a call of `take`, whichever of its letters are sent; and at last it is as it would be. Each `mid` is as the replica will be once all is synced that it has
+-- written.
+abbrev pub GoesThrough : Meaning → ℕ → ReplicaValue → List Input → ReplicaValue → List StepSaid → Type 0
+GoesThrough m n r [] q said = (said ≡ []) × ((h : History) → NodeFits m h n (Stands m r.node r.store h.genesis n) (disks r.store) → NodeFits m h n (Stands m q.node q.store h.genesis n) (disks q.store))
+    × StaysWithin max_after (disks r.store) (disks q.store)
+GoesThrough m n r (i ∷ is) q said = (mid : ReplicaValue) × (notes : List Note) × (letters : List LetterValue) × (rest : List StepSaid) × (said ≡ (notes, letters) ∷ rest)
+    × ((h : History) → NodeFits m h n (Stands m r.node r.store h.genesis n) (disks r.store) → InputFits h i → (sent : List LetterValue) → AreOf sent letters
+    → Goes m h n (Stands m mid.node mid.store h.genesis n) (disks mid.store) notes (batch_of n sent))
+    × StaysWithin max_after (disks r.store) (disks mid.store)
+    × GoesThrough m n mid is q rest

@@ -1,0 +1,327 @@
+// Steps of a group: what they tell to write is written unsynced, and synced once before what they say is sent.
+ghost use Rattle.std.specs.Prelude.{◌≡◌, ℕ, ◌++◌, ◌≤◌, ◌<◌, List, [], length, true, false, Contains, IfOk, IfErr, OnOk, OnErr, IsErrOf, ⊤};
+ghost use Rattle.std.specs.List.{AllByRecursion};
+ghost use Rattle.lk_types.specs.Limits.{max_base};
+ghost use Rattle.lk_disk.specs.Disk.{contents};
+ghost use Rattle.lk_disk.specs.Meters.{Passes};
+ghost use Rattle.lk_entries.specs.declared.stored.Stored.{Stored};
+ghost use Rattle.lk_log.specs.Rooms.{StaysWithin};
+ghost use Rattle.lk_log.specs.StoreValue.{disks};
+ghost use Rattle.lk_log.specs.Stores.{Holds, KeepsAtLeast, KeepsItsFile};
+ghost use Rattle.lk_wire.specs.Grammar.{Spells};
+ghost use Rattle.lk_history.specs.Datagrams.{NodeMessage, Datagram as DatagramValue, said_by};
+ghost use Rattle.lk_step.specs.Letters.{LetterValue, batch_of};
+ghost use Rattle.lk_node.specs.Calls.{InputFits, NodeFits, Goes};
+ghost use Rattle.lk_node.specs.Executing.{NothingToRun};
+ghost use Rattle.lk_node.specs.Histories.{History, Genesis};
+ghost use Rattle.lk_node.specs.Keeping.{Stands};
+ghost use Rattle.lk_node.specs.Leavings.{DisksFit, AllCover};
+ghost use Rattle.lk_replica.specs.Faults.{RaisesFailures, fault_number};
+ghost use Rattle.lk_replica.specs.Groups.{Adds, IsCovered, StepsToFile, IsGathered, StepSaid, letters_of, GoesThrough, IsRefusedInGroup, settle_calls, as_sent, waits_after, with_step, Settles, Recalls, GroupFits, GroupGoes, GroupStays};
+ghost use Rattle.lk_replica.specs.Posts.{AreOf, CarriesAll, GivesLetters};
+ghost use Rattle.lk_replica.specs.Compacting.{RebasesWhereDue};
+ghost use Rattle.lk_replica.specs.Remembering.{Remembers};
+ghost use Rattle.lk_replica.specs.Rebased.{IsNotRebased, StaysAlive};
+ghost use Rattle.lk_replica.specs.Rooms.{max_after};
+ghost use Rattle.lk_replica.specs.Taking.{IsCutShort};
+
+use crate::compacting::{is_due, write_base};
+use crate::delivering::deliver;
+use crate::fault::ReplicaFault;
+use crate::post::{Post, SendFault};
+use crate::replica::Replica;
+use lk_disk::LogDisk;
+use lk_log::Store;
+use lk_node::Node;
+use lk_state::Machine;
+use lk_step::{Input, Letter, Note, Outbox};
+use lk_types::NoMemory;
+use std::alloc::Global;
+use std::marker::Model;
+
+/// What a group of inputs has come to so far: what was noted, what is to be sent, in order, and whether something that was written waits for a sync.
+#[derive(Drop)]
+pub struct Group {
+    notes: Vec<Note>,
+    letters: Vec<Letter>,
+    waits: bool,
+}
+
+impl Model for Group {
+    ghost use Rattle.lk_replica.specs.Groups.{GroupValue};
+
+    ghost Value = { GroupValue };
+
+    ghost view = { λ g. record { notes = g.notes.items; letters = g.letters.items; waits = g.waits } };
+}
+
+impl Group {
+    /// Nothing was taken.
+    pub fn new(alloc: Global) -> Group
+        ensures { result ≡ record { notes = []; letters = []; waits = false } }
+    {
+        Group {
+            notes: Vec::new(alloc),
+            letters: Vec::new(alloc),
+            waits: false,
+        }
+    }
+
+    // What one more step came to, in front of which this waited.
+    fn add(&mut self, waits: bool, outbox: Outbox) -> Result<(), NoMemory>
+        ensures { OnOk result (self.new ≡ with_step waits outbox self.old) }
+    {
+        let Outbox {
+            rebase,
+            entries: _,
+            sync,
+            mut notes,
+            mut letters,
+        } = outbox;
+        self.notes.append(&mut notes)?;
+        self.letters.append(&mut letters)?;
+        self.waits = if rebase { false } else { waits || sync };
+        Ok(())
+    }
+}
+
+// Sends the letters in order, and tells whether all were sent.
+fn are_sent<P: Post>(letters: &[Letter], post: &mut P) -> bool
+    ensures { CarriesAll P.Carries post.old letters.now post.new }
+{
+    match deliver(letters, post) {
+        Ok(()) => true,
+        Err(SendFault) => false,
+    }
+}
+
+/// Syncs the live file, where something waits for that.
+pub fn settle<D: LogDisk + Drop>(store: &mut Store<D>, waits: bool) -> Result<(), ReplicaFault>
+    requires { store.old.format ≡ 2 }
+    ensures settles { D.is_honest → OnOk result (Settles waits store.old store.new) }
+    // After any exit each image that a stop may leave has all that was synced, and a beginning of the rest.
+    ensures any { D.is_honest → (ks ls : List Stored) → Holds store.old ks ls → KeepsAtLeast store.new ks ls }
+    ensures room { D.is_honest → StaysWithin 0 (disks store.old) (disks store.new) }
+    ensures refused { IfErr result (IsNotRebased D.is_honest D.is_metered store.old store.new) }
+    ensures metered { D.is_metered → OnOk result (Passes store.old.meter store.new.meter (settle_calls waits)) }
+    ensures alive { store.old.failed ≡ false → OnOk result (store.new.failed ≡ false) }
+    ensures file { KeepsItsFile store.old store.new }
+    ensures format { store.new.format ≡ 2 }
+    ensures cause { RaisesFailures store.old.failures store.new.failures result }
+{
+    if !waits {
+        return Ok(());
+    }
+    store.sync()?;
+    Ok(())
+}
+
+// Steps, and writes what the step tells to write, unsynced; or, where it says that, the node's Base in place of it, before which is synced what waits
+// for that. Nothing is sent.
+fn step_to_file<M: Machine, D: LogDisk + Drop>(
+    node: &mut Node<M>,
+    store: &mut Store<D>,
+    input: Input,
+    waits: bool,
+) -> Result<Outbox, ReplicaFault>
+    requires { store.old.format ≡ 2 }
+    // In each history in which what the group has said so far is sent, all that the step notes and says it may note and say.
+    ensures goes { D.is_honest → (h : History) (n : ℕ) → GroupFits M.meaning h n node.old store.old waits → InputFits h input.entry
+        → IfOk result (λ o. (sent : List LetterValue) → AreOf sent o.letters → GroupGoes M.meaning h n node.new store.new (waits_after waits o) o.notes (batch_of n sent)) }
+    // In each history in which nothing of it is sent, whatever a stop may leave fits, after any exit.
+    ensures ends { D.is_honest → (h : History) (n : ℕ) → GroupStays M.meaning h n node.old store.old waits → InputFits h input.entry → DisksFit M.meaning h n (disks store.new) }
+    ensures stays { D.is_honest → (h : History) (n : ℕ) → GroupStays M.meaning h n node.old store.old waits → InputFits h input.entry
+        → IfOk result (λ o. GroupStays M.meaning h n node.new store.new (waits_after waits o)) }
+    // Once all is synced that waits for it, what the step says is covered, and whatever was.
+    ensures syncs { D.is_honest → (genesis : Genesis) (n : ℕ) (x : NodeMessage) → Recalls node.old store.old waits genesis n
+        → IfOk result (λ o. (d : DatagramValue) → Contains (batch_of n o.letters) d → Spells (said_by genesis n x) d.bytes → AllCover M.meaning genesis n (disks (as_sent (waits_after waits o) store.new)) x) }
+    ensures still { D.is_honest → (genesis : Genesis) (n : ℕ) (x : NodeMessage) → Recalls node.old store.old waits genesis n → AllCover M.meaning genesis n (disks (as_sent waits store.old)) x
+        → IfOk result (λ o. AllCover M.meaning genesis n (disks (as_sent (waits_after waits o) store.new)) x) }
+    // After any exit whatever was covered is.
+    ensures covers { D.is_honest → (genesis : Genesis) (n : ℕ) (x : NodeMessage) → Recalls node.old store.old waits genesis n → AllCover M.meaning genesis n (disks store.old) x → AllCover M.meaning genesis n (disks store.new) x }
+    ensures recalls { D.is_honest → (genesis : Genesis) (n : ℕ) → Recalls node.old store.old waits genesis n → IfOk result (λ o. Recalls node.new store.new (waits_after waits o) genesis n) }
+    ensures runs { NothingToRun node.old → OnOk result (NothingToRun node.new) }
+    ensures room { D.is_honest → length (contents store.old.live_disk) < 131072 → StaysWithin max_after (disks store.old) (disks store.new) }
+    ensures exact { D.is_honest → IfOk result (λ o. StepsToFile M.meaning M.IsText D.is_metered node.old store.old waits input.entry o node.new store.new) }
+    ensures alive { IfOk result (λ o. (store.new.failed ≡ false) × (node.new.halted ≡ false)) }
+    ensures refused { IfErr result (IsCutShort D.is_honest D.is_metered 1 node.old store.old node.new store.new ⊤) }
+    ensures format { store.new.format ≡ 2 }
+    ensures cause { RaisesFailures store.old.failures store.new.failures result }
+{
+    let outbox = node.step(input)?;
+    if outbox.rebase {
+        settle(store, waits)?;
+        write_base(node, store)?;
+        return Ok(outbox);
+    }
+    store.put(&outbox.entries, false)?;
+    Ok(outbox)
+}
+
+// Rebases where that is due, after a sync where something waits for that, and tells whether something waits still.
+fn make_room<M: Machine, D: LogDisk + Drop>(
+    node: &mut Node<M>,
+    store: &mut Store<D>,
+    waits: bool,
+) -> Result<bool, ReplicaFault>
+    requires { store.old.format ≡ 2 }
+    ensures fits { D.is_honest → (h : History) (n : ℕ) → GroupFits M.meaning h n node.old store.old waits → IfOk result (λ w. GroupFits M.meaning h n node.new store.new w) }
+    ensures ends { D.is_honest → (h : History) (n : ℕ) → GroupStays M.meaning h n node.old store.old waits → DisksFit M.meaning h n (disks store.new) }
+    ensures stays { D.is_honest → (h : History) (n : ℕ) → GroupStays M.meaning h n node.old store.old waits → IfOk result (λ w. GroupStays M.meaning h n node.new store.new w) }
+    ensures still { D.is_honest → (genesis : Genesis) (n : ℕ) (x : NodeMessage) → Recalls node.old store.old waits genesis n → AllCover M.meaning genesis n (disks (as_sent waits store.old)) x
+        → IfOk result (λ w. AllCover M.meaning genesis n (disks (as_sent w store.new)) x) }
+    ensures covers { D.is_honest → (genesis : Genesis) (n : ℕ) (x : NodeMessage) → Recalls node.old store.old waits genesis n → AllCover M.meaning genesis n (disks store.old) x → AllCover M.meaning genesis n (disks store.new) x }
+    ensures recalls { D.is_honest → (genesis : Genesis) (n : ℕ) → Recalls node.old store.old waits genesis n → IfOk result (λ w. Recalls node.new store.new w genesis n) }
+    ensures room { D.is_honest → StaysWithin max_base (disks store.old) (disks store.new) }
+    ensures exact { D.is_honest → OnOk result (RebasesWhereDue node.old store.old node.new store.new) }
+    ensures calls { D.is_metered → D.is_honest → OnOk result ((k : ℕ) × Passes store.old.meter store.new.meter k) }
+    ensures alive { OnOk result (StaysAlive node.old store.old node.new store.new) }
+    ensures refused { IfErr result (IsCutShort D.is_honest D.is_metered 1 node.old store.old node.new store.new ⊤) }
+    ensures wakes { node.new.halted ≡ node.old.halted }
+    // Then the live file has room for a step.
+    ensures small { D.is_honest → OnOk result (length (contents store.new.live_disk) < 131072) }
+    ensures runs { NothingToRun node.old → OnOk result (NothingToRun node.new) }
+    ensures format { store.new.format ≡ 2 }
+    ensures cause { RaisesFailures store.old.failures store.new.failures result }
+{
+    let due = is_due(node, store)?;
+    if !due {
+        return Ok(waits);
+    }
+    settle(store, waits)?;
+    write_base(node, store)?;
+    Ok(false)
+}
+
+// One more step of a group: what it tells to write is written, and what it notes and says is kept. Nothing is sent.
+fn gather_on<M: Machine, D: LogDisk + Drop>(
+    node: &mut Node<M>,
+    store: &mut Store<D>,
+    input: Input,
+    group: &mut Group,
+) -> Result<(), ReplicaFault>
+    requires { store.old.format ≡ 2 }
+    ensures goes { D.is_honest → OnOk result (Adds group.old group.new (λ notes letters. (h : History) (n : ℕ) → GroupFits M.meaning h n node.old store.old group.old.waits → InputFits h input.entry
+        → (sent : List LetterValue) → AreOf sent letters → GroupGoes M.meaning h n node.new store.new group.new.waits notes (batch_of n sent))) }
+    ensures ends { D.is_honest → (h : History) (n : ℕ) → GroupStays M.meaning h n node.old store.old group.old.waits → InputFits h input.entry → DisksFit M.meaning h n (disks store.new) }
+    ensures stays { D.is_honest → (h : History) (n : ℕ) → GroupStays M.meaning h n node.old store.old group.old.waits → InputFits h input.entry
+        → OnOk result (GroupStays M.meaning h n node.new store.new group.new.waits) }
+    ensures syncs { D.is_honest → (genesis : Genesis) (n : ℕ) (x : NodeMessage) → Recalls node.old store.old group.old.waits genesis n
+        → OnOk result (Adds group.old group.new (λ notes letters. (d : DatagramValue) → Contains (batch_of n letters) d → Spells (said_by genesis n x) d.bytes → AllCover M.meaning genesis n (disks (as_sent group.new.waits store.new)) x)) }
+    ensures still { D.is_honest → (genesis : Genesis) (n : ℕ) (x : NodeMessage) → Recalls node.old store.old group.old.waits genesis n → AllCover M.meaning genesis n (disks (as_sent group.old.waits store.old)) x
+        → OnOk result (AllCover M.meaning genesis n (disks (as_sent group.new.waits store.new)) x) }
+    ensures covers { D.is_honest → (genesis : Genesis) (n : ℕ) (x : NodeMessage) → Recalls node.old store.old group.old.waits genesis n → AllCover M.meaning genesis n (disks store.old) x → AllCover M.meaning genesis n (disks store.new) x }
+    ensures recalls { D.is_honest → (genesis : Genesis) (n : ℕ) → Recalls node.old store.old group.old.waits genesis n → OnOk result (Recalls node.new store.new group.new.waits genesis n) }
+    ensures runs { NothingToRun node.old → OnOk result (NothingToRun node.new) }
+    ensures room { D.is_honest → StaysWithin max_after (disks store.old) (disks store.new) }
+    ensures exact { D.is_honest → OnOk result (IsGathered M.meaning M.IsText node.old store.old group.old input.entry node.new store.new group.new) }
+    ensures calls { D.is_metered → D.is_honest → OnOk result ((k : ℕ) × Passes store.old.meter store.new.meter k) }
+    ensures alive { OnOk result ((store.new.failed ≡ false) × (node.new.halted ≡ false)) }
+    ensures refused { IfErr result (IsCutShort D.is_honest D.is_metered 2 node.old store.old node.new store.new ⊤) }
+    ensures format { store.new.format ≡ 2 }
+    ensures cause { RaisesFailures store.old.failures store.new.failures result }
+{
+    let waits = make_room(node, store, group.waits)?;
+    let outbox = step_to_file(node, store, input, waits)?;
+    group.add(waits, outbox)?;
+    Ok(())
+}
+
+impl<M: Machine, D: LogDisk + Drop> Replica<M, D> {
+    /// Takes a tick or a datagram as one more of a group: what the step tells to write is written, and nothing is synced or sent before `release`.
+    ///
+    /// It refuses as `take`, and after that each later call answers `Failed` (11): nothing of the group is sent.
+    pub fn gather(&mut self, input: Input, group: &mut Group) -> Result<(), ReplicaFault>
+        // In each history to which the node fits as it will be once all is synced that waits for it, it goes on so: what it notes and says it may note and
+        // say by what it then holds. So the history may have all that the group said before.
+        ensures goes { D.is_honest → OnOk result (Adds group.old group.new (λ notes letters. (genesis : Genesis) (k : ℕ) → Recalls self.old.node self.old.store group.old.waits genesis k
+            → (h : History) (n : ℕ) → NodeFits M.meaning h n (Stands M.meaning self.old.node (as_sent group.old.waits self.old.store) h.genesis n) (disks (as_sent group.old.waits self.old.store)) → InputFits h input.entry
+            → (sent : List LetterValue) → AreOf sent letters
+            → Goes M.meaning h n (Stands M.meaning self.new.node (as_sent group.new.waits self.new.store) h.genesis n) (disks (as_sent group.new.waits self.new.store)) notes (batch_of n sent))) }
+        // In a history in which nothing of it is sent, whatever a stop may leave fits, after any exit.
+        ensures ends { D.is_honest → (h : History) (n : ℕ) → GroupStays M.meaning h n self.old.node self.old.store group.old.waits → InputFits h input.entry → DisksFit M.meaning h n (disks self.new.store) }
+        ensures stays { D.is_honest → (h : History) (n : ℕ) → GroupStays M.meaning h n self.old.node self.old.store group.old.waits → InputFits h input.entry
+            → OnOk result (GroupStays M.meaning h n self.new.node self.new.store group.new.waits) }
+        // Once all is synced that waits for that, whatever the group has said is covered.
+        ensures said { D.is_honest → (genesis : Genesis) (n : ℕ) → Recalls self.old.node self.old.store group.old.waits genesis n → IsCovered M.meaning genesis n group.old self.old.store
+            → OnOk result (IsCovered M.meaning genesis n group.new self.new.store) }
+        // After any exit whatever was covered is.
+        ensures covers { D.is_honest → (genesis : Genesis) (n : ℕ) (x : NodeMessage) → Recalls self.old.node self.old.store group.old.waits genesis n → AllCover M.meaning genesis n (disks self.old.store) x → AllCover M.meaning genesis n (disks self.new.store) x }
+        ensures recalls { D.is_honest → (genesis : Genesis) (n : ℕ) → Recalls self.old.node self.old.store group.old.waits genesis n → OnOk result (Recalls self.new.node self.new.store group.new.waits genesis n) }
+        // Neither file has grown above half of what a file may hold, and a step: before each step it is looked whether a rebase is due.
+        ensures room { D.is_honest → StaysWithin max_after (disks self.old.store) (disks self.new.store) }
+        // It has taken a step and written what that told, and nothing else.
+        ensures exact { D.is_honest → OnOk result (IsGathered M.meaning M.IsText self.old.node self.old.store group.old input.entry self.new.node self.new.store group.new) }
+        ensures calls { D.is_metered → D.is_honest → OnOk result ((k : ℕ) × Passes self.old.store.meter self.new.store.meter k) }
+        // Nothing but 7, 8, 11 and 14 comes, each for its cause, and each ends it.
+        ensures refused { IfErr result (λ e. IsRefusedInGroup D.is_honest D.is_metered self.old self.new (fault_number e)) }
+        ensures failed { self.old.failed ≡ true → IsErrOf result ReplicaFault.Failed }
+        ensures alive { OnOk result ((self.new.failed ≡ false) × (self.new.store.failed ≡ false) × (self.new.node.halted ≡ false)) }
+        ensures cause { RaisesFailures self.old.store.failures self.new.store.failures result }
+    {
+        if self.failed {
+            return Err(ReplicaFault::Failed);
+        }
+        self.failed = true;
+        gather_on(&mut self.node, &mut self.store, input, group)?;
+        self.failed = false;
+        Ok(())
+    }
+
+    /// Takes inputs as one group: each as `gather` does, in order, and then `release`. It tells whether all was sent.
+    pub fn take_all<P: Post>(
+        &mut self,
+        inputs: Vec<Input<'_>>,
+        post: &mut P,
+    ) -> Result<bool, ReplicaFault>
+        // Where it goes on, it has gone on by each input in order, as by a call of `take`; the letters of all steps were given to the post, in order, once all is synced.
+        ensures goes { D.is_honest → (genesis : Genesis) (k : ℕ) → Remembers self.old.node self.old.store genesis k
+            → IfOk result (λ all. (said : List StepSaid) × CarriesAll P.Carries post.old (letters_of said) post.new × ((n : ℕ) → GoesThrough M.meaning n self.old inputs.entry.items self.new said)) }
+        // Sync before send: whatever was sent every image covers.
+        ensures syncs { D.is_honest → (genesis : Genesis) (n : ℕ) (x : NodeMessage) → Remembers self.old.node self.old.store genesis n
+            → GivesLetters P.Carries post.old post.new (λ letters. (d : DatagramValue) → Contains (batch_of n letters) d → Spells (said_by genesis n x) d.bytes → AllCover M.meaning genesis n (disks self.new.store) x) }
+        // Whatever a stop may leave fits to each history to which the node fitted, after any exit.
+        ensures ends { D.is_honest → (h : History) (n : ℕ) → NodeFits M.meaning h n (Stands M.meaning self.old.node self.old.store h.genesis n) (disks self.old.store) → AllByRecursion (InputFits h) inputs.entry.items
+            → OnErr result (DisksFit M.meaning h n (disks self.new.store)) }
+    {
+        let mut group = Group::new(self.alloc);
+        'inputs: for input in inputs {
+            self.gather(input, &mut group)?;
+        }
+        let all = self.release(&group, post)?;
+        Ok(all)
+    }
+
+    /// Ends a group: syncs once, where a promise or a vote of it waits for that, and then sends what it has said, in order. It tells whether all was sent.
+    ///
+    /// It refuses with `Device` (7), `NoMemory` (8) and `Failed` (11), and then nothing of the group is sent.
+    pub fn release<P: Post>(&mut self, group: &Group, post: &mut P) -> Result<bool, ReplicaFault>
+        // The node fits to each history to which it fitted as it would be.
+        ensures fits { D.is_honest → (genesis : Genesis) (k : ℕ) → Recalls self.old.node self.old.store group.now.waits genesis k
+            → (h : History) (n : ℕ) → NodeFits M.meaning h n (Stands M.meaning self.old.node (as_sent group.now.waits self.old.store) h.genesis n) (disks (as_sent group.now.waits self.old.store))
+            → IfOk result (λ all. NodeFits M.meaning h n (Stands M.meaning self.new.node self.new.store h.genesis n) (disks self.new.store)) }
+        ensures ends { D.is_honest → (h : History) (n : ℕ) → GroupStays M.meaning h n self.old.node self.old.store group.now.waits → DisksFit M.meaning h n (disks self.new.store) }
+        // Sync before send: whatever the group has said every image covers.
+        ensures syncs { D.is_honest → (genesis : Genesis) (n : ℕ) (x : NodeMessage) → Recalls self.old.node self.old.store group.now.waits genesis n → IsCovered M.meaning genesis n group.now self.old.store
+            → IfOk result (λ all. (d : DatagramValue) → Contains (batch_of n group.now.letters) d → Spells (said_by genesis n x) d.bytes → AllCover M.meaning genesis n (disks self.new.store) x) }
+        ensures covers { D.is_honest → (genesis : Genesis) (n : ℕ) (x : NodeMessage) → Recalls self.old.node self.old.store group.now.waits genesis n → AllCover M.meaning genesis n (disks self.old.store) x → AllCover M.meaning genesis n (disks self.new.store) x }
+        // The letters were given to the post in order, each once, and nothing else; after a refusal none was.
+        ensures gives { IfOk result (λ all. CarriesAll P.Carries post.old group.now.letters post.new) }
+        ensures silent { OnErr result (post.new ≡ post.old) }
+        ensures room { D.is_honest → StaysWithin 0 (disks self.old.store) (disks self.new.store) }
+        ensures calls { D.is_metered → D.is_honest → IfOk result (λ all. Passes self.old.store.meter self.new.store.meter (settle_calls group.now.waits)) }
+        // Nothing but 7, 8 and 11 comes, each for its cause, and each ends it.
+        ensures refused { IfErr result (λ e. IsRefusedInGroup D.is_honest D.is_metered self.old self.new (fault_number e)) }
+        ensures alive { IfOk result (λ all. self.new.failed ≡ false) }
+        ensures cause { RaisesFailures self.old.store.failures self.new.store.failures result }
+    {
+        if self.failed {
+            return Err(ReplicaFault::Failed);
+        }
+        self.failed = true;
+        settle(&mut self.store, group.waits)?;
+        self.failed = false;
+        let all = are_sent(&group.letters, post);
+        Ok(all)
+    }
+}

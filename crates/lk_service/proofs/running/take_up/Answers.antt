@@ -1,0 +1,19 @@
+use Rattle.std.proofs.Common.{◌≡◌, sym, subst}
+use Rattle.lk_disk.specs.Disk.{Disk}
+use Rattle.lk_disk.specs.declared.device.Side.{Side}
+use Rattle.lk_log.specs.Rooms.{StaysWithin}
+use Rattle.lk_log.specs.StoreValue.{disks}
+use Rattle.lk_node.specs.Leavings.{DisksFit}
+use Rattle.lk_service.proofs.running.take_up.Goals as goal
+
+pub returns-clause-comes_up : goal.returns-clause-comes_up
+returns-clause-comes_up g c honest =
+    let disk = g.D.LogDisk.disk in
+    let same = c.look.ensures.unchanged honest in
+    let path : disk c.look.new.device ≡ disk c.args.device = λ i s. same s i in
+    let up = c.in_ok-revived.ensures in
+    record {
+      notes = c.in_ok-revived.revived.notes.items;
+      goes = λ h n whose lawful fit. up.fits honest h n whose lawful (subst (λ (d : Side → Disk). DisksFit g.M.Machine.meaning h n d) (sym path) fit);
+      room = subst (λ (d : Side → Disk). StaysWithin 49152 d (disks c.in_ok-revived.revived.replica.store)) path (up.room honest);
+    }

@@ -1,0 +1,173 @@
+-- Processes of a network: nodes that are given what comes to them, start and stop, one step of one node after another, in any order.
+use Rattle.std.specs.Prelude.{◌≡◌, ◌⊎◌, ℕ, Option, Some, None, List, [], ◌∷◌, ◌++◌}
+use Rattle.lk_disk.specs.Disk.{Disk, kept_by}
+use Rattle.lk_disk.specs.Memory.{Memory, disk_of}
+use Rattle.lk_disk.specs.declared.device.Side.{Side}
+use Rattle.lk_wire.specs.Grammar.{Spells}
+use Rattle.lk_wire.specs.declared.message.Content.TheVariants as content
+use Rattle.lk_wire.specs.declared.message.Message.{Message}
+use Rattle.lk_wire.specs.declared.message.NodeMessage.{NodeMessage}
+use Rattle.lk_state.specs.Meanings.{Meaning}
+use Rattle.lk_history.specs.Datagrams.{said_by, HasSent}
+use Rattle.lk_step.specs.declared.note.Note.{Note}
+use Rattle.lk_node.specs.Calls.{NodeFits, Goes}
+use Rattle.lk_node.specs.Histories.{History, Genesis, Datagram, RequestValue, IsHeard, IsLawful}
+use Rattle.lk_node.specs.Holdings.{Holding}
+use Rattle.lk_node.specs.Leavings.{DisksFit}
+use Rattle.lk_sim.specs.Rooms.{AreShort}
+use Rattle.lk_sim.specs.Seats.{At}
+use Rattle.lk_sim.specs.Events.{Turns, Adds}
+use Rattle.lk_sim.specs.Scenes.{Scene}
+use Rattle.lk_sim.specs.Traces.{told_by, asked_note}
+use Rattle.lk_sim.specs.declared.seat.Seat.{Seat}
+use Rattle.lk_sim.specs.declared.seat.Life.TheVariants.{Up, Down}
+
+-- ---- what comes to a node
+
+-- what the bytes say for a node of the cluster, that node has said. Of all other bytes nothing is assumed: they may be lost, repeated,
+-- late, cut, of a client, of another cluster, or of nobody
+abbrev pub MayCome : Genesis → List Datagram → Option (List ℕ) → Type 0
+MayCome genesis sent None = Unit {0}
+MayCome genesis sent (Some bytes) = (n : ℕ) (x : NodeMessage) → Spells (said_by genesis n x) bytes → HasSent genesis sent n x
+
+-- the request in the bytes, if there is one
+pub record IsRequestIn (bytes : List ℕ) (o : Option RequestValue) : Type 0 where
+  pub only : (r : RequestValue) (cluster : ℕ) → Spells (record { cluster = cluster; content = content.Request r }) bytes → o ≡ Some r
+  pub some : (r : RequestValue) → o ≡ Some r → (cluster : ℕ) × Spells (record { cluster = cluster; content = content.Request r }) bytes
+
+-- that is asked by what comes
+abbrev pub AreAsking : Option (List ℕ) → Option RequestValue → Type 0
+AreAsking None o = o ≡ None
+AreAsking (Some bytes) o = IsRequestIn bytes o
+
+-- a tick, or bytes that may be heard
+abbrev pub MayHear : History → Option (List ℕ) → Type 0
+MayHear h None = Unit {0}
+MayHear h (Some bytes) = IsHeard h bytes
+
+-- these notes are, in order, those of the answers and passes among the datagrams; one that does not read has none
+abbrev pub TellsOf : List Datagram → List Note → Type 0
+TellsOf [] notes = notes ≡ []
+TellsOf (d ∷ ds) notes =
+    ((m : Message) × (rest : List Note) × Spells m d.bytes × (notes ≡ told_by m.content ++ rest) × TellsOf ds rest)
+    ⊎ (((m : Message) → Spells m d.bytes → ⊥) × TellsOf ds notes)
+
+-- ---- what a node does, in each history to which it fits. `Shows` says what it holds, and `disks` what stands on its disks
+
+-- given that, it goes on: all that it notes and gives to be sent it may note and send by what it holds, and each image that a stop may
+-- leave fits with any beginning of that sent
+pub record GoesBy {R : Type 0} (Shows : R → Genesis → ℕ → Holding → Type 0) (disks : R → Side → Disk) (m : Meaning) (n : ℕ) (r : R) (o : Option (List ℕ)) (q : R) (notes : List Note) (batch : List Datagram) : Type 0 where
+  pub goes : (h : History) → NodeFits m h n (Shows r h.genesis n) (disks r) → MayHear h o → Goes m h n (Shows q h.genesis n) (disks q) notes batch
+  pub short : AreShort (disks r) → AreShort (disks q)
+
+-- given that, it ends, and each image that a stop may leave of these disks fits
+pub record EndsBy {R : Type 0} (Shows : R → Genesis → ℕ → Holding → Type 0) (disks : R → Side → Disk) (m : Meaning) (n : ℕ) (r : R) (o : Option (List ℕ)) (left : Side → Disk) : Type 0 where
+  pub ends : (h : History) → NodeFits m h n (Shows r h.genesis n) (disks r) → MayHear h o → DisksFit m h n left
+  pub short : AreShort (disks r) → AreShort left
+
+-- it comes up by what its disks have
+pub record RisesBy {R : Type 0} (Shows : R → Genesis → ℕ → Holding → Type 0) (disks : R → Side → Disk) (m : Meaning) (genesis : Genesis) (n : ℕ) (old : Side → Disk) (q : R) (notes : List Note) : Type 0 where
+  pub goes : (h : History) → h.genesis ≡ genesis → IsLawful m h → DisksFit m h n old → Goes m h n (Shows q h.genesis n) (disks q) notes []
+  pub short : AreShort old → AreShort (disks q)
+
+-- it does not, and leaves these disks
+pub record RestsBy (m : Meaning) (genesis : Genesis) (n : ℕ) (old left : Side → Disk) : Type 0 where
+  pub ends : (h : History) → h.genesis ≡ genesis → IsLawful m h → DisksFit m h n old → DisksFit m h n left
+  pub short : AreShort old → AreShort left
+
+-- ---- a step
+
+-- a node of a new number is there, with two empty disks
+pub record Appears {R : Type 0} (old new : Scene R) : Type 0 where
+  pub seat : Seat R
+  pub unused : (k : ℕ) (t : Seat R) → At old.seats k t → t.number ≡ seat.number → ⊥
+  pub device : Memory
+  pub down : seat.life ≡ Down device
+  pub empty : (s : Side) → disk_of device s ≡ record { synced = []; unsynced = [] }
+  pub seats : new.seats ≡ old.seats ++ seat ∷ []
+  pub adds : Adds old new [] []
+
+-- a node that was down has come up
+pub record Rises {R : Type 0} (Shows : R → Genesis → ℕ → Holding → Type 0) (disks : R → Side → Disk) (m : Meaning) (old new : Scene R) : Type 0 where
+  pub seat : Seat R
+  pub next : Seat R
+  pub turns : Turns old.seats new.seats seat next
+  pub device : Memory
+  pub down : seat.life ≡ Down device
+  pub replica : R
+  pub up : next.life ≡ Up replica
+  pub notes : List Note
+  pub rises : RisesBy Shows disks m old.genesis seat.number (disk_of device) replica notes
+  pub adds : Adds old new notes []
+
+-- a node that was down stayed down
+pub record Rests {R : Type 0} (m : Meaning) (old new : Scene R) : Type 0 where
+  pub seat : Seat R
+  pub next : Seat R
+  pub turns : Turns old.seats new.seats seat next
+  pub device : Memory
+  pub down : seat.life ≡ Down device
+  pub left : Memory
+  pub still : next.life ≡ Down left
+  pub rests : RestsBy m old.genesis seat.number (disk_of device) (disk_of left)
+  pub adds : Adds old new [] []
+
+-- a node that is up was given a tick, or what may come, and went on
+pub record GoesOn {R : Type 0} (Shows : R → Genesis → ℕ → Holding → Type 0) (disks : R → Side → Disk) (m : Meaning) (old new : Scene R) : Type 0 where
+  pub seat : Seat R
+  pub next : Seat R
+  pub turns : Turns old.seats new.seats seat next
+  pub before : R
+  pub was : seat.life ≡ Up before
+  pub after : R
+  pub up : next.life ≡ Up after
+  pub came : Option (List ℕ)
+  pub may : MayCome old.genesis old.sent came
+  pub request : Option RequestValue
+  pub asks : AreAsking came request
+  pub notes : List Note
+  pub told : List Note
+  pub batch : List Datagram
+  pub goes : GoesBy Shows disks m seat.number before came after notes batch
+  pub tells : TellsOf batch told
+  pub adds : Adds old new ((asked_note request ++ notes) ++ told) batch
+
+-- it ended by that
+pub record Ends {R : Type 0} (Shows : R → Genesis → ℕ → Holding → Type 0) (disks : R → Side → Disk) (m : Meaning) (old new : Scene R) : Type 0 where
+  pub seat : Seat R
+  pub next : Seat R
+  pub turns : Turns old.seats new.seats seat next
+  pub before : R
+  pub was : seat.life ≡ Up before
+  pub left : Memory
+  pub down : next.life ≡ Down left
+  pub came : Option (List ℕ)
+  pub may : MayCome old.genesis old.sent came
+  pub request : Option RequestValue
+  pub asks : AreAsking came request
+  pub ends : EndsBy Shows disks m seat.number before came (disk_of left)
+  pub adds : Adds old new (asked_note request) []
+
+-- a node, up or down, has stopped: each of its disks has what was synced, and a beginning of the rest
+pub record Stops {R : Type 0} (disks : R → Side → Disk) (old new : Scene R) : Type 0 where
+  pub seat : Seat R
+  pub next : Seat R
+  pub turns : Turns old.seats new.seats seat next
+  pub left : Memory
+  pub down : next.life ≡ Down left
+  pub was_up : (r : R) → seat.life ≡ Up r → (s : Side) → (k : ℕ) × (disk_of left s ≡ kept_by k (disks r s))
+  pub was_down : (d : Memory) → seat.life ≡ Down d → (s : Side) → (k : ℕ) × (disk_of left s ≡ kept_by k (disk_of d s))
+  pub adds : Adds old new [] []
+
+abbrev pub Steps : {R : Type 0} → (R → Genesis → ℕ → Holding → Type 0) → (R → Side → Disk) → Meaning → Scene R → Scene R → Type 0
+Steps Shows disks m old new =
+    Appears old new ⊎ Rises Shows disks m old new ⊎ Rests m old new ⊎ GoesOn Shows disks m old new ⊎ Ends Shows disks m old new ⊎ Stops disks old new
+
+-- these steps were taken one after another, the last of which came to this
+abbrev pub StepsAll : {R : Type 0} → (R → Genesis → ℕ → Holding → Type 0) → (R → Side → Disk) → Meaning → Scene R → List (Scene R) → Scene R → Type 0
+StepsAll Shows disks m first [] last = last ≡ first
+StepsAll Shows disks m first (next ∷ scenes) last = Steps Shows disks m first next × StepsAll Shows disks m next scenes last
+
+-- nothing has happened
+abbrev pub nothing : {R : Type 0} → Genesis → Scene R
+nothing genesis = record { genesis = genesis; seats = []; sent = []; trace = []; ended = None }
