@@ -87,7 +87,7 @@ module _ (Metered tells : Type 0) where
       (mid : ReplicaValue) × (first : List LetterValue) × (rest : List LetterValue) × (here : List Note) × (more : List Note)
       × (letters ≡ first ++ rest) × (trace ≡ here ++ more) × Call n old o first here mid × Calls n mid given rest more new
 
-  -- the bytes that came
+  -- the bytes that were taken of what came
   abbrev pub bytes_of : Option (SocketAddr × List ℕ) → Option (List ℕ)
   bytes_of None = None
   bytes_of (Some c) = Some c.1
@@ -99,7 +99,7 @@ module _ (Metered tells : Type 0) where
     pub alive : rises.replica.replica.failed ≡ false
 
   -- a node that is up takes a turn, in which something may come or nothing: what it is given by that its replica takes, and the letters of that
-  -- join what was given to be sent
+  -- join what was given to be sent. `came` is what is taken of what comes, out of its frame where the nodes have a key
   pub record TakesTurn (old new : Cluster) : Type 0 where
     pub node : Node
     pub next : Node

@@ -11,6 +11,8 @@ const VERSION: &str = "0.1.0, stores of format 2";
 enum Kind {
     /// A word after `--NAME`, which has to be given.
     Word,
+    /// A word after `--NAME`, which may be given.
+    Given,
     /// `--NAME` alone, which may be given.
     Flag,
     /// Words without `--NAME`, one or more, which have to be given.
@@ -36,12 +38,19 @@ const SUBCOMMANDS: &[Usage] = &[
         (Kind::Word, "number", "the number of the node"),
         (Kind::Word, "port", "the port of the node"),
         (Kind::Word, "dir", "the folder of its files"),
+        (Kind::Given, "hosts", "a file of lines NODE ADDRESS: where each node lives"),
+        (Kind::Given, "bind", "the address at which the node listens"),
+        (Kind::Given, "key", "the file of the key that the nodes share"),
+        (Kind::Given, "client-key", "the file of the key that the clients share"),
         (Kind::Flag, "log", "tells on standard error what is counted and run"),
         (Kind::Flag, "verbose", "tells on standard error what --log does, and what else happens to the node"),
     ]),
     ("ask", "asks a node once, and prints what it is answered", &[
         (Kind::Word, "cluster", "the number of the cluster"),
         (Kind::Word, "port", "the port of a node"),
+        (Kind::Given, "address", "the address of that node"),
+        (Kind::Given, "hosts", "a file of lines NODE ADDRESS: where each node lives"),
+        (Kind::Given, "client-key", "the file of the key that the clients share"),
         (Kind::Word, "client", "the number of the client, 1 to 256"),
         (Kind::Word, "request", "the number of the request, higher each time"),
         (Kind::Words, "op", "acquire NAME, release NAME FENCE, ask NAME, check NAME FENCE, share NAME, break NAME FENCE, join NODE PORT, leave NODE, raise 2 or raw HEX"),
@@ -67,6 +76,7 @@ fn word<'a>(alloc: Global, name: &'a str) -> Arg<'a> {
 fn argument<'a>(alloc: Global, kind: Kind, name: &'a str, help: &'a str) -> Arg<'a> {
     let argument = match kind {
         Kind::Word => word(alloc, name),
+        Kind::Given => word(alloc, name).required(false),
         Kind::Flag => Arg::new(alloc, name).long(name).action(ArgAction::SetTrue),
         Kind::Words => Arg::new(alloc, name).required(true).num_args(1..),
     };

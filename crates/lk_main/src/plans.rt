@@ -4,6 +4,8 @@ use clap::ArgMatches;
 use lk_entries::Header;
 use lk_fuzz::fuzzing::MAX_EVENTS;
 use lk_service::command_words::operation_of;
+use lk_service::far::Far;
+use lk_service::outside::Away;
 use lk_service::question::Question;
 use lk_service::running::NodePlan;
 use lk_types::limits::{MAX_CLIENT, MAX_COUNT};
@@ -12,10 +14,37 @@ use lk_words::genesis::read_genesis;
 use lk_words::number::read_number;
 use lk_words::operation::{node_of, port_of};
 use std::alloc::{AllocError, Global};
+use std::net::IpAddr;
 
 /// The bytes of a word that was named.
 fn word<'a>(matches: &ArgMatches<'a>, name: &str) -> Option<&'a [u8]> {
     Some(matches.get_str(name)?.as_bytes())
+}
+
+/// What a command line says of the machines outside.
+fn away_in<'a>(matches: &ArgMatches<'a>, name: &str) -> Option<Away<'a>> {
+    let bind = match word(matches, name) {
+        None => None,
+        Some(word) => match IpAddr::parse_ascii(word) {
+            Ok(address) => Some(address),
+            Err(_) => return None,
+        },
+    };
+    Some(Away {
+        hosts: matches.get_str("hosts"),
+        bind,
+        key: if name == "bind" {
+            matches.get_str("key")
+        } else {
+            None
+        },
+        client_key: matches.get_str("client-key"),
+    })
+}
+
+/// What the command line of a client says of the machines outside.
+pub fn ask_away<'a>(matches: &ArgMatches<'a>) -> Option<Away<'a>> {
+    away_in(matches, "address")
 }
 
 /// The node that `locks node` is to run.
@@ -27,6 +56,7 @@ pub fn node_plan<'a>(matches: &ArgMatches<'a>) -> Option<NodePlan<'a>> {
         header: Header::new(node, genesis),
         port,
         folder: matches.get_str("dir")?,
+        away: away_in(matches, "bind")?,
     })
 }
 
@@ -53,6 +83,7 @@ fn question_of(matches: &ArgMatches<'_>, op: Op) -> Option<Question> {
         cluster,
         port,
         request: Request { client, number, op },
+        far: Far::local(cluster),
     })
 }
 

@@ -3,7 +3,7 @@
 ghost use Rattle.std.specs.Prelude.{◌≤◌};
 
 use crate::commands::program;
-use crate::plans::{ask_plan, fuzz_plan, node_plan};
+use crate::plans::{ask_away, ask_plan, fuzz_plan, node_plan};
 use crate::subcommand::Subcommand;
 use clap::error::ErrorKind;
 use clap::{ArgMatches, Error};
@@ -16,9 +16,10 @@ use lk_script::ending::{end, tell};
 use lk_script::fault::ScriptFault;
 use lk_script::script::run_to_end;
 use lk_server::fault::ServiceFault;
-use lk_service::causes::open_socket;
+use lk_service::causes::open_socket_at;
 use lk_service::demo::demo;
 use lk_service::dump::dump;
+use lk_service::outside::{Away, far_of};
 use lk_service::question::ask;
 use lk_service::running::run_node;
 use log::sink::{Console, Discard};
@@ -27,7 +28,7 @@ use std::alloc::Global;
 use std::fs::{File, Files};
 use std::io;
 use std::io::{BufRead, Write};
-use std::net::Net;
+use std::net::{IpAddr, Ipv4Addr, Ipv6Addr, Net, SocketAddr};
 
 /// The nodes of world mode.
 type Nodes = Replica<LockTable, MemoryDisk>;
@@ -72,8 +73,17 @@ fn run_node_words<R: Files<File = File> + Net + Eprint, E: Write>(
     run_node::<LockTable, _, _, _>(rt, alloc, &plan, &log, err)
 }
 
+/// The address of a client's socket: any of its machine, in the family of the node that it asks.
+fn own_address(away: &Away<'_>) -> IpAddr {
+    match away.bind {
+        None => IpAddr::V4(Ipv4Addr::LOCALHOST),
+        Some(IpAddr::V4(_)) => IpAddr::V4(Ipv4Addr::UNSPECIFIED),
+        Some(IpAddr::V6(_)) => IpAddr::V6(Ipv6Addr::UNSPECIFIED),
+    }
+}
+
 /// Asks a node once.
-fn ask_words<R: Net, W: Write, E: Write>(
+fn ask_words<R: Files<File = File> + Net, W: Write, E: Write>(
     rt: &R,
     alloc: Global,
     matches: &ArgMatches<'_>,
@@ -82,12 +92,19 @@ fn ask_words<R: Net, W: Write, E: Write>(
 ) -> u8
     ensures { result ≤ 2 }
 {
-    let question = match ask_plan(alloc, matches) {
+    let mut question = match ask_plan(alloc, matches) {
         Ok(Some(question)) => question,
         Ok(None) => return refuse_words(err),
         Err(_) => return ServiceFault::NoMemory.tell(err),
     };
-    match open_socket(rt, 0, err) {
+    let Some(away) = ask_away(matches) else {
+        return refuse_words(err);
+    };
+    question.far = match far_of(rt, alloc, question.cluster, &away, err) {
+        Ok(far) => far,
+        Err(fault) => return fault.tell(err),
+    };
+    match open_socket_at(rt, SocketAddr::from((own_address(&away), 0)), err) {
         Ok(mut socket) => ask(alloc, &mut socket, &question, out, err),
         Err(fault) => fault.tell(err),
     }

@@ -1,4 +1,5 @@
 mod Books
+mod Free
 mod Carrying
 mod Sayings
 mod Turning

@@ -2,10 +2,18 @@
 use Rattle.std.proofs.Common.{◌≡◌, ℕ, true, false, List, [], ◌∷◌, Option, Some, None, drop, refl, ap, sym, ◌∙◌, subst, subst₂}
 use Rattle.std.specs.declared.net.socket_addr.SocketAddr.{SocketAddr}
 use Rattle.lk_step.specs.Letters.{LetterValue}
-use Rattle.lk_server.specs.Servers.{ServerValue, HandsOn, TakesIn, EndsIn, given_in, counted_in, HearsIn, EndsBehindIn, FindsNone, Turn, LastTurn}
+use Rattle.lk_server.specs.Posts.{Hears}
+use Rattle.lk_server.specs.Servers.{ServerValue, HandsOn, Takes, TakesIn, EndsIn, given_in, counted_in, HearsIn, EndsBehindIn, FindsNone, Turn, LastTurn}
 use Rattle.lk_server.proofs.Carrying.{hands_on_from}
 
 module _ {R : Type 0} (S : R → Option (List ℕ) → List LetterValue → R → Type 0) (tells : Type 0) (old new : ServerValue R) where
+  -- what the socket brought was taken
+  pub taken_so : (came : Option (SocketAddr × List ℕ)) (from : SocketAddr) (bytes : List ℕ) (own : List LetterValue) → came ≡ Some (from, bytes) → own ≡ [] → Takes S tells bytes own old new
+      → Hears old.cluster bytes from old.addresses new.addresses → TakesIn S tells [] came old new
+  taken_so came from bytes own is none takes heard =
+      let t : Takes S tells bytes [] old new = subst (λ (o : List LetterValue). Takes S tells bytes o old new) none takes in
+      subst (λ (x : Option (SocketAddr × List ℕ)). TakesIn S tells [] x old new) (sym is) (t, heard)
+
   turn_hands : (own : List LetterValue) (came : Option (SocketAddr × List ℕ)) → TakesIn S tells own came old new → HandsOn S tells (given_in own came new.received) (drop 1 own) old new
   turn_hands (l ∷ own) came t = t.0.hands_on
   turn_hands [] (Some c) t = t.0.hands_on

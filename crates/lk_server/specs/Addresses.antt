@@ -1,11 +1,15 @@
--- From where clients and nodes wrote last.
-use Rattle.std.specs.Prelude.{ℕ, ◌+◌, ◌-◌, ◌==◌, Bool, false, List, [], ◌∷◌, ◌++◌, Option, Some, None, if◌then◌else◌, length, take, drop, min, slice_index_or}
+-- Where clients and nodes are, and by which keys they are known.
+use Rattle.std.specs.Prelude.{◌≡◌, ℕ, ◌+◌, ◌-◌, ◌==◌, Bool, false, List, [], ◌∷◌, ◌++◌, Option, Some, None, if◌then◌else◌, length, take, drop, min, slice_index_or}
 use Rattle.std.specs.declared.net.socket_addr.SocketAddr.{SocketAddr}
+use Rattle.lk_seal.specs.declared.seals.Seals.{Seals}
+use Rattle.lk_server.specs.declared.hosts.Hosts.{Hosts}
 
--- a place for each client, and the places of nodes that wrote, the last one first
+-- a place for each client, the places of nodes that wrote, the last one first, where nodes live, and the keys
 pub record AddressBook : Type 0 where
   pub clients : List (Option SocketAddr)
   pub nodes : List (Option (ℕ × SocketAddr))
+  pub hosts : Hosts
+  pub seals : Seals
 
 -- the address of a client
 abbrev pub client_at : AddressBook → ℕ → Option SocketAddr
@@ -41,3 +45,7 @@ without at places = take at places ++ drop (at + 1) places
 -- the node stands first, and the others stand as they did: its former place is gone, or the last one where it had none
 abbrev pub moved_up : List (Option (ℕ × SocketAddr)) → ℕ → SocketAddr → List (Option (ℕ × SocketAddr))
 moved_up places node from = Some (node, from) ∷ without (min (place_in places node) (length places - 1)) places
+
+-- where nodes live, and by which keys they are known, is the same
+abbrev pub IsSameOutside : AddressBook → AddressBook → Type 0
+IsSameOutside old new = (new.hosts ≡ old.hosts) × (new.seals ≡ old.seals)

@@ -1,8 +1,10 @@
 pub mod Faults
 pub mod Addresses
+pub mod Hosts
 pub mod Posts
 pub mod Servers
 pub mod Sights
 pub mod Sayings
 pub mod Hearing
 pub mod Sockets
+pub mod Premises

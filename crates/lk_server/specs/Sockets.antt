@@ -12,4 +12,4 @@ sent_in ts = map datagram ts
 -- the first of them; of one that is too long the beginning
 abbrev pub next_in : List Told → Option (SocketAddr × List ℕ)
 next_in [] = None
-next_in (t ∷ ts) = Some (t.place, take 8193 t.bytes.items)
+next_in (t ∷ ts) = Some (t.place, take 8229 t.bytes.items)

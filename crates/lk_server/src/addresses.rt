@@ -1,12 +1,16 @@
-//! From where clients and nodes wrote last.
+//! Where clients and nodes are: from where they wrote last, where nodes live, and by which keys they are known.
 
 ghost use Rattle.std.specs.Prelude.{◌≡◌, ◌≢◌, ℕ, Some, None, min};
 ghost use Rattle.lk_types.specs.Ranges.{IsClient};
-ghost use Rattle.lk_server.specs.Addresses.{client_at, node_at, node_in, place_in, moved_up};
+ghost use Rattle.lk_server.specs.Addresses.{client_at, node_at, node_in, place_in, moved_up, IsSameOutside};
+ghost use Rattle.lk_server.specs.Hosts.{host_of};
 
+use crate::hosts::Hosts;
+use crate::outside::Outside;
+use lk_seal::Seals;
 use lk_types::{ClientNo, NodeNo};
 use std::marker::Model;
-use std::net::SocketAddr;
+use std::net::{IpAddr, SocketAddr};
 
 /// The clients that may write.
 const CLIENTS: usize = 256;
@@ -20,6 +24,8 @@ pub struct Addresses {
     clients: [Option<SocketAddr>; CLIENTS],
     // those that wrote last stand first
     nodes: [Option<(NodeNo, SocketAddr)>; NODES],
+    hosts: Hosts,
+    seals: Seals,
 }
 
 impl Model for Addresses {
@@ -27,7 +33,7 @@ impl Model for Addresses {
 
     ghost Value = { AddressBook };
 
-    ghost view = { λ a. record { clients = a.clients; nodes = a.nodes } };
+    ghost view = { λ a. record { clients = a.clients; nodes = a.nodes; hosts = a.hosts; seals = a.seals } };
 }
 
 /// The address that the first of the places of a node has.
@@ -45,14 +51,33 @@ fn address_in(places: &[Option<(NodeNo, SocketAddr)>], node: NodeNo) -> Option<S
 
 impl Addresses {
     /// Nobody has written.
-    pub fn new() -> Addresses
+    pub fn new(outside: Outside) -> Addresses
         ensures clients { (c : ℕ) → IsClient c → client_at result c ≡ None }
         ensures nodes { (n : ℕ) → node_at result n ≡ None }
+        ensures hosts { result.hosts ≡ outside.hosts }
+        ensures seals { result.seals ≡ outside.seals }
     {
+        let Outside { hosts, seals } = outside;
         Addresses {
             clients: [None; CLIENTS],
             nodes: [None; NODES],
+            hosts,
+            seals,
         }
+    }
+
+    /// The address at which a node lives, where it is known.
+    pub fn host(&self, node: NodeNo) -> Option<IpAddr>
+        ensures { result ≡ host_of self.now.hosts node }
+    {
+        self.hosts.address(node)
+    }
+
+    /// By which keys nodes and clients are known.
+    pub fn seals(&self) -> &Seals
+        ensures { result.now ≡ self.now.seals }
+    {
+        &self.seals
     }
 
     /// The address from which the client wrote last.
@@ -67,6 +92,7 @@ impl Addresses {
         ensures own { client_at self.new client ≡ Some from }
         ensures others { (c : ℕ) → IsClient c → c ≢ client → client_at self.new c ≡ client_at self.old c }
         ensures nodes { self.new.nodes ≡ self.old.nodes }
+        ensures outside { IsSameOutside self.old self.new }
     {
         self.clients[client.get() as usize - 1] = Some(from);
     }
@@ -97,6 +123,7 @@ impl Addresses {
         ensures own { node_at self.new node ≡ Some from }
         ensures places { self.new.nodes ≡ moved_up self.old.nodes node from }
         ensures clients { self.new.clients ≡ self.old.clients }
+        ensures outside { IsSameOutside self.old self.new }
     {
         let place = self.place_of(node);
         self.nodes[..=place].rotate_right(1);

@@ -3,6 +3,7 @@
 ghost use Rattle.std.specs.Prelude.{◌≡◌, Some, None, IfSome, IsNone};
 
 use crate::socket::Datagrams;
+use lk_seal::OVERHEAD;
 use lk_types::limits::MAX_DATAGRAM;
 use std::marker::Model;
 use std::net::SocketAddr;
@@ -10,8 +11,8 @@ use std::net::SocketAddr;
 /// A place for the datagram that came last. It is made once, for all that come.
 #[derive(Drop)]
 pub struct Ear {
-    // by a byte longer than the longest datagram, so that one that is cut does not read
-    buffer: [u8; MAX_DATAGRAM + 1],
+    // by a byte longer than the frame of the longest datagram, so that one that is cut does not read
+    buffer: [u8; MAX_DATAGRAM + OVERHEAD + 1],
     // how long the datagram is that came last, and from where it came, if one did
     last: Option<(usize, SocketAddr)>,
 }
@@ -35,7 +36,7 @@ impl Ear {
         ensures { result ≡ None }
     {
         Ear {
-            buffer: [0; MAX_DATAGRAM + 1],
+            buffer: [0; MAX_DATAGRAM + OVERHEAD + 1],
             last: None,
         }
     }

@@ -1,5 +1,6 @@
 //! Whoever writes is known by the address from which it wrote.
 
+ghost use Rattle.lk_server.specs.Addresses.{IsSameOutside};
 ghost use Rattle.lk_server.specs.Posts.{Hears};
 
 use crate::addresses::Addresses;
@@ -11,7 +12,8 @@ impl Addresses {
     /// Keeps from where a datagram of the cluster came: a client's request, or what a node says. All else is passed over.
     /// What came is told for the log.
     pub fn hear(&mut self, cluster: u64, bytes: &[u8], from: SocketAddr) -> Came
-        ensures { Hears cluster bytes.now from self.old self.new }
+        ensures heard { Hears cluster bytes.now from self.old self.new }
+        ensures outside { IsSameOutside self.old self.new }
     {
         let Ok(message) = view(bytes) else {
             return Came::Bad;

@@ -29,9 +29,9 @@ pub struct MemorySocket {
 
 // How many bytes of so many are heard.
 fn cut(length: usize) -> usize
-    ensures { result ≡ min length 8193 }
+    ensures { result ≡ min length 8229 }
 {
-    if length <= 8193 { length } else { 8193 }
+    if length <= 8229 { length } else { 8229 }
 }
 
 impl MemorySocket {
@@ -45,7 +45,7 @@ impl MemorySocket {
         }
     }
 
-    /// One more datagram comes. Of one that is longer than 8,193 bytes no more are heard.
+    /// One more datagram comes. Of one that is longer than 8,229 bytes no more are heard.
     pub fn comes(&mut self, from: SocketAddr, bytes: &[u8]) -> Result<(), NoMemory> {
         let kept = bytes.to_vec(self.alloc)?;
         self.coming.push_back(Told {

@@ -1,19 +1,21 @@
 //! The post of a node that has a socket.
 
-ghost use Rattle.std.specs.Prelude.{◌≡◌, ◌↔◌, ◌++◌, ◌∷◌, ℕ, [], Some, None, true, false, is_ok, OnOk, OnErr, IfSome, IsNone};
+ghost use Rattle.std.specs.Prelude.{◌≡◌, ◌≢◌, ◌↔◌, ◌++◌, ◌∷◌, ℕ, [], Some, None, true, false, is_ok, OnOk, OnErr, IfOk, IsErr, IfSome, IsNone};
 ghost use Rattle.lk_types.specs.Ranges.{IsClient};
 ghost use Rattle.lk_disk.specs.Disk.{HasCause};
-ghost use Rattle.lk_server.specs.Addresses.{client_at, node_at};
-ghost use Rattle.lk_server.specs.Posts.{IsRoute, IsBoundFor, Becomes, Hears, tray_of};
+ghost use Rattle.lk_server.specs.Addresses.{client_at, node_at, IsSameOutside};
+ghost use Rattle.lk_server.specs.Posts.{IsRoute, IsBoundFor, Becomes, Hears, tray_of, taken_as, frame_of, keys_for};
 
 use crate::addresses::Addresses;
 use crate::came::Came;
 use crate::ear::Ear;
-use crate::socket::{Datagrams, local};
+use crate::outside::Outside;
+use crate::socket::Datagrams;
 use lk_replica::{Post, SendFault};
+use lk_seal::Seals;
 use lk_step::{Letter, To};
 use lk_types::{NoMemory, NodeNo};
-use std::alloc::Global;
+use std::alloc::{AllocError, Global};
 use std::collections::VecDeque;
 use std::io;
 use std::marker::Model;
@@ -35,6 +37,8 @@ pub struct SocketPost<S: Datagrams + Drop> {
     node: NodeNo,
     socket: S,
     addresses: Addresses,
+    // the frame that was sent last, if there are keys
+    frame: Vec<u8>,
     // the letters of the node to itself
     own: VecDeque<Letter>,
     // how many sends failed in this step
@@ -57,11 +61,11 @@ pub struct Carried {
 }
 
 impl<S: Datagrams + Drop> Model for SocketPost<S> {
-    ghost use Rattle.lk_server.specs.Posts.{PostValue};
+    ghost use Rattle.lk_server.specs.Posts.{PostValue, taken_as};
 
     ghost Value = { PostValue };
 
-    ghost view = { λ p. record { node = p.node; addresses = p.addresses; own = p.own.items; sent = S.sent p.socket; socket_failures = S.failures p.socket; failures = p.failures; next = S.next p.socket } };
+    ghost view = { λ p. record { node = p.node; addresses = p.addresses; own = p.own.items; sent = S.sent p.socket; socket_failures = S.failures p.socket; failures = p.failures; next = taken_as p.addresses.seals (S.next p.socket) } };
 }
 
 /// Where a letter goes.
@@ -71,13 +75,32 @@ fn route(addresses: &Addresses, to: &To) -> Option<SocketAddr>
     match to {
         To::Client(client) => addresses.client(*client),
         To::Node(node, 0) => addresses.node(*node),
-        To::Node(_, port) => Some(local(*port)),
+        To::Node(node, port) => match addresses.host(*node) {
+            Some(address) => Some(SocketAddr::from((address, *port))),
+            None => addresses.node(*node),
+        },
+    }
+}
+
+/// As what a datagram is sent. A frame is put in place of what stands there.
+fn framed<'a>(
+    seals: &Seals,
+    to: &To,
+    bytes: &'a [u8],
+    frame: &'a mut Vec<u8>,
+) -> Result<&'a [u8], AllocError>
+    ensures ok { IfOk result (λ f. f.now ≡ frame_of seals.now to.now bytes.now) }
+    ensures refused { IsErr result → keys_for seals.now to.now ≢ [] }
+{
+    match to {
+        To::Node(node, _) => seals.frame_to_node(node.get(), bytes, frame),
+        To::Client(_) => seals.frame_to_client(bytes, frame),
     }
 }
 
 impl<S: Datagrams + Drop> SocketPost<S> {
     /// The post of a node that has a socket, to which nobody has written.
-    pub fn new(alloc: Global, node: NodeNo, socket: S) -> SocketPost<S>
+    pub fn new(alloc: Global, node: NodeNo, outside: Outside, socket: S) -> SocketPost<S>
         ensures node { result.node ≡ node }
         ensures clients { (c : ℕ) → IsClient c → client_at result.addresses c ≡ None }
         ensures nodes { (n : ℕ) → node_at result.addresses n ≡ None }
@@ -85,13 +108,16 @@ impl<S: Datagrams + Drop> SocketPost<S> {
         ensures sent { result.sent ≡ S.sent socket }
         ensures socket_failures { result.socket_failures ≡ S.failures socket }
         ensures failures { result.failures ≡ 0 }
-        ensures next { result.next ≡ S.next socket }
+        ensures hosts { result.addresses.hosts ≡ outside.hosts }
+        ensures seals { result.addresses.seals ≡ outside.seals }
+        ensures next { result.next ≡ taken_as outside.seals (S.next socket) }
     {
         SocketPost {
             alloc,
             node,
             socket,
-            addresses: Addresses::new(),
+            addresses: Addresses::new(outside),
+            frame: Vec::new(alloc),
             own: VecDeque::new(alloc),
             failures: 0,
             sent: 0,
@@ -102,6 +128,7 @@ impl<S: Datagrams + Drop> SocketPost<S> {
     /// Keeps from where a datagram of the cluster came, as `Addresses::hear` does.
     pub fn hear(&mut self, cluster: u64, bytes: &[u8], from: SocketAddr) -> Came
         ensures heard { Hears cluster bytes.now from self.old.addresses self.new.addresses }
+        ensures outside { IsSameOutside self.old.addresses self.new.addresses }
         ensures others { self.new ≡ record self.old { addresses = self.new.addresses } }
     {
         self.addresses.hear(cluster, bytes, from)
@@ -119,10 +146,21 @@ impl<S: Datagrams + Drop> SocketPost<S> {
 
     /// The ear hears the next datagram of the socket, if one comes.
     pub fn listen(&mut self, ear: &mut Ear)
-        ensures comes { S.is_telling → self.old.next ≡ ear.new }
+        ensures comes { S.is_telling → self.old.next ≡ taken_as self.old.addresses.seals ear.new }
         ensures others { self.new ≡ record self.old { next = self.new.next } }
     {
         ear.receive(&mut self.socket);
+    }
+
+    /// What is taken of that, out of its frame, and from where it came.
+    pub fn heard<'a>(&self, ear: &'a Ear) -> Option<(&'a [u8], SocketAddr)>
+        ensures some { IfSome result (λ r. taken_as self.now.addresses.seals ear.now ≡ Some (r.1, r.0.now)) }
+        ensures none { IsNone result → ear.now ≡ None }
+    {
+        let Some((frame, from)) = ear.heard() else {
+            return None;
+        };
+        Some((self.addresses.seals().heard(frame), from))
     }
 
     /// Why the last send that failed did, where the system told it.
@@ -193,7 +231,11 @@ impl<S: Datagrams + Drop> SocketPost<S> {
         let Some(place) = route(&self.addresses, &to) else {
             return Ok(());
         };
-        match self.socket.send_to(place, bytes) {
+        let sent = match framed(self.addresses.seals(), &to, bytes, &mut self.frame) {
+            Ok(framed) => self.socket.send_to(place, framed),
+            Err(_) => Err(SendFault),
+        };
+        match sent {
             Ok(()) => {
                 self.note(&to, bytes);
                 Ok(())

@@ -4,8 +4,8 @@ ghost use Rattle.std.specs.Prelude.{◌≡◌, ℕ, ◌∷◌, [], None, true, f
 ghost use Rattle.lk_types.specs.Ranges.{IsClient};
 ghost use Rattle.lk_node.specs.Calls.{heard_by};
 ghost use Rattle.lk_replica.specs.Faults.{fault_number, IfSend};
-ghost use Rattle.lk_server.specs.Addresses.{client_at, node_at};
-ghost use Rattle.lk_server.specs.Posts.{Hears};
+ghost use Rattle.lk_server.specs.Addresses.{client_at, node_at, IsSameOutside};
+ghost use Rattle.lk_server.specs.Posts.{Hears, taken_as};
 ghost use Rattle.lk_server.specs.Servers.{EndsIn, EndsOn, FindsNone, HandsOn, LastTurn, Runs, ServesOn, Takes, TakesIn, Turn};
 
 use crate::came::Came;
@@ -13,6 +13,7 @@ use crate::ear::Ear;
 use crate::fault::ServiceFault;
 use crate::node_replica::NodeReplica;
 use crate::notes::log_notes;
+use crate::outside::Outside;
 use crate::post::SocketPost;
 use crate::socket::Datagrams;
 use crate::strangers::Strangers;
@@ -51,7 +52,14 @@ impl<R: NodeReplica, S: Datagrams + Drop> Model for Server<R, S> {
 
 impl<R: NodeReplica, S: Datagrams + Drop> Server<R, S> {
     /// The server of that node's replica, of that cluster, to which nobody has written yet.
-    pub fn new(alloc: Global, cluster: u64, node: NodeNo, replica: R, socket: S) -> Server<R, S>
+    pub fn new(
+        alloc: Global,
+        cluster: u64,
+        node: NodeNo,
+        outside: Outside,
+        replica: R,
+        socket: S,
+    ) -> Server<R, S>
         ensures cluster { result.cluster ≡ cluster }
         ensures node { result.node ≡ node }
         ensures replica { Runs replica (R.failed replica) result }
@@ -59,12 +67,14 @@ impl<R: NodeReplica, S: Datagrams + Drop> Server<R, S> {
         ensures clients { (c : ℕ) → IsClient c → client_at result.addresses c ≡ None }
         ensures nodes { (n : ℕ) → node_at result.addresses n ≡ None }
         ensures received { result.received ≡ 0 }
-        ensures socket { ServesOn (S.sent socket) (S.failures socket) (S.next socket) result }
+        ensures hosts { result.addresses.hosts ≡ outside.hosts }
+        ensures seals { result.addresses.seals ≡ outside.seals }
+        ensures socket { ServesOn (S.sent socket) (S.failures socket) (taken_as outside.seals (S.next socket)) result }
     {
         Server {
             cluster,
             replica,
-            post: SocketPost::new(alloc, node, socket),
+            post: SocketPost::new(alloc, node, outside, socket),
             received: 0,
             strangers: Strangers::new(),
         }
@@ -188,6 +198,8 @@ impl<R: NodeReplica, S: Datagrams + Drop> Server<R, S> {
         ensures takes { OnOk result (Takes R.Says S.is_telling bytes.now self.old.own self.old self.new) }
         ensures ends { OnErr result (EndsOn R.Says S.is_telling bytes.now self.old.own self.old self.new) }
         ensures heard { Hears self.old.cluster bytes.now from self.old.addresses self.new.addresses }
+        // Where nodes live, and the keys, stay what they were.
+        ensures outside { IsSameOutside self.old.addresses self.new.addresses }
         ensures cluster { self.new.cluster ≡ self.old.cluster }
         ensures node { self.new.node ≡ self.old.node }
         ensures passes { IfErr result (λ f. f ≡ ServiceFault.Send → ⊥) }
@@ -217,10 +229,12 @@ impl<R: NodeReplica, S: Datagrams + Drop> Server<R, S> {
     // Takes the next datagram from the socket, if one comes. Whether one did.
     fn serve_socket<L: Log>(&mut self, ear: &mut Ear, log: &L) -> Result<bool, ServiceFault>
         requires { self.old.own ≡ [] }
-        ensures turn { IfOk result (λ came. came ≡ true → TakesIn R.Says S.is_telling [] ear.new self.old self.new) }
-        ensures ends { OnErr result (EndsIn R.Says S.is_telling [] ear.new self.old self.new) }
-        ensures comes { S.is_telling → self.old.next ≡ ear.new }
+        ensures turn { IfOk result (λ came. came ≡ true → TakesIn R.Says S.is_telling [] (taken_as self.old.addresses.seals ear.new) self.old self.new) }
+        ensures ends { OnErr result (EndsIn R.Says S.is_telling [] (taken_as self.old.addresses.seals ear.new) self.old self.new) }
+        ensures comes { S.is_telling → self.old.next ≡ taken_as self.old.addresses.seals ear.new }
         ensures none { IfOk result (λ came. came ≡ false → (record self.new { next = self.old.next } ≡ self.old) × (ear.new ≡ None)) }
+        // Where nodes live, and the keys, stay what they were.
+        ensures outside { IsSameOutside self.old.addresses self.new.addresses }
         ensures cluster { self.new.cluster ≡ self.old.cluster }
         ensures node { self.new.node ≡ self.old.node }
         ensures passes { IfErr result (λ f. f ≡ ServiceFault.Send → ⊥) }
@@ -228,7 +242,7 @@ impl<R: NodeReplica, S: Datagrams + Drop> Server<R, S> {
         ensures broken { OnErr result (self.new.failed ≡ true) }
     {
         self.post.listen(ear);
-        let Some((bytes, from)) = ear.heard() else {
+        let Some((bytes, from)) = self.post.heard(ear) else {
             return Ok(false);
         };
         self.take_datagram(bytes, from, log)?;
@@ -240,10 +254,12 @@ impl<R: NodeReplica, S: Datagrams + Drop> Server<R, S> {
     pub fn serve_next<L: Log>(&mut self, ear: &mut Ear, log: &L) -> Result<bool, ServiceFault>
         // What the node wrote to itself it takes once and in order, and before it looks at the socket. Else it is the whole of what came, from
         // where it came. What the replica said by that was sent or kept, or a send of it failed, in order, and nothing else was sent.
-        ensures turn { IfOk result (λ came. came ≡ true → TakesIn R.Says S.is_telling self.old.own ear.new self.old self.new) }
-        ensures ends { OnErr result (EndsIn R.Says S.is_telling self.old.own ear.new self.old self.new) }
-        ensures comes { S.is_telling → self.old.own ≡ [] → self.old.next ≡ ear.new }
+        ensures turn { IfOk result (λ came. came ≡ true → TakesIn R.Says S.is_telling self.old.own (taken_as self.old.addresses.seals ear.new) self.old self.new) }
+        ensures ends { OnErr result (EndsIn R.Says S.is_telling self.old.own (taken_as self.old.addresses.seals ear.new) self.old self.new) }
+        ensures comes { S.is_telling → self.old.own ≡ [] → self.old.next ≡ taken_as self.old.addresses.seals ear.new }
         ensures none { IfOk result (λ came. came ≡ false → FindsNone S.is_telling self.old self.new × (ear.new ≡ None)) }
+        // Where nodes live, and the keys, stay what they were.
+        ensures outside { IsSameOutside self.old.addresses self.new.addresses }
         ensures cluster { self.new.cluster ≡ self.old.cluster }
         ensures node { self.new.node ≡ self.old.node }
         ensures passes { IfErr result (λ f. f ≡ ServiceFault.Send → ⊥) }
@@ -266,13 +282,15 @@ pub fn node_turn<R: NodeReplica, S: Datagrams + Drop, L: Log>(
     ear: &mut Ear,
     log: &L,
 ) -> Result<(), ServiceFault>
-    // Where the node wrote to itself it takes the first letter of that, and no tick. Else it takes the whole of what came, from where it came, and
-    // a tick where nothing did; what came stands in the ear. Its replica was given just that. The letters that it said were each sent where
+    // Where the node wrote to itself it takes the first letter of that, and no tick. Else it takes what came, whole and out of its frame, from where it
+    // came, and a tick where nothing did; what came stands in the ear. Its replica was given just that. The letters that it said were each sent where
     // they go, kept for the node itself, or lost by a send that failed, in order, and nothing else was sent.
-    ensures turn { OnOk result (Turn R.Says S.is_telling ear.new server.old server.new) }
-    ensures ends { OnErr result (LastTurn R.Says S.is_telling ear.new server.old server.new) }
+    ensures turn { OnOk result (Turn R.Says S.is_telling (taken_as server.old.addresses.seals ear.new) server.old server.new) }
+    ensures ends { OnErr result (LastTurn R.Says S.is_telling (taken_as server.old.addresses.seals ear.new) server.old server.new) }
     // A socket that tells what comes next has given just that.
-    ensures comes { S.is_telling → server.old.own ≡ [] → server.old.next ≡ ear.new }
+    ensures comes { S.is_telling → server.old.own ≡ [] → server.old.next ≡ taken_as server.old.addresses.seals ear.new }
+    // Where nodes live, and the keys, stay what they were.
+    ensures outside { IsSameOutside server.old.addresses server.new.addresses }
     ensures passes { IfErr result (λ f. f ≡ ServiceFault.Send → ⊥) }
 {
     if server.serve_next(ear, log)? {

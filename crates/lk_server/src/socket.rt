@@ -44,8 +44,8 @@ pub trait Datagrams {
     /// Puts the next datagram into the buffer, and tells its length and from where it came. What does not fit is lost.
     /// `None` where none came within 100 ms, or the receive failed.
     fn receive(&mut self, buffer: &mut [u8]) -> Option<(usize, SocketAddr)>
-        // There is room for the longest datagram, and a byte more.
-        requires room { 8193 ≤ length buffer.old }
+        // There is room for the frame of the longest datagram, and a byte more.
+        requires room { 8229 ≤ length buffer.old }
         ensures within { IfSome result (λ r. r.0 ≤ length buffer.new) }
         ensures some { is_telling → IfSome result (λ r. next self.old ≡ Some (r.1, take r.0 buffer.new)) }
         ensures none { is_telling → IsNone result → next self.old ≡ None }
@@ -70,7 +70,12 @@ pub struct LocalSocket {
 impl LocalSocket {
     /// The socket of a port, or of any free one where the port is 0. It refuses with the system's own error.
     pub fn open<R: Net>(rt: &R, port: u16) -> io::Result<LocalSocket> {
-        let socket = UdpSocket::bind(rt, local(port))?;
+        LocalSocket::open_at(rt, local(port))
+    }
+
+    /// The socket of an address. It refuses with the system's own error.
+    pub fn open_at<R: Net>(rt: &R, place: SocketAddr) -> io::Result<LocalSocket> {
+        let socket = UdpSocket::bind(rt, place)?;
         socket.set_read_timeout(Some(Duration::from_millis(WAIT)))?;
         Ok(LocalSocket {
             socket,

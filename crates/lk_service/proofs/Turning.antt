@@ -5,6 +5,7 @@ use Rattle.std.specs.Prelude.{OnErr}
 use Rattle.lk_state.specs.Meanings.{Meaning}
 use Rattle.lk_step.specs.Letters.{LetterValue}
 use Rattle.lk_replica.specs.ReplicaValue.{ReplicaValue}
+use Rattle.lk_server.specs.Addresses.{IsSameOutside}
 use Rattle.lk_server.specs.Sayings.{SaysOf}
 use Rattle.lk_server.specs.Servers.{ServerValue, Turn, LastTurn}
 use Rattle.lk_service.specs.Chains.{Repeats}
@@ -22,12 +23,12 @@ on_err (Err e) p = p
 
 module _ {R : Type 0} {Says : R → Option (List ℕ) → List LetterValue → R → Type 0} {count : ℕ} {first last new : ServerValue R} (came : Option (SocketAddr × List ℕ)) where
   -- one more turn was taken
-  pub turns_more : Repeats (TakesTurn Says) count first last → Turn Says ⊥ came last new → Repeats (TakesTurn Says) (count + 1) first new
-  turns_more so_far turn = repeats_more so_far (record { came = came; turn = turn })
+  pub turns_more : Repeats (TakesTurn Says) count first last → Turn Says ⊥ came last new → IsSameOutside last.addresses new.addresses → Repeats (TakesTurn Says) (count + 1) first new
+  turns_more so_far turn outside = repeats_more so_far (record { came = came; turn = turn; outside = outside })
 
   -- one ended the replica
-  pub turns_end : (most : ℕ) → count < most → Repeats (TakesTurn Says) count first last → LastTurn Says ⊥ came last new → BreaksOff Says most first new
-  turns_end most fewer so_far turn = record { count = count; fewer = fewer; last = last; turns = so_far; ends = record { came = came; turn = turn } }
+  pub turns_end : (most : ℕ) → count < most → Repeats (TakesTurn Says) count first last → LastTurn Says ⊥ came last new → IsSameOutside last.addresses new.addresses → BreaksOff Says most first new
+  turns_end most fewer so_far turn outside = record { count = count; fewer = fewer; last = last; turns = so_far; ends = record { came = came; turn = turn; outside = outside } }
 
 -- what follows of what stands after a refusal
 pub if_err_on : {T E P Q : Type 0} (r : Result T E) → (P → Q) → OnErr r P → OnErr r Q

@@ -6,6 +6,8 @@ use Rattle.lk_disk.specs.Disk.{one_more}
 use Rattle.lk_wire.specs.Grammar.{Spells}
 use Rattle.lk_wire.specs.declared.message.Content.TheVariants as content
 use Rattle.lk_wire.specs.declared.message.Message.{Message}
+use Rattle.lk_seal.specs.Seals.{key_list, framed_by, replied}
+use Rattle.lk_seal.specs.Seals as seals
 use Rattle.lk_service.specs.Chains.{Repeats}
 use Rattle.lk_service.specs.Replies.{reply_of}
 use Rattle.lk_service.specs.declared.question.Question.{Question}
@@ -18,9 +20,13 @@ use Rattle.lk_service.specs.declared.reply.Reply.TheVariants.{Answer, Passed, El
 abbrev pub asking : Question → Message
 asking q = record { cluster = q.cluster; content = content.Request q.request }
 
--- the datagram is that reply of a node of its cluster to the request
+-- these are sent for it: the bytes of its message, in a frame where there is a key
+abbrev pub IsAsked : Question → List ℕ → Type 0
+IsAsked q frame = (bytes : List ℕ) × Spells (asking q) bytes × (frame ≡ framed_by (key_list q.far.seals.keys) (seals.asking q.far.seals.cluster) bytes)
+
+-- the datagram, out of its frame where there is a key, is that reply of a node of its cluster to the request
 abbrev pub IsReply : Question → List ℕ → ReplyValue → Type 0
-IsReply q bytes r = (node : ℕ) × Spells (reply_of q.cluster node q.request.client q.request.number r) bytes
+IsReply q bytes r = (node : ℕ) × Spells (reply_of q.cluster node q.request.client q.request.number r) (replied (key_list q.far.seals.keys) q.far.seals.cluster bytes)
 
 -- what is heard where this comes next: a reply where that is one to the request, nothing where nothing comes
 abbrev pub Hears : Question → Option (SocketAddr × List ℕ) → Heard → Type 0
@@ -88,7 +94,7 @@ module _ {S : Type 0} (sent : S → List (SocketAddr × List ℕ)) (failures : S
   -- the bytes of the question went to its port, and then it waited
   pub record Exchanges (told : Option ReplyValue) (old new : S) : Type 0 where
     pub bytes : List ℕ
-    pub spelled : Spells (asking q) bytes
+    pub spelled : IsAsked q bytes
     pub begun : S
     pub asks : SendsOnce q.port bytes (sent old) (failures old) (sent begun) (failures begun)
     pub followed : ℕ

@@ -9,7 +9,7 @@ use std::alloc::Global;
 use std::fmt::Display;
 use std::fs::{Files, OpenFile, OpenOptions};
 use std::io::{Read, Seek, Write};
-use std::net::Net;
+use std::net::{Net, SocketAddr};
 use std::path::Path;
 
 /// Tells in a line what does not open, and why: `NAME: TEXT`.
@@ -28,9 +28,18 @@ pub fn open_socket<R: Net, E: Write>(
     port: u16,
     err: &mut E,
 ) -> Result<LocalSocket, ServiceFault> {
-    match LocalSocket::open(rt, port) {
+    open_socket_at(rt, local(port), err)
+}
+
+/// The socket of an address. It refuses with `CannotOpen`, and a line tells why.
+pub fn open_socket_at<R: Net, E: Write>(
+    rt: &R,
+    place: SocketAddr,
+    err: &mut E,
+) -> Result<LocalSocket, ServiceFault> {
+    match LocalSocket::open_at(rt, place) {
         Ok(socket) => Ok(socket),
-        Err(error) => Err(tell_cause(local(port), error, err)),
+        Err(error) => Err(tell_cause(place, error, err)),
     }
 }
 

@@ -2,6 +2,7 @@
 
 ghost use Rattle.std.specs.Prelude.{◌≤◌};
 
+use crate::far::Far;
 use crate::question::{Heard, Question, datagram, next_reply, write_reply};
 use crate::reply::Reply;
 use crate::running::revive;
@@ -118,6 +119,7 @@ fn question_of(row: (u16, u64, &[u8]), port: Port) -> Option<Question> {
             cluster: CLUSTER,
             port,
             request: Request { client, number, op },
+            far: Far::local(CLUSTER),
         }),
         _ => None,
     }

@@ -2,19 +2,21 @@
 
 ghost use Rattle.std.specs.Prelude.{◌≡◌, ◌≤◌, ◌∷◌, ℕ, true, List, Some, IfOk, OnOk, IfErr, OnErr, IfSome, IsSomeAnd, length};
 ghost use Rattle.lk_wire.specs.Grammar.{Spells};
-ghost use Rattle.lk_service.specs.Questions.{asking, Hears, SendsOnce, SendsEach, Receives, Exchanges, IsTold};
+ghost use Rattle.lk_service.specs.Questions.{asking, IsAsked, Hears, SendsOnce, SendsEach, Receives, Exchanges, IsTold};
 ghost use Rattle.lk_service.specs.declared.reply.Reply.{Reply as ReplyValue};
 
+use crate::far::Far;
 use crate::reply::{Reply, read_reply};
 use bytes::BytesMut;
 use lk_server::ear::Ear;
 use lk_server::fault::ServiceFault;
-use lk_server::socket::{Datagrams, local};
+use lk_server::socket::Datagrams;
 use lk_types::{Port, Request};
 use lk_wire::{Content, Message, write};
 use std::alloc::Global;
 use std::io;
 use std::io::Write;
+use std::net::{IpAddr, SocketAddr};
 
 /// The receives of 100 ms until nothing is waited for any more.
 const RECEIVES: u32 = 50;
@@ -27,6 +29,7 @@ pub struct Question {
     pub cluster: u64,
     pub port: Port,
     pub request: Request,
+    pub far: Far,
 }
 
 /// The bytes of a message. It refuses where memory was refused.
@@ -72,17 +75,33 @@ pub fn next_reply<S: Datagrams>(ear: &mut Ear, socket: &mut S, question: &Questi
     let Some((bytes, _)) = ear.heard() else {
         return Heard::Nothing;
     };
-    match read_reply(question.cluster, &question.request, bytes) {
+    match read_reply(
+        question.cluster,
+        &question.request,
+        question.far.seals.heard(bytes),
+    ) {
         Some(reply) => Heard::Reply(reply),
         None => Heard::Other,
     }
 }
 
-/// Sends bytes to a port of 127.0.0.1. What could not be sent is lost.
-fn send<S: Datagrams>(socket: &mut S, port: Port, bytes: &[u8])
+/// The bytes that are sent for the request: its frame, where there is a key. It refuses where memory was refused.
+fn asked(alloc: Global, question: &Question) -> Result<Vec<u8>, ServiceFault>
+    ensures asks { IfOk result (λ bytes. IsAsked question.now bytes.items) }
+    ensures only { IfErr result (λ f. f ≡ ServiceFault.NoMemory) }
+{
+    let bytes = datagram(alloc, question)?;
+    let mut frame = Vec::new(alloc);
+    let framed = question.far.seals.frame_of(&bytes, &mut frame)?;
+    Ok(framed.to_vec(alloc)?)
+}
+
+/// Sends bytes to a port of an address. What could not be sent is lost.
+fn send<S: Datagrams>(socket: &mut S, address: IpAddr, port: Port, bytes: &[u8])
     ensures { S.is_telling → SendsOnce port bytes.now (S.sent socket.old) (S.failures socket.old) (S.sent socket.new) (S.failures socket.new) }
 {
-    let _ = socket.send_to(local(port.get()), bytes);
+    let place = SocketAddr::from((address, port.get()));
+    let _ = socket.send_to(place, bytes);
 }
 
 /// What has become of the request, where that comes next. An Elsewhere is followed, where fewer than 20 were: the bytes go
@@ -103,7 +122,7 @@ fn take_next<S: Datagrams>(
     match next_reply(ear, socket, question) {
         Heard::Reply(Reply::Elsewhere(member)) if *followed < FOLLOWED => {
             *followed += 1;
-            send(socket, member.port, bytes);
+            send(socket, question.far.address_of(&member), member.port, bytes);
             None
         }
         Heard::Reply(Reply::Elsewhere(_)) | Heard::Other | Heard::Nothing => None,
@@ -111,7 +130,7 @@ fn take_next<S: Datagrams>(
     }
 }
 
-/// Sends the request to a port of 127.0.0.1, follows the first 20 Elsewhere, and gives what it is replied, or `None` where
+/// Sends the request to its port, follows the first 20 Elsewhere, and gives what it is replied, or `None` where
 /// 50 receives bring no such reply. What could not be sent is lost.
 pub fn exchange<S: Datagrams>(
     alloc: Global,
@@ -119,7 +138,7 @@ pub fn exchange<S: Datagrams>(
     question: &Question,
 ) -> Result<Option<Reply>, ServiceFault>
     // The bytes of the question go to its port and then to at most 20 others, each once, and nothing else is sent.
-    ensures sends { S.is_telling → OnOk result ((bytes : List ℕ) × (others : List ℕ) × Spells (asking question.now) bytes × (length others ≤ 20)
+    ensures sends { S.is_telling → OnOk result ((bytes : List ℕ) × (others : List ℕ) × IsAsked question.now bytes × (length others ≤ 20)
         × SendsEach (question.now.port ∷ others) bytes (S.sent socket.old) (S.failures socket.old) (S.sent socket.new) (S.failures socket.new)) }
     // Of what comes next after that it hears one after another, at most 50, until it is told something: to follow an Elsewhere that it hears it
     // sends to the port that this tells, and else it sends nothing more.
@@ -128,8 +147,8 @@ pub fn exchange<S: Datagrams>(
     ensures unchanged { OnErr result (socket.new ≡ socket.old) }
     ensures only { IfErr result (λ f. f ≡ ServiceFault.NoMemory) }
 {
-    let bytes = datagram(alloc, question)?;
-    send(socket, question.port, &bytes);
+    let bytes = asked(alloc, question)?;
+    send(socket, question.far.address, question.port, &bytes);
     let (mut ear, mut followed) = (Ear::new(), 0);
     'receives: for _ in 0..RECEIVES {
         let reply = take_next(&mut ear, socket, question, &bytes, &mut followed);

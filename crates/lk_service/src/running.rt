@@ -5,14 +5,17 @@ ghost use Rattle.lk_members.specs.Ports.{port_in};
 ghost use Rattle.lk_replica.specs.Faults.{fault_number};
 ghost use Rattle.lk_replica.specs.ReplicaValue.{ReplicaValue};
 ghost use Rattle.lk_replica.specs.Revivals.{MayGoOn};
+ghost use Rattle.lk_server.specs.Addresses.{IsSameOutside};
 ghost use Rattle.lk_server.specs.Faults.{replica_fault};
+ghost use Rattle.lk_server.specs.Posts.{taken_as};
 ghost use Rattle.lk_server.specs.Servers.{ServerValue, Turn, LastTurn};
 ghost use Rattle.lk_service.specs.Chains.{Repeats};
 ghost use Rattle.lk_service.specs.Revivals.{ComesUp, IsOfRevival};
-ghost use Rattle.lk_service.specs.Turns.{TakesTurn, BreaksOff, Serves};
+ghost use Rattle.lk_service.specs.Turns.{TakesTurn, BreaksOff, AreSealsOf, Serves};
 
-use crate::causes::{open_socket, tell_device};
+use crate::causes::{open_socket_at, tell_device};
 use crate::folder::{FolderLock, open_device};
+use crate::outside::{Away, outside_of};
 use lk_disk::{FileDisk, LogDisk, SystemFile};
 use lk_entries::Header;
 use lk_log::look;
@@ -21,6 +24,7 @@ use lk_server::ear::Ear;
 use lk_server::fault::ServiceFault;
 use lk_server::node_replica::NodeReplica;
 use lk_server::notes::log_notes;
+use lk_server::outside::Outside;
 use lk_server::server::{Server, node_turn};
 use lk_server::socket::{Datagrams, LocalSocket};
 use lk_server::watching::{log_port, log_start};
@@ -41,6 +45,7 @@ pub struct NodePlan<'a> {
     pub header: Header,
     pub port: Port,
     pub folder: &'a str,
+    pub away: Away<'a>,
 }
 
 /// The replica that is taken up from a device. How it came up and what it executed by that is logged.
@@ -92,6 +97,7 @@ pub fn revive<M: Machine, D: LogDisk + Drop, S: Datagrams + Drop, L: Log>(
             alloc,
             header.genesis().cluster,
             header.node(),
+            Outside::local(header.genesis().cluster, header.node()),
             replica,
             socket,
         )),
@@ -140,22 +146,25 @@ fn revive_folder<M: Machine, L: Log, E: Write>(
     alloc: Global,
     plan: &NodePlan<'_>,
     device: FolderDisk,
+    outside: Outside,
     socket: LocalSocket,
     log: &L,
     err: &mut E,
 ) -> Result<FolderServer<M>, ServiceFault>
+    requires { AreSealsOf plan.now.header outside.seals }
     // It serves as the node of the plan, in its cluster, on a replica that can take calls as that node.
     ensures cluster { IfOk result (λ s. s.cluster ≡ plan.now.header.cluster) }
     ensures node { IfOk result (λ s. s.node ≡ plan.now.header.node) }
     ensures ready { IfOk result (λ s. MayGoOn plan.now.header s.replica) }
     ensures alive { IfOk result (λ s. s.failed ≡ false) }
     ensures own { IfOk result (λ s. s.own ≡ []) }
+    ensures seals { IfOk result (λ s. AreSealsOf plan.now.header s.addresses.seals) }
     ensures refused { IfErr result IsOfRevival }
 {
     let replica = take_up_folder::<M, L, E>(alloc, plan, device, log, err)?;
     let header = &plan.header;
     let cluster = header.genesis().cluster;
-    Ok(Server::new(alloc, cluster, header.node(), replica, socket))
+    Ok(Server::new(alloc, cluster, header.node(), outside, replica, socket))
 }
 
 /// The fault by which a turn has ended. Where a file fails a line tells why.
@@ -178,10 +187,12 @@ fn take_turn<M: Machine, L: Log, E: Write>(
     log: &L,
     err: &mut E,
 ) -> Result<(), ServiceFault>
-    // What came stands in the ear, and its replica was given just that, or what it wrote to itself. Of the letters that it said it keeps none but
+    // What came stands in the ear, and its replica was given just what was taken of that, or what it wrote to itself. Of the letters that it said it keeps none but
     // those of the node to itself, after the ones that wait.
-    ensures turn { OnOk result (Turn ⟦<Replica<M, FolderDisk> as NodeReplica>⟧.Says ⊥ ear.new server.old server.new) }
-    ensures ends { OnErr result (LastTurn ⟦<Replica<M, FolderDisk> as NodeReplica>⟧.Says ⊥ ear.new server.old server.new) }
+    ensures turn { OnOk result (Turn ⟦<Replica<M, FolderDisk> as NodeReplica>⟧.Says ⊥ (taken_as server.old.addresses.seals ear.new) server.old server.new) }
+    ensures ends { OnErr result (LastTurn ⟦<Replica<M, FolderDisk> as NodeReplica>⟧.Says ⊥ (taken_as server.old.addresses.seals ear.new) server.old server.new) }
+    // Where nodes live, and the keys, stay what they were.
+    ensures outside { IsSameOutside server.old.addresses server.new.addresses }
     ensures passes { IfErr result (λ f. f ≡ ServiceFault.Send → ⊥) }
 {
     match node_turn(server, ear, log) {
@@ -229,15 +240,17 @@ fn serve_folder<M: Machine, R: Files<File = File>, L: Log, E: Write>(
     rt: &R,
     alloc: Global,
     plan: &NodePlan<'_>,
+    outside: Outside,
     socket: LocalSocket,
     log: &L,
     err: &mut E,
 ) -> Result<(), ServiceFault>
+    requires { AreSealsOf plan.now.header outside.seals }
     // At Ok the server of the plan's node, on a replica that can take calls as that node, has taken so many turns.
     ensures { OnOk result (Serves ⟦<Replica<M, FolderDisk> as NodeReplica>⟧.Says plan.now.header (2 ^ 48)) }
 {
     let device = open_device(rt, alloc, plan.folder, err)?;
-    let server = revive_folder::<M, L, E>(alloc, plan, device, socket, log, err)?;
+    let server = revive_folder::<M, L, E>(alloc, plan, device, outside, socket, log, err)?;
     serve_turns(server, plan, log, err)
 }
 
@@ -251,9 +264,10 @@ fn serve<M: Machine, R: Files<File = File> + Net, L: Log, E: Write>(
 ) -> Result<(), ServiceFault>
     ensures { OnOk result (Serves ⟦<Replica<M, FolderDisk> as NodeReplica>⟧.Says plan.now.header (2 ^ 48)) }
 {
-    let socket = open_socket(rt, plan.port.get(), err)?;
+    let (outside, place) = outside_of(rt, alloc, &plan.header, plan.port, &plan.away, err)?;
+    let socket = open_socket_at(rt, place, err)?;
     let _lock = FolderLock::take(rt, alloc, plan.folder, err)?;
-    serve_folder::<M, R, L, E>(rt, alloc, plan, socket, log, err)
+    serve_folder::<M, R, L, E>(rt, alloc, plan, outside, socket, log, err)
 }
 
 /// The port at which the members have the node, where they do.

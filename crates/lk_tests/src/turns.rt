@@ -5,6 +5,7 @@ use lk_locks::LockTable;
 use lk_replica::{Post, ReplicaFault, SendFault};
 use lk_server::ear::Ear;
 use lk_server::node_replica::NodeReplica;
+use lk_server::outside::Outside;
 use lk_server::server::{Server, node_turn};
 use lk_server::sight::Sight;
 use lk_server::socket::Datagrams;
@@ -138,7 +139,7 @@ fn server(
         after: sight_of(after)?,
     };
     let node = NodeNo::of(1).ok_or("node")?;
-    Ok(Server::new(alloc, 5, node, told, Waiting))
+    Ok(Server::new(alloc, 5, node, Outside::local(5, node), told, Waiting))
 }
 
 // What a turn logs whose replica ends so, and is seen so before and after it.

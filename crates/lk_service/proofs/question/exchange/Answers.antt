@@ -10,7 +10,7 @@ receives-init g c = (
   λ tells. (
     [],
     refl,
-    (g.S.Datagrams.sent c.send.new.socket, g.S.Datagrams.failures c.send.new.socket, rw c.deref.ensures at (c.send.ensures tells), (refl, refl)),
+    (g.S.Datagrams.sent c.send.new.socket, g.S.Datagrams.failures c.send.new.socket, rw c.deref.ensures.value at (c.send.ensures tells), (refl, refl)),
   ),
   λ tells. record { states = []; are = refl; chain = refl },
 )
@@ -23,9 +23,9 @@ receives-preserved g c = (
       sends_further c.args.question.now.port c.receives.followed (followed_to heard.heard c.receives.followed) c.in_ok-bytes.bytes.items c.deref-in-receives.result.now
       (g.S.Datagrams.sent c.args.socket.now) (g.S.Datagrams.failures c.args.socket.now) (g.S.Datagrams.sent c.receives.socket) (g.S.Datagrams.failures c.receives.socket)
       (g.S.Datagrams.sent c.take_next-reply.new.socket) (g.S.Datagrams.failures c.take_next-reply.new.socket) c.take_next-reply.new.followed
-      c.deref-in-receives.ensures heard.follows (c.receives.invariant.1 tells) heard.sends,
+      c.deref-in-receives.ensures.value heard.follows (c.receives.invariant.1 tells) heard.sends,
   λ tells.
-      receives_more c.take_next-reply.result (sym c.is_some.ensures ∙ c.if-is_some.false) c.deref-in-receives.ensures
+      receives_more c.take_next-reply.result (sym c.is_some.ensures ∙ c.if-is_some.false) c.deref-in-receives.ensures.value
       (c.receives.invariant.2 tells) (c.take_next-reply.ensures.heard tells),
 )
 
@@ -35,7 +35,7 @@ returns-then-is_some-clause-sends g c tells =
     let more = sends_further c.args.question.now.port c.receives.followed (followed_to heard.heard c.receives.followed) c.in_ok-bytes.bytes.items c.deref-in-receives.result.now
     (g.S.Datagrams.sent c.args.socket.now) (g.S.Datagrams.failures c.args.socket.now) (g.S.Datagrams.sent c.receives.socket) (g.S.Datagrams.failures c.receives.socket)
     (g.S.Datagrams.sent c.take_next-reply.new.socket) (g.S.Datagrams.failures c.take_next-reply.new.socket) c.take_next-reply.new.followed
-    c.deref-in-receives.ensures heard.follows (c.receives.invariant.1 tells) heard.sends in (
+    c.deref-in-receives.ensures.value heard.follows (c.receives.invariant.1 tells) heard.sends in (
       c.in_ok-bytes.bytes.items,
       more.0,
       c.in_ok-bytes.ensures.asks,
@@ -48,9 +48,9 @@ returns-then-is_some-clause-hears g c tells = record {
   bytes = c.in_ok-bytes.bytes.items;
   spelled = c.in_ok-bytes.ensures.asks;
   begun = c.send.new.socket;
-  asks = rw c.deref.ensures at (c.send.ensures tells);
+  asks = rw c.deref.ensures.value at (c.send.ensures tells);
   followed = c.take_next-reply.new.followed;
-  waits = receives_told c.take_next-reply.result (sym c.is_some.ensures ∙ c.if-is_some.true) c.deref-in-receives.ensures c.receives-test.true
+  waits = receives_told c.take_next-reply.result (sym c.is_some.ensures ∙ c.if-is_some.true) c.deref-in-receives.ensures.value c.receives-test.true
       (c.receives.invariant.2 tells) (c.take_next-reply.ensures.heard tells);
 }
 
@@ -61,7 +61,7 @@ returns-clause-hears g c tells =
       bytes = c.in_ok-bytes.bytes.items;
       spelled = c.in_ok-bytes.ensures.asks;
       begun = c.send.new.socket;
-      asks = rw c.deref.ensures at (c.send.ensures tells);
+      asks = rw c.deref.ensures.value at (c.send.ensures tells);
       followed = c.receives.followed;
       waits = receives_none all (c.receives.invariant.2 tells);
     }

@@ -11,6 +11,7 @@ returns g c = on_ok_weaker c.serve_turns.result (λ served. record {
     replica = c.in_ok-server.ensures.ready;
     alive = c.in_ok-server.ensures.alive;
     own = c.in_ok-server.ensures.own;
+    seals = c.in_ok-server.ensures.seals;
   };
   turns = served.1;
 }) c.serve_turns.ensures

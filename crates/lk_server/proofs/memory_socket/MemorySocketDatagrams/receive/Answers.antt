@@ -8,6 +8,6 @@ returns-clause-some c telling =
     let told = c.in-Some.told in
     let n = c.cut-length.result in
     let long : c.len.result ≡ length told.bytes.items = search rules in
-    let few : n ≡ min (length told.bytes.items) 8193 = c.cut-length.ensures ∙ ap (λ (k : ℕ). min k 8193) long in
+    let few : n ≡ min (length told.bytes.items) 8229 = c.cut-length.ensures ∙ ap (λ (k : ℕ). min k 8229) long in
     let copied = c.copy_from_slice.ensures.after ∙ ap (λ (bs : List ℕ). take n bs) c.deref.ensures.value in
     ap next_in c.in-Some.ensures.items ∙ ap (λ (bs : List ℕ). Some (told.place, bs)) (sym (heard_so told.bytes.items c.copy_from_slice.new.self (drop n c.args.buffer.now) n few copied))

@@ -2,5 +2,5 @@
 use Rattle.std.proofs.Common.{rules}
 use Rattle.lk_server.proofs.post.SocketPost.carry.Goals as goal
 
-pub returns-in-Err-clause-cause : goal.returns-in-Err-clause-cause
-returns-in-Err-clause-cause g c = search rules
+pub returns-in-Err-sent-clause-cause : goal.returns-in-Err-sent-clause-cause
+returns-in-Err-sent-clause-cause g c = search rules

@@ -1,4 +1,4 @@
-use Rattle.std.proofs.Common.{rules, ◌≡◌, ◌∙◌, sym, refl}
+use Rattle.std.proofs.Common.{rules, ◌≡◌, ◌∙◌, refl}
 use Rattle.lk_server.specs.Posts.{tray_of}
 use Rattle.lk_server.specs.Servers.{tray_at}
 use Rattle.lk_server.proofs.Carrying.{same_node, same_addresses, hands_on_one}

@@ -1,0 +1,3 @@
+mod Bits
+pub mod FrameLaws
+pub mod VouchLaws

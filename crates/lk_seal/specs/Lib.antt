@@ -1,0 +1,4 @@
+pub mod Hmac
+pub mod Frames
+pub mod Seals
+pub mod Vouching

@@ -1,0 +1,139 @@
+//! The frame of a datagram: 36 bytes with the tag, and the datagram as it is.
+
+ghost use Rattle.std.specs.Prelude.{◌≡◌, ◌↔◌, ℕ, List, IsTrue, length, Some, None, OnOk, IfSome, IsNone};
+ghost use Rattle.lk_seal.specs.Frames.{label, head, front, seal_tag, sealed, opened};
+
+use crate::key::Key;
+use crate::mac::{TAG, tag_of};
+use std::alloc::AllocError;
+
+/// The bytes in front of the tag.
+const HEAD: usize = 4;
+
+/// The bytes of a frame beside its datagram.
+pub const OVERHEAD: usize = HEAD + TAG;
+
+/// The bytes that are tagged in front of a datagram.
+const FRONT: usize = 28;
+
+/// For what a frame is.
+#[derive(Clone, Copy, PartialEq, Eq)]
+pub enum Purpose {
+    /// A node says it to a node.
+    ToNode,
+    /// A client asks.
+    Asking,
+    /// A node replies to a client.
+    Replying,
+}
+
+/// What a tag vouches for beside the datagram: for what it is, in which cluster, and for which node, or 0.
+#[derive(Clone, Copy)]
+pub struct Scope {
+    pub purpose: Purpose,
+    pub cluster: u64,
+    pub bound: u32,
+}
+
+impl Purpose {
+    /// 16 letters.
+    fn label(self) -> [u8; 16]
+        ensures { result ≡ label self }
+    {
+        match self {
+            Purpose::ToNode => *b"locks v1 to node",
+            Purpose::Asking => *b"locks v1 request",
+            Purpose::Replying => *b"locks v1 replies",
+        }
+    }
+
+    /// What a frame begins with.
+    fn head(self) -> [u8; HEAD]
+        ensures { result ≡ head self }
+    {
+        let purpose = match self {
+            Purpose::ToNode => 1,
+            Purpose::Asking => 2,
+            Purpose::Replying => 3,
+        };
+        [b'L', b'S', 1, purpose]
+    }
+}
+
+/// What is tagged in front of a datagram.
+#[tactic(auto, unfolding(crate::specs::Frames::front))]
+fn front_of(scope: &Scope) -> [u8; FRONT]
+    ensures { result ≡ front scope.now }
+{
+    let mut bytes = [0; FRONT];
+    bytes[..16].copy_from_slice(&scope.purpose.label());
+    bytes[16..24].copy_from_slice(&scope.cluster.to_be_bytes());
+    bytes[24..].copy_from_slice(&scope.bound.to_be_bytes());
+    bytes
+}
+
+/// The tag of a datagram.
+#[tactic(auto, unfolding(crate::specs::Frames::seal_tag))]
+fn tag_in(key: &Key, scope: &Scope, datagram: &[u8]) -> [u8; TAG]
+    ensures { result ≡ seal_tag key.now scope.now datagram.now }
+{
+    tag_of(key.bytes(), &front_of(scope), datagram)
+}
+
+/// Whether these are what a frame begins with.
+fn has_head(bytes: &[u8], purpose: Purpose) -> bool
+    ensures { IsTrue result ↔ (bytes.now ≡ head purpose) }
+{
+    let head = purpose.head();
+    bytes == head.as_slice()
+}
+
+/// Whether two tags are the same. It takes the same time for all that are not.
+fn is_same(left: &[u8; TAG], right: &[u8]) -> bool
+    requires { length right.now ≡ 32 }
+    ensures { IsTrue result ↔ (left.now ≡ right.now) }
+{
+    let mut difference = 0;
+    'bytes: for i in 0..TAG {
+        difference |= left[i] ^ right[i];
+    }
+    difference == 0
+}
+
+/// Puts the frame of a datagram in place of what stands there.
+#[tactic(auto, unfolding(crate::specs::Frames::sealed))]
+pub fn seal(
+    key: &Key,
+    scope: &Scope,
+    datagram: &[u8],
+    frame: &mut Vec<u8>,
+) -> Result<(), AllocError>
+    ensures ok { OnOk result (frame.new.items ≡ sealed key.now scope.now datagram.now) }
+{
+    let tag = tag_in(key, scope, datagram);
+    frame.clear();
+    frame.extend_from_slice(&scope.purpose.head())?;
+    frame.extend_from_slice(&tag)?;
+    frame.extend_from_slice(datagram)?;
+    Ok(())
+}
+
+/// The datagram of which these bytes are the frame.
+pub fn open<'a>(key: &Key, scope: &Scope, frame: &'a [u8]) -> Option<&'a [u8]>
+    ensures some { IfSome result (λ d. frame.now ≡ sealed key.now scope.now d.now) }
+    ensures none { IsNone result → (d : List ℕ) → frame.now ≡ sealed key.now scope.now d → ⊥ }
+    ensures opens { IfSome result (λ d. opened key.now scope.now frame.now ≡ Some d.now) }
+    ensures opens_not { IsNone result → opened key.now scope.now frame.now ≡ None }
+{
+    if frame.len() < OVERHEAD {
+        return None;
+    }
+    let datagram = &frame[OVERHEAD..];
+    if !has_head(&frame[..HEAD], scope.purpose) {
+        return None;
+    }
+    if !is_same(&tag_in(key, scope, datagram), &frame[HEAD..OVERHEAD]) {
+        return None;
+    }
+    Some(datagram)
+}

@@ -1,0 +1,76 @@
+ghost use Rattle.std.specs.Prelude.{◌≡◌, ◌≢◌, ◌↔◌, [], ℕ, List, Some, None, IsTrue, IfSome, IsNone, IfOk, IsErr};
+ghost use Rattle.lk_seal.specs.Seals.{key_list, opened_by, framed_by};
+
+use crate::frame::{Scope, open, seal};
+use crate::key::Key;
+use std::alloc::AllocError;
+
+/// No key, one, or two while keys are changed: the first seals, and each of them opens.
+#[derive(Clone, Copy)]
+pub enum Keys {
+    NoKey,
+    One(Key),
+    Two(Key, Key),
+}
+
+impl Keys {
+    /// There is none.
+    pub fn is_none(&self) -> bool
+        ensures { IsTrue result ↔ (key_list self.now ≡ []) }
+    {
+        matches!(self, Keys::NoKey)
+    }
+
+    /// Whether it is one of them.
+    fn has(&self, key: &Key) -> bool {
+        match self {
+            Keys::NoKey => false,
+            Keys::One(own) => own.is_same(key),
+            Keys::Two(first, second) => first.is_same(key) || second.is_same(key),
+        }
+    }
+
+    /// Whether a key is one of these and one of those.
+    pub fn meets(&self, others: &Keys) -> bool {
+        match others {
+            Keys::NoKey => false,
+            Keys::One(key) => self.has(key),
+            Keys::Two(first, second) => self.has(first) || self.has(second),
+        }
+    }
+
+    /// What a frame opens to under the first of them that opens it.
+    pub fn open<'a>(&self, scope: &Scope, frame: &'a [u8]) -> Option<&'a [u8]>
+        ensures some { IfSome result (λ d. opened_by (key_list self.now) scope.now frame.now ≡ Some d.now) }
+        ensures none { IsNone result → opened_by (key_list self.now) scope.now frame.now ≡ None }
+    {
+        match self {
+            Keys::NoKey => None,
+            Keys::One(key) => open(key, scope, frame),
+            Keys::Two(first, second) => match open(first, scope, frame) {
+                Some(datagram) => Some(datagram),
+                None => open(second, scope, frame),
+            },
+        }
+    }
+
+    /// What is sent of a datagram: its frame, and where there is no key the datagram as it is. The frame is put in place of what
+    /// stands there.
+    pub fn frame_of<'a>(
+        &self,
+        scope: &Scope,
+        datagram: &'a [u8],
+        frame: &'a mut Vec<u8>,
+    ) -> Result<&'a [u8], AllocError>
+        ensures ok { IfOk result (λ f. f.now ≡ framed_by (key_list self.now) scope.now datagram.now) }
+        ensures refused { IsErr result → key_list self.now ≢ [] }
+    {
+        match self {
+            Keys::NoKey => Ok(datagram),
+            Keys::One(key) | Keys::Two(key, _) => {
+                seal(key, scope, datagram, frame)?;
+                Ok(frame.as_slice())
+            }
+        }
+    }
+}

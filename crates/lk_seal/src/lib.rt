@@ -1,0 +1,20 @@
+//! Seals of datagrams: who has the key made them, and for whom.
+#![tactic(auto)]
+
+mod asker;
+mod frame;
+mod key;
+mod keys;
+pub mod laws;
+mod mac;
+mod seals;
+
+pub use asker::AskerSeals;
+pub use frame::{OVERHEAD, Purpose, Scope, open, seal};
+pub use key::{KEY, Key};
+pub use keys::Keys;
+pub use mac::{TAG, tag};
+pub use seals::Seals;
+
+#[cfg(test)]
+mod tests;

@@ -1,0 +1,16 @@
+-- What a server is given where the nodes have a key.
+use Rattle.std.specs.Prelude.{◌≡◌, ◌⊎◌, ℕ, List}
+use Rattle.lk_types.specs.declared.command.Request.{Request}
+use Rattle.lk_wire.specs.Grammar.{Spells}
+use Rattle.lk_wire.specs.declared.message.Message.{Message}
+use Rattle.lk_wire.specs.declared.message.Content.TheVariants as content
+use Rattle.lk_seal.specs.Seals.{key_list, to_node, heard, IsSealedBy}
+use Rattle.lk_seal.specs.declared.seals.Seals.{Seals}
+
+-- no node says that: it spells a client's request, or nothing
+abbrev pub IsFree : List ℕ → Type 0
+IsFree bytes = (m : Message) → Spells m bytes → (r : Request) × (m.content ≡ content.Request r)
+
+-- what is taken of a frame was sealed for this node by someone who has a key of the nodes, or no node says it
+abbrev pub IsToldByANode : Seals → List ℕ → Type 0
+IsToldByANode s frame = IsSealedBy (key_list s.nodes) (to_node s.cluster s.node) frame (heard s frame) ⊎ IsFree (heard s frame)

@@ -1,0 +1,27 @@
+//! What a node knows of the machines outside: where the nodes live, and by which keys it knows who wrote.
+
+use crate::hosts::Hosts;
+use lk_seal::{Keys, Seals};
+use lk_types::NodeNo;
+
+/// Where the nodes live, and by which keys a node knows who wrote.
+#[derive(Drop)]
+pub struct Outside {
+    pub hosts: Hosts,
+    pub seals: Seals,
+}
+
+impl Outside {
+    /// All nodes live at 127.0.0.1, and nobody has a key.
+    pub fn local(cluster: u64, node: NodeNo) -> Outside {
+        Outside {
+            hosts: Hosts::Local,
+            seals: Seals {
+                cluster,
+                node: node.get(),
+                nodes: Keys::NoKey,
+                clients: Keys::NoKey,
+            },
+        }
+    }
+}

@@ -1,0 +1,16 @@
+-- By which machines a node is reached.
+use Rattle.std.specs.Prelude.{◌≡◌, ◌≢◌, ◌⊎◌, []}
+use Rattle.std.specs.Net.Addr.{MatchIp, IsLoopbackV4, IsLoopbackV6}
+use Rattle.std.specs.Net.Socket.{socket_ip}
+use Rattle.std.specs.declared.net.ip_addr.IpAddr.{IpAddr}
+use Rattle.std.specs.declared.net.socket_addr.SocketAddr.{SocketAddr}
+use Rattle.lk_seal.specs.Seals.{key_list}
+use Rattle.lk_seal.specs.declared.seals.Seals.{Seals}
+
+-- no other machine reaches it
+abbrev pub IsOfThisMachine : IpAddr → Type 0
+IsOfThisMachine a = MatchIp a IsLoopbackV4 IsLoopbackV6
+
+-- no other machine reaches the address, or the nodes have a key
+abbrev pub IsReachedWithKey : Seals → SocketAddr → Type 0
+IsReachedWithKey s place = IsOfThisMachine (socket_ip place) ⊎ (key_list s.nodes ≢ [])

@@ -1,0 +1,281 @@
+//! Where the nodes of a cluster live, and the keys by which they know each other, from the files that a command line names.
+
+ghost use Rattle.std.specs.Prelude.{IfOk};
+ghost use Rattle.lk_service.specs.Guards.{IsReachedWithKey};
+ghost use Rattle.lk_service.specs.Turns.{AreSealsOf};
+
+use crate::causes::tell_cause;
+use crate::far::Far;
+use lk_entries::Header;
+use lk_seal::{AskerSeals, KEY, Key, Keys, Seals};
+use lk_server::fault::ServiceFault;
+use lk_server::hosts::Hosts;
+use lk_server::outside::Outside;
+use lk_types::{NodeNo, Port};
+use lk_words::operation::node_of;
+use lk_words::word::split_word;
+use std::alloc::Global;
+use std::fs::{File, Files, OpenOptions};
+use std::io;
+use std::io::{Read, Write};
+use std::net::{IpAddr, Ipv4Addr, SocketAddr};
+use std::os::unix::fs::PermissionsExt;
+
+/// What a command line says of the machines outside: the file of the hosts, the address at which the node listens, and the files of the
+/// keys.
+#[derive(Clone, Copy)]
+pub struct Away<'a> {
+    pub hosts: Option<&'a str>,
+    pub bind: Option<IpAddr>,
+    pub key: Option<&'a str>,
+    pub client_key: Option<&'a str>,
+}
+
+/// The bits of a file's mode that let others than its owner have it.
+const OTHERS: u32 = 0o077;
+
+/// A file to read.
+fn open<R: Files<File = File>>(rt: &R, path: &str) -> io::Result<File> {
+    let mut how = OpenOptions::new();
+    how.read(true);
+    how.open(rt, path)
+}
+
+/// The bytes of a file. It refuses with `CannotOpen`, and a line tells why; also where others may have it, if it is to be secret.
+fn bytes_of<R: Files<File = File>, E: Write>(
+    rt: &R,
+    alloc: Global,
+    path: &str,
+    is_secret: bool,
+    err: &mut E,
+) -> Result<Vec<u8>, ServiceFault> {
+    let mut file = match open(rt, path) {
+        Ok(file) => file,
+        Err(error) => return Err(tell_cause(path, error, err)),
+    };
+    if is_secret {
+        match file.metadata() {
+            Ok(data) if data.permissions().mode() & OTHERS == 0 => {}
+            Ok(_) => return Err(tell_cause(path, "others than its owner may have it", err)),
+            Err(error) => return Err(tell_cause(path, error, err)),
+        }
+    }
+    let mut bytes = Vec::new(alloc);
+    match file.read_to_end(&mut bytes) {
+        Ok(_) => Ok(bytes),
+        Err(error) => Err(tell_cause(path, error, err)),
+    }
+}
+
+/// A line of the hosts: NODE ADDRESS.
+fn host_of(line: &[u8]) -> Option<(NodeNo, IpAddr)> {
+    let (node, address) = split_word(line)?;
+    let node = node_of(node)?;
+    match IpAddr::parse_ascii(address) {
+        Ok(address) => Some((node, address)),
+        Err(_) => None,
+    }
+}
+
+/// Whether a line may stand behind the last one.
+fn follows(last: Option<&(NodeNo, IpAddr)>, host: &(NodeNo, IpAddr)) -> bool {
+    match last {
+        Some(last) => last.0 < host.0 && last.1.is_ipv4() == host.1.is_ipv4(),
+        None => true,
+    }
+}
+
+/// Whether a line says nothing.
+fn is_idle(line: &[u8]) -> bool {
+    line.is_empty() || line[0] == b'#'
+}
+
+/// The lines of hosts, or the number of the first that is none. The nodes rise, and their addresses are of one family.
+fn read_hosts(
+    alloc: Global,
+    text: &[u8],
+) -> Result<Result<Vec<(NodeNo, IpAddr)>, u32>, ServiceFault> {
+    let mut hosts: Vec<(NodeNo, IpAddr)> = Vec::new(alloc);
+    let mut number = 0u32;
+    for line in text.split(|byte| *byte == b'\n') {
+        number = number.saturating_add(1);
+        if is_idle(line) {
+            continue;
+        }
+        match host_of(line) {
+            Some(host) if follows(hosts.last(), &host) => hosts.push(host)?,
+            _ => return Ok(Err(number)),
+        }
+    }
+    Ok(Ok(hosts))
+}
+
+/// A line of keys: 64 hex digits.
+fn key_of(line: &[u8]) -> Option<Key> {
+    let mut bytes = [0; KEY];
+    match hex::decode_to_slice(line, &mut bytes) {
+        Ok(()) => Some(Key::of(bytes)),
+        Err(_) => None,
+    }
+}
+
+/// One key or two.
+fn read_keys(text: &[u8]) -> Option<Keys> {
+    let mut keys = Keys::NoKey;
+    for line in text.split(|byte| *byte == b'\n') {
+        if is_idle(line) {
+            continue;
+        }
+        let Some(key) = key_of(line) else {
+            return None;
+        };
+        keys = match keys {
+            Keys::NoKey => Keys::One(key),
+            Keys::One(first) => Keys::Two(first, key),
+            Keys::Two(_, _) => return None,
+        };
+    }
+    match keys {
+        Keys::NoKey => None,
+        keys => Some(keys),
+    }
+}
+
+/// Where the nodes live.
+fn hosts_in<R: Files<File = File>, E: Write>(
+    rt: &R,
+    alloc: Global,
+    path: Option<&str>,
+    err: &mut E,
+) -> Result<Hosts, ServiceFault> {
+    let Some(path) = path else {
+        return Ok(Hosts::Local);
+    };
+    let text = bytes_of(rt, alloc, path, false, err)?;
+    match read_hosts(alloc, &text)? {
+        Ok(lines) => Ok(Hosts::Listed(lines)),
+        Err(number) => {
+            let _ = writeln!(err, "{path}: line {number} is not NODE ADDRESS");
+            Err(ServiceFault::CannotOpen)
+        }
+    }
+}
+
+/// The keys of a file, and none where no file is named.
+fn keys_in<R: Files<File = File>, E: Write>(
+    rt: &R,
+    alloc: Global,
+    path: Option<&str>,
+    err: &mut E,
+) -> Result<Keys, ServiceFault> {
+    let Some(path) = path else {
+        return Ok(Keys::NoKey);
+    };
+    let text = bytes_of(rt, alloc, path, true, err)?;
+    match read_keys(&text) {
+        Some(keys) => Ok(keys),
+        None => Err(tell_cause(path, "its lines are not one key or two", err)),
+    }
+}
+
+/// At which address a node listens.
+fn place_of<E: Write>(
+    header: &Header,
+    hosts: &Hosts,
+    path: Option<&str>,
+    bind: Option<IpAddr>,
+    err: &mut E,
+) -> Result<IpAddr, ServiceFault> {
+    match bind {
+        Some(address) => Ok(address),
+        None => match hosts.address(header.node()) {
+            Some(address) => Ok(address),
+            None => {
+                let _ = writeln!(
+                    err,
+                    "{}: no line of node {}, and no --bind",
+                    path.unwrap_or(""),
+                    header.node().get()
+                );
+                Err(ServiceFault::CannotOpen)
+            }
+        },
+    }
+}
+
+/// Where the nodes live, the keys, and at which address the node listens.
+pub fn outside_of<R: Files<File = File>, E: Write>(
+    rt: &R,
+    alloc: Global,
+    header: &Header,
+    port: Port,
+    away: &Away<'_>,
+    err: &mut E,
+) -> Result<(Outside, SocketAddr), ServiceFault> // They are the seals of this node in its cluster.
+    ensures seals { IfOk result (λ r. AreSealsOf header.now r.0.seals) }
+    // Where other machines may reach the address, the nodes have a key.
+    ensures guarded { IfOk result (λ r. IsReachedWithKey r.0.seals r.1) }
+{
+    let hosts = hosts_in(rt, alloc, away.hosts, err)?;
+    let nodes = keys_in(rt, alloc, away.key, err)?;
+    let clients = keys_in(rt, alloc, away.client_key, err)?;
+    let address = place_of(header, &hosts, away.hosts, away.bind, err)?;
+    if nodes.is_none() && !clients.is_none() {
+        return Err(tell_cause(
+            away.client_key.unwrap_or(""),
+            "the clients' key, and the nodes have none",
+            err,
+        ));
+    }
+    if nodes.meets(&clients) {
+        return Err(tell_cause(
+            away.client_key.unwrap_or(""),
+            "a key of the nodes and of the clients",
+            err,
+        ));
+    }
+    if nodes.is_none() && !address.is_loopback() {
+        return Err(tell_cause(
+            SocketAddr::from((address, port.get())),
+            "no key, and other machines reach it",
+            err,
+        ));
+    }
+    if clients.is_none() && !address.is_loopback() {
+        let _ = writeln!(
+            err,
+            "warning: other machines reach {address}, and clients have no key"
+        );
+    }
+    let seals = Seals {
+        cluster: header.genesis().cluster,
+        node: header.node().get(),
+        nodes,
+        clients,
+    };
+    Ok((
+        Outside { hosts, seals },
+        SocketAddr::from((address, port.get())),
+    ))
+}
+
+/// Where a client asks, and its keys.
+pub fn far_of<R: Files<File = File>, E: Write>(
+    rt: &R,
+    alloc: Global,
+    cluster: u64,
+    away: &Away<'_>,
+    err: &mut E,
+) -> Result<Far, ServiceFault> {
+    let hosts = hosts_in(rt, alloc, away.hosts, err)?;
+    let keys = keys_in(rt, alloc, away.client_key, err)?;
+    let address = match away.bind {
+        Some(address) => address,
+        None => IpAddr::V4(Ipv4Addr::LOCALHOST),
+    };
+    Ok(Far {
+        address,
+        hosts,
+        seals: AskerSeals { cluster, keys },
+    })
+}
