@@ -1,13 +1,12 @@
 #!/usr/bin/env python3
-"""Three nodes on three machines: elect, grant, cut the leader off, go on, heal, forge, lose and delay datagrams.
-
-    bench/machines.py PROGRAM [--loopback]
+"""Runs three nodes on three machines: elects, grants, cuts the leader off, goes on, heals, forges, loses and delays datagrams.
 
 A machine is a network namespace of its own, joined to the others by a bridge that stands in a fourth; nothing leaves them. Where
 namespaces are not allowed, or with --loopback, the machines are 127.0.0.1, 127.0.0.2 and 127.0.0.3, and a node is stopped in place of
 being cut off. The last line is `N passed, M failed`; the status is 0 where none failed.
 """
 
+import argparse
 import hashlib
 import hmac
 import os
@@ -24,7 +23,18 @@ CLUSTER, PORT, ALPHA = 5, 7101, 2
 NODES = (1, 2, 3)
 KEY, CLIENT_KEY = bytes([0x11]) * 32, bytes([0x22]) * 32
 LABELS = {1: b"locks v1 to node", 2: b"locks v1 request", 3: b"locks v1 replies"}
-passed, failed = 0, 0
+
+
+class Score:
+    """How many checks passed, and how many failed."""
+
+    def __init__(self):
+        self.passed = self.failed = 0
+
+    def check(self, name, is_well, more=""):
+        """Counts a check, and prints it."""
+        self.passed, self.failed = self.passed + bool(is_well), self.failed + (not is_well)
+        print(f"{'ok' if is_well else 'FAILED'}: {name}{more and ': '}{more}", flush=True)
 
 
 def seal(key, purpose, bound, datagram, cluster=CLUSTER):
@@ -43,12 +53,6 @@ def acquire(client, number, name):
     """A Request to acquire a name."""
     body = bytes([1, len(name)]) + name
     return b"LK\1\11" + CLUSTER.to_bytes(8, "big") + bytes(4) + client.to_bytes(2, "big") + number.to_bytes(8, "big") + bytes([0, len(body)]) + body
-
-
-def check(name, is_well, more=""):
-    global passed, failed
-    passed, failed = passed + bool(is_well), failed + (not is_well)
-    print(f"{'ok' if is_well else 'FAILED'}: {name}{more and ': '}{more}", flush=True)
 
 
 def run(*words):
@@ -212,98 +216,130 @@ def until(seconds, is_so):
     return None, seconds
 
 
-def tell_story(cluster, world):
+def elect(cluster, score):
+    """The nodes start, and grant a lock."""
     for node in NODES:
         cluster.start(node)
     found, took = until(10, lambda: cluster.leader()[1])
-    check("a leader is elected", found, f"node {found} after {took:.1f} s")
-    check("a client with the key is granted a lock", cluster.ask(1, "acquire", "db") == "granted 1")
+    score.check("a leader is elected", found, f"node {found} after {took:.1f} s")
+    score.check("a client with the key is granted a lock", cluster.ask(1, "acquire", "db") == "granted 1")
     told = [until(10, lambda: cluster.ask(it, "ask", "db") == "held 7 1")[0] for it in NODES]
-    check("from any node, by an Elsewhere across machines", all(told))
+    score.check("any node answers, or names the leader on another machine", all(told))
 
-    # cut off
+
+def cut_off(cluster, world, score):
+    """The leader is cut off, and comes back."""
     leader = cluster.leader()[1]
     others = [it for it in NODES if it != leader]
     world.cut(leader, cluster.processes[leader])
-    began = time.time()
     found, took = until(20, lambda: cluster.ask(others[0], "release", "db", "1") in ("released", "not held"))
-    check("the others go on without their leader", found, f"after {time.time() - began:.1f} s")
-    check("and grant a higher fence", cluster.ask(others[1], "acquire", "db") == "granted 2")
+    score.check("the others go on without their leader", found, f"after {took:.1f} s")
+    score.check("and grant a higher fence", cluster.ask(others[1], "acquire", "db") == "granted 2")
     world.heal(leader, cluster.processes[leader])
     found, took = until(20, lambda: cluster.ask(leader, "ask", "db") == "held 7 2")
-    check("the former leader, joined again, knows it", found, f"after {took:.1f} s")
+    score.check("the former leader knows of it once it is back", found, f"after {took:.1f} s")
 
-    # forged
-    time.sleep(1)
-    round, leader = cluster.leader()
-    follower = next(it for it in NODES if it != leader)
-    ballot = prepare(round + 1, follower, 1 + max(int(it) for it in re.findall(r"ran (\d+)", cluster.log(leader))))
-    other_key = bytes([0x33]) * 32
-    frames = {
+
+def forged(ballot, leader, follower):
+    """Frames that a node has to drop, by what is wrong with each."""
+    good = seal(KEY, 1, leader, ballot)
+    return {
         "a Prepare without a seal": ballot,
-        "under another key": seal(other_key, 1, leader, ballot),
+        "under another key": seal(bytes([0x33]) * 32, 1, leader, ballot),
         "under the clients' key": seal(CLIENT_KEY, 1, leader, ballot),
         "as a client's request under the clients' key": seal(CLIENT_KEY, 2, 0, ballot),
         "sealed for another node": seal(KEY, 1, follower, ballot),
         "sealed in another cluster": seal(KEY, 1, leader, ballot, cluster=6),
-        "with a bit changed": seal(KEY, 1, leader, ballot)[:-1] + bytes([seal(KEY, 1, leader, ballot)[-1] ^ 1]),
-        "cut": seal(KEY, 1, leader, ballot)[:-1],
-        "with a byte behind": seal(KEY, 1, leader, ballot) + b"\0",
-        "of the tag alone": seal(KEY, 1, leader, ballot)[:36],
+        "with a bit changed": good[:-1] + bytes([good[-1] ^ 1]),
+        "cut": good[:-1],
+        "with a byte after it": good + b"\0",
+        "the tag alone": good[:36],
     }
-    for name, frame in frames.items():
+
+
+def forge(cluster, score):
+    """An outsider sends what it has forged, and then what is right: a node that hears nothing does not pass."""
+    time.sleep(1)
+    term, leader = cluster.leader()
+    follower = next(it for it in NODES if it != leader)
+    ballot = prepare(term + 1, follower, 1 + max(int(it) for it in re.findall(r"ran (\d+)", cluster.log(leader))))
+    for name, frame in forged(ballot, leader, follower).items():
         back = cluster.send(leader, frame)
-        check(f"dropped: {name}", not back and cluster.leader() == (round, leader))
-    unsealed = cluster.send(leader, acquire(8, 1, b"x"))
-    check("a client without the key is not heard", not unsealed)
-    wrong = cluster.send(leader, seal(KEY, 2, 0, acquire(8, 1, b"x")))
-    check("nor one with the nodes' key in its place", not wrong)
-    right = cluster.send(leader, seal(CLIENT_KEY, 2, 0, acquire(8, 1, b"x")))
-    body = right and bytes.fromhex(right[0])[36:]
-    check("one with the key is, and its reply is sealed", right and bytes.fromhex(right[0]) == seal(CLIENT_KEY, 3, 0, body) and body[:4] == b"LK\1\12")
-    check("ask without the key has no answer", cluster.ask(leader, "ask", "db", key=None) == "no answer")
-    # what is sealed with the key for the right node is heard: the checks above are not passed by a node that hears nothing
+        score.check(f"dropped: {name}", not back and cluster.leader() == (term, leader))
     ends = cluster.log(leader).count(f"ended by Prepare of node {follower}")
     cluster.send(leader, seal(KEY, 1, leader, ballot))
-    found, took = until(5, lambda: cluster.log(leader).count(f"ended by Prepare of node {follower}") > ends)
-    check("with the key and for that node it is taken", found)
+    found, _ = until(5, lambda: cluster.log(leader).count(f"ended by Prepare of node {follower}") > ends)
+    score.check("with the key and for that node it is taken", found)
 
-    # lost and late
+
+def ask_without_key(cluster, score):
+    """Only a client with the clients' key is answered."""
+    leader = cluster.leader()[1]
+    request = acquire(8, 1, b"x")
+    score.check("a client without the key is not heard", not cluster.send(leader, request))
+    score.check("nor one with the nodes' key in its place", not cluster.send(leader, seal(KEY, 2, 0, request)))
+    right = cluster.send(leader, seal(CLIENT_KEY, 2, 0, request))
+    body = right and bytes.fromhex(right[0])[36:]
+    score.check("one with the key is, and its reply is sealed", right and bytes.fromhex(right[0]) == seal(CLIENT_KEY, 3, 0, body) and body[:4] == b"LK\1\12")
+    score.check("ask without the key has no answer", cluster.ask(leader, "ask", "db", key=None) == "no answer")
+
+
+def is_worse(world):
+    """Whether a fifth of the datagrams is lost each way from now on, and others come late."""
     try:
-        is_worse = world.worsen("20%", ("20ms", "10ms"))
+        return world.worsen("20%", ("20ms", "10ms"))
     except subprocess.CalledProcessError as error:
-        is_worse = False
         print(f"no netem: {error.stderr.strip()}")
-    if is_worse:
-        fences, began = [], time.time()
-        for at in range(30):
-            for _ in range(4):
-                answer = cluster.ask(NODES[at % 3], "acquire", f"n{at}")
-                if answer.startswith("granted") or answer.startswith("busy"):
-                    break
-            fences.append(answer)
-        done = sum(it.startswith(("granted", "busy 7")) for it in fences)
-        check("30 locks where a fifth of the datagrams is lost each way", done == 30, f"{done} in {time.time() - began:.1f} s")
+        return False
+
+
+def ask_again(cluster, at):
+    """What acquiring a name is answered, within four tries."""
+    for _ in range(4):
+        answer = cluster.ask(NODES[at % 3], "acquire", f"n{at}")
+        if answer.startswith(("granted", "busy 7")):
+            return True
+    return False
+
+
+def lose(cluster, world, score):
+    """Datagrams are lost and late, where the kernel can do that."""
+    if is_worse(world):
+        began = time.time()
+        done = sum(ask_again(cluster, at) for at in range(30))
+        score.check("30 locks where a fifth of the datagrams is lost each way", done == 30, f"{done} in {time.time() - began:.1f} s")
         world.mend()
 
 
-def main(program, *flags):
-    world = machines("--loopback" in flags)
-    print(f"machines are {world.kind}")
+def tell_story(cluster, world, score):
+    """All of it, one after another."""
+    elect(cluster, score)
+    cut_off(cluster, world, score)
+    ask_without_key(cluster, score)
+    forge(cluster, score)
+    lose(cluster, world, score)
+
+
+def main():
+    parser = argparse.ArgumentParser(description=__doc__, formatter_class=argparse.RawDescriptionHelpFormatter)
+    parser.add_argument("program", help="the built program")
+    parser.add_argument("--loopback", action="store_true", help="use addresses of 127/8 and no namespaces")
+    parser.add_argument("--keep", action="store_true", help="keep the folder with the logs")
+    options = parser.parse_args()
+    world, score = machines(options.loopback), Score()
     folder = tempfile.mkdtemp(prefix="machines-")
-    cluster = Cluster(os.path.abspath(program), world, folder)
+    cluster = Cluster(os.path.abspath(options.program), world, folder)
+    print(f"machines are {world.kind}; logs are in {folder}")
     try:
-        tell_story(cluster, world)
+        tell_story(cluster, world, score)
     finally:
         cluster.end()
         world.end()
-        if "--keep" not in flags:
+        if not options.keep:
             shutil.rmtree(folder)
-    print(f"{passed} passed, {failed} failed")
-    return failed > 0
+    print(f"{score.passed} passed, {score.failed} failed")
+    return score.failed > 0
 
 
 if __name__ == "__main__":
-    if len(sys.argv) < 2:
-        sys.exit(__doc__)
-    sys.exit(main(*sys.argv[1:]))
+    sys.exit(main())

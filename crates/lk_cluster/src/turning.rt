@@ -9,11 +9,12 @@ ghost use Rattle.lk_server.specs.Servers.{Turn, LastTurn};
 use lk_disk::LogDisk;
 use lk_entries::Header;
 use lk_locks::LockTable;
-use lk_replica::Replica;
+use lk_replica::{Replica, ReviveFault};
 use lk_server::ear::Ear;
 use lk_server::fault::ServiceFault;
 use lk_server::server::{Server, node_turn};
 use lk_server::socket::Datagrams;
+use lk_service::resources::Resources;
 use lk_service::running::revive;
 use log::Log;
 use std::alloc::Global;
@@ -37,13 +38,12 @@ pub fn turn<D: LogDisk + Drop, S: Datagrams + Drop, L: Log>(
 pub fn start<D: LogDisk + Drop, S: Datagrams + Drop, L: Log>(
     alloc: Global,
     header: &Header,
-    device: D,
-    socket: S,
+    resources: Resources<D, S>,
     log: &L,
-) -> Result<Server<Replica<LockTable, D>, S>, ServiceFault>
-    ensures { D.is_honest → (genesis : GenesisValue) → header.now ≡ header_of genesis header.now.node → IfOk result (IsBegun genesis header.now.node (D.disk device)) }
+) -> Result<Server<Replica<LockTable, D>, S>, ReviveFault<D>>
+    ensures { D.is_honest → (genesis : GenesisValue) → header.now ≡ header_of genesis header.now.node → IfOk result (IsBegun genesis header.now.node (D.disk resources.device)) }
 {
-    let server = revive::<LockTable, D, S, L>(alloc, header, device, socket, log)?;
+    let server = revive::<LockTable, D, S, L>(alloc, header, resources, log)?;
     let _ = server.replica();
     Ok(server)
 }

@@ -7,7 +7,7 @@ use lk_service::command_words::operation_of;
 use lk_service::far::Far;
 use lk_service::outside::Away;
 use lk_service::question::Question;
-use lk_service::running::NodePlan;
+use lk_service::resources::NodePlan;
 use lk_types::limits::{MAX_CLIENT, MAX_COUNT};
 use lk_types::{ClientNo, NodeNo, Op, Port, Request, RequestNumber};
 use lk_words::genesis::read_genesis;

@@ -21,9 +21,10 @@ use lk_service::demo::demo;
 use lk_service::dump::dump;
 use lk_service::outside::{Away, far_of};
 use lk_service::question::ask;
+use lk_service::resources::{NodePlan, open_resources};
 use lk_service::running::run_node;
 use log::sink::{Console, Discard};
-use log::{Level, Logged};
+use log::{Level, Log, Logged};
 use std::alloc::Global;
 use std::fs::{File, Files};
 use std::io;
@@ -54,6 +55,22 @@ fn folder_in<'a>(matches: &ArgMatches<'a>) -> &'a str {
     matches.get_str("dir").unwrap_or("")
 }
 
+/// Runs a node on the files of its folder and a socket of the system.
+fn run_plan<R: Files<File = File> + Net, L: Log, E: Write>(
+    rt: &R,
+    alloc: Global,
+    plan: &NodePlan<'_>,
+    log: &L,
+    err: &mut E,
+) -> u8
+    ensures { result ≤ 2 }
+{
+    match open_resources(rt, alloc, plan, err) {
+        Ok((resources, _lock)) => run_node::<LockTable, _, _, _, _>(alloc, plan, resources, log, err),
+        Err(fault) => fault.tell(err),
+    }
+}
+
 /// Runs a node.
 fn run_node_words<R: Files<File = File> + Net + Eprint, E: Write>(
     rt: &R,
@@ -66,11 +83,10 @@ fn run_node_words<R: Files<File = File> + Net + Eprint, E: Write>(
     let Some(plan) = node_plan(matches) else {
         return refuse_words(err);
     };
-    let Some(level) = level_of(matches) else {
-        return run_node::<LockTable, _, _, _>(rt, alloc, &plan, &Discard, err);
-    };
-    let log = Logged::new(rt, level, Console(rt));
-    run_node::<LockTable, _, _, _>(rt, alloc, &plan, &log, err)
+    match level_of(matches) {
+        None => run_plan(rt, alloc, &plan, &Discard, err),
+        Some(level) => run_plan(rt, alloc, &plan, &Logged::new(rt, level, Console(rt)), err),
+    }
 }
 
 /// The address of a client's socket: any of its machine, in the family of the node that it asks.

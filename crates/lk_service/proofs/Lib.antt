@@ -1,6 +1,5 @@
 mod Chaining
 mod Receiving
-mod Refusals
 mod Replying
 mod Sending
 mod Turning

@@ -12,25 +12,25 @@ use Rattle.lk_service.specs.Chains.{Repeats}
 use Rattle.lk_service.specs.Turns.{TakesTurn, BreaksOff}
 use Rattle.lk_service.proofs.Chaining.{repeats_more}
 
--- what a replica on the files of a folder says: of files that nobody proves honest nothing follows
-abbrev pub FolderSays : Meaning → (List ℕ → Type 0) → ReplicaValue → Option (List ℕ) → List LetterValue → ReplicaValue → Type 0
-FolderSays m IsText old bytes letters new = ⊥ → SaysOf m IsText ⊥ old bytes letters new
+-- what a replica on a device says, where that is honest
+abbrev pub SaysOn : Type 0 → Type 0 → Meaning → (List ℕ → Type 0) → ReplicaValue → Option (List ℕ) → List LetterValue → ReplicaValue → Type 0
+SaysOn honest metered m IsText old bytes letters new = honest → SaysOf m IsText metered old bytes letters new
 
 -- what stands whatever became of a call stands after a refusal
 pub on_err : {T E P : Type 0} (r : Result T E) → P → OnErr r P
 on_err (Ok x) p = tt
 on_err (Err e) p = p
 
-module _ {R : Type 0} {Says : R → Option (List ℕ) → List LetterValue → R → Type 0} {count : ℕ} {first last new : ServerValue R} (came : Option (SocketAddr × List ℕ)) where
+module _ {R : Type 0} {Says : R → Option (List ℕ) → List LetterValue → R → Type 0} {tells : Type 0} {count : ℕ} {first last new : ServerValue R} (came : Option (SocketAddr × List ℕ)) where
   -- one more turn was taken
-  pub turns_more : Repeats (TakesTurn Says) count first last → Turn Says ⊥ came last new → IsSameOutside last.addresses new.addresses → Repeats (TakesTurn Says) (count + 1) first new
+  pub turns_more : Repeats (TakesTurn Says tells) count first last → Turn Says tells came last new → IsSameOutside last.addresses new.addresses → Repeats (TakesTurn Says tells) (count + 1) first new
   turns_more so_far turn outside = repeats_more so_far (record { came = came; turn = turn; outside = outside })
 
   -- one ended the replica
-  pub turns_end : (most : ℕ) → count < most → Repeats (TakesTurn Says) count first last → LastTurn Says ⊥ came last new → IsSameOutside last.addresses new.addresses → BreaksOff Says most first new
+  pub turns_end : (most : ℕ) → count < most → Repeats (TakesTurn Says tells) count first last → LastTurn Says tells came last new → IsSameOutside last.addresses new.addresses → BreaksOff Says tells most first new
   turns_end most fewer so_far turn outside = record { count = count; fewer = fewer; last = last; turns = so_far; ends = record { came = came; turn = turn; outside = outside } }
 
 -- what follows of what stands after a refusal
-pub if_err_on : {T E P Q : Type 0} (r : Result T E) → (P → Q) → OnErr r P → OnErr r Q
-if_err_on (Ok x) f p = tt
-if_err_on (Err e) f p = f p
+pub on_err_weaker : {T E P Q : Type 0} (r : Result T E) → (P → Q) → OnErr r P → OnErr r Q
+on_err_weaker (Ok x) f p = tt
+on_err_weaker (Err e) f p = f p

@@ -1,20 +1,44 @@
 -- What a client asks, what it hears, and what it sends by that.
-use Rattle.std.specs.Net.Socket.{socket_port}
-use Rattle.std.specs.Prelude.{◌≡◌, ◌⊎◌, ◌+◌, ◌<◌, ℕ, nat_lt, Option, Some, None, List, [], ◌∷◌, ◌++◌, length, if◌then◌else◌}
+use Rattle.std.specs.Net.Socket.{socket_ip, socket_port}
+use Rattle.std.specs.Prelude.{◌≡◌, ◌⊎◌, ◌+◌, ◌<◌, ℕ, nat_lt, Bool, true, false, Option, Some, None, List, [], ◌∷◌, ◌++◌, length, if◌then◌else◌}
+use Rattle.std.specs.declared.net.ip_addr.IpAddr.{IpAddr}
 use Rattle.std.specs.declared.net.socket_addr.SocketAddr.{SocketAddr}
+use Rattle.lk_types.specs.declared.member.Member.{Member}
 use Rattle.lk_disk.specs.Disk.{one_more}
 use Rattle.lk_wire.specs.Grammar.{Spells}
 use Rattle.lk_wire.specs.declared.message.Content.TheVariants as content
 use Rattle.lk_wire.specs.declared.message.Message.{Message}
 use Rattle.lk_seal.specs.Seals.{key_list, framed_by, replied}
 use Rattle.lk_seal.specs.Seals as seals
+use Rattle.lk_server.specs.Hosts.{host_of}
 use Rattle.lk_service.specs.Chains.{Repeats}
 use Rattle.lk_service.specs.Replies.{reply_of}
+use Rattle.lk_service.specs.declared.far.Far.{Far}
 use Rattle.lk_service.specs.declared.question.Question.{Question}
 use Rattle.lk_service.specs.declared.question.Heard.{Heard}
 use Rattle.lk_service.specs.declared.question.Heard.TheVariants.{Nothing, Other, Reply}
 use Rattle.lk_service.specs.declared.reply.Reply.{Reply as ReplyValue}
 use Rattle.lk_service.specs.declared.reply.Reply.TheVariants.{Answer, Passed, Elsewhere}
+
+-- an address, and a port of it
+abbrev pub Place : Type 0
+Place = IpAddr × ℕ
+
+abbrev pub IsAt : Place → SocketAddr → Type 0
+IsAt p a = (socket_ip a ≡ p.0) × (socket_port a ≡ p.1)
+
+-- the address that is known, or else the other one
+abbrev pub known_or : Option IpAddr → IpAddr → IpAddr
+known_or (Some address) other = address
+known_or None other = other
+
+-- where a member is asked: where it lives, and where that is not known at the address that was asked first
+abbrev pub far_address : Far → Member → IpAddr
+far_address f m = known_or (host_of f.hosts m.node) f.address
+
+-- where the question is asked first
+abbrev pub first_place : Question → Place
+first_place q = (q.far.address, q.port)
 
 -- the message by which it is asked
 abbrev pub asking : Question → Message
@@ -34,13 +58,13 @@ Hears q next Nothing = next ≡ None
 Hears q next Other = (d : SocketAddr × List ℕ) × (next ≡ Some d) × ((r : ReplyValue) → IsReply q d.1 r → ⊥)
 Hears q next (Reply r) = (d : SocketAddr × List ℕ) × (next ≡ Some d) × IsReply q d.1 r
 
--- to which port the request is sent again by what is heard: where fewer than 20 Elsewhere were followed, by one of them to its member's
-abbrev pub followed_to : Heard → ℕ → List ℕ
-followed_to (Reply (Elsewhere m)) count = if nat_lt count 20 then m.port ∷ [] else []
-followed_to (Reply (Answer a)) count = []
-followed_to (Reply (Passed last)) count = []
-followed_to Nothing count = []
-followed_to Other count = []
+-- where the request is sent again by what is heard: where fewer than 20 Elsewhere were followed, by one of them to its member
+abbrev pub followed_to : Far → Heard → ℕ → List Place
+followed_to f (Reply (Elsewhere m)) count = if nat_lt count 20 then (far_address f m, m.port) ∷ [] else []
+followed_to f (Reply (Answer a)) count = []
+followed_to f (Reply (Passed last)) count = []
+followed_to f Nothing count = []
+followed_to f Other count = []
 
 -- what is heard tells what becomes of the request, and so ends the exchange
 abbrev pub ended_by : Heard → Option ReplyValue
@@ -50,18 +74,18 @@ ended_by (Reply (Passed last)) = Some (Passed last)
 ended_by Nothing = None
 ended_by Other = None
 
--- the bytes were sent once, to that port of this machine, or a send failed, which is counted, and nothing was sent
-abbrev pub SendsOnce : ℕ → List ℕ → List (SocketAddr × List ℕ) → ℕ → List (SocketAddr × List ℕ) → ℕ → Type 0
-SendsOnce port bytes old failures new failures_new =
-    ((place : SocketAddr) × (socket_port place ≡ port) × (new ≡ old ++ (place, bytes) ∷ []) × (failures_new ≡ failures))
+-- the bytes were sent once, to that place, or a send failed, which is counted, and nothing was sent
+abbrev pub SendsOnce : Place → List ℕ → List (SocketAddr × List ℕ) → ℕ → List (SocketAddr × List ℕ) → ℕ → Type 0
+SendsOnce place bytes old failures new failures_new =
+    ((to : SocketAddr) × IsAt place to × (new ≡ old ++ (to, bytes) ∷ []) × (failures_new ≡ failures))
     ⊎ ((new ≡ old) × (failures_new ≡ one_more failures))
 
--- so to each of these ports in turn, and nothing else
-abbrev pub SendsEach : List ℕ → List ℕ → List (SocketAddr × List ℕ) → ℕ → List (SocketAddr × List ℕ) → ℕ → Type 0
+-- so to each of these places in turn, and nothing else
+abbrev pub SendsEach : List Place → List ℕ → List (SocketAddr × List ℕ) → ℕ → List (SocketAddr × List ℕ) → ℕ → Type 0
 SendsEach [] bytes old failures new failures_new = (new ≡ old) × (failures_new ≡ failures)
-SendsEach (port ∷ ports) bytes old failures new failures_new =
-    (mid : List (SocketAddr × List ℕ)) × (failures_mid : ℕ) × SendsOnce port bytes old failures mid failures_mid
-    × SendsEach ports bytes mid failures_mid new failures_new
+SendsEach (place ∷ places) bytes old failures new failures_new =
+    (mid : List (SocketAddr × List ℕ)) × (failures_mid : ℕ) × SendsOnce place bytes old failures mid failures_mid
+    × SendsEach places bytes mid failures_mid new failures_new
 
 -- it tells what becomes of the request, and not where to ask
 abbrev pub IsTold : ReplyValue → Type 0
@@ -76,14 +100,14 @@ pub record Asker (S : Type 0) : Type 0 where
 
 -- what a kind of socket has sent, how often a send of it has failed, and what comes to it next; and the question of a client at such a socket
 module _ {S : Type 0} (sent : S → List (SocketAddr × List ℕ)) (failures : S → ℕ) (next : S → Option (SocketAddr × List ℕ)) (q : Question) where
-  -- what comes next is heard, and told nothing or this; where it is an Elsewhere that is followed the bytes go to the port that it tells,
+  -- what comes next is heard, and told nothing or this; where it is an Elsewhere that is followed the bytes go to the member that it tells,
   -- and nothing else is sent
   pub record Receives (bytes : List ℕ) (told : Option ReplyValue) (old new : Asker S) : Type 0 where
     pub heard : Heard
     pub hears : Hears q (next old.socket) heard
     pub tells : told ≡ ended_by heard
-    pub follows : new.followed ≡ old.followed + length (followed_to heard old.followed)
-    pub sends : SendsEach (followed_to heard old.followed) bytes (sent old.socket) (failures old.socket) (sent new.socket) (failures new.socket)
+    pub follows : new.followed ≡ old.followed + length (followed_to q.far heard old.followed)
+    pub sends : SendsEach (followed_to q.far heard old.followed) bytes (sent old.socket) (failures old.socket) (sent new.socket) (failures new.socket)
 
   -- it was told this after fewer than 50 receives that told nothing, or 50 have told nothing
   abbrev pub Waits : List ℕ → Option ReplyValue → Asker S → Asker S → Type 0
@@ -91,11 +115,16 @@ module _ {S : Type 0} (sent : S → List (SocketAddr × List ℕ)) (failures : S
   Waits bytes (Some reply) old new =
       (count : ℕ) × (count < 50) × (last : Asker S) × Repeats (Receives bytes None) count old last × Receives bytes (Some reply) last new
 
-  -- the bytes of the question went to its port, and then it waited
+  -- the bytes of the question went to its first place, and then it waited
   pub record Exchanges (told : Option ReplyValue) (old new : S) : Type 0 where
     pub bytes : List ℕ
     pub spelled : IsAsked q bytes
     pub begun : S
-    pub asks : SendsOnce q.port bytes (sent old) (failures old) (sent begun) (failures begun)
+    pub asks : SendsOnce (first_place q) bytes (sent old) (failures old) (sent begun) (failures begun)
     pub followed : ℕ
     pub waits : Waits bytes told (record { socket = begun; followed = 0 }) (record { socket = new; followed = followed })
+
+  -- it has asked, and was told what becomes of the request, or has waited in vain
+  abbrev pub Comes : Bool → S → S → Type 0
+  Comes true old new = (reply : ReplyValue) × Exchanges (Some reply) old new
+  Comes false old new = Exchanges None old new

@@ -1,5 +1,5 @@
--- How a node comes up, and what a revival is refused for.
-use Rattle.std.specs.Prelude.{◌≡◌, ℕ, List, []}
+-- How a node comes up, and for what it does not.
+use Rattle.std.specs.Prelude.{◌≡◌, ◌≤◌, ℕ, false, List, []}
 use Rattle.lk_types.specs.Limits.{max_base}
 use Rattle.lk_disk.specs.Disk.{Disk}
 use Rattle.lk_disk.specs.declared.device.Side.{Side}
@@ -12,21 +12,13 @@ use Rattle.lk_node.specs.Calls.{Goes}
 use Rattle.lk_node.specs.Histories.{History, IsLawful}
 use Rattle.lk_node.specs.Keeping.{Stands}
 use Rattle.lk_node.specs.Leavings.{header_of, DisksFit}
+use Rattle.lk_replica.specs.Faults.{fault_number}
 use Rattle.lk_replica.specs.ReplicaValue.{ReplicaValue}
+use Rattle.lk_replica.specs.Revivals.{MayGoOn, IsRefusedFor}
+use Rattle.lk_replica.specs.declared.fault.ReplicaFault.{ReplicaFault}
+use Rattle.lk_server.specs.Faults.{replica_fault}
+use Rattle.lk_server.specs.Servers.{ServerValue}
 use Rattle.lk_server.specs.declared.fault.ServiceFault.{ServiceFault}
-use Rattle.lk_server.specs.declared.fault.ServiceFault.TheVariants.{CannotOpen, Device, NoMemory, Damaged, WrongStore, Failed, Halted, Send, Write}
-
--- a device that has failed, memory that was refused, a store that is damaged or another's, or one of format 1 at the last generation
-abbrev pub IsOfRevival : ServiceFault → Type 0
-IsOfRevival Device = Unit {0}
-IsOfRevival NoMemory = Unit {0}
-IsOfRevival Damaged = Unit {0}
-IsOfRevival WrongStore = Unit {0}
-IsOfRevival Failed = Unit {0}
-IsOfRevival CannotOpen = ⊥
-IsOfRevival Halted = ⊥
-IsOfRevival Send = ⊥
-IsOfRevival Write = ⊥
 
 -- a replica of this header comes up by what these disks have: it goes on in each history that they fit, and its files are no longer than they were, or
 -- else than a Base
@@ -34,3 +26,30 @@ pub record ComesUp (m : Meaning) (header : HeaderValue) (old : Side → Disk) (r
   pub notes : List Note
   pub goes : (h : History) (n : ℕ) → header ≡ header_of h.genesis n → IsLawful m h → DisksFit m h n old → Goes m h n (Stands m r.node r.store h.genesis n) (disks r.store) notes []
   pub room : StaysWithin max_base old (disks r.store)
+
+-- `honest` says that the device is honest, which had these disks
+module _ (m : Meaning) (honest : Type 0) (old : Side → Disk) (header : HeaderValue) where
+  -- it is the server of the node of this header, in its cluster, on a replica that can take calls as that node and comes up by what the device
+  -- had. Nothing has come to it, and nothing waits that the node wrote to itself
+  pub record IsBegun (s : ServerValue ReplicaValue) : Type 0 where
+    pub cluster : s.cluster ≡ header.cluster
+    pub node : s.node ≡ header.node
+    pub ready : MayGoOn header s.replica
+    pub comes_up : honest → ComesUp m header old s.replica
+    pub alive : s.failed ≡ false
+    pub own : s.own ≡ []
+    pub received : s.received ≡ 0
+
+module _ (m : Meaning) (IsText : List ℕ → Type 0) (honest : Type 0) (old : Side → Disk) (header : HeaderValue) where
+  -- what the device had was not taken up, for the fault of this number, and it has these disks now. Damage, another's store and a store at its last
+  -- generation are told for their cause alone
+  pub record IsNotTakenUp (number : ℕ) (left : Side → Disk) : Type 0 where
+    pub among : (7 ≤ number) × (number ≤ 11)
+    pub cause : honest → IsRefusedFor m IsText old header number left
+
+  -- it was not taken up, and this is told for it
+  pub record IsRefusedWith (told : ServiceFault) : Type 0 where
+    pub fault : ReplicaFault
+    pub is : told ≡ replica_fault fault
+    pub left : Side → Disk
+    pub refused : IsNotTakenUp (fault_number fault) left

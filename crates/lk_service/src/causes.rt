@@ -2,12 +2,13 @@
 
 ghost use Rattle.std.specs.Prelude.{◌≡◌};
 
-use lk_disk::{FileDisk, Side, SystemFile};
+use lk_disk::{FileDisk, MemoryDisk, Side, SystemFile};
 use lk_server::fault::ServiceFault;
 use lk_server::socket::{LocalSocket, local};
 use std::alloc::Global;
 use std::fmt::Display;
 use std::fs::{Files, OpenFile, OpenOptions};
+use std::io;
 use std::io::{Read, Seek, Write};
 use std::net::{Net, SocketAddr};
 use std::path::Path;
@@ -75,10 +76,28 @@ pub fn tell_closed<R: Files, E: Write>(
     ServiceFault::CannotOpen
 }
 
+/// A device that tells why a call of it failed.
+pub trait FailureCause {
+    /// What the system said of the last call that failed at a side, where one did.
+    fn cause(&self, side: Side) -> Option<io::Error>;
+}
+
+impl<F: OpenFile + Read + Write + Seek + Drop> FailureCause for FileDisk<SystemFile<F>> {
+    fn cause(&self, side: Side) -> Option<io::Error> {
+        FileDisk::cause(self, side)
+    }
+}
+
+impl FailureCause for MemoryDisk {
+    fn cause(&self, _side: Side) -> Option<io::Error> {
+        None
+    }
+}
+
 /// Tells in a line for each file of a folder of which a call has failed why that did, where the fault is the device's.
-pub fn tell_device<F: OpenFile + Read + Write + Seek + Drop, E: Write>(
+pub fn tell_device<D: FailureCause, E: Write>(
     fault: ServiceFault,
-    device: &FileDisk<SystemFile<F>>,
+    device: &D,
     folder: &str,
     err: &mut E,
 ) -> ServiceFault

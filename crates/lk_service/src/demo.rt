@@ -5,12 +5,14 @@ ghost use Rattle.std.specs.Prelude.{◌≤◌};
 use crate::far::Far;
 use crate::question::{Heard, Question, datagram, next_reply, write_reply};
 use crate::reply::Reply;
+use crate::resources::Resources;
 use crate::running::revive;
 use lk_disk::MemoryDisk;
 use lk_entries::Header;
 use lk_replica::Replica;
 use lk_server::ear::Ear;
 use lk_server::fault::ServiceFault;
+use lk_server::outside::Outside;
 use lk_server::server::Server;
 use lk_server::socket::{Datagrams, LocalSocket, local};
 use lk_state::Machine;
@@ -93,8 +95,13 @@ fn start<M: Machine, S: Datagrams + Drop>(
     socket: S,
 ) -> Result<DemoServer<M, S>, ServiceFault> {
     let header = Header::new(node, genesis.copy());
-    let disk = MemoryDisk::new(alloc);
-    revive::<M, _, _, _>(alloc, &header, disk, socket, &Discard)
+    let resources = Resources {
+        device: MemoryDisk::new(alloc),
+        socket,
+        outside: Outside::local(genesis.cluster, node),
+    };
+    revive::<M, _, _, _>(alloc, &header, resources, &Discard)
+        .map_err(|refused| ServiceFault::of_replica(&refused.fault))
 }
 
 /// The servers of the members, in order, on these sockets.

@@ -1,5 +1,8 @@
 //! Where a client asks, and by which keys it knows who replied.
 
+ghost use Rattle.std.specs.Prelude.{◌≡◌};
+ghost use Rattle.lk_service.specs.Questions.{far_address};
+
 use lk_seal::{AskerSeals, Keys};
 use lk_server::hosts::Hosts;
 use lk_types::Member;
@@ -27,7 +30,9 @@ impl Far {
     }
 
     /// The address at which a member is asked: that at which it lives, or that of the node that was asked first.
-    pub fn address_of(&self, member: &Member) -> IpAddr {
+    pub fn address_of(&self, member: &Member) -> IpAddr
+        ensures { result ≡ far_address self.now member.now }
+    {
         match self.hosts.address(member.node) {
             Some(address) => address,
             None => self.address,

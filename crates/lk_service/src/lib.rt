@@ -10,4 +10,5 @@ pub mod folder;
 pub mod outside;
 pub mod question;
 pub mod reply;
+pub mod resources;
 pub mod running;

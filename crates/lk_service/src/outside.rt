@@ -1,6 +1,6 @@
 //! Where the nodes of a cluster live, and the keys by which they know each other, from the files that a command line names.
 
-ghost use Rattle.std.specs.Prelude.{IfOk};
+ghost use Rattle.std.specs.Prelude.{IfOk, OnOk};
 ghost use Rattle.lk_service.specs.Guards.{IsReachedWithKey};
 ghost use Rattle.lk_service.specs.Turns.{AreSealsOf};
 
@@ -178,6 +178,12 @@ fn keys_in<R: Files<File = File>, E: Write>(
     }
 }
 
+/// Tells in a line that no address of a node is known.
+fn tell_homeless<E: Write>(node: NodeNo, path: &str, err: &mut E) -> ServiceFault {
+    let _ = writeln!(err, "{path}: no line of node {}, and no --bind", node.get());
+    ServiceFault::CannotOpen
+}
+
 /// At which address a node listens.
 fn place_of<E: Write>(
     header: &Header,
@@ -186,21 +192,67 @@ fn place_of<E: Write>(
     bind: Option<IpAddr>,
     err: &mut E,
 ) -> Result<IpAddr, ServiceFault> {
-    match bind {
+    match bind.or(hosts.address(header.node())) {
         Some(address) => Ok(address),
-        None => match hosts.address(header.node()) {
-            Some(address) => Ok(address),
-            None => {
-                let _ = writeln!(
-                    err,
-                    "{}: no line of node {}, and no --bind",
-                    path.unwrap_or(""),
-                    header.node().get()
-                );
-                Err(ServiceFault::CannotOpen)
-            }
-        },
+        None => Err(tell_homeless(header.node(), path.unwrap_or(""), err)),
     }
+}
+
+/// Refuses a clients' key where the nodes have none, and one that the nodes have too.
+fn check_keys<E: Write>(
+    nodes: &Keys,
+    clients: &Keys,
+    path: &str,
+    err: &mut E,
+) -> Result<(), ServiceFault> {
+    if nodes.is_none() && !clients.is_none() {
+        return Err(tell_cause(path, "the clients' key, and the nodes have none", err));
+    }
+    if nodes.meets(clients) {
+        return Err(tell_cause(path, "a key of the nodes and of the clients", err));
+    }
+    Ok(())
+}
+
+/// The keys of the node of a header, in its cluster.
+fn seals_in<R: Files<File = File>, E: Write>(
+    rt: &R,
+    alloc: Global,
+    header: &Header,
+    away: &Away<'_>,
+    err: &mut E,
+) -> Result<Seals, ServiceFault>
+    ensures { IfOk result (AreSealsOf header.now) }
+{
+    let nodes = keys_in(rt, alloc, away.key, err)?;
+    let clients = keys_in(rt, alloc, away.client_key, err)?;
+    check_keys(&nodes, &clients, away.client_key.unwrap_or(""), err)?;
+    Ok(Seals {
+        cluster: header.genesis().cluster,
+        node: header.node().get(),
+        nodes,
+        clients,
+    })
+}
+
+/// Refuses an address that other machines reach where the nodes have no key, and warns where the clients have none.
+fn check_reach<E: Write>(seals: &Seals, place: SocketAddr, err: &mut E) -> Result<(), ServiceFault>
+    ensures { OnOk result (IsReachedWithKey seals.now place) }
+{
+    let address = place.ip();
+    if address.is_loopback() {
+        return Ok(());
+    }
+    if seals.nodes.is_none() {
+        return Err(tell_cause(place, "no key, and other machines reach it", err));
+    }
+    if seals.clients.is_none() {
+        let _ = writeln!(
+            err,
+            "warning: other machines reach {address}, and clients have no key"
+        );
+    }
+    Ok(())
 }
 
 /// Where the nodes live, the keys, and at which address the node listens.
@@ -211,52 +263,18 @@ pub fn outside_of<R: Files<File = File>, E: Write>(
     port: Port,
     away: &Away<'_>,
     err: &mut E,
-) -> Result<(Outside, SocketAddr), ServiceFault> // They are the seals of this node in its cluster.
+) -> Result<(Outside, SocketAddr), ServiceFault>
+    // They are the seals of this node in its cluster.
     ensures seals { IfOk result (λ r. AreSealsOf header.now r.0.seals) }
     // Where other machines may reach the address, the nodes have a key.
     ensures guarded { IfOk result (λ r. IsReachedWithKey r.0.seals r.1) }
 {
     let hosts = hosts_in(rt, alloc, away.hosts, err)?;
-    let nodes = keys_in(rt, alloc, away.key, err)?;
-    let clients = keys_in(rt, alloc, away.client_key, err)?;
+    let seals = seals_in(rt, alloc, header, away, err)?;
     let address = place_of(header, &hosts, away.hosts, away.bind, err)?;
-    if nodes.is_none() && !clients.is_none() {
-        return Err(tell_cause(
-            away.client_key.unwrap_or(""),
-            "the clients' key, and the nodes have none",
-            err,
-        ));
-    }
-    if nodes.meets(&clients) {
-        return Err(tell_cause(
-            away.client_key.unwrap_or(""),
-            "a key of the nodes and of the clients",
-            err,
-        ));
-    }
-    if nodes.is_none() && !address.is_loopback() {
-        return Err(tell_cause(
-            SocketAddr::from((address, port.get())),
-            "no key, and other machines reach it",
-            err,
-        ));
-    }
-    if clients.is_none() && !address.is_loopback() {
-        let _ = writeln!(
-            err,
-            "warning: other machines reach {address}, and clients have no key"
-        );
-    }
-    let seals = Seals {
-        cluster: header.genesis().cluster,
-        node: header.node().get(),
-        nodes,
-        clients,
-    };
-    Ok((
-        Outside { hosts, seals },
-        SocketAddr::from((address, port.get())),
-    ))
+    let place = SocketAddr::from((address, port.get()));
+    check_reach(&seals, place, err)?;
+    Ok((Outside { hosts, seals }, place))
 }
 
 /// Where a client asks, and its keys.

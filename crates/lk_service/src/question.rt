@@ -1,8 +1,8 @@
 //! A client that asks once.
 
-ghost use Rattle.std.specs.Prelude.{◌≡◌, ◌≤◌, ◌∷◌, ℕ, true, List, Some, IfOk, OnOk, IfErr, OnErr, IfSome, IsSomeAnd, length};
+ghost use Rattle.std.specs.Prelude.{◌≡◌, ◌≤◌, ◌⊎◌, ◌↔◌, ◌∷◌, ℕ, true, List, Some, IfOk, OnOk, IfErr, OnErr, IfSome, IsSomeAnd, length};
 ghost use Rattle.lk_wire.specs.Grammar.{Spells};
-ghost use Rattle.lk_service.specs.Questions.{asking, IsAsked, Hears, SendsOnce, SendsEach, Receives, Exchanges, IsTold};
+ghost use Rattle.lk_service.specs.Questions.{asking, first_place, IsAsked, Place, Hears, SendsOnce, SendsEach, Receives, Exchanges, Comes, IsTold};
 ghost use Rattle.lk_service.specs.declared.reply.Reply.{Reply as ReplyValue};
 
 use crate::far::Far;
@@ -98,7 +98,7 @@ fn asked(alloc: Global, question: &Question) -> Result<Vec<u8>, ServiceFault>
 
 /// Sends bytes to a port of an address. What could not be sent is lost.
 fn send<S: Datagrams>(socket: &mut S, address: IpAddr, port: Port, bytes: &[u8])
-    ensures { S.is_telling → SendsOnce port bytes.now (S.sent socket.old) (S.failures socket.old) (S.sent socket.new) (S.failures socket.new) }
+    ensures { S.is_telling → SendsOnce (address, port) bytes.now (S.sent socket.old) (S.failures socket.old) (S.sent socket.new) (S.failures socket.new) }
 {
     let place = SocketAddr::from((address, port.get()));
     let _ = socket.send_to(place, bytes);
@@ -113,7 +113,7 @@ fn take_next<S: Datagrams>(
     bytes: &[u8],
     followed: &mut u32,
 ) -> Option<Reply>
-    // What comes next is heard, and ends the exchange or is followed, to the port that it tells, by what it is.
+    // What comes next is heard, and ends the exchange or is followed, to the member that it tells, by what it is.
     ensures heard { S.is_telling → Receives S.sent S.failures S.next question.now bytes.now result
         (record { socket = socket.old; followed = followed.old }) (record { socket = socket.new; followed = followed.new }) }
     ensures told { IfSome result IsTold }
@@ -137,11 +137,11 @@ pub fn exchange<S: Datagrams>(
     socket: &mut S,
     question: &Question,
 ) -> Result<Option<Reply>, ServiceFault>
-    // The bytes of the question go to its port and then to at most 20 others, each once, and nothing else is sent.
-    ensures sends { S.is_telling → OnOk result ((bytes : List ℕ) × (others : List ℕ) × IsAsked question.now bytes × (length others ≤ 20)
-        × SendsEach (question.now.port ∷ others) bytes (S.sent socket.old) (S.failures socket.old) (S.sent socket.new) (S.failures socket.new)) }
+    // The bytes of the question go to its first place and then to at most 20 others, each once, and nothing else is sent.
+    ensures sends { S.is_telling → OnOk result ((bytes : List ℕ) × (others : List Place) × IsAsked question.now bytes × (length others ≤ 20)
+        × SendsEach (first_place question.now ∷ others) bytes (S.sent socket.old) (S.failures socket.old) (S.sent socket.new) (S.failures socket.new)) }
     // Of what comes next after that it hears one after another, at most 50, until it is told something: to follow an Elsewhere that it hears it
-    // sends to the port that this tells, and else it sends nothing more.
+    // sends to the member that this tells, and else it sends nothing more.
     ensures hears { S.is_telling → IfOk result (λ told. Exchanges S.sent S.failures S.next question.now told socket.old socket.new) }
     ensures told { IfOk result (λ reply. IfSome reply IsTold) }
     ensures unchanged { OnErr result (socket.new ≡ socket.old) }
@@ -161,7 +161,7 @@ pub fn exchange<S: Datagrams>(
 
 /// Writes an answer's text or `passed LAST` in a line. Whether the reply is one of these.
 fn write_told<W: Write>(reply: &Reply, out: &mut W) -> io::Result<bool>
-    ensures told { IfOk result (λ is_told. is_told ≡ true → IsTold reply.now) }
+    ensures told { IfOk result (λ is_told. is_told ≡ true ↔ IsTold reply.now) }
 {
     match reply {
         Reply::Answer(answer) => writeln!(out, "{answer}")?,
@@ -173,7 +173,7 @@ fn write_told<W: Write>(reply: &Reply, out: &mut W) -> io::Result<bool>
 
 /// Writes what was replied: an answer's text, `passed LAST`, or `no answer`. Whether it was an answer or a Passed.
 pub fn write_reply<W: Write>(reply: Option<Reply>, out: &mut W) -> io::Result<bool>
-    ensures told { IfOk result (λ is_told. is_told ≡ true → IsSomeAnd reply IsTold) }
+    ensures told { IfOk result (λ is_told. is_told ≡ true ↔ IsSomeAnd reply IsTold) }
 {
     let is_told = match reply {
         Some(reply) => write_told(&reply, out)?,
@@ -183,6 +183,26 @@ pub fn write_reply<W: Write>(reply: Option<Reply>, out: &mut W) -> io::Result<bo
         out.write_all(b"no answer\n")?;
     }
     Ok(is_told)
+}
+
+/// Asks, and prints what is replied. Whether it was told what becomes of the request.
+///
+/// It refuses where memory was refused for the request, and where the output could not be written.
+fn ask_and_write<S: Datagrams, W: Write>(
+    alloc: Global,
+    socket: &mut S,
+    question: &Question,
+    out: &mut W,
+) -> Result<bool, ServiceFault>
+    // It is told exactly where the exchange came to a reply.
+    ensures told { S.is_telling → IfOk result (λ is_told. Comes S.sent S.failures S.next question.now is_told socket.old socket.new) }
+    ensures only { IfErr result (λ f. (f ≡ ServiceFault.NoMemory) ⊎ (f ≡ ServiceFault.Write)) }
+{
+    let reply = exchange(alloc, socket, question)?;
+    match (write_reply(reply, out), out.flush()) {
+        (Ok(is_told), Ok(())) => Ok(is_told),
+        _ => Err(ServiceFault::Write),
+    }
 }
 
 /// Asks, and prints what is replied. The status is 0; 1 where nothing was, which is printed as `no answer`, and where a
@@ -198,13 +218,9 @@ pub fn ask<S: Datagrams, W: Write, E: Write>(
     // Status 0 only where it has asked, and was told what becomes of the request.
     ensures asked { S.is_telling → result ≡ 0 → (reply : ReplyValue) × Exchanges S.sent S.failures S.next question.now (Some reply) socket.old socket.new }
 {
-    let reply = match exchange(alloc, socket, question) {
-        Ok(reply) => reply,
-        Err(fault) => return fault.tell(err),
-    };
-    match (write_reply(reply, out), out.flush()) {
-        (Ok(true), Ok(())) => 0,
-        (Ok(false), Ok(())) => 1,
-        _ => ServiceFault::Write.tell(err),
+    match ask_and_write(alloc, socket, question, out) {
+        Ok(true) => 0,
+        Ok(false) => 1,
+        Err(fault) => fault.tell(err),
     }
 }

@@ -1,5 +1,5 @@
 use Rattle.std.proofs.Common.{◌≡◌, ◌∙◌, [], arith, refl, sym}
-use Rattle.lk_service.specs.Questions.{followed_to}
+use Rattle.lk_service.specs.Questions.{first_place, followed_to}
 use Rattle.lk_service.proofs.Receiving.{receives_more, receives_told, receives_none}
 use Rattle.lk_service.proofs.Sending.{sends_further}
 use Rattle.lk_service.proofs.question.exchange.Goals as goal
@@ -20,7 +20,7 @@ receives-preserved g c = (
   c.take_next-reply.ensures.most c.receives.invariant.0,
   λ tells.
       let heard = c.take_next-reply.ensures.heard tells in
-      sends_further c.args.question.now.port c.receives.followed (followed_to heard.heard c.receives.followed) c.in_ok-bytes.bytes.items c.deref-in-receives.result.now
+      sends_further (first_place c.args.question.now) c.receives.followed (followed_to c.args.question.now.far heard.heard c.receives.followed) c.in_ok-bytes.bytes.items c.deref-in-receives.result.now
       (g.S.Datagrams.sent c.args.socket.now) (g.S.Datagrams.failures c.args.socket.now) (g.S.Datagrams.sent c.receives.socket) (g.S.Datagrams.failures c.receives.socket)
       (g.S.Datagrams.sent c.take_next-reply.new.socket) (g.S.Datagrams.failures c.take_next-reply.new.socket) c.take_next-reply.new.followed
       c.deref-in-receives.ensures.value heard.follows (c.receives.invariant.1 tells) heard.sends,
@@ -32,7 +32,7 @@ receives-preserved g c = (
 pub returns-then-is_some-clause-sends : goal.returns-then-is_some-clause-sends
 returns-then-is_some-clause-sends g c tells =
     let heard = c.take_next-reply.ensures.heard tells in
-    let more = sends_further c.args.question.now.port c.receives.followed (followed_to heard.heard c.receives.followed) c.in_ok-bytes.bytes.items c.deref-in-receives.result.now
+    let more = sends_further (first_place c.args.question.now) c.receives.followed (followed_to c.args.question.now.far heard.heard c.receives.followed) c.in_ok-bytes.bytes.items c.deref-in-receives.result.now
     (g.S.Datagrams.sent c.args.socket.now) (g.S.Datagrams.failures c.args.socket.now) (g.S.Datagrams.sent c.receives.socket) (g.S.Datagrams.failures c.receives.socket)
     (g.S.Datagrams.sent c.take_next-reply.new.socket) (g.S.Datagrams.failures c.take_next-reply.new.socket) c.take_next-reply.new.followed
     c.deref-in-receives.ensures.value heard.follows (c.receives.invariant.1 tells) heard.sends in (

@@ -1,7 +1,7 @@
--- The bytes went to the question's port and then to those that were followed, and nothing else was sent; none of the receives told anything.
+-- The bytes went to the question's first place and then to those that were followed, and nothing else was sent; none of the receives told anything.
 use Rattle.std.specs.Prelude.{◌≤◌, None}
 use Rattle.lk_service.specs.Chains.{Repeats}
-use Rattle.lk_service.specs.Questions.{Receives}
+use Rattle.lk_service.specs.Questions.{first_place, Receives}
 use Rattle.lk_service.proofs.Sending.{SendsTo}
 use Rattle.lk_service.proofs.question.exchange.Given as goal
 
@@ -10,6 +10,6 @@ invariant-receives g l =
     let sent = g.S.Datagrams.sent in
     let failures = g.S.Datagrams.failures in
     (l.followed ≤ 20)
-    × (g.S.Datagrams.is_telling → SendsTo l.question.port l.followed l.bytes.items (sent l.fn.socket) (failures l.fn.socket) (sent l.socket) (failures l.socket))
+    × (g.S.Datagrams.is_telling → SendsTo (first_place l.question) l.followed l.bytes.items (sent l.fn.socket) (failures l.fn.socket) (sent l.socket) (failures l.socket))
     × (g.S.Datagrams.is_telling → Repeats (Receives sent failures g.S.Datagrams.next l.question l.bytes.items None) l.counter
     (record { socket = l.initial.socket; followed = 0 }) (record { socket = l.socket; followed = l.followed }))

@@ -1,0 +1,95 @@
+//! What a node runs on.
+
+ghost use Rattle.std.specs.Prelude.{IfOk};
+ghost use Rattle.lk_members.specs.Ports.{port_in};
+ghost use Rattle.lk_service.specs.Turns.{AreSealsOf};
+ghost use Rattle.std.specs.Prelude.{◌≡◌};
+
+use crate::causes::open_socket_at;
+use crate::folder::{FolderLock, open_device};
+use crate::outside::{Away, outside_of};
+use lk_disk::{FileDisk, SystemFile};
+use lk_entries::Header;
+use lk_server::fault::ServiceFault;
+use lk_server::outside::Outside;
+use lk_server::socket::LocalSocket;
+use lk_types::{Member, NodeNo, Port};
+use std::alloc::Global;
+use std::fs::{File, Files};
+use std::io::Write;
+use std::net::Net;
+
+/// Which node is run, at which port, in which folder its files are, and which files tell of the machines outside.
+#[derive(Drop)]
+pub struct NodePlan<'a> {
+    pub header: Header,
+    pub port: Port,
+    pub folder: &'a str,
+    pub away: Away<'a>,
+}
+
+/// What a node runs on: the device of its store, its socket, and what it knows of the machines outside.
+#[derive(Drop)]
+pub struct Resources<D: Drop, S: Drop> {
+    pub device: D,
+    pub socket: S,
+    pub outside: Outside,
+}
+
+/// The files of a folder as a device.
+pub type FolderDisk = FileDisk<SystemFile<File>>;
+
+/// The port at which the members have the node, where they do.
+fn named_port(members: &[Member], node: NodeNo) -> Option<Port>
+    ensures { result ≡ port_in node members.now }
+{
+    for member in members {
+        if member.node == node {
+            return Some(member.port);
+        }
+    }
+    None
+}
+
+/// Warns in a line that the node listens at another port than the one that the genesis names.
+fn write_warning<E: Write>(plan: &NodePlan<'_>, named: Port, err: &mut E) {
+    let (node, named, own) = (plan.header.node().get(), named.get(), plan.port.get());
+    let _ = writeln!(
+        err,
+        "warning: the genesis names node {node} at port {named}, and it listens at port {own}"
+    );
+}
+
+/// Warns where the genesis names the node at another port than that at which it listens: it would send and not hear, where
+/// no relay stands between.
+fn warn_of_port<E: Write>(plan: &NodePlan<'_>, err: &mut E) {
+    let members = plan.header.genesis().members.as_slice();
+    match named_port(members, plan.header.node()) {
+        Some(named) if named != plan.port => write_warning(plan, named, err),
+        _ => {}
+    }
+}
+
+/// Opens what the node of a plan runs on: its files, which are made where they are missing, and its socket. The folder is locked as long as
+/// the second value lives. It refuses with `CannotOpen`, and a line tells why; also where another process serves from the folder.
+pub fn open_resources<R: Files<File = File> + Net, E: Write>(
+    rt: &R,
+    alloc: Global,
+    plan: &NodePlan<'_>,
+    err: &mut E,
+) -> Result<(Resources<FolderDisk, LocalSocket>, FolderLock), ServiceFault>
+    // The keys are for the node of the plan, in its cluster.
+    ensures seals { IfOk result (λ r. AreSealsOf plan.now.header r.0.outside.seals) }
+{
+    warn_of_port(plan, err);
+    let (outside, place) = outside_of(rt, alloc, &plan.header, plan.port, &plan.away, err)?;
+    let socket = open_socket_at(rt, place, err)?;
+    let lock = FolderLock::take(rt, alloc, plan.folder, err)?;
+    let device = open_device(rt, alloc, plan.folder, err)?;
+    let resources = Resources {
+        device,
+        socket,
+        outside,
+    };
+    Ok((resources, lock))
+}
