@@ -66,7 +66,9 @@ fn run_plan<R: Files<File = File> + Net, L: Log, E: Write>(
     ensures { result ≤ 2 }
 {
     match open_resources(rt, alloc, plan, err) {
-        Ok((resources, _lock)) => run_node::<LockTable, _, _, _, _>(alloc, plan, resources, log, err),
+        Ok((resources, _lock)) => run_node::<LockTable, _, _, _, _>(
+            alloc, plan, resources, log, err,
+        ),
         Err(fault) => fault.tell(err),
     }
 }

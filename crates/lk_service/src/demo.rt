@@ -100,8 +100,9 @@ fn start<M: Machine, S: Datagrams + Drop>(
         socket,
         outside: Outside::local(genesis.cluster, node),
     };
-    revive::<M, _, _, _>(alloc, &header, resources, &Discard)
-        .map_err(|refused| ServiceFault::of_replica(&refused.fault))
+    revive::<M, _, _, _>(alloc, &header, resources, &Discard).map_err(
+        |refused| ServiceFault::of_replica(&refused.fault),
+    )
 }
 
 /// The servers of the members, in order, on these sockets.

@@ -80,14 +80,7 @@ pub fn revive<M: Machine, D: LogDisk + Drop, S: Datagrams + Drop, L: Log>(
     } = resources;
     let replica = take_up::<M, D, L>(alloc, header, device, log)?;
     let cluster = header.genesis().cluster;
-    Ok(Server::new(
-        alloc,
-        cluster,
-        header.node(),
-        outside,
-        replica,
-        socket,
-    ))
+    Ok(Server::new(alloc, cluster, header.node(), outside, replica, socket))
 }
 
 /// The same. Where the device failed a line tells why.
@@ -186,13 +179,13 @@ fn serve<M: Machine, D: LogDisk + FailureCause + Drop, S: Datagrams + Drop, L: L
 }
 
 /// Runs a node on these resources. The status is 0 after 2^48 turns, and 1 where a fault is told on standard error.
-pub fn run_node<M: Machine, D: LogDisk + FailureCause + Drop, S: Datagrams + Drop, L: Log, E: Write>(
-    alloc: Global,
-    plan: &NodePlan<'_>,
-    resources: Resources<D, S>,
-    log: &L,
-    err: &mut E,
-) -> u8
+pub fn run_node<
+    M: Machine,
+    D: LogDisk + FailureCause + Drop,
+    S: Datagrams + Drop,
+    L: Log,
+    E: Write,
+>(alloc: Global, plan: &NodePlan<'_>, resources: Resources<D, S>, log: &L, err: &mut E) -> u8
     requires { AreSealsOf plan.now.header resources.outside.seals }
     ensures status { result ≤ 1 }
     // At status 0 the server of the plan's node, on a replica that came up by what the device had, has taken so many turns.

@@ -9,14 +9,15 @@ pub returns : goal.returns
 returns g c honest genesis whose =
     let n = c.args.header.now.node in
     let s = c.in_ok-server.server in
-    let old = g.D.LogDisk.disk c.args.device in
-    let up = c.in_ok-server.ensures.comes_up honest in
+    let old = g.D.LogDisk.disk c.args.resources.device in
+    let begun = c.in_ok-server.ensures.begun in
+    let up = begun.comes_up honest in
     record {
       notes = up.notes;
       rises = record {
         goes = λ h is lawful fit. up.goes h n (whose ∙ ap (λ (z : Genesis). header_of z n) (sym is)) lawful fit;
         short = λ short. never_longer old (disks s.replica.store) (refused_room old (disks s.replica.store) up.room) short;
       };
-      own = c.in_ok-server.ensures.own;
-      alive = sym c.replica.ensures.failed ∙ c.in_ok-server.ensures.alive;
+      own = begun.own;
+      alive = sym c.replica.ensures.failed ∙ begun.alive;
     }
