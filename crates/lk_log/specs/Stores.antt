@@ -86,10 +86,11 @@ pub record MayBegin (s : StandingValue) : Type 0 where
 abbrev pub next_base : StoreValue → StandingValue → BaseValue
 next_base s t = record { generation = s.generation + 1; format = 2; header = s.header; standing = t }
 
--- after a rebase the store has the next generation, format 2 and the same header; after a refusal the same format and header
+-- after a rebase the store has the next generation, format 2 and the same header; after a refusal the same file is live, with the same generation,
+-- format and header
 abbrev pub GoesOver : {T : Type 0} → StoreValue → StoreValue → Result T StoreFault → Type 0
 GoesOver old new (Ok _) = (new.generation ≡ old.generation + 1) × (new.format ≡ 2) × (new.header ≡ old.header)
-GoesOver old new (Err e) = (new.format ≡ old.format) × (new.header ≡ old.header)
+GoesOver old new (Err e) = KeepsItsFile old new
 
 -- the file that was left is empty, and the live one is no longer than a Base
 abbrev pub LeavesEmpty : StoreValue → Type 0

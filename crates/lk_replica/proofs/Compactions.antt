@@ -85,14 +85,18 @@ refused m old new (Err e) cause why wakes last = (
     failures = cause;
     calls = why.calls;
     earlier = λ number alive store_alive further. why.earlier number alive store_alive (omega (arith, further));
+    second = λ honest number alive store_alive less. absurd (why.earlier number alive store_alive less);
     once = why.once;
     ends = λ other. why.ends;
+    file = λ honest post. inl why.file;
     stays = λ honest device post. inl (why.stays honest device);
     halts = λ number. absurd (elim why.of_store [ inl a ↦ omega (arith, a, number) | inr (inl a) ↦ omega (arith, a, number) | inr (inr a) ↦ omega (arith, a, number) ]);
     awake = λ was other. wakes ∙ was;
   },
   why.of_store,
   λ most. ap fault_number (same_error e fault.Failed (last most).1),
+  why.rests,
+  why.file,
 )
 
 -- the calls of the device that it has made

@@ -559,12 +559,13 @@ settled_writes old mid after waits t settles same writes ks ls h =
     by_waits false is = writes ks ls (subst (λ (s : StoreValue). Holds s ks ls) (sym is) h)
 
 pub settled_rebases : (node new : NodeValue) (old mid after : StoreValue) (waits : Bool) → Settles waits old mid → KeepsItsFile old mid → Rebases node mid new after → Rebases node old new after
-settled_rebases node new old mid after waits settles same r = record { becomes = r.becomes; writes = settled_writes old mid after waits (standing_of node) settles same r.writes }
+settled_rebases node new old mid after waits settles same r = record { becomes = r.becomes; generation = omega (arith, r.generation, same.1); writes = settled_writes old mid after waits (standing_of node) settles same r.writes }
 
 -- that of a store that was asked how long its live file is
 pub same_rebases : (m : Meaning) (node new : NodeValue) (old mid after : StoreValue) → IsSameStore old mid → Rebases node mid new after → Rebases node old new after
 same_rebases m node new old mid after same r = record {
   becomes = r.becomes;
+  generation = omega (arith, r.generation, same.generation);
   writes = λ ks ls h.
       let b : next_base mid (standing_of node) ≡ next_base old (standing_of node) = λ i. record { generation = same.generation i + 1; format = 2; header = same.header i; standing = standing_of node } in
       subst (λ (x : BaseValue). Holds after (Base x ∷ []) []) b (r.writes ks ls (same_holds m old mid same ks ls h));
@@ -577,7 +578,7 @@ uncounted m IsText Metered node new store later waits i out s = record { stepped
 
 pub group_refused : {T : Type 0} (Honest Metered : Type 0) (r : Result T ReplicaFault) (f : ReplicaFault) (old : ReplicaValue) (node : NodeValue) (store : StoreValue)
     → IsErrAnd r (λ e. e ≡ f) → old.failed ≡ false → store.failures ≡ failures_by (fault_number f) old.store.failures
-    → IsCutShort Honest Metered 2 old.node old.store node store ⊤ f
+    → IsCutShort Honest Metered 2 old.node old.store node store ⊤ ⊤ f
     → IfErr r (λ e. IsRefusedInGroup Honest Metered old (record { node = node; store = store; failed = true }) (fault_number e))
 group_refused Honest Metered r f old node store is alive failures cut =
     let kept : IsRefusedInGroup Honest Metered old (record { node = node; store = store; failed = true }) (fault_number f) =
@@ -587,6 +588,7 @@ group_refused Honest Metered r f old node store is alive failures cut =
       failures = failures;
       calls = cut.calls;
       earlier = λ number before store_alive further. cut.earlier (failed_alone f number) store_alive (omega (arith, further));
+      second = λ honest number before store_alive less. cut.second honest (failed_alone f number) store_alive less;
       once = λ ended. absurd (let both : false ≡ true = sym alive ∙ ended in cc both);
       ends = refl;
       halts = λ number. cut.halts (halted_alone f number);

@@ -299,10 +299,10 @@ module _ (m : Meaning) (node : NodeValue) (old new : StoreValue) (may : MayBegin
   }
 
   -- where it was made
-  pub gone_over : (Metered : Type 0) → ((ks ls : List Stored) → Holds old ks ls → Holds new (Base (next_base old (standing_of node)) ∷ []) []) → (Metered → Passes old.meter new.meter rebase_calls) → length (contents new.live_disk) ≤ 49152
+  pub gone_over : (Metered : Type 0) → (new.generation ≡ old.generation + 1) → ((ks ls : List Stored) → Holds old ks ls → Holds new (Base (next_base old (standing_of node)) ∷ []) []) → (Metered → Passes old.meter new.meter rebase_calls) → length (contents new.live_disk) ≤ 49152
       → HasGoneOver m Metered node old (standing_here node) new
-  gone_over Metered writes calls short = record {
-    rebases = record { becomes = refl; writes = writes };
+  gone_over Metered further writes calls short = record {
+    rebases = record { becomes = refl; generation = further; writes = writes };
     calls = calls;
     short = short;
     goes = λ h n f.
@@ -353,6 +353,7 @@ module _ (m : Meaning) (node : NodeValue) (old mid : StoreValue) (same : IsSameS
     rebases = record {
       due = λ _. record {
         becomes = done.rebases.becomes;
+        generation = omega (arith, done.rebases.generation, same.generation);
         writes = λ ks ls h. subst (λ (b : BaseValue). Holds after (Base b ∷ []) []) same_base (done.rebases.writes ks ls (same_holds m old mid same ks ls h));
       };
       rests = λ other. absurd (other due);

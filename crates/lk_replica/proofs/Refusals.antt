@@ -4,7 +4,7 @@ use Rattle.std.specs.Prelude.{IfErr}
 use Rattle.lk_log.specs.StoreValue.{StoreValue, disks}
 use Rattle.lk_node.specs.NodeValue.{NodeValue}
 use Rattle.lk_replica.specs.Compacted.{IsStoreFault, IsNotCompacted}
-use Rattle.lk_replica.specs.Compacting.{AreLeft, AreSame}
+use Rattle.lk_replica.specs.Compacting.{AreLeft, AreSame, KeepsFileOrGoesOver}
 use Rattle.lk_replica.specs.Faults.{fault_number, failures_by, IsOfCalls, IfSend}
 use Rattle.lk_replica.specs.Rebased.{IsNotRebased}
 use Rattle.lk_replica.specs.ReplicaValue.{ReplicaValue}
@@ -18,7 +18,7 @@ use Rattle.lk_replica.proofs.Spared.{spared_number}
 -- a call of a replica that had not failed, by what it did to the node and the store
 pub refused_by_parts : {T : Type 0} (Honest Metered : Type 0) (r : Result T ReplicaFault) (f : ReplicaFault) (old : ReplicaValue) (node : NodeValue) (store : StoreValue)
     → IsErrAnd r (λ e. e ≡ f) → old.failed ≡ false → store.failures ≡ failures_by (fault_number f) old.store.failures
-    → IsCutShort Honest Metered 2 old.node old.store node store (AreLeft old.node old.store store) f
+    → IsCutShort Honest Metered 2 old.node old.store node store (KeepsFileOrGoesOver old.node old.store store) (AreLeft old.node old.store store) f
     → IfErr r (λ e. IsRefused Honest Metered old (record { node = node; store = store; failed = true }) (fault_number e))
 refused_by_parts Honest Metered r f old node store is alive failures cut =
     let kept : IsRefused Honest Metered old (record { node = node; store = store; failed = true }) (fault_number f) =
@@ -27,8 +27,10 @@ refused_by_parts Honest Metered r f old node store is alive failures cut =
       failures = failures;
       calls = cut.calls;
       earlier = λ number before store_alive further. cut.earlier (failed_alone f number) store_alive (omega (arith, further));
+      second = λ honest number before store_alive less. cut.second honest (failed_alone f number) store_alive less;
       once = λ ended. absurd (let both : false ≡ true = sym alive ∙ ended in cc both);
       ends = λ other. refl;
+      file = λ honest post. cut.file honest;
       stays = λ honest device post. spared_number (AreLeft old.node old.store store) f (cut.stays honest) device post;
       halts = λ number. cut.halts (halted_alone f number);
       awake = cut.awake;
@@ -66,14 +68,17 @@ store_awake e by is = other_fault (fault_number e) by (omega (arith, ap fault_nu
 
 -- that of a replica that had not failed, by what it did to the node and the store
 pub not_compacted_by_parts : {T : Type 0} (Honest Metered : Type 0) (r : Result T ReplicaFault) (f : ReplicaFault) (old : ReplicaValue) (node : NodeValue) (store : StoreValue)
-    → IsErrAnd r (λ e. e ≡ f) → old.failed ≡ false → IsNotRebased Honest Metered old.store store f → IfErr r (λ e. IsNotCompacted Honest Metered old (record { node = node; store = store; failed = true }) (fault_number e))
-not_compacted_by_parts Honest Metered r f old node store is alive why =
+    → IsErrAnd r (λ e. e ≡ f) → old.failed ≡ false → IsNotRebased Honest Metered old.node old.store node store f → IfErr r (λ e. IsNotCompacted Honest Metered old (record { node = node; store = store; failed = true }) (fault_number e))
+not_compacted_by_parts Honest Metered r f old node store is alive rebase =
+    let why = rebase.why in
     let kept : IsNotCompacted Honest Metered old (record { node = node; store = store; failed = true }) (fault_number f) =
     record {
       of_store = why.of_store;
       calls = why.calls;
       earlier = λ number before store_alive further. why.earlier (failed_alone f number) store_alive further;
       once = λ ended. absurd (let both : false ≡ true = sym alive ∙ ended in cc both);
+      rests = rebase.rests;
+      file = why.file;
       ends = refl;
       stays = λ honest device. spared_number (AreSame (disks old.store) (disks store)) f (why.stays honest) device (λ post. other_fault (fault_number f) why.of_store (omega (arith, post)) (λ failed. omega (arith, post, failed)));
     } in

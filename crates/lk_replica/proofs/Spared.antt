@@ -7,12 +7,12 @@ use Rattle.lk_disk.specs.Disk.{Disk, contents, other}
 use Rattle.lk_disk.specs.declared.device.Side.{Side}
 use Rattle.lk_entries.specs.Values.{HeaderValue}
 use Rattle.lk_log.specs.StoreValue.{StoreValue, pick, disks}
-use Rattle.lk_log.specs.Stores.{NarrowsOrBegins}
+use Rattle.lk_log.specs.Stores.{KeepsItsFile, NarrowsOrBegins}
 use Rattle.lk_log.specs.declared.fault.StoreFault.{StoreFault}
 use Rattle.lk_log.specs.declared.fault.StoreFault.TheVariants as store
 use Rattle.lk_learner.specs.Learners.{executed}
 use Rattle.lk_node.specs.NodeValue.{NodeValue}
-use Rattle.lk_replica.specs.Compacting.{AreSame, AreLeft, IsDue, IsSameStore, RebasesWhereDue}
+use Rattle.lk_replica.specs.Compacting.{AreSame, AreLeft, IsDue, IsSameStore, KeepsFileOrGoesOver, RebasesWhereDue}
 use Rattle.lk_replica.specs.Compacted.{IsStoreFault}
 use Rattle.lk_replica.specs.Faults.{fault_number, fault_of, IfSpared}
 use Rattle.lk_replica.specs.declared.fault.ReplicaFault.{ReplicaFault}
@@ -122,6 +122,23 @@ pub left_after : (node mid : NodeValue) (old between new : StoreValue) → Rebas
 left_after node mid old between new where_due same = elim (either_due node old) [
   | inl due ↦ inr (mid, between, due, where_due.due due, same)
   | inr none ↦ inl (then_same (disks old) (disks between) (disks new) (same_files old between (where_due.rests none).1) same)
+]
+
+-- the same file stays live
+pub kept_then : (old mid new : StoreValue) → KeepsItsFile old mid → KeepsItsFile mid new → KeepsItsFile old new
+kept_then old mid new a b = (b.0 ∙ a.0, b.1 ∙ a.1, b.2 ∙ a.2, b.3 ∙ a.3)
+
+pub file_after : (node mid : NodeValue) (old between new : StoreValue) → RebasesWhereDue node old mid between → KeepsItsFile between new → KeepsFileOrGoesOver node old new
+file_after node mid old between new where_due kept = elim (either_due node old) [
+  | inl due ↦ inr (due, kept.1 ∙ (where_due.due due).generation)
+  | inr none ↦ let same = (where_due.rests none).1 in inl (kept.0 ∙ same.live, kept.1 ∙ same.generation, kept.2 ∙ same.format, kept.3 ∙ same.header)
+]
+
+-- where one generation was left and the next one is refused, a rebase was due
+pub second_after : (node mid : NodeValue) (old between : StoreValue) → RebasesWhereDue node old mid between → (between.generation + 1 ≤ max_count → ⊥) → old.generation < max_count → IsDue node old
+second_after node mid old between where_due short less = elim (either_due node old) [
+  | inl due ↦ due
+  | inr none ↦ absurd (short (omega (arith, less, (where_due.rests none).1.generation)))
 ]
 
 -- ---- of a revival

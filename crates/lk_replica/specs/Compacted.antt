@@ -5,6 +5,7 @@ use Rattle.lk_disk.specs.Memory.{disk_of}
 use Rattle.lk_disk.specs.Meters.{Passes}
 use Rattle.lk_log.specs.Causes.{rebase_calls}
 use Rattle.lk_log.specs.StoreValue.{disks, device_of}
+use Rattle.lk_log.specs.Stores.{KeepsItsFile}
 use Rattle.lk_learner.specs.Learners.{executed}
 use Rattle.lk_node.specs.Histories.{Genesis}
 use Rattle.lk_node.specs.Holdings.{Holding}
@@ -30,17 +31,20 @@ abbrev pub IsStoreFault : ℕ → Type 0
 IsStoreFault number = (number ≡ 7) ⊎ (number ≡ 8) ⊎ (number ≡ 11)
 
 -- the call was refused with the fault of this number, for its cause: 11 only after an earlier refusal, after which there is no other and nothing changes,
--- or where no generation is left. It has ended the replica; and where no call of the device has failed, the files are as they were. `Honest` says
--- that its device does what it tells, and `Metered` that it counts its calls
+-- or where no generation is left. It has ended the replica, whose node is as it was and whose store has not gone over; and where no call of the device
+-- has failed, the files are as they were. `Honest` says that its device does what it tells, and `Metered` that it counts its calls
 pub record IsNotCompacted (Honest Metered : Type 0) (old new : ReplicaValue) (number : ℕ) : Type 0 where
   pub of_store : IsStoreFault number
   pub calls : Metered → Honest → RefusedAfter number old.store.meter new.store.meter
   pub earlier : number ≡ 11 → old.failed ≡ false → old.store.failed ≡ false → old.store.generation < max_count → ⊥
   pub once : old.failed ≡ true → (number ≡ 11) × (new ≡ old)
+  pub rests : new.node ≡ old.node
+  pub file : KeepsItsFile old.store new.store
   pub ends : new.failed ≡ true
   pub stays : Honest → (number ≡ 7 → ⊥) → AreSame (disks old.store) (disks new.store)
 
--- what the call came to: where no generation is left, it was refused as failed, also where memory was wanting
+-- what the call came to: a refusal leaves the node as it was, and the same file live; and where no generation is left, it was refused as failed, also
+-- where memory was wanting
 abbrev pub CompactsTo : Meaning → ReplicaValue → ReplicaValue → Result (Unit {0}) ℕ → Type 0
 CompactsTo m old new (Ok done) = IsCompacted m old new
-CompactsTo m old new (Err number) = IsRefused ⊤ ⊤ old new number × IsStoreFault number × (max_count ≤ old.store.generation → number ≡ 11)
+CompactsTo m old new (Err number) = IsRefused ⊤ ⊤ old new number × IsStoreFault number × (max_count ≤ old.store.generation → number ≡ 11) × (new.node ≡ old.node) × KeepsItsFile old.store new.store

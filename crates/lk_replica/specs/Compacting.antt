@@ -8,7 +8,7 @@ use Rattle.lk_entries.specs.declared.stored.Stored.TheVariants.{Base}
 use Rattle.lk_log.specs.Causes.{rebase_calls}
 use Rattle.lk_log.specs.Images.{Image, MayLeaveBoth}
 use Rattle.lk_log.specs.StoreValue.{StoreValue, disks}
-use Rattle.lk_log.specs.Stores.{Holds, next_base}
+use Rattle.lk_log.specs.Stores.{Holds, KeepsItsFile, next_base}
 use Rattle.lk_learner.specs.Learners.{executed}
 use Rattle.lk_node.specs.NodeValue.{NodeValue}
 use Rattle.lk_node.specs.Packing.{standing_of, standing_here}
@@ -35,9 +35,10 @@ pub record IsSameStore (old new : StoreValue) : Type 0 where
   pub format : new.format ≡ old.format
   pub header : new.header ≡ old.header
 
--- the node's Base stands alone in the store, and the node stands on it
+-- the node's Base stands alone in the store, which is one generation further, and the node stands on it
 pub record Rebases (node : NodeValue) (store : StoreValue) (new : NodeValue) (after : StoreValue) : Type 0 where
   pub becomes : new ≡ standing_here node
+  pub generation : after.generation ≡ store.generation + 1
   pub writes : (ks ls : List Stored) → Holds store ks ls → Holds after (Base (next_base store (standing_of node)) ∷ []) []
 
 -- a store of format 1 was rebased, and so has format 2, and one of format 2 is as it was
@@ -63,6 +64,10 @@ abbrev pub AreLeft : NodeValue → StoreValue → StoreValue → Type 0
 AreLeft node old new =
     AreSame (disks old) (disks new)
     ⊎ ((mid : NodeValue) × (between : StoreValue) × IsDue node old × Rebases node old mid between × AreSame (disks between) (disks new))
+
+-- the same file is live, with the same generation, format and header, or, after a rebase that was due, one of the next generation
+abbrev pub KeepsFileOrGoesOver : NodeValue → StoreValue → StoreValue → Type 0
+KeepsFileOrGoesOver node old new = KeepsItsFile old new ⊎ (IsDue node old × (new.generation ≡ old.generation + 1))
 
 -- how many changing calls of the device that takes
 pub record CallsWhereDue (node : NodeValue) (store : StoreValue) (k : ℕ) : Type 0 where

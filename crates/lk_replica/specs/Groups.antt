@@ -22,7 +22,7 @@ use Rattle.lk_step.specs.declared.input.Input.{Input}
 use Rattle.lk_step.specs.declared.note.Note.{Note}
 use Rattle.lk_node.specs.Steps.{Steps}
 use Rattle.lk_types.specs.Limits.{max_count}
-use Rattle.lk_replica.specs.Compacting.{Rebases, RebasesWhereDue}
+use Rattle.lk_replica.specs.Compacting.{IsDue, Rebases, RebasesWhereDue}
 use Rattle.lk_replica.specs.Faults.{failures_by, RefusedAfter, IsNumberOfCalls}
 use Rattle.lk_replica.specs.Posts.{AreOf}
 use Rattle.lk_replica.specs.Rooms.{max_after}
@@ -156,6 +156,7 @@ pub record IsRefusedInGroup (Honest Metered : Type 0) (old new : ReplicaValue) (
   pub failures : new.store.failures ≡ failures_by number old.store.failures
   pub calls : Metered → Honest → RefusedAfter number old.store.meter new.store.meter
   pub earlier : number ≡ 11 → old.failed ≡ false → old.store.failed ≡ false → old.store.generation + 1 < max_count → ⊥
+  pub second : Honest → number ≡ 11 → old.failed ≡ false → old.store.failed ≡ false → old.store.generation < max_count → IsDue old.node old.store
   pub once : old.failed ≡ true → (number ≡ 11) × (new ≡ old)
   pub ends : new.failed ≡ true
   pub halts : number ≡ 14 → new.node.halted ≡ true

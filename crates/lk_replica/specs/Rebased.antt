@@ -6,7 +6,7 @@ use Rattle.lk_disk.specs.Meters.{Passes}
 use Rattle.lk_log.specs.Causes.{rebase_calls}
 use Rattle.lk_log.specs.Rooms.{StaysWithin}
 use Rattle.lk_log.specs.StoreValue.{StoreValue, disks}
-use Rattle.lk_log.specs.Stores.{MayBegin}
+use Rattle.lk_log.specs.Stores.{KeepsItsFile, MayBegin}
 use Rattle.lk_state.specs.Meanings.{Meaning}
 use Rattle.lk_history.specs.Acceptors.{Covers}
 use Rattle.lk_history.specs.Datagrams.{NodeMessage}
@@ -58,13 +58,20 @@ pub record StaysSafe (m : Meaning) (node : NodeValue) (store after : StoreValue)
   pub covers : (genesis : Genesis) (n : ℕ) (x : NodeMessage) → Keeps (header_of genesis n) store node.acceptor.state → AllCover m genesis n (disks store) x → AllCover m genesis n (disks after) x
   pub room : StaysWithin max_base (disks store) (disks after)
 
--- it was refused with this fault, for its cause: the device has failed, memory was wanting, or, where the store has failed before or no generation is
--- left, with `Failed`; and where no call of the device has failed, the files are as they were
-pub record IsNotRebased (Honest Metered : Type 0) (store after : StoreValue) (e : ReplicaFault) : Type 0 where
+-- what was to be written was refused with this fault, for its cause: the device has failed, memory was wanting, or, where the store has failed before
+-- or no generation is left, with `Failed`. The same file is live, with the same generation, format and header; and where no call of the device has
+-- failed, the files are as they were
+pub record IsNotWritten (Honest Metered : Type 0) (store after : StoreValue) (e : ReplicaFault) : Type 0 where
   pub of_store : IsStoreFault (fault_number e)
   pub calls : Metered → Honest → RefusedAfter (fault_number e) store.meter after.meter
   pub earlier : e ≡ fault.Failed → store.failed ≡ false → store.generation < max_count → ⊥
+  pub file : KeepsItsFile store after
   pub stays : Honest → IfSpared (AreSame (disks store) (disks after)) e
+
+-- so a rebase was refused, and the node is as it was: it stands on no Base to which its store has not gone over
+pub record IsNotRebased (Honest Metered : Type 0) (node : NodeValue) (store : StoreValue) (new : NodeValue) (after : StoreValue) (e : ReplicaFault) : Type 0 where
+  pub rests : new ≡ node
+  pub why : IsNotWritten Honest Metered store after e
 
 -- ---- one that is made where it is due
 

@@ -24,7 +24,7 @@ use Rattle.lk_node.specs.Histories.{Datagram, History, Genesis}
 use Rattle.lk_node.specs.Keeping.{Stands}
 use Rattle.lk_node.specs.Leavings.{DisksFit, AllCover}
 use Rattle.lk_replica.specs.Remembering.{Remembers}
-use Rattle.lk_replica.specs.Compacting.{AreLeft, IsDue, Rebases, RebasesWhereDue, CallsWhereDue}
+use Rattle.lk_replica.specs.Compacting.{AreLeft, IsDue, KeepsFileOrGoesOver, Rebases, RebasesWhereDue, CallsWhereDue}
 use Rattle.lk_replica.specs.Faults.{fault_number, failures_by, RefusedAfter, IfGoesOn, IfSend, IfSpared, IsOfCalls, IsNumberOfCalls, WantsNoMemory}
 use Rattle.lk_replica.specs.declared.fault.ReplicaFault.{ReplicaFault}
 use Rattle.lk_replica.specs.declared.fault.ReplicaFault.TheVariants as fault
@@ -85,16 +85,19 @@ pub record GivesBy (m : Meaning) (IsText : List ℕ → Type 0) (Metered : Type 
       → (d : Datagram) → Contains (batch_of n letters) d → Spells (said_by genesis n x) d.bytes → AllCover m genesis n (disks new.store) x
 
 -- a call was refused with the fault of this number, for its cause: 7 exactly where the device has failed once more, 11 only after an
--- earlier refusal, after which there is no other, or where fewer than two further generations are left: a call rebases twice at most, and
--- 14 exactly where the node has halted. It has ended the replica, unless it tells that a datagram was lost; and where no call of the device has failed, the files are as they were,
--- or as a rebase that was due left them. `Honest` says that its device does what it tells, and `Metered` that it counts its calls
+-- earlier refusal, after which there is no other, or where no generation is left, or only one and a rebase was due: a call rebases twice at most; and
+-- 14 exactly where the node has halted. It has ended the replica, unless it tells that a datagram was lost; its store has gone over only by a rebase that
+-- was due; and where no call of the device has failed, the files are as they were, or as that rebase left them. `Honest` says that its device does what
+-- it tells, and `Metered` that it counts its calls
 pub record IsRefused (Honest Metered : Type 0) (old new : ReplicaValue) (number : ℕ) : Type 0 where
   pub told : IsNumberOfCalls number
   pub failures : new.store.failures ≡ failures_by number old.store.failures
   pub calls : Metered → Honest → RefusedAfter number old.store.meter new.store.meter
   pub earlier : number ≡ 11 → old.failed ≡ false → old.store.failed ≡ false → old.store.generation + 1 < max_count → ⊥
+  pub second : Honest → number ≡ 11 → old.failed ≡ false → old.store.failed ≡ false → old.store.generation < max_count → IsDue old.node old.store
   pub once : old.failed ≡ true → (number ≡ 11) × (new ≡ old)
   pub ends : (number ≡ 15 → ⊥) → new.failed ≡ true
+  pub file : Honest → (number ≡ 15 → ⊥) → KeepsFileOrGoesOver old.node old.store new.store
   pub stays : Honest → (number ≡ 7 → ⊥) → (number ≡ 15 → ⊥) → AreLeft old.node old.store new.store
   pub halts : number ≡ 14 → new.node.halted ≡ true
   pub awake : old.node.halted ≡ false → (number ≡ 14 → ⊥) → new.node.halted ≡ false
@@ -116,12 +119,15 @@ pub record StepsOn (Honest : Type 0) (node : NodeValue) (store : StoreValue) (ne
   pub runs : NothingToRun node → NothingToRun new
   pub remembers : Honest → (genesis : Genesis) (n : ℕ) → Remembers node store genesis n → Remembers new after genesis n
 
--- a part of a call was refused so, which rebases so many times at most, and leaves the files so where no call of the device has failed
-pub record IsCutShort (Honest Metered : Type 0) (most : ℕ) (node : NodeValue) (store : StoreValue) (new : NodeValue) (after : StoreValue) (Left : Type 0) (e : ReplicaFault) : Type 0 where
+-- a part of a call was refused so, which rebases so many times at most, and more than once only where a rebase was due; it leaves the store with such a
+-- file, and the files so where no call of the device has failed
+pub record IsCutShort (Honest Metered : Type 0) (most : ℕ) (node : NodeValue) (store : StoreValue) (new : NodeValue) (after : StoreValue) (File Left : Type 0) (e : ReplicaFault) : Type 0 where
   pub told : IsOfCalls e
   pub only : IfSend (λ notes. ⊥) e
   pub calls : Metered → Honest → RefusedAfter (fault_number e) store.meter after.meter
   pub earlier : e ≡ fault.Failed → store.failed ≡ false → store.generation + most ≤ max_count → ⊥
+  pub second : Honest → e ≡ fault.Failed → store.failed ≡ false → store.generation < max_count → IsDue node store
+  pub file : Honest → File
   pub stays : Honest → IfSpared Left e
   pub halts : e ≡ fault.Halted → new.halted ≡ true
   pub awake : node.halted ≡ false → (fault_number e ≡ 14 → ⊥) → new.halted ≡ false

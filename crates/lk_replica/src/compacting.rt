@@ -4,7 +4,7 @@ ghost use Rattle.lk_types.specs.Limits.{max_base, max_count};
 ghost use Rattle.lk_disk.specs.Disk.{contents};
 ghost use Rattle.lk_entries.specs.declared.stored.Stored.{Stored};
 ghost use Rattle.lk_log.specs.StoreValue.{disks};
-ghost use Rattle.lk_log.specs.Stores.{Holds, KeepsOrIs, next_base};
+ghost use Rattle.lk_log.specs.Stores.{Holds, KeepsItsFile, KeepsOrIs, next_base};
 ghost use Rattle.lk_learner.specs.Learners.{executed};
 ghost use Rattle.lk_node.specs.Packing.{standing_of};
 ghost use Rattle.lk_replica.specs.Compacting.{IsDue, IsSameStore};
@@ -39,7 +39,8 @@ pub fn write_base<M: Machine, D: LogDisk + Drop>(
     ensures within { node.old.acceptor.state.snapshot_position ≤ executed node.old.learner }
     ensures wakes { node.new.halted ≡ node.old.halted }
     ensures format_stays { store.old.format ≡ 2 → store.new.format ≡ 2 }
-    ensures refused { IfErr result (IsNotRebased D.is_honest D.is_metered store.old store.new) }
+    // A refusal leaves the node as it was, and the same file live.
+    ensures refused { IfErr result (IsNotRebased D.is_honest D.is_metered node.old store.old node.new store.new) }
     ensures last { max_count ≤ store.old.generation → (store.new ≡ store.old) × IsErrOf result ReplicaFault.Failed }
     ensures cause { RaisesFailures store.old.failures store.new.failures result }
 {
@@ -61,8 +62,7 @@ pub fn is_due<M: Machine, D: LogDisk + Drop>(
 ) -> Result<bool, ReplicaFault>
     ensures value { D.is_honest → IfOk result (λ due. IsTrue due ↔ IsDue node.now store.old) }
     ensures same { D.is_honest → IsSameStore store.old store.new }
-    ensures generation { store.new.generation ≡ store.old.generation }
-    ensures format { store.new.format ≡ store.old.format }
+    ensures file { KeepsItsFile store.old store.new }
     ensures alive { OnOk result (store.new.failed ≡ false) }
     ensures memory { IfErr result (λ e. WantsNoMemory (fault_number e)) }
     ensures failed_before { store.old.failed ≡ false → IsErrOf result ReplicaFault.Failed → ⊥ }
@@ -85,7 +85,7 @@ pub fn rebase_where_due<M: Machine, D: LogDisk + Drop>(
     ensures disks { D.is_honest → LeavesDisks M.meaning (λ h. ⊤) max_base node.old store.old (disks store.new) }
     ensures wakes { node.new.halted ≡ node.old.halted }
     ensures format_stays { store.old.format ≡ 2 → store.new.format ≡ 2 }
-    ensures refused { IfErr result (IsNotRebased D.is_honest D.is_metered store.old store.new) }
+    ensures refused { IfErr result (IsNotRebased D.is_honest D.is_metered node.old store.old node.new store.new) }
     // Where a rebase is due at generation 2^48, it answers `Failed`, also where memory is refused, or `Device` where the device fails.
     ensures last { D.is_honest → max_count ≤ store.old.generation → IsDue node.old store.old → IsErrAnd result (λ e. WantsNoMemory (fault_number e)) }
     ensures cause { RaisesFailures store.old.failures store.new.failures result }
@@ -112,7 +112,7 @@ impl<M: Machine, D: LogDisk + Drop> Replica<M, D> {
         // What is on the disks after any exit: neither file is longer than it was, or else than a Base.
         ensures disks { D.is_honest → LeavesDisks M.meaning (λ h. ⊤) max_base self.old.node self.old.store (disks self.new.store) }
         ensures wakes { self.new.node.halted ≡ self.old.node.halted }
-        // Nothing but 7, 8 and 11 comes, each for its cause, and each ends it.
+        // Nothing but 7, 8 and 11 comes, each for its cause, and each ends it; the node is as it was, and the same file is live.
         ensures refused { IfErr result (λ e. IsNotCompacted D.is_honest D.is_metered self.old self.new (fault_number e)) }
         ensures failed { self.old.failed ≡ true → IsErrOf result ReplicaFault.Failed }
         // At generation 2^48 it answers `Failed`, also where memory is refused, and leaves its store as it was.

@@ -21,7 +21,7 @@ ghost use Rattle.lk_replica.specs.Groups.{Adds, IsCovered, StepsToFile, IsGather
 ghost use Rattle.lk_replica.specs.Posts.{AreOf, CarriesAll, GivesLetters};
 ghost use Rattle.lk_replica.specs.Compacting.{RebasesWhereDue};
 ghost use Rattle.lk_replica.specs.Remembering.{Remembers};
-ghost use Rattle.lk_replica.specs.Rebased.{IsNotRebased, StaysAlive};
+ghost use Rattle.lk_replica.specs.Rebased.{IsNotWritten, StaysAlive};
 ghost use Rattle.lk_replica.specs.Rooms.{max_after};
 ghost use Rattle.lk_replica.specs.Taking.{IsCutShort};
 
@@ -102,7 +102,7 @@ pub fn settle<D: LogDisk + Drop>(store: &mut Store<D>, waits: bool) -> Result<()
     // After any exit each image that a stop may leave has all that was synced, and a beginning of the rest.
     ensures any { D.is_honest → (ks ls : List Stored) → Holds store.old ks ls → KeepsAtLeast store.new ks ls }
     ensures room { D.is_honest → StaysWithin 0 (disks store.old) (disks store.new) }
-    ensures refused { IfErr result (IsNotRebased D.is_honest D.is_metered store.old store.new) }
+    ensures refused { IfErr result (IsNotWritten D.is_honest D.is_metered store.old store.new) }
     ensures metered { D.is_metered → OnOk result (Passes store.old.meter store.new.meter (settle_calls waits)) }
     ensures alive { store.old.failed ≡ false → OnOk result (store.new.failed ≡ false) }
     ensures file { KeepsItsFile store.old store.new }
@@ -144,7 +144,7 @@ fn step_to_file<M: Machine, D: LogDisk + Drop>(
     ensures room { D.is_honest → length (contents store.old.live_disk) < 131072 → StaysWithin max_after (disks store.old) (disks store.new) }
     ensures exact { D.is_honest → IfOk result (λ o. StepsToFile M.meaning M.IsText D.is_metered node.old store.old waits input.entry o node.new store.new) }
     ensures alive { IfOk result (λ o. (store.new.failed ≡ false) × (node.new.halted ≡ false)) }
-    ensures refused { IfErr result (IsCutShort D.is_honest D.is_metered 1 node.old store.old node.new store.new ⊤) }
+    ensures refused { IfErr result (IsCutShort D.is_honest D.is_metered 1 node.old store.old node.new store.new (KeepsItsFile store.old store.new) ⊤) }
     ensures format { store.new.format ≡ 2 }
     ensures cause { RaisesFailures store.old.failures store.new.failures result }
 {
@@ -176,7 +176,7 @@ fn make_room<M: Machine, D: LogDisk + Drop>(
     ensures exact { D.is_honest → OnOk result (RebasesWhereDue node.old store.old node.new store.new) }
     ensures calls { D.is_metered → D.is_honest → OnOk result ((k : ℕ) × Passes store.old.meter store.new.meter k) }
     ensures alive { OnOk result (StaysAlive node.old store.old node.new store.new) }
-    ensures refused { IfErr result (IsCutShort D.is_honest D.is_metered 1 node.old store.old node.new store.new ⊤) }
+    ensures refused { IfErr result (IsCutShort D.is_honest D.is_metered 1 node.old store.old node.new store.new (KeepsItsFile store.old store.new) ⊤) }
     ensures wakes { node.new.halted ≡ node.old.halted }
     // Then the live file has room for a step.
     ensures small { D.is_honest → OnOk result (length (contents store.new.live_disk) < 131072) }
@@ -217,7 +217,7 @@ fn gather_on<M: Machine, D: LogDisk + Drop>(
     ensures exact { D.is_honest → OnOk result (IsGathered M.meaning M.IsText node.old store.old group.old input.entry node.new store.new group.new) }
     ensures calls { D.is_metered → D.is_honest → OnOk result ((k : ℕ) × Passes store.old.meter store.new.meter k) }
     ensures alive { OnOk result ((store.new.failed ≡ false) × (node.new.halted ≡ false)) }
-    ensures refused { IfErr result (IsCutShort D.is_honest D.is_metered 2 node.old store.old node.new store.new ⊤) }
+    ensures refused { IfErr result (IsCutShort D.is_honest D.is_metered 2 node.old store.old node.new store.new ⊤ ⊤) }
     ensures format { store.new.format ≡ 2 }
     ensures cause { RaisesFailures store.old.failures store.new.failures result }
 {

@@ -4,9 +4,10 @@ ghost use Rattle.lk_types.specs.Limits.{max_count};
 ghost use Rattle.lk_disk.specs.declared.device.Side.{Side};
 ghost use Rattle.lk_disk.specs.Meters.{trapped};
 ghost use Rattle.lk_log.specs.StoreValue.{StoreValue, disks};
+ghost use Rattle.lk_log.specs.Stores.{KeepsItsFile};
 ghost use Rattle.lk_step.specs.Letters.{LetterValue, batch_of};
 ghost use Rattle.lk_node.specs.NodeValue.{NodeValue};
-ghost use Rattle.lk_replica.specs.Compacting.{AreLeft, AreSame, IsDue, RebasesWhereDue};
+ghost use Rattle.lk_replica.specs.Compacting.{AreLeft, AreSame, IsDue, KeepsFileOrGoesOver, RebasesWhereDue};
 ghost use Rattle.lk_wire.specs.Grammar.{Spells};
 ghost use Rattle.lk_history.specs.Datagrams.{NodeMessage, Datagram as DatagramValue, said_by};
 ghost use Rattle.lk_node.specs.Calls.{InputFits, NodeFits, Goes};
@@ -176,7 +177,7 @@ fn step_to_disk<M: Machine, D: LogDisk + Drop>(
     ensures exact { D.is_honest → IfOk result (λ o. StepsToDisk M.meaning M.IsText D.is_metered node.old store.old input.entry o node.new store.new) }
     ensures alive { OnOk result (StepsOn D.is_honest node.old store.old node.new store.new) }
     ensures disks { D.is_honest → StepLeavesDisks M.meaning (λ h. InputFits h input.entry) max_after node.old store.old (disks store.new) }
-    ensures refused { IfErr result (IsCutShort D.is_honest D.is_metered 1 node.old store.old node.new store.new (AreSame (disks store.old) (disks store.new))) }
+    ensures refused { IfErr result (IsCutShort D.is_honest D.is_metered 1 node.old store.old node.new store.new (KeepsItsFile store.old store.new) (AreSame (disks store.old) (disks store.new))) }
     ensures halts { IsErrOf result ReplicaFault.Halted ↔ (node.new.halted ≡ true) }
     ensures format { store.new.format ≡ 2 }
     // At generation 2^48 no step is done that has to rebase.
@@ -208,7 +209,7 @@ fn rebase_and_step<M: Machine, D: LogDisk + Drop>(
     ensures calls { D.is_metered → D.is_honest → IfOk result (λ o. CallsOfStep node.old store.old o store.new) }
     ensures alive { OnOk result (StepsOn D.is_honest node.old store.old node.new store.new) }
     ensures disks { D.is_honest → LeavesDisks M.meaning (λ h. InputFits h input.entry) max_after node.old store.old (disks store.new) }
-    ensures refused { IfErr result (IsCutShort D.is_honest D.is_metered 2 node.old store.old node.new store.new (AreLeft node.old store.old store.new)) }
+    ensures refused { IfErr result (IsCutShort D.is_honest D.is_metered 2 node.old store.old node.new store.new (KeepsFileOrGoesOver node.old store.old store.new) (AreLeft node.old store.old store.new)) }
     ensures format { store.new.format ≡ 2 }
     ensures last { D.is_honest → max_count ≤ store.old.generation → IsDue node.old store.old → IsErrAnd result (λ e. WantsNoMemory (fault_number e)) }
     ensures cause { RaisesFailures store.old.failures store.new.failures result }

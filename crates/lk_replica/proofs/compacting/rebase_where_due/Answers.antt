@@ -5,7 +5,7 @@ use Rattle.lk_replica.specs.Faults.{WantsNoMemory, fault_number}
 use Rattle.lk_replica.proofs.compacting.rebase_where_due.Goals as goal
 use Rattle.lk_replica.proofs.Calling.{err_as, errs_as, refused_on}
 use Rattle.lk_replica.proofs.Rebasing.{ready_as_was, ready_by_rebase, leaves_as_was, leaves_by_rebase}
-use Rattle.lk_replica.proofs.Spared.{spared_all, spared_more, same_files, then_same}
+use Rattle.lk_replica.proofs.Spared.{spared_all, spared_more, same_files, then_same, kept_then}
 
 -- ---- where it is ready
 
@@ -23,12 +23,12 @@ returns-clause-done g c honest =
     ((c.in_ok-due.ensures.value honest).0 (search rules)) c.in_ok-due.ensures.metered (c.in_ok-write_base.ensures.done honest) (c.write_base.ensures.disks honest)
 
 pub returns-then-not-due-clause-alive : goal.returns-then-not-due-clause-alive
-returns-then-not-due-clause-alive g c = record { store_alive = c.in_ok-due.ensures.alive; further = omega (arith, c.is_due.ensures.generation); runs = λ none. none }
+returns-then-not-due-clause-alive g c = record { store_alive = c.in_ok-due.ensures.alive; further = omega (arith, c.is_due.ensures.file.1); runs = λ none. none }
 
 pub returns-clause-alive : goal.returns-clause-alive
 returns-clause-alive g c = record {
   store_alive = c.in_ok-write_base.ensures.becomes.store_alive;
-  further = omega (arith, c.is_due.ensures.generation, c.in_ok-write_base.ensures.becomes.generation);
+  further = omega (arith, c.is_due.ensures.file.1, c.in_ok-write_base.ensures.becomes.generation);
   runs = c.in_ok-write_base.ensures.becomes.runs;
 }
 
@@ -60,21 +60,29 @@ pub returns-in_err-due-clause-refused : goal.returns-in_err-due-clause-refused
 returns-in_err-due-clause-refused g c =
     let was = c.in_err-due.ensures in
     err_as _ _ _ c.from_residual.ensures.1 (record {
-      of_store = elim was.memory [ inl device ↦ inl device | inr failed ↦ inr (inr failed) ];
-      calls = λ metered honest. was.metered metered;
-      earlier = λ is alive less. was.failed_before alive (ap Err is);
-      stays = λ honest. spared_all _ _ (same_files c.args.store.now c.is_due.new.store (c.is_due.ensures.same honest));
+      rests = refl;
+      why = record {
+        of_store = elim was.memory [ inl device ↦ inl device | inr failed ↦ inr (inr failed) ];
+        calls = λ metered honest. was.metered metered;
+        earlier = λ is alive less. was.failed_before alive (ap Err is);
+        file = c.is_due.ensures.file;
+        stays = λ honest. spared_all _ _ (same_files c.args.store.now c.is_due.new.store (c.is_due.ensures.same honest));
+      };
     })
 
 pub returns-in_err-write_base-clause-refused : goal.returns-in_err-write_base-clause-refused
 returns-in_err-write_base-clause-refused g c =
-    let was = c.in_err-write_base.ensures.refused in
+    let was = c.in_err-write_base.ensures.refused.why in
     err_as _ _ _ c.from_residual-in_err-write_base.ensures.1 (record {
-      of_store = was.of_store;
-      calls = λ metered honest. refused_on 0 (c.in_ok-due.ensures.metered metered) _ _ (was.calls metered honest);
-      earlier = λ is alive less. was.earlier is c.in_ok-due.ensures.alive (omega (arith, less, c.is_due.ensures.generation));
-      stays = λ honest.
-          spared_more _ _ _ (then_same (disks c.args.store.now) (disks c.is_due.new.store) (disks c.write_base.new.store) (same_files c.args.store.now c.is_due.new.store (c.is_due.ensures.same honest))) (was.stays honest);
+      rests = c.in_err-write_base.ensures.refused.rests;
+      why = record {
+        of_store = was.of_store;
+        calls = λ metered honest. refused_on 0 (c.in_ok-due.ensures.metered metered) _ _ (was.calls metered honest);
+        earlier = λ is alive less. was.earlier is c.in_ok-due.ensures.alive (omega (arith, less, c.is_due.ensures.file.1));
+        file = kept_then c.args.store.now c.is_due.new.store c.write_base.new.store c.is_due.ensures.file was.file;
+        stays = λ honest.
+            spared_more _ _ _ (then_same (disks c.args.store.now) (disks c.is_due.new.store) (disks c.write_base.new.store) (same_files c.args.store.now c.is_due.new.store (c.is_due.ensures.same honest))) (was.stays honest);
+      };
     })
 
 -- ---- at the last generation

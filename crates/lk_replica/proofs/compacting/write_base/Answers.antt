@@ -28,7 +28,7 @@ returns-clause-done g c honest =
     let may = subst MayBegin is fits in
     subst (λ (k : NodeValue). HasGoneOver m g.D.LogDisk.is_metered c.args.node.now c.args.store.now k c.rebase.new.self) (sym c.stand_here.ensures)
     (gone_over m c.args.node.now c.args.store.now c.rebase.new.self may c.standing-packed.ensures.near.snapshot
-    (λ ks ls holds. subst (λ (s : StandingValue). KeepsOrIs (disks c.rebase.new.self) ks ls (next_base c.args.store.now s)) is (c.rebase.ensures.any honest ks ls holds)) g.D.LogDisk.is_metered
+    (λ ks ls holds. subst (λ (s : StandingValue). KeepsOrIs (disks c.rebase.new.self) ks ls (next_base c.args.store.now s)) is (c.rebase.ensures.any honest ks ls holds)) g.D.LogDisk.is_metered c.in_ok-rebase.ensures.file.0
     (λ ks ls holds. subst (λ (s : StandingValue). Holds c.rebase.new.self (Base (next_base c.args.store.now s) ∷ []) []) is (c.in_ok-rebase.ensures.base honest ks ls holds))
     (λ metered. c.in_ok-rebase.ensures.metered metered honest) (c.in_ok-rebase.ensures.left honest).1)
 
@@ -102,27 +102,39 @@ returns-clause-any g c honest ks ls holds =
 
 pub returns-then-generation-ge-MAX_COUNT-clause-refused : goal.returns-then-generation-ge-MAX_COUNT-clause-refused
 returns-then-generation-ge-MAX_COUNT-clause-refused g c = record {
-  of_store = inr (inr refl);
-  calls = λ metered honest. (0, start);
-  earlier = λ is alive less. omega (arith, less, c.if-generation-ge-MAX_COUNT.true, c.generation.ensures);
-  stays = λ honest s. refl;
+  rests = refl;
+  why = record {
+    of_store = inr (inr refl);
+    calls = λ metered honest. (0, start);
+    earlier = λ is alive less. omega (arith, less, c.if-generation-ge-MAX_COUNT.true, c.generation.ensures);
+    file = (refl, refl, refl, refl);
+    stays = λ honest s. refl;
+  };
 }
 
 pub returns-in_err-standing-clause-refused : goal.returns-in_err-standing-clause-refused
 returns-in_err-standing-clause-refused g c =
     err_as _ _ fault.NoMemory c.from_residual.ensures.1 (record {
-      of_store = inr (inl refl);
-      calls = λ metered honest. (0, start);
-      earlier = λ is alive less. cc is;
-      stays = λ honest s. refl;
+      rests = refl;
+      why = record {
+        of_store = inr (inl refl);
+        calls = λ metered honest. (0, start);
+        earlier = λ is alive less. cc is;
+        file = (refl, refl, refl, refl);
+        stays = λ honest s. refl;
+      };
     })
 
 pub returns-in_err-rebase-clause-refused : goal.returns-in_err-rebase-clause-refused
 returns-in_err-rebase-clause-refused g c =
     let was = c.in_err-rebase.ensures in
     err_as _ _ _ c.from_residual-in_err-rebase.ensures.1 (record {
-      of_store = rebase_refused c.args.store.now _ (λ dead. (was.refuses.0 dead).1) (λ last. (was.refuses.1 last).1) was.refuses.2;
-      calls = λ metered honest. refused_after _ _ _ (was.metered metered honest);
-      earlier = λ is alive less. not_failed_so _ (was.refuses.2 alive less) is;
-      stays = λ honest. rebase_spares c.args.store.now c.rebase.new.self _ (was.no_memory honest) (λ dead. (c.rebase.ensures.refuses.0 dead).0) (λ last. (was.refuses.1 last).0) was.refuses.2;
+      rests = refl;
+      why = record {
+        of_store = rebase_refused c.args.store.now _ (λ dead. (was.refuses.0 dead).1) (λ last. (was.refuses.1 last).1) was.refuses.2;
+        calls = λ metered honest. refused_after _ _ _ (was.metered metered honest);
+        earlier = λ is alive less. not_failed_so _ (was.refuses.2 alive less) is;
+        file = was.file;
+        stays = λ honest. rebase_spares c.args.store.now c.rebase.new.self _ (was.no_memory honest) (λ dead. (c.rebase.ensures.refuses.0 dead).0) (λ last. (was.refuses.1 last).0) was.refuses.2;
+      };
     })

@@ -9,7 +9,7 @@ use Rattle.lk_disk.proofs.Devices.{passes_on}
 use Rattle.lk_replica.specs.declared.fault.ReplicaFault.TheVariants as fault
 use Rattle.lk_replica.proofs.Calling.{err_as, refused_on}
 use Rattle.lk_replica.proofs.Grouped.{uncounted}
-use Rattle.lk_replica.proofs.Spared.{spared_all}
+use Rattle.lk_replica.proofs.Spared.{spared_all, second_after}
 use Rattle.lk_replica.proofs.grouping.gather_on.Goals as goal
 
 pub returns-clause-goes : goal.returns-clause-goes
@@ -130,6 +130,8 @@ returns-in_err-waits-clause-refused g c =
       only = was.only;
       calls = was.calls;
       earlier = λ is alive further. was.earlier is alive (omega (arith, further));
+      second = was.second;
+      file = λ honest. tt;
       stays = λ honest. spared_all _ _ tt;
       halts = was.halts;
       awake = was.awake;
@@ -144,6 +146,8 @@ returns-in_err-outbox-clause-refused g c =
       only = was.only;
       calls = λ metered honest. let d = before.calls metered honest in refused_on d.0 d.1 _ _ (was.calls metered honest);
       earlier = λ is alive further. was.earlier is before.alive.store_alive (omega (arith, further, before.alive.further));
+      second = λ honest is alive less. second_after c.args.node.now c.make_room.new.node c.args.store.now c.make_room.new.store (before.exact honest) (was.earlier is before.alive.store_alive) less;
+      file = λ honest. tt;
       stays = λ honest. spared_all _ _ tt;
       halts = was.halts;
       awake = λ wakes other. was.awake (c.make_room.ensures.wakes ∙ wakes) other;
@@ -156,6 +160,8 @@ returns-in_err-add-clause-refused g c =
       only = tt;
       calls = λ metered honest. let first = c.in_ok-waits.ensures.calls metered honest in (_, passes_on first.0 first.1 _ ((c.in_ok-outbox.ensures.exact honest).calls metered));
       earlier = λ is alive further. cc is;
+      second = λ honest is alive less. absurd (cc is);
+      file = λ honest. tt;
       stays = λ honest. tt;
       halts = λ is. cc is;
       awake = λ wakes other. c.in_ok-outbox.ensures.alive.1;

@@ -8,7 +8,7 @@ use Rattle.lk_replica.proofs.Rebasing.{goes_fits, same_room}
 use Rattle.lk_disk.proofs.Devices.{passes_on}
 use Rattle.lk_replica.proofs.Calling.{err_as, refused_on}
 use Rattle.lk_replica.proofs.Refusals.{store_told, store_only, store_awake}
-use Rattle.lk_replica.proofs.Spared.{spared_all}
+use Rattle.lk_replica.proofs.Spared.{spared_all, kept_then}
 use Rattle.lk_replica.proofs.grouping.make_room.Goals as goal
 
 -- ---- none is due
@@ -168,12 +168,12 @@ returns-clause-calls g c metered honest =
     (_, passes_on 0 (c.in_ok-due.ensures.metered metered) _ (passes_on _ (c.in_ok-settle.ensures.metered metered) _ ((c.in_ok-write_base.ensures.done honest).calls metered)))
 
 pub returns-then-not-due-clause-alive : goal.returns-then-not-due-clause-alive
-returns-then-not-due-clause-alive g c = record { store_alive = c.in_ok-due.ensures.alive; further = omega (arith, c.is_due.ensures.generation); runs = λ none. none }
+returns-then-not-due-clause-alive g c = record { store_alive = c.in_ok-due.ensures.alive; further = omega (arith, c.is_due.ensures.file.1); runs = λ none. none }
 
 pub returns-clause-alive : goal.returns-clause-alive
 returns-clause-alive g c = record {
   store_alive = c.in_ok-write_base.ensures.becomes.store_alive;
-  further = omega (arith, c.is_due.ensures.generation, c.settle.ensures.file.1, c.in_ok-write_base.ensures.becomes.generation);
+  further = omega (arith, c.is_due.ensures.file.1, c.settle.ensures.file.1, c.in_ok-write_base.ensures.becomes.generation);
   runs = c.in_ok-write_base.ensures.becomes.runs;
 }
 
@@ -188,6 +188,8 @@ returns-in_err-due-clause-refused g c =
       only = store_only _ of_store;
       calls = λ metered honest. was.metered metered;
       earlier = λ is alive further. was.failed_before alive (ap Err is);
+      second = λ honest is alive less. absurd (was.failed_before alive (ap Err is));
+      file = λ honest. c.is_due.ensures.file;
       stays = λ honest. spared_all _ _ tt;
       halts = λ is. absurd (store_awake _ of_store is);
       awake = λ wakes other. wakes;
@@ -200,7 +202,9 @@ returns-in_err-settle-clause-refused g c =
       told = store_told _ was.of_store;
       only = store_only _ was.of_store;
       calls = λ metered honest. refused_on 0 (c.in_ok-due.ensures.metered metered) _ _ (was.calls metered honest);
-      earlier = λ is alive further. was.earlier is c.in_ok-due.ensures.alive (omega (arith, further, c.is_due.ensures.generation));
+      earlier = λ is alive further. was.earlier is c.in_ok-due.ensures.alive (omega (arith, further, c.is_due.ensures.file.1));
+      second = λ honest is alive less. absurd (was.earlier is c.in_ok-due.ensures.alive (omega (arith, less, c.is_due.ensures.file.1)));
+      file = λ honest. kept_then c.args.store.now c.is_due.new.store c.settle.new.store c.is_due.ensures.file was.file;
       stays = λ honest. spared_all _ _ tt;
       halts = λ is. absurd (store_awake _ was.of_store is);
       awake = λ wakes other. wakes;
@@ -208,12 +212,15 @@ returns-in_err-settle-clause-refused g c =
 
 pub returns-in_err-write_base-clause-refused : goal.returns-in_err-write_base-clause-refused
 returns-in_err-write_base-clause-refused g c =
-    let was = c.in_err-write_base.ensures.refused in
+    let was = c.in_err-write_base.ensures.refused.why in
     err_as _ _ _ c.from_residual-in_err-write_base.ensures.1 (record {
       told = store_told _ was.of_store;
       only = store_only _ was.of_store;
       calls = λ metered honest. refused_on 0 (c.in_ok-due.ensures.metered metered) _ _ (refused_on _ (c.in_ok-settle.ensures.metered metered) _ _ (was.calls metered honest));
-      earlier = λ is alive further. was.earlier is (c.in_ok-settle.ensures.alive c.in_ok-due.ensures.alive) (omega (arith, further, c.is_due.ensures.generation, c.settle.ensures.file.1));
+      earlier = λ is alive further. was.earlier is (c.in_ok-settle.ensures.alive c.in_ok-due.ensures.alive) (omega (arith, further, c.is_due.ensures.file.1, c.settle.ensures.file.1));
+      second = λ honest is alive less. absurd (was.earlier is (c.in_ok-settle.ensures.alive c.in_ok-due.ensures.alive) (omega (arith, less, c.is_due.ensures.file.1, c.settle.ensures.file.1)));
+      file = λ honest.
+          kept_then c.args.store.now c.settle.new.store c.write_base.new.store (kept_then c.args.store.now c.is_due.new.store c.settle.new.store c.is_due.ensures.file c.settle.ensures.file) was.file;
       stays = λ honest. spared_all _ _ tt;
       halts = λ is. absurd (store_awake _ was.of_store is);
       awake = λ wakes other. c.write_base.ensures.wakes ∙ wakes;

@@ -26,5 +26,6 @@ returns-in_err-sync-clause-refused g c =
       of_store = sync_refused c.args.store.now _ (λ dead. (was.refuses.0 dead).1) was.refuses.1;
       calls = λ metered honest. refused_after _ _ _ (was.metered metered);
       earlier = λ is alive less. sync_not_failed _ (was.refuses.1 alive) is;
+      file = c.sync.ensures.file;
       stays = λ honest. sync_spares c.args.store.now c.sync.new.self _ (λ dead. (c.sync.ensures.refuses.0 dead).0) was.refuses.1;
     })

@@ -17,7 +17,7 @@ use Rattle.lk_replica.specs.declared.fault.ReplicaFault.TheVariants as fault
 use Rattle.lk_replica.proofs.Calling.{err_as, refused_after, refused_on}
 use Rattle.lk_replica.proofs.Compactions.{put_refused}
 use Rattle.lk_replica.proofs.Refusals.{store_told, store_only, store_awake}
-use Rattle.lk_replica.proofs.Spared.{spared_all, not_failed_so}
+use Rattle.lk_replica.proofs.Spared.{spared_all, not_failed_so, kept_then}
 use Rattle.lk_replica.proofs.grouping.step_to_file.Goals as goal
 
 -- ---- a step whose entries were put
@@ -250,6 +250,8 @@ returns-in_err-outbox-clause-refused g c =
       only = tt;
       calls = λ metered honest. (0, start);
       earlier = λ is alive further. cc is;
+      second = λ honest is alive less. absurd (cc is);
+      file = λ honest. (refl, refl, refl, refl);
       stays = λ honest. tt;
       halts = λ is. c.in_err-outbox.ensures.halts;
       awake = λ was other. absurd (other refl);
@@ -264,6 +266,8 @@ returns-in_err-put-clause-refused g c =
       only = store_only _ of_store;
       calls = λ metered honest. refused_after _ _ _ (was.metered metered);
       earlier = λ is alive further. not_failed_so _ (was.refuses.1 alive) is;
+      second = λ honest is alive less. absurd (not_failed_so _ (was.refuses.1 alive) is);
+      file = λ honest. c.put.ensures.file;
       stays = λ honest. spared_all _ _ tt;
       halts = λ is. absurd (store_awake _ of_store is);
       awake = λ wakes other. c.in_ok-outbox.ensures.awake;
@@ -277,6 +281,8 @@ returns-in_err-settle-clause-refused g c =
       only = store_only _ was.of_store;
       calls = was.calls;
       earlier = λ is alive further. was.earlier is alive (omega (arith, further));
+      second = λ honest is alive less. absurd (was.earlier is alive less);
+      file = λ honest. was.file;
       stays = λ honest. spared_all _ _ tt;
       halts = λ is. absurd (store_awake _ was.of_store is);
       awake = λ wakes other. c.in_ok-outbox.ensures.awake;
@@ -284,12 +290,14 @@ returns-in_err-settle-clause-refused g c =
 
 pub returns-in_err-write_base-clause-refused : goal.returns-in_err-write_base-clause-refused
 returns-in_err-write_base-clause-refused g c =
-    let was = c.in_err-write_base.ensures.refused in
+    let was = c.in_err-write_base.ensures.refused.why in
     err_as _ _ _ c.from_residual-in_err-write_base.ensures.1 (record {
       told = store_told _ was.of_store;
       only = store_only _ was.of_store;
       calls = λ metered honest. refused_on _ (c.in_ok-settle.ensures.metered metered) _ _ (was.calls metered honest);
       earlier = λ is alive further. was.earlier is (c.in_ok-settle.ensures.alive alive) (omega (arith, further, c.settle.ensures.file.1));
+      second = λ honest is alive less. absurd (was.earlier is (c.in_ok-settle.ensures.alive alive) (omega (arith, less, c.settle.ensures.file.1)));
+      file = λ honest. kept_then c.args.store.now c.settle.new.store c.write_base.new.store c.settle.ensures.file was.file;
       stays = λ honest. spared_all _ _ tt;
       halts = λ is. absurd (store_awake _ was.of_store is);
       awake = λ wakes other. c.write_base.ensures.wakes ∙ c.in_ok-outbox.ensures.awake;

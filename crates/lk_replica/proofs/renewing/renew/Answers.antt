@@ -77,11 +77,11 @@ returns-clause-metered g c metered honest =
     subst (λ (b : Bool). Passes c.args.store.now.meter c.write_base.new.store.meter (if b then 0 else rebase_calls)) (sym other) ((c.in_ok-write_base.ensures.done honest).calls metered)
 
 pub returns-in_err-write_base-clause-metered : goal.returns-in_err-write_base-clause-metered
-returns-in_err-write_base-clause-metered g c metered honest = refused_by _ _ _ _ _ c.from_residual.ensures.1 (c.in_err-write_base.ensures.refused.calls metered honest)
+returns-in_err-write_base-clause-metered g c metered honest = refused_by _ _ _ _ _ c.from_residual.ensures.1 (c.in_err-write_base.ensures.refused.why.calls metered honest)
 
 pub returns-in_err-write_base-clause-refused : goal.returns-in_err-write_base-clause-refused
 returns-in_err-write_base-clause-refused g c =
-    let was = c.in_err-write_base.ensures.refused in
+    let was = c.in_err-write_base.ensures.refused.why in
     if_errs_as (λ e. IsNotRenewed c.args.store.now (fault_number e)) _ _ c.from_residual.ensures.1 (record {
       of_store = was.of_store;
       old = λ two. omega (arith, two, c.if-format-eq2.false, c.format.ensures);

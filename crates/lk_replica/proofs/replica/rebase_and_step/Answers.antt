@@ -5,7 +5,7 @@ use Rattle.lk_replica.proofs.replica.rebase_and_step.Goals as goal
 use Rattle.lk_disk.proofs.Devices.{passes_on}
 use Rattle.lk_replica.proofs.Calling.{err_as, refused_on}
 use Rattle.lk_replica.proofs.Refusals.{store_told, store_only, store_awake}
-use Rattle.lk_replica.proofs.Spared.{spared_more, left_after}
+use Rattle.lk_replica.proofs.Spared.{spared_more, left_after, file_after, second_after}
 
 pub returns-clause-goes : goal.returns-clause-goes
 returns-clause-goes g c honest h n f heard =
@@ -74,12 +74,14 @@ returns-clause-disks g c honest =
 
 pub returns-in_err-rebase_where_due-clause-refused : goal.returns-in_err-rebase_where_due-clause-refused
 returns-in_err-rebase_where_due-clause-refused g c =
-    let was = c.in_err-rebase_where_due.ensures.refused in
+    let was = c.in_err-rebase_where_due.ensures.refused.why in
     err_as _ _ _ c.from_residual.ensures.1 (record {
       told = store_told _ was.of_store;
       only = store_only _ was.of_store;
       calls = was.calls;
       earlier = λ is alive further. was.earlier is alive (omega (arith, further));
+      second = λ honest is alive less. absurd (was.earlier is alive less);
+      file = λ honest. inl was.file;
       stays = λ honest. spared_more _ _ _ (λ same. inl same) (was.stays honest);
       halts = λ is. absurd (store_awake _ was.of_store is);
       awake = λ wakes other. c.rebase_where_due.ensures.wakes ∙ wakes;
@@ -94,6 +96,10 @@ returns-in_err-outbox-clause-refused g c =
       only = was.only;
       calls = λ metered honest. let d = (before.done honest).calls metered in refused_on d.0 d.2 _ _ (was.calls metered honest);
       earlier = λ is alive further. was.earlier is before.alive.store_alive (omega (arith, further, before.alive.further));
+      second = λ honest is alive less.
+          second_after c.args.node.now c.rebase_where_due.new.node c.args.store.now c.rebase_where_due.new.store (before.done honest).rebases (was.earlier is before.alive.store_alive) less;
+      file = λ honest.
+          file_after c.args.node.now c.rebase_where_due.new.node c.args.store.now c.rebase_where_due.new.store c.step_to_disk.new.store (before.done honest).rebases (was.file honest);
       stays = λ honest.
           spared_more _ _ _ (left_after c.args.node.now c.rebase_where_due.new.node c.args.store.now c.rebase_where_due.new.store c.step_to_disk.new.store (before.done honest).rebases) (was.stays honest);
       halts = was.halts;

@@ -185,6 +185,8 @@ returns-in_err-outbox-clause-refused g c =
       only = tt;
       calls = λ metered honest. (0, start);
       earlier = λ is alive further. cc is;
+      second = λ honest is alive less. absurd (cc is);
+      file = λ honest. (refl, refl, refl, refl);
       stays = λ honest s. refl;
       halts = λ is. c.in_err-outbox.ensures.halts;
       awake = λ was other. absurd (other refl);
@@ -199,6 +201,8 @@ returns-in_err-put-clause-refused g c =
       only = store_only _ of_store;
       calls = λ metered honest. refused_after _ _ _ (was.metered metered);
       earlier = λ is alive further. not_failed_so _ (was.refuses.1 alive) is;
+      second = λ honest is alive less. absurd (not_failed_so _ (was.refuses.1 alive) is);
+      file = λ honest. c.put.ensures.file;
       stays = λ honest. put_spares c.args.store.now c.put.new.self _ c.put.ensures.file.0 (c.put.ensures.beside honest).0 (was.beside honest).1 (λ dead. (c.put.ensures.refuses.0 dead).0) was.refuses.1;
       halts = λ is. absurd (store_awake _ of_store is);
       awake = λ wakes other. c.in_ok-outbox.ensures.awake;
@@ -206,12 +210,14 @@ returns-in_err-put-clause-refused g c =
 
 pub returns-in_err-write_base-clause-refused : goal.returns-in_err-write_base-clause-refused
 returns-in_err-write_base-clause-refused g c =
-    let was = c.in_err-write_base.ensures.refused in
+    let was = c.in_err-write_base.ensures.refused.why in
     err_as _ _ _ c.from_residual-in_err-write_base.ensures.1 (record {
       told = store_told _ was.of_store;
       only = store_only _ was.of_store;
       calls = was.calls;
       earlier = λ is alive further. was.earlier is alive (omega (arith, further));
+      second = λ honest is alive less. absurd (was.earlier is alive less);
+      file = λ honest. was.file;
       stays = was.stays;
       halts = λ is. absurd (store_awake _ was.of_store is);
       awake = λ wakes other. c.write_base.ensures.wakes ∙ c.in_ok-outbox.ensures.awake;

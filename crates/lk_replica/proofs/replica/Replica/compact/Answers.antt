@@ -53,6 +53,8 @@ returns-then-self-clause-refused g c = record {
   calls = λ metered honest. (0, start);
   earlier = λ number alive store_alive less. let both : true ≡ false = sym c.if-self.true ∙ ap (λ (r : ReplicaValue). r.failed) c.self.view_is ∙ alive in cc both;
   once = λ ended. (refl, refl);
+  rests = refl;
+  file = (refl, refl, refl, refl);
   ends = sym (ap (λ (r : ReplicaValue). r.failed) c.self.view_is) ∙ c.if-self.true;
   stays = λ honest device s. refl;
 }

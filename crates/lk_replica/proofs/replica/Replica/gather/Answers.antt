@@ -109,6 +109,7 @@ returns-then-self-clause-refused g c = record {
   failures = refl;
   calls = λ metered honest. (0, start);
   earlier = λ number alive store_alive further. let both : true ≡ false = sym c.if-self.true ∙ ap (λ (r : ReplicaValue). r.failed) c.self.view_is ∙ alive in cc both;
+  second = λ honest number alive store_alive less. absurd (let both : true ≡ false = sym c.if-self.true ∙ ap (λ (r : ReplicaValue). r.failed) c.self.view_is ∙ alive in cc both);
   once = λ ended. (refl, refl);
   ends = sym (ap (λ (r : ReplicaValue). r.failed) c.self.view_is) ∙ c.if-self.true;
   halts = λ number. absurd (omega (arith, number));

@@ -97,6 +97,7 @@ returns-then-self-clause-refused g c = record {
   failures = refl;
   calls = λ metered honest. (0, start);
   earlier = λ number alive store_alive further. let both : true ≡ false = sym c.if-self.true ∙ ap (λ (r : ReplicaValue). r.failed) c.self.view_is ∙ alive in cc both;
+  second = λ honest number alive store_alive less. absurd (let both : true ≡ false = sym c.if-self.true ∙ ap (λ (r : ReplicaValue). r.failed) c.self.view_is ∙ alive in cc both);
   once = λ ended. (refl, refl);
   ends = sym (ap (λ (r : ReplicaValue). r.failed) c.self.view_is) ∙ c.if-self.true;
   halts = λ number. absurd (omega (arith, number));
@@ -113,6 +114,8 @@ returns-in_err-settle-clause-refused g c =
       only = store_only _ was.of_store;
       calls = was.calls;
       earlier = λ is alive further. was.earlier is alive (omega (arith, further));
+      second = λ honest is alive less. absurd (was.earlier is alive less);
+      file = λ honest. tt;
       stays = λ honest. spared_all _ _ tt;
       halts = λ is. absurd (store_awake _ was.of_store is);
       awake = λ wakes other. wakes;

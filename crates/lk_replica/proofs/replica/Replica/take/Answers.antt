@@ -162,8 +162,10 @@ returns-then-self-clause-refused g c = record {
   failures = refl;
   calls = λ metered honest. (0, start);
   earlier = λ number alive store_alive further. let both : true ≡ false = sym c.if-self.true ∙ ap (λ (r : ReplicaValue). r.failed) c.self.view_is ∙ alive in cc both;
+  second = λ honest number alive store_alive less. absurd (let both : true ≡ false = sym c.if-self.true ∙ ap (λ (r : ReplicaValue). r.failed) c.self.view_is ∙ alive in cc both);
   once = λ ended. (refl, refl);
   ends = λ other. sym (ap (λ (r : ReplicaValue). r.failed) c.self.view_is) ∙ c.if-self.true;
+  file = λ honest post. inl (refl, refl, refl, refl);
   stays = λ honest device post. inl (λ s. refl);
   halts = λ number. absurd (omega (arith, number));
   awake = λ was other. was;
@@ -183,8 +185,10 @@ returns-clause-refused g c = record {
   calls = λ metered honest.
       let k = subst (λ (r : ReplicaValue). CallsOfStep r.node r.store c.in_ok-outbox.outbox c.rebase_and_step.new.store) c.self.view_is (c.in_ok-outbox.ensures.calls metered honest) in (_, k.2);
   earlier = λ number alive store_alive further. omega (arith, number);
+  second = λ honest number alive store_alive less. absurd (omega (arith, number));
   once = λ ended. absurd (let both : false ≡ true = sym c.if-self.false ∙ ap (λ (r : ReplicaValue). r.failed) c.self.view_is ∙ ended in cc both);
   ends = λ other. absurd (other refl);
+  file = λ honest post. absurd (post refl);
   stays = λ honest device post. absurd (post refl);
   halts = λ number. absurd (omega (arith, number));
   awake = λ was other. c.in_ok-outbox.ensures.alive.awake;
