@@ -14,6 +14,7 @@ mod Calling
 mod Carrying
 mod Compactions
 mod Spared
+mod Growing
 mod Going
 pub mod Replicas
 mod Rerunning

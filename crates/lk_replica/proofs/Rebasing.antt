@@ -323,6 +323,7 @@ leaves_safe m node old new safe = record {
   ends = λ h n f heard. safe.fits h n f;
   covers = λ genesis n x shown every. safe.covers genesis n x shown.keeps every;
   room = safe.room;
+  grows = grown_base (disks old) (disks new) safe.room;
 }
 
 -- ---- one that is made where it is due, once the store was asked how long its live file is
@@ -343,6 +344,7 @@ module _ (m : Meaning) (node : NodeValue) (old mid : StoreValue) (same : IsSameS
     ends = λ h n f heard. same_fit m old mid same h n f.left;
     covers = λ genesis n x shown every. same_cover m old mid same genesis n x every;
     room = same_room m old mid same;
+    grows = grown_base (disks old) (disks mid) (same_room m old mid same);
   }
 
   same_base : next_base mid (standing_of node) ≡ next_base old (standing_of node)
@@ -370,4 +372,5 @@ module _ (m : Meaning) (node : NodeValue) (old mid : StoreValue) (same : IsSameS
     ends = λ h n f heard. safe.fits h n (same_node_fits m old mid same node h n f);
     covers = λ genesis n x shown every. safe.covers genesis n x (same_remembers m old mid same node genesis n shown).keeps (same_cover m old mid same genesis n x every);
     room = within_first 49152 (disks old) (disks mid) (disks after) (same_room m old mid same) safe.room;
+    grows = grown_base (disks old) (disks after) (within_first 49152 (disks old) (disks mid) (disks after) (same_room m old mid same) safe.room);
   }

@@ -1,10 +1,21 @@
 -- How much a call may write.
-use Rattle.std.specs.Prelude.{ℕ, ◌+◌, ◌*◌}
+use Rattle.std.specs.Prelude.{ℕ, ◌+◌, ◌*◌, ◌≤◌, max, length}
+use Rattle.lk_types.specs.Limits.{max_base}
+use Rattle.lk_disk.specs.Disk.{Disk, contents}
+use Rattle.lk_disk.specs.declared.device.Side.{Side}
 
--- a step: sixteen entries of 102 bytes
+-- a step: sixteen entries of 102 bytes, which are 1,632 of the 4,096 that it may append
 abbrev pub max_step : ℕ
 max_step = 102 * 16
 
 -- a step after a file that is not due for a rebase
 abbrev pub max_after : ℕ
 max_after = 131072 + max_step
+
+-- neither file has grown by more than a step
+abbrev pub GrowsByStep : (Side → Disk) → (Side → Disk) → Type 0
+GrowsByStep old new = (s : Side) → length (contents (new s)) ≤ length (contents (old s)) + max_step
+
+-- nor has it apart from a Base, which may stand in the place of what the file held
+abbrev pub GrowsFromBase : (Side → Disk) → (Side → Disk) → Type 0
+GrowsFromBase old new = (s : Side) → length (contents (new s)) ≤ max (length (contents (old s))) max_base + max_step

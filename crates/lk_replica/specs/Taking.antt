@@ -24,6 +24,7 @@ use Rattle.lk_node.specs.Histories.{Datagram, History, Genesis}
 use Rattle.lk_node.specs.Keeping.{Stands}
 use Rattle.lk_node.specs.Leavings.{DisksFit, AllCover}
 use Rattle.lk_replica.specs.Remembering.{Remembers}
+use Rattle.lk_replica.specs.Rooms.{GrowsByStep, GrowsFromBase}
 use Rattle.lk_replica.specs.Compacting.{AreLeft, IsDue, KeepsFileOrGoesOver, Rebases, RebasesWhereDue, CallsWhereDue}
 use Rattle.lk_replica.specs.Faults.{fault_number, failures_by, RefusedAfter, IfGoesOn, IfSend, IfSpared, IsOfCalls, IsNumberOfCalls, WantsNoMemory}
 use Rattle.lk_replica.specs.declared.fault.ReplicaFault.{ReplicaFault}
@@ -37,10 +38,12 @@ abbrev pub Puts : StoreValue → OutboxValue → StoreValue → Type 0
 Puts old out new = (ks ls : List Stored) → Holds old ks ls
     → (out.sync ≡ false → Holds new ks (ls ++ plain out.entries)) × (out.sync ≡ true → Holds new (ks ++ (ls ++ plain out.entries)) [])
 
--- what the outbox says is written: where it says so a Base of the node, which then stands on it, in place of the entries, and else these
+-- what the outbox says is written: where it says so a Base of the node, which then stands on it, in place of the entries, and else these, by which
+-- neither file grows by more than a step
 pub record Writes (node : NodeValue) (store : StoreValue) (out : OutboxValue) (new : NodeValue) (after : StoreValue) : Type 0 where
   pub rebases : out.rebase ≡ true → Rebases node store new after
   pub puts : out.rebase ≡ false → (new ≡ node) × Puts store out after
+  pub grows : out.rebase ≡ false → GrowsByStep (disks store) (disks after)
 
 -- how many changing calls of the device that takes
 abbrev pub write_calls : OutboxValue → ℕ
@@ -133,17 +136,20 @@ pub record IsCutShort (Honest Metered : Type 0) (most : ℕ) (node : NodeValue) 
   pub awake : node.halted ≡ false → (fault_number e ≡ 14 → ⊥) → new.halted ≡ false
 
 -- what a call leaves on the disks, however it ends: where the history has what the call was given, each image that a stop may leave fits the
--- history as it was; each covers what every image covered; and neither file is longer than it was, or else than so many bytes
+-- history as it was; each covers what every image covered; and neither file is longer than it was, or else than so many bytes, nor has it grown by more
+-- than a step apart from a Base
 pub record LeavesDisks (m : Meaning) (Hears : History → Type 0) (most : ℕ) (node : NodeValue) (store : StoreValue) (after : Side → Disk) : Type 0 where
   pub ends : (h : History) (n : ℕ) → NodeFits m h n (Stands m node store h.genesis n) (disks store) → Hears h → DisksFit m h n after
   pub covers : (genesis : Genesis) (n : ℕ) (x : NodeMessage) → Remembers node store genesis n → AllCover m genesis n (disks store) x → AllCover m genesis n after x
   pub room : StaysWithin most (disks store) after
+  pub grows : GrowsFromBase (disks store) after
 
 -- so of a step alone: the files are no longer than that where the live one was shorter than what makes a rebase due
 pub record StepLeavesDisks (m : Meaning) (Hears : History → Type 0) (most : ℕ) (node : NodeValue) (store : StoreValue) (after : Side → Disk) : Type 0 where
   pub ends : (h : History) (n : ℕ) → NodeFits m h n (Stands m node store h.genesis n) (disks store) → Hears h → DisksFit m h n after
   pub covers : (genesis : Genesis) (n : ℕ) (x : NodeMessage) → Remembers node store genesis n → AllCover m genesis n (disks store) x → AllCover m genesis n after x
   pub room : length (contents store.live_disk) < 131072 → StaysWithin most (disks store) after
+  pub grows : GrowsFromBase (disks store) after
 
 -- a rebase is due and no generation is left for it: so it is refused, and not for memory
 abbrev pub IsOfLast : ReplicaValue → ℕ → Type 0

@@ -70,7 +70,8 @@ impl<M: Machine, D: LogDisk + Drop> Replica<M, D> {
         ensures gives { GivesLetters P.Carries post.old post.new (λ letters. D.is_honest → GivesBy M.meaning M.IsText D.is_metered self.old input.entry self.new result letters
             (λ all. P.is_telling → SendsAs result all (P.sent post.old) (P.sent post.new) (P.failures post.old) (P.failures post.new))) }
         ensures alive { IfGoesOn result (λ notes. StaysUp D.is_honest self.old self.new) }
-        // What is on the disks after any exit: neither file has grown above half of what a file may hold, and a step.
+        // What is on the disks after any exit: neither file has grown above half of what a file may hold, and a step, nor by more than a step
+        // apart from a Base.
         ensures disks { D.is_honest → LeavesDisks M.meaning (λ h. InputFits h input.entry) max_after self.old.node self.old.store (disks self.new.store) }
         // Nothing but 7, 8, 11, 14 and 15 comes, each for its cause, and all but 15 end it.
         ensures refused { IfErr result (λ e. IsRefused D.is_honest D.is_metered self.old self.new (fault_number e)) }

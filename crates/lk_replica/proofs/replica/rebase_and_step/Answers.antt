@@ -4,6 +4,7 @@ use Rattle.lk_log.proofs.Room.{within_first, refused_room}
 use Rattle.lk_replica.proofs.replica.rebase_and_step.Goals as goal
 use Rattle.lk_disk.proofs.Devices.{passes_on}
 use Rattle.lk_replica.proofs.Calling.{err_as, refused_on}
+use Rattle.lk_replica.proofs.Growing.{grown_then}
 use Rattle.lk_replica.proofs.Refusals.{store_told, store_only, store_awake}
 use Rattle.lk_replica.proofs.Spared.{spared_more, left_after, file_after, second_after}
 
@@ -42,6 +43,7 @@ returns-in_err-rebase_where_due-clause-disks g c honest =
       ends = λ h n f heard. first.ends h n f tt;
       covers = first.covers;
       room = refused_room (disks c.args.store.now) (disks c.rebase_where_due.new.store) first.room;
+      grows = first.grows;
     }
 
 pub returns-in_err-outbox-clause-disks : goal.returns-in_err-outbox-clause-disks
@@ -55,6 +57,7 @@ returns-in_err-outbox-clause-disks g c honest =
       room = within_first 132704 (disks c.args.store.now) (disks c.rebase_where_due.new.store) (disks c.step_to_disk.new.store)
           (refused_room (disks c.args.store.now) (disks c.rebase_where_due.new.store) first.room)
           (later.room between.short);
+      grows = grown_then (disks c.args.store.now) (disks c.rebase_where_due.new.store) (disks c.step_to_disk.new.store) first.room later.grows;
     }
 
 pub returns-clause-disks : goal.returns-clause-disks
@@ -68,6 +71,7 @@ returns-clause-disks g c honest =
       room = within_first 132704 (disks c.args.store.now) (disks c.rebase_where_due.new.store) (disks c.step_to_disk.new.store)
           (refused_room (disks c.args.store.now) (disks c.rebase_where_due.new.store) first.room)
           (later.room between.short);
+      grows = grown_then (disks c.args.store.now) (disks c.rebase_where_due.new.store) (disks c.step_to_disk.new.store) first.room later.grows;
     }
 
 -- ---- what a refusal leaves

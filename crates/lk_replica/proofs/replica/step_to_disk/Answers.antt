@@ -18,6 +18,7 @@ use Rattle.lk_disk.specs.Meters.{Passes, start}
 use Rattle.lk_replica.specs.declared.fault.ReplicaFault.TheVariants as fault
 use Rattle.lk_replica.proofs.Calling.{err_as, refused_after, put_written, base_written}
 use Rattle.lk_replica.proofs.Compactions.{put_refused}
+use Rattle.lk_replica.proofs.Growing.{grown_none, grown_base, grown_put, grown_less}
 use Rattle.lk_replica.proofs.Refusals.{store_told, store_only, store_awake}
 use Rattle.lk_replica.proofs.Spared.{put_spares, not_failed_so}
 
@@ -45,6 +46,7 @@ returns-clause-syncs g c honest genesis n x shown d listed said =
 pub returns-clause-exact : goal.returns-clause-exact
 returns-clause-exact g c honest =
     let is : c.deref.result.now ≡ c.in_ok-outbox.outbox.entries = c.deref.ensures.value ∙ ap (λ (o : OutboxValue). o.entries) c.outbox.view_is in
+    let few : length c.in_ok-outbox.outbox.entries ≤ 16 = few_entries _ _ c.args.node.now _ c.step.new.self c.in_ok-outbox.outbox c.in_ok-outbox.ensures.steps in
     record {
       stepped = c.step.new.self;
       steps = c.in_ok-outbox.ensures.steps;
@@ -57,6 +59,7 @@ returns-clause-exact g c honest =
             λ yes'. subst (λ (es : List Entry). Holds c.put.new.self (ks ++ (ls ++ plain es)) []) is (c.in_ok-put.ensures.synced honest (ap (λ (o : OutboxValue). o.sync) c.outbox.view_is ∙ yes') ks ls holds),
           ),
         );
+        grows = λ no. grown_put c.args.store.now c.put.new.self c.put.ensures.file.0 (omega (arith, c.put.ensures.grows honest, few, ap length is)) (c.put.ensures.beside honest).0;
       };
       calls = λ metered.
           put_written _ _ c.in_ok-outbox.outbox _ _ is (ap (λ (o : OutboxValue). o.sync) c.outbox.view_is) (sym (ap (λ (o : OutboxValue). o.rebase) c.outbox.view_is) ∙ c.if-outbox.false) (c.in_ok-put.ensures.metered metered);
@@ -100,7 +103,11 @@ returns-then-outbox-clause-exact g c honest =
     record {
       stepped = c.step.new.self;
       steps = c.in_ok-outbox.ensures.steps;
-      writes = record { rebases = λ yes. done.rebases; puts = λ no. absurd (let both : true ≡ false = sym is ∙ no in cc both) };
+      writes = record {
+        rebases = λ yes. done.rebases;
+        puts = λ no. absurd (let both : true ≡ false = sym is ∙ no in cc both);
+        grows = λ no. absurd (let both : true ≡ false = sym is ∙ no in cc both);
+      };
       calls = λ metered. base_written _ _ c.in_ok-outbox.outbox is (done.calls metered);
     }
 
@@ -122,6 +129,7 @@ returns-in_err-outbox-clause-disks g c honest = record {
   ends = λ h n f heard. f.left;
   covers = λ genesis n x shown every. every;
   room = λ small. within_same 132704 (disks c.args.store.now) (disks c.args.store.now) (λ s. refl);
+  grows = grown_none (disks c.args.store.now) (disks c.args.store.now) (λ s. refl);
 }
 
 pub returns-in_err-put-clause-disks : goal.returns-in_err-put-clause-disks
@@ -137,6 +145,7 @@ returns-in_err-put-clause-disks g c honest =
           (subst (λ (es : List Entry). KeepsAtLeast c.put.new.self shown.keeps.entries (plain shown.keeps.loose ++ plain es)) is (c.put.ensures.any honest shown.keeps.entries (plain shown.keeps.loose) shown.keeps.holds)) x every;
       room = λ small.
           behind_room (disks c.args.store.now) c.args.store.now c.put.new.self (within_same 49152 (disks c.args.store.now) (disks c.args.store.now) (λ s. refl)) small c.put.ensures.file.0 (omega (arith, c.put.ensures.grows honest, few, ap length is)) (c.put.ensures.beside honest).0;
+      grows = grown_less (disks c.args.store.now) (disks c.put.new.self) (grown_put c.args.store.now c.put.new.self c.put.ensures.file.0 (omega (arith, c.put.ensures.grows honest, few, ap length is)) (c.put.ensures.beside honest).0);
     }
 
 pub returns-clause-disks : goal.returns-clause-disks
@@ -152,6 +161,7 @@ returns-clause-disks g c honest =
           (subst (λ (es : List Entry). KeepsAtLeast c.put.new.self shown.keeps.entries (plain shown.keeps.loose ++ plain es)) is (c.put.ensures.any honest shown.keeps.entries (plain shown.keeps.loose) shown.keeps.holds)) x every;
       room = λ small.
           behind_room (disks c.args.store.now) c.args.store.now c.put.new.self (within_same 49152 (disks c.args.store.now) (disks c.args.store.now) (λ s. refl)) small c.put.ensures.file.0 (omega (arith, c.put.ensures.grows honest, few, ap length is)) (c.put.ensures.beside honest).0;
+      grows = grown_less (disks c.args.store.now) (disks c.put.new.self) (grown_put c.args.store.now c.put.new.self c.put.ensures.file.0 (omega (arith, c.put.ensures.grows honest, few, ap length is)) (c.put.ensures.beside honest).0);
     }
 
 pub returns-in_err-write_base-clause-disks : goal.returns-in_err-write_base-clause-disks
@@ -163,6 +173,7 @@ returns-in_err-write_base-clause-disks g c honest =
       covers = λ genesis n x shown every.
           safe.covers genesis n x (still_keeps _ _ genesis n c.args.node.now c.step.new.self c.args.store.now shown.whose shown.keeps c.in_ok-outbox.outbox c.in_ok-outbox.ensures.goes_on is) every;
       room = λ small. refused_room (disks c.args.store.now) (disks c.write_base.new.store) safe.room;
+      grows = grown_base (disks c.args.store.now) (disks c.write_base.new.store) safe.room;
     }
 
 pub returns-then-outbox-clause-disks : goal.returns-then-outbox-clause-disks
@@ -174,6 +185,7 @@ returns-then-outbox-clause-disks g c honest =
       covers = λ genesis n x shown every.
           safe.covers genesis n x (still_keeps _ _ genesis n c.args.node.now c.step.new.self c.args.store.now shown.whose shown.keeps c.in_ok-outbox.outbox c.in_ok-outbox.ensures.goes_on is) every;
       room = λ small. refused_room (disks c.args.store.now) (disks c.write_base.new.store) safe.room;
+      grows = grown_base (disks c.args.store.now) (disks c.write_base.new.store) safe.room;
     }
 
 -- ---- what a refusal leaves

@@ -9,6 +9,7 @@ use Rattle.lk_replica.specs.Faults.{fault_number}
 use Rattle.lk_replica.specs.Rebased.{StandsOnBase, HasGoneOver}
 use Rattle.lk_replica.specs.ReplicaValue.{ReplicaValue}
 use Rattle.lk_replica.specs.Taking.{LeavesDisks}
+use Rattle.lk_replica.proofs.Growing.{grown_none}
 use Rattle.lk_replica.proofs.Rebasing.{leaves_safe}
 use Rattle.lk_replica.proofs.Refusals.{not_compacted_by_parts}
 use Rattle.lk_replica.proofs.replica.Replica.compact.Goals as goal
@@ -33,6 +34,7 @@ returns-then-self-clause-disks g c honest = record {
   ends = λ h n f heard. f.left;
   covers = λ genesis n x shown every. every;
   room = within_same 49152 (disks c.args.self.now.store) (disks c.args.self.now.store) (λ s. refl);
+  grows = grown_none (disks c.args.self.now.store) (disks c.args.self.now.store) (λ s. refl);
 }
 
 pub returns-in_err-write_base-clause-disks : goal.returns-in_err-write_base-clause-disks

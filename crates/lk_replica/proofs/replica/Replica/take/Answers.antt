@@ -10,6 +10,7 @@ use Rattle.lk_replica.specs.ReplicaValue.{ReplicaValue}
 use Rattle.lk_replica.specs.Compacting.{RebasesWhereDue}
 use Rattle.lk_replica.specs.Taking.{CallsOfStep, IsRefused, LeavesDisks}
 use Rattle.lk_replica.proofs.NoSend.{goes_not}
+use Rattle.lk_replica.proofs.Growing.{grown_none}
 use Rattle.lk_replica.proofs.Refusals.{refused_by_parts}
 use Rattle.lk_log.proofs.Room.{within_same}
 use Rattle.lk_replica.proofs.replica.Replica.take.Goals as goal
@@ -137,6 +138,7 @@ returns-then-self-clause-disks g c honest = record {
   ends = λ h n f heard. f.left;
   covers = λ genesis n x shown every. every;
   room = within_same 132704 (disks c.args.self.now.store) (disks c.args.self.now.store) (λ s. refl);
+  grows = grown_none (disks c.args.self.now.store) (disks c.args.self.now.store) (λ s. refl);
 }
 
 pub returns-in_err-outbox-clause-disks : goal.returns-in_err-outbox-clause-disks
