@@ -167,13 +167,23 @@ pub record NoneRevives (m : Meaning) (IsText : List ℕ → Type 0) (disks : Sid
   pub stands : StandsAs whose (text m genesis []) (seen disks) standing
   pub none : (w : WholeValue) → MayRevive IsText whose standing w → ⊥
 
+-- what these disks stand for may be revived
+pub record SomeRevives (m : Meaning) (IsText : List ℕ → Type 0) (disks : Side → Disk) (whose : HeaderValue) : Type 0 where
+  pub genesis : Genesis
+  pub began : whose ≡ header_of genesis whose.node
+  pub standing : StandingValue
+  pub stands : StandsAs whose (text m genesis []) (seen disks) standing
+  pub whole : WholeValue
+  pub may : MayRevive IsText whose standing whole
+
 -- a revival of these disks was refused with the fault of this number for its cause, and left those disks: 9 comes where the files are damaged or
--- what they stand for may not be revived, 10 where they are another's, and 11 where the file has format 1 and no generation is left for a rebase.
--- Damaged files and another's stay as they are
+-- what they stand for may not be revived, 10 where they are another's, and 11 where the file has format 1, no generation is left for a rebase, and what
+-- the file stands for may be revived: 9 is told first. Damaged files and another's stay as they are
 pub record IsRefusedFor (m : Meaning) (IsText : List ℕ → Type 0) (old : Side → Disk) (whose : HeaderValue) (number : ℕ) (left : Side → Disk) : Type 0 where
   pub damaged : number ≡ 9 → IsDamaged (seen old) ⊎ NoneRevives m IsText old whose
   pub wrong : number ≡ 10 → IsWrong (seen old) whose
   pub last : number ≡ 11 → IsLastOld (seen old)
+  pub last_revives : number ≡ 11 → SomeRevives m IsText old whose
   pub damaged_stays : IsDamaged (seen old) → number ≡ 9 → AreSame old left
   pub wrong_stays : number ≡ 10 → AreSame old left
 

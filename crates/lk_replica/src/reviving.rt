@@ -174,7 +174,7 @@ impl<M: Machine, D: LogDisk + Drop> Replica<M, D> {
     /// the file has format 1 it is rebased at once, and so has format 2.
     ///
     /// It refuses with `Device` (7), `NoMemory` (8), `Damaged` (9) and `WrongStore` (10), and where a file of format 1 has
-    /// generation 2^48 with `Failed` (11), and hands the device back. `Damaged` is also told where the snapshot is no packed
+    /// generation 2^48 with `Failed` (11), told after 9, and hands the device back. `Damaged` is also told where the snapshot is no packed
     /// state at its position with the genesis' alpha, and where a vote or a decided pair lies more than twice alpha above what
     /// is then executed.
     pub fn revive(
@@ -197,7 +197,7 @@ impl<M: Machine, D: LogDisk + Drop> Replica<M, D> {
         ensures exact { D.is_honest → IfOk result (λ r. Revives M.meaning M.IsText (D.disk device) header.now r.replica r.notes.items) }
         // Whatever the device does, it can take calls as the node of this header: nothing of it has failed, and it has executed what it can.
         ensures ready { IfOk result (λ r. MayGoOn header.now r.replica) }
-        // A refusal has its cause. A damaged store and another's stay as they are.
+        // A refusal has its cause, and 9 is told before 11. A damaged store and another's stay as they are.
         ensures refused { D.is_honest → IfErr result (λ e. IsRefusedFor M.meaning M.IsText (D.disk device) header.now (fault_number e.fault) (D.disk e.device)) }
         // After a refusal each image comes to what an image before it came to, or to a store that is begun, or to what was found in a
         // file of format 1 or the Base that was to take its place.

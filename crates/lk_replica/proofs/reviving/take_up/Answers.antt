@@ -155,6 +155,7 @@ returns-in_default-clause-refused g c honest = record {
   damaged = λ nine. absurd (omega (arith, nine));
   wrong = λ ten. absurd (omega (arith, ten));
   last = λ eleven. absurd (omega (arith, eleven));
+  last_revives = λ eleven. absurd (omega (arith, eleven));
   damaged_stays = λ damaged nine side. refl;
   wrong_stays = λ ten side. refl;
 }
@@ -178,6 +179,7 @@ returns-in-Ok-reopen-clause-refused g c honest =
       });
       wrong = λ ten. absurd (not_wrong f only ten);
       last = λ eleven. absurd (not_failed f only eleven);
+      last_revives = λ eleven. absurd (not_failed f only eleven);
       damaged_stays = λ damaged nine. absurd (found_sound (seen (g.D.LogDisk.disk c.args.device)) c.args.header.now c.as_slice.result.now k.entries k.found damaged);
       wrong_stays = λ ten. absurd (not_wrong f only ten);
     }
@@ -191,6 +193,7 @@ returns-clause-refused g c honest =
       damaged = λ nine. inl (e.damaged honest (damage_only f (is ∙ nine))).0;
       wrong = λ ten. (e.wrong honest (wrong_only f (is ∙ ten))).0;
       last = λ eleven. absurd (e.failed (failed_only f (is ∙ eleven)));
+      last_revives = λ eleven. absurd (e.failed (failed_only f (is ∙ eleven)));
       damaged_stays = λ damaged nine. (e.damaged honest (damage_only f (is ∙ nine))).1;
       wrong_stays = λ ten. (e.wrong honest (wrong_only f (is ∙ ten))).1;
     }

@@ -107,6 +107,14 @@ returns-in-Err-renew-clause-refused g c honest =
         | inl less ↦ absurd (c.in-Err-renew.ensures.refused.earlier c.in-Ok.ensures.ready.store_alive less eleven)
         | inr most ↦ last_old (seen (g.D.LogDisk.disk c.args.device)) c.args.header.now (text m t.genesis []) c.in-Ok.up.store t.standing t.opens c.in-Err-renew.ensures.refused.old most
       ];
+      last_revives = λ eleven. record {
+        genesis = t.genesis;
+        began = t.began;
+        standing = t.standing;
+        stands = record { entries = t.opens.entries; found = t.opens.found; header = t.opens.header; stands = t.opens.stands };
+        whole = t.restores.whole;
+        may = t.restores.may;
+      };
       damaged_stays = λ damaged nine. absurd (not_of_store number 9 by (omega arith) (omega arith) nine);
       wrong_stays = λ ten. absurd (not_of_store number 10 by (omega arith) (omega arith) ten);
     }
