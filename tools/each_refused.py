@@ -1,10 +1,20 @@
 #!/usr/bin/env python3
 """Shows that the prover refuses each wrong body of a crate, function by function.
 
-Each file of crates/CRATE/must-fail (or those named, without .edit) is applied to a copy of the crate, which is then
-checked. A line `refused: module::function` of the file names a function that the check has to refuse; the script says
-which of them it did not. `rt ci` asks only that the crate is refused, and passes over these lines. Run it once the
-crate is proved (`rt check`), so that kept work serves. The status is 1 where something was not refused.
+    tools/each_refused.py CRATE [EDIT ..]
+    tools/each_refused.py --named [--list] [CRATE ..]
+
+Each file of crates/CRATE/must-fail (or those named, without .edit) is applied to a copy of the crate, which is then checked. A line
+`refused: module::function` of the file names a function that the check has to refuse; the script says which of them it did not.
+`rt ci` asks only that the crate is refused, and passes over these lines.
+
+A line `named: TEXT` after a line `refused:` says which wrong body that the promises name this function shows. With --named the script
+takes each such function of the crates (of all where none is given), applies only the pairs that change it, and checks that the prover
+refuses it. A file that changes one function alone is left to the gate, which tries nothing else in it. The last line is
+`N passed, M failed`; --list prints the named bodies and tries none.
+
+Run it at the top of the repository once the crates are proved (`rt check`), so that kept work serves. The status is 1 where something
+was not refused.
 """
 import glob
 import os
@@ -13,8 +23,36 @@ import shutil
 import subprocess
 import sys
 import tempfile
+from typing import NamedTuple
 
 from scripting import TOP, need, parser
+
+
+class Change(NamedTuple):
+    """A pair of an edit file: the source file, the text that stands there, and what takes its place."""
+
+    file: str
+    old: str
+    new: str
+
+
+class Edit(NamedTuple):
+    """What an edit file changes, the functions that have to be refused, and the wrong bodies that some of these show."""
+
+    changes: list
+    refused: list
+    named: dict
+
+
+class Body(NamedTuple):
+    """A wrong body that has a name: its crate and edit file, the function, the name, the pairs that make it, and how many others stand beside it."""
+
+    crate: str
+    title: str
+    function: str
+    name: str
+    changes: list
+    others: int
 
 
 def below(name, lines):
@@ -37,20 +75,22 @@ def copied(name, folder):
     return f"{folder}/crates/{name}"
 
 
-def parts(edit):
-    """The changes of an edit file, each a source file, the old text and the new one, and the functions that it names."""
-    changes, named, file, old = [], [], None, None
-    with open(edit, encoding="utf-8") as lines:
+def parts(path):
+    """What stands in an edit file."""
+    edit, file, old = Edit([], [], {}), None, None
+    with open(path, encoding="utf-8") as lines:
         for line in lines.read().splitlines():
             if line.startswith("refused: "):
-                named.append(line[9:].strip())
+                edit.refused.append(line[9:].strip())
+            elif line.startswith("named: "):
+                edit.named[edit.refused[-1]] = line[7:].strip()
             elif line.startswith("file: "):
                 file = line[6:].strip()
             elif line.startswith("old: "):
                 old = line[5:]
             elif line.startswith("new:"):
-                changes.append((file, old, line[4:].removeprefix(" ")))
-    return changes, named
+                edit.changes.append(Change(file, old, line[4:].removeprefix(" ")))
+    return edit
 
 
 def apply(crate, changes):
@@ -66,6 +106,13 @@ def apply(crate, changes):
         with open(path, "w", encoding="utf-8") as source:
             source.write(text.replace(old, new))
     return kept
+
+
+def put_back(kept):
+    """Undoes what `apply` has changed."""
+    for path, text in kept.items():
+        with open(path, "w", encoding="utf-8") as source:
+            source.write(text)
 
 
 NAME = re.compile(r"has no (field|`)|is not in scope|not found|was not (admitted|checked)")
@@ -95,33 +142,110 @@ def refused(name, crate):
     return own, [*by_a_name(name, own, check.stdout)]
 
 
-def main():
-    arguments = parser(__doc__)
-    arguments.add_argument("crate", metavar="CRATE", help="the crate")
-    arguments.add_argument("edits", nargs="*", metavar="EDIT", help="files of wrong bodies, all by default")
-    given = arguments.parse_args()
-    need("rt")
-    os.chdir(TOP)
-    name, picked, bad = given.crate, given.edits, False
+def edits(name):
+    """The titles of a crate's edit files, and what stands in each."""
+    for path in sorted(glob.glob(f"crates/{name}/must-fail/*.edit")):
+        yield os.path.basename(path)[:-5], parts(path)
+
+
+def changed_function(crate, change):
+    """The function that a pair changes, and the type and the trait of its `impl`, each empty where it has none."""
+    with open(f"{crate}/{change.file}", encoding="utf-8") as source:
+        front = source.read().partition(change.old)[0] + change.old
+    functions = re.findall(r"(?m)^\s*(?:pub(?:\([a-z]+\))? )?fn (\w+)", front)
+    impls = re.findall(r"(?m)^(?:impl(?:<.*?>)? (?:(\w+)(?:<.*?>)? for )?(\w+)|\})", front)
+    trait, owner = impls[-1] if impls else ("", "")
+    return owner, trait, functions[-1] if functions else ""
+
+
+def is_of(function, changed):
+    """Whether `module::function`, `module::Type::function` or `module::TypeTrait::function` is the changed function."""
+    owner, trait, last = changed
+    *front, name = function.split("::")
+    own = front[-1] if front and front[-1][:1].isupper() else ""
+    return name == last and own == owner + trait
+
+
+def named_bodies(crate):
+    """The wrong bodies of a crate that have a name."""
+    for title, edit in edits(crate):
+        places = [(changed_function(f"crates/{crate}", change), change) for change in edit.changes]
+        for function, name in edit.named.items():
+            own = [change for changed, change in places if is_of(function, changed)]
+            if not own:
+                sys.exit(f"{title}: no pair changes {function}")
+            yield Body(crate, title, function, name, own, len(edit.changes) - len(own))
+
+
+def is_refused(body, crate):
+    """Whether the prover refuses the function once only its own pairs are applied to the copy."""
+    kept = apply(crate, body.changes)
+    own, unsure = refused(body.crate, crate)
+    put_back(kept)
+    is_good = f"{body.crate}::{body.function}" in own
+    told = "refused" if is_good else "NOT refused"
+    told += ", perhaps for a name alone" if body.function in unsure else ""
+    print(f"{body.crate}, {body.name}: {body.function} {told}", flush=True)
+    return is_good
+
+
+def try_named(crates):
+    """Tries each named body that stands beside others in its file. The status."""
+    passed = failed = 0
+    for crate in crates:
+        bodies = [body for body in named_bodies(crate) if body.others]
+        if not bodies:
+            continue
+        with tempfile.TemporaryDirectory() as folder:
+            copy = copied(crate, folder)
+            results = [is_refused(body, copy) for body in bodies]
+        passed, failed = passed + sum(results), failed + len(results) - sum(results)
+    print(f"{passed} passed, {failed} failed", flush=True)
+    return int(failed > 0)
+
+
+def list_named(crates):
+    """Prints the named bodies. The status."""
+    for body in (body for crate in crates for body in named_bodies(crate)):
+        how = f"with {body.others} other pairs in its file" if body.others else "alone in its file"
+        print(f"{body.name}: {body.crate} {body.function}, {how} ({body.title})")
+    return 0
+
+
+def try_files(name, picked):
+    """Tries the edit files of a crate, or those that are picked. The status."""
+    bad = False
     with tempfile.TemporaryDirectory() as folder:
         crate = copied(name, folder)
-        for edit in sorted(glob.glob(f"crates/{name}/must-fail/*.edit")):
-            title = os.path.basename(edit)[:-5]
+        for title, edit in edits(name):
             if picked and title not in picked:
                 continue
-            changes, named = parts(edit)
-            kept = apply(crate, changes)
+            kept = apply(crate, edit.changes)
             own, unsure = refused(name, crate)
-            for path, text in kept.items():
-                with open(path, "w", encoding="utf-8") as source:
-                    source.write(text)
-            missed = [it for it in named if f"{name}::{it}" not in own]
+            put_back(kept)
+            missed = [it for it in edit.refused if f"{name}::{it}" not in own]
             bad = bad or bool(missed) or not own
             told = f"{len(own)} refused" + (f", but not {', '.join(missed)}" if missed else "")
             told += f"; perhaps for a name alone: {', '.join(unsure)}" if unsure else ""
             print(f"{title}: {told}", flush=True)
-    sys.exit(bad)
+    return int(bad)
+
+
+def main():
+    arguments = parser(__doc__)
+    arguments.add_argument("--named", action="store_true", help="tries the wrong bodies that have a name, one by one")
+    arguments.add_argument("--list", action="store_true", help="with --named: prints them and tries none")
+    arguments.add_argument("names", nargs="*", metavar="NAME", help="with --named crates, else a crate and its edit files")
+    given = arguments.parse_args()
+    need("rt")
+    os.chdir(TOP)
+    if given.named:
+        crates = given.names or [os.path.basename(path) for path in sorted(glob.glob("crates/*"))]
+        return (list_named if given.list else try_named)(crates)
+    if not given.names:
+        arguments.error("no crate is given")
+    return try_files(given.names[0], given.names[1:])
 
 
 if __name__ == "__main__":
-    main()
+    sys.exit(main())
