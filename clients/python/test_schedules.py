@@ -8,14 +8,12 @@ import unittest
 PROGRAM = os.environ.get("LOCKS_PROGRAM")
 
 
-def events_of(start):
-    """How many events the schedule has: a build of `rt try` makes some 1,200 a second."""
-    return 2000 if start <= 5 else 200
+EVENTS = 2000
 
 
 def ended(start):
     """The status of a schedule, and what it printed."""
-    words = ["fuzz", "--start", str(start), "--events", str(events_of(start))]
+    words = ["fuzz", "--start", str(start), "--events", str(EVENTS)]
     ran = subprocess.run([PROGRAM, *words], stdin=subprocess.DEVNULL, capture_output=True, text=True, timeout=60)
     return ran.returncode, ran.stdout, ran.stderr
 
@@ -26,7 +24,7 @@ class ScheduleTest(unittest.TestCase):
         with concurrent.futures.ThreadPoolExecutor(os.cpu_count()) as pool:
             for start, (status, out, err) in enumerate(pool.map(ended, range(1, 51)), 1):
                 with self.subTest(start=start):
-                    self.assertRegex(out, re.compile(rf"\Adone {events_of(start)} positions [0-9]+\n\Z"))
+                    self.assertRegex(out, re.compile(rf"\Adone {EVENTS} positions [0-9]+\n\Z"))
                     self.assertEqual((status, err), (0, ""))
 
 
