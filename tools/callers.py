@@ -3,7 +3,8 @@
 
 Each file tools/callers/NAME.txt is the main file of such a program. Its first lines are comments: what it shows, `on:` the crates that
 it stands on, and either a line `prints:` for each line that it has to print, or `refused:` a text that the compiler has to tell as it
-refuses the program. Each is built by `rt try` in a copy of these crates. The last line is `N passed, M failed`, of the programs, and
+refuses the program. Each is built by `rt try` in a copy of these crates, and runs compiled alone: one step is all that its interpreter
+is given. The last line is `N passed, M failed`, of the programs, and
 the status is 1 where one failed."""
 import argparse
 import pathlib
@@ -53,7 +54,7 @@ def lay_out(folder, text):
 def fault(text):
     """What is wrong with what comes of a program, as a text, if anything."""
     with tempfile.TemporaryDirectory() as folder:
-        words = ["rt", "try", "--seconds", str(SECONDS)]
+        words = ["rt", "try", "--steps", "1", "--seconds", str(SECONDS)]
         crate = lay_out(pathlib.Path(folder), text)
         run = subprocess.run(words, cwd=crate, stdin=subprocess.DEVNULL, capture_output=True, text=True, errors="replace")
     refusals = told(text, "refused")
