@@ -8,8 +8,9 @@ rest of the script follows, once with that event again in front of it and once w
 
 What stands before the trap has to be printed as before, and no revival may end by a fault. The run goes on to the
 script's end or to a refusal 16 to 19, since a later line may name a datagram that was never sent. The tick at which a
-node writes its snapshot, after 256 executed requests, is swept in the same way. Whatever has run at a position, and
-whatever a request was answered, is the same at each node and each time.
+node writes its snapshot, after 256 executed requests, is swept in the same way, and after each stop the node is led on:
+its next request runs at position 257, so all 256 are executed. Whatever has run at a position, and whatever a request
+was answered, is the same at each node and each time.
 
 The last line is `N passed, M failed`, of scripts, and the status is 1 if one failed."""
 import concurrent.futures, itertools, os, re, subprocess, sys
@@ -20,6 +21,10 @@ ALL = 1 << 48
 TRAPS = ("arm {node} {count} 0", "arm {node} {count} 1", f"arm {{node}} {{count}} {ALL}", "fail {node} {count}")
 DOWN = re.compile(r"(?:stopped \d+|fault \d+ 7 device)\n")
 END = re.compile(r"(?:done \d+|refused 1[6-9] \w+)\n\Z")
+# After 256 requests and a restart: a client asks for the first name, the node begins a ballot and hears its promise, and the votes that it asks for are
+# cast and counted, of which the first may be for position 256 again. What has to be printed then.
+NEXT = ["client 1 256 2 ask name-0", *["tick 1"] * 4, "deliver 1028", "deliver 1027", *(f"deliver {k}" for k in range(1029, 1034))]
+NEXT_RAN = "ran 1 257 256 2\nanswered 1 256 2 held 1 1\n"
 
 
 def printed(program, lines):
@@ -66,26 +71,28 @@ def fault(output, before):
     return f"two answers: {other}" if other else None
 
 
-def swept(program, lines, at, node):
-    """Each run of the event at the place: whether it stops or fails its node, and what is wrong with it, as a text."""
+def swept(program, lines, at, node, after):
+    """Each run of the event at the place: whether it stops or fails its node, and what is wrong with it, as a text. Where lines are given they come after
+    each stop in place of the rest, and have to run the next request."""
     before = re.sub(r"done \d+\n\Z", "", printed(program, lines[:at]))
+    rests = (after, [lines[at], *after[:1], *after[2:]]) if after else (lines[at + 1 :], lines[at:])
     for trap in TRAPS:
         for count in itertools.count(1):
             head = [*lines[:at], trap.format(node=node, count=count), lines[at], f"restart {node}"]
-            outputs = [printed(program, head + rest) for rest in (lines[at + 1 :], lines[at:])]
+            outputs = [printed(program, head + rest) for rest in rests]
             if not DOWN.search(outputs[0], len(before)):
                 break
             for output in outputs:
-                wrong = fault(output, before)
+                wrong = fault(output, before) or after and NEXT_RAN not in output and "not all executed"
                 yield head[at], f"{head[at]} before line {at + 1}, {lines[at]}: {wrong}\n{output}" if wrong else None
 
 
-def sweep(program, lines, first):
+def sweep(program, lines, first, after):
     """How many stops and how many failures of a script were tried from the event at a place on, and what was wrong."""
     output = printed(program, lines)
     bound = {words[1]: words[3][1:] for words in map(str.split, output.splitlines()) if words[0] == "sent" and words[3][0] == "n"}
     works = [(at, worker(line, bound)) for at, line in enumerate(lines)]
-    runs = [run for at, node in works[first:] if node for run in swept(program, lines, at, node)]
+    runs = [run for at, node in works[first:] if node for run in swept(program, lines, at, node, after)]
     stops = sum(trap.startswith("arm") for trap, _ in runs)
     return stops, len(runs) - stops, [wrong for _, wrong in runs if wrong]
 
@@ -100,14 +107,15 @@ def filled():
 
 
 def scripts(program):
-    """The world scripts that set no trap and end without a refusal, as lists of events, and from which place on each is swept."""
+    """The world scripts that set no trap and end without a refusal, as lists of events, from which place on each is swept, and what comes after each stop
+    in place of the rest."""
     for file in sorted((TOP / "examples").glob("*.txt")):
         lines = [*events(file.read_text())]
         is_world = lines and lines[0].startswith("genesis ") and not any(line.startswith(("arm ", "fail ")) for line in lines)
         if is_world and re.search(r"done \d+\n\Z", printed(program, lines)):
-            yield file.name, lines, 0
+            yield file.name, lines, 0, []
     lines = [*filled()]
-    yield "256 requests", lines, len(lines) - 1
+    yield "256 requests", lines, len(lines) - 1, NEXT
 
 
 def main():
@@ -115,7 +123,7 @@ def main():
     stops = failures = failed = 0
     chosen = [*scripts(program)]
     with concurrent.futures.ThreadPoolExecutor(os.cpu_count()) as pool:
-        for (name, _, _), (stopped, faulted, wrong) in zip(chosen, pool.map(lambda script: sweep(program, *script[1:]), chosen)):
+        for (name, *_), (stopped, faulted, wrong) in zip(chosen, pool.map(lambda script: sweep(program, *script[1:]), chosen)):
             stops, failures, failed = stops + stopped, failures + faulted, failed + bool(wrong)
             for text in wrong:
                 print(f"{name}: {text}", flush=True)
