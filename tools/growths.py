@@ -6,14 +6,28 @@ program, N = 1, 2, .. until none is refused. The scripts are those of examples/ 
 
 Each run may end in three ways: as the script ends where nothing is refused; by fault 25, after all that the lines in
 front of the one that asked for memory print; and in world mode by `refused 22 WorldMemory`, after the same. How many
-requests a run of the lines up to it makes tells which line asked for memory.
+requests a run of the lines up to it makes tells which line asked for memory. Unless scripts are given, some of the
+requests have to be those of revivals, of compactions and of installs of another node's snapshot.
 
-The last line is `N passed, M failed`, of scripts, and the status is 1 if one failed."""
+Then `dump` and `inspect` read the store of a folder in the same way. They print everything or nothing, and end by
+`cannot open` or by fault 25 or 8, of which some are 8; the files stay as they were.
+
+The last line is `N passed, M failed`, of scripts and of these two, and the status is 1 if one failed."""
 import concurrent.futures, os, pathlib, re, subprocess, sys, tempfile
 
 from scripting import TOP, a_program, need, parser
 
 NO_MEMORY = b"refused 22 WorldMemory\n"
+# What a line does whose growths are counted by themselves, by how it begins, or by what it delivers.
+KINDS = {b"restart": "revivals", b"compact": "compactions", b"part": "installs"}
+# A store with a snapshot of three positions, and a command after it.
+STORE = bytes.fromhex(
+    "0000008e 01 0000000000000001 02 0000000000000005 00000001 02 01 00000001 1b59 0000000000000000 00000000 0000000000000003"
+    "00000054 0000000000000003 02 01 00000001 1b59 01 00000001 1b59 00000001 0000000000000000"
+    "0001 0007 0000000000000003 01 0000000000000002"
+    "0002 02 6162 0000000000000002 0007 02 6462 0000000000000001 0000 0000 0000"
+    "0000001a 04 0000000000000004 01 0008 0000000000000001 00 04 01026462"
+)
 
 
 class Refuser:
@@ -23,10 +37,10 @@ class Refuser:
         self.program, self.library = program, f"{folder}/refusing.so"
         subprocess.run(["cc", "-O2", "-shared", "-fPIC", "-o", self.library, TOP / "tools/refusing.c", "-ldl"], check=True)
 
-    def run(self, lines, at=0):
+    def run(self, lines, at=0, words=("sim",)):
         """What comes of the lines, as status, output and standard error, and how many requests for memory there were."""
         environment = {**os.environ, "LD_PRELOAD": self.library, "REFUSE_AT": str(at)}
-        run = subprocess.run([self.program, "sim"], input=b"".join(lines), capture_output=True, env=environment, timeout=60)
+        run = subprocess.run([self.program, *words], input=b"".join(lines), capture_output=True, env=environment, timeout=60)
         err, told, requests = run.stderr.rpartition(b"requests ")
         if not told or not int(requests):
             sys.exit(f"{self.program}: none of its requests for memory can be refused: {run.stderr[-300:]}")
@@ -77,11 +91,18 @@ def is_good(ended, whole, fronts):
     return ended == whole or status == 1 and (is_fault or is_refusal)
 
 
+def kind(lines, count, whole):
+    """What the last of the first so many lines does, of the kinds that are counted."""
+    verb, _, place = (lines[count - 1] if 0 < count <= len(lines) else b"").strip().partition(b" ")
+    is_part = verb == b"deliver" and re.search(rb"(?m)^sent %b \S+ n\d+ part$" % place, whole)
+    return KINDS.get(b"part" if is_part else verb)
+
+
 def sweep(refuser, lines):
-    """How many requests for memory a script makes, and the ends of runs that are not as they may be, as texts."""
+    """How many requests for memory a script makes, those of each kind of line, and the ends of runs that are not as they may be, as texts."""
     whole, most = refuser.run(lines)
     known = [*beginnings(refuser, lines)]
-    wrong = []
+    kinds, wrong = [], []
     for at in range(1, most + 2):
         ended, requests = refuser.run(lines, at)
         # The request may be one of the line, or of the end of the run of the lines in front of it.
@@ -89,7 +110,31 @@ def sweep(refuser, lines):
         fronts = [output for output, _ in known[max(0, line - 1) : line + 1]]
         if not (is_good(ended, whole, fronts) if at <= most else (ended, requests) == (whole, most)):
             wrong.append(f"request {at} of {most} refused: status {ended[0]}, printed {ended[1][-200:]}, told {ended[2][-200:]}")
-    return most, wrong
+        kinds += [kind(lines, line, whole[1])] * (at <= most and ended[1].endswith(NO_MEMORY))
+    return most, kinds, wrong
+
+
+def look(refuser, folder, command):
+    """As a sweep, of a command that reads the store of a folder."""
+    words, files = (command, "--dir", folder), {f"{folder}/a": STORE, f"{folder}/b": b""}
+    for path, data in files.items():
+        pathlib.Path(path).write_bytes(data)
+    whole, most = refuser.run([], words=words)
+    ends = [refuser.run([], at, words)[0] for at in range(1, most + 1)]
+    may = {whole, *((1, b"", told) for told in (b"cannot open\n", b"fault 25\n", b"fault 8\n"))}
+    wrong = [f"{command}: status {end[0]}, printed {end[1][-200:]}, told {end[2][-200:]}" for end in ends if end not in may]
+    wrong += [f"{path} has changed" for path, data in files.items() if pathlib.Path(path).read_bytes() != data]
+    wrong += [f"{command}: none is told as 8"] * ((1, b"", b"fault 8\n") not in ends or whole[0] != 0)
+    return most, [], wrong
+
+
+def sweeps(refuser, folder, files):
+    """Runs all. Their names, and what each sweep gives."""
+    chosen = [*scripts(files)]
+    with concurrent.futures.ThreadPoolExecutor(os.cpu_count()) as pool:
+        yield from zip((name for name, _ in chosen), pool.map(lambda script: sweep(refuser, script[1]), chosen))
+    if not files:
+        yield from ((command, look(refuser, folder, command)) for command in ("dump", "inspect"))
 
 
 def main():
@@ -98,16 +143,19 @@ def main():
     arguments.add_argument("scripts", nargs="*", help="scripts to run in place of those above")
     given = arguments.parse_args()
     need("cc")
-    chosen = [*scripts(given.scripts)]
-    failed = total = 0
-    with tempfile.TemporaryDirectory() as folder, concurrent.futures.ThreadPoolExecutor(os.cpu_count()) as pool:
+    kinds, failed, total, count = [], 0, 0, 0
+    with tempfile.TemporaryDirectory() as folder:
         refuser = Refuser(given.program, folder)
-        for (name, _), (most, wrong) in zip(chosen, pool.map(lambda script: sweep(refuser, script[1]), chosen)):
-            total, failed = total + most, failed + bool(wrong)
+        for name, (most, of_kinds, wrong) in sweeps(refuser, folder, given.scripts):
+            kinds, total, count, failed = kinds + of_kinds, total + most, count + 1, failed + bool(wrong)
             for text in wrong:
                 print(f"{name}: {text}", flush=True)
-    print(f"{total} requests for memory of {len(chosen)} scripts, each refused in turn")
-    print(f"{len(chosen) - failed} passed, {failed} failed", flush=True)
+    numbers = {name: kinds.count(name) for name in KINDS.values()}
+    told = ", ".join(f"{number} of {name}" for name, number in numbers.items())
+    print(f"{total} requests for memory of {count} runs, each refused in turn; refused as 22: {told}")
+    if not given.scripts and not all(numbers.values()):
+        failed += 1
+    print(f"{count - failed} passed, {failed} failed", flush=True)
     sys.exit(failed > 0)
 
 
