@@ -3,10 +3,12 @@
 
 Each file tools/callers/NAME.txt is the main file of such a program. Its first lines are comments: what it shows, `on:` the crates that
 it stands on, and either a line `prints:` for each line that it has to print, or `refused:` a text that the compiler has to tell as it
-refuses the program. Each is built by `rt try` in a copy of these crates, and runs compiled alone: one step is all that its interpreter
-is given. The last line is `N passed, M failed`, of the programs, and
+refuses the program. Each is built by `rt try` in a copy of these crates, as many side by side as there are processors, and runs compiled alone: one step is
+all that its interpreter is given. The last line is `N passed, M failed`, of the programs, and
 the status is 1 where one failed."""
 import argparse
+import concurrent.futures
+import os
 import pathlib
 import re
 import shutil
@@ -69,11 +71,13 @@ def main():
     parser = argparse.ArgumentParser(description=__doc__, formatter_class=argparse.RawDescriptionHelpFormatter)
     parser.add_argument("names", nargs="*", metavar="NAME", help="a program of tools/callers; all where none is given")
     names = parser.parse_args().names or sorted(path.stem for path in CALLERS.glob("*.txt"))
-    faults = {name: fault((CALLERS / f"{name}.txt").read_text(encoding="utf-8")) for name in names}
-    for name, wrong in faults.items():
-        if wrong:
-            print(f"{name}: NOT as written: {wrong}", flush=True)
-    failed = sum(map(bool, faults.values()))
+    texts = [(CALLERS / f"{name}.txt").read_text(encoding="utf-8") for name in names]
+    failed = 0
+    with concurrent.futures.ThreadPoolExecutor(os.cpu_count()) as pool:
+        for name, wrong in zip(names, pool.map(fault, texts)):
+            failed += bool(wrong)
+            if wrong:
+                print(f"{name}: NOT as written: {wrong}", flush=True)
     print(f"{len(names) - failed} passed, {failed} failed", flush=True)
     return int(failed > 0)
 
