@@ -207,7 +207,7 @@ def try_named(crates):
 def list_named(crates):
     """Prints the named bodies. The status."""
     for body in (body for crate in crates for body in named_bodies(crate)):
-        how = f"with {body.others} other pairs in its file" if body.others else "alone in its file"
+        how = f"beside {body.others} other pairs" if body.others else "alone in its file"
         print(f"{body.name}: {body.crate} {body.function}, {how} ({body.title})")
     return 0
 
