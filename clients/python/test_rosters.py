@@ -185,13 +185,15 @@ class LogTest(unittest.TestCase):
         time.sleep(0.8)  # it begins a ballot at its fourth tick
         asked = ["--cluster", "5", "--port", str(port), "--client", "7", "--request"]
         for number, op in enumerate(("acquire db", "release db 1"), 1):
-            for _ in range(10):
+            for _ in range(3):
                 told = subprocess.run([PROGRAM, "ask", *asked, str(number), *op.split()], capture_output=True, text=True)
                 if told.returncode == 0:
                     break
-        lines = [node.stderr.readline() for _ in range(4)]
+        node.kill()
+        lines = node.communicate(timeout=30)[1].splitlines()
+        self.assertEqual(len(lines), 4, lines)
         for line, message in zip(lines, ("counted 1", "ran 1", "counted 2", "ran 2")):
-            self.assertRegex(line, rf"\A\[INFO [^\]]*\] {message}\n\Z")
+            self.assertRegex(line, rf"\A\[INFO [^\]]*\] {message}\Z")
 
 
 if __name__ == "__main__":

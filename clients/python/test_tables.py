@@ -80,7 +80,7 @@ class TableTest(unittest.TestCase):
     def said(self, cluster, client, words):
         """What `locks ask` prints, asked again until the node leads."""
         place = ["--cluster", "5", "--port", str(cluster.ports[1]), "--client", str(client), "--request", "1"]
-        for _ in range(10):
+        for _ in range(3):
             ran = subprocess.run([PROGRAM, "ask", *place, *words.split()], capture_output=True, text=True, timeout=60)
             if ran.returncode == 0:
                 break
