@@ -1,10 +1,14 @@
 -- The turns of a server, one after another, and one more.
-use Rattle.std.proofs.Common.{◌≡◌, ◌+◌, ◌<◌, ℕ, List, Option, Result, Ok, Err}
+use Rattle.std.proofs.Common.{◌≡◌, ◌+◌, ◌<◌, ℕ, List, Option, Result, Ok, Err, subst, sym}
 use Rattle.std.specs.declared.net.socket_addr.SocketAddr.{SocketAddr}
-use Rattle.std.specs.Prelude.{OnErr}
+use Rattle.std.specs.Prelude.{OnErr, IfErr, IsErrAnd}
+use Rattle.lk_disk.specs.Disk.{Disk}
+use Rattle.lk_disk.specs.declared.device.Side.{Side}
+use Rattle.lk_entries.specs.Values.{HeaderValue}
 use Rattle.lk_state.specs.Meanings.{Meaning}
 use Rattle.lk_step.specs.Letters.{LetterValue}
 use Rattle.lk_replica.specs.ReplicaValue.{ReplicaValue}
+use Rattle.lk_replica.specs.Revivals.{IsRefusedFor}
 use Rattle.lk_server.specs.Addresses.{IsSameOutside}
 use Rattle.lk_server.specs.Sayings.{SaysOf}
 use Rattle.lk_server.specs.Servers.{ServerValue, Turn, LastTurn}
@@ -34,3 +38,13 @@ module _ {R : Type 0} {Says : R → Option (List ℕ) → List LetterValue → R
 pub on_err_weaker : {T E P Q : Type 0} (r : Result T E) → (P → Q) → OnErr r P → OnErr r Q
 on_err_weaker (Ok x) f p = tt
 on_err_weaker (Err e) f p = f p
+
+-- a refusal of the disks as they were looked at is one of the disks as they were
+pub refused_as : (m : Meaning) (IsText : List ℕ → Type 0) (looked old : Side → Disk) (header : HeaderValue) (number : ℕ) (left : Side → Disk) → looked ≡ old
+    → IsRefusedFor m IsText looked header number left → IsRefusedFor m IsText old header number left
+refused_as m IsText looked old header number left same refused = subst (λ (d : Side → Disk). IsRefusedFor m IsText d header number left) same refused
+
+-- what stands of an error stands of a refusal with it
+pub if_err_is : {T E : Type 0} (P : E → Type 0) (r : Result T E) (e : E) → IsErrAnd r (λ y. y ≡ e) → P e → IfErr r P
+if_err_is P (Ok x) e is p = tt
+if_err_is P (Err y) e is p = subst P (sym is) p

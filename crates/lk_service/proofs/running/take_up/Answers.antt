@@ -4,6 +4,8 @@ use Rattle.lk_disk.specs.declared.device.Side.{Side}
 use Rattle.lk_log.specs.Rooms.{StaysWithin}
 use Rattle.lk_log.specs.StoreValue.{disks}
 use Rattle.lk_node.specs.Leavings.{DisksFit}
+use Rattle.lk_replica.specs.Faults.{fault_number}
+use Rattle.lk_service.proofs.Turning.{if_err_is, refused_as}
 use Rattle.lk_service.proofs.running.take_up.Goals as goal
 
 pub returns-clause-comes_up : goal.returns-clause-comes_up
@@ -17,3 +19,14 @@ returns-clause-comes_up g c honest =
       goes = λ h n whose lawful fit. up.fits honest h n whose lawful (subst (λ (d : Side → Disk). DisksFit g.M.Machine.meaning h n d) (sym path) fit);
       room = subst (λ (d : Side → Disk). StaysWithin 49152 d (disks c.in_ok-revived.revived.replica.store)) path (up.room honest);
     }
+
+pub returns-in_err-revived-clause-refused : goal.returns-in_err-revived-clause-refused
+returns-in_err-revived-clause-refused g c =
+    let disk = g.D.LogDisk.disk in
+    let m = g.M.Machine in
+    let looked = c.in_err-revived.ensures in
+    let left = c.in_err-revived.field-0.0 in
+    if_err_is _ c.from_residual.result left c.from_residual.ensures.1 (record {
+      among = (looked.cause.0, looked.cause.1);
+      cause = λ honest. refused_as m.meaning m.IsText (disk c.look.new.device) (disk c.args.device) c.args.header.now (fault_number left.fault) (disk left.device) (λ i s. c.look.ensures.unchanged honest s i) (looked.refused honest);
+    })
