@@ -35,10 +35,11 @@ def files():
 
 
 def run(script, word):
-    """Runs a script with one word, in an empty folder and with no command of the kit on the path."""
+    """Runs a script with one word, in an empty folder."""
     command = [script] if os.access(script, os.X_OK) else [sys.executable, script]
+    piped = {"stdin": subprocess.DEVNULL, "capture_output": True, "text": True, "timeout": SECONDS}
     with tempfile.TemporaryDirectory() as folder:
-        return subprocess.run([*command, word], cwd=folder, stdin=subprocess.DEVNULL, capture_output=True, text=True, timeout=SECONDS)
+        return subprocess.run([*command, word], cwd=folder, **piped)
 
 
 def wrong(script):

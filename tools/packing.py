@@ -11,7 +11,8 @@ import tarfile
 from scripting import TOP, parser
 
 PAGES = ("docs/OPERATING.md", "docs/WIRE.md", "docs/PROVED.md")
-CLIENTS = ("python/locks_client*", "python/locks_client/**/*", "*/README.md", "python/pyproject.toml", "rust/Cargo.*", "rust/src/**/*")
+OF_PYTHON = ("python/locks_client*", "python/locks_client/**/*", "python/pyproject.toml", "python/README.md")
+OF_RUST = ("rust/Cargo.*", "rust/src/**/*", "rust/README.md")
 UNIT = "tools/systemd/locks@.service"
 STATUS = """.SH EXIT STATUS
 .TP
@@ -37,7 +38,8 @@ describes how a client speaks to it.
 
 def printed(program, *words):
     """What the program prints."""
-    return subprocess.run([program, *words], stdin=subprocess.DEVNULL, capture_output=True, text=True, check=True).stdout
+    piped = {"stdin": subprocess.DEVNULL, "capture_output": True, "text": True}
+    return subprocess.run([program, *words], check=True, **piped).stdout
 
 
 def version(program):
@@ -81,7 +83,8 @@ def manual(program):
     about, titled = paragraphs(printed(program, "--help"))
     names = [line.split()[0] for line in titled["Commands"]]
     parts = [f'.TH LOCKS 1 "" "locks {version(program)}" "User Commands"', f".SH NAME\nlocks \\- {roff(about)}"]
-    parts += [".SH SYNOPSIS", f".B {roff(titled['Usage'][0].strip())}", ".SH OPTIONS", *rows(titled["Options"]), ".SH COMMANDS"]
+    parts += [".SH SYNOPSIS", f".B {roff(titled['Usage'][0].strip())}", ".SH OPTIONS", *rows(titled["Options"])]
+    parts += [".SH COMMANDS"]
     for name in names:
         parts += [] if name == "help" else command(program, name)
     return "\n".join(parts) + "\n" + STATUS
@@ -91,8 +94,8 @@ def contents(program):
     """The files of the package: their bytes by their names."""
     files = {"locks": program.read_bytes(), "locks.1": manual(program).encode()}
     files["README.md"] = (TOP / "docs/PACKAGE.md").read_bytes()
-    found = [TOP / it for it in (*PAGES, UNIT)] + [it for name in CLIENTS for it in (TOP / "clients").glob(name)]
-    for it in found:
+    clients = [it for name in OF_PYTHON + OF_RUST for it in (TOP / "clients").glob(name)]
+    for it in [TOP / it for it in (*PAGES, UNIT)] + clients:
         if it.is_file() and it.suffix != ".pyc":
             files[str(it.relative_to(TOP))] = it.read_bytes()
     sums = "".join(f"{hashlib.sha256(files[name]).hexdigest()}  {name}\n" for name in sorted(files))

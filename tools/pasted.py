@@ -2,13 +2,13 @@
 """Pastes the commands of README.md and docs/OPERATING.md into a shell, in order, and compares what they print.
 
 A block that begins with ```sh is pasted, line by line, in a copy of the repository whose ./locks is the program. A line
-that ends in a backslash goes on. A comment behind a command is what it prints, its lines joined by `, `. A block ```text
-below is what the last command prints; what stands behind two spaces and a # in it explains the line. Below the comment
-<!-- numbers differ --> it may print other numbers. A command without either may print anything. Each has to end with
-status 0. A block below the comment <!-- not pasted: REASON --> is passed over. README.md is pasted twice. A page has to
-stop all that it starts.
+that ends in a backslash goes on. A comment behind a command is what it prints, its lines joined by `, `. A block that
+begins with ```text is what the last command prints; a # behind two spaces explains a line of it, and below the comment
+<!-- numbers differ --> the command may print other numbers. A command without either may print anything. Each command
+has to end with status 0, and the page has to stop all that it starts. A block below the comment <!-- not pasted: REASON
+--> is skipped. README.md is pasted twice.
 
-A port that is taken is exchanged for another one. The last line is `N passed, M failed`, and the status is 1 if one
+A port that is taken is replaced by another one. The last line is `N passed, M failed`, and the status is 1 if one
 failed."""
 import os
 import pathlib
@@ -104,7 +104,8 @@ def pasted(found, folder):
     script = "".join(f"{it.text}\nprintf '{MARK}%s{MARK}' $?\n" for it in found)
     with tempfile.TemporaryFile("w+") as out, tempfile.TemporaryFile("w+") as err:
         environment = {**os.environ, "TMPDIR": str(folder)}
-        shell = subprocess.Popen(["sh", "-c", script], cwd=folder, env=environment, stdin=subprocess.DEVNULL, stdout=out, stderr=err, start_new_session=True)
+        streams = {"stdin": subprocess.DEVNULL, "stdout": out, "stderr": err, "start_new_session": True}
+        shell = subprocess.Popen(["sh", "-c", script], cwd=folder, env=environment, **streams)
         try:
             shell.wait(SECONDS)
         except subprocess.TimeoutExpired:

@@ -26,7 +26,7 @@ def parser(doc):
 def with_program(doc):
     """The same for a script that runs a program."""
     made = parser(doc)
-    made.add_argument("program", nargs="?", default=TOP / "locks", type=a_program, help="the program, ./locks by default")
+    made.add_argument("program", nargs="?", default=TOP / "locks", type=a_program, help="./locks by default")
     return made
 
 
@@ -82,7 +82,7 @@ class Tally:
         print(f"{name}: {wrong}" if wrong else f"{name}: as it should", flush=True)
 
     def check(self, function, *arguments):
-        """Counts the row that a function is, by its docstring. It gives what is wrong, or raises that it cannot be tried."""
+        """Counts a row, which the function's docstring says. The function returns what is wrong, or raises Untried."""
         name = function.__doc__.rstrip(".")
         try:
             self.row(name, function(*arguments))
