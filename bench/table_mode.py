@@ -13,7 +13,8 @@ import sys
 import tempfile
 import time
 
-HERE = os.path.dirname(os.path.dirname(os.path.abspath(__file__)))
+from cluster import built
+
 HEADER = "4c4b0109" + "%016x" % 5 + "00000000"
 
 
@@ -44,8 +45,7 @@ def main():
     parser = argparse.ArgumentParser(description=__doc__, formatter_class=argparse.RawDescriptionHelpFormatter)
     parser.add_argument("requests", nargs="?", type=int, default=1_000_000, help="how many, 1,000,000 by default")
     count = parser.parse_args().requests
-    program = os.path.join(HERE, "locks")
-    subprocess.run([program, "sim"], stdin=subprocess.DEVNULL, check=True)
+    program = built()
     with tempfile.TemporaryDirectory() as folder:
         script = os.path.join(folder, "script.txt")
         with open(script, "w") as file:

@@ -12,7 +12,8 @@ import sys
 import tempfile
 import time
 
-HERE = os.path.dirname(os.path.dirname(os.path.abspath(__file__)))
+from cluster import built
+
 MOST = 99_000
 
 
@@ -28,11 +29,11 @@ def events(count):
     yield from ("inject 1 00" for _ in range(done, count))
 
 
-def measure(script):
+def measure(program, script):
     """The status, the last line of output, the seconds and the peak memory in KiB of one run."""
     with open(script, "rb") as source, tempfile.TemporaryFile() as sink:
         start = time.perf_counter()
-        run = subprocess.Popen([os.path.join(HERE, "locks"), "sim"], stdin=source, stdout=sink)
+        run = subprocess.Popen([program, "sim"], stdin=source, stdout=sink)
         peak = 0
         while run.poll() is None:
             peak = max(peak, peak_of(run.pid))
@@ -56,14 +57,14 @@ def main():
     parser = argparse.ArgumentParser(description=__doc__, formatter_class=argparse.RawDescriptionHelpFormatter)
     parser.add_argument("events", nargs="?", type=int, default=100_000, help="how many, 100,000 by default")
     count = parser.parse_args().events
-    subprocess.run([os.path.join(HERE, "locks"), "sim"], stdin=subprocess.DEVNULL, check=True)
+    program = built()
     with tempfile.TemporaryDirectory() as folder:
         for part in (count // 4, count // 2, count):
             script = os.path.join(folder, "script.txt")
             with open(script, "w") as file:
                 file.write("genesis 5 2 1:7001\n")
                 file.writelines(line + "\n" for line in events(part))
-            status, last, seconds, peak = measure(script)
+            status, last, seconds, peak = measure(program, script)
             print(f"{part} events: status {status}, `{last}`, {seconds:.2f} s, {part / seconds:,.0f} events per second, {peak / 1024:.1f} MiB")
 
 
