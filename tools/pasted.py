@@ -10,6 +10,7 @@ has to end with status 0, and the page has to stop all that it starts. A block b
 
 A port that is taken is replaced by another one. The last line is `N passed, M failed`, and the status is 1 if one
 failed."""
+import contextlib
 import os
 import pathlib
 import random
@@ -98,6 +99,12 @@ def ended(group):
     return False
 
 
+def whole(file):
+    """All that stands in an open file."""
+    file.seek(0)
+    return file.read()
+
+
 def pasted(found, folder):
     """Runs the commands in one shell. What they print with their statuses, what stands on standard error, and whether
     all that they started was stopped."""
@@ -106,14 +113,11 @@ def pasted(found, folder):
         environment = {**os.environ, "TMPDIR": str(folder)}
         streams = {"stdin": subprocess.DEVNULL, "stdout": out, "stderr": err, "start_new_session": True}
         shell = subprocess.Popen(["sh", "-c", script], cwd=folder, env=environment, **streams)
-        try:
+        with contextlib.suppress(subprocess.TimeoutExpired):
             shell.wait(SECONDS)
-        except subprocess.TimeoutExpired:
-            pass
         is_over = ended(shell.pid)
-        out.seek(0), err.seek(0)
-        parts = out.read().split(MARK)
-        return [*zip(parts[::2], map(int, parts[1::2]))], err.read(), is_over
+        parts = whole(out).split(MARK)
+        return [*zip(parts[::2], map(int, parts[1::2]))], whole(err), is_over
 
 
 def paste(tally, name, page, folder):
