@@ -40,6 +40,7 @@ use Rattle.lk_node.specs.NodeValue.{NodeValue}
 use Rattle.lk_node.specs.Packing.{standing_of, standing_here}
 use Rattle.lk_node.specs.Served.{text}
 use Rattle.lk_node.proofs.Nodes.{contains_more}
+use Rattle.lk_replica.proofs.Growing.{grown_base}
 use Rattle.lk_replica.specs.Compacting.{AllStandAt, IsDue, IsSameStore}
 use Rattle.lk_replica.specs.Rebased.{HasGoneOver, StaysSafe, IsReadyToStep}
 use Rattle.lk_replica.specs.Remembering.{Remembers}
