@@ -99,6 +99,11 @@ refused m old new (Err e) cause why wakes last = (
   why.file,
 )
 
+-- with such a number
+pub told : {T : Type 0} (old new : ReplicaValue) (r : Result T ReplicaFault) → IfErr r (λ e. IsNotCompacted ⊤ ⊤ old new (fault_number e)) → IfErr r (λ e. IsStoreFault (fault_number e))
+told old new (Ok x) why = tt
+told old new (Err e) why = why.of_store
+
 -- the calls of the device that it has made
 pub calls_ok : {T : Type 0} (m : Meaning) (old new : ReplicaValue) (r : Result T ReplicaFault) → OnOk r (HasGoneOver m ⊤ old.node old.store new.node new.store) → OnOk r (Passes old.store.meter new.store.meter rebase_calls)
 calls_ok m old new (Ok x) done = done.calls tt

@@ -65,6 +65,10 @@ IsOfCalls (fault.Send notes) = Unit {0}
 abbrev pub IsNumberOfCalls : ℕ → Type 0
 IsNumberOfCalls number = (number ≡ 7) ⊎ (number ≡ 8) ⊎ (number ≡ 11) ⊎ (number ≡ 14) ⊎ (number ≡ 15)
 
+-- a revival of disks that fit is refused so: such disks are not another's
+abbrev pub IsNumberOfRevival : ℕ → Type 0
+IsNumberOfRevival number = (number ≡ 7) ⊎ (number ≡ 8) ⊎ (number ≡ 9) ⊎ (number ≡ 11)
+
 -- the device has failed, or the store before, or it has no generation left: a refusal that refused memory does not bring
 abbrev pub WantsNoMemory : ℕ → Type 0
 WantsNoMemory number = (number ≡ 7) ⊎ (number ≡ 11)

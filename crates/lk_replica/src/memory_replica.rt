@@ -15,8 +15,9 @@ ghost use Rattle.lk_node.specs.Holdings.{Holding};
 ghost use Rattle.lk_node.specs.Leavings.{header_of, DisksFit, AllCover};
 ghost use Rattle.lk_node.specs.Calls.{heard_by, InputFits, NodeFits, Goes};
 ghost use Rattle.lk_replica.specs.Behaviours.{Behaviour, TrapsAlone, disks_by};
+ghost use Rattle.lk_replica.specs.Compacted.{IsStoreFault};
 ghost use Rattle.lk_replica.specs.Compacting.{AllStandAt};
-ghost use Rattle.lk_replica.specs.Faults.{fault_number, RefusedAfter};
+ghost use Rattle.lk_replica.specs.Faults.{fault_number, RefusedAfter, IsNumberOfCalls, IsNumberOfRevival};
 ghost use Rattle.lk_replica.specs.Rooms.{max_after};
 
 use crate::datagram::Datagram;
@@ -67,7 +68,7 @@ pub trait MemoryReplica: Sized + Drop {
     /// Takes up what a stop left, or begins where nothing stands.
     ///
     /// It refuses with `Device` (7), `NoMemory` (8), `Damaged` (9) and `WrongStore` (10), and where a file of format 1 has
-    /// generation 2^48 with `Failed` (11), and hands the device back.
+    /// generation 2^48 with `Failed` (11), told after 9, and hands the device back. Disks that fit are not another's: 10 does not come.
     fn revive(
         alloc: Global,
         device: MemoryDisk,
@@ -76,7 +77,7 @@ pub trait MemoryReplica: Sized + Drop {
         ensures up { (h : History) (n : ℕ) → header.now ≡ header_of h.genesis n → IsLawful meaning h → DisksFit meaning h n (disk_of device)
             → IfOk result (λ r. Goes meaning h n (Shows r.replica h.genesis n) (disks_by behaves r.replica) r.notes.items []) }
         ensures down { (h : History) (n : ℕ) → header.now ≡ header_of h.genesis n → IsLawful meaning h → DisksFit meaning h n (disk_of device)
-            → IfErr result (λ e. DisksFit meaning h n (disk_of e.device)) }
+            → IfErr result (λ e. IsNumberOfRevival (fault_number e.fault) × DisksFit meaning h n (disk_of e.device)) }
         // Whatever every image covered, every image covers.
         ensures covers { (genesis : Genesis) (n : ℕ) (x : NodeMessage) → header.now ≡ header_of genesis n → AllCover meaning genesis n (disk_of device) x
             → IfOk result (λ r. AllCover meaning genesis n (disks_by behaves r.replica) x) }
@@ -107,6 +108,7 @@ pub trait MemoryReplica: Sized + Drop {
         // else all have passed.
         ensures calls { IfOk result (λ t. (k : ℕ) × Passes (behaves.memory self.old).meter (behaves.memory self.new).meter k) }
         ensures calls_err { IfErr result (λ e. RefusedAfter (fault_number e) (behaves.memory self.old).meter (behaves.memory self.new).meter) }
+        ensures told { IfErr result (λ e. IsNumberOfCalls (fault_number e)) }
         ensures exact { IfOk result (λ t. behaves.Takes self.old (heard_by input.entry) self.new (Ok (t.notes.items, t.sent.items))) }
         ensures refused { IfErr result (λ e. behaves.Takes self.old (heard_by input.entry) self.new (Err (fault_number e))) };
 
@@ -131,6 +133,7 @@ pub trait MemoryReplica: Sized + Drop {
         // 7, and else all have passed.
         ensures calls { OnOk result (Passes (behaves.memory self.old).meter (behaves.memory self.new).meter rebase_calls) }
         ensures calls_err { IfErr result (λ e. RefusedAfter (fault_number e) (behaves.memory self.old).meter (behaves.memory self.new).meter) }
+        ensures told { IfErr result (λ e. IsStoreFault (fault_number e)) }
         ensures exact { OnOk result (behaves.Compacts self.old self.new (Ok tt)) }
         ensures refused { IfErr result (λ e. behaves.Compacts self.old self.new (Err (fault_number e))) };
 

@@ -14,7 +14,7 @@ use Rattle.lk_sim.specs.Traces.{asked_in, happened, Tells, asked_note}
 use Rattle.lk_sim.specs.Scenes.{Scene}
 use Rattle.lk_sim.specs.Seats.{At, SeatFits, SeatGoes, stopped_on, fallen_on, rested_on, device_in}
 use Rattle.lk_replica.specs.Behaviours.{Behaviour, TrapsAlone, disks_by}
-use Rattle.lk_sim.specs.Events.{AreOwn, Adds, Breaks, StaysDown, FailsToPack, Falls, Comes, stop_among, after_sends, end_by, end_at, IsGiven, IsBack, ComesUp, IsPacked, IsCompacted, IsHalted, LeftBy, LeftByRevival}
+use Rattle.lk_sim.specs.Events.{AreOwn, Adds, Breaks, StaysDown, FailsToPack, Falls, IsToldEnd, Comes, stop_among, after_sends, end_by, end_at, IsGiven, IsBack, ComesUp, IsPacked, IsCompacted, IsHalted, LeftBy, LeftByRevival}
 use Rattle.lk_sim.specs.Outcomes.{HasFallen, HasTaken, HasRevived, HasPacked, HasAdded, HasSettled, HasGivenUp, HasWanted, Rests}
 use Rattle.lk_sim.specs.Worlds.{Holds}
 use Rattle.lk_sim.specs.declared.end.End.{End}
@@ -22,6 +22,7 @@ use Rattle.lk_sim.specs.declared.seat.Seat.{Seat}
 use Rattle.lk_sim.specs.declared.seat.Life.{Life}
 use Rattle.lk_sim.specs.declared.seat.Life.TheVariants.{Up, Down}
 use Rattle.lk_sim.proofs.Ending.{goes_fits}
+use Rattle.lk_sim.proofs.Ends.{told_as}
 use Rattle.lk_sim.proofs.Lists.{at_set_here}
 use Rattle.lk_sim.proofs.Stopping.{rested, nothing_sent, stopped_sent}
 use Rattle.lk_sim.proofs.Given.{set_twice, asked_maybe, went_down, went_off, went_on}
@@ -40,13 +41,14 @@ StopsOn b Left life = (d : Memory) × Left d × (stopped_on 0 0 (device_in b lif
 module _ {R : Type 0} (b : Behaviour R) (old new : Scene R) where
   -- a node that a fault ended, or an armed stop at a call of its device, has added nothing of its own
   pub falls : (Ends : ℕ → Memory → Type 0) (t next : Seat R) (asked mine told : List Note) (batch : List Datagram) (how : Option End) (stop : Option ℕ) → Adds old new ((asked ++ mine) ++ told) batch → Tells batch told → new.ended ≡ how
-      → next.number ≡ t.number → Rests b stop t next → HasFallen Ends t mine batch how stop → Falls Ends old new next asked
-  falls Ends t next asked mine told batch how stop a tells ended number rests f = record {
+      → next.number ≡ t.number → Rests b stop t next → IsToldEnd how → HasFallen Ends t mine batch how stop → Falls Ends old new next asked
+  falls Ends t next asked mine told batch how stop a tells ended number rests tellable f = record {
     number = f.number;
     left = f.left;
     ends = f.ends;
     no_want = f.no_want;
     down = subst (λ z. next.life ≡ Down (rested_on z f.left)) f.stop_is (rested b stop t next f.left f.down rests);
+    told = told_as new.ended how ended tellable;
     ended = ended ∙ f.ended ∙ ap (λ z. Some (end_by z t.number f.number)) f.stop_is ∙ ap (λ k. Some (end_by (stopping f.left.meter) k f.number)) (sym number);
     adds = record {
       genesis = a.genesis;
@@ -94,8 +96,8 @@ module _ {R : Type 0} (b : Behaviour R) (old new : Scene R) where
   -- a node that was given something
   pub given : (Shows : R → Genesis → ℕ → Holding → Type 0) (m : Meaning) (i n : ℕ) (s t : Seat R) (r : R) (o : Option (List ℕ)) (asked mine : List Note) (batch : List Datagram) (how : Option End) (stop : Option ℕ)
       → At old.seats i s → s.number ≡ n → s.life ≡ Up r → t.number ≡ s.number → ((q : R) → t.life ≡ Up q → AreOwn mine)
-      → HasSettled Shows b m (record old { seats = set old.seats i t }) i new asked mine batch how stop → HasTaken b r o t mine batch how stop ⊎ HasFallen (Breaks b r o) t mine batch how stop → IsGiven b old new n o asked
-  given Shows m i n s t r o asked mine batch how stop at is up number own k cases = record {
+      → HasSettled Shows b m (record old { seats = set old.seats i t }) i new asked mine batch how stop → IsToldEnd how → HasTaken b r o t mine batch how stop ⊎ HasFallen (Breaks b r o) t mine batch how stop → IsGiven b old new n o asked
+  given Shows m i n s t r o asked mine batch how stop at is up number own k tellable cases = record {
     seat = s;
     number = is;
     replica = r;
@@ -104,7 +106,7 @@ module _ {R : Type 0} (b : Behaviour R) (old new : Scene R) where
     turns = record { place = i; at = at; number = on ∙ number; seats = k.seats ∙ set_twice old.seats i t k.next };
     comes_to = elim cases [
       | inl q ↦ went r t k.next o asked mine k.told batch how stop q (own q.after q.up) adds k.tells k.ended on rests
-      | inr f ↦ inr (inr (falls (Breaks b r o) t k.next asked mine k.told batch how stop adds k.tells k.ended on rests f))
+      | inr f ↦ inr (inr (falls (Breaks b r o) t k.next asked mine k.told batch how stop adds k.tells k.ended on rests tellable f))
     ];
   }
     where
@@ -121,9 +123,9 @@ module _ {R : Type 0} (b : Behaviour R) (old new : Scene R) where
       adds = record { genesis = k.adds.genesis; sent = k.adds.sent; trace = k.adds.trace }
 
   pub comes : (t next : Seat R) (d : Memory) (n : ℕ) (mine told : List Note) (batch : List Datagram) (how : Option End) (stop : Option ℕ)
-      → t.number ≡ n → next.number ≡ t.number → Rests b stop t next → ((q : R) → t.life ≡ Up q → AreOwn mine) → Adds old new (([] ++ mine) ++ told) batch → Tells batch told → new.ended ≡ how
+      → t.number ≡ n → next.number ≡ t.number → Rests b stop t next → ((q : R) → t.life ≡ Up q → AreOwn mine) → Adds old new (([] ++ mine) ++ told) batch → Tells batch told → new.ended ≡ how → IsToldEnd how
       → HasRevived b d (header_of old.genesis n) t mine batch how stop ⊎ HasFallen (StaysDown b d (header_of old.genesis n)) t mine batch how stop → ComesUp b old new next d
-  comes t next d n mine told batch how stop number on rests own a tells ended cases = elim cases [
+  comes t next d n mine told batch how stop number on rests own a tells ended tellable cases = elim cases [
     | inl k ↦ inl (record {
       replica = k.replica;
       up = ap (λ (z : Seat R). z.life) (subst (λ z. Rests b z t next) k.no_stop rests) ∙ k.up;
@@ -139,15 +141,15 @@ module _ {R : Type 0} (b : Behaviour R) (old new : Scene R) where
       };
       ended = ended ∙ k.ended;
     })
-    | inr f ↦ inr (falls (StaysDown b d (header_of old.genesis next.number)) t next [] mine told batch how stop a tells ended on rests (subst (λ z. HasFallen (StaysDown b d (header_of old.genesis z)) t mine batch how stop) (sym (on ∙ number)) f))
+    | inr f ↦ inr (falls (StaysDown b d (header_of old.genesis next.number)) t next [] mine told batch how stop a tells ended on rests tellable (subst (λ z. HasFallen (StaysDown b d (header_of old.genesis z)) t mine batch how stop) (sym (on ∙ number)) f))
   ]
 
   -- a node that came up
   pub back : (Shows : R → Genesis → ℕ → Holding → Type 0) (m : Meaning) (i n : ℕ) (s t : Seat R) (d : Memory) (mine : List Note) (batch : List Datagram) (how : Option End) (stop : Option ℕ)
       → At old.seats i s → s.number ≡ n → s.life ≡ Down d → t.number ≡ s.number → ((q : R) → t.life ≡ Up q → AreOwn mine)
-      → HasSettled Shows b m (record old { seats = set old.seats i t }) i new [] mine batch how stop
+      → HasSettled Shows b m (record old { seats = set old.seats i t }) i new [] mine batch how stop → IsToldEnd how
       → HasRevived b d (header_of old.genesis s.number) t mine batch how stop ⊎ HasFallen (StaysDown b d (header_of old.genesis s.number)) t mine batch how stop → IsBack b old new n
-  back Shows m i n s t d mine batch how stop at is down number own k cases =
+  back Shows m i n s t d mine batch how stop at is down number own k tellable cases =
       let same : k.seat ≡ t = at_same (set old.seats i t) i k.seat t k.at (at_set_here old.seats i t at.0) in
       let on : k.next.number ≡ t.number = k.number ∙ ap (λ (z : Seat R). z.number) same in
       record {
@@ -158,13 +160,13 @@ module _ {R : Type 0} (b : Behaviour R) (old new : Scene R) where
         next = k.next;
         turns = record { place = i; at = at; number = on ∙ number; seats = k.seats ∙ set_twice old.seats i t k.next };
         comes = comes t k.next d s.number mine k.told batch how stop number on (subst (λ z. Rests b stop z k.next) same k.rests) own
-            (record { genesis = k.adds.genesis; sent = k.adds.sent; trace = k.adds.trace }) k.tells k.ended cases;
+            (record { genesis = k.adds.genesis; sent = k.adds.sent; trace = k.adds.trace }) k.tells k.ended tellable cases;
       }
 
   packs : (t next : Seat R) (r : R) (mine told : List Note) (batch : List Datagram) (how : Option End) (stop : Option ℕ)
-      → next.number ≡ t.number → Rests b stop t next → Adds old new (([] ++ mine) ++ told) batch → Tells batch told → new.ended ≡ how
+      → next.number ≡ t.number → Rests b stop t next → Adds old new (([] ++ mine) ++ told) batch → Tells batch told → new.ended ≡ how → IsToldEnd how
       → HasPacked b r t mine batch how stop ⊎ HasFallen (FailsToPack b r) t mine batch how stop → IsPacked b old new r next ⊎ Falls (FailsToPack b r) old new next []
-  packs t next r mine told batch how stop on rests a tells ended cases = elim cases [
+  packs t next r mine told batch how stop on rests a tells ended tellable cases = elim cases [
     | inl k ↦ inl (record {
       replica = k.replica;
       compacts = k.compacts;
@@ -177,15 +179,15 @@ module _ {R : Type 0} (b : Behaviour R) (old new : Scene R) where
       };
       ended = ended ∙ k.ended;
     })
-    | inr f ↦ inr (falls (FailsToPack b r) t next [] mine told batch how stop a tells ended on rests f)
+    | inr f ↦ inr (falls (FailsToPack b r) t next [] mine told batch how stop a tells ended on rests tellable f)
   ]
 
   -- a node that was told to compact
   pub compacted : (Shows : R → Genesis → ℕ → Holding → Type 0) (m : Meaning) (i n : ℕ) (s t : Seat R) (r : R) (mine : List Note) (batch : List Datagram) (how : Option End) (stop : Option ℕ)
       → At old.seats i s → s.number ≡ n → s.life ≡ Up r → t.number ≡ s.number
-      → HasSettled Shows b m (record old { seats = set old.seats i t }) i new [] mine batch how stop
+      → HasSettled Shows b m (record old { seats = set old.seats i t }) i new [] mine batch how stop → IsToldEnd how
       → HasPacked b r t mine batch how stop ⊎ HasFallen (FailsToPack b r) t mine batch how stop → IsCompacted b old new n
-  compacted Shows m i n s t r mine batch how stop at is up number k cases =
+  compacted Shows m i n s t r mine batch how stop at is up number k tellable cases =
       let same : k.seat ≡ t = at_same (set old.seats i t) i k.seat t k.at (at_set_here old.seats i t at.0) in
       let on : k.next.number ≡ t.number = k.number ∙ ap (λ (z : Seat R). z.number) same in
       record {
@@ -196,7 +198,7 @@ module _ {R : Type 0} (b : Behaviour R) (old new : Scene R) where
         next = k.next;
         turns = record { place = i; at = at; number = on ∙ number; seats = k.seats ∙ set_twice old.seats i t k.next };
         comes_to = packs t k.next r mine k.told batch how stop on (subst (λ z. Rests b stop z k.next) same k.rests)
-            (record { genesis = k.adds.genesis; sent = k.adds.sent; trace = k.adds.trace }) k.tells k.ended cases;
+            (record { genesis = k.adds.genesis; sent = k.adds.sent; trace = k.adds.trace }) k.tells k.ended tellable cases;
       }
 
   -- a node that was given up

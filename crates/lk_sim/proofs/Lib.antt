@@ -12,6 +12,7 @@ mod Starting
 mod Given
 mod Hearing
 mod Keeping
+mod Ends
 mod Doing
 mod Snapshots
 mod Running

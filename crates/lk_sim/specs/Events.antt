@@ -72,6 +72,16 @@ pub record IsNoWant (number : ℕ) (left : Memory) : Type 0 where
 abbrev pub IsWant : ℕ → Memory → Type 0
 IsWant number left = (number ≡ 8) ⊎ (number ≡ 14) ⊎ (number ≡ 15) ⊎ (left.meter.starved ≡ true)
 
+-- a node ends by such a fault alone: the device has failed, its store is damaged, or it has failed before or has no generation left
+abbrev pub IsNumberOfEnd : ℕ → Type 0
+IsNumberOfEnd number = (number ≡ 7) ⊎ (number ≡ 9) ⊎ (number ≡ 11)
+
+-- so where an end tells a fault
+abbrev pub IsToldEnd : Option End → Type 0
+IsToldEnd None = Unit {0}
+IsToldEnd (Some (Fault n number)) = IsNumberOfEnd number
+IsToldEnd (Some (Stopped n)) = Unit {0}
+
 -- how a node ended that has come to an armed stop, or else to a fault of this number
 abbrev pub end_by : Option ℕ → ℕ → ℕ → End
 end_by None n number = Fault n number
@@ -110,6 +120,7 @@ pub record Falls {R : Type 0} (Ends : ℕ → Memory → Type 0) (old new : Scen
   pub no_want : IsNoWant number left
   pub down : t.life ≡ Down (rested_on (stopping left.meter) left)
   pub ended : new.ended ≡ Some (end_by (stopping left.meter) t.number number)
+  pub told : IsToldEnd new.ended
   pub adds : Adds old new asked []
 
 -- ---- a node is given something

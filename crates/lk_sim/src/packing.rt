@@ -4,7 +4,7 @@ ghost use Rattle.lk_disk.specs.Memory.{Memory};
 ghost use Rattle.lk_history.specs.Nodes.{View};
 ghost use Rattle.lk_node.specs.Histories.{History, IsLawful};
 ghost use Rattle.lk_replica.specs.Behaviours.{disks_by};
-ghost use Rattle.lk_sim.specs.Events.{Does, FailsToPack, IsCompacted, IsHalted, IsRefused, LeftByPacking};
+ghost use Rattle.lk_sim.specs.Events.{Does, FailsToPack, IsCompacted, IsHalted, IsRefused, IsToldEnd, LeftByPacking};
 ghost use Rattle.lk_sim.specs.Outcomes.{HasFallen, HasPacked, HasWanted};
 ghost use Rattle.lk_sim.specs.Seats.{IsUpAt, SeatFits, SeatGoes};
 ghost use Rattle.lk_sim.specs.Worlds.{PartsHold, scene_of};
@@ -30,6 +30,7 @@ fn pack<R: MemoryReplica>(alloc: Global, seat: &mut Seat<R>) -> Result<Outcome, 
         → (d : Memory) → seat.new.life ≡ Down d → SeatFits R.Shows (disks_by R.behaves) R.meaning h w seat.new }
     ensures exact { (r : R) → seat.old.life ≡ Up r
         → IfOk result (λ o. HasPacked R.behaves r seat.new o.notes.items o.sent.items o.ended o.stop ⊎ HasFallen (FailsToPack R.behaves r) seat.new o.notes.items o.sent.items o.ended o.stop) }
+    ensures told { IfOk result (λ o. IsToldEnd o.ended) }
     ensures wants { (r : R) → seat.old.life ≡ Up r → OnErr result (HasWanted (FailsToPack R.behaves r) seat.new) }
 {
     let Life::Up(replica) = &mut seat.life else {

@@ -9,7 +9,7 @@ ghost use Rattle.lk_node.specs.Leavings.{header_of, DisksFit};
 ghost use Rattle.lk_node.specs.Calls.{heard_by, InputFits};
 ghost use Rattle.lk_replica.specs.Behaviours.{disks_by};
 ghost use Rattle.lk_replica.specs.Faults.{fault_number};
-ghost use Rattle.lk_sim.specs.Events.{Breaks, StaysDown, IsNoWant, IsWant, SentUpTo, end_by, end_at};
+ghost use Rattle.lk_sim.specs.Events.{Breaks, StaysDown, IsNoWant, IsToldEnd, IsWant, SentUpTo, end_by, end_at};
 ghost use Rattle.lk_sim.specs.Rooms.{AreShort};
 ghost use Rattle.lk_sim.specs.Seats.{SeatFits, SeatGoes, IsTrapped, device_in, stopped_on};
 ghost use Rattle.lk_sim.specs.Kept.{disks_of};
@@ -116,6 +116,7 @@ pub fn fall<R: MemoryReplica>(
     ensures number { seat.new.number ≡ seat.old.number }
     ensures fits { (h : History) (w : View) → DisksFit R.meaning h seat.old.number (disk_of device) → AreShort (disk_of device) → SeatFits R.Shows (disks_by R.behaves) R.meaning h w seat.new }
     ensures fallen { IfOk result (λ o. HasFallen (IsThis (fault_number fault) device) seat.new o.notes.items o.sent.items o.ended o.stop) }
+    ensures told { (fault_number fault ≡ 10 → ⊥) → IfOk result (λ o. IsToldEnd o.ended) }
     ensures halted { OnErr result (seat.new.life ≡ Down (stopped_on 0 0 device)) }
     ensures want { OnErr result (IsWant (fault_number fault) device) }
 {
@@ -187,6 +188,7 @@ pub fn step<R: MemoryReplica>(
         → (d : Memory) → seat.new.life ≡ Down d → SeatFits R.Shows (disks_by R.behaves) R.meaning h w seat.new }
     ensures exact { (r : R) → seat.old.life ≡ Up r
         → IfOk result (λ o. HasTaken R.behaves r (heard_by input.entry) seat.new o.notes.items o.sent.items o.ended o.stop ⊎ HasFallen (Breaks R.behaves r (heard_by input.entry)) seat.new o.notes.items o.sent.items o.ended o.stop) }
+    ensures told { IfOk result (λ o. IsToldEnd o.ended) }
     ensures wants { (r : R) → seat.old.life ≡ Up r → OnErr result (HasWanted (Breaks R.behaves r (heard_by input.entry)) seat.new) }
 {
     let node = seat.number;
@@ -224,6 +226,7 @@ pub fn revive<R: MemoryReplica>(
         → (d : Memory) → seat.new.life ≡ Down d → SeatFits R.Shows (disks_by R.behaves) R.meaning h w seat.new }
     ensures exact { (d : Memory) → seat.old.life ≡ Down d
         → IfOk result (λ o. HasRevived R.behaves d (header_of genesis.now seat.old.number) seat.new o.notes.items o.sent.items o.ended o.stop ⊎ HasFallen (StaysDown R.behaves d (header_of genesis.now seat.old.number)) seat.new o.notes.items o.sent.items o.ended o.stop) }
+    ensures told { (h : History) (w : View) → h.genesis ≡ genesis.now → IsLawful R.meaning h → SeatFits R.Shows (disks_by R.behaves) R.meaning h w seat.old → IfOk result (λ o. IsToldEnd o.ended) }
     ensures wants { (d : Memory) → seat.old.life ≡ Down d → OnErr result (HasWanted (StaysDown R.behaves d (header_of genesis.now seat.old.number)) seat.new) }
 {
     let device = take_device(alloc, seat);

@@ -20,6 +20,7 @@ pub struct World<R: MemoryReplica> {
 
 impl<R: MemoryReplica> Model for World<R> {
     ghost use Rattle.lk_replica.specs.Behaviours.{disks_by};
+    ghost use Rattle.lk_sim.specs.Events.{IsToldEnd};
     ghost use Rattle.lk_sim.specs.Scenes.{Scene};
     ghost use Rattle.lk_sim.specs.Worlds.{PartsHold, scene_of};
 
@@ -27,13 +28,13 @@ impl<R: MemoryReplica> Model for World<R> {
 
     ghost view = { λ w. scene_of w.parts };
 
-    ghost invariant = { λ w. PartsHold R.Shows (disks_by R.behaves) R.meaning w.parts };
+    ghost invariant = { λ w. PartsHold R.Shows (disks_by R.behaves) R.meaning w.parts × IsToldEnd w.parts.ended };
 }
 
 impl<R: MemoryReplica> World<R> {
     ghost use Rattle.std.specs.Prelude.{◌≡◌, ℕ, [], length, None, IfSome, OnOk, IfErr};
     ghost use Rattle.lk_replica.specs.Behaviours.{disks_by};
-    ghost use Rattle.lk_sim.specs.Events.{Does, IsRefused, Grows};
+    ghost use Rattle.lk_sim.specs.Events.{Does, IsRefused, IsToldEnd, Grows};
     ghost use Rattle.lk_disk.specs.Disk.{contents};
     ghost use Rattle.lk_disk.specs.declared.device.Side.TheVariants.{A, B};
     ghost use Rattle.lk_sim.specs.Kept.{disks_of};
@@ -101,9 +102,10 @@ impl<R: MemoryReplica> World<R> {
         &self.parts.sent
     }
 
-    /// How the last event that was done ended a node, if it did.
+    /// How the last event that was done ended a node, if it did. A fault has the number 7, 9 or 11.
     pub fn last_end(&self) -> Option<End>
-        ensures { result ≡ self.now.ended }
+        ensures is { result ≡ self.now.ended }
+        ensures told { IsToldEnd result }
     {
         self.parts.ended
     }

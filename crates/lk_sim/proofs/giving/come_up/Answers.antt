@@ -79,4 +79,4 @@ returns-clause-back g c n d =
     let is : s.number ≡ n = rw (at_same _ _ _ _ at d.2) d.3 in
     let down : s.life ≡ Down d.1 = rw (at_same _ _ _ _ at d.2) d.4 in
     back g.R.MemoryReplica.behaves (scene_of p) (scene_of c.settle.new.parts) _ _ c.args.i n s c.revive.new.seat d.1 _ _ _ _ at is down c.revive.ensures.number (λ q up x e. ((goes q up).goes.noted x e).0)
-    c.in_ok-settle.ensures.ok (c.in_ok-outcome.ensures.exact d.1 down)
+    c.in_ok-settle.ensures.ok (c.in_ok-outcome.ensures.told _ (v.views s.number) refl (lawful _ _ _ _ _ _ _ v) (v.seated c.args.i s at)) (c.in_ok-outcome.ensures.exact d.1 down)

@@ -75,4 +75,4 @@ returns-clause-given g c n u =
     let v = since _ g.R.MemoryReplica.behaves _ p.genesis p.seats.items p.sent.items p.trace.items c.requires.holds c.args.i s c.step.new.seat at c.step.ensures.number c.args.asked in
     let goes = c.in_ok-outcome.ensures.goes _ (v.views s.number) (lawful _ _ _ _ _ _ _ v) (v.seated c.args.i s at) c.requires.heard in
     given g.R.MemoryReplica.behaves (scene_of p) (scene_of c.settle.new.parts) _ _ c.args.i n s c.step.new.seat u.1 _ _ _ _ _ _ at (rw (at_same _ _ _ _ at u.2) u.3) (rw (at_same _ _ _ _ at u.2) u.4) c.step.ensures.number (λ q up x k. ((goes q up).goes.noted x k).0)
-    c.in_ok-settle.ensures.ok (c.in_ok-outcome.ensures.exact u.1 (rw (at_same _ _ _ _ at u.2) u.4))
+    c.in_ok-settle.ensures.ok c.in_ok-outcome.ensures.told (c.in_ok-outcome.ensures.exact u.1 (rw (at_same _ _ _ _ at u.2) u.4))

@@ -62,7 +62,7 @@ returns-clause-ok g c =
       seats = pushed;
       comes = subst (λ (z : Memory). ComesUp g.R.MemoryReplica.behaves (scene_of p) new c.rest.new.seat z) c.new.ensures
           (comes g.R.MemoryReplica.behaves (scene_of p) new c.revive.new.seat c.rest.new.seat _ c.args.number _ k.told _ _ _ c.revive.ensures.number c.rest.ensures.number c.rest.ensures.rests (λ q up x c. ((goes q up).goes.noted x c).0)
-          (record { genesis = k.adds.genesis; sent = k.adds.sent; trace = k.adds.trace }) k.tells k.ended (c.in_ok-outcome.ensures.exact c.new.result refl));
+          (record { genesis = k.adds.genesis; sent = k.adds.sent; trace = k.adds.trace }) k.tells k.ended (c.in_ok-outcome.ensures.told _ (v.views s.number) refl (lawful _ _ _ _ _ _ _ v) (v.seated _ s at)) (c.in_ok-outcome.ensures.exact c.new.result refl));
     }
 
 -- ---- what memory was wanted for

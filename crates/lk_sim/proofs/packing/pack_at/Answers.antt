@@ -72,4 +72,4 @@ returns-clause-compacted g c n u =
     let at : At p.seats.items c.args.i s = (search rules, sym c.index_mut.ensures.value) in
     let up : s.life ≡ Up u.1 = rw (at_same _ _ _ _ at u.2) u.4 in
     compacted g.R.MemoryReplica.behaves (scene_of p) (scene_of c.settle.new.parts) _ _ c.args.i n s c.pack.new.seat u.1 _ _ _ _ at (rw (at_same _ _ _ _ at u.2) u.3) up c.pack.ensures.number
-    c.in_ok-settle.ensures.ok (c.in_ok-outcome.ensures.exact u.1 up)
+    c.in_ok-settle.ensures.ok c.in_ok-outcome.ensures.told (c.in_ok-outcome.ensures.exact u.1 up)

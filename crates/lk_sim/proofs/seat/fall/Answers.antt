@@ -1,10 +1,12 @@
-use Rattle.std.proofs.Common.{◌∙◌, refl, ap}
+use Rattle.std.proofs.Common.{◌∙◌, Some, refl, sym, ap, subst}
 use Rattle.lk_disk.specs.declared.device.Side.TheVariants.{A, B}
 use Rattle.lk_disk.specs.Memory.{Memory, disk_of}
 use Rattle.lk_disk.specs.Meters.{trapped}
 use Rattle.lk_disk.specs.declared.trap.Trap.TheVariants.{Off}
+use Rattle.lk_sim.specs.Events.{IsNumberOfEnd}
 use Rattle.lk_sim.specs.declared.seat.Life.TheVariants.{Down}
 use Rattle.lk_sim.proofs.Ending.{stopped_fit}
+use Rattle.lk_sim.proofs.Ends.{told_as, told_by, told_fault}
 use Rattle.lk_sim.proofs.Growth.{same_disks}
 use Rattle.lk_sim.proofs.Given.{down_fits}
 use Rattle.lk_sim.proofs.Shortness.{same_short, kept_short}
@@ -28,3 +30,8 @@ returns-clause-fits g c h w f short =
 
 pub returns-then-is_wanting-clause-halted : goal.returns-then-is_wanting-clause-halted
 returns-then-is_wanting-clause-halted g c = ap Down (c.trap.ensures ∙ ap (λ (d : Memory). record d { meter = trapped Off d.meter }) c.stop.ensures.after)
+
+pub returns-clause-told : goal.returns-clause-told
+returns-clause-told g c not_wrong =
+    told_as _ _ (ap Some c.ended_by.ensures)
+    (told_by c.stopping-stop.result _ c.number.result (subst IsNumberOfEnd (sym c.number.ensures) (told_fault c.args.fault c.args.device (c.is_wanting.ensures.no_want c.if-is_wanting.false) not_wrong)))

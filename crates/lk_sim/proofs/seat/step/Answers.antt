@@ -4,6 +4,7 @@ use Rattle.lk_node.specs.Leavings.{DisksFit}
 use Rattle.lk_sim.proofs.Given.{node_fits}
 use Rattle.lk_replica.specs.Behaviours.{disks_by}
 use Rattle.lk_sim.specs.Rooms.{AreShort}
+use Rattle.lk_sim.proofs.Ends.{told_as, told_at, not_wrong_up}
 use Rattle.lk_sim.proofs.Shortness.{stepped_short}
 use Rattle.lk_sim.proofs.Stopping.{goes_up_to, sent_short}
 use Rattle.lk_sim.proofs.seat.step.Goals as goal
@@ -30,3 +31,11 @@ returns-in-Err-clause-falls g c h w lawful f input d down =
     (c.in-Err.ensures.ends h c.args.seat.now.number (node_fits _ _ _ h w _ _ lawful (f.up c.in-Up.replica is)) input)))
     (subst (λ (m : Memory). AreShort (disk_of m)) (sym c.take_device-device.ensures.is)
     (stepped_short (disks_by g.R.MemoryReplica.behaves c.in-Up.replica) (disks_by g.R.MemoryReplica.behaves c.take.new.self) c.take.ensures.room (f.up c.in-Up.replica is).room))
+
+-- ---- how it ended
+
+pub returns-in-Ok-clause-told : goal.returns-in-Ok-clause-told
+returns-in-Ok-clause-told g c = told_as _ _ c.ended_at.ensures (told_at c.count_sends-stop.result _)
+
+pub returns-in-Err-clause-told : goal.returns-in-Err-clause-told
+returns-in-Err-clause-told g c = c.fall.ensures.told (not_wrong_up _ c.in-Err.ensures.told)

@@ -8,7 +8,7 @@ use Rattle.lk_node.specs.Calls.{NodeFits, Goes}
 use Rattle.lk_node.specs.Keeping.{Stands}
 use Rattle.lk_node.specs.Leavings.{DisksFit, AllCover}
 use Rattle.lk_replica.specs.Compacting.{AllStandAt}
-use Rattle.lk_replica.proofs.Compactions.{compacted, refused, calls_ok, calls_err}
+use Rattle.lk_replica.proofs.Compactions.{compacted, refused, told, calls_ok, calls_err}
 use Rattle.lk_replica.proofs.Going.{remembered}
 use Rattle.lk_replica.proofs.OnDevices.{on_device, off_device}
 use Rattle.lk_replica.proofs.in_memory.ReplicaMemoryDiskMemoryReplica.compact.Goals as goal
@@ -61,6 +61,9 @@ pub returns-clause-refused : goal.returns-clause-refused
 returns-clause-refused g c =
     let m : Meaning = g.M.Machine.meaning in
     refused m c.args.self.now c.compact.new.self c.compact.result c.compact.ensures.cause c.compact.ensures.refused c.compact.ensures.wakes c.compact.ensures.last
+
+pub returns-clause-told : goal.returns-clause-told
+returns-clause-told g c = told c.args.self.now c.compact.new.self c.compact.result c.compact.ensures.refused
 
 pub returns-clause-calls : goal.returns-clause-calls
 returns-clause-calls g c =

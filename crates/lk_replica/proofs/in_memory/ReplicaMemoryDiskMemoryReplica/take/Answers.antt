@@ -9,7 +9,7 @@ use Rattle.lk_node.specs.Calls.{NodeFits, Goes}
 use Rattle.lk_node.specs.Histories.{Datagram}
 use Rattle.lk_node.specs.Keeping.{Stands}
 use Rattle.lk_node.specs.Leavings.{DisksFit, AllCover}
-use Rattle.lk_replica.specs.Faults.{fault_number}
+use Rattle.lk_replica.specs.Faults.{fault_number, IsNumberOfCalls}
 use Rattle.lk_replica.specs.Posts.{CollectedValue}
 use Rattle.lk_replica.specs.Taking.{IsOfLast, IsRefused}
 use Rattle.lk_replica.proofs.Calling.{err_as}
@@ -101,6 +101,9 @@ pub returns-in-Err-clause-covers : goal.returns-in-Err-clause-covers
 returns-in-Err-clause-covers g c genesis n held x shown every =
     let m : Meaning = g.M.Machine.meaning in
     on_device (λ d. AllCover m genesis n d x) c.take.new.self.store ((c.take.ensures.disks tt).covers genesis n x (remembered m genesis n held c.args.self.now.node c.args.self.now.store shown) (off_device (λ d. AllCover m genesis n d x) c.args.self.now.store every))
+
+pub returns-in_err-notes-clause-told : goal.returns-in_err-notes-clause-told
+returns-in_err-notes-clause-told g c = err_as (λ e. IsNumberOfCalls (fault_number e)) _ _ c.from_residual.ensures.1 c.in_err-notes.ensures.refused.told
 
 pub returns-in_err-notes-clause-refused : goal.returns-in_err-notes-clause-refused
 returns-in_err-notes-clause-refused g c =

@@ -5,7 +5,7 @@ use Rattle.lk_sim.proofs.world.World.facts.Goals as goal
 pub returns : goal.returns
 returns g c =
     let p = c.self.inside.parts in
-    let w = c.self.invariant in
+    let w = c.self.invariant.0 in
     record {
       promised = rw (← c.self.view_is) (record {
         explained = (w.list, w.chosen, explains _ _ _ p.genesis p.seats.items p.sent.items p.trace.items w);

@@ -1,0 +1,120 @@
+-- By which faults a node ends.
+use Rattle.std.proofs.Common.{◌≡◌, ℕ, Option, Some, None, refl, sym, subst, inl, inr, arith}
+use Rattle.std.specs.Prelude.{List, [], ◌∷◌, take}
+use Rattle.lk_disk.specs.Memory.{Memory, empty}
+use Rattle.lk_replica.specs.Behaviours.{Behaviour}
+use Rattle.lk_replica.specs.Compacted.{IsStoreFault}
+use Rattle.lk_replica.specs.Faults.{fault_number, IsNumberOfCalls, IsNumberOfRevival}
+use Rattle.lk_replica.specs.declared.fault.ReplicaFault.{ReplicaFault}
+use Rattle.lk_replica.specs.declared.fault.ReplicaFault.TheVariants as fault
+use Rattle.lk_step.specs.declared.note.Note.{Note}
+use Rattle.lk_sim.specs.Events.{IsNoWant, IsNumberOfEnd, IsToldEnd, end_by, end_at, IsGiven, ComesUp, Brings, Does, Wants, IsRefused}
+use Rattle.lk_sim.specs.Runs.{Passes, StopsAt, Runs}
+use Rattle.lk_sim.specs.Scenes.{Scene}
+use Rattle.lk_sim.specs.Traces.{asked_note}
+use Rattle.lk_sim.specs.declared.end.End.{End}
+use Rattle.lk_sim.specs.declared.end.RunEnd.{RunEnd}
+use Rattle.lk_sim.specs.declared.event.Event.{Event}
+use Rattle.lk_sim.specs.declared.event.Event.TheVariants as event
+use Rattle.lk_sim.specs.declared.refused.Refused.{Refused}
+use Rattle.lk_sim.specs.declared.seat.Seat.{Seat}
+
+-- ---- of a call
+
+-- no fault is another one, where it is not "out of memory" and not another's store
+pub told_fault : (e : ReplicaFault) (left : Memory) → IsNoWant (fault_number e) left → (fault_number e ≡ 10 → ⊥) → IsNumberOfEnd (fault_number e)
+told_fault fault.Device left no_want not_wrong = inl refl
+told_fault fault.NoMemory left no_want not_wrong = absurd (no_want.memory refl)
+told_fault fault.Damaged left no_want not_wrong = inr (inl refl)
+told_fault fault.WrongStore left no_want not_wrong = absurd (not_wrong refl)
+told_fault fault.Failed left no_want not_wrong = inr (inr refl)
+told_fault fault.Halted left no_want not_wrong = absurd (no_want.halted refl)
+told_fault (fault.Send notes) left no_want not_wrong = absurd (no_want.letters refl)
+
+pub told_by : (stop : Option ℕ) (n number : ℕ) → IsNumberOfEnd number → IsToldEnd (Some (end_by stop n number))
+told_by None n number is = is
+told_by (Some bytes) n number is = tt
+
+pub told_at : (stop : Option ℕ) (n : ℕ) → IsToldEnd (end_at stop n)
+told_at None n = tt
+told_at (Some bytes) n = tt
+
+pub told_as : (o p : Option End) → o ≡ p → IsToldEnd p → IsToldEnd o
+told_as o p is told = subst IsToldEnd (sym is) told
+
+-- a replica that was up tells no other's store
+pub not_wrong_up : (number : ℕ) → IsNumberOfCalls number → number ≡ 10 → ⊥
+not_wrong_up number by ten = elim by [
+  | inl a ↦ omega (arith, a, ten)
+  | inr (inl a) ↦ omega (arith, a, ten)
+  | inr (inr (inl a)) ↦ omega (arith, a, ten)
+  | inr (inr (inr (inl a))) ↦ omega (arith, a, ten)
+  | inr (inr (inr (inr a))) ↦ omega (arith, a, ten)
+]
+
+pub not_wrong_packed : (number : ℕ) → IsStoreFault number → number ≡ 10 → ⊥
+not_wrong_packed number by ten = elim by [ inl a ↦ omega (arith, a, ten) | inr (inl a) ↦ omega (arith, a, ten) | inr (inr a) ↦ omega (arith, a, ten) ]
+
+pub not_wrong_back : (number : ℕ) → IsNumberOfRevival number → number ≡ 10 → ⊥
+not_wrong_back number by ten = elim by [
+  | inl a ↦ omega (arith, a, ten)
+  | inr (inl a) ↦ omega (arith, a, ten)
+  | inr (inr (inl a)) ↦ omega (arith, a, ten)
+  | inr (inr (inr a)) ↦ omega (arith, a, ten)
+]
+
+-- ---- of events
+
+module _ {R : Type 0} (b : Behaviour R) where
+  nothing_told : (new : Scene R) → new.ended ≡ None → IsToldEnd new.ended
+  nothing_told new is = told_as new.ended None is tt
+
+  come_told : (old new : Scene R) (t : Seat R) (d : Memory) → ComesUp b old new t d → IsToldEnd new.ended
+  come_told old new t d c = elim c [ inl r ↦ nothing_told new r.ended | inr f ↦ f.told ]
+
+  given_told : (old new : Scene R) (n : ℕ) (o : Option (List ℕ)) (asked : List Note) → IsGiven b old new n o asked → IsToldEnd new.ended
+  given_told old new n o asked k = elim k.comes_to [ inl r ↦ nothing_told new r.ended | inr (inl r) ↦ told_as new.ended _ r.ended tt | inr (inr f) ↦ f.told ]
+
+  brings_told : (old new : Scene R) (e : Event) → Brings b old e new → IsToldEnd new.ended
+  brings_told old new (event.Start n) k = come_told old new k.seat empty k.comes
+  brings_told old new (event.Restart n) k = come_told old new k.next k.device k.comes
+  brings_told old new (event.Tick n) k = given_told old new n None [] k
+  brings_told old new (event.Compact n) k = elim k.comes_to [ inl p ↦ nothing_told new p.ended | inr f ↦ f.told ]
+  brings_told old new (event.Client n r) k = nothing_told new k.ended
+  brings_told old new (event.Deliver i) k = given_told old new k.node (Some k.datagram.bytes) [] k.given
+  brings_told old new (event.Inject n bytes) k = given_told old new n (Some bytes.items) (asked_note k.request) k.given
+  brings_told old new (event.Stop n x y) k = nothing_told new k.ended
+  brings_told old new (event.FailAt n count) k = nothing_told new k.ended
+  brings_told old new (event.Arm n count bytes) k = nothing_told new k.ended
+
+  pub done_told : (old new : Scene R) (e : Event) → Does b old e new → IsToldEnd new.ended
+  done_told old new e k = brings_told old new e k.1
+
+  same_told : (old new : Scene R) → new ≡ old → IsToldEnd old.ended → IsToldEnd new.ended
+  same_told old new same told = subst (λ (z : Scene R). IsToldEnd z.ended) (sym same) told
+
+  wants_told : (old new : Scene R) (e : Event) → Wants b old e new → IsToldEnd old.ended → IsToldEnd new.ended
+  wants_told old new (event.Start m) k told = same_told old new k told
+  wants_told old new (event.Restart m) k told = told_as new.ended old.ended k.ended told
+  wants_told old new (event.Tick m) k told = told_as new.ended old.ended k.ended told
+  wants_told old new (event.Compact m) k told = told_as new.ended old.ended k.ended told
+  wants_told old new (event.Client m r) k told = same_told old new k told
+  wants_told old new (event.Deliver i) k told = elim k [ inl same ↦ same_told old new same told | inr h ↦ told_as new.ended old.ended h.4.ended told ]
+  wants_told old new (event.Inject m bytes) k told = elim k [ inl same ↦ same_told old new same.0 told | inr h ↦ told_as new.ended old.ended h.ended told ]
+  wants_told old new (event.Stop m x y) k told = absurd k
+  wants_told old new (event.FailAt m count) k told = absurd k
+  wants_told old new (event.Arm m count bytes) k told = absurd k
+
+  pub refused_told : (old new : Scene R) (e : Event) (r : Refused) → IsToldEnd old.ended → IsRefused b old e r new → IsToldEnd new.ended
+  refused_told old new e r told k = elim k [ inl same ↦ same_told old new same.1 told | inr wants ↦ wants_told old new e wants.2 told ]
+
+  passes_told : (es : List Event) (old new : Scene R) → Passes b es old new → IsToldEnd old.ended → IsToldEnd new.ended
+  passes_told [] old new p told = same_told old new p told
+  passes_told (e ∷ es) old new p told = passes_told es p.0 new p.2 (done_told old p.0 e p.1)
+
+  stops_told : (es : List Event) (done : ℕ) (o : Option Refused) (last new : Scene R) → StopsAt b es done o last new → IsToldEnd last.ended → IsToldEnd new.ended
+  stops_told es done None last new k told = same_told last new k.1 told
+  stops_told es done (Some r) last new k told = refused_told last new k.0 r told k.2
+
+  pub run_told : (old new : Scene R) (es : List Event) (how : RunEnd) → Runs b old es how new → IsToldEnd old.ended → IsToldEnd new.ended
+  run_told old new es how k told = stops_told es how.done how.refused k.last new k.stops (passes_told (take how.done es) old k.last k.passes told)
