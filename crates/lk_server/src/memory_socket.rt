@@ -8,8 +8,8 @@ use lk_replica::SendFault;
 use lk_types::NoMemory;
 use std::alloc::Global;
 use std::collections::VecDeque;
-use std::io;
 use std::net::SocketAddr;
+use std::{io, mem};
 
 /// A datagram of a socket in memory: from where it came, or to where it went.
 #[derive(Drop)]
@@ -22,6 +22,7 @@ pub struct Told {
 #[derive(Drop)]
 pub struct MemorySocket {
     alloc: Global,
+    port: u16,
     coming: VecDeque<Told>,
     sent: Vec<Told>,
     failures: u64,
@@ -35,10 +36,14 @@ fn cut(length: usize) -> usize
 }
 
 impl MemorySocket {
-    /// Nothing comes, and nothing was sent.
-    pub fn new(alloc: Global) -> MemorySocket {
+    /// The socket of a port, to which nothing comes and from which nothing was sent.
+    pub fn new(alloc: Global, port: u16) -> MemorySocket
+        ensures coming { next_in result.coming.items ≡ None }
+        ensures sent { result.sent.items ≡ [] }
+    {
         MemorySocket {
             alloc,
+            port,
             coming: VecDeque::new(alloc),
             sent: Vec::new(alloc),
             failures: 0,
@@ -55,9 +60,13 @@ impl MemorySocket {
         Ok(())
     }
 
-    /// What was sent.
-    pub fn sent(&self) -> &[Told] {
-        &self.sent
+    /// Takes out what was sent, in order. Nothing is left of it.
+    pub fn take_sent(&mut self) -> Vec<Told>
+        ensures taken { result.items ≡ self.old.sent.items }
+        ensures rest { self.new ≡ record self.old { sent = self.new.sent } }
+        ensures left { self.new.sent.items ≡ [] }
+    {
+        mem::replace(&mut self.sent, Vec::new(self.alloc))
     }
 
     // Keeps what is sent, unless memory is refused for it.
@@ -111,6 +120,6 @@ impl Datagrams for MemorySocket {
     }
 
     fn port(&self) -> Option<u16> {
-        None
+        Some(self.port)
     }
 }

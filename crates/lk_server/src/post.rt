@@ -163,6 +163,11 @@ impl<S: Datagrams + Drop> SocketPost<S> {
         Some((self.addresses.seals().heard(frame), from))
     }
 
+    /// The socket.
+    pub fn socket_mut(&mut self) -> &mut S {
+        &mut self.socket
+    }
+
     /// Why the last send that failed did, where the system told it.
     pub fn cause(&self) -> Option<io::Error> {
         self.socket.cause()

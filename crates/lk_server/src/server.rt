@@ -89,6 +89,11 @@ impl<R: NodeReplica, S: Datagrams + Drop> Server<R, S> {
         &self.replica
     }
 
+    /// The socket on which it serves, for whoever carries its datagrams.
+    pub fn socket_mut(&mut self) -> &mut S {
+        self.post.socket_mut()
+    }
+
     /// The replica, as the server leaves it.
     pub fn into_replica(self) -> R
         ensures { result ≡ self.replica }
