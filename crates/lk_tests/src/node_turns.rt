@@ -37,16 +37,16 @@ pub type Turn<'a> = (Heard<'a>, &'a [Sent<'a>]);
 /// Nothing is sent.
 pub const NOTHING: &[Sent<'static>] = &[];
 
-fn member(node: u32) -> Result<Member, Fail> {
-    let node = NodeNo::of(node).ok_or("node")?;
-    let port = Port::of(7001).ok_or("port")?;
+fn member(node: u16) -> Result<Member, Fail> {
+    let port = Port::of(node.saturating_add(7000)).ok_or("port")?;
+    let node = NodeNo::of(u32::from(node)).ok_or("node")?;
     Ok(Member { node, port })
 }
 
-/// The header of a node in cluster 5, which began with so many members, all at port 7001.
-fn header(node: u32, alpha: u8, count: usize) -> Result<Header, Fail> {
+/// The header of a node in cluster 5, which began with so many members, each at port 7000 and its number.
+pub fn header(node: u32, alpha: u8, count: usize) -> Result<Header, Fail> {
     let mut members = [Member::default(); 7];
-    for place in 0..7u32 {
+    for place in 0..7u16 {
         members[place as usize] = member(place + 1)?;
     }
     let genesis = Genesis::of(5, alpha, members.get(..count).ok_or("members")?)?;
