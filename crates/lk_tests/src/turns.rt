@@ -1,21 +1,19 @@
 //! What a turn logs, and a demonstration that nobody answers.
-ghost use Rattle.std.specs.Prelude.{◌≡◌, [], None};
+ghost use Rattle.std.specs.Prelude.{◌≡◌, []};
 
 use lk_locks::LockTable;
-use lk_replica::{Post, ReplicaFault, SendFault};
+use lk_replica::{Post, ReplicaFault};
 use lk_server::ear::Ear;
+use lk_server::memory_socket::MemorySocket;
 use lk_server::node_replica::NodeReplica;
 use lk_server::outside::Outside;
 use lk_server::server::{Server, node_turn};
 use lk_server::sight::Sight;
-use lk_server::socket::Datagrams;
 use lk_service::demo::{Sockets, play};
 use lk_step::{Input, Note};
 use lk_types::{Ballot, Command, Executed, NodeNo, Position, RealBallot};
 use log::sink::{Discard, Memory};
 use std::alloc::Global;
-use std::io;
-use std::net::SocketAddr;
 use std::test::Fail;
 
 // How each call of a replica ends.
@@ -73,36 +71,6 @@ impl NodeReplica for Told {
     }
 }
 
-// A socket to which nothing comes.
-#[derive(Drop)]
-struct Waiting;
-
-impl Datagrams for Waiting {
-    ghost sent = { λ _. [] };
-
-    ghost next = { λ _. None };
-
-    ghost failures = { λ _. 0 };
-
-    ghost is_telling = { ⊥ };
-
-    fn send_to(&mut self, _to: SocketAddr, _bytes: &[u8]) -> Result<(), SendFault> {
-        Ok(())
-    }
-
-    fn receive(&mut self, _buffer: &mut [u8]) -> Option<(usize, SocketAddr)> {
-        None
-    }
-
-    fn cause(&self) -> Option<io::Error> {
-        None
-    }
-
-    fn port(&self) -> Option<u16> {
-        Some(7001)
-    }
-}
-
 /// The generation, the snapshot's position, how many positions are executed, and where there is one the round of a term of
 /// node 1 and the known leader, else 0.
 type Seen = (u64, u64, u64, u64, u32);
@@ -130,7 +98,7 @@ fn server(
     end: End,
     before: Seen,
     after: Seen,
-) -> Result<Server<Told, Waiting>, Fail> {
+) -> Result<Server<Told, MemorySocket>, Fail> {
     let told = Told {
         alloc,
         end,
@@ -139,7 +107,8 @@ fn server(
         after: sight_of(after)?,
     };
     let node = NodeNo::of(1).ok_or("node")?;
-    Ok(Server::new(alloc, 5, node, Outside::local(5, node), told, Waiting))
+    let socket = MemorySocket::new(alloc, 7001);
+    Ok(Server::new(alloc, 5, node, Outside::local(5, node), told, socket))
 }
 
 // What a turn logs whose replica ends so, and is seen so before and after it.
@@ -216,15 +185,22 @@ fn notes_are_logged_also_where_datagrams_were_lost(rt: HostRuntime) -> Result<()
     Ok(())
 }
 
+// Four sockets whose datagrams nobody carries.
+fn apart(alloc: Global) -> Result<Sockets<MemorySocket>, Fail> {
+    let mut nodes = Vec::new(alloc);
+    for port in 7001..7004 {
+        nodes.push(MemorySocket::new(alloc, port))?;
+    }
+    Ok(Sockets {
+        nodes,
+        client: MemorySocket::new(alloc, 8001),
+    })
+}
+
 #[test]
 fn a_demonstration_that_nobody_answers_ends(rt: HostRuntime) -> Result<(), Fail> {
     let mut out = Vec::new(rt.alloc());
-    let nodes = Vec::from_array(rt.alloc(), [Waiting, Waiting, Waiting])?;
-    let sockets = Sockets {
-        nodes,
-        client: Waiting,
-    };
-    let is_told = play::<LockTable, _, _>(rt.alloc(), sockets, &mut out)?;
+    let is_told = play::<LockTable, _, _>(rt.alloc(), apart(rt.alloc())?, &mut out)?;
     assert_eq!(rt;
         (is_told, out.as_slice()),
         (false, b"no answer\n".as_slice())

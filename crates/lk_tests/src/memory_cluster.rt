@@ -1,0 +1,175 @@
+//! Three servers of the lock table in one process, on disks and sockets in memory, and what they tell to clients.
+
+use crate::digits::bytes_of;
+use crate::node_turns::{Locks, header};
+use lk_disk::MemoryDisk;
+use lk_locks::LockTable;
+use lk_server::ear::Ear;
+use lk_server::memory_socket::{MemorySocket, Told};
+use lk_server::node_replica::NodeReplica;
+use lk_server::server::{Server, node_turn};
+use lk_server::socket::{Datagrams, local};
+use lk_service::running::revive;
+use log::sink::Discard;
+use std::alloc::Global;
+use std::net::SocketAddr;
+use std::test::Fail;
+
+/// The rounds until a leader or an answer is there, at most.
+const ROUNDS: u32 = 100;
+
+type LockServer = Server<Locks, MemorySocket>;
+
+/// Servers of one process, where what comes to one of them is heard, and what they told to clients.
+#[derive(Drop)]
+pub struct Cluster {
+    servers: Vec<LockServer>,
+    ear: Ear,
+    told: Vec<Told>,
+}
+
+// The server of a node of three, at this port.
+fn begun(alloc: Global, node: u32, port: u16) -> Result<LockServer, Fail> {
+    let header = header(node, 1, 3)?;
+    let socket = MemorySocket::new(alloc, port);
+    let disk = MemoryDisk::new(alloc);
+    Ok(revive::<LockTable, _, _, _>(alloc, &header, disk, socket, &Discard)?)
+}
+
+// The servers of nodes 1 to 3, at ports 7001 to 7003.
+fn three(alloc: Global) -> Result<Vec<LockServer>, Fail> {
+    let mut servers = Vec::new(alloc);
+    for (node, port) in [(1, 7001), (2, 7002), (3, 7003)] {
+        servers.push(begun(alloc, node, port)?)?;
+    }
+    Ok(servers)
+}
+
+// The datagram comes to the server, if it goes to its port. Whether it does.
+fn takes(server: &mut LockServer, from: SocketAddr, sent: &Told) -> Result<bool, Fail> {
+    let socket = server.socket_mut();
+    if socket.port() != Some(sent.place.port()) {
+        return Ok(false);
+    }
+    socket.comes(from, &sent.bytes)?;
+    Ok(true)
+}
+
+impl Cluster {
+    /// Three servers that have heard nothing.
+    pub fn new(alloc: Global) -> Result<Cluster, Fail> {
+        Ok(Cluster {
+            servers: three(alloc)?,
+            ear: Ear::new(),
+            told: Vec::new(alloc),
+        })
+    }
+
+    /// A datagram comes to the server at whose port it goes, or to a client.
+    pub fn carry(&mut self, from: SocketAddr, sent: Told) -> Result<(), Fail> {
+        for server in &mut self.servers {
+            if takes(server, from, &sent)? {
+                return Ok(());
+            }
+        }
+        self.told.push(sent)?;
+        Ok(())
+    }
+
+    // A server takes a turn, and what it sends by that is carried.
+    fn serve(&mut self, place: usize) -> Result<(), Fail> {
+        let Some(server) = self.servers.get_mut(place) else {
+            return Ok(());
+        };
+        node_turn(server, &mut self.ear, &Discard)?;
+        let port = server.socket_mut().port().unwrap_or(0);
+        for sent in server.socket_mut().take_sent() {
+            self.carry(local(port), sent)?;
+        }
+        Ok(())
+    }
+
+    /// Each server takes a turn: what comes to it next, or a tick.
+    pub fn turn(&mut self) -> Result<(), Fail> {
+        for place in 0..self.servers.len() {
+            self.serve(place)?;
+        }
+        Ok(())
+    }
+
+    // Whether each server has a term or knows who leads.
+    fn is_led(&self) -> bool {
+        for server in &self.servers {
+            let sight = server.replica().sight();
+            if sight.term.is_none() && sight.known.is_none() {
+                return false;
+            }
+        }
+        true
+    }
+
+    /// Takes turns until each server has a term or knows who leads.
+    pub fn lead(&mut self) -> Result<(), Fail> {
+        for _ in 0..ROUNDS {
+            if self.is_led() {
+                return Ok(());
+            }
+            self.turn()?;
+        }
+        Err("led")?
+    }
+
+    /// Takes turns until a client is told something.
+    pub fn next_told(&mut self) -> Result<Told, Fail> {
+        for _ in 0..ROUNDS {
+            if let Some(told) = self.told.pop() {
+                return Ok(told);
+            }
+            self.turn()?;
+        }
+        Err("told")?
+    }
+}
+
+/// From which port a client asks, at which port, and as hex what it asks and what it is told.
+type Row<'a> = (u16, u16, &'a str, &'a str);
+
+#[rattlefmt::skip]
+const ROWS: [Row; 5] = [
+    (8007, 7001, "4c4b0109 0000000000000005 00000000 0007 0000000000000001 00 04 01026462", "4c4b010a 0000000000000005 00000001 0007 0000000000000001 01 0000000000000001"),
+    (8008, 7001, "4c4b0109 0000000000000005 00000000 0008 0000000000000001 00 04 01026462", "4c4b010a 0000000000000005 00000001 0008 0000000000000001 02 0007 0000000000000001"),
+    // A node that does not lead tells what it knows, and else who does.
+    (8007, 7003, "4c4b0109 0000000000000005 00000000 0007 0000000000000001 00 04 01026462", "4c4b010a 0000000000000005 00000003 0007 0000000000000001 01 0000000000000001"),
+    (8007, 7002, "4c4b0109 0000000000000005 00000000 0007 0000000000000002 00 0c 02026462 0000000000000001", "4c4b010b 0000000000000005 00000002 0007 0000000000000002 00000001 1b59"),
+    (8007, 7001, "4c4b0109 0000000000000005 00000000 0007 0000000000000002 00 0c 02026462 0000000000000001", "4c4b010a 0000000000000005 00000001 0007 0000000000000002 03"),
+];
+
+// Whether a client is told what the row says, where it asked.
+fn is_told(alloc: Global, cluster: &mut Cluster, row: Row<'_>) -> Result<bool, Fail> {
+    let (client, server, asked, told) = row;
+    let asked = Told {
+        place: local(server),
+        bytes: bytes_of(alloc, &[asked])?,
+    };
+    cluster.carry(local(client), asked)?;
+    let heard = cluster.next_told()?;
+    Ok(heard.place == local(client) && heard.bytes == bytes_of(alloc, &[told])?)
+}
+
+// The first row that is told otherwise.
+fn first_other(alloc: Global, rows: &[Row<'_>]) -> Result<Option<usize>, Fail> {
+    let mut cluster = Cluster::new(alloc)?;
+    cluster.lead()?;
+    for (at, row) in rows.iter().enumerate() {
+        if !is_told(alloc, &mut cluster, *row)? {
+            return Ok(Some(at));
+        }
+    }
+    Ok(None)
+}
+
+#[test]
+fn three_servers_grant_a_lock(rt: HostRuntime) -> Result<(), Fail> {
+    assert_eq!(rt; first_other(rt.alloc(), &ROWS)?, None);
+    Ok(())
+}
