@@ -33,7 +33,7 @@ def asks(client, start, seconds, place):
 def death(cluster, count):
     """The seconds that each of so many clients waits for its answer, from the death of the leader on."""
     with contextlib.ExitStack() as stack:
-        clients = [stack.enter_context(cluster.client(number, patience=PATIENCE)) for number in range(1, count + 1)]
+        clients = [stack.enter_context(cluster.client(locks_client.Client, number, patience=PATIENCE)) for number in range(1, count + 1)]
         for it in clients:
             it.ask("db")  # now it knows who leads
         [leader] = {node for node, port in cluster.ports.items() if port == clients[-1].leader}

@@ -59,7 +59,7 @@ class Repeating(Client):
 def works(cluster, number, watch):
     """Acquires and releases until the run ends."""
     turn = number
-    with cluster.client(number, kind=Repeating, patience=60.0) as client:
+    with cluster.client(Repeating, number, patience=60.0) as client:
         while not watch.ended.is_set():
             name = NAMES[turn % len(NAMES)]
             turn += 1

@@ -84,7 +84,7 @@ def main():
     args = parser.parse_args()
     wrong = []
     with tempfile.TemporaryDirectory(dir=args.dir) as folder, Cluster(built(args.program), folder) as cluster:
-        with cluster.client(1, kind=Repeating, patience=60.0) as client:
+        with cluster.client(Repeating, 1, patience=60.0) as client:
             for tenth in range(1, 11):
                 for _ in range(args.pairs // 10):
                     client.release("db", client.acquire("db"))

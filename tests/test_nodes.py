@@ -1,16 +1,13 @@
-"""Tests of nodes as processes, of what a test within one process cannot show: LOCKS_PROGRAM=PATH python3 -m unittest discover clients/python"""
+"""Tests of nodes as processes, of what a test within one process cannot show."""
 import os
 import socket
 import subprocess
-import sys
 import tempfile
 import time
 import unittest
 
-HERE = os.path.dirname(os.path.abspath(__file__))
-sys.path[:0] = [HERE, os.path.join(HERE, "..", "..", "bench")]
-from cluster import free_ports  # noqa: E402
-from locks_client import Client, Free, milliseconds  # noqa: E402
+from harness.cluster import free_ports
+from locks_client import Client, Free, milliseconds
 
 PROGRAM = os.environ.get("LOCKS_PROGRAM")
 

@@ -1,14 +1,11 @@
-"""A store of the program as it was before its files had format 2: LOCKS_PROGRAM=PATH python3 -m unittest discover clients/python"""
+"""A store of the program as it was before its files had format 2."""
 import os
 import subprocess
-import sys
 import tempfile
 import unittest
 
-HERE = os.path.dirname(os.path.abspath(__file__))
-sys.path[:0] = [HERE, os.path.join(HERE, "..", "..", "bench")]
-from cluster import Cluster  # noqa: E402
-from locks_client import Held  # noqa: E402
+from harness.cluster import Cluster
+from locks_client import Client, Held
 
 PROGRAM = os.environ.get("LOCKS_PROGRAM")
 
@@ -51,10 +48,10 @@ class OldStoreTest(unittest.TestCase):
         old = {"generation": "1", "promised": "1 1", "snapshot": "0", "votes": "4", "decided": "4", "format": "1"}
         self.assertEqual(self.dump(), old)
         with self.cluster:
-            with self.cluster.client(8, patience=30.0) as client:
+            with self.cluster.client(Client, 8, patience=30.0) as client:
                 self.assertEqual(client.ask("db"), Held(8, 2))
                 client.release("db", 2)
-            with self.cluster.client(9, first=2, patience=30.0) as client:
+            with self.cluster.client(Client, 9, first=2, patience=30.0) as client:
                 self.assertEqual(client.acquire("db"), 3)
         told = self.dump()
         self.assertEqual((told["generation"], told["snapshot"], told["format"]), ("2", "4", "2"))

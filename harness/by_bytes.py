@@ -2,11 +2,8 @@
 import os
 import socket
 import subprocess
-import sys
 
-HERE = os.path.dirname(os.path.abspath(__file__))
-sys.path[:0] = [HERE, os.path.join(HERE, "..", "..", "bench")]
-from cluster import free_ports  # noqa: E402
+from harness.cluster import free_ports
 
 
 def bytes_of(*texts):

@@ -1,16 +1,13 @@
-"""Three nodes that answer, are killed and taken up again, and are joined by a fourth, by bytes: LOCKS_PROGRAM=PATH python3 -m unittest discover clients/python"""
+"""Three nodes that answer, are killed and taken up again, and are joined by a fourth, by bytes."""
 import contextlib
 import os
 import socket
-import sys
 import tempfile
 import time
 import unittest
 
-HERE = os.path.dirname(os.path.abspath(__file__))
-sys.path[:0] = [HERE, os.path.join(HERE, "..", "..", "bench")]
-from by_bytes import bytes_of  # noqa: E402
-from cluster import Cluster, free_ports  # noqa: E402
+from harness.by_bytes import bytes_of
+from harness.cluster import Cluster, free_ports
 
 PROGRAM = os.environ.get("LOCKS_PROGRAM")
 

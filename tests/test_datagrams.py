@@ -1,17 +1,15 @@
-"""Datagrams by bytes, as the program takes and drops them: LOCKS_PROGRAM=PATH python3 -m unittest discover clients/python"""
+"""Datagrams by bytes, as the program takes and drops them."""
 import os
 import re
 import subprocess
-import sys
 import tempfile
 import unittest
 
 HERE = os.path.dirname(os.path.abspath(__file__))
-sys.path.insert(0, HERE)
-from by_bytes import Node, bytes_of  # noqa: E402
+from harness.by_bytes import Node, bytes_of
 
 PROGRAM = os.environ.get("LOCKS_PROGRAM")
-TABLE = os.path.join(HERE, "..", "..", "crates", "lk_tests", "src", "wire.rt")
+TABLE = os.path.join(HERE, "..", "crates", "lk_tests", "src", "wire.rt")
 
 # Node 1 asks node 2 for a promise, and gets it.
 PREPARE = "4c4b0101 0000000000000005 00000001 0000000000000003 00000001 0000000000000001"

@@ -1,13 +1,10 @@
-"""Which texts the store takes for a packed state, and which not: LOCKS_PROGRAM=PATH python3 -m unittest discover clients/python"""
+"""Which texts the store takes for a packed state, and which not."""
 import os
 import subprocess
-import sys
 import tempfile
 import unittest
 
-HERE = os.path.dirname(os.path.abspath(__file__))
-sys.path.insert(0, HERE)
-from by_bytes import bytes_of  # noqa: E402
+from harness.by_bytes import bytes_of
 
 PROGRAM = os.environ.get("LOCKS_PROGRAM")
 

@@ -1,13 +1,10 @@
-"""What a node takes up of files of given bytes, and what it says and writes: LOCKS_PROGRAM=PATH python3 -m unittest discover clients/python"""
+"""What a node takes up of files of given bytes, and what it says and writes."""
 import os
 import subprocess
-import sys
 import tempfile
 import unittest
 
-HERE = os.path.dirname(os.path.abspath(__file__))
-sys.path.insert(0, HERE)
-from by_bytes import Node  # noqa: E402
+from harness.by_bytes import Node
 
 PROGRAM = os.environ.get("LOCKS_PROGRAM")
 

@@ -1,4 +1,4 @@
-"""Random schedules run to their ends: LOCKS_PROGRAM=PATH python3 -m unittest discover clients/python"""
+"""Random schedules run to their ends."""
 import concurrent.futures
 import os
 import re

@@ -1,4 +1,4 @@
-"""Tests of the client against nodes that they start: LOCKS_PROGRAM=PATH python3 -m unittest discover clients/python"""
+"""Tests of the client against nodes that they start."""
 import os
 import signal
 import subprocess
@@ -8,9 +8,8 @@ import time
 import unittest
 
 HERE = os.path.dirname(os.path.abspath(__file__))
-sys.path[:0] = [HERE, os.path.join(HERE, "..", "..", "bench")]
-from cluster import Cluster, free_ports  # noqa: E402
-from locks_client import (  # noqa: E402
+from harness.cluster import Cluster, free_ports
+from locks_client import (
     Bad,
     Busy,
     Client,
@@ -27,7 +26,7 @@ from locks_client import (  # noqa: E402
 )
 
 PROGRAM = os.environ.get("LOCKS_PROGRAM")
-SCRIPT = os.path.join(HERE, "locks_client.py")
+SCRIPT = os.path.join(HERE, "..", "locks_client.py")
 
 
 @unittest.skipUnless(PROGRAM, "LOCKS_PROGRAM does not tell the program")
@@ -43,7 +42,7 @@ class ClusterTest(unittest.TestCase):
         self.addCleanup(signal.signal, signal.SIGINT, before)
 
     def client(self, number, **how):
-        return self.enterContext(self.cluster.client(number, **how))
+        return self.enterContext(self.cluster.client(Client, number, **how))
 
     def run_script(self, number, *words, **how):
         """Starts the client as a program."""
@@ -202,17 +201,6 @@ class ClusterTest(unittest.TestCase):
         process.communicate(timeout=60)
         self.assertEqual(process.returncode, 128 + signal.SIGTERM)
         self.assertIsInstance(self.client(4).ask("db"), Free)
-
-
-@unittest.skipUnless(PROGRAM, "LOCKS_PROGRAM does not tell the program")
-class ExampleTest(unittest.TestCase):
-    def test_a_late_write_is_refused(self):
-        folder = os.path.join(HERE, "..", "..", "examples", "one_writer")
-        ran = subprocess.run(
-            [sys.executable, os.path.join(folder, "run.py"), PROGRAM], stdout=subprocess.PIPE, text=True, timeout=60
-        )
-        with open(os.path.join(folder, "run.out"), encoding="utf-8") as expected:
-            self.assertEqual((ran.returncode, ran.stdout), (0, expected.read()))
 
 
 if __name__ == "__main__":

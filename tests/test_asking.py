@@ -1,13 +1,11 @@
-"""Whom `locks ask` follows, what it takes for a reply, and what it prints: LOCKS_PROGRAM=PATH python3 -m unittest discover clients/python"""
+"""Whom `locks ask` follows, what it takes for a reply, and what it prints."""
 import os
 import socket
 import subprocess
-import sys
 import unittest
 
 HERE = os.path.dirname(os.path.abspath(__file__))
-sys.path.insert(0, HERE)
-from by_bytes import bytes_of  # noqa: E402
+from harness.by_bytes import bytes_of
 
 PROGRAM = os.environ.get("LOCKS_PROGRAM")
 

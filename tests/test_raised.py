@@ -1,13 +1,10 @@
-"""The raised table, by the bytes of each op, of what it is answered, and of the table in a snapshot: LOCKS_PROGRAM=PATH python3 -m unittest discover clients/python"""
+"""The raised table, by the bytes of each op, of what it is answered, and of the table in a snapshot."""
 import os
 import subprocess
-import sys
 import tempfile
 import unittest
 
-HERE = os.path.dirname(os.path.abspath(__file__))
-sys.path.insert(0, HERE)
-from by_bytes import Node, bytes_of  # noqa: E402
+from harness.by_bytes import Node, bytes_of
 
 PROGRAM = os.environ.get("LOCKS_PROGRAM")
 

@@ -1,14 +1,12 @@
-"""When a node writes its snapshot: LOCKS_PROGRAM=PATH python3 -m unittest discover clients/python"""
+"""When a node writes its snapshot."""
 import os
 import subprocess
-import sys
 import tempfile
 import time
 import unittest
 
-HERE = os.path.dirname(os.path.abspath(__file__))
-sys.path[:0] = [HERE, os.path.join(HERE, "..", "..", "bench")]
-from cluster import Cluster  # noqa: E402
+from harness.cluster import Cluster
+from locks_client import Client
 
 PROGRAM = os.environ.get("LOCKS_PROGRAM")
 
@@ -28,7 +26,7 @@ class SnapshotTest(unittest.TestCase):
         return lines[0], lines[2], lines[4]
 
     def test_it_is_written_at_the_tick_after_256_requests(self):
-        with self.cluster.client(1, patience=30.0) as client:
+        with self.cluster.client(Client, 1, patience=30.0) as client:
             for _ in range(127):
                 client.release("db", client.acquire("db"))
             fence = client.acquire("db")

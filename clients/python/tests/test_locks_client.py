@@ -1,16 +1,14 @@
-"""Tests of the client: python3 -m unittest discover clients/python"""
+"""Tests of the client."""
 import os
 import socket
-import sys
 import tempfile
 import threading
 import time
 import unittest
 from unittest import mock
 
-sys.path.insert(0, os.path.dirname(os.path.abspath(__file__)))
-import locks_client  # noqa: E402
-from locks_client import (  # noqa: E402
+import locks_client
+from locks_client import (
     Busy,
     Client,
     Free,

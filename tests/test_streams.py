@@ -1,4 +1,4 @@
-"""A script whose input or output fails: LOCKS_PROGRAM=PATH python3 -m unittest discover clients/python"""
+"""A script whose input or output fails."""
 import os
 import resource
 import signal

@@ -1,15 +1,12 @@
-"""A node that joins late is given the state: LOCKS_PROGRAM=PATH python3 -m unittest discover clients/python"""
+"""A node that joins late is given the state."""
 import os
 import socket
-import sys
 import tempfile
 import time
 import unittest
 
-HERE = os.path.dirname(os.path.abspath(__file__))
-sys.path[:0] = [HERE, os.path.join(HERE, "..", "..", "bench")]
-from cluster import Cluster, free_ports  # noqa: E402
-from locks_client import Client, Held, read_reply  # noqa: E402
+from harness.cluster import Cluster, free_ports
+from locks_client import Client, Held, read_reply
 
 PROGRAM = os.environ.get("LOCKS_PROGRAM")
 PAIRS = 300  # 600 positions: each node has made two snapshots by then, and keeps no command of the first 256
@@ -30,7 +27,7 @@ class NewcomerTest(unittest.TestCase):
     def setUp(self):
         folder = self.enterContext(tempfile.TemporaryDirectory())
         self.cluster = self.enterContext(Cluster(PROGRAM, folder))
-        self.client = self.enterContext(self.cluster.client(1, kind=Repeating, patience=60.0))
+        self.client = self.enterContext(self.cluster.client(Repeating, 1, patience=60.0))
         for _ in range(PAIRS):
             self.client.release("db", self.client.acquire("db"))
 

@@ -1,17 +1,14 @@
-"""A snapshot in parts, datagram by datagram: LOCKS_PROGRAM=PATH python3 -m unittest discover clients/python"""
+"""A snapshot in parts, datagram by datagram."""
 import contextlib
 import os
 import select
 import socket
 import subprocess
-import sys
 import tempfile
 import time
 import unittest
 
-HERE = os.path.dirname(os.path.abspath(__file__))
-sys.path[:0] = [HERE, os.path.join(HERE, "..", "..", "bench")]
-from cluster import Cluster, free_ports  # noqa: E402
+from harness.cluster import Cluster, free_ports
 
 PROGRAM = os.environ.get("LOCKS_PROGRAM")
 WANT, PART = 7, 8
