@@ -17,6 +17,7 @@ import threading
 import time
 
 from cluster import Cluster, built, locks_client
+from locks_client import core, waits
 
 PATIENCE = 60.0  # seconds, as long as a death is measured
 
@@ -70,7 +71,7 @@ def main():
     parser.add_argument("--program", help="the built program; the wrapper builds it if none is given")
     args = parser.parse_args()
     if args.fixed:
-        locks_client.WAITS, locks_client.SCATTER, locks_client.MAX_ELSEWHERE = (0.5,), (1.0, 1.0), 20
+        waits.WAITS, waits.SCATTER, core.MAX_ELSEWHERE = (0.5,), (1.0, 1.0), 20
     program = built(args.program)
     print("| clients | first answered, median | slowest | all answered, median | slowest |")
     print("|---:|---:|---:|---:|---:|")

@@ -6,18 +6,11 @@ import time
 import unittest
 
 from harness.cluster import Cluster, free_ports
-from locks_client import Client, Held, read_reply
+from locks_client import Answer, Client, Held
+from locks_client.wire import read_reply
 
 PROGRAM = os.environ.get("LOCKS_PROGRAM")
 PAIRS = 300  # 600 positions: each node has made two snapshots by then, and keeps no command of the first 256
-
-
-class Repeating(Client):
-    """A client that keeps the bytes of its last request."""
-
-    def exchange(self, number, data):
-        self.last = (number, data)
-        return super().exchange(number, data)
 
 
 @unittest.skipUnless(PROGRAM, "LOCKS_PROGRAM does not tell the program")
@@ -27,7 +20,7 @@ class NewcomerTest(unittest.TestCase):
     def setUp(self):
         folder = self.enterContext(tempfile.TemporaryDirectory())
         self.cluster = self.enterContext(Cluster(PROGRAM, folder))
-        self.client = self.enterContext(self.cluster.client(Repeating, 1, patience=60.0))
+        self.client = self.enterContext(self.cluster.client(Client, 1, patience=60.0))
         for _ in range(PAIRS):
             self.client.release("db", self.client.acquire("db"))
 
@@ -40,7 +33,7 @@ class NewcomerTest(unittest.TestCase):
 
     def seconds_until_known(self, node):
         """The seconds until the node answers the client's last request as it was answered: until it has executed it."""
-        number, data = self.client.last
+        number, data = self.client.core.last[:2]
         start = time.perf_counter()
         with socket.socket(socket.AF_INET, socket.SOCK_DGRAM) as it:
             it.settimeout(0.02)
@@ -51,7 +44,7 @@ class NewcomerTest(unittest.TestCase):
                 except OSError:  # nothing came, or nothing listens there yet
                     time.sleep(0.02)
                     continue
-                if reply and reply[0] == "answer":
+                if isinstance(reply, Answer):
                     return time.perf_counter() - start
         self.fail(f"node {node} has not caught up in 30 s")
 

@@ -1,15 +1,11 @@
-"""Tests of the client against nodes that they start."""
-import os
-import signal
-import subprocess
-import sys
-import tempfile
-import time
+"""The clients against nodes that the tests start."""
+import asyncio
 import unittest
 
-HERE = os.path.dirname(os.path.abspath(__file__))
-from harness.cluster import Cluster, free_ports
+from cluster_case import PROGRAM, ClusterCase
+from harness.cluster import free_ports
 from locks_client import (
+    AsyncClient,
     Bad,
     Busy,
     Client,
@@ -22,54 +18,11 @@ from locks_client import (
     OtherAnswer,
     Passed,
     Used,
-    milliseconds,
 )
-
-PROGRAM = os.environ.get("LOCKS_PROGRAM")
-SCRIPT = os.path.join(HERE, "..", "locks_client.py")
 
 
 @unittest.skipUnless(PROGRAM, "LOCKS_PROGRAM does not tell the program")
-class ClusterTest(unittest.TestCase):
-    """Three nodes; a client number for each client of the tests."""
-
-    def setUp(self):
-        folder = self.enterContext(tempfile.TemporaryDirectory())
-        self.cluster = self.enterContext(Cluster(PROGRAM, folder))
-        self.ports = list(self.cluster.ports.values())
-        # A shell lets what it runs in the background ignore an interrupt, and so would what the tests start.
-        before = signal.signal(signal.SIGINT, signal.default_int_handler)
-        self.addCleanup(signal.signal, signal.SIGINT, before)
-
-    def client(self, number, **how):
-        return self.enterContext(self.cluster.client(Client, number, **how))
-
-    def run_script(self, number, *words, **how):
-        """Starts the client as a program."""
-        known = [word for port in self.ports for word in ("--port", str(port))]
-        who = ["--cluster", "5", "--client", str(number), "--request", str(milliseconds())]
-        return subprocess.Popen(
-            [sys.executable, SCRIPT, *known, *who, *words], stdout=subprocess.PIPE, stderr=subprocess.PIPE, text=True, **how
-        )
-
-    def wait_until_caught(self, process):
-        """Waits until the process has a handler for SIGTERM, and then until it is surely in the midst of its request."""
-        with open(f"/proc/{process.pid}/status", encoding="ascii") as status:
-            while not self.caught(status) >> (signal.SIGTERM - 1) & 1:
-                time.sleep(0.02)
-        time.sleep(0.3)
-
-    def caught(self, status):
-        """The set of signals for which there is a handler."""
-        status.seek(0)
-        return next(int(line.split()[1], 16) for line in status if line.startswith("SigCgt"))
-
-    def said(self, number, *words, **how):
-        """The status, the output and what stands on standard error of such a run."""
-        process = self.run_script(number, *words, **how)
-        out, err = process.communicate(timeout=60)
-        return process.returncode, out, err
-
+class ClusterTest(ClusterCase):
     def test_a_lock_goes_from_hand_to_hand(self):
         one, two = self.client(1), self.client(2)
         self.assertEqual(one.acquire("db"), 1)
@@ -140,67 +93,19 @@ class ClusterTest(unittest.TestCase):
         with self.assertRaises(NoAnswer):
             self.client(1, patience=1.0).acquire("db")
 
-    def test_the_program_prints_an_answer(self):
-        self.assertEqual(self.said(1, "acquire", "db"), (0, "granted 1\n", ""))
-        self.assertEqual(self.said(2, "acquire", "db"), (0, "busy 1 1\n", ""))
-        self.assertEqual(self.said(2, "hold", "db")[0], 2)
+    def test_tasks_take_a_lock_in_turn(self):
+        fences = asyncio.run(self.fences_of_tasks(3))
+        self.assertEqual(sorted(fences), [1, 2, 3])
 
-    def test_a_command_holds_a_lock(self):
-        tell = [sys.executable, "-c", "import os, sys; print(os.environ['LOCKS_FENCE']); sys.exit(7)"]
-        self.assertEqual(self.said(1, "hold", "db", "--", *tell), (7, "1\n", ""))
-        self.assertEqual(self.said(2, "hold", "db", "--", *tell), (7, "2\n", ""))
-        self.assertEqual(self.said(2, "hold", "db", "--", "/no/such/command")[0], 127)
-        self.assertEqual(self.client(3).ask("db"), Free(3))
+    async def fences_of_tasks(self, count):
+        """The fences of so many tasks, each with a client of its own, which want one lock at once."""
 
-    def test_a_command_waits_for_a_lock(self):
-        client = self.client(3)
-        client.acquire("db")
-        self.assertEqual(self.said(1, "--wait", "0.1", "hold", "db", "--", "true"), (1, "", "busy 3 1\n"))
-        waiting = self.run_script(1, "hold", "db", "--", "true")
-        time.sleep(0.3)
-        client.release("db", 1)
-        self.assertEqual((waiting.communicate(timeout=60), waiting.returncode), (("", ""), 0))
-        self.assertEqual(client.ask("db"), Free(2))
+        async def fence(number):
+            async with self.cluster.client(AsyncClient, number, patience=30.0) as client, client.lock("db") as fence:
+                await asyncio.sleep(0.1)
+                return fence
 
-    def test_signals_reach_a_command(self):
-        process = self.run_script(1, "hold", "db", "--", "sh", "-c", "trap 'echo told; exit 3' TERM; echo up; while :; do sleep 0.05; done")
-        self.assertEqual(process.stdout.readline(), "up\n")
-        process.send_signal(signal.SIGTERM)
-        self.assertEqual((process.communicate(timeout=60), process.returncode), (("told\n", ""), 3))
-        self.assertEqual(self.client(3).ask("db"), Free(1))
-
-    def test_a_command_that_a_signal_ends(self):
-        process = self.run_script(1, "hold", "db", "--", "sh", "-c", "echo up; exec sleep 60")
-        self.assertEqual(process.stdout.readline(), "up\n")
-        process.send_signal(signal.SIGINT)
-        process.communicate(timeout=60)
-        self.assertEqual(process.returncode, 128 + signal.SIGINT)
-        self.assertEqual(self.client(3).ask("db"), Free(1))
-
-    def test_a_signal_ends_the_wait_for_a_lock(self):
-        client = self.client(3)
-        client.acquire("db")
-        process = self.run_script(1, "hold", "db", "--", "true")
-        self.wait_until_caught(process)
-        process.send_signal(signal.SIGTERM)
-        process.communicate(timeout=60)
-        self.assertEqual(process.returncode, 128 + signal.SIGTERM)
-        client.release("db", 1)
-        self.assertEqual(client.ask("db"), Free(1))
-
-    def test_what_a_signal_stops_is_withdrawn(self):
-        stopped = [self.cluster.processes[node] for node in (1, 2, 3)]
-        self.client(3).ask("db")
-        for it in stopped:
-            it.send_signal(signal.SIGSTOP)
-        process = self.run_script(1, "hold", "db", "--", "true")
-        self.wait_until_caught(process)
-        process.send_signal(signal.SIGTERM)
-        for it in stopped:
-            it.send_signal(signal.SIGCONT)
-        process.communicate(timeout=60)
-        self.assertEqual(process.returncode, 128 + signal.SIGTERM)
-        self.assertIsInstance(self.client(4).ask("db"), Free)
+        return await asyncio.gather(*(fence(number) for number in range(1, count + 1)))
 
 
 if __name__ == "__main__":
