@@ -63,6 +63,7 @@ class AsyncClient(Base):
     @contextlib.asynccontextmanager
     async def lock(self, name: str, wait: float = math.inf, shared: bool = False) -> AsyncIterator[int]:
         """Context manager: holds the lock and yields its fence, as `Client.lock` does; also where the task is cancelled."""
+        self.refuse_nested(name)
         fence = None
         try:
             fence = await (self.share(name, wait) if shared else self.acquire(name, wait))

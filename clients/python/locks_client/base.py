@@ -5,7 +5,7 @@ import socket
 from collections.abc import Iterable
 
 from .core import Core
-from .errors import Forked, LocksError
+from .errors import Busy, Forked, LocksError
 from .numbers import Numbers
 
 LOOPBACK = "127.0.0.1"
@@ -78,6 +78,11 @@ class Base:
         note = f"{name} was not released by client {self.client}: {failed or type(failed).__name__}; {where}"
         error.add_note(note)
         log.warning("%s", note)
+
+    def refuse_nested(self, name: str) -> None:
+        """Busy if this run holds the name: the service answers a second Share as the first, and one release ends both."""
+        if name in self.core.grants:
+            raise Busy(self.client, self.core.grants[name])
 
     def is_unheld(self, fence: int | None, error: BaseException) -> bool:
         """Whether a lock was refused, or its request is left open for `again` and `withdraw`, so that nothing is to be undone."""

@@ -52,6 +52,7 @@ class Client(Base):
         raised as it is; where the release fails too, a note on it says so. NotHeld if the lock was broken meanwhile. A
         request that the block has left open is given up.
         """
+        self.refuse_nested(name)
         fence = None
         try:
             fence = self.share(name, wait) if shared else self.acquire(name, wait)

@@ -227,6 +227,15 @@ class ClientTest(unittest.TestCase):
         with self.assertRaises(NotHeld), self.client(node.port).lock("db"):
             pass
 
+    def test_a_lock_within_itself_is_refused_and_does_not_free_it(self):
+        for shared, granted in ((False, GRANTED), (True, SHARED)):
+            node = Node([granted], [RELEASED])
+            client = self.client(node.port)
+            with client.lock("db", shared=shared):
+                with self.assertRaises(Busy), client.lock("db", shared=shared):
+                    self.fail("the lock was granted twice")
+                self.assertEqual(len(node.heard), 1)
+
     def test_a_forked_child_is_refused(self):
         node = Node([GRANTED], [RELEASED])
         client = self.client(node.port)
