@@ -63,7 +63,8 @@ class AsyncClient(Base):
     @contextlib.asynccontextmanager
     async def lock(self, name: str, wait: float = math.inf, shared: bool = False) -> AsyncIterator[int]:
         """Context manager: holds the lock and yields its fence, as `Client.lock` does; also where the task is cancelled."""
-        self.refuse_nested(name)
+        if shared:
+            self.refuse_nested(name)
         fence = None
         try:
             fence = await (self.share(name, wait) if shared else self.acquire(name, wait))
@@ -72,13 +73,13 @@ class AsyncClient(Base):
             await self.release(name, fence)
         except BaseException as error:
             if not self.is_unheld(fence, error):
-                await self.undo(name, error)
+                await self.undo(name, fence, error)
             raise
 
-    async def undo(self, name: str, error: BaseException) -> None:
+    async def undo(self, name: str, fence: int | None, error: BaseException) -> None:
         """Gives the lock back after an error, which stays the one that is raised."""
         try:
-            await self.withdraw(name)
+            await self.run(self.core.withdraw(name) if fence is None else self.core.give_back(name, fence))
         except Exception as failed:
             self.tell_kept(name, error, failed)
         except BaseException as second:

@@ -82,7 +82,7 @@ class Base:
     def refuse_nested(self, name: str) -> None:
         """Busy if this run holds the name: the service answers a second Share as the first, and one release ends both."""
         if name in self.core.grants:
-            raise Busy(self.client, self.core.grants[name])
+            raise Busy(self.client, self.core.grants[name].fence)
 
     def is_unheld(self, fence: int | None, error: BaseException) -> bool:
         """Whether a lock was refused, or its request is left open for `again` and `withdraw`, so that nothing is to be undone."""

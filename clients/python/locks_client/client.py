@@ -52,7 +52,8 @@ class Client(Base):
         raised as it is; where the release fails too, a note on it says so. NotHeld if the lock was broken meanwhile. A
         request that the block has left open is given up.
         """
-        self.refuse_nested(name)
+        if shared:
+            self.refuse_nested(name)
         fence = None
         try:
             fence = self.share(name, wait) if shared else self.acquire(name, wait)
@@ -61,13 +62,13 @@ class Client(Base):
             self.release(name, fence)
         except BaseException as error:
             if not self.is_unheld(fence, error):
-                self.undo(name, error)
+                self.undo(name, fence, error)
             raise
 
-    def undo(self, name: str, error: BaseException) -> None:
+    def undo(self, name: str, fence: int | None, error: BaseException) -> None:
         """Gives the lock back after an error, which stays the one that is raised."""
         try:
-            self.withdraw(name)
+            self.run(self.core.withdraw(name) if fence is None else self.core.give_back(name, fence))
         except Exception as failed:
             self.tell_kept(name, error, failed)
         except BaseException as second:

@@ -63,10 +63,17 @@ class Request(NamedTuple):
     made: Made
 
 
+class Grant(NamedTuple):
+    """A fence, and the number of the request that was granted it."""
+
+    fence: int
+    number: int
+
+
 class Core:
     """What one client knows: where its numbers go on, who leads, which request is open, and what it was granted.
 
-    clock: gives seconds. last: the last request that was begun. grants: the fences of this run's grants, by name.
+    clock: gives seconds. last: the last request that was begun. grants: those of this run, by name.
     """
 
     def __init__(
@@ -82,7 +89,7 @@ class Core:
         self.leader: int | None = None  # the port from which the last answer came
         self.open: Request | None = None
         self.last: Request | None = None
-        self.grants: dict[str, int] = {}
+        self.grants: dict[str, Grant] = {}
         self.numbers: Numbers
 
     def poll(self, word: str, name: str, wait: float) -> Plan[int]:
@@ -110,18 +117,22 @@ class Core:
         yield from self.request(table_op("release", name, fence))
 
     def withdraw(self, name: str) -> Plan[bool]:
-        """Gives up an acquire or share that was interrupted. Whether it was granted after all; then it is released.
+        """Gives up the last request, an acquire or share. Whether it was granted after all; then it is released.
 
-        What an earlier run of this client was granted stays: the answer to the open request tells the two apart.
+        What was granted to another request stays, as that of an earlier run: its own answer tells the two apart.
         """
-        if self.open and self.open.op.word in GRANTING and self.open.op.name == name:
+        request = self.open or self.last
+        if request is None or request.op.word not in GRANTING or request.op.name != name:
+            return False
+        if self.open:
             try:
                 yield from self.again()
             except Refused as refused:
                 log.debug("%s was not granted: %s", name, refused)
-        if name not in self.grants:
+        grant = self.grants.get(name)
+        if grant is None or grant.number != request.number:
             return False
-        return (yield from self.give_back(name, self.grants[name]))
+        return (yield from self.give_back(name, grant.fence))
 
     def give_back(self, name: str, fence: int) -> Plan[bool]:
         """Releases what may be released already. Whether it was held until now."""
@@ -157,16 +168,21 @@ class Core:
             raise LocksError("no request is open")
         self.numbers.check_process()
         answer = yield from self.exchange(request, self.clock() + self.patience if end is None else end)
-        self.note(request.op, answer)
+        self.note(request, answer)
         self.open = None
         return request.made(request.op.word, answer)
 
-    def note(self, op: Op, answer: Answer) -> None:
+    def note(self, request: Request, answer: Answer) -> None:
         """Remembers what this run holds."""
+        op = request.op
         if answer.text in ("granted", "shared") and op.word in GRANTING:
-            self.grants[op.name] = answer.fields[0]
-        if op.word == "release" and self.grants.get(op.name) == op.fence:
+            self.grants[op.name] = Grant(answer.fields[0], request.number)
+        if op.word == "release" and self.is_held(op.name, op.fence):
             del self.grants[op.name]
+
+    def is_held(self, name: str, fence: int) -> bool:
+        """Whether this run was granted the name at that fence, and knows of no release."""
+        return name in self.grants and self.grants[name].fence == fence
 
     def exchange(self, request: Request, end: float) -> Plan[Answer]:
         """Sends the bytes until their answer comes: to one port after the other, with growing waits between them."""

@@ -141,7 +141,7 @@ def released(client: Client, name: str, fence: int, seconds: float) -> str:
     except LocksError as error:
         return str(error)
     except Stopped as stopped:
-        return str(stopped) if name in client.core.grants else ""
+        return str(stopped) if client.core.is_held(name, fence) else ""
 
 
 def hold(client: Client, name: str, command: list[str], wait: float, release_wait: float) -> int:

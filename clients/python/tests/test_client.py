@@ -228,13 +228,22 @@ class ClientTest(unittest.TestCase):
             pass
 
     def test_a_lock_within_itself_is_refused_and_does_not_free_it(self):
-        for shared, granted in ((False, GRANTED), (True, SHARED)):
-            node = Node([granted], [RELEASED])
-            client = self.client(node.port)
-            with client.lock("db", shared=shared):
-                with self.assertRaises(Busy), client.lock("db", shared=shared):
-                    self.fail("the lock was granted twice")
-                self.assertEqual(len(node.heard), 1)
+        node = Node([SHARED], [RELEASED])
+        client = self.client(node.port)
+        with client.lock("db", shared=True):
+            with self.assertRaises(Busy), client.lock("db", shared=True):
+                self.fail("the lock was shared twice")
+            self.assertEqual(len(node.heard), 1)
+
+    def test_an_interrupt_within_a_lock_does_not_free_it(self):
+        node = Node([GRANTED], [], [numbered(by(7, BUSY), 2)], [numbered(RELEASED, 3)])
+        client = self.client(node.port)
+        with client.lock("db"):
+            client.receive = interrupted_once(client)
+            with self.assertRaises(KeyboardInterrupt), client.lock("db"):
+                self.fail("the lock was granted twice")
+            self.assertEqual(len(node.heard), 3)
+        self.assertEqual(node.heard[3], numbered(RELEASE, 3))
 
     def test_a_forked_child_is_refused(self):
         node = Node([GRANTED], [RELEASED])

@@ -49,7 +49,7 @@ class CoreTest(unittest.TestCase):
     def test_an_acquire_is_sent_and_answered(self):
         self.assertEqual(self.carry_out(self.core.poll("acquire", "db", 0.0), GRANTED), 1)
         self.assertEqual(self.done, [(0.0, 7001, plain(ACQUIRE))])
-        self.assertEqual((self.core.leader, self.core.grants), (7002, {"db": 1}))
+        self.assertEqual((self.core.leader, self.core.grants), (7002, {"db": (1, 1)}))
 
     def test_the_same_bytes_go_to_one_port_after_the_other(self):
         with self.assertRaises(NoAnswer):
