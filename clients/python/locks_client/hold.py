@@ -5,7 +5,7 @@ import os
 import signal
 import subprocess
 import sys
-from collections.abc import Iterator
+from collections.abc import Callable, Iterator
 
 from .client import Client
 from .core import ANSWER_TIME
@@ -15,6 +15,7 @@ from .statuses import CANNOT_START, NOT_FOUND, NOT_RELEASED, SIGNAL, status_of
 # What is forwarded to the command, and what wakes whoever waits for it.
 FORWARDED = {signal.SIGHUP, signal.SIGINT, signal.SIGQUIT, signal.SIGTERM, signal.SIGUSR1, signal.SIGUSR2}
 AWAITED = FORWARDED | {signal.SIGCHLD}
+LAST_TRY = 1.0  # seconds for a withdrawal or a release after a signal has ended it
 FROM_TERMINAL = 0x80  # the code of a signal that the kernel sends of itself
 PR_SET_PDEATHSIG = 1  # of prctl(2), on Linux
 
@@ -69,12 +70,33 @@ def explained(client: Client, name: str, error: LocksError) -> str:
     return str(error)
 
 
-def withdrawn(client: Client, name: str) -> None:
-    """Gives up an acquire that a signal has ended. A failure, or a second signal, is told."""
+def tried(plan: Callable[[], object]) -> str:
+    """Calls it. Why it failed; empty if it did not."""
     try:
-        client.withdraw(name)
+        plan()
     except (LocksError, Stopped) as failed:
-        tell(f"{name} may stay held, or may still be granted: {failed}; {remedy(client, name)}")
+        return str(failed)
+    return ""
+
+
+def tried_last(client: Client, plan: Callable[[], object]) -> str:
+    """The same for a second at most, after a signal has ended an earlier try. Further signals wait."""
+
+    def bounded() -> None:
+        signal.pthread_sigmask(signal.SIG_BLOCK, AWAITED)
+        client.patience = LAST_TRY
+        plan()
+
+    return tried(bounded)
+
+
+def withdrawn(client: Client, name: str) -> None:
+    """Gives up an acquire that a signal has ended. A failure is told, also after a second signal."""
+    problem = tried(lambda: client.withdraw(name))
+    if problem:
+        problem = tried_last(client, lambda: client.withdraw(name))
+    if problem:
+        tell(f"{name} may stay held, or may still be granted: {problem}; {remedy(client, name)}")
 
 
 def granted(client: Client, name: str, wait: float) -> int:
@@ -141,7 +163,8 @@ def released(client: Client, name: str, fence: int, seconds: float) -> str:
     except LocksError as error:
         return str(error)
     except Stopped as stopped:
-        return str(stopped) if client.core.is_held(name, fence) else ""
+        problem = tried_last(client, lambda: client.run(client.core.give_back(name, fence)))
+        return problem and f"{stopped}, then {problem}"
 
 
 def hold(client: Client, name: str, command: list[str], wait: float, release_wait: float) -> int:

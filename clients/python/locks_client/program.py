@@ -83,13 +83,13 @@ def main() -> int:
     with client:
         if args.op[0] == "hold":
             return hold(client, op.name, args.op[2:], args.wait, args.release_wait)
-        try:
-            return ask_once(client, op, args.fail)
-        except KeyboardInterrupt:
-            tell("interrupted: the request may have taken effect, or still may")
-            return INTERRUPTED
+        return ask_once(client, op, args.fail)
 
 
 def run() -> None:
     """The entry of the installed program."""
-    sys.exit(main())
+    try:
+        sys.exit(main())
+    except KeyboardInterrupt:
+        tell("interrupted: a request that was sent may have taken effect, or still may")
+        sys.exit(INTERRUPTED)

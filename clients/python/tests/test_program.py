@@ -141,6 +141,18 @@ class ProgramTest(ClusterCase):
         self.assertEqual(status, 128 + signal.SIGTERM)
         self.assertIn(MAY_STAY_HELD, err)
 
+    def test_what_two_signals_stop_is_withdrawn(self):
+        self.client(3).ask("db")
+        self.all_nodes(signal.SIGSTOP)
+        process = self.run_program(1, "hold", "db", "--", "true")
+        self.wait_until_asking(process)
+        for _ in range(2):
+            process.send_signal(signal.SIGTERM)
+            time.sleep(0.1)
+        self.all_nodes(signal.SIGCONT)
+        self.assertEqual(self.ended(process), (128 + signal.SIGTERM, "", ""))
+        self.assertIsInstance(self.client(4).ask("db"), Free)
+
     def test_a_command_dies_with_its_hold(self):
         process = self.holds(1, UP)
         process.kill()
@@ -179,7 +191,7 @@ class ProgramTest(ClusterCase):
         status, _, err = self.ended(process)
         self.all_nodes(signal.SIGCONT)
         self.assertEqual(status, 124)
-        self.assertIn("stopped by signal 15; the command's status was 7", err)
+        self.assertIn("stopped by signal 15, then no answer; the command's status was 7", err)
 
     def test_a_lock_that_was_broken_is_told(self):
         client = self.client(3)
