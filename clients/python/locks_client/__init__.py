@@ -19,6 +19,7 @@ from .client import Client
 from .errors import (
     Bad,
     Busy,
+    Closed,
     Forked,
     Full,
     InUse,
@@ -47,6 +48,7 @@ __all__ = [
     "Bad",
     "Busy",
     "Client",
+    "Closed",
     "Forked",
     "Free",
     "Full",

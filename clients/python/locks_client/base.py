@@ -2,6 +2,7 @@
 import logging
 import os
 import socket
+import threading
 from collections.abc import Iterable
 
 from .core import Core
@@ -32,6 +33,7 @@ class Base:
         patience: float = 10.0,
     ) -> None:
         self.core = Core(cluster, client, ports, patience)
+        self.guard = threading.RLock()  # one that an interrupt leaves locked does not lock its own thread out
         self.numbers = self.core.numbers = Numbers(first, state)
         self.socket = socket.socket(socket.AF_INET, socket.SOCK_DGRAM)
         self.socket.bind((LOOPBACK, 0))

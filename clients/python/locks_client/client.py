@@ -8,6 +8,7 @@ from typing import Any, Self, TypeVar
 
 from .base import LONGEST, LOOPBACK, Base
 from .core import Datagram, Effect, Listen, Plan, Send, Sleep
+from .errors import Unanswered
 from .results import Free, Held, HeldShared, result
 from .wire import Answer, Op, join_op, leave_op, raise_op, table_op
 
@@ -15,9 +16,11 @@ T = TypeVar("T")
 
 
 class Client(Base):
-    """A client whose calls wait. Not thread-safe, and unusable in a forked child: `Forked` is raised there.
+    """A client whose calls wait, for one thread at a time. A forked child cannot use it: `Forked` is raised there.
 
-    Numbers, ports and times are as for `Base`. Use it in a `with`, or call `close`.
+    cluster: its number. client: the number of this client, 1 to 256, which nobody else uses. ports: those of the nodes on
+    127.0.0.1, one at least. first: the number of the first request. state: a file that keeps the numbers over restarts; one
+    of the two has to be given. patience: seconds until NoAnswer. Use it in a `with`, or call `close`.
     """
 
     def close(self) -> None:
@@ -131,7 +134,9 @@ class Client(Base):
         return self.run(self.core.give_up(name))
 
     def run(self, plan: Plan[T]) -> T:
-        """Carries a plan out."""
+        """Carries a plan out. Unanswered while another thread does."""
+        if not self.guard.acquire(blocking=False):
+            raise Unanswered("another thread is in a call of this client")
         heard = None
         try:
             while True:
@@ -141,6 +146,7 @@ class Client(Base):
             return value
         finally:
             plan.close()
+            self.guard.release()
 
     def perform(self, effect: Effect) -> Datagram | None:
         """Does what a plan yields."""

@@ -150,7 +150,7 @@ class Core:
 
     def drop_open(self) -> None:
         """Waits no more for the open request. It has taken effect before the next one does, or never will."""
-        self.numbers.check_process()
+        self.numbers.check()
         self.open = None
 
     def request(self, op: Op, made: Made = result, end: float | None = None) -> Plan[Any]:
@@ -166,7 +166,7 @@ class Core:
         request = self.open
         if request is None:
             raise LocksError("no request is open")
-        self.numbers.check_process()
+        self.numbers.check()
         answer = yield from self.exchange(request, self.clock() + self.patience if end is None else end)
         self.note(request, answer)
         self.open = None

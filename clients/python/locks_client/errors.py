@@ -45,6 +45,13 @@ class Forked(LocksError):
         return f"this client was opened in process {self.opened}, not in {self.here}: open another one, with another client number"
 
 
+class Closed(LocksError):
+    """The client was closed: another process may use its number by now."""
+
+    def __init__(self, text: str = "this client is closed") -> None:
+        super().__init__(text)
+
+
 class StateError(LocksError):
     """The state file cannot be used. The text names the path and the remedy."""
 

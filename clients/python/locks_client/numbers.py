@@ -7,7 +7,7 @@ import time
 from collections.abc import Iterator
 from typing import TextIO
 
-from .errors import Forked, InUse, OutOfNumbers, StateError
+from .errors import Closed, Forked, InUse, OutOfNumbers, StateError
 from .wire import MAX_COUNT, ranged
 
 BLOCK = 1_000  # numbers that one write of the file reserves
@@ -111,7 +111,7 @@ class Numbers:
             raise ValueError("neither a first number nor a state file is given")
         if first is not None:
             ranged(first, 1, MAX_NUMBER, "first number")
-        self.process = os.getpid()
+        self.process, self.is_closed = os.getpid(), False
         self.state = State(os.fspath(path)) if path is not None else None
         try:
             self.kept = self.begun(first)
@@ -127,14 +127,16 @@ class Numbers:
             raise StateError(self.state.path, f"it is not there; if this client is new or the file was lost, {NEW}")
         return kept or 0
 
-    def check_process(self) -> None:
-        """Refuses in a forked child: two processes must not ask with the same numbers."""
+    def check(self) -> None:
+        """Refuses in a forked child and after `close`: two processes must not ask with the same numbers."""
         if os.getpid() != self.process:
             raise Forked(self.process, os.getpid())
+        if self.is_closed:
+            raise Closed()
 
     def take(self, spare: int = 0) -> int:
         """The next number, after which so many more are reserved. It is kept on disk before it is given."""
-        self.check_process()
+        self.check()
         wanted = self.last + 1 + spare
         if wanted > MAX_NUMBER:
             raise OutOfNumbers()
@@ -155,14 +157,19 @@ class Numbers:
 
     def close(self) -> None:
         """Gives back the numbers that are reserved and not used, and lets another process use the file."""
-        if self.state and os.getpid() == self.process and 0 < self.last < self.kept:
-            try:
-                self.keep(self.last)
-            except StateError as error:
-                log.warning("reserved numbers are lost: %s", error)
+        if not self.is_closed and os.getpid() == self.process and 0 < self.last < self.kept:
+            self.give_back()
         self.close_file()
+
+    def give_back(self) -> None:
+        """Keeps the last number that was used. Where that fails, those that were reserved are skipped."""
+        try:
+            self.keep(self.last)
+        except StateError as error:
+            log.warning("reserved numbers are lost: %s", error)
 
     def close_file(self) -> None:
         """Closes this process' hold of the file."""
+        self.is_closed = True
         if self.state:
             self.state.close()

@@ -2,6 +2,7 @@
 import os
 import time
 import unittest
+from concurrent.futures import ThreadPoolExecutor
 
 from fake_node import (
     ACQUIRE,
@@ -26,7 +27,7 @@ from fake_node import (
     plain,
     waiting,
 )
-from locks_client import Busy, Client, Free, Held, HeldShared, NoAnswer, NotHeld, OtherAnswer, Passed, Unanswered, waits
+from locks_client import Busy, Client, Closed, Free, Held, HeldShared, NoAnswer, NotHeld, OtherAnswer, Passed, Unanswered, waits
 
 
 def by(client, text):
@@ -253,6 +254,23 @@ class ClientTest(unittest.TestCase):
             self.assertEqual(in_child(lambda: client.release("db", 1)), "Forked")
             self.assertEqual(in_child(client.close), "")
         self.assertEqual(node.heard, [plain(ACQUIRE), plain(RELEASE)])
+
+    def test_a_closed_client_is_refused(self):
+        client = self.client(1)
+        client.close()
+        with self.assertRaises(Closed):
+            client.acquire("db")
+
+    def test_two_threads_at_once_are_refused(self):
+        node = Node([], [GRANTED])
+        client = self.client(node.port)
+        with ThreadPoolExecutor(1) as pool:
+            first = pool.submit(client.acquire, "db")
+            time.sleep(0.1)
+            with self.assertRaises(Unanswered):
+                client.ask("db")
+            self.assertEqual(first.result(), 1)
+        self.assertEqual(node.heard, [plain(ACQUIRE)] * 2)
 
     def test_a_wait_is_bounded_without_an_answer(self):
         start = time.monotonic()

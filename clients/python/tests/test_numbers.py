@@ -5,7 +5,7 @@ import tempfile
 import unittest
 from unittest import mock
 
-from locks_client import Client, InUse, OutOfNumbers, StateError, milliseconds
+from locks_client import Client, Closed, InUse, OutOfNumbers, StateError, milliseconds
 from locks_client.numbers import BLOCK, MAX_NUMBER, SPARE, Numbers
 
 FULL = OSError(errno.ENOSPC, "No space left on device")
@@ -71,6 +71,16 @@ class NumbersTest(unittest.TestCase):
         self.assertEqual((killed.take(), self.text()), (1, f"{BLOCK}\n"))
         killed.close_file()
         self.assertEqual(self.took(state=self.path), BLOCK + 1)
+
+    def test_a_closed_file_is_not_written_again(self):
+        numbers = self.numbers(first=1, path=self.path)
+        numbers.take()
+        numbers.close()
+        self.write("17\n")
+        numbers.close()
+        with self.assertRaises(Closed):
+            numbers.take()
+        self.assertEqual(self.text(), "17\n")
 
     def test_a_block_of_numbers_is_written_once(self):
         numbers = self.numbers(first=1, path=self.path)
