@@ -3,9 +3,9 @@
 
 Usage: bench/waiters.py [--clients N] [--hold S] [--times N] [--dir FOLDER] [--program PATH]
 
-Three nodes run as processes on loopback. N clients (20 if not given) wait for one lock at once, as N runs of `hold` do: each takes it, keeps it
-S seconds (0.5 if not given), gives it back and is gone. It prints how long the lock stood free between a release and the next grant, and
-how many datagrams the clients sent a second, over so many rounds (2 if not given).
+Three nodes run as processes on loopback. N clients (20 if not given) wait for one lock at once, as N runs of `hold` do:
+each takes it, keeps it S seconds (0.5 if not given), gives it back and is gone. It prints how long the lock stood free
+between a release and the next grant, and how many datagrams the clients sent a second, over so many rounds (2 if not given).
 """
 import argparse
 import contextlib
@@ -55,7 +55,8 @@ def measured(program, folder, args):
     """How long the lock stood free before each grant, the datagrams that were sent, and the seconds of the whole round."""
     watch = Watch()
     with Cluster(program, folder) as cluster, contextlib.ExitStack() as stack:
-        clients = [stack.enter_context(cluster.client(Counting, number, patience=60.0)) for number in range(1, args.clients + 1)]
+        made = [cluster.client(Counting, number, patience=60.0) for number in range(1, args.clients + 1)]
+        clients = [stack.enter_context(it) for it in made]
         clients[0].ask("db")  # now somebody leads
         threads = [threading.Thread(target=works, args=(it, watch, args.hold)) for it in clients]
         start = time.perf_counter()
@@ -80,7 +81,8 @@ def main():
             rounds.append(measured(program, folder, args))
     free = [seconds for round_free, _, _ in rounds for seconds in round_free]
     sent, lasted = sum(it[1] for it in rounds), sum(it[2] for it in rounds)
-    print(f"free for {statistics.median(free) * 1e3:,.0f} ms at the median, {statistics.mean(free) * 1e3:,.0f} on average, {max(free) * 1e3:,.0f} at most")
+    median, mean, most = (it * 1e3 for it in (statistics.median(free), statistics.mean(free), max(free)))
+    print(f"free for {median:,.0f} ms at the median, {mean:,.0f} on average, {most:,.0f} at most")
     print(f"{sent / lasted:,.0f} datagrams a second; cores {os.cpu_count()}, load {os.getloadavg()[0]:.1f}")
 
 

@@ -4,8 +4,8 @@
         with client.lock("db") as fence:
             write(..., fence)
 
-Pass the fence with each write to the resource that the lock guards: the resource refuses a write with a smaller fence than
-it has seen, and so a late one of a holder that lost the lock.
+Pass the fence with each write to the resource that the lock guards: the resource refuses a write with a smaller fence
+than it has seen, and so a late one of a holder that lost the lock.
 
 A client number belongs to one client alone, and each request has a number greater than all before. So a client is told
 where its numbers go on: by `state`, a file that keeps them, or by `first`, the number of its first request.

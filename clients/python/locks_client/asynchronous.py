@@ -31,8 +31,8 @@ class Inbox(asyncio.DatagramProtocol):
 class AsyncClient(Base):
     """The same client for asyncio: each call is a coroutine, for one task at a time.
 
-    A call while another one is under way raises Unanswered. A state file is written within a call, once a block of numbers.
-    Use it in an `async with`, or call `close`.
+    A call while another one is under way raises Unanswered. A state file is written within a call, once a block of
+    numbers. Use it in an `async with`, or call `close`.
     """
 
     inbox: Inbox | None = None
@@ -49,7 +49,9 @@ class AsyncClient(Base):
     async def __aenter__(self) -> Self:
         return self
 
-    async def __aexit__(self, kind: type[BaseException] | None, error: BaseException | None, trace: TracebackType | None) -> None:
+    async def __aexit__(
+        self, kind: type[BaseException] | None, error: BaseException | None, trace: TracebackType | None
+    ) -> None:
         self.close()
 
     async def acquire(self, name: str, wait: float = 0.0) -> int:
@@ -62,7 +64,7 @@ class AsyncClient(Base):
 
     @contextlib.asynccontextmanager
     async def lock(self, name: str, wait: float = math.inf, shared: bool = False) -> AsyncIterator[int]:
-        """Context manager: holds the lock and yields its fence, as `Client.lock` does; also where the task is cancelled."""
+        """Context manager: holds the lock and yields its fence, as `Client.lock` does. A cancelled task releases."""
         if shared:
             self.refuse_nested(name)
         fence = None

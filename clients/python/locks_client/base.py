@@ -18,9 +18,9 @@ log = logging.getLogger("locks_client")
 class Base:
     """One client of a cluster, with one socket.
 
-    cluster: its number. client: the number of this client, 1 to 256, which nobody else uses. ports: those of the nodes on
-    127.0.0.1, one at least. first: the number of the first request. state: a file that keeps the numbers over restarts; one
-    of the two has to be given. patience: seconds until NoAnswer.
+    cluster: its number. client: the number of this client, 1 to 256, which nobody else uses. ports: those of the nodes
+    on 127.0.0.1, one at least. first: the number of the first request. state: a file that keeps the numbers over
+    restarts; one of the two has to be given. patience: seconds until NoAnswer.
     """
 
     def __init__(
@@ -82,10 +82,10 @@ class Base:
         log.warning("%s", note)
 
     def refuse_nested(self, name: str) -> None:
-        """Busy if this run holds the name: the service answers a second Share as the first, and one release ends both."""
+        """Busy if this run holds the name: a second Share is answered as the first, and one release ends both."""
         if name in self.core.grants:
             raise Busy(self.client, self.core.grants[name].fence)
 
     def is_unheld(self, fence: int | None, error: BaseException) -> bool:
-        """Whether a lock was refused, or its request is left open for `again` and `withdraw`, so that nothing is to be undone."""
+        """Whether nothing is to be undone: the lock was refused, or its request stays open for `withdraw`."""
         return fence is None and isinstance(error, LocksError)

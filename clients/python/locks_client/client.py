@@ -18,9 +18,9 @@ T = TypeVar("T")
 class Client(Base):
     """A client whose calls wait, for one thread at a time. A forked child cannot use it: `Forked` is raised there.
 
-    cluster: its number. client: the number of this client, 1 to 256, which nobody else uses. ports: those of the nodes on
-    127.0.0.1, one at least. first: the number of the first request. state: a file that keeps the numbers over restarts; one
-    of the two has to be given. patience: seconds until NoAnswer. Use it in a `with`, or call `close`.
+    cluster: its number. client: the number of this client, 1 to 256, which nobody else uses. ports: those of the nodes
+    on 127.0.0.1, one at least. first: the number of the first request. state: a file that keeps the numbers over
+    restarts; one of the two has to be given. patience: seconds until NoAnswer. Use it in a `with`, or call `close`.
     """
 
     def close(self) -> None:
@@ -31,7 +31,9 @@ class Client(Base):
     def __enter__(self) -> Self:
         return self
 
-    def __exit__(self, kind: type[BaseException] | None, error: BaseException | None, trace: TracebackType | None) -> None:
+    def __exit__(
+        self, kind: type[BaseException] | None, error: BaseException | None, trace: TracebackType | None
+    ) -> None:
         self.close()
 
     def acquire(self, name: str, wait: float = 0.0) -> int:

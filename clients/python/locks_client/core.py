@@ -77,7 +77,12 @@ class Core:
     """
 
     def __init__(
-        self, cluster: int, client: int, ports: Iterable[int], patience: float = 10.0, clock: Callable[[], float] = time.monotonic
+        self,
+        cluster: int,
+        client: int,
+        ports: Iterable[int],
+        patience: float = 10.0,
+        clock: Callable[[], float] = time.monotonic,
     ) -> None:
         self.cluster = ranged(cluster, 0, (1 << 64) - 1, "cluster")
         self.client = ranged(client, 1, MAX_CLIENT, "client")

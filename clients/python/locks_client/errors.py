@@ -6,7 +6,7 @@ class LocksError(Exception):
 
 
 class NoAnswer(LocksError):
-    """No answer came in time. The request may have taken effect, or still may: `again` asks for its answer once more."""
+    """No answer came in time. The request may have taken effect, or still may: `again` asks for its answer."""
 
     def __init__(self, text: str = "no answer") -> None:
         super().__init__(text)
@@ -22,8 +22,8 @@ class Unanswered(LocksError):
 class Passed(LocksError):
     """A request of this client with the greater number `last` was executed before.
 
-    Either another process uses the client number, or the last number was lost. Where it was lost, `skip_to` a number above
-    all that were used.
+    Either another process uses the client number, or the last number was lost. Where it was lost, `skip_to` a number
+    above all that were used.
     """
 
     def __init__(self, last: int) -> None:
@@ -35,14 +35,14 @@ class Passed(LocksError):
 
 
 class Forked(LocksError):
-    """The client was opened in another process. A forked child opens a client of its own, with a client number of its own."""
+    """The client was opened in another process. A forked child opens a client of its own, with another number."""
 
     def __init__(self, opened: int, here: int) -> None:
         super().__init__(opened, here)
         self.opened, self.here = opened, here
 
     def __str__(self) -> str:
-        return f"this client was opened in process {self.opened}, not in {self.here}: open another one, with another client number"
+        return f"this client was opened in process {self.opened}, not in {self.here}: open one with another client number"
 
 
 class Closed(LocksError):
@@ -66,7 +66,7 @@ class StateError(LocksError):
 class InUse(StateError):
     """Another client has the state file open, and so uses the client number."""
 
-    def __init__(self, path: str, problem: str = "another client uses it; give each client a number and a file of its own") -> None:
+    def __init__(self, path: str, problem: str = "another client uses it; give each a number and a file of its own") -> None:
         super().__init__(path, problem)
 
 

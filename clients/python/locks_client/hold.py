@@ -54,8 +54,8 @@ def stopping() -> Iterator[None]:
 
 def remedy(client: Client, name: str) -> str:
     """How to free a lock that this client may hold."""
-    who = f"with client number {client.client}"
-    return f"`ask {name}` tells whether client {client.client} holds it at a fence F; `release {name} F` frees it, {who}"
+    who = f"client {client.client}"
+    return f"`ask {name}` tells whether {who} holds it at a fence F; `release {name} F`, as {who}, frees it"
 
 
 def explained(client: Client, name: str, error: LocksError) -> str:
@@ -66,7 +66,8 @@ def explained(client: Client, name: str, error: LocksError) -> str:
     if isinstance(error, NoAnswer):
         return f"{error}: the acquire of {name} may still take effect; {remedy(client, name)}"
     if isinstance(error, Passed):
-        return f"{error}: another process uses client number {client.client}, or its last number was lost; then give --first $(date +%s%3N)"
+        others = f"another process uses client number {client.client}"
+        return f"{error}: {others}, or its last number was lost; then give --first $(date +%s%3N)"
     return str(error)
 
 

@@ -51,7 +51,8 @@ class State:
         try:
             yield
         except OSError as error:
-            raise StateError(self.path, f"{error.strerror}; see that its folder is there, may be written and has room") from error
+            remedy = "see that its folder is there, may be written and has room"
+            raise StateError(self.path, f"{error.strerror}; {remedy}") from error
 
     def read(self) -> int | None:
         """The number that the file keeps, or None if there is no file."""
@@ -101,9 +102,9 @@ class State:
 class Numbers:
     """Numbers of requests, each greater than all before.
 
-    first: the least number that is given. path: a file that keeps them over restarts; a file that is not there yet wants a
-    first number too. One of the two has to be given. The file is written once for a block of numbers; `close` gives back
-    those that were not used.
+    first: the least number that is given. path: a file that keeps them over restarts; a file that is not there yet wants
+    a first number too. One of the two has to be given. The file is written once for a block of numbers; `close` gives
+    back those that were not used.
     """
 
     def __init__(self, first: int | None = None, path: str | os.PathLike[str] | None = None) -> None:
@@ -152,7 +153,7 @@ class Numbers:
             self.kept = number
 
     def skip_to(self, number: int) -> None:
-        """The next number is this one, or a greater one that is due. 2^48 - 2^32 at most: a number that was sent is used up."""
+        """The next number is this one, or a greater one that is due. ValueError above 2^48 - 2^32."""
         self.last = max(self.last, ranged(number, 1, MAX_NUMBER, "number") - 1)
 
     def close(self) -> None:

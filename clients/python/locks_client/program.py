@@ -31,19 +31,19 @@ def arguments() -> argparse.ArgumentParser:
     parser = argparse.ArgumentParser(
         prog="locks-client",
         formatter_class=argparse.RawDescriptionHelpFormatter,
-        description="Sends one request to a cluster of locks and prints its answer, or runs a command while it holds a lock.",
+        description="Sends one request to a cluster of locks and prints its answer, or holds a lock while a command runs.",
         epilog=OPS + TABLE,
     )
     add = parser.add_argument
     add("--cluster", type=int, required=True, help="the number of the cluster")
     add("--port", type=int, action="append", required=True, help="a node's port on 127.0.0.1; may be repeated")
     add("--client", type=int, required=True, help="the number of this client, 1 to 256, used by nobody else")
-    add("--first", "--request", type=int, help="the number of the first request, above all that this client used, as $(date +%%s%%3N)")
-    add("--state", help="a file that keeps the numbers; a new file wants --first too, and without it --first alone has to be given")
-    add("--patience", type=seconds, default=10.0, metavar="S", help="seconds until a request has no answer, 10 if not given")
+    add("--first", "--request", type=int, help="the first number, above all that this client used, as $(date +%%s%%3N)")
+    add("--state", help="a file that keeps the numbers; a new one wants --first too; one of the two is needed")
+    add("--patience", type=seconds, default=10.0, metavar="S", help="seconds until there is no answer, 10 if not given")
     add("--fail", action="store_true", help="status 1 where a single request is refused")
-    add("--wait", type=seconds, default=math.inf, metavar="S", help="seconds that hold waits for the lock; for ever if not given")
-    add("--release-wait", type=seconds, default=60.0, metavar="S", help="seconds that hold tries to release it, 60 if not given")
+    add("--wait", type=seconds, default=math.inf, metavar="S", help="seconds that hold waits; for ever if not given")
+    add("--release-wait", type=seconds, default=60.0, metavar="S", help="seconds that hold tries to release, 60 if not given")
     add("op", nargs="+", metavar="OP", help="the words of the request, or hold NAME -- COMMAND ..")
     return parser
 

@@ -23,7 +23,7 @@ TABLE = """\
   121                                     busy: not granted within --wait
   122     passed, or the number was used  the same
   123     no answer                       the same: the acquire may still take effect
-  124                                     not released, or broken by another: the command's own status stands on standard error
+  124                                     not released, or broken; the command's own status: on standard error
   125     other error of the client       not granted: no room, spent, or another error
   126                                     the command cannot be started
   127                                     the command is not found

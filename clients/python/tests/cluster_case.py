@@ -36,9 +36,8 @@ class ClusterCase(unittest.TestCase):
         """Starts the client as a program."""
         known = [word for port in self.ports for word in ("--port", str(port))]
         who = ["--cluster", "5", "--client", str(number), "--first", str(first or milliseconds())]
-        process = subprocess.Popen(
-            [sys.executable, "-m", "locks_client", *known, *who, *words], stdout=subprocess.PIPE, stderr=subprocess.PIPE, text=True, **how
-        )
+        command = [sys.executable, "-m", "locks_client", *known, *who, *words]
+        process = subprocess.Popen(command, stdout=subprocess.PIPE, stderr=subprocess.PIPE, text=True, **how)
         self.addCleanup(process.communicate)
         self.addCleanup(process.kill)
         return process
@@ -53,7 +52,7 @@ class ClusterCase(unittest.TestCase):
         return self.ended(self.run_program(number, *words, **how))
 
     def wait_until_asking(self, process):
-        """Waits until the process has a handler for SIGTERM, and then until it is surely in the midst of its request."""
+        """Waits until the process has a handler for SIGTERM, and then until its request is surely sent."""
         with open(f"/proc/{process.pid}/status", encoding="ascii") as status:
             while not self.caught(status) >> (signal.SIGTERM - 1) & 1:
                 time.sleep(0.02)

@@ -27,7 +27,20 @@ from fake_node import (
     plain,
     waiting,
 )
-from locks_client import Busy, Client, Closed, Free, Held, HeldShared, NoAnswer, NotHeld, OtherAnswer, Passed, Unanswered, waits
+from locks_client import (
+    Busy,
+    Client,
+    Closed,
+    Free,
+    Held,
+    HeldShared,
+    NoAnswer,
+    NotHeld,
+    OtherAnswer,
+    Passed,
+    Unanswered,
+    waits,
+)
 
 
 def by(client, text):

@@ -26,7 +26,7 @@ class CoreTest(unittest.TestCase):
         self.core.numbers = Numbers(first=1)
 
     def carry_out(self, plan, *heard):
-        """Carries the plan out; each wait hears the next of these datagrams. The result; what was done stands in `done`."""
+        """Carries the plan out; each wait hears the next of these datagrams. The result; `done` has what was sent."""
         replies, told = iter(heard), None
         while True:
             try:

@@ -17,6 +17,12 @@ MADE = {
 }
 
 
+def methods(public):
+    """The public methods of a class."""
+    named = vars(public).items() if inspect.isclass(public) else ()
+    return [it for name, it in named if not name.startswith("_") and callable(it)]
+
+
 class ErrorsTest(unittest.TestCase):
     def all(self):
         """One of each error."""
@@ -38,8 +44,7 @@ class ErrorsTest(unittest.TestCase):
     def test_each_public_name_is_there_and_has_a_docstring(self):
         for name in locks_client.__all__:
             public = getattr(locks_client, name)
-            inner = [it for key, it in vars(public).items() if not key.startswith("_") and callable(it)] if inspect.isclass(public) else []
-            for it in [public, *inner]:
+            for it in [public, *methods(public)]:
                 with self.subTest(name=name, of=it):
                     self.assertTrue(inspect.getdoc(it))
 

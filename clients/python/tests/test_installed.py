@@ -17,8 +17,10 @@ HELD = "held at fence 1\n"
 
 def ran(*words, **how):
     """The status and the output of a command that knows no path of this folder."""
-    known = {name: value for name, value in os.environ.items() if name != "PYTHONPATH"}
-    run = subprocess.run(words, env=known | {"PIP_CONFIG_FILE": os.devnull}, stdout=subprocess.PIPE, stderr=subprocess.STDOUT, text=True, timeout=100, **how)
+    known = {name: value for name, value in os.environ.items() if name != "PYTHONPATH"} | {"PIP_CONFIG_FILE": os.devnull}
+    run = subprocess.run(
+        words, env=known, stdout=subprocess.PIPE, stderr=subprocess.STDOUT, text=True, timeout=100, **how
+    )
     return run.returncode, run.stdout
 
 
@@ -29,7 +31,8 @@ class InstalledTest(unittest.TestCase):
         cls.folder = cls.enterClassContext(tempfile.TemporaryDirectory())
         cls.python = os.path.join(cls.folder, "bin", "python")
         made = ran(sys.executable, "-m", "venv", cls.folder)
-        installed = ran(cls.python, "-m", "pip", "--disable-pip-version-check", "install", "--no-index", FOLDER, cwd=cls.folder)
+        pip = [cls.python, "-m", "pip", "--disable-pip-version-check"]
+        installed = ran(*pip, "install", "--no-index", FOLDER, cwd=cls.folder)
         assert (made[0], installed[0]) == (0, 0), (made, installed)
 
     def setUp(self):
@@ -55,7 +58,7 @@ class InstalledTest(unittest.TestCase):
         self.assertEqual(ran("sh", "-c", f"{program} {self.with_ports(line)}", cwd=self.room), (0, HELD))
 
     def test_the_types_are_told(self):
-        where = "import locks_client, os; print(os.path.exists(os.path.join(os.path.dirname(locks_client.__file__), 'py.typed')))"
+        where = "import importlib.resources as it; print((it.files('locks_client') / 'py.typed').is_file())"
         self.assertEqual(ran(self.python, "-c", where, cwd=self.room), (0, "True\n"))
 
 

@@ -83,7 +83,8 @@ class ProgramTest(ClusterCase):
         self.assertLess(time.monotonic() - start, 3.0)
         self.all_nodes(signal.SIGCONT)
         self.assertEqual(status, 123)
-        self.assertIn("may still take effect; `ask db` tells whether client 1 holds it at a fence F; `release db F` frees it", err)
+        self.assertIn("may still take effect; `ask db` tells whether client 1 holds it at a fence F", err)
+        self.assertIn("`release db F`, as client 1, frees it", err)
 
     def test_signals_reach_a_command(self):
         process = self.holds(1, "trap 'echo told; exit 3' TERM; echo up; while :; do sleep 0.05; done")

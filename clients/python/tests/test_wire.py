@@ -48,8 +48,8 @@ class WireTest(unittest.TestCase):
                 self.assertEqual({read_reply(it, *who) for it in changed}, {None})
 
     def test_words_that_ask_nothing_are_refused(self):
-        wrong = ["acquire", "acquire DB", "acquire " + "x" * 33, "release db 0", "release db x", "leave 0", "raise 3", "join 1 0", "other"]
-        for words in wrong:
+        wrong = ["acquire", "acquire DB", "acquire " + "x" * 33, "release db 0", "release db x", "leave 0", "raise 3"]
+        for words in [*wrong, "join 1 0", "other"]:
             with self.subTest(words=words), self.assertRaises(ValueError):
                 op_of(words.split())
 
