@@ -30,12 +30,12 @@ def milliseconds() -> int:
 class State:
     """A file that keeps one number, and a file beside it that one process alone has locked."""
 
-    def __init__(self, path: str) -> None:
+    def __init__(self, path: str | os.PathLike[str]) -> None:
         self.path = os.path.realpath(path)
-        self.lock = self.locked()
+        self.lock: TextIO | None = None
 
-    def locked(self) -> TextIO:
-        """The file beside it, locked."""
+    def take(self) -> None:
+        """Locks the file beside it, as long as this process uses the number."""
         with self.explained():
             file = open(self.path + ".lock", "w", encoding="ascii")
             try:
@@ -43,7 +43,7 @@ class State:
             except BlockingIOError:
                 file.close()
                 raise InUse(self.path) from None
-        return file
+        self.lock = file
 
     @contextlib.contextmanager
     def explained(self) -> Iterator[None]:
@@ -96,7 +96,8 @@ class State:
 
     def close(self) -> None:
         """Another process may use the file from now on."""
-        self.lock.close()
+        if self.lock:
+            self.lock.close()
 
 
 class Numbers:
@@ -113,20 +114,20 @@ class Numbers:
         if first is not None:
             ranged(first, 1, MAX_NUMBER, "first number")
         self.process, self.is_closed = os.getpid(), False
-        self.state = State(os.fspath(path)) if path is not None else None
-        try:
-            self.kept = self.begun(first)
-        except BaseException:
-            self.close_file()
-            raise
+        self.state = State(path) if path is not None else None
+        self.kept = self.begun(self.state, first) if self.state else 0
         self.last = max(self.kept, (first or 1) - 1)
 
-    def begun(self, first: int | None) -> int:
-        """The number that the file keeps; 0 if there is none."""
-        kept = self.state.read() if self.state else None
-        if self.state and kept is None and first is None:
-            raise StateError(self.state.path, f"it is not there; if this client is new or the file was lost, {NEW}")
-        return kept or 0
+    def begun(self, state: State, first: int | None) -> int:
+        """The number that the file keeps, 0 if there is none, once no other process uses it."""
+        if state.read() is None and first is None:
+            raise StateError(state.path, f"it is not there; if this client is new or the file was lost, {NEW}")
+        state.take()
+        try:
+            return state.read() or 0
+        except BaseException:
+            state.close()
+            raise
 
     def check(self) -> None:
         """Refuses in a forked child and after `close`: two processes must not ask with the same numbers."""

@@ -109,6 +109,7 @@ class NumbersTest(unittest.TestCase):
 
     def test_a_file_that_is_not_there_wants_a_first_number(self):
         self.assertIn("it is not there", self.refused())
+        self.assertEqual(os.listdir(self.folder), [])
         now = milliseconds()
         self.assertEqual(self.took(first=now, state=self.path), now)
 
@@ -128,7 +129,7 @@ class NumbersTest(unittest.TestCase):
     def test_a_file_has_one_owner(self):
         self.numbers(first=1, path=self.path)
         with self.assertRaises(InUse):
-            Client(5, 7, [1], state=self.path)
+            Client(5, 7, [1], first=1, state=self.path)
 
     def test_a_file_by_another_path_is_the_same(self):
         os.symlink(self.path, self.path + ".link")
