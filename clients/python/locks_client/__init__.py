@@ -13,7 +13,7 @@ where its numbers go on: by `state`, a file that keeps them, or by `first`, the 
 `AsyncClient` is the same client for asyncio. `python -m locks_client` is the program; `--help` tells its words.
 """
 import logging
-from typing import TYPE_CHECKING, Any
+from typing import TYPE_CHECKING
 
 from .client import Client
 from .errors import (
@@ -76,12 +76,12 @@ logging.getLogger("locks_client").addHandler(logging.NullHandler())
 
 if TYPE_CHECKING:
     from .asynchronous import AsyncClient
+else:
 
+    def __getattr__(name):
+        """Loads AsyncClient where it is used first: asyncio costs a program that holds a lock a third of its start."""
+        if name == "AsyncClient":
+            from .asynchronous import AsyncClient
 
-def __getattr__(name: str) -> Any:
-    """Loads AsyncClient where it is used first: asyncio costs a program that holds a lock a third of its start."""
-    if name == "AsyncClient":
-        from .asynchronous import AsyncClient
-
-        return AsyncClient
-    raise AttributeError(f"module {__name__!r} has no attribute {name!r}")
+            return AsyncClient
+        raise AttributeError(f"module {__name__!r} has no attribute {name!r}")
