@@ -4,7 +4,7 @@ import math
 import sys
 
 from .client import Client
-from .errors import LocksError
+from .errors import LocksError, NoAnswer, Passed
 from .hold import hold, tell
 from .results import FAILING, fitting
 from .statuses import INTERRUPTED, REFUSED, TABLE, status_of
@@ -49,11 +49,14 @@ def arguments() -> argparse.ArgumentParser:
 
 
 def ask_once(client: Client, op: Op, is_strict: bool) -> int:
-    """Prints what an op is answered. The status."""
+    """Prints what an op is answered, as `locks ask` does. The status."""
     try:
         answer = fitting(op.word, client.request(op))
+    except (NoAnswer, Passed) as told:
+        print(told)
+        return status_of(told)
     except LocksError as error:
-        print(error)
+        tell(str(error))
         return status_of(error)
     print(" ".join([answer.text, *map(str, answer.fields)]))
     return REFUSED if is_strict and answer.text in FAILING else 0

@@ -36,7 +36,8 @@ class ProgramTest(ClusterCase):
         now = milliseconds()
         self.assertEqual(self.said(1, "acquire", "db", first=now), (0, "granted 1\n", ""))
         self.assertEqual(self.said(1, "acquire", "db", first=now - 1), (122, f"passed {now}\n", ""))
-        self.assertEqual(self.said(1, "ask", "db", first=now)[0], 122)
+        other = (122, "", "granted, to ask: this number was used before\n")
+        self.assertEqual(self.said(1, "ask", "db", first=now), other)
         self.assertEqual(self.said(1, "ask", "db", first=2**48)[0], 2)
 
     def test_a_state_file_is_refused_without_a_traceback(self):
