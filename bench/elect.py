@@ -17,6 +17,7 @@ import threading
 import time
 
 from cluster import Cluster, built, locks_client
+from locks_client import core, waits
 
 PATIENCE = 60.0  # seconds, as long as a death is measured
 
@@ -33,7 +34,7 @@ def asks(client, start, seconds, place):
 def death(cluster, count):
     """The seconds that each of so many clients waits for its answer, from the death of the leader on."""
     with contextlib.ExitStack() as stack:
-        clients = [stack.enter_context(cluster.client(number, patience=PATIENCE)) for number in range(1, count + 1)]
+        clients = [stack.enter_context(cluster.client(locks_client.Client, number, patience=PATIENCE)) for number in range(1, count + 1)]
         for it in clients:
             it.ask("db")  # now it knows who leads
         [leader] = {node for node, port in cluster.ports.items() if port == clients[-1].leader}
@@ -70,7 +71,7 @@ def main():
     parser.add_argument("--program", help="the built program; the wrapper builds it if none is given")
     args = parser.parse_args()
     if args.fixed:
-        locks_client.WAITS, locks_client.SCATTER, locks_client.MAX_ELSEWHERE = (0.5,), (1.0, 1.0), 20
+        waits.WAITS, waits.SCATTER, core.MAX_ELSEWHERE = (0.5,), (1.0, 1.0), 20
     program = built(args.program)
     print("| clients | first answered, median | slowest | all answered, median | slowest |")
     print("|---:|---:|---:|---:|---:|")

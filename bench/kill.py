@@ -15,7 +15,7 @@ import threading
 import time
 
 from cluster import Cluster, built
-from locks_client import Busy, Client, NotHeld
+from locks_client import Answer, Busy, Client, NotHeld
 
 NAMES = ["db", "queue", "leader"]
 
@@ -45,28 +45,23 @@ class Watch:
 class Repeating(Client):
     """A client that can ask once more with the bytes of its last request."""
 
-    def exchange(self, number, data):
-        answer = super().exchange(number, data)
-        self.last = (number, data, answer)
-        return answer
-
-    def is_kept(self):
-        """Whether the last request is answered as before."""
-        number, data, answer = self.last
-        return super().exchange(number, data) == answer
+    def is_kept(self, fence):
+        """Whether the last request, which was granted at that fence, is answered as before."""
+        asked = self.core.exchange(self.core.last, time.monotonic() + self.patience)
+        return self.run(asked) == Answer("granted", (fence,))
 
 
 def works(cluster, number, watch):
     """Acquires and releases until the run ends."""
     turn = number
-    with cluster.client(number, kind=Repeating, patience=60.0) as client:
+    with cluster.client(Repeating, number, patience=60.0) as client:
         while not watch.ended.is_set():
             name = NAMES[turn % len(NAMES)]
             turn += 1
             try:
                 fence = client.acquire(name)
                 watch.granted(name, fence)
-                if not client.is_kept():
+                if not client.is_kept(fence):
                     watch.said(f"client {number} was answered otherwise when it asked again")
                 client.release(name, fence)
             except Busy:

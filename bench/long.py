@@ -16,19 +16,12 @@ import tempfile
 import time
 
 from cluster import Cluster, built
-from locks_client import Client, read_reply
+from locks_client import Answer, Client
+from locks_client.wire import read_reply
 
 MOST_MEMORY = 8 << 10  # KiB
 MOST_BYTES = 262_144
 MOST_SECONDS = 0.3
-
-
-class Repeating(Client):
-    """A client that keeps the bytes of its last request."""
-
-    def exchange(self, number, data):
-        self.last = (number, data)
-        return super().exchange(number, data)
 
 
 def memory_of(process):
@@ -59,7 +52,7 @@ def tell(cluster, done):
 
 def seconds_to_answer(cluster, client, node):
     """The seconds from the start of the node until it gives the client's last answer once more, and the client's number."""
-    number, data = client.last
+    number, data = client.core.last[:2]
     with socket.socket(socket.AF_INET, socket.SOCK_DGRAM) as it:
         it.settimeout(0.01)
         start = time.perf_counter()
@@ -71,7 +64,7 @@ def seconds_to_answer(cluster, client, node):
             except OSError:  # nothing came, or nothing listens there yet
                 time.sleep(0.002)
                 continue
-            if reply and reply[0] == "answer":
+            if isinstance(reply, Answer):
                 break
         return time.perf_counter() - start
 
@@ -84,7 +77,7 @@ def main():
     args = parser.parse_args()
     wrong = []
     with tempfile.TemporaryDirectory(dir=args.dir) as folder, Cluster(built(args.program), folder) as cluster:
-        with cluster.client(1, kind=Repeating, patience=60.0) as client:
+        with cluster.client(Client, 1, patience=60.0) as client:
             for tenth in range(1, 11):
                 for _ in range(args.pairs // 10):
                     client.release("db", client.acquire("db"))

@@ -15,6 +15,7 @@ import threading
 import time
 
 from cluster import Cluster, built
+from locks_client import Client
 
 
 class Worker(threading.Thread):
@@ -25,7 +26,7 @@ class Worker(threading.Thread):
         self.cluster, self.fences, self.is_over = cluster, [], threading.Event()
 
     def run(self):
-        with self.cluster.client(1, patience=60.0) as client:
+        with self.cluster.client(Client, 1, patience=60.0) as client:
             while not self.is_over.is_set():
                 fence = client.acquire("db")
                 self.fences.append(fence)
@@ -59,7 +60,7 @@ def changed(cluster, node, new):
 
 def raised(cluster):
     """What comes of a raise, two shares, a break and an acquire."""
-    with cluster.client(2, patience=60.0) as one, cluster.client(3, patience=60.0) as other:
+    with cluster.client(Client, 2, patience=60.0) as one, cluster.client(Client, 3, patience=60.0) as other:
         one.raise_table()
         shared = (one.share("page"), other.share("page"))
         one.break_lock("page", shared[0])

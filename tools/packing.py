@@ -10,8 +10,8 @@ import tarfile
 
 from scripting import TOP, parser
 
-PAGES = ("docs/OPERATING.md", "docs/WIRE.md", "docs/PROVED.md")
-OF_PYTHON = ("python/locks_client*", "python/locks_client/**/*", "python/pyproject.toml", "python/README.md")
+PAGES = ("docs/OPERATING.md", "docs/SECURITY.md", "docs/WIRE.md", "docs/PROVED.md")
+OF_PYTHON = ("python/locks_client/**/*", "python/backend/*.py", "python/pyproject.toml", "python/README.md")
 OF_RUST = ("rust/Cargo.*", "rust/src/**/*", "rust/README.md")
 UNIT = "tools/systemd/locks@.service"
 STATUS = """.SH EXIT STATUS

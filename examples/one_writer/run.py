@@ -13,9 +13,11 @@ import sys
 import tempfile
 
 HERE = os.path.dirname(os.path.abspath(__file__))
-sys.path.insert(0, os.path.join(HERE, "..", "..", "bench"))
+TOP = os.path.join(HERE, "..", "..")
+sys.path[:0] = [TOP, os.path.join(TOP, "clients", "python")]
 import page  # noqa: E402
-from cluster import Cluster, built  # noqa: E402
+from harness.cluster import Cluster, built  # noqa: E402
+from locks_client import Client  # noqa: E402
 
 
 class Writer:
@@ -49,7 +51,7 @@ class Writer:
 
 def break_lock(cluster):
     """Frees the lock of whoever holds it: an operator, with a client number of its own."""
-    with cluster.client(9) as operator:
+    with cluster.client(Client, 9) as operator:
         operator.raise_table()
         operator.break_lock("page", operator.ask("page").fence)
 

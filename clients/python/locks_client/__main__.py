@@ -1,0 +1,4 @@
+"""python -m locks_client"""
+from .program import run
+
+run()

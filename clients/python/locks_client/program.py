@@ -1,0 +1,98 @@
+"""The program: one request and its answer, or a command that runs while a lock is held."""
+import argparse
+import math
+import sys
+
+from .client import Client
+from .errors import LocksError, NoAnswer, Passed
+from .hold import hold, tell
+from .results import FAILING, fitting
+from .statuses import INTERRUPTED, REFUSED, TABLE, status_of
+from .wire import Op, op_of, table_op
+
+OPS = """\
+OP is: acquire NAME, release NAME FENCE, ask NAME, check NAME FENCE, share NAME, break NAME FENCE, raise 2,
+join NODE PORT, leave NODE. Or: hold NAME -- COMMAND .., which runs COMMAND with the fence as LOCKS_FENCE while
+it holds the lock, and releases it after. COMMAND is killed if hold is.
+
+"""
+
+
+def seconds(text: str) -> float:
+    """A number of seconds, of a command line."""
+    value = float(text)
+    if not value >= 0:
+        raise ValueError(text)
+    return value
+
+
+def arguments() -> argparse.ArgumentParser:
+    """The command line."""
+    parser = argparse.ArgumentParser(
+        prog="locks-client",
+        formatter_class=argparse.RawDescriptionHelpFormatter,
+        description="Sends one request to a cluster of locks and prints its answer, or holds a lock while a command runs.",
+        epilog=OPS + TABLE,
+    )
+    add = parser.add_argument
+    add("--cluster", type=int, required=True, help="the number of the cluster")
+    add("--port", type=int, action="append", required=True, help="a node's port on 127.0.0.1; may be repeated")
+    add("--client", type=int, required=True, help="the number of this client, 1 to 256, used by nobody else")
+    add("--first", "--request", type=int, help="the first number, above all that this client used, as $(date +%%s%%3N)")
+    add("--state", help="a file that keeps the numbers; a new one wants --first too; one of the two is needed")
+    add("--patience", type=seconds, default=10.0, metavar="S", help="seconds until there is no answer, 10 if not given")
+    add("--fail", action="store_true", help="status 1 where a single request is refused")
+    add("--wait", type=seconds, default=math.inf, metavar="S", help="seconds that hold waits; for ever if not given")
+    add("--release-wait", type=seconds, default=60.0, metavar="S", help="seconds that hold tries to release, 60 if not given")
+    add("op", nargs="+", metavar="OP", help="the words of the request, or hold NAME -- COMMAND ..")
+    return parser
+
+
+def ask_once(client: Client, op: Op, is_strict: bool) -> int:
+    """Prints what an op is answered, as `locks ask` does. The status."""
+    try:
+        answer = fitting(op.word, client.request(op))
+    except (NoAnswer, Passed) as told:
+        print(told)
+        return status_of(told)
+    except LocksError as error:
+        tell(str(error))
+        return status_of(error)
+    print(" ".join([answer.text, *map(str, answer.fields)]))
+    return REFUSED if is_strict and answer.text in FAILING else 0
+
+
+def op_in(words: list[str]) -> Op:
+    """The op of the words, of hold its acquire."""
+    if words[0] != "hold":
+        return op_of(words)
+    if len(words) < 3:
+        raise ValueError("hold wants a name and a command")
+    return table_op("acquire", words[1])
+
+
+def main() -> int:
+    """Runs the command line. The status."""
+    parser = arguments()
+    args = parser.parse_args()
+    try:
+        op = op_in(args.op)
+        client = Client(args.cluster, args.client, args.port, args.first, args.state, args.patience)
+    except ValueError as error:
+        parser.error(str(error))
+    except LocksError as error:
+        tell(str(error))
+        return status_of(error)
+    with client:
+        if args.op[0] == "hold":
+            return hold(client, op.name, args.op[2:], args.wait, args.release_wait)
+        return ask_once(client, op, args.fail)
+
+
+def run() -> None:
+    """The entry of the installed program."""
+    try:
+        sys.exit(main())
+    except KeyboardInterrupt:
+        tell("interrupted: a request that was sent may have taken effect, or still may")
+        sys.exit(INTERRUPTED)

@@ -1,0 +1,32 @@
+"""How long a client waits before it sends again, and before it asks again for a lock that is held."""
+import itertools
+import random
+from collections.abc import Iterator
+
+WAITS = (0.5, 1.0, 2.0, 4.0)  # seconds between two sends of the same bytes; the last one again and again
+POLLS = (0.05, 0.1, 0.2, 0.4, *[0.8] * 30, 1.6, 3.2)  # seconds between two requests for a lock that one holder keeps
+SCATTER = (0.75, 1.25)  # what a wait is multiplied by, at random
+
+
+def scattered(seconds: float) -> float:
+    """The seconds made longer or shorter at random, so that clients do not ask in step."""
+    return seconds * random.uniform(*SCATTER)
+
+
+def waits() -> Iterator[float]:
+    """Seconds to wait for a reply, one after the other."""
+    for wait in itertools.chain(WAITS, itertools.repeat(WAITS[-1])):
+        yield scattered(wait)
+
+
+class Polls:
+    """Seconds to wait for a lock. They stay below one while the holder changes, and grow while one holder keeps it."""
+
+    def __init__(self) -> None:
+        self.place, self.fence = 0, 0
+
+    def after(self, fence: int) -> float:
+        """The next wait, where the lock is now held at that fence."""
+        self.place = min(self.place + 1, len(POLLS) - 1) if fence == self.fence else 0
+        self.fence = fence
+        return scattered(POLLS[self.place])

@@ -1,0 +1,94 @@
+"""The protocol without a socket: plans, carried out by hand under a clock of the test."""
+import unittest
+from unittest import mock
+
+from fake_node import ACQUIRE, BUSY, GRANTED, RELEASE, RELEASED, elsewhere, numbered, plain, waiting
+from locks_client import NoAnswer
+from locks_client.core import Core, Datagram, Listen, Send, Sleep
+from locks_client.numbers import Numbers
+from locks_client.waits import POLLS, Polls
+
+
+class Clock:
+    """A clock that the test sets."""
+
+    now = 0.0
+
+    def __call__(self):
+        return self.now
+
+
+class CoreTest(unittest.TestCase):
+    def setUp(self):
+        self.enterContext(waiting(0.5))
+        self.clock, self.done = Clock(), []
+        self.core = Core(5, 7, [7001, 7002], patience=1.2, clock=self.clock)
+        self.core.numbers = Numbers(first=1)
+
+    def carry_out(self, plan, *heard):
+        """Carries the plan out; each wait hears the next of these datagrams. The result; `done` has what was sent."""
+        replies, told = iter(heard), None
+        while True:
+            try:
+                effect = plan.send(told)
+            except StopIteration as end:
+                return end.value
+            told = self.step(effect, replies)
+
+    def step(self, effect, replies):
+        """Notes what a plan yields, and gives what it hears."""
+        if isinstance(effect, Send):
+            self.done.append((self.clock.now, effect.port, effect.data.hex()))
+            return None
+        text = next(replies, None) if isinstance(effect, Listen) else None
+        if text:
+            return Datagram(bytes.fromhex(text), 7002)
+        self.clock.now = effect.until if isinstance(effect, Listen) else self.clock.now + effect.seconds
+        return None
+
+    def test_an_acquire_is_sent_and_answered(self):
+        self.assertEqual(self.carry_out(self.core.poll("acquire", "db", 0.0), GRANTED), 1)
+        self.assertEqual(self.done, [(0.0, 7001, plain(ACQUIRE))])
+        self.assertEqual((self.core.leader, self.core.grants), (7002, {"db": (1, 1)}))
+
+    def test_the_same_bytes_go_to_one_port_after_the_other(self):
+        with self.assertRaises(NoAnswer):
+            self.carry_out(self.core.poll("acquire", "db", 0.0))
+        self.assertEqual([it[:2] for it in self.done], [(0.0, 7001), (0.5, 7002), (1.0, 7001)])
+        self.assertEqual({it[2] for it in self.done}, {plain(ACQUIRE)})
+        self.assertEqual(self.clock.now, 1.2)
+
+    def test_an_elsewhere_is_followed_at_once(self):
+        self.carry_out(self.core.poll("acquire", "db", 0.0), elsewhere(7003), GRANTED)
+        self.assertEqual([it[:2] for it in self.done], [(0.0, 7001), (0.0, 7003)])
+
+    def test_a_release_forgets_the_grant(self):
+        self.carry_out(self.core.poll("acquire", "db", 0.0), GRANTED)
+        self.carry_out(self.core.release("db", 1), RELEASED)
+        self.assertEqual((self.done[1][2], self.core.grants), (plain(RELEASE), {}))
+
+    def test_no_request_is_begun_too_late_to_be_answered(self):
+        heard = [numbered(BUSY, number) for number in range(1, 9)]
+        with self.assertRaises(Exception) as raised:
+            self.carry_out(self.core.poll("acquire", "db", 3.0), *heard)
+        self.assertEqual((str(raised.exception), self.clock.now, self.done[-1][0]), ("busy 8 3", 2.5, 2.5))
+
+
+class PollsTest(unittest.TestCase):
+    def setUp(self):
+        self.enterContext(mock.patch("locks_client.waits.SCATTER", (1.0, 1.0)))
+
+    def test_waits_begin_short_and_stay_below_a_second_while_the_holder_changes(self):
+        polls = Polls()
+        self.assertEqual([polls.after(1) for _ in range(6)], [0.05, 0.1, 0.2, 0.4, 0.8, 0.8])
+        self.assertLess(max(polls.after(fence) for fence in range(2, 200)), 1.0)
+
+    def test_waits_grow_while_one_holder_stays(self):
+        polls = Polls()
+        self.assertEqual([polls.after(1) for _ in range(len(POLLS) + 2)][-4:], [1.6, 3.2, 3.2, 3.2])
+        self.assertLessEqual(max(POLLS) * 1.25, 4.0)
+        self.assertLess(polls.after(2), 1.0)
+
+
+if __name__ == "__main__":
+    unittest.main()

@@ -1,0 +1,1 @@
+"""Nodes as processes, for tests, measurements and examples."""

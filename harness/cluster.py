@@ -1,0 +1,70 @@
+"""Nodes of `locks` as processes on this machine, each with a folder of its own.
+
+The tests in tests/ and clients/, the scripts in bench/ and the examples use this. It imports none of them.
+"""
+import contextlib
+import os
+import random
+import signal
+import socket
+import subprocess
+import sys
+import time
+
+TOP = os.path.dirname(os.path.dirname(os.path.abspath(__file__)))
+
+
+def built(program=None):
+    """The path of the given program, or of the one that ./locks runs."""
+    if program:
+        return program
+    told = subprocess.run([os.path.join(TOP, "locks"), "--path"], stdin=subprocess.DEVNULL, stdout=subprocess.PIPE, text=True)
+    return told.stdout.strip() or sys.exit(told.returncode)
+
+
+def free_ports(count):
+    """So many ports of 127.0.0.1 that nothing is bound to now, below those that the system gives to clients."""
+    found = {}
+    while len(found) < count:
+        port = random.randrange(10_000, 32_000)
+        with socket.socket(socket.AF_INET, socket.SOCK_DGRAM) as it, contextlib.suppress(OSError):
+            it.bind(("127.0.0.1", port))
+            found[port] = None
+    return list(found)
+
+
+class Cluster:
+    """Processes of `locks node`, numbered from 1, whose stores stand in folders below the one that is given."""
+
+    def __init__(self, program, folder, nodes=3, alpha=8, cluster=5):
+        self.program, self.folder, self.cluster = program, folder, cluster
+        self.ports = dict(enumerate(free_ports(nodes), 1))
+        self.genesis = f"{cluster},{alpha}," + ",".join(f"{node}:{port}" for node, port in self.ports.items())
+        self.processes = {}
+
+    def __enter__(self):
+        for node in list(self.ports):
+            self.start(node)
+        return self
+
+    def __exit__(self, *_):
+        for node in list(self.processes):
+            self.kill(node)
+
+    def start(self, node):
+        """Starts a node, on what its folder holds."""
+        folder = os.path.join(self.folder, str(node))
+        os.makedirs(folder, exist_ok=True)
+        words = ["--genesis", self.genesis, "--number", str(node), "--port", str(self.ports[node]), "--dir", folder]
+        self.processes[node] = subprocess.Popen([self.program, "node", *words], stdin=subprocess.DEVNULL)
+
+    def kill(self, node):
+        """Kills a node: it has no time to do anything more."""
+        process = self.processes.pop(node)
+        process.send_signal(signal.SIGKILL)
+        process.wait()
+
+    def client(self, kind, number, **how):
+        """A client of that kind which knows each node's port; its first number is the milliseconds since 1970."""
+        how.setdefault("first", time.time_ns() // 1_000_000)
+        return kind(self.cluster, number, list(self.ports.values()), **how)

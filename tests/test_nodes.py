@@ -1,0 +1,69 @@
+"""Tests of nodes as processes, of what a test within one process cannot show."""
+import os
+import socket
+import subprocess
+import tempfile
+import time
+import unittest
+
+from harness.cluster import free_ports
+from locks_client import Client, Free, milliseconds
+
+PROGRAM = os.environ.get("LOCKS_PROGRAM")
+
+
+@unittest.skipUnless(PROGRAM, "LOCKS_PROGRAM does not tell the program")
+class NodesTest(unittest.TestCase):
+    def setUp(self):
+        self.folder = self.enterContext(tempfile.TemporaryDirectory())
+        self.ports = free_ports(2)
+
+    def start(self, port):
+        """Starts node 1 of a cluster of its own, whose genesis names the first port, at that port."""
+        words = ["--genesis", f"5,8,1:{self.ports[0]}", "--number", "1", "--port", str(port), "--dir", self.folder]
+        node = subprocess.Popen([PROGRAM, "node", *words], stdin=subprocess.DEVNULL, stderr=subprocess.PIPE, text=True)
+        self.addCleanup(node.communicate)
+        self.addCleanup(node.kill)
+        return node
+
+    def wait_until_up(self):
+        """Waits until the node at the first port answers."""
+        with Client(5, 1, self.ports[:1], first=milliseconds(), patience=30.0) as client:
+            self.assertEqual(client.ask("db"), Free(0))
+
+    def test_a_folder_has_one_process(self):
+        first = self.start(self.ports[0])
+        self.wait_until_up()
+        second = self.start(self.ports[1])
+        self.assertIn("cannot open", second.communicate(timeout=30)[1].splitlines())
+        self.assertEqual(second.returncode, 1)
+        dumped = subprocess.run([PROGRAM, "dump", "--dir", self.folder], stdout=subprocess.PIPE, text=True)
+        self.assertEqual((dumped.returncode, dumped.stdout.split("\n")[0]), (0, "generation 1"))
+        first.kill()
+        first.wait()
+        self.start(self.ports[0])
+        self.wait_until_up()
+
+    def test_a_port_that_is_taken_cannot_be_opened(self):
+        with socket.socket(socket.AF_INET, socket.SOCK_DGRAM) as taken:
+            taken.bind(("127.0.0.1", self.ports[0]))
+            node = self.start(self.ports[0])
+            self.assertIn("cannot open", node.communicate(timeout=30)[1].splitlines())
+        self.assertEqual((node.returncode, os.listdir(self.folder)), (1, []))
+
+    def test_a_node_at_another_port_says_so(self):
+        node = self.start(self.ports[1])
+        said = node.stderr.readline()
+        self.assertEqual(
+            said, f"warning: the genesis names node 1 at port {self.ports[0]}, and it listens at port {self.ports[1]}\n"
+        )
+        time.sleep(0.5)
+        self.assertIsNone(node.poll())
+
+    def test_the_version_is_told(self):
+        told = subprocess.run([PROGRAM, "--version"], stdout=subprocess.PIPE, text=True)
+        self.assertEqual((told.returncode, told.stdout.split()[0]), (0, "locks"))
+
+
+if __name__ == "__main__":
+    unittest.main()

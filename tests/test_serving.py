@@ -1,0 +1,76 @@
+"""Three nodes that answer, are killed and taken up again, and are joined by a fourth, by bytes."""
+import contextlib
+import os
+import socket
+import tempfile
+import time
+import unittest
+
+from harness.by_bytes import bytes_of
+from harness.cluster import Cluster, free_ports
+
+PROGRAM = os.environ.get("LOCKS_PROGRAM")
+
+# Client 7 asks with number 1 to acquire `db`, and what nodes 1 and 3 answer.
+ACQUIRE = "4c4b0109 0000000000000005 00000000 0007 0000000000000001 00 04 01026462"
+GRANTED_BY_1 = "4c4b010a 0000000000000005 00000001 0007 0000000000000001 01 0000000000000001"
+GRANTED_BY_3 = "4c4b010a 0000000000000005 00000003 0007 0000000000000001 01 0000000000000001"
+
+# Client 8 asks with number 1 to acquire `db`, and what node 1 answers.
+SECOND = "4c4b0109 0000000000000005 00000000 0008 0000000000000001 00 04 01026462"
+BUSY = "4c4b010a 0000000000000005 00000001 0008 0000000000000001 02 0007 0000000000000001"
+
+# Client 9 asks with number 1 that node 4 join, but for its port, and what nodes 1 and 4 answer.
+JOIN = "4c4b0109 0000000000000005 00000000 0009 0000000000000001 01 00000004"
+JOINED_BY_1 = "4c4b010a 0000000000000005 00000001 0009 0000000000000001 20"
+JOINED_BY_4 = "4c4b010a 0000000000000005 00000004 0009 0000000000000001 20"
+
+
+@unittest.skipUnless(PROGRAM, "LOCKS_PROGRAM does not tell the program")
+class ServingTest(unittest.TestCase):
+    def setUp(self):
+        self.cluster = self.enterContext(Cluster(PROGRAM, self.enterContext(tempfile.TemporaryDirectory()), alpha=2))
+        self.socket = self.enterContext(socket.socket(socket.AF_INET, socket.SOCK_DGRAM))
+
+    def hears(self, wanted, seconds=0.2):
+        """Whether that comes within so many seconds."""
+        end = time.monotonic() + seconds
+        while (left := end - time.monotonic()) > 0:
+            self.socket.settimeout(left)
+            with contextlib.suppress(TimeoutError, ConnectionRefusedError):
+                if self.socket.recv(9000) == wanted:
+                    return True
+        return False
+
+    def answers(self, node, request, answer):
+        """Asks the node again and again until it answers so."""
+        end = time.monotonic() + 30.0
+        while True:
+            self.assertLess(time.monotonic(), end, f"no answer {answer} of node {node}")
+            self.socket.sendto(bytes_of(request), ("127.0.0.1", self.cluster.ports[node]))
+            if self.hears(bytes_of(answer)):
+                return
+
+    def test_three_nodes_answer(self):
+        self.answers(1, ACQUIRE, GRANTED_BY_1)
+        self.answers(1, SECOND, BUSY)
+        self.answers(1, ACQUIRE, GRANTED_BY_1)
+
+    def test_a_revived_node_gives_the_same_answer(self):
+        self.answers(1, ACQUIRE, GRANTED_BY_1)
+        self.answers(3, ACQUIRE, GRANTED_BY_3)
+        self.cluster.kill(3)
+        self.answers(1, SECOND, BUSY)
+        self.cluster.start(3)
+        self.answers(3, ACQUIRE, GRANTED_BY_3)
+
+    def test_a_node_joins(self):
+        [self.cluster.ports[4]] = free_ports(1)
+        join = f"{JOIN} {self.cluster.ports[4]:04x}"
+        self.answers(1, join, JOINED_BY_1)
+        self.cluster.start(4)
+        self.answers(4, join, JOINED_BY_4)
+
+
+if __name__ == "__main__":
+    unittest.main()
