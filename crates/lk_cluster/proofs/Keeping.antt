@@ -7,7 +7,7 @@ use Rattle.std.specs.declared.net.socket_addr.SocketAddr.{SocketAddr}
 use Rattle.lk_disk.specs.Memory.{Memory, disk_of}
 use Rattle.lk_disk.specs.declared.device.Side.{Side}
 use Rattle.lk_locks.specs.Meaning.{table_meaning}
-use Rattle.lk_log.specs.StoreValue.{disks, device_of}
+use Rattle.lk_log.specs.StoreValue.{device_of}
 use Rattle.lk_history.proofs.Histories.{heard_was_sent, cons_cases, contains_more}
 use Rattle.lk_step.specs.Letters.{LetterValue, batch_of, datagram_of}
 use Rattle.lk_step.specs.declared.note.Note.{Note}
@@ -19,23 +19,20 @@ use Rattle.lk_server.specs.Addresses.{AddressBook}
 use Rattle.lk_server.specs.Posts.{Tray, Becomes}
 use Rattle.lk_server.specs.Servers.{ServerValue, HandsOn, inputs, given_in, EndsBehind, EndsBehindIn, tray_at}
 use Rattle.lk_sim.specs.Events.{Turns, Adds}
-use Rattle.lk_sim.specs.Networks.{MayCome, Steps, Appears, Rises, Rests, Stops, nothing}
-use Rattle.lk_sim.specs.Scenes.{Scene}
+use Rattle.lk_sim.specs.Networks.{MayCome, Steps, Appears, Rests, Stops, nothing}
 use Rattle.lk_sim.specs.Rooms.{AreShort}
 use Rattle.lk_sim.specs.Seats.{At, UpFits}
 use Rattle.lk_sim.specs.Traces.{happened}
 use Rattle.lk_sim.specs.Worlds.{Holds}
-use Rattle.lk_sim.specs.declared.seat.Life.{Life}
 use Rattle.lk_sim.specs.declared.seat.Life.TheVariants.{Up, Down}
-use Rattle.lk_sim.specs.declared.seat.Seat.{Seat}
 use Rattle.lk_sim.proofs.Networks.{step_holds, at_set, at_set_here, at_push, nothing_holds, set_twice, went_down}
-use Rattle.lk_cluster.specs.Clusters.{Node, Cluster, ServerStands, server_disks, Says, Calls, bytes_of, Starts, TakesTurn, EndsByTurn, Happens, HappenAll, ComesAbout}
-use Rattle.lk_cluster.proofs.Calls.{AllMay, chain, Leaves}
+use Rattle.lk_cluster.specs.Clusters.{Node, Cluster, Network, ForgesNothing, ServerStands, server_disks, Says, bytes_of, Starts, TakesTurn, EndsByTurn, Happens, HappenAll, IsReachable}
+use Rattle.lk_cluster.proofs.Calls.{AllMay, chain}
 use Rattle.lk_cluster.proofs.Mapped.{device_disks}
 
 -- ---- letters of a node to itself
 
-in_map : {X Y : Type 0} (f : X → Y) (xs : List X) (x : X) → Contains xs x → Contains (map f xs) (f x)
+pub in_map : {X Y : Type 0} (f : X → Y) (xs : List X) (x : X) → Contains xs x → Contains (map f xs) (f x)
 in_map f [] x c = absurd (omega (arith, c.1))
 in_map f (y ∷ xs) x c = elim (cons_cases y xs x c) [
   | inl here ↦ (0, omega arith, ap f here)
@@ -60,11 +57,11 @@ kept_of tells node book old new (x ∷ letters) all l c = elim (kept_of tells no
 ]
 
 -- a server that goes on, all of whose letters to itself were given to be sent
-record IsKept (sent : List Datagram) (n : ℕ) (q : ServerValue ReplicaValue) : Type 0 where
-  alive : q.replica.failed ≡ false
-  own : (l : LetterValue) → Contains q.own l → Contains sent (datagram_of n l)
+pub record IsKept (sent : List Datagram) (n : ℕ) (q : ServerValue ReplicaValue) : Type 0 where
+  pub alive : q.replica.failed ≡ false
+  pub own : (l : LetterValue) → Contains q.own l → Contains sent (datagram_of n l)
 
-abbrev OwnOf : List Node → List Datagram → Type 0
+abbrev pub OwnOf : List Node → List Datagram → Type 0
 OwnOf seats sent = (k : ℕ) (s : Node) → At seats k s → (q : ServerValue ReplicaValue) → s.life ≡ Up q → IsKept sent s.number q
 
 own_later : (sent now : List Datagram) (n : ℕ) (q : ServerValue ReplicaValue) → ((d : Datagram) → Contains sent d → Contains now d) → IsKept sent n q → IsKept now n q
@@ -101,25 +98,53 @@ module _ (genesis : Genesis) (sent : List Datagram) where
   behind_may bytes given (inl e) may = subst (λ (g : List (Option (List ℕ))). AllMay genesis sent g) (sym e) (may, tt)
   behind_may bytes given (inr e) may = subst (λ (g : List (Option (List ℕ))). AllMay genesis sent g) (sym e) (may, (tt, tt))
 
-  given_may : (own : List LetterValue) (came : Option (SocketAddr × List ℕ)) (number : ℕ) → ((l : LetterValue) → Contains own l → MayCome genesis sent (Some l.bytes)) → MayCome genesis sent (bytes_of ⊥ ⊥ came)
+  pub given_may : (own : List LetterValue) (came : Option (SocketAddr × List ℕ)) (number : ℕ) → ((l : LetterValue) → Contains own l → MayCome genesis sent (Some l.bytes)) → MayCome genesis sent (bytes_of came)
       → AllMay genesis sent (given_in own came number)
   given_may (l ∷ own) came number mine may = inputs_may number l.bytes (mine l (0, omega arith, refl))
   given_may [] (Some c) number mine may = inputs_may number c.1 may
   given_may [] None number mine may = (tt, tt)
 
-  ended_may : (own : List LetterValue) (came : Option (SocketAddr × List ℕ)) (given : List (Option (List ℕ))) → EndsBehindIn own came given → ((l : LetterValue) → Contains own l → MayCome genesis sent (Some l.bytes))
-      → MayCome genesis sent (bytes_of ⊥ ⊥ came) → AllMay genesis sent given
+  pub ended_may : (own : List LetterValue) (came : Option (SocketAddr × List ℕ)) (given : List (Option (List ℕ))) → EndsBehindIn own came given → ((l : LetterValue) → Contains own l → MayCome genesis sent (Some l.bytes))
+      → MayCome genesis sent (bytes_of came) → AllMay genesis sent given
   ended_may (l ∷ own) came given e mine may = behind_may l.bytes given e (mine l (0, omega arith, refl))
   ended_may [] (Some c) given e mine may = behind_may c.1 given e may
   ended_may [] None given e mine may = subst (λ (g : List (Option (List ℕ))). AllMay genesis sent g) (sym e) (tt, tt)
 
 -- ---- what holds of a cluster
 
-record IsSound (c : Cluster) : Type 0 where
-  holds : Holds ServerStands server_disks table_meaning c.genesis c.seats c.sent c.trace
-  own : OwnOf c.seats c.sent
+pub record IsSound (c : Cluster) : Type 0 where
+  pub holds : Holds ServerStands server_disks table_meaning c.genesis c.seats c.sent c.trace
+  pub own : OwnOf c.seats c.sent
 
-module _ (Metered tells : Type 0) where
+-- nothing has happened yet
+pub begun : (genesis : Genesis) → IsSound (nothing genesis)
+begun genesis = record { holds = nothing_holds ServerStands server_disks table_meaning genesis; own = λ k s at q up. absurd (omega (arith, at.0)) }
+
+-- what the network brings is not forged, where that holds
+abbrev pub Unforged : Network → Type 0
+Unforged May = (c : Cluster) → IsSound c → (server : ServerValue ReplicaValue) (came : Option (SocketAddr × List ℕ)) → May c.genesis c.sent server came → MayCome c.genesis c.sent (bytes_of came)
+
+module _ (old : Cluster) (w : IsSound old) where
+  -- a letter of the node to itself may come
+  pub own_may : (n : ℕ) (server : ServerValue ReplicaValue) → IsKept old.sent n server → (l : LetterValue) → Contains server.own l → MayCome old.genesis old.sent (Some l.bytes)
+  own_may n server k l c = λ j x said. heard_was_sent old.genesis old.sent w.holds.world.sound (datagram_of n l) (k.own l c) j x said
+
+  -- a server with another one's replica, in its place
+  pub with_replica : (place : ℕ) (node : Node) → At old.seats place node → (server other : ServerValue ReplicaValue) → node.life ≡ Up server
+      → Holds ServerStands server_disks table_meaning old.genesis (set old.seats place (record { number = node.number; life = Up (record other { replica = server.replica }) })) old.sent old.trace
+  with_replica place node at server other was =
+      let h = happened old.genesis old.sent old.trace in
+      let v = w.holds.views node.number in
+      let q : ServerValue ReplicaValue = record other { replica = server.replica } in
+      let f = (w.holds.seated place node at).up server was in
+      let fits : UpFits ServerStands server_disks table_meaning h v node.number q = record { holding = f.holding; view = f.view; shown = f.shown; fits = f.fits; left = f.left; room = f.room } in
+      went_down ServerStands server_disks table_meaning old.genesis old.seats old.sent old.trace w.holds place node (record { number = node.number; life = Up q }) at refl (record {
+        up = λ p up. subst (λ (z : ServerValue ReplicaValue). UpFits ServerStands server_disks table_meaning h v node.number z) (same_up q p up) fits;
+        down = λ d is. absurd (cc is);
+        room = λ d is. absurd (cc is);
+      })
+
+module _ (May : Network) (Metered tells : Type 0) (unforged : Unforged May) where
   module _ (old new : Cluster) (w : IsSound old) where
     by_step : Steps ServerStands server_disks table_meaning old new → Holds ServerStands server_disks table_meaning new.genesis new.seats new.sent new.trace
     by_step s = step_holds ServerStands server_disks table_meaning old new w.holds s
@@ -142,7 +167,7 @@ module _ (Metered tells : Type 0) where
       ]);
     }
 
-    starts : Starts Metered tells old new → IsSound new
+    starts : Starts old new → IsSound new
     starts a =
         let r = a.rises in
         record {
@@ -158,10 +183,6 @@ module _ (Metered tells : Type 0) where
     stops : Stops server_disks old new → IsSound new
     stops a = record { holds = by_step (inr (inr (inr (inr (inr a))))); own = own_moved a.seat a.next a.turns [] a.adds.sent (no_up a.next a.left a.down) }
 
-    -- a letter of the node to itself may come
-    own_may : (n : ℕ) (server : ServerValue ReplicaValue) → IsKept old.sent n server → (l : LetterValue) → Contains server.own l → MayCome old.genesis old.sent (Some l.bytes)
-    own_may n server k l c = λ j x said. heard_was_sent old.genesis old.sent w.holds.world.sound (datagram_of n l) (k.own l c) j x said
-
     moved : (seats : List Node) (notes : List Note) (batch : List Datagram) → new.seats ≡ seats → Adds old new notes batch
         → Holds ServerStands server_disks table_meaning old.genesis seats (old.sent ++ batch) (old.trace ++ notes) → Holds ServerStands server_disks table_meaning new.genesis new.seats new.sent new.trace
     moved seats notes batch same a h =
@@ -169,29 +190,14 @@ module _ (Metered tells : Type 0) where
         (subst (λ z. Holds ServerStands server_disks table_meaning old.genesis z new.sent new.trace) (sym same)
         (subst₂ (λ x y. Holds ServerStands server_disks table_meaning old.genesis seats x y) (sym a.sent) (sym a.trace) h))
 
-    -- a server with another one's replica, in its place
-    with_replica : (place : ℕ) (node : Node) → At old.seats place node → (server other : ServerValue ReplicaValue) → node.life ≡ Up server
-        → Holds ServerStands server_disks table_meaning old.genesis (set old.seats place (record { number = node.number; life = Up (record other { replica = server.replica }) })) old.sent old.trace
-    with_replica place node at server other was =
-        let h = happened old.genesis old.sent old.trace in
-        let v = w.holds.views node.number in
-        let q : ServerValue ReplicaValue = record other { replica = server.replica } in
-        let f = (w.holds.seated place node at).up server was in
-        let fits : UpFits ServerStands server_disks table_meaning h v node.number q = record { holding = f.holding; view = f.view; shown = f.shown; fits = f.fits; left = f.left; room = f.room } in
-        went_down ServerStands server_disks table_meaning old.genesis old.seats old.sent old.trace w.holds place node (record { number = node.number; life = Up q }) at refl (record {
-          up = λ p up. subst (λ (z : ServerValue ReplicaValue). UpFits ServerStands server_disks table_meaning h v node.number z) (same_up q p up) fits;
-          down = λ d is. absurd (cc is);
-          room = λ d is. absurd (cc is);
-        })
-
-    takes_turn : TakesTurn Metered tells old new → IsSound new
+    takes_turn : TakesTurn May Metered tells old new → IsSound new
     takes_turn a =
         let n : ℕ = a.node.number in
         let kept = w.own a.turns.place a.node a.turns.at a.server a.was in
         let given = given_in a.server.own a.came a.after.received in
-        let may = given_may old.genesis old.sent a.server.own a.came a.after.received (own_may n a.server kept) a.may in
-        let left = chain Metered tells old.genesis n old.seats a.turns.place a.node a.turns.at refl a.after given a.server.replica kept.alive a.turn.hands_on.letters a.trace a.after.replica a.calls old.sent old.trace may
-        (with_replica a.turns.place a.node a.turns.at a.server a.after a.was) in
+        let may = given_may old.genesis old.sent a.server.own a.came a.after.received (own_may old w n a.server kept) (unforged old w a.server a.came a.may) in
+        let left = chain Metered old.genesis n old.seats a.turns.place a.node a.turns.at refl a.after given a.server.replica kept.alive a.turn.hands_on.letters a.trace a.after.replica a.calls old.sent old.trace may
+        (with_replica old w a.turns.place a.node a.turns.at a.server a.after a.was) in
         record {
           holds = moved (set old.seats a.turns.place a.next) a.trace (batch_of n a.turn.hands_on.letters) a.turns.seats a.adds
               (subst (λ (z : Node). Holds ServerStands server_disks table_meaning old.genesis (set old.seats a.turns.place z) (old.sent ++ batch_of n a.turn.hands_on.letters) (old.trace ++ a.trace))
@@ -199,24 +205,24 @@ module _ (Metered tells : Type 0) where
           own = own_moved a.node a.next a.turns (batch_of n a.turn.hands_on.letters) a.adds.sent (λ q up.
               subst (λ (z : ServerValue ReplicaValue). IsKept new.sent a.next.number z) (same_up a.after q (sym a.up ∙ up))
               (subst₂ (λ (l : List Datagram) (k : ℕ). IsKept l k a.after) (sym a.adds.sent) (sym a.turns.number)
-              (after_turn tells (Says Metered tells) given old.sent n a.server a.after kept a.turn.hands_on a.alive)));
+              (after_turn tells (Says Metered) given old.sent n a.server a.after kept a.turn.hands_on a.alive)));
         }
 
     -- other devices with the same disks
     other_device : (after : ServerValue ReplicaValue) (left : Memory) → ((s : Side) → disk_of left s ≡ server_disks after s) → disk_of (device_of after.replica.store) ≡ disk_of left
     other_device after left same = λ i side. (sym (device_disks after.replica.store side) ∙ sym (same side)) i
 
-    ends_by_turn : EndsByTurn Metered tells old new → IsSound new
+    ends_by_turn : EndsByTurn May Metered tells old new → IsSound new
     ends_by_turn a =
         let n : ℕ = a.node.number in
         let kept = w.own a.turns.place a.node a.turns.at a.server a.was in
         let batch : List Datagram = batch_of n a.turn.hands_on.letters in
-        let may = ended_may old.genesis old.sent a.server.own a.came a.turn.given a.turn.behind (own_may n a.server kept) a.may in
+        let may = ended_may old.genesis old.sent a.server.own a.came a.turn.given a.turn.behind (own_may old w n a.server kept) (unforged old w a.server a.came a.may) in
         let device : Memory = device_of a.after.replica.store in
         let seat : Node = record { number = n; life = Down device } in
         let next : Node = record { number = n; life = Down a.left } in
-        let left = chain Metered tells old.genesis n old.seats a.turns.place a.node a.turns.at refl a.after a.turn.given a.server.replica kept.alive a.turn.hands_on.letters a.trace a.after.replica a.calls old.sent old.trace may
-        (with_replica a.turns.place a.node a.turns.at a.server a.after a.was) in
+        let left = chain Metered old.genesis n old.seats a.turns.place a.node a.turns.at refl a.after a.turn.given a.server.replica kept.alive a.turn.hands_on.letters a.trace a.after.replica a.calls old.sent old.trace may
+        (with_replica old w a.turns.place a.node a.turns.at a.server a.after a.was) in
         let first : Cluster = record { genesis = old.genesis; seats = set old.seats a.turns.place seat; sent = old.sent ++ batch; trace = old.trace ++ a.trace; ended = None } in
         let last : Cluster = record { genesis = old.genesis; seats = set old.seats a.turns.place next; sent = old.sent ++ batch; trace = old.trace ++ a.trace; ended = None } in
         let path = other_device a.after a.left a.same in
@@ -239,7 +245,7 @@ module _ (Metered tells : Type 0) where
           own = own_moved a.node a.next a.turns batch a.adds.sent (no_up a.next a.left a.down);
         }
 
-    happens : Happens Metered tells old new → IsSound new
+    pub happens : Happens May Metered tells old new → IsSound new
     happens (inl a) = appears a
     happens (inr (inl a)) = starts a
     happens (inr (inr (inl a))) = rests a
@@ -247,12 +253,14 @@ module _ (Metered tells : Type 0) where
     happens (inr (inr (inr (inr (inl a))))) = ends_by_turn a
     happens (inr (inr (inr (inr (inr a))))) = stops a
 
-  all_happen : (first last : Cluster) (clusters : List Cluster) → IsSound first → HappenAll Metered tells first clusters last → IsSound last
+  all_happen : (first last : Cluster) (clusters : List Cluster) → IsSound first → HappenAll May Metered tells first clusters last → IsSound last
   all_happen first last [] w all = subst IsSound (sym all) w
   all_happen first last (next ∷ clusters) w all = all_happen next last clusters (happens first next w all.0) all.1
 
   -- whatever has happened since it began
-  pub comes_about : (genesis : Genesis) (c : Cluster) → ComesAbout Metered tells genesis c → Holds ServerStands server_disks table_meaning c.genesis c.seats c.sent c.trace
-  comes_about genesis c all =
-      let begun : IsSound (nothing genesis) = record { holds = nothing_holds ServerStands server_disks table_meaning genesis; own = λ k s at q up. absurd (omega (arith, at.0)) } in
-      (all_happen (nothing genesis) c all.0 begun all.1).holds
+  pub reachable_sound : (genesis : Genesis) (c : Cluster) → IsReachable May Metered tells genesis c → IsSound c
+  reachable_sound genesis c all = all_happen (nothing genesis) c all.0 (begun genesis) all.1
+
+-- what is not forged is not
+pub forges_nothing : Unforged ForgesNothing
+forges_nothing c w server came may = may

@@ -13,7 +13,7 @@ use Rattle.lk_locks.specs.Packed.{IsTableText}
 use Rattle.lk_log.specs.StoreValue.{disks}
 use Rattle.lk_step.specs.Letters.{LetterValue, batch_of}
 use Rattle.lk_step.specs.declared.note.Note.{Note}
-use Rattle.lk_node.specs.Histories.{RequestValue}
+use Rattle.lk_node.specs.Histories.{Datagram, RequestValue}
 use Rattle.lk_node.specs.Holdings.{Holding}
 use Rattle.lk_node.specs.Keeping.{Stands}
 use Rattle.lk_replica.specs.ReplicaValue.{ReplicaValue}
@@ -54,15 +54,33 @@ ServerStands s genesis n x = Stands table_meaning s.replica.node s.replica.store
 abbrev pub server_disks : ServerValue ReplicaValue → Side → Disk
 server_disks s = disks s.replica.store
 
--- it has come up as the server of that node by what these disks have, and nothing waits that it wrote to itself
+-- it is up as the server of that node on what these disks have, and no letter to itself waits
 pub record IsBegun (genesis : Genesis) (n : ℕ) (old : Side → Disk) (s : ServerValue ReplicaValue) : Type 0 where
   pub notes : List Note
   pub rises : RisesBy ServerStands server_disks table_meaning genesis n old s notes
   pub own : s.own ≡ []
   pub alive : s.replica.failed ≡ false
 
--- `Metered` says that the devices count their calls, and `tells` that the sockets tell what they send
-module _ (Metered tells : Type 0) where
+-- the bytes that were taken of what came
+abbrev pub bytes_of : Option (SocketAddr × List ℕ) → Option (List ℕ)
+bytes_of None = None
+bytes_of (Some c) = Some c.1
+
+-- ---- what a network may bring
+
+-- what a server of a cluster that began so may take of what comes to it, where this was given to be sent
+abbrev pub Network : Type 1
+Network = Genesis → List Datagram → ServerValue ReplicaValue → Option (SocketAddr × List ℕ) → Type 0
+
+-- whatever the bytes say for a node of the cluster, that node has said. All else is free: datagrams are lost, repeated, late, cut, or come from
+-- clients, from other clusters, or from nobody
+abbrev pub ForgesNothing : Network
+ForgesNothing genesis sent server came = MayCome genesis sent (bytes_of came)
+
+-- ---- what a replica says
+
+-- `Metered` says that the devices count their calls
+module _ (Metered : Type 0) where
   abbrev pub Says : ReplicaValue → Option (List ℕ) → List LetterValue → ReplicaValue → Type 0
   Says = SaysOf table_meaning IsTableText Metered
 
@@ -87,17 +105,16 @@ module _ (Metered tells : Type 0) where
       (mid : ReplicaValue) × (first : List LetterValue) × (rest : List LetterValue) × (here : List Note) × (more : List Note)
       × (letters ≡ first ++ rest) × (trace ≡ here ++ more) × Call n old o first here mid × Calls n mid given rest more new
 
-  -- the bytes that were taken of what came
-  abbrev pub bytes_of : Option (SocketAddr × List ℕ) → Option (List ℕ)
-  bytes_of None = None
-  bytes_of (Some c) = Some c.1
+-- ---- what happens
 
-  -- a node has come up as a server on what its disks have, and nothing waits that it wrote to itself
-  pub record Starts (old new : Cluster) : Type 0 where
-    pub rises : Rises ServerStands server_disks table_meaning old new
-    pub own : rises.replica.own ≡ []
-    pub alive : rises.replica.replica.failed ≡ false
+-- a node that was down is up as a server on what its disks have, and no letter to itself waits
+pub record Starts (old new : Cluster) : Type 0 where
+  pub rises : Rises ServerStands server_disks table_meaning old new
+  pub own : rises.replica.own ≡ []
+  pub alive : rises.replica.replica.failed ≡ false
 
+-- `May` says what the network may bring, `Metered` that the devices count their calls, and `tells` that the sockets tell what they send
+module _ (May : Network) (Metered tells : Type 0) where
   -- a node that is up takes a turn, in which something may come or nothing: what it is given by that its replica takes, and the letters of that
   -- join what was given to be sent. `came` is what is taken of what comes, out of its frame where the nodes have a key
   pub record TakesTurn (old new : Cluster) : Type 0 where
@@ -109,11 +126,11 @@ module _ (Metered tells : Type 0) where
     pub after : ServerValue ReplicaValue
     pub up : next.life ≡ Up after
     pub came : Option (SocketAddr × List ℕ)
-    pub may : MayCome old.genesis old.sent (bytes_of came)
-    pub turn : Turn Says tells came server after
+    pub may : May old.genesis old.sent server came
+    pub turn : Turn (Says Metered) tells came server after
     pub alive : after.replica.failed ≡ false
     pub trace : List Note
-    pub calls : Calls node.number server.replica (given_in server.own came after.received) turn.hands_on.letters trace after.replica
+    pub calls : Calls Metered node.number server.replica (given_in server.own came after.received) turn.hands_on.letters trace after.replica
     pub adds : Adds old new trace (batch_of node.number turn.hands_on.letters)
 
   -- a turn ends it, and it is down on the disks that its replica has left
@@ -128,11 +145,11 @@ module _ (Metered tells : Type 0) where
     pub down : next.life ≡ Down left
     pub same : (s : Side) → disk_of left s ≡ server_disks after s
     pub came : Option (SocketAddr × List ℕ)
-    pub may : MayCome old.genesis old.sent (bytes_of came)
-    pub turn : LastTurn Says tells came server after
+    pub may : May old.genesis old.sent server came
+    pub turn : LastTurn (Says Metered) tells came server after
     pub ended : after.replica.failed ≡ true
     pub trace : List Note
-    pub calls : Calls node.number server.replica turn.given turn.hands_on.letters trace after.replica
+    pub calls : Calls Metered node.number server.replica turn.given turn.hands_on.letters trace after.replica
     pub adds : Adds old new trace (batch_of node.number turn.hands_on.letters)
 
   -- a node appears, with empty disks; it starts, or does not; it takes a turn, or ends by one; or it stops, up or down, and its disks have what a
@@ -146,6 +163,6 @@ module _ (Metered tells : Type 0) where
   HappenAll first [] last = last ≡ first
   HappenAll first (next ∷ clusters) last = Happens first next × HappenAll next clusters last
 
-  -- since the cluster began
-  abbrev pub ComesAbout : Genesis → Cluster → Type 0
-  ComesAbout genesis c = (clusters : List Cluster) × HappenAll (nothing genesis) clusters c
+  -- the cluster is reachable: so much has happened since it began so
+  abbrev pub IsReachable : Genesis → Cluster → Type 0
+  IsReachable genesis c = (clusters : List Cluster) × HappenAll (nothing genesis) clusters c

@@ -25,8 +25,8 @@ pub fn turn<D: LogDisk + Drop, S: Datagrams + Drop, L: Log>(
     ear: &mut Ear,
     log: &L,
 ) -> Result<(), ServiceFault>
-    ensures turn { D.is_honest → OnOk result (Turn (Says D.is_metered S.is_telling) S.is_telling (taken_as server.old.addresses.seals ear.new) server.old server.new) }
-    ensures ends { D.is_honest → OnErr result (LastTurn (Says D.is_metered S.is_telling) S.is_telling (taken_as server.old.addresses.seals ear.new) server.old server.new) }
+    ensures turn { D.is_honest → OnOk result (Turn (Says D.is_metered) S.is_telling (taken_as server.old.addresses.seals ear.new) server.old server.new) }
+    ensures ends { D.is_honest → OnErr result (LastTurn (Says D.is_metered) S.is_telling (taken_as server.old.addresses.seals ear.new) server.old server.new) }
     ensures failed { server.new.failed ≡ server.new.replica.failed }
 {
     let taken = node_turn(server, ear, log);

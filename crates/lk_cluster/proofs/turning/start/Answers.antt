@@ -1,4 +1,4 @@
-use Rattle.std.proofs.Common.{◌≡◌, ◌∙◌, sym, ap}
+use Rattle.std.proofs.Common.{◌∙◌, sym, ap}
 use Rattle.lk_log.specs.StoreValue.{disks}
 use Rattle.lk_log.proofs.Room.{refused_room, never_longer}
 use Rattle.lk_node.specs.Histories.{Genesis}
