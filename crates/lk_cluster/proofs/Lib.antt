@@ -1,4 +1,7 @@
 mod Mapped
+mod Requests
 mod Calls
 mod Keeping
+mod Tracing
+mod Continuing
 mod Saying

@@ -1,11 +1,24 @@
 //! The promise holds of processes.
+ghost use Rattle.std.specs.Prelude.{◌≡◌, ℕ, true, false, Option, List, []};
+ghost use Rattle.std.specs.declared.net.socket_addr.SocketAddr.{SocketAddr};
 ghost use Rattle.lk_types.specs.declared.genesis.Genesis.{Genesis as GenesisValue};
+ghost use Rattle.lk_disk.specs.Disk.{Disk};
+ghost use Rattle.lk_disk.specs.Memory.{Memory, disk_of};
+ghost use Rattle.lk_disk.specs.declared.device.Side.{Side};
+ghost use Rattle.lk_replica.specs.ReplicaValue.{ReplicaValue};
+ghost use Rattle.lk_server.specs.Servers.{ServerValue, Turn, LastTurn};
+ghost use Rattle.lk_service.specs.Chains.{Repeats};
+ghost use Rattle.lk_sim.specs.declared.seat.Life.TheVariants.{Up, Down};
 ghost use Rattle.lk_promise.specs.Linear.{IsLinearizable};
 ghost use Rattle.lk_promise.specs.Promise.{KeepsPromise};
-ghost use Rattle.lk_cluster.specs.Clusters.{Cluster, IsReachable, ForgesNothing, scene_of};
+ghost use Rattle.lk_cluster.specs.Clusters.{Cluster, IsReachable, ForgesNothing, IsBegun, Says, scene_of, server_disks};
+ghost use Rattle.lk_cluster.specs.Continuing.{Continues, HasNode, MayAllCome, ServerTurn, ReportFailures, letters_of};
 
 use lk_disk::LogDisk;
+use lk_locks::LockTable;
 use lk_promise::laws::worlds_are_linearizable;
+use lk_replica::Replica;
+use lk_server::node_replica::NodeReplica;
 use lk_server::socket::Datagrams;
 
 /// Whatever the servers of a cluster do, one after another in any order, and whatever comes to them over a network that forges nothing: the promise
@@ -22,3 +35,41 @@ pub fn a_cluster_is_linearizable<D: LogDisk, S: Datagrams>()
     a_cluster_keeps_the_promise::<D, S>();
     worlds_are_linearizable();
 }
+
+/// A server that comes up on the disks of a node continues its cluster.
+pub fn a_start_continues_a_cluster<D: LogDisk, S: Datagrams>()
+    ensures { (genesis : GenesisValue) (cluster : Cluster) → IsReachable ForgesNothing D.is_metered S.is_telling genesis cluster
+        → (place n : ℕ) (device : Memory) → HasNode cluster place n (Down device)
+        → (disks : Side → Disk) → ((s : Side) → disk_of device s ≡ disks s)
+        → (server : ServerValue ReplicaValue) → IsBegun cluster.genesis n disks server
+        → Continues ForgesNothing D.is_metered S.is_telling genesis cluster place n (Up server) [] }
+{}
+
+/// A turn of a server continues its cluster, where what came in it is not forged.
+pub fn a_turn_continues_a_cluster<D: LogDisk, S: Datagrams>()
+    ensures { (genesis : GenesisValue) (cluster : Cluster) → IsReachable ForgesNothing D.is_metered S.is_telling genesis cluster
+        → (place n : ℕ) (server after : ServerValue ReplicaValue) → HasNode cluster place n (Up server)
+        → (came : Option (SocketAddr × List ℕ)) → ForgesNothing cluster.genesis cluster.sent server came
+        → (turn : Turn (Says D.is_metered) S.is_telling came server after) → after.replica.failed ≡ false
+        → Continues ForgesNothing D.is_metered S.is_telling genesis cluster place n (Up after) turn.hands_on.letters }
+{}
+
+/// A turn that ends a server continues its cluster too: the node is down then, on the disks that its replica has left.
+pub fn a_last_turn_continues_a_cluster<D: LogDisk, S: Datagrams>()
+    ensures { (genesis : GenesisValue) (cluster : Cluster) → IsReachable ForgesNothing D.is_metered S.is_telling genesis cluster
+        → (place n : ℕ) (server after : ServerValue ReplicaValue) → HasNode cluster place n (Up server)
+        → (came : Option (SocketAddr × List ℕ)) → ForgesNothing cluster.genesis cluster.sent server came
+        → (turn : LastTurn (Says D.is_metered) S.is_telling came server after) → after.replica.failed ≡ true
+        → (left : Memory) → ((s : Side) → disk_of left s ≡ server_disks after s)
+        → Continues ForgesNothing D.is_metered S.is_telling genesis cluster place n (Down left) turn.hands_on.letters }
+{}
+
+/// So do the turns of a process, one after another, on an honest device, where nothing that came in any of them is forged.
+pub fn turns_continue_a_cluster<D: LogDisk + Drop, S: Datagrams>()
+    ensures { D.is_honest → (genesis : GenesisValue) (cluster : Cluster) → IsReachable ForgesNothing D.is_metered S.is_telling genesis cluster
+        → (place n count : ℕ) (first last : ServerValue ReplicaValue) → HasNode cluster place n (Up first)
+        → (turns : Repeats (ServerTurn ⟦<Replica<LockTable, D> as NodeReplica>⟧.Says S.is_telling) count first last) → ReportFailures turns.states
+        → MayAllCome ⟦<Replica<LockTable, D> as NodeReplica>⟧.Says S.is_telling ForgesNothing cluster.genesis n cluster.sent first turns.states last turns.chain
+        → Continues ForgesNothing D.is_metered S.is_telling genesis cluster place n (Up last)
+        (letters_of ⟦<Replica<LockTable, D> as NodeReplica>⟧.Says S.is_telling first turns.states last turns.chain) }
+{}

@@ -1,0 +1,182 @@
+-- A turn of a server continues its cluster.
+use Rattle.std.proofs.Common.{◌≡◌, ℕ, zero, suc, true, false, Option, List, [], ◌∷◌, ◌++◌, set, refl, ap, sym, ◌∙◌, subst, inl, inr, append_assoc, append-nil, arith}
+use Rattle.std.proofs.lemmas.List.{map-append}
+use Rattle.std.specs.declared.net.socket_addr.SocketAddr.{SocketAddr}
+use Rattle.lk_disk.specs.Disk.{Disk}
+use Rattle.lk_disk.specs.Memory.{Memory, disk_of}
+use Rattle.lk_disk.specs.declared.device.Side.{Side}
+use Rattle.lk_history.proofs.Histories.{contains_more}
+use Rattle.lk_step.specs.Letters.{LetterValue, batch_of, datagram_of}
+use Rattle.lk_step.specs.declared.note.Note.{Note}
+use Rattle.lk_node.specs.Histories.{Genesis, Datagram}
+use Rattle.lk_replica.specs.ReplicaValue.{ReplicaValue}
+use Rattle.lk_server.specs.Servers.{ServerValue, Turn, LastTurn, given_in}
+use Rattle.lk_service.specs.Chains.{Chain}
+use Rattle.lk_sim.specs.Networks.{nothing}
+use Rattle.lk_sim.specs.Seats.{At}
+use Rattle.lk_sim.specs.declared.seat.Life.{Life}
+use Rattle.lk_sim.specs.declared.seat.Life.TheVariants.{Up, Down}
+use Rattle.lk_sim.proofs.Networks.{at_set_here, set_twice}
+use Rattle.lk_cluster.specs.Clusters.{Cluster, Network, Says, IsBegun, server_disks, Starts, TakesTurn, EndsByTurn, Happens, HappenAll, IsReachable}
+use Rattle.lk_cluster.specs.Continuing.{node_of, HasNode, Continues, ServerTurn, letters_of, MayAllCome, ReportFailures}
+use Rattle.lk_cluster.proofs.Keeping.{IsSound, Unforged, own_may, given_may, ended_may, with_replica, reachable_sound}
+use Rattle.lk_cluster.proofs.Saying.{turn_so}
+use Rattle.lk_cluster.proofs.Tracing.{Traced, trace_up}
+
+-- the cluster in which that node is so, and has given these letters to be sent, and this has joined the trace
+abbrev pub continued : Cluster → ℕ → ℕ → Life (ServerValue ReplicaValue) → List LetterValue → List Note → Cluster
+continued old place n life letters trace =
+    record { genesis = old.genesis; seats = set old.seats place (node_of n life); sent = old.sent ++ batch_of n letters; trace = old.trace ++ trace; ended = old.ended }
+
+module _ (May : Network) (Metered tells : Type 0) where
+  -- one thing more has happened
+  happen_more : (first last new : Cluster) (clusters : List Cluster) → HappenAll May Metered tells first clusters last → Happens May Metered tells last new → HappenAll May Metered tells first (clusters ++ new ∷ []) new
+  happen_more first last new [] all more = (subst (λ (c : Cluster). Happens May Metered tells c new) all more, refl)
+  happen_more first last new (next ∷ clusters) all more = (all.0, happen_more next last new clusters all.1 more)
+
+  pub goes_on : (genesis : Genesis) (old new : Cluster) → IsReachable May Metered tells genesis old → Happens May Metered tells old new → IsReachable May Metered tells genesis new
+  goes_on genesis old new all more = (all.0 ++ new ∷ [], happen_more (nothing genesis) old new all.0 all.1 more)
+
+  continues_with : (genesis : Genesis) (old : Cluster) (place n : ℕ) (life : Life (ServerValue ReplicaValue)) (letters : List LetterValue) (trace : List Note) → IsReachable May Metered tells genesis (continued old place n life letters trace)
+      → Continues May Metered tells genesis old place n life letters
+  continues_with genesis old place n life letters trace all = record { cluster = continued old place n life letters trace; reachable = all; seats = refl; sent = refl }
+
+  -- a start
+  pub start_continues : (genesis : Genesis) (old : Cluster) → IsReachable May Metered tells genesis old → (place n : ℕ) (device : Memory) → HasNode old place n (Down device)
+      → (disks : Side → Disk) → ((s : Side) → disk_of device s ≡ disks s) → (server : ServerValue ReplicaValue) → IsBegun old.genesis n disks server → Continues May Metered tells genesis old place n (Up server) []
+  start_continues genesis old all place n device at disks same server is =
+      let path : disks ≡ disk_of device = λ i s. sym (same s) i in
+      let begun : IsBegun old.genesis n (disk_of device) server = subst (λ (d : Side → Disk). IsBegun old.genesis n d server) path is in
+      let new = continued old place n (Up server) [] begun.notes in
+      let starts : Starts old new = record {
+        rises = record {
+          seat = node_of n (Down device);
+          next = node_of n (Up server);
+          turns = record { place = place; at = at; number = refl; seats = refl };
+          device = device;
+          down = refl;
+          replica = server;
+          up = refl;
+          notes = begun.notes;
+          rises = begun.rises;
+          adds = record { genesis = refl; sent = refl; trace = refl };
+        };
+        own = begun.own;
+        alive = begun.alive;
+      } in
+      continues_with genesis old place n (Up server) [] begun.notes (goes_on genesis old new all (inr (inl starts)))
+
+  module _ (unforged : Unforged May) where
+    -- a turn has a trace
+    turn_trace : (old : Cluster) (w : IsSound old) (place n : ℕ) (server after : ServerValue ReplicaValue) → HasNode old place n (Up server) → (came : Option (SocketAddr × List ℕ)) → May old.genesis old.sent server came
+        → (turn : Turn (Says Metered) tells came server after) → Traced Metered old.genesis n server.replica (given_in server.own came after.received) turn.hands_on.letters after.replica
+    turn_trace old w place n server after at came may turn =
+        let node = node_of n (Up server) in
+        let may_all = given_may old.genesis old.sent server.own came after.received (own_may old w n server (w.own place node at server refl)) (unforged old w server came may) in
+        trace_up Metered old.genesis n old.seats place node at refl after (given_in server.own came after.received) server.replica turn.hands_on.letters after.replica turn.hands_on.says old.sent old.trace may_all
+        (with_replica old w place node at server after refl)
+
+    last_trace : (old : Cluster) (w : IsSound old) (place n : ℕ) (server after : ServerValue ReplicaValue) → HasNode old place n (Up server) → (came : Option (SocketAddr × List ℕ)) → May old.genesis old.sent server came
+        → (turn : LastTurn (Says Metered) tells came server after) → Traced Metered old.genesis n server.replica turn.given turn.hands_on.letters after.replica
+    last_trace old w place n server after at came may turn =
+        let node = node_of n (Up server) in
+        let may_all = ended_may old.genesis old.sent server.own came turn.given turn.behind (own_may old w n server (w.own place node at server refl)) (unforged old w server came may) in
+        trace_up Metered old.genesis n old.seats place node at refl after turn.given server.replica turn.hands_on.letters after.replica turn.hands_on.says old.sent old.trace may_all
+        (with_replica old w place node at server after refl)
+
+    -- a turn
+    turn_happens : (old : Cluster) → IsSound old → (place n : ℕ) (server after : ServerValue ReplicaValue) → HasNode old place n (Up server) → (came : Option (SocketAddr × List ℕ)) → May old.genesis old.sent server came
+        → (turn : Turn (Says Metered) tells came server after) → after.replica.failed ≡ false → (trace : List Note) × TakesTurn May Metered tells old (continued old place n (Up after) turn.hands_on.letters trace)
+    turn_happens old w place n server after at came may turn alive =
+        let traced = turn_trace old w place n server after at came may turn in (
+          traced.0,
+          record {
+            node = node_of n (Up server);
+            next = node_of n (Up after);
+            turns = record { place = place; at = at; number = refl; seats = refl };
+            server = server;
+            was = refl;
+            after = after;
+            up = refl;
+            came = came;
+            may = may;
+            turn = turn;
+            alive = alive;
+            trace = traced.0;
+            calls = traced.1;
+            adds = record { genesis = refl; sent = refl; trace = refl };
+          },
+        )
+
+    -- the cluster after it
+    turn_comes : (genesis : Genesis) (old : Cluster) → IsReachable May Metered tells genesis old → (place n : ℕ) (server after : ServerValue ReplicaValue) → HasNode old place n (Up server) → (came : Option (SocketAddr × List ℕ))
+        → May old.genesis old.sent server came → (turn : Turn (Says Metered) tells came server after) → after.replica.failed ≡ false
+        → (trace : List Note) × IsReachable May Metered tells genesis (continued old place n (Up after) turn.hands_on.letters trace)
+    turn_comes genesis old all place n server after at came may turn alive =
+        let t = turn_happens old (reachable_sound May Metered tells unforged genesis old all) place n server after at came may turn alive in
+        (t.0, goes_on genesis old (continued old place n (Up after) turn.hands_on.letters t.0) all (inr (inr (inr (inl t.1)))))
+
+    pub turn_continues : (genesis : Genesis) (old : Cluster) → IsReachable May Metered tells genesis old → (place n : ℕ) (server after : ServerValue ReplicaValue) → HasNode old place n (Up server) → (came : Option (SocketAddr × List ℕ))
+        → May old.genesis old.sent server came → (turn : Turn (Says Metered) tells came server after) → after.replica.failed ≡ false → Continues May Metered tells genesis old place n (Up after) turn.hands_on.letters
+    turn_continues genesis old all place n server after at came may turn alive =
+        let t = turn_comes genesis old all place n server after at came may turn alive in
+        continues_with genesis old place n (Up after) turn.hands_on.letters t.0 t.1
+
+    -- a turn that ends it
+    pub last_turn_continues : (genesis : Genesis) (old : Cluster) → IsReachable May Metered tells genesis old → (place n : ℕ) (server after : ServerValue ReplicaValue) → HasNode old place n (Up server) → (came : Option (SocketAddr × List ℕ))
+        → May old.genesis old.sent server came → (turn : LastTurn (Says Metered) tells came server after) → after.replica.failed ≡ true → (left : Memory) → ((s : Side) → disk_of left s ≡ server_disks after s)
+        → Continues May Metered tells genesis old place n (Down left) turn.hands_on.letters
+    last_turn_continues genesis old all place n server after at came may turn ended left same =
+        let traced = last_trace old (reachable_sound May Metered tells unforged genesis old all) place n server after at came may turn in
+        let new = continued old place n (Down left) turn.hands_on.letters traced.0 in
+        let ends : EndsByTurn May Metered tells old new = record {
+          node = node_of n (Up server);
+          next = node_of n (Down left);
+          turns = record { place = place; at = at; number = refl; seats = refl };
+          server = server;
+          was = refl;
+          after = after;
+          left = left;
+          down = refl;
+          same = same;
+          came = came;
+          may = may;
+          turn = turn;
+          ended = ended;
+          trace = traced.0;
+          calls = traced.1;
+          adds = record { genesis = refl; sent = refl; trace = refl };
+        } in
+        continues_with genesis old place n (Down left) turn.hands_on.letters traced.0 (goes_on genesis old new all (inr (inr (inr (inr (inl ends))))))
+
+    -- what was continued and then continued again
+    twice : (genesis : Genesis) (old : Cluster) (place n : ℕ) (life last : Life (ServerValue ReplicaValue)) (first rest : List LetterValue) (trace : List Note)
+        → Continues May Metered tells genesis (continued old place n life first trace) place n last rest → Continues May Metered tells genesis old place n last (first ++ rest)
+    twice genesis old place n life last first rest trace c = record {
+      cluster = c.cluster;
+      reachable = c.reachable;
+      seats = c.seats ∙ set_twice old.seats place (node_of n life) (node_of n last);
+      sent = c.sent ∙ append_assoc old.sent (batch_of n first) (batch_of n rest) ∙ ap (λ (l : List Datagram). old.sent ++ l) (sym (map-append (datagram_of n) first rest));
+    }
+
+    -- no turn continues the cluster as it is
+    same_again : {X : Type 0} (xs : List X) (place : ℕ) (x : X) → At xs place x → xs ≡ set xs place x
+    same_again [] place x at = absurd (omega (arith, at.0))
+    same_again (y ∷ xs) zero x at = λ i. at.1 i ∷ xs
+    same_again (y ∷ xs) (suc place) x at = ap (λ l. y ∷ l) (same_again xs place x (omega (arith, at.0), at.1))
+
+    -- turns, one after another, of a replica that says so
+    module _ (S : ReplicaValue → Option (List ℕ) → List LetterValue → ReplicaValue → Type 0) (so : (old : ReplicaValue) (o : Option (List ℕ)) (letters : List LetterValue) (new : ReplicaValue) → S old o letters new → Says Metered old o letters new) where
+      pub turns_continue : (genesis : Genesis) (old : Cluster) → IsReachable May Metered tells genesis old → (place n : ℕ) (first : ServerValue ReplicaValue) (states : List (ServerValue ReplicaValue)) (last : ServerValue ReplicaValue)
+          → HasNode old place n (Up first) → (turns : Chain (ServerTurn S tells) first states last) → MayAllCome S tells May old.genesis n old.sent first states last turns
+          → ReportFailures states → Continues May Metered tells genesis old place n (Up last) (letters_of S tells first states last turns)
+      turns_continue genesis old all place n first [] last at turns may tell =
+          let here : HasNode old place n (Up last) = subst (λ (s : ServerValue ReplicaValue). HasNode old place n (Up s)) (sym turns) at in
+          record { cluster = old; reachable = all; seats = same_again old.seats place (node_of n (Up last)) here; sent = sym (append-nil old.sent) }
+      turns_continue genesis old all place n first (next ∷ states) last at turns may tell =
+          let turn : Turn (Says Metered) tells turns.0.came first next = turn_so S (Says Metered) so tells turns.0.came first next turns.0.turn in
+          let alive : next.replica.failed ≡ false = sym (tell next (0, omega arith, refl)) ∙ turn.alive in
+          let t = turn_comes genesis old all place n first next at turns.0.came may.0 turn alive in
+          twice genesis old place n (Up next) (Up last) turns.0.turn.hands_on.letters (letters_of S tells next states last turns.1) t.0
+          (turns_continue genesis (continued old place n (Up next) turns.0.turn.hands_on.letters t.0) t.1 place n next states last (at_set_here old.seats place (node_of n (Up next)) at.0) turns.1 may.1
+          (λ s c. tell s (contains_more next states s c)))
