@@ -4,4 +4,5 @@ mod Calls
 mod Keeping
 mod Tracing
 mod Continuing
+mod Sealing
 mod Saying

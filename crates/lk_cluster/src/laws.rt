@@ -1,23 +1,29 @@
 //! The promise holds of processes.
-ghost use Rattle.std.specs.Prelude.{◌≡◌, ℕ, true, false, Option, List, []};
+ghost use Rattle.std.specs.Prelude.{◌≡◌, ◌≢◌, ℕ, true, false, Option, Some, List, []};
 ghost use Rattle.std.specs.declared.net.socket_addr.SocketAddr.{SocketAddr};
 ghost use Rattle.lk_types.specs.declared.genesis.Genesis.{Genesis as GenesisValue};
 ghost use Rattle.lk_disk.specs.Disk.{Disk};
 ghost use Rattle.lk_disk.specs.Memory.{Memory, disk_of};
 ghost use Rattle.lk_disk.specs.declared.device.Side.{Side};
+ghost use Rattle.lk_seal.specs.Seals.{key_list, heard};
+ghost use Rattle.lk_seal.specs.declared.seals.Seals.{Seals};
 ghost use Rattle.lk_replica.specs.ReplicaValue.{ReplicaValue};
+ghost use Rattle.lk_server.specs.Posts.{taken_as};
 ghost use Rattle.lk_server.specs.Servers.{ServerValue, Turn, LastTurn};
 ghost use Rattle.lk_service.specs.Chains.{Repeats};
+ghost use Rattle.lk_sim.specs.Networks.{MayCome};
 ghost use Rattle.lk_sim.specs.declared.seat.Life.TheVariants.{Up, Down};
 ghost use Rattle.lk_promise.specs.Linear.{IsLinearizable};
 ghost use Rattle.lk_promise.specs.Promise.{KeepsPromise};
 ghost use Rattle.lk_cluster.specs.Clusters.{Cluster, IsReachable, ForgesNothing, IsBegun, Says, scene_of, server_disks};
 ghost use Rattle.lk_cluster.specs.Continuing.{Continues, HasNode, MayAllCome, ServerTurn, ReportFailures, letters_of};
+ghost use Rattle.lk_cluster.specs.Sealing.{IsSealed, OnlyNodesSeal, OnlyNodesSealWhatComes};
 
 use lk_disk::LogDisk;
 use lk_locks::LockTable;
 use lk_promise::laws::worlds_are_linearizable;
 use lk_replica::Replica;
+use lk_server::laws::is_told_by_a_node;
 use lk_server::node_replica::NodeReplica;
 use lk_server::socket::Datagrams;
 
@@ -34,6 +40,31 @@ pub fn a_cluster_is_linearizable<D: LogDisk, S: Datagrams>()
 {
     a_cluster_keeps_the_promise::<D, S>();
     worlds_are_linearizable();
+}
+
+/// Under a key that only the nodes of a cluster have, what a node takes of a frame is not forged: whatever it says for a node of the cluster, that
+/// node has said. The premise is that nobody without the key can make such a frame (HMAC-SHA-256, RFC 2104).
+pub fn a_sealed_datagram_is_not_forged<D: LogDisk, S: Datagrams>()
+    ensures { (genesis : GenesisValue) (cluster : Cluster) → IsReachable ForgesNothing D.is_metered S.is_telling genesis cluster
+        → (seals : Seals) → key_list seals.nodes ≢ [] → (frame : List ℕ) → OnlyNodesSeal cluster.sent seals frame
+        → MayCome cluster.genesis cluster.sent (Some (heard seals frame)) }
+{
+    is_told_by_a_node();
+}
+
+/// So a cluster whose nodes share such a key needs no other premise of the network: whatever frames come, nothing is forged in it.
+pub fn a_sealed_cluster_forges_nothing<D: LogDisk, S: Datagrams>()
+    ensures { (genesis : GenesisValue) (cluster : Cluster) → IsReachable IsSealed D.is_metered S.is_telling genesis cluster → IsReachable ForgesNothing D.is_metered S.is_telling genesis cluster }
+{
+    is_told_by_a_node();
+}
+
+/// And it keeps the promise.
+pub fn a_sealed_cluster_keeps_the_promise<D: LogDisk, S: Datagrams>()
+    ensures { (genesis : GenesisValue) (cluster : Cluster) → IsReachable IsSealed D.is_metered S.is_telling genesis cluster → KeepsPromise (scene_of cluster) }
+{
+    a_sealed_cluster_forges_nothing::<D, S>();
+    a_cluster_keeps_the_promise::<D, S>();
 }
 
 /// A server that comes up on the disks of a node continues its cluster.
@@ -53,6 +84,17 @@ pub fn a_turn_continues_a_cluster<D: LogDisk, S: Datagrams>()
         → (turn : Turn (Says D.is_metered) S.is_telling came server after) → after.replica.failed ≡ false
         → Continues ForgesNothing D.is_metered S.is_telling genesis cluster place n (Up after) turn.hands_on.letters }
 {}
+
+/// So does a turn of a server that has the key of the nodes, whatever frame came in it: this is a turn of the program, as `turning::turn` ensures it.
+pub fn a_sealed_turn_continues_a_cluster<D: LogDisk, S: Datagrams>()
+    ensures { (genesis : GenesisValue) (cluster : Cluster) → IsReachable IsSealed D.is_metered S.is_telling genesis cluster
+        → (place n : ℕ) (server after : ServerValue ReplicaValue) → HasNode cluster place n (Up server)
+        → key_list server.addresses.seals.nodes ≢ [] → (frame : Option (SocketAddr × List ℕ)) → OnlyNodesSealWhatComes cluster.sent server.addresses.seals frame
+        → (turn : Turn (Says D.is_metered) S.is_telling (taken_as server.addresses.seals frame) server after) → after.replica.failed ≡ false
+        → Continues IsSealed D.is_metered S.is_telling genesis cluster place n (Up after) turn.hands_on.letters }
+{
+    is_told_by_a_node();
+}
 
 /// A turn that ends a server continues its cluster too: the node is down then, on the disks that its replica has left.
 pub fn a_last_turn_continues_a_cluster<D: LogDisk, S: Datagrams>()

@@ -1,0 +1,93 @@
+-- What only nodes seal is not forged.
+use Rattle.std.proofs.Common.{◌≡◌, ◌≢◌, ℕ, inl, inr, Option, Some, None, List, [], ◌∷◌, sym, subst}
+use Rattle.std.specs.declared.net.socket_addr.SocketAddr.{SocketAddr}
+use Rattle.lk_types.specs.declared.command.Request.{Request}
+use Rattle.lk_wire.specs.Grammar.{Spells}
+use Rattle.lk_wire.specs.declared.message.Content.TheVariants as content
+use Rattle.lk_wire.specs.declared.message.NodeMessage.{NodeMessage}
+use Rattle.lk_history.specs.Datagrams.{said_by}
+use Rattle.lk_history.proofs.Histories.{heard_was_sent}
+use Rattle.lk_node.specs.Histories.{Genesis}
+use Rattle.lk_seal.specs.Seals.{key_list, heard}
+use Rattle.lk_seal.specs.declared.seals.Seals.{Seals}
+use Rattle.lk_server.specs.Posts.{taken_as}
+use Rattle.lk_server.specs.Premises.{IsToldByANode}
+use Rattle.lk_sim.specs.Networks.{MayCome, nothing}
+use Rattle.lk_cluster.specs.Clusters.{Cluster, Network, ForgesNothing, bytes_of, TakesTurn, EndsByTurn, Happens, HappenAll, IsReachable}
+use Rattle.lk_cluster.specs.Sealing.{OnlyNodesSeal, OnlyNodesSealWhatComes, IsSealed}
+use Rattle.lk_cluster.proofs.Keeping.{IsSound, Unforged, happens, begun}
+
+no_request : (genesis : Genesis) (n : ℕ) (x : NodeMessage) (r : Request) → content.Node n x ≡ content.Request r → ⊥
+no_request genesis n x r e = cc e
+
+-- what is taken of a frame
+pub taken_unforged : (c : Cluster) → IsSound c → (s : Seals) (frame : List ℕ) → IsToldByANode s frame → OnlyNodesSeal c.sent s frame → MayCome c.genesis c.sent (Some (heard s frame))
+taken_unforged c w s frame (inl sealed) only n x spelled =
+    let given = only (heard s frame) sealed in
+    heard_was_sent c.genesis c.sent w.holds.world.sound given.0 given.1 n x (subst (λ (bytes : List ℕ). Spells (said_by c.genesis n x) bytes) (sym given.2) spelled)
+taken_unforged c w s frame (inr free) only n x spelled = let r = free (said_by c.genesis n x) spelled in absurd (no_request c.genesis n x r.0 r.1)
+
+module _ (told : (s : Seals) (frame : List ℕ) → key_list s.nodes ≢ [] → IsToldByANode s frame) where
+  what_comes : (c : Cluster) → IsSound c → (s : Seals) → key_list s.nodes ≢ [] → (frame : Option (SocketAddr × List ℕ)) → OnlyNodesSealWhatComes c.sent s frame → MayCome c.genesis c.sent (bytes_of (taken_as s frame))
+  what_comes c w s key None only = tt
+  what_comes c w s key (Some frame) only = taken_unforged c w s frame.1 (told s frame.1 key) only
+
+  pub seals_forge_nothing : Unforged IsSealed
+  seals_forge_nothing c w server came may =
+      subst (λ (o : Option (SocketAddr × List ℕ)). MayCome c.genesis c.sent (bytes_of o)) (sym may.opened) (what_comes c w server.addresses.seals may.has_key may.frame may.only_nodes_seal)
+
+-- ---- what comes about where nothing is forged
+
+module _ (May : Network) (Metered tells : Type 0) (unforged : Unforged May) where
+  takes_turn : (old new : Cluster) → IsSound old → TakesTurn May Metered tells old new → TakesTurn ForgesNothing Metered tells old new
+  takes_turn old new w a = record {
+    node = a.node;
+    next = a.next;
+    turns = a.turns;
+    server = a.server;
+    was = a.was;
+    after = a.after;
+    up = a.up;
+    came = a.came;
+    may = unforged old w a.server a.came a.may;
+    turn = a.turn;
+    alive = a.alive;
+    trace = a.trace;
+    calls = a.calls;
+    adds = a.adds;
+  }
+
+  ends_by_turn : (old new : Cluster) → IsSound old → EndsByTurn May Metered tells old new → EndsByTurn ForgesNothing Metered tells old new
+  ends_by_turn old new w a = record {
+    node = a.node;
+    next = a.next;
+    turns = a.turns;
+    server = a.server;
+    was = a.was;
+    after = a.after;
+    left = a.left;
+    down = a.down;
+    same = a.same;
+    came = a.came;
+    may = unforged old w a.server a.came a.may;
+    turn = a.turn;
+    ended = a.ended;
+    trace = a.trace;
+    calls = a.calls;
+    adds = a.adds;
+  }
+
+  so_happens : (old new : Cluster) → IsSound old → Happens May Metered tells old new → Happens ForgesNothing Metered tells old new
+  so_happens old new w (inl a) = inl a
+  so_happens old new w (inr (inl a)) = inr (inl a)
+  so_happens old new w (inr (inr (inl a))) = inr (inr (inl a))
+  so_happens old new w (inr (inr (inr (inl a)))) = inr (inr (inr (inl (takes_turn old new w a))))
+  so_happens old new w (inr (inr (inr (inr (inl a))))) = inr (inr (inr (inr (inl (ends_by_turn old new w a)))))
+  so_happens old new w (inr (inr (inr (inr (inr a))))) = inr (inr (inr (inr (inr a))))
+
+  so_happen : (first last : Cluster) (clusters : List Cluster) → IsSound first → HappenAll May Metered tells first clusters last → HappenAll ForgesNothing Metered tells first clusters last
+  so_happen first last [] w all = all
+  so_happen first last (next ∷ clusters) w all = (so_happens first next w all.0, so_happen next last clusters (happens May Metered tells unforged first next w all.0) all.1)
+
+  pub so_reachable : (genesis : Genesis) (c : Cluster) → IsReachable May Metered tells genesis c → IsReachable ForgesNothing Metered tells genesis c
+  so_reachable genesis c all = (all.0, so_happen (nothing genesis) c all.0 (begun genesis) all.1)

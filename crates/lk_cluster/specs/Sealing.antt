@@ -1,0 +1,32 @@
+-- Clusters whose nodes share a key, and take of the frames that come what is sealed under it.
+use Rattle.std.specs.Prelude.{◌≡◌, ◌≢◌, ℕ, Option, Some, None, List, [], Contains}
+use Rattle.std.specs.declared.net.socket_addr.SocketAddr.{SocketAddr}
+use Rattle.lk_types.specs.declared.genesis.Genesis.{Genesis}
+use Rattle.lk_node.specs.Histories.{Datagram}
+use Rattle.lk_replica.specs.ReplicaValue.{ReplicaValue}
+use Rattle.lk_seal.specs.Seals.{key_list, to_node, IsSealedBy}
+use Rattle.lk_seal.specs.declared.seals.Seals.{Seals}
+use Rattle.lk_server.specs.Posts.{taken_as}
+use Rattle.lk_server.specs.Servers.{ServerValue}
+
+-- a node of the cluster has given a datagram of these bytes to be sent
+abbrev pub WasGiven : List Datagram → List ℕ → Type 0
+WasGiven sent bytes = (d : Datagram) × Contains sent d × (d.bytes ≡ bytes)
+
+-- The only premise about keys: where a frame seals a datagram for this node under a key of the nodes, a node of the cluster has given that datagram to
+-- be sent. It holds of a key that only the nodes of one cluster have, and only in one life of it: nobody without a key can compute the HMAC-SHA-256 of
+-- a message under it (RFC 2104, section 6). Frames may be lost, repeated, delayed or cut, and anybody may send other bytes
+abbrev pub OnlyNodesSeal : List Datagram → Seals → List ℕ → Type 0
+OnlyNodesSeal sent s frame = (datagram : List ℕ) → IsSealedBy (key_list s.nodes) (to_node s.cluster s.node) frame datagram → WasGiven sent datagram
+
+-- the same of what comes, if anything does
+abbrev pub OnlyNodesSealWhatComes : List Datagram → Seals → Option (SocketAddr × List ℕ) → Type 0
+OnlyNodesSealWhatComes sent s None = Unit {0}
+OnlyNodesSealWhatComes sent s (Some frame) = OnlyNodesSeal sent s frame.1
+
+-- the network of such a cluster: the nodes have a key under which only they seal, and a server takes of a frame what it opens
+pub record IsSealed (genesis : Genesis) (sent : List Datagram) (server : ServerValue ReplicaValue) (came : Option (SocketAddr × List ℕ)) : Type 0 where
+  pub frame : Option (SocketAddr × List ℕ)
+  pub opened : came ≡ taken_as server.addresses.seals frame
+  pub has_key : key_list server.addresses.seals.nodes ≢ []
+  pub only_nodes_seal : OnlyNodesSealWhatComes sent server.addresses.seals frame
