@@ -5,4 +5,5 @@ mod Keeping
 mod Tracing
 mod Continuing
 mod Sealing
+mod Forgetting
 mod Saying

@@ -1,3 +1,4 @@
 pub mod Clusters
 pub mod Sealing
 pub mod Continuing
+pub mod Forgetting

@@ -1,10 +1,12 @@
 //! The promise holds of processes.
-ghost use Rattle.std.specs.Prelude.{◌≡◌, ◌≢◌, ℕ, true, false, Option, Some, List, []};
+ghost use Rattle.std.specs.Prelude.{◌≡◌, ◌≢◌, ℕ, true, false, Option, Some, List, [], Contains};
 ghost use Rattle.std.specs.declared.net.socket_addr.SocketAddr.{SocketAddr};
 ghost use Rattle.lk_types.specs.declared.genesis.Genesis.{Genesis as GenesisValue};
 ghost use Rattle.lk_disk.specs.Disk.{Disk};
 ghost use Rattle.lk_disk.specs.Memory.{Memory, disk_of};
 ghost use Rattle.lk_disk.specs.declared.device.Side.{Side};
+ghost use Rattle.lk_wire.specs.declared.message.NodeMessage.{NodeMessage};
+ghost use Rattle.lk_history.specs.Datagrams.{HasSent};
 ghost use Rattle.lk_seal.specs.Seals.{key_list, heard};
 ghost use Rattle.lk_seal.specs.declared.seals.Seals.{Seals};
 ghost use Rattle.lk_replica.specs.ReplicaValue.{ReplicaValue};
@@ -15,8 +17,9 @@ ghost use Rattle.lk_sim.specs.Networks.{MayCome};
 ghost use Rattle.lk_sim.specs.declared.seat.Life.TheVariants.{Up, Down};
 ghost use Rattle.lk_promise.specs.Linear.{IsLinearizable};
 ghost use Rattle.lk_promise.specs.Promise.{KeepsPromise};
-ghost use Rattle.lk_cluster.specs.Clusters.{Cluster, IsReachable, ForgesNothing, IsBegun, Says, scene_of, server_disks};
+ghost use Rattle.lk_cluster.specs.Clusters.{Node, Cluster, IsReachable, ForgesNothing, IsBegun, Says, scene_of, server_disks};
 ghost use Rattle.lk_cluster.specs.Continuing.{Continues, HasNode, MayAllCome, ServerTurn, ReportFailures, letters_of};
+ghost use Rattle.lk_cluster.specs.Forgetting.{HasEmptyDisks, MustBeRemembered};
 ghost use Rattle.lk_cluster.specs.Sealing.{IsSealed, OnlyNodesSeal, OnlyNodesSealWhatComes};
 
 use lk_disk::LogDisk;
@@ -115,3 +118,13 @@ pub fn turns_continue_a_cluster<D: LogDisk + Drop, S: Datagrams>()
         → Continues ForgesNothing D.is_metered S.is_telling genesis cluster place n (Up last)
         (letters_of ⟦<Replica<LockTable, D> as NodeReplica>⟧.Says S.is_telling first turns.states last turns.chain) }
 {}
+
+/// No node of a cluster begins anew: the disks of one that has sent a Prepare, a Promise, an Accept or an Accepted are never two empty ones.
+pub fn no_node_forgets<D: LogDisk, S: Datagrams>()
+    ensures { (genesis : GenesisValue) (cluster : Cluster) → IsReachable ForgesNothing D.is_metered S.is_telling genesis cluster
+        → (node : Node) → Contains cluster.seats node
+        → (m : NodeMessage) → MustBeRemembered m → HasSent cluster.genesis cluster.sent node.number m
+        → HasEmptyDisks node.life → ⊥ }
+{
+    a_cluster_keeps_the_promise::<D, S>();
+}

@@ -1,0 +1,29 @@
+-- What a node that lost its disks no longer knows.
+use Rattle.std.specs.Prelude.{◌≡◌, []}
+use Rattle.lk_disk.specs.Disk.{Disk}
+use Rattle.lk_disk.specs.Memory.{disk_of}
+use Rattle.lk_disk.specs.declared.device.Side.{Side}
+use Rattle.lk_replica.specs.ReplicaValue.{ReplicaValue}
+use Rattle.lk_server.specs.Servers.{ServerValue}
+use Rattle.lk_sim.specs.declared.seat.Life.{Life}
+use Rattle.lk_sim.specs.declared.seat.Life.TheVariants.{Up, Down}
+use Rattle.lk_wire.specs.declared.message.NodeMessage.{NodeMessage}
+use Rattle.lk_wire.specs.declared.message.NodeMessage.TheVariants as message
+use Rattle.lk_cluster.specs.Clusters.{server_disks}
+
+-- the two disks of a node, up or down
+abbrev pub disks_in : Life (ServerValue ReplicaValue) → Side → Disk
+disks_in (Up server) = server_disks server
+disks_in (Down device) = disk_of device
+
+-- both are empty, as those of a node that is new
+abbrev pub HasEmptyDisks : Life (ServerValue ReplicaValue) → Type 0
+HasEmptyDisks life = (s : Side) → disks_in life s ≡ record { synced = []; unsynced = [] }
+
+-- its sender must remember the message: it has promised a ballot by it, or voted in one
+abbrev pub MustBeRemembered : NodeMessage → Type 0
+MustBeRemembered (message.Prepare ballot first) = Unit {0}
+MustBeRemembered (message.Promise p) = Unit {0}
+MustBeRemembered (message.Accept vote) = Unit {0}
+MustBeRemembered (message.Accepted vote) = Unit {0}
+MustBeRemembered _ = ⊥
