@@ -11,6 +11,7 @@ use Rattle.lk_step.specs.declared.note.Note.{Note}
 use Rattle.lk_node.specs.Histories.{Genesis, Datagram}
 use Rattle.lk_replica.specs.ReplicaValue.{ReplicaValue}
 use Rattle.lk_server.specs.Servers.{ServerValue, Turn, LastTurn, given_in}
+use Rattle.lk_service.specs.Turns.{TakesTurn}
 use Rattle.lk_service.specs.Chains.{Chain}
 use Rattle.lk_sim.specs.Networks.{nothing}
 use Rattle.lk_sim.specs.Seats.{At}
@@ -18,7 +19,7 @@ use Rattle.lk_sim.specs.declared.seat.Life.{Life}
 use Rattle.lk_sim.specs.declared.seat.Life.TheVariants.{Up, Down}
 use Rattle.lk_sim.proofs.Networks.{at_set_here, set_twice}
 use Rattle.lk_cluster.specs.Clusters.{Cluster, Network, Says, IsBegun, server_disks, Starts, TakesTurn, EndsByTurn, Happens, HappenAll, IsReachable}
-use Rattle.lk_cluster.specs.Continuing.{node_of, HasNode, Continues, ServerTurn, letters_of, MayAllCome, ReportFailures}
+use Rattle.lk_cluster.specs.Continuing.{node_of, HasNode, Continues, letters_of, MayAllCome, ReportFailures}
 use Rattle.lk_cluster.proofs.Keeping.{IsSound, Unforged, own_may, given_may, ended_may, with_replica, reachable_sound}
 use Rattle.lk_cluster.proofs.Saying.{turn_so}
 use Rattle.lk_cluster.proofs.Tracing.{Traced, trace_up}
@@ -168,7 +169,7 @@ module _ (May : Network) (Metered tells : Type 0) where
     -- turns, one after another, of a replica that says so
     module _ (S : ReplicaValue → Option (List ℕ) → List LetterValue → ReplicaValue → Type 0) (so : (old : ReplicaValue) (o : Option (List ℕ)) (letters : List LetterValue) (new : ReplicaValue) → S old o letters new → Says Metered old o letters new) where
       pub turns_continue : (genesis : Genesis) (old : Cluster) → IsReachable May Metered tells genesis old → (place n : ℕ) (first : ServerValue ReplicaValue) (states : List (ServerValue ReplicaValue)) (last : ServerValue ReplicaValue)
-          → HasNode old place n (Up first) → (turns : Chain (ServerTurn S tells) first states last) → MayAllCome S tells May old.genesis n old.sent first states last turns
+          → HasNode old place n (Up first) → (turns : Chain (TakesTurn S tells) first states last) → MayAllCome S tells May old.genesis n old.sent first states last turns
           → ReportFailures states → Continues May Metered tells genesis old place n (Up last) (letters_of S tells first states last turns)
       turns_continue genesis old all place n first [] last at turns may tell =
           let here : HasNode old place n (Up last) = subst (λ (s : ServerValue ReplicaValue). HasNode old place n (Up s)) (sym turns) at in

@@ -4,8 +4,9 @@ use Rattle.std.specs.declared.net.socket_addr.SocketAddr.{SocketAddr}
 use Rattle.lk_types.specs.declared.genesis.Genesis.{Genesis}
 use Rattle.lk_node.specs.Histories.{Datagram}
 use Rattle.lk_replica.specs.ReplicaValue.{ReplicaValue}
-use Rattle.lk_server.specs.Servers.{ServerValue, Turn}
+use Rattle.lk_server.specs.Servers.{ServerValue}
 use Rattle.lk_service.specs.Chains.{Chain}
+use Rattle.lk_service.specs.Turns.{TakesTurn}
 use Rattle.lk_sim.specs.Seats.{At}
 use Rattle.lk_sim.specs.declared.seat.Life.{Life}
 use Rattle.lk_step.specs.Letters.{LetterValue, batch_of}
@@ -31,18 +32,13 @@ module _ (May : Network) (Metered tells : Type 0) where
 
 -- `Says` is what a replica says by what it is given, and `tells` that the sockets tell what they send
 module _ (Says : ReplicaValue → Option (List ℕ) → List LetterValue → ReplicaValue → Type 0) (tells : Type 0) where
-  -- a turn of a server, by what came in it or by nothing
-  pub record ServerTurn (old new : ServerValue ReplicaValue) : Type 0 where
-    pub came : Option (SocketAddr × List ℕ)
-    pub turn : Turn Says tells came old new
-
   -- the letters that it gave to be sent in these turns, in order
-  abbrev pub letters_of : (first : ServerValue ReplicaValue) (states : List (ServerValue ReplicaValue)) (last : ServerValue ReplicaValue) → Chain ServerTurn first states last → List LetterValue
+  abbrev pub letters_of : (first : ServerValue ReplicaValue) (states : List (ServerValue ReplicaValue)) (last : ServerValue ReplicaValue) → Chain (TakesTurn Says tells) first states last → List LetterValue
   letters_of first [] last turns = []
   letters_of first (next ∷ states) last turns = turns.0.turn.hands_on.letters ++ letters_of next states last turns.1
 
   -- in each of these turns the network may bring what came, where the letters of the turns before it were given to be sent
-  abbrev pub MayAllCome : Network → Genesis → ℕ → List Datagram → (first : ServerValue ReplicaValue) (states : List (ServerValue ReplicaValue)) (last : ServerValue ReplicaValue) → Chain ServerTurn first states last → Type 0
+  abbrev pub MayAllCome : Network → Genesis → ℕ → List Datagram → (first : ServerValue ReplicaValue) (states : List (ServerValue ReplicaValue)) (last : ServerValue ReplicaValue) → Chain (TakesTurn Says tells) first states last → Type 0
   MayAllCome May genesis n sent first [] last turns = Unit {0}
   MayAllCome May genesis n sent first (next ∷ states) last turns =
       May genesis sent first turns.0.came × MayAllCome May genesis n (sent ++ batch_of n turns.0.turn.hands_on.letters) next states last turns.1

@@ -13,12 +13,13 @@ ghost use Rattle.lk_replica.specs.ReplicaValue.{ReplicaValue};
 ghost use Rattle.lk_server.specs.Posts.{taken_as};
 ghost use Rattle.lk_server.specs.Servers.{ServerValue, Turn, LastTurn};
 ghost use Rattle.lk_service.specs.Chains.{Repeats};
+ghost use Rattle.lk_service.specs.Turns.{TakesTurn};
 ghost use Rattle.lk_sim.specs.Networks.{MayCome};
 ghost use Rattle.lk_sim.specs.declared.seat.Life.TheVariants.{Up, Down};
 ghost use Rattle.lk_promise.specs.Linear.{IsLinearizable};
 ghost use Rattle.lk_promise.specs.Promise.{KeepsPromise};
 ghost use Rattle.lk_cluster.specs.Clusters.{Node, Cluster, IsReachable, ForgesNothing, IsBegun, Says, scene_of, server_disks};
-ghost use Rattle.lk_cluster.specs.Continuing.{Continues, HasNode, MayAllCome, ServerTurn, ReportFailures, letters_of};
+ghost use Rattle.lk_cluster.specs.Continuing.{Continues, HasNode, MayAllCome, ReportFailures, letters_of};
 ghost use Rattle.lk_cluster.specs.Forgetting.{HasEmptyDisks, MustBeRemembered};
 ghost use Rattle.lk_cluster.specs.Sealing.{IsSealed, OnlyNodesSeal, OnlyNodesSealWhatComes};
 
@@ -113,7 +114,7 @@ pub fn a_last_turn_continues_a_cluster<D: LogDisk, S: Datagrams>()
 pub fn turns_continue_a_cluster<D: LogDisk + Drop, S: Datagrams>()
     ensures { D.is_honest → (genesis : GenesisValue) (cluster : Cluster) → IsReachable ForgesNothing D.is_metered S.is_telling genesis cluster
         → (place n count : ℕ) (first last : ServerValue ReplicaValue) → HasNode cluster place n (Up first)
-        → (turns : Repeats (ServerTurn ⟦<Replica<LockTable, D> as NodeReplica>⟧.Says S.is_telling) count first last) → ReportFailures turns.states
+        → (turns : Repeats (TakesTurn ⟦<Replica<LockTable, D> as NodeReplica>⟧.Says S.is_telling) count first last) → ReportFailures turns.states
         → MayAllCome ⟦<Replica<LockTable, D> as NodeReplica>⟧.Says S.is_telling ForgesNothing cluster.genesis n cluster.sent first turns.states last turns.chain
         → Continues ForgesNothing D.is_metered S.is_telling genesis cluster place n (Up last)
         (letters_of ⟦<Replica<LockTable, D> as NodeReplica>⟧.Says S.is_telling first turns.states last turns.chain) }
