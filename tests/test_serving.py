@@ -43,11 +43,12 @@ class ServingTest(unittest.TestCase):
         return False
 
     def answers(self, node, request, answer):
-        """Asks the node again and again until it answers so."""
+        """Asks all nodes, since any may lead, again and again until this one answers so."""
         end = time.monotonic() + 30.0
         while True:
             self.assertLess(time.monotonic(), end, f"no answer {answer} of node {node}")
-            self.socket.sendto(bytes_of(request), ("127.0.0.1", self.cluster.ports[node]))
+            for port in self.cluster.ports.values():
+                self.socket.sendto(bytes_of(request), ("127.0.0.1", port))
             if self.hears(bytes_of(answer)):
                 return
 

@@ -162,7 +162,7 @@ class Core:
         """Begins a request, under a new number. What is made of its answer."""
         if self.open:
             raise Unanswered()
-        number = self.numbers.take(SPARE if op.word in GRANTING else 0)
+        number = self.numbers.take(0 if op.word == "release" else SPARE)
         self.open = self.last = Request(number, request_bytes(self.cluster, self.client, number, op), op, made)
         return (yield from self.again(end))
 

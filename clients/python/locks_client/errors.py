@@ -42,7 +42,8 @@ class Forked(LocksError):
         self.opened, self.here = opened, here
 
     def __str__(self) -> str:
-        return f"this client was opened in process {self.opened}, not in {self.here}: open one with another client number"
+        where = f"this client was opened in process {self.opened}, not in {self.here}"
+        return f"{where}: open one with another client number"
 
 
 class Closed(LocksError):
@@ -66,7 +67,7 @@ class StateError(LocksError):
 class InUse(StateError):
     """Another client has the state file open, and so uses the client number."""
 
-    def __init__(self, path: str, problem: str = "another client uses it; give each a number and a file of its own") -> None:
+    def __init__(self, path: str, problem: str = "another client uses it; give each one a file of its own") -> None:
         super().__init__(path, problem)
 
 

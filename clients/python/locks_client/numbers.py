@@ -11,7 +11,7 @@ from .errors import Closed, Forked, InUse, OutOfNumbers, StateError
 from .wire import MAX_COUNT, ranged
 
 BLOCK = 1_000  # numbers that one write of the file reserves
-SPARE = 16  # numbers that stay reserved after an acquire, so that a full disk cannot keep its release from being sent
+SPARE = 16  # reserved numbers that only a release takes, so that a full disk cannot keep it from being sent
 MAX_NUMBER = MAX_COUNT - (1 << 32)  # a greater one is never sent: after 2^48 a client number can ask nothing any more
 
 NEW = "begin with a first number above all that this client used, as `--first $(date +%s%3N)`"
@@ -103,9 +103,9 @@ class State:
 class Numbers:
     """Numbers of requests, each greater than all before.
 
-    first: the least number that is given. path: a file that keeps them over restarts; a file that is not there yet wants
-    a first number too. One of the two has to be given. The file is written once for a block of numbers; `close` gives
-    back those that were not used.
+    first: the least number that is given. path: a file that keeps them over restarts; a file that is not there yet
+    wants a first number too. One of the two has to be given. The file is written once for a block of numbers; `close`
+    gives back those that were not used.
     """
 
     def __init__(self, first: int | None = None, path: str | os.PathLike[str] | None = None) -> None:

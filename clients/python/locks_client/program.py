@@ -31,7 +31,7 @@ def arguments() -> argparse.ArgumentParser:
     parser = argparse.ArgumentParser(
         prog="locks-client",
         formatter_class=argparse.RawDescriptionHelpFormatter,
-        description="Sends one request to a cluster of locks and prints its answer, or holds a lock while a command runs.",
+        description="Sends one request to a cluster of locks and prints its answer, or holds a lock for a command.",
         epilog=OPS + TABLE,
     )
     add = parser.add_argument
@@ -43,7 +43,7 @@ def arguments() -> argparse.ArgumentParser:
     add("--patience", type=seconds, default=10.0, metavar="S", help="seconds until there is no answer, 10 if not given")
     add("--fail", action="store_true", help="status 1 where a single request is refused")
     add("--wait", type=seconds, default=math.inf, metavar="S", help="seconds that hold waits; for ever if not given")
-    add("--release-wait", type=seconds, default=60.0, metavar="S", help="seconds that hold tries to release, 60 if not given")
+    add("--release-wait", type=seconds, default=60.0, metavar="S", help="seconds that hold tries to release; 60")
     add("op", nargs="+", metavar="OP", help="the words of the request, or hold NAME -- COMMAND ..")
     return parser
 

@@ -1,11 +1,13 @@
 """The protocol without a socket: plans, carried out by hand under a clock of the test."""
+import os
+import tempfile
 import unittest
 from unittest import mock
 
-from fake_node import ACQUIRE, BUSY, GRANTED, RELEASE, RELEASED, elsewhere, numbered, plain, waiting
-from locks_client import NoAnswer
+from fake_node import ACQUIRE, BUSY, FREE, GRANTED, RELEASE, RELEASED, elsewhere, numbered, plain, waiting
+from locks_client import NoAnswer, StateError
 from locks_client.core import Core, Datagram, Listen, Send, Sleep
-from locks_client.numbers import Numbers
+from locks_client.numbers import BLOCK, SPARE, Numbers
 from locks_client.waits import POLLS, Polls
 
 
@@ -72,6 +74,19 @@ class CoreTest(unittest.TestCase):
         with self.assertRaises(Exception) as raised:
             self.carry_out(self.core.poll("acquire", "db", 3.0), *heard)
         self.assertEqual((str(raised.exception), self.clock.now, self.done[-1][0]), ("busy 8 3", 2.5, 2.5))
+
+    def test_a_full_disk_keeps_no_lock_held(self):
+        path = os.path.join(self.enterContext(tempfile.TemporaryDirectory()), "number")
+        numbers = self.core.numbers = Numbers(first=1, path=path)
+        self.addCleanup(numbers.close_file)
+        self.carry_out(self.core.poll("acquire", "db", 0.0), GRANTED)
+        with mock.patch.object(numbers.state, "write", side_effect=StateError(path, "full")):
+            with self.assertRaises(StateError):
+                while True:
+                    self.carry_out(self.core.ask("db"), numbered(FREE, numbers.last + 1))
+            last = numbers.last + 1
+            self.carry_out(self.core.release("db", 1), numbered(RELEASED, last))
+        self.assertEqual(last, BLOCK - SPARE + 1)
 
 
 class PollsTest(unittest.TestCase):

@@ -17,7 +17,8 @@ HELD = "held at fence 1\n"
 
 def ran(*words, **how):
     """The status and the output of a command that knows no path of this folder."""
-    known = {name: value for name, value in os.environ.items() if name != "PYTHONPATH"} | {"PIP_CONFIG_FILE": os.devnull}
+    known = {name: value for name, value in os.environ.items() if name != "PYTHONPATH"}
+    known["PIP_CONFIG_FILE"] = os.devnull
     run = subprocess.run(
         words, env=known, stdout=subprocess.PIPE, stderr=subprocess.STDOUT, text=True, timeout=100, **how
     )
