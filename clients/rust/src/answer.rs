@@ -1,46 +1,76 @@
 //! What a request is answered.
 
-use crate::{MAX_CLIENT, MAX_COUNT};
+use crate::{ClientId, MAX_COUNT};
 use std::fmt;
 
-/// An answer. A fence is 1 to 2^48, a holder is a client.
+/// What the service answers to a request. A fence is 1 to 2^48.
+///
+/// ```
+/// use locks_client::Answer;
+///
+/// assert_eq!(Answer::Granted(3).to_string(), "granted 3");
+/// ```
 #[derive(Clone, Copy, Debug, PartialEq, Eq)]
+#[non_exhaustive]
 pub enum Answer {
     /// The client holds the lock, at this fence.
     Granted(u64),
     /// It was held, maybe by the client itself.
     Busy {
-        holder: u16,
+        /// Who held it; the least client where several shared it.
+        holder: ClientId,
+        /// The fence at which it was held.
         fence: u64,
     },
+    /// The client held the lock at that fence, and no longer does.
     Released,
+    /// The client did not hold the lock at that fence.
     NotHeld,
     /// Nobody holds it. This was its last fence, 0 where it was never granted.
     Free(u64),
+    /// One client holds it alone.
     Held {
-        holder: u16,
+        /// Who holds it.
+        holder: ClientId,
+        /// The fence at which it is held.
         fence: u64,
     },
+    /// The lock was held at that fence.
     Valid,
+    /// The lock was not held at that fence.
     Stale,
+    /// The table has 512 other names.
     NoRoom,
+    /// The table does not know the request.
     Bad,
+    /// The fence of this name has reached 2^48.
     Spent,
-    /// The client is one of those that hold the lock together, at this fence.
+    /// The client is one of those that share the lock, at this fence.
     Shared(u64),
-    /// So many clients hold it together, 1 to 8.
+    /// Clients share it.
     HeldShared {
+        /// How many, 1 to 8.
         holders: u8,
+        /// The fence at which they hold it.
         fence: u64,
     },
+    /// The lock was held at that fence, and is free now.
     Broken,
+    /// The node becomes a member.
     Joined,
+    /// A member has or had this node number, or a greater one.
     Used,
+    /// The cluster has seven members.
     Full,
+    /// The node stops being a member.
     Left,
+    /// The node is no member.
     NotMember,
+    /// The node is the only member.
     Last,
+    /// The table knows share and break from now on.
     Raised,
+    /// The table knew share and break before.
     AlreadyRaised,
 }
 
@@ -59,9 +89,9 @@ fn fence(rest: &mut &[u8]) -> Option<u64> {
     take(rest, 8).filter(|fence| (1..=MAX_COUNT).contains(fence))
 }
 
-fn holder(rest: &mut &[u8]) -> Option<u16> {
+fn holder(rest: &mut &[u8]) -> Option<ClientId> {
     let holder = u16::try_from(take(rest, 2)?).ok()?;
-    (1..=MAX_CLIENT).contains(&holder).then_some(holder)
+    ClientId::new(holder).ok()
 }
 
 fn sharers(rest: &mut &[u8]) -> Option<u8> {
@@ -147,6 +177,7 @@ impl fmt::Display for Answer {
 #[cfg(test)]
 mod tests {
     use super::Answer;
+    use crate::ClientId;
 
     const FENCE_3: [u8; 8] = [0, 0, 0, 0, 0, 0, 0, 3];
 
@@ -161,7 +192,7 @@ mod tests {
     fn fields_are_read() {
         assert_eq!(read(1, &[&FENCE_3]), Some(Answer::Granted(3)));
         let busy = Answer::Busy {
-            holder: 256,
+            holder: ClientId::new(256).unwrap(),
             fence: 3,
         };
         assert_eq!(read(2, &[&[1, 0], &FENCE_3]), Some(busy));

@@ -1,115 +1,214 @@
 //! One client of a cluster.
 
+use crate::exchange::Open;
+use crate::holding::granted;
+use crate::log::Log;
+use crate::numbers::Use;
 use crate::op::{Kind, Op};
-use crate::reply::{Label, Reply};
-use crate::{Answer, Error, Lock, MAX_CLIENT, Numbers, Waits};
-use std::io::ErrorKind;
+use crate::{Answer, ClientId, ClusterId, Error, Event, Lock, Numbers};
 use std::net::{Ipv4Addr, UdpSocket};
-use std::thread;
-use std::time::{Duration, Instant};
+use std::time::Duration;
 
-/// The Elsewheres that are followed between two waits: a cluster has no more members.
-const FOLLOWED: u32 = 7;
 /// How long a request waits for its answer where nothing else is said.
 const PATIENCE: Duration = Duration::from_secs(10);
-/// The wait after a socket that could not be read.
-const PAUSE: Duration = Duration::from_millis(10);
+/// How long the drop of a lock does.
+const DROP_PATIENCE: Duration = Duration::from_secs(2);
 
 /// Who holds a name.
+///
+/// ```
+/// use locks_client::Standing;
+///
+/// fn last_fence(standing: Standing) -> u64 {
+///     match standing {
+///         Standing::Free { fence } => fence,
+///         Standing::Held { fence, .. } | Standing::HeldShared { fence, .. } => fence,
+///     }
+/// }
+/// assert_eq!(last_fence(Standing::Free { fence: 3 }), 3);
+/// ```
 #[derive(Clone, Copy, Debug, PartialEq, Eq)]
 pub enum Standing {
-    /// Nobody; this was its last fence, 0 where it was never granted.
-    Free { fence: u64 },
-    /// That client, at this fence.
-    Held { holder: u16, fence: u64 },
-    /// So many clients together, at this fence.
-    HeldShared { holders: u8, fence: u64 },
+    /// Nobody holds it.
+    Free {
+        /// The last fence, 0 where it was never granted.
+        fence: u64,
+    },
+    /// One client holds it alone.
+    Held {
+        /// Who holds it.
+        holder: ClientId,
+        /// The fence at which it is held.
+        fence: u64,
+    },
+    /// Several clients share it, or one that others may join.
+    HeldShared {
+        /// How many hold it, 1 to 8.
+        holders: u8,
+        /// The fence at which it is held.
+        fence: u64,
+    },
 }
 
-/// A request that has no answer yet.
-#[derive(Clone, Debug)]
-struct Open {
-    label: Label,
-    kind: Kind,
-    bytes: Vec<u8>,
-}
-
-/// One client of a cluster, with one socket.
+/// One client of a cluster, with one socket. It serves one thread at a time, and the process that
+/// made it alone: after a fork the child is refused.
 ///
-/// A request is sent to one node after the other, with growing waits between them ([`Waits`]), and a few Elsewheres are
-/// followed between two waits, until an answer comes or its patience is over. It takes effect at most once.
+/// A request is sent to one node after the other, with growing waits between them
+/// ([`Waits`](crate::Waits)), and a few redirections are followed between two waits, until an
+/// answer comes or its patience ends. It takes effect at most once.
+///
+#[doc = asks_a_node!()]
+/// # mod support { include!(concat!(env!("CARGO_MANIFEST_DIR"), "/tests/support/cluster.rs")); }
+/// use locks_client::{Client, ClientId, ClusterId, Error, Numbers, Standing, milliseconds};
+///
+/// # fn main() -> Result<(), Error> {
+/// # let cluster = support::Cluster::start(1);
+/// # let ports = cluster.ports();
+/// let numbers = Numbers::from_first(milliseconds())?;
+/// let mut client = Client::new(ClusterId::new(5), ClientId::new(7)?, &ports, numbers)?;
+/// let fence = client.acquire("db")?;
+/// assert!(client.check("db", fence)?);
+/// client.release("db", fence)?;
+/// assert_eq!(client.ask("db")?, Standing::Free { fence });
+/// # Ok(())
+/// # }
+/// ```
 #[derive(Debug)]
 pub struct Client {
-    cluster: u64,
-    client: u16,
-    ports: Vec<u16>,
-    numbers: Numbers,
-    patience: Duration,
-    socket: UdpSocket,
+    pub(crate) cluster: ClusterId,
+    pub(crate) client: ClientId,
+    pub(crate) ports: Vec<u16>,
+    pub(crate) numbers: Numbers,
+    pub(crate) patience: Duration,
+    pub(crate) drop_patience: Duration,
+    pub(crate) socket: UdpSocket,
     // the place in `ports` of the node that is asked next
-    turn: usize,
+    pub(crate) turn: usize,
     // the port from which the last answer came
-    leader: Option<u16>,
-    open: Option<Open>,
-}
-
-/// The answer to a request of that kind; a refusal is an error.
-fn judged(kind: Kind, answer: Answer) -> Result<Answer, Error> {
-    if !kind.fits(&answer) {
-        return Err(Error::OtherAnswer(answer));
-    }
-    match Error::refusal(&answer) {
-        Some(error) => Err(error),
-        None => Ok(answer),
-    }
+    pub(crate) leader: Option<u16>,
+    pub(crate) open: Option<Open>,
+    pub(crate) log: Log,
 }
 
 impl Client {
-    /// A client of that number, 1 to 256, which nobody else uses. It asks the nodes at these ports of 127.0.0.1, at least one.
+    /// A client of that number, which nobody else uses. It asks the nodes at these ports of
+    /// 127.0.0.1, at least one.
+    ///
+    /// [`Error::Malformed`] where there is no port, or one is 0; [`Error::OtherProcess`] where the
+    /// numbers were made before a fork; [`Error::Socket`] where no socket can be made.
     pub fn new(
-        cluster: u64,
-        client: u16,
+        cluster: ClusterId,
+        client: ClientId,
         ports: &[u16],
         numbers: Numbers,
     ) -> Result<Client, Error> {
-        if !(1..=MAX_CLIENT).contains(&client) {
-            return Err(Error::Malformed("a client is 1 to 256"));
-        }
         if ports.is_empty() || ports.contains(&0) {
-            return Err(Error::Malformed("ports are 1 to 65535, at least one"));
+            return Err(Error::malformed(
+                "ports",
+                format_args!("{ports:?}"),
+                "1 to 65535, at least one",
+            ));
         }
+        numbers.of_this_process()?;
         Ok(Client {
             cluster,
             client,
             ports: ports.to_vec(),
             numbers,
             patience: PATIENCE,
-            socket: UdpSocket::bind((Ipv4Addr::LOCALHOST, 0))?,
+            drop_patience: DROP_PATIENCE,
+            socket: UdpSocket::bind((Ipv4Addr::LOCALHOST, 0)).map_err(Error::Socket)?,
             turn: 0,
             leader: None,
             open: None,
+            log: Log::default(),
         })
     }
 
-    /// How long a request waits for its answer, ten seconds if nothing is set.
+    /// The client's number.
+    pub fn id(&self) -> ClientId {
+        self.client
+    }
+
+    /// Sets how long a request waits for its answer, at first ten seconds.
     pub fn set_patience(&mut self, patience: Duration) {
         self.patience = patience;
     }
 
-    /// Takes the lock. Its fence; `Busy`, `NoRoom` or `Spent` where it is not granted.
-    pub fn acquire(&mut self, name: &str) -> Result<u64, Error> {
-        self.fence_of(Op::Acquire(name))
+    /// Sets how long the drop of a [`Lock`] waits for the answer to its release, at first two
+    /// seconds. It never waits longer than a request does.
+    pub fn set_drop_patience(&mut self, patience: Duration) {
+        self.drop_patience = patience;
     }
 
-    /// Takes the lock, and asks again for it, for so long, while another client holds it. `Busy` where it is held then, or by
-    /// this client itself (since an earlier run); `NoAnswer` where the last request has no answer.
+    /// Sets what is called for each [`Event`]. A panic of the callback is caught.
+    ///
+    /// ```
+    /// # use locks_client::*;
+    /// # fn main() -> Result<(), Error> {
+    /// # let numbers = Numbers::from_first(milliseconds())?;
+    /// # let mut client = Client::new(ClusterId::new(5), ClientId::new(7)?, &[7001], numbers)?;
+    /// client.set_log(|event| {
+    ///     if let Event::NotReleased { .. } = event {
+    ///         eprintln!("{event}");
+    ///     }
+    /// });
+    /// # Ok(())
+    /// # }
+    /// ```
+    pub fn set_log(&mut self, callback: impl FnMut(&Event<'_>) + Send + Sync + 'static) {
+        self.log = Log::new(callback);
+    }
+
+    /// Goes on with request number `first`, or with the next one where that is greater: the way out
+    /// where each request ends with [`Error::Passed`], since the last number was lost.
+    ///
+    /// `first` has to be above all numbers that the client has used. The `last` of a Passed does
+    /// not tell that, since the node that sends it may be behind.
+    /// [`milliseconds`](crate::milliseconds) does, where the client always began so.
+    ///
+    #[doc = asks_a_node!()]
+    /// # mod support { include!(concat!(env!("CARGO_MANIFEST_DIR"), "/tests/support/cluster.rs")); }
+    /// # use locks_client::*;
+    /// # fn main() -> Result<(), Error> {
+    /// # let cluster = support::Cluster::start(1);
+    /// # cluster.client_from(7, 1_000).acquire("other")?;
+    /// # let mut client = cluster.client_from(7, 1);
+    /// if let Err(Error::Passed(_)) = client.acquire("db") {
+    ///     client.skip_to(milliseconds())?;
+    ///     client.acquire("db")?;
+    /// }
+    /// # else { panic!("not passed") }
+    /// # Ok(())
+    /// # }
+    /// ```
+    pub fn skip_to(&mut self, first: u64) -> Result<(), Error> {
+        self.numbers.skip_to(first)
+    }
+
+    /// Takes the lock. Its fence; [`Error::Busy`], [`Error::NoRoom`] or [`Error::Spent`] where it
+    /// is not granted.
+    pub fn acquire(&mut self, name: &str) -> Result<u64, Error> {
+        granted(self.request(Op::Acquire(name), Use::Request)?)
+    }
+
+    /// Takes the lock, and asks again for it while another client holds it, as long as `wait`. Its
+    /// fence.
+    ///
+    /// [`Error::Busy`] where it is held after that, or at once where this client itself holds it
+    /// (since an earlier run); [`Error::NoAnswer`] where the last request has no answer: it may
+    /// still be granted, so call [`Client::withdraw`] or [`Client::again`]. It returns within
+    /// `wait` and one patience.
+    ///
+    /// Between two requests it waits 50 ms at first, and then longer: below a second while the
+    /// fence changes, at most 2.5 seconds where it stays.
     pub fn acquire_within(&mut self, name: &str, wait: Duration) -> Result<u64, Error> {
         self.fence_within(Op::Acquire(name), wait)
     }
 
-    /// Takes a lock of a raised table together with up to seven other clients. Its fence.
+    /// Takes a lock of a raised table together with up to seven other clients. Their common fence.
     pub fn share(&mut self, name: &str) -> Result<u64, Error> {
-        self.fence_of(Op::Share(name))
+        granted(self.request(Op::Share(name), Use::Request)?)
     }
 
     /// Takes it together with others, and asks again for it as [`Client::acquire_within`] does.
@@ -117,53 +216,96 @@ impl Client {
         self.fence_within(Op::Share(name), wait)
     }
 
-    /// Holds the lock as long as the value lives; asks for it as [`Client::acquire_within`] does.
+    /// Holds the lock as long as the value lives, whose limits are those of a [`Lock`]. It asks for
+    /// the lock, and fails, as [`Client::acquire_within`] does.
     pub fn lock(&mut self, name: &str, wait: Duration) -> Result<Lock<'_>, Error> {
         let fence = self.acquire_within(name, wait)?;
         Ok(Lock::new(self, name, fence))
     }
 
-    /// Gives the lock back; `NotHeld` where this client does not hold it at that fence.
+    /// Holds the lock together with others as long as the value lives.
+    pub fn lock_shared(&mut self, name: &str, wait: Duration) -> Result<Lock<'_>, Error> {
+        let fence = self.share_within(name, wait)?;
+        Ok(Lock::new(self, name, fence))
+    }
+
+    /// Holds the lock while a block runs, and releases it after that.
+    ///
+    /// An error of the block comes first: a release that fails too is told to the log callback.
+    /// Where the block succeeds, the error of the release comes.
+    ///
+    #[doc = asks_a_node!()]
+    /// # mod support { include!(concat!(env!("CARGO_MANIFEST_DIR"), "/tests/support/cluster.rs")); }
+    /// # use locks_client::*;
+    /// # use std::time::Duration;
+    /// # fn main() -> Result<(), Error> {
+    /// # let cluster = support::Cluster::start(1);
+    /// # let mut client = cluster.client(7);
+    /// let written = client.hold("db", Duration::from_secs(60), |lock| -> Result<u64, Error> {
+    ///     // writes with lock.fence()
+    ///     Ok(lock.fence())
+    /// })?;
+    /// assert_eq!(client.ask("db")?, Standing::Free { fence: written });
+    /// # Ok(())
+    /// # }
+    /// ```
+    pub fn hold<T, E: From<Error>>(
+        &mut self,
+        name: &str,
+        wait: Duration,
+        block: impl FnOnce(&mut Lock<'_>) -> Result<T, E>,
+    ) -> Result<T, E> {
+        let mut lock = self.lock(name, wait)?;
+        let done = block(&mut lock);
+        let released = lock.release();
+        let value = done?;
+        released?;
+        Ok(value)
+    }
+
+    /// Gives the lock back; [`Error::NotHeld`] where this client does not hold it at that fence.
     pub fn release(&mut self, name: &str, fence: u64) -> Result<(), Error> {
-        self.request(Op::Release(name, fence)).map(drop)
+        self.request(Op::Release(name, fence), Use::Freeing)
+            .map(drop)
     }
 
     /// Who holds the name.
     pub fn ask(&mut self, name: &str) -> Result<Standing, Error> {
-        match self.request(Op::Ask(name))? {
-            Answer::Free(fence) => Ok(Standing::Free { fence }),
-            Answer::Held { holder, fence } => Ok(Standing::Held { holder, fence }),
-            Answer::HeldShared { holders, fence } => Ok(Standing::HeldShared { holders, fence }),
-            other => Err(Error::OtherAnswer(other)),
-        }
+        self.standing(name, Use::Request)
     }
 
     /// Whether the name was held at that fence when this was executed.
     pub fn check(&mut self, name: &str, fence: u64) -> Result<bool, Error> {
-        let answer = self.request(Op::Check(name, fence))?;
+        let answer = self.request(Op::Check(name, fence), Use::Request)?;
         Ok(answer == Answer::Valid)
     }
 
     /// Frees a name of a raised table of whoever holds it at that fence. Whether it was held at it.
+    ///
+    /// Whoever held it is not told, and may go on writing: only a resource that refuses smaller
+    /// fences is safe from that.
     pub fn break_lock(&mut self, name: &str, fence: u64) -> Result<bool, Error> {
-        let answer = self.request(Op::Break(name, fence))?;
+        let answer = self.request(Op::Break(name, fence), Use::Freeing)?;
         Ok(answer == Answer::Broken)
     }
 
-    /// Raises the table, so that it knows share and break. Whether it was not raised before.
+    /// Raises the table for ever, so that it knows share and break. Whether it was not raised
+    /// before.
+    ///
+    /// Each node has to run a program that knows this, also those that are down.
     pub fn raise_table(&mut self) -> Result<bool, Error> {
-        let answer = self.request(Op::Raise)?;
+        let answer = self.request(Op::Raise, Use::Request)?;
         Ok(answer == Answer::Raised)
     }
 
-    /// Makes a node a member; `Used` or `Full` where it is not made one.
+    /// Makes a node a member; [`Error::Used`] or [`Error::Full`] where it is not made one.
     pub fn join(&mut self, node: u32, port: u16) -> Result<(), Error> {
-        self.request(Op::Join(node, port)).map(drop)
+        self.request(Op::Join(node, port), Use::Request).map(drop)
     }
 
-    /// Ends a node's membership; `NotMember` or `Last` where it is not ended.
+    /// Ends a node's membership; [`Error::NotMember`] or [`Error::Last`] where it is not ended.
     pub fn leave(&mut self, node: u32) -> Result<(), Error> {
-        self.request(Op::Leave(node)).map(drop)
+        self.request(Op::Leave(node), Use::Request).map(drop)
     }
 
     /// Whether a request has no answer yet.
@@ -171,166 +313,65 @@ impl Client {
         self.open.is_some()
     }
 
-    /// Asks once more for the answer of the request that has none yet. It takes effect at most once.
+    /// Asks once more for the answer of the request that has none yet. It takes effect at most
+    /// once.
     pub fn again(&mut self) -> Result<Answer, Error> {
-        let Some(open) = self.open.clone() else {
-            return Err(Error::NothingAsked);
-        };
-        let answer = self.exchange(&open)?;
-        self.open = None;
-        judged(open.kind, answer)
+        self.answer_of_open()
     }
 
-    /// Gives up the request that has no answer yet: after `Ok` it has taken effect or never will. Who holds the name.
+    /// Gives up the request that has no answer yet: after `Ok` it has taken effect or never will.
+    /// Who holds the name.
+    ///
+    /// Where this client holds it, the grant may be one of an earlier run; [`Client::withdraw`]
+    /// tells them apart.
     pub fn give_up(&mut self, name: &str) -> Result<Standing, Error> {
         self.open = None;
-        self.ask(name)
+        self.standing(name, Use::Freeing)
     }
 
-    /// Gives up an acquire that has no answer, and the lock where it was granted after all. Whether it was.
-    pub fn withdraw(&mut self, name: &str) -> Result<bool, Error> {
-        match self.give_up(name)? {
-            Standing::Held { holder, fence } if holder == self.client => {
-                self.release(name, fence)?;
-                Ok(true)
-            }
-            _ => Ok(false),
+    /// Gives up an acquire or a share that has no answer, and releases the lock where it was
+    /// granted by it. Whether it was.
+    ///
+    /// It asks for the answer once more, since that alone tells this grant from one of an earlier
+    /// run, or from a share that others have. After [`Error::NoAnswer`] call it again;
+    /// [`Error::NothingAsked`] where no such request is open.
+    ///
+    #[doc = asks_a_node!()]
+    /// # mod support { include!(concat!(env!("CARGO_MANIFEST_DIR"), "/tests/support/cluster.rs")); }
+    /// # use locks_client::*;
+    /// # use std::time::Duration;
+    /// # fn main() -> Result<(), Error> {
+    /// # let mut cluster = support::Cluster::start(1);
+    /// # let mut client = cluster.client(7);
+    /// # client.ask("db")?;
+    /// # cluster.down(1);
+    /// # client.set_patience(Duration::from_millis(100));
+    /// if let Err(Error::NoAnswer) = client.acquire("db") {
+    ///     # cluster.up(1);
+    ///     # client.set_patience(Duration::from_secs(30));
+    ///     client.withdraw()?;
+    /// }
+    /// assert!(matches!(client.ask("db")?, Standing::Free { .. }));
+    /// # Ok(())
+    /// # }
+    /// ```
+    pub fn withdraw(&mut self) -> Result<bool, Error> {
+        let open = self.open.as_ref().ok_or(Error::NothingAsked)?;
+        match (open.kind, open.name.clone()) {
+            (_, Some(name)) => self.withdraw_grant(&name),
+            // the release of a withdraw that had no answer
+            (Kind::Release, None) => self.again().map(|_| true),
+            _ => Err(Error::NothingAsked),
         }
     }
 
-    /// The fence of a grant.
-    fn fence_of(&mut self, op: Op<'_>) -> Result<u64, Error> {
-        match self.request(op)? {
-            Answer::Granted(fence) | Answer::Shared(fence) => Ok(fence),
+    /// Who holds the name.
+    fn standing(&mut self, name: &str, used_for: Use) -> Result<Standing, Error> {
+        match self.request(Op::Ask(name), used_for)? {
+            Answer::Free(fence) => Ok(Standing::Free { fence }),
+            Answer::Held { holder, fence } => Ok(Standing::Held { holder, fence }),
+            Answer::HeldShared { holders, fence } => Ok(Standing::HeldShared { holders, fence }),
             other => Err(Error::OtherAnswer(other)),
-        }
-    }
-
-    /// The fence of a grant, for which is asked again while another client holds the name.
-    fn fence_within(&mut self, op: Op<'_>, wait: Duration) -> Result<u64, Error> {
-        let start = Instant::now();
-        let mut waits = Waits::default();
-        loop {
-            let found = self.fence_before(op, start, wait);
-            let left = wait.saturating_sub(start.elapsed());
-            match found {
-                Err(Error::Busy { holder, .. }) if holder != self.client && !left.is_zero() => {
-                    thread::sleep(waits.next().unwrap_or(PAUSE).min(left));
-                }
-                found => return found,
-            }
-        }
-    }
-
-    /// The fence of a grant, whose answer is asked for again while there is none and time is left.
-    fn fence_before(&mut self, op: Op<'_>, start: Instant, wait: Duration) -> Result<u64, Error> {
-        let mut found = self.fence_of(op);
-        while matches!(found, Err(Error::NoAnswer)) && start.elapsed() < wait {
-            found = match self.again() {
-                Ok(Answer::Granted(fence) | Answer::Shared(fence)) => Ok(fence),
-                Ok(other) => Err(Error::OtherAnswer(other)),
-                Err(error) => Err(error),
-            };
-        }
-        found
-    }
-
-    /// The answer to an op under a new number.
-    fn request(&mut self, op: Op<'_>) -> Result<Answer, Error> {
-        if self.is_waiting() {
-            return Err(Error::Unanswered);
-        }
-        op.write(&mut Vec::new())?; // so that nothing malformed uses a number up
-        let label = Label {
-            cluster: self.cluster,
-            client: self.client,
-            number: self.numbers.take()?,
-        };
-        self.open = Some(Open {
-            label,
-            kind: op.kind(),
-            bytes: label.request(&op)?,
-        });
-        self.again()
-    }
-
-    /// Sends a request to one node after the other until its answer comes.
-    fn exchange(&mut self, open: &Open) -> Result<Answer, Error> {
-        let start = Instant::now();
-        let mut port = self.leader.unwrap_or(self.ports[self.turn]);
-        for wait in Waits::default() {
-            self.send(&open.bytes, port);
-            let left = self.patience.saturating_sub(start.elapsed());
-            if let Some(answer) = self.answer_by(open, Instant::now() + wait.min(left))? {
-                return Ok(answer);
-            }
-            if start.elapsed() >= self.patience {
-                break;
-            }
-            port = self.port_after(port);
-        }
-        Err(Error::NoAnswer)
-    }
-
-    /// The answer that comes by then. A few Elsewheres are followed.
-    fn answer_by(&mut self, open: &Open, until: Instant) -> Result<Option<Answer>, Error> {
-        let mut followed = 0;
-        while let Some((reply, port)) = self.receive(&open.label, until)? {
-            match reply {
-                Reply::Answer(answer) => {
-                    self.leader = Some(port);
-                    return Ok(Some(answer));
-                }
-                Reply::Passed(last) => {
-                    self.open = None;
-                    return Err(Error::Passed(last));
-                }
-                Reply::Elsewhere(other) if followed < FOLLOWED => {
-                    followed += 1;
-                    self.send(&open.bytes, other);
-                }
-                Reply::Elsewhere(_) => {}
-            }
-        }
-        Ok(None)
-    }
-
-    /// The next port in turn, another one than the silent one where there is one.
-    fn port_after(&mut self, silent: u16) -> u16 {
-        self.leader = None;
-        for _ in 0..self.ports.len() {
-            self.turn = (self.turn + 1) % self.ports.len();
-            if self.ports[self.turn] != silent {
-                break;
-            }
-        }
-        self.ports[self.turn]
-    }
-
-    /// Sends the bytes. One that cannot be sent counts as lost.
-    fn send(&self, bytes: &[u8], port: u16) {
-        let _ = self.socket.send_to(bytes, (Ipv4Addr::LOCALHOST, port));
-    }
-
-    /// The first reply to the request that comes by then, with the port it came from. All else is dropped.
-    fn receive(&self, label: &Label, until: Instant) -> Result<Option<(Reply, u16)>, Error> {
-        let mut buffer = [0; 64];
-        loop {
-            let left = until.saturating_duration_since(Instant::now());
-            if left.is_zero() {
-                return Ok(None);
-            }
-            self.socket.set_read_timeout(Some(left))?;
-            match self.socket.recv_from(&mut buffer) {
-                Ok((length, from)) => {
-                    if let Some(reply) = label.reply(&buffer[..length]) {
-                        return Ok(Some((reply, from.port())));
-                    }
-                }
-                Err(error)
-                    if matches!(error.kind(), ErrorKind::WouldBlock | ErrorKind::TimedOut) => {}
-                Err(_) => thread::sleep(PAUSE.min(left)),
-            }
         }
     }
 }

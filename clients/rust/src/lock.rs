@@ -2,10 +2,41 @@
 
 use crate::{Client, Error};
 
-/// A lock that a client holds. It is released at [`Lock::release`], or where the value is dropped.
+/// A lock that a client holds. [`Lock::release`] releases it, or the end of the value's life.
 ///
-/// While it lives, whoever guards a resource is told its fence with each write.
+/// ```no_run
+/// # use locks_client::{Client, Error};
+/// # use std::time::Duration;
+/// # fn write(_: u64) -> Result<(), Error> { Ok(()) }
+/// # fn f(client: &mut Client) -> Result<(), Error> {
+/// let lock = client.lock("db", Duration::from_secs(60))?;
+/// write(lock.fence())?; // where this fails, the lock is released all the same
+/// lock.release()?; // tells whether it was
+/// # Ok(())
+/// # }
+/// ```
+///
+/// # Limits
+///
+/// - **The fence is what protects the resource**, and not the value. While the value lives,
+///   somebody may break the lock, and nobody tells the client. So pass [`Lock::fence`] with each
+///   write, and let the resource refuse a smaller one than it has seen.
+/// - **A lock does not expire.** It stays held where the value is not dropped: after `kill -9`, a
+///   power cut, an abort (a panic under `panic = "abort"`, or a second one), `std::process::exit`,
+///   or `std::mem::forget`. The next run is answered `Busy` with its own client number.
+///   [`Client::ask`] then tells the fence to release it at, once nothing of the old run works any
+///   more.
+/// - **A drop is bounded and silent.** It waits for the answer to its release two seconds at most,
+///   or as [`Client::set_drop_patience`] says, and tells a failure to the log callback alone. The
+///   lock may then stay held, and the release is open: [`Client::again`] asks for its answer. Call
+///   [`Lock::release`], or use [`Client::hold`], to be told.
+/// - **A drop also happens while a panic unwinds**, and neither hides the panic nor raises another
+///   one.
+/// - **A release gives up a request that is open**: once it is answered, that one has taken effect
+///   or never will. Where it was an acquire of another lock, call [`Client::withdraw`] first.
+/// - **After a fork the child does not release the lock** of its parent, nor can it.
 #[derive(Debug)]
+#[must_use = "the lock is released where the value is dropped"]
 pub struct Lock<'a> {
     client: &'a mut Client,
     name: String,
@@ -28,30 +59,47 @@ impl<'a> Lock<'a> {
         self.fence
     }
 
-    /// The client, to ask more of it meanwhile.
+    /// The lock's name.
+    pub fn name(&self) -> &str {
+        &self.name
+    }
+
+    /// The client, for further requests while the lock is held.
     pub fn client(&mut self) -> &mut Client {
         self.client
     }
 
-    /// Gives the lock back; `Error::NotHeld` where somebody has broken it. A request that is open is given up first.
+    /// Releases the lock.
+    ///
+    /// [`Error::NotHeld`] where somebody has broken it; [`Error::NotReleased`] where the release
+    /// failed, which names the lock and its fence: it may still be held. After [`Error::NoAnswer`]
+    /// as the cause, [`Client::again`] asks for the answer once more; else release it by
+    /// [`Client::release`].
     pub fn release(mut self) -> Result<(), Error> {
-        self.end()
+        match self.end() {
+            Ok(()) => Ok(()),
+            Err(Error::NotHeld) => Err(Error::NotHeld),
+            Err(cause) => Err(Error::NotReleased {
+                name: self.name.clone(),
+                fence: self.fence,
+                cause: Box::new(cause),
+            }),
+        }
     }
 
     fn end(&mut self) -> Result<(), Error> {
         self.is_released = true;
-        if self.client.is_waiting() {
-            self.client.give_up(&self.name)?;
-        }
-        self.client.release(&self.name, self.fence)
+        self.client.free(&self.name, self.fence)
     }
 }
 
 impl Drop for Lock<'_> {
-    /// Releases it, if that was not done. Nobody is told where that fails: the lock may then stay held.
+    /// Releases it, if that was not done.
     fn drop(&mut self) {
         if !self.is_released {
+            let before = self.client.bounded();
             let _ = self.end();
+            self.client.set_patience(before);
         }
     }
 }

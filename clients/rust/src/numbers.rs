@@ -1,191 +1,168 @@
 //! Numbers of requests, each greater than all before.
 
+use crate::state::State;
 use crate::{Error, MAX_COUNT};
-use std::ffi::OsString;
-use std::fs::{self, File, TryLockError};
-use std::io::{ErrorKind, Write};
-use std::path::{Path, PathBuf};
+use std::path::Path;
+use std::process;
 use std::time::{SystemTime, UNIX_EPOCH};
+
+/// The greatest number that is used. With the last one, 2^48, the client could never ask again.
+pub(crate) const END: u64 = MAX_COUNT - 1_000_000;
+/// How many numbers are kept at once.
+const BLOCK: u64 = 1_000;
+/// How many kept numbers are left for what frees a lock, so that it needs no disk.
+const SPARE: u64 = 100;
+
+/// What a number is taken for.
+#[derive(Clone, Copy, Debug, PartialEq, Eq)]
+pub(crate) enum Use {
+    /// A request that may be refused where the state file cannot be written.
+    Request,
+    /// A request that frees a lock, or gives up an earlier one.
+    Freeing,
+}
 
 /// The numbers of a client's requests, each greater than all before.
 ///
-/// A number that was used is answered as it was, whatever it now asks, so a client has to know where its numbers go on: it
-/// keeps the last one in a file ([`Numbers::kept_in`]), or is told the first one ([`Numbers::from_first`]).
+/// A node answers a number that was used before as it did then, whatever it now asks. So a client
+/// has to know where its numbers go on. It keeps them in a state file ([`Numbers::kept_in`],
+/// [`Numbers::begun_in`]), or is told the first one ([`Numbers::from_first`]).
+///
+/// The state file holds a number in decimal digits and a newline: all numbers that were used are at
+/// most as great. It is written before the first request, and once for each thousand from then on:
+/// a client that ends leaves the rest of its thousand unused. The file `PATH.lock` beside it is
+/// locked while a client uses it.
+///
+/// ```
+/// use locks_client::{Numbers, milliseconds};
+///
+/// # fn main() -> Result<(), locks_client::Error> {
+/// let path = std::env::temp_dir().join(format!("client7-{}", std::process::id()));
+/// Numbers::kept_in(&path).expect_err("there is no such file yet");
+/// let numbers = Numbers::begun_in(&path, milliseconds())?;
+/// Numbers::kept_in(&path).expect_err("another client uses it");
+/// # Ok(())
+/// # }
+/// ```
 #[derive(Debug)]
 pub struct Numbers {
+    // the last number that was used, and the last one that may be used before more are kept
     last: u64,
+    reserved: u64,
     state: Option<State>,
+    // the process that may use them
+    owner: u32,
 }
 
-/// The file that keeps the last number, and the one beside it that is locked by this process alone.
-#[derive(Debug)]
-struct State {
-    path: PathBuf,
-    _lock: File,
-}
-
-/// The milliseconds since 1970: a first number above all that a client used that begins so each time, as long as the clock
-/// is not set back and the client asks less than a thousand times a second. It is 1 where the clock stands before 1970.
+/// The milliseconds since 1970, a first number for a client that does not know its last one.
+///
+/// It is above all numbers that the client used as long as each earlier run began so too, the clock
+/// was not set back, and the client asked less than a thousand times a second. A run with a state
+/// file counts for a thousand requests at least.
+///
+/// ```
+/// use locks_client::{Numbers, milliseconds};
+///
+/// assert!(milliseconds() > 1_700_000_000_000);
+/// Numbers::from_first(milliseconds()).unwrap();
+/// ```
 pub fn milliseconds() -> u64 {
     let since = SystemTime::now()
         .duration_since(UNIX_EPOCH)
         .unwrap_or_default();
     u64::try_from(since.as_millis())
-        .unwrap_or(MAX_COUNT)
-        .clamp(1, MAX_COUNT)
+        .unwrap_or(END)
+        .clamp(1, END)
 }
 
-/// The path with some letters more.
-fn beside(path: &Path, more: &str) -> PathBuf {
-    let mut name = OsString::from(path);
-    name.push(more);
-    PathBuf::from(name)
-}
-
-/// The number that a file keeps, or `None` where there is no file.
-fn kept(path: &Path) -> Result<Option<u64>, Error> {
-    let text = match fs::read_to_string(path) {
-        Ok(text) => text,
-        Err(error) if error.kind() == ErrorKind::NotFound => return Ok(None),
-        Err(error) => return Err(error.into()),
-    };
-    match text.trim_end().parse() {
-        Ok(number @ 1..=MAX_COUNT) => Ok(Some(number)),
-        _ => Err(Error::NoNumber(path.to_path_buf())),
+/// A number that a caller tells.
+fn told(number: u64) -> Result<u64, Error> {
+    if !(1..=END).contains(&number) {
+        return Err(Error::malformed("number", number, "1 to 2^48 - 1000000"));
     }
-}
-
-impl State {
-    /// The state at a path; `Error::InUse` where another process uses it.
-    fn open(path: &Path) -> Result<State, Error> {
-        let lock = File::create(beside(path, ".lock"))?;
-        match lock.try_lock() {
-            Ok(()) => Ok(State {
-                path: path.to_path_buf(),
-                _lock: lock,
-            }),
-            Err(TryLockError::WouldBlock) => Err(Error::InUse(path.to_path_buf())),
-            Err(TryLockError::Error(error)) => Err(error.into()),
-        }
-    }
-
-    /// Writes the number to a new file and puts that in place of the old one, so that one of the two stands.
-    fn keep(&self, number: u64) -> Result<(), Error> {
-        let new = beside(&self.path, ".new");
-        let mut file = File::create(&new)?;
-        writeln!(file, "{number}")?;
-        file.sync_all()?;
-        fs::rename(&new, &self.path)?;
-        let folder = match self.path.parent() {
-            Some(parent) if !parent.as_os_str().is_empty() => parent,
-            _ => Path::new("."),
-        };
-        Ok(File::open(folder)?.sync_all()?)
-    }
+    Ok(number)
 }
 
 impl Numbers {
-    /// Numbers from this one on, 1 to 2^48. [`milliseconds`] is a good one.
-    pub fn from_first(first: u64) -> Result<Numbers, Error> {
-        if !(1..=MAX_COUNT).contains(&first) {
-            return Err(Error::Malformed("a number is 1 to 2^48"));
-        }
-        Ok(Numbers {
-            last: first - 1,
-            state: None,
-        })
-    }
-
-    /// Numbers that go on from the last one that the file keeps, also after a restart. A new file goes on from the
-    /// milliseconds since 1970, since an earlier one of this client may have been lost. `Error::InUse` where another process
-    /// has the file.
-    pub fn kept_in(path: impl AsRef<Path>) -> Result<Numbers, Error> {
-        let state = State::open(path.as_ref())?;
-        let last = match kept(path.as_ref())? {
-            Some(last) => last,
-            None => milliseconds() - 1,
-        };
-        Ok(Numbers {
+    fn new(last: u64, reserved: u64, state: Option<State>) -> Numbers {
+        Numbers {
             last,
-            state: Some(state),
-        })
+            reserved,
+            state,
+            owner: process::id(),
+        }
     }
 
-    /// The next number, kept before it is used.
-    pub(crate) fn take(&mut self) -> Result<u64, Error> {
-        if self.last >= MAX_COUNT {
-            return Err(Error::Malformed("a number is 1 to 2^48"));
+    /// Numbers from `first` on, 1 to 2^48 - 1,000,000, which no file keeps. [`milliseconds`] is a
+    /// sensible first number; **1 is not**, unless the client number was never used.
+    pub fn from_first(first: u64) -> Result<Numbers, Error> {
+        Ok(Numbers::new(told(first)? - 1, END, None))
+    }
+
+    /// Numbers that go on above the one that the state file keeps.
+    ///
+    /// [`Error::State`] where the file is missing, damaged or in use; then it is left as it is. A
+    /// symbolic link stands for the file that it leads to.
+    pub fn kept_in(path: impl AsRef<Path>) -> Result<Numbers, Error> {
+        let (state, kept) = State::open(path.as_ref(), false)?;
+        let last = kept.unwrap_or(0);
+        Ok(Numbers::new(last, last, Some(state)))
+    }
+
+    /// The same, but not below `first`, and from `first` on where there is no file yet.
+    ///
+    /// The first request makes the file. An empty or damaged one is refused here too.
+    pub fn begun_in(path: impl AsRef<Path>, first: u64) -> Result<Numbers, Error> {
+        let first = told(first)?;
+        let (state, kept) = State::open(path.as_ref(), true)?;
+        let last = kept.unwrap_or(0).max(first - 1);
+        Ok(Numbers::new(last, last, Some(state)))
+    }
+
+    /// Goes on from `first` or above, and keeps that.
+    pub(crate) fn skip_to(&mut self, first: u64) -> Result<(), Error> {
+        self.of_this_process()?;
+        if told(first)? > self.last + 1 {
+            self.last = first - 1;
+            self.reserved = self.reserved.max(self.last);
+        }
+        match self.state {
+            Some(_) => self.reserve(),
+            None => Ok(()),
+        }
+    }
+
+    /// Refuses another process than the one that made them: a child has the same numbers after a
+    /// fork.
+    pub(crate) fn of_this_process(&self) -> Result<(), Error> {
+        if process::id() != self.owner {
+            return Err(Error::OtherProcess(self.owner));
+        }
+        Ok(())
+    }
+
+    /// The next number. It is kept before it is used.
+    pub(crate) fn take(&mut self, used_for: Use) -> Result<u64, Error> {
+        self.of_this_process()?;
+        let spare = if used_for == Use::Freeing { 0 } else { SPARE };
+        if self.reserved - self.last <= spare {
+            self.reserve()?;
         }
         self.last += 1;
-        if let Some(state) = &self.state {
-            state.keep(self.last)?;
-        }
         Ok(self.last)
+    }
+
+    /// Keeps the next thousand numbers.
+    fn reserve(&mut self) -> Result<(), Error> {
+        let reserved = self.last + BLOCK;
+        match &mut self.state {
+            Some(state) if reserved <= END => state.keep(reserved)?,
+            _ => return Err(Error::UsedUp),
+        }
+        self.reserved = reserved;
+        Ok(())
     }
 }
 
 #[cfg(test)]
-mod tests {
-    use super::{Numbers, milliseconds};
-    use crate::Error;
-    use std::path::PathBuf;
-    use std::{env, fs, process};
-
-    /// A file that goes with the test.
-    struct Scratch(PathBuf);
-
-    impl Scratch {
-        fn new(name: &str) -> Scratch {
-            let folder = env::temp_dir().join(format!("locks-{}-{name}", process::id()));
-            fs::create_dir_all(&folder).unwrap();
-            Scratch(folder.join("number"))
-        }
-    }
-
-    impl Drop for Scratch {
-        fn drop(&mut self) {
-            let _ = fs::remove_dir_all(self.0.parent().unwrap());
-        }
-    }
-
-    #[test]
-    fn numbers_rise_from_the_first() {
-        let mut numbers = Numbers::from_first(9).unwrap();
-        assert_eq!([numbers.take().unwrap(), numbers.take().unwrap()], [9, 10]);
-        assert!(matches!(Numbers::from_first(0), Err(Error::Malformed(_))));
-        let mut last = Numbers::from_first(1 << 48).unwrap();
-        assert_eq!(last.take().unwrap(), 1 << 48);
-        assert!(matches!(last.take(), Err(Error::Malformed(_))));
-    }
-
-    #[test]
-    fn numbers_rise_over_restarts() {
-        let scratch = Scratch::new("restarts");
-        fs::write(&scratch.0, "41\n").unwrap();
-        for number in 42..45 {
-            let mut numbers = Numbers::kept_in(&scratch.0).unwrap();
-            assert_eq!(numbers.take().unwrap(), number);
-        }
-    }
-
-    #[test]
-    fn a_file_that_was_lost_does_not_begin_at_one() {
-        let scratch = Scratch::new("lost");
-        let now = milliseconds();
-        let number = Numbers::kept_in(&scratch.0).unwrap().take().unwrap();
-        assert!((now..now + 60_000).contains(&number));
-    }
-
-    #[test]
-    fn a_file_has_one_owner_and_a_number() {
-        let scratch = Scratch::new("owner");
-        let owner = Numbers::kept_in(&scratch.0).unwrap();
-        assert!(matches!(Numbers::kept_in(&scratch.0), Err(Error::InUse(_))));
-        drop(owner);
-        fs::write(&scratch.0, "0\n").unwrap();
-        assert!(matches!(
-            Numbers::kept_in(&scratch.0),
-            Err(Error::NoNumber(_))
-        ));
-    }
-}
+mod tests;

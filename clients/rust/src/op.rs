@@ -17,7 +17,7 @@ pub(crate) enum Op<'a> {
 }
 
 /// Which answers fit: those to an op of the same kind.
-#[derive(Clone, Copy, Debug)]
+#[derive(Clone, Copy, Debug, PartialEq, Eq)]
 pub(crate) enum Kind {
     Acquire,
     Release,
@@ -37,10 +37,18 @@ const RAISED_VERSION: u8 = 2;
 fn write_name(name: &str, out: &mut Vec<u8>) -> Result<(), Error> {
     let is_letter = |byte| matches!(byte, b'a'..=b'z' | b'0'..=b'9' | b'-' | b'.' | b'/');
     if !name.bytes().all(is_letter) {
-        return Err(Error::Malformed("a name has other letters"));
+        return Err(Error::malformed(
+            "name",
+            format_args!("{name:?}"),
+            "of a-z, 0-9, -, . and /",
+        ));
     }
     let Some(length @ 1..=32) = u8::try_from(name.len()).ok() else {
-        return Err(Error::Malformed("a name has 1 to 32 bytes"));
+        return Err(Error::malformed(
+            "name",
+            format_args!("{name:?}"),
+            "1 to 32 bytes long",
+        ));
     };
     out.push(length);
     out.extend_from_slice(name.as_bytes());
@@ -50,7 +58,7 @@ fn write_name(name: &str, out: &mut Vec<u8>) -> Result<(), Error> {
 /// A fence, 1 to 2^48.
 fn write_fence(fence: u64, out: &mut Vec<u8>) -> Result<(), Error> {
     if !(1..=MAX_COUNT).contains(&fence) {
-        return Err(Error::Malformed("a fence is 1 to 2^48"));
+        return Err(Error::malformed("fence", fence, "1 to 2^48"));
     }
     out.extend_from_slice(&fence.to_be_bytes());
     Ok(())
@@ -59,7 +67,7 @@ fn write_fence(fence: u64, out: &mut Vec<u8>) -> Result<(), Error> {
 /// A node, 1 to 2^31.
 fn write_node(node: u32, out: &mut Vec<u8>) -> Result<(), Error> {
     if !(1..=MAX_NODE).contains(&node) {
-        return Err(Error::Malformed("a node is 1 to 2^31"));
+        return Err(Error::malformed("node", node, "1 to 2^31"));
     }
     out.extend_from_slice(&node.to_be_bytes());
     Ok(())
@@ -68,7 +76,7 @@ fn write_node(node: u32, out: &mut Vec<u8>) -> Result<(), Error> {
 /// A port, not 0.
 fn write_port(port: u16, out: &mut Vec<u8>) -> Result<(), Error> {
     if port == 0 {
-        return Err(Error::Malformed("a port is 1 to 65535"));
+        return Err(Error::malformed("port", port, "1 to 65535"));
     }
     out.extend_from_slice(&port.to_be_bytes());
     Ok(())
@@ -111,6 +119,14 @@ impl Op<'_> {
                 out.extend_from_slice(&[3, RAISED_VERSION]);
                 Ok(())
             }
+        }
+    }
+
+    /// The lock that it wants to hold.
+    pub(crate) fn wanted(&self) -> Option<&str> {
+        match self {
+            Op::Acquire(name) | Op::Share(name) => Some(name),
+            _ => None,
         }
     }
 

@@ -1,6 +1,6 @@
-//! How long to wait between two sends.
+//! How long to wait before a request is sent again, or a lock is asked for again.
 
-use std::hash::{BuildHasher, Hasher, RandomState};
+use std::hash::{BuildHasher, RandomState};
 use std::time::Duration;
 
 /// The waits one after the other; the last one again and again.
@@ -11,16 +11,51 @@ const STEPS: [Duration; 4] = [
     Duration::from_secs(4),
 ];
 
-/// Waits that grow, 0.5, 1, 2, 4, 4, .. seconds, each times a random 0.75 to 1.25, so that clients do not ask in step.
+/// The same for a lock that is held.
+const BUSY_STEPS: [Duration; 7] = [
+    Duration::from_millis(50),
+    Duration::from_millis(100),
+    Duration::from_millis(200),
+    Duration::from_millis(400),
+    Duration::from_millis(750),
+    Duration::from_millis(1500),
+    Duration::from_millis(2000),
+];
+/// The step beyond which only a lock goes whose holder stays: up to it a scattered wait is shorter
+/// than a second.
+const CHANGING: usize = 4;
+
+/// Waits between two sends of a request: 0.5, 1, 2, 4, 4, .. seconds, each times a random 0.75 to
+/// 1.25, so that clients do not ask in step.
+///
+/// ```
+/// use locks_client::Waits;
+/// use std::time::Duration;
+///
+/// let first = Waits::default().next().unwrap();
+/// assert!(first >= Duration::from_millis(375) && first <= Duration::from_millis(625));
+/// ```
 #[derive(Clone, Debug, Default)]
 pub struct Waits {
     step: usize,
 }
 
+/// Waits between two requests for a lock that is held, scattered too. They begin at 50 ms, and stay
+/// below a second while the fence changes from one request to the next.
+#[derive(Clone, Debug, Default)]
+pub(crate) struct BusyWaits {
+    step: usize,
+    fence: Option<u64>,
+}
+
 /// A random number from 0 on, below 1.
 fn random() -> f64 {
-    let bits = RandomState::new().build_hasher().finish();
+    let bits = RandomState::new().hash_one(0_u8);
     (bits >> 11) as f64 / (1_u64 << 53) as f64
+}
+
+fn scattered(wait: Duration) -> Duration {
+    wait.mul_f64(0.75 + 0.5 * random())
 }
 
 impl Iterator for Waits {
@@ -29,13 +64,26 @@ impl Iterator for Waits {
     fn next(&mut self) -> Option<Duration> {
         let wait = STEPS[self.step];
         self.step = (self.step + 1).min(STEPS.len() - 1);
-        Some(wait.mul_f64(0.75 + 0.5 * random()))
+        Some(scattered(wait))
+    }
+}
+
+impl BusyWaits {
+    /// How long to wait where the lock is held at that fence.
+    pub(crate) fn after(&mut self, fence: u64) -> Duration {
+        let most = match self.fence.replace(fence) {
+            Some(before) if before != fence => CHANGING,
+            _ => BUSY_STEPS.len() - 1,
+        };
+        let wait = BUSY_STEPS[self.step.min(most)];
+        self.step = (self.step + 1).min(most);
+        scattered(wait)
     }
 }
 
 #[cfg(test)]
 mod tests {
-    use super::Waits;
+    use super::{BusyWaits, Waits};
 
     #[test]
     fn waits_grow_and_are_scattered() {
@@ -45,5 +93,26 @@ mod tests {
         }
         let firsts: Vec<_> = (0..8).filter_map(|_| Waits::default().next()).collect();
         assert!(firsts.iter().any(|it| *it != firsts[0]));
+    }
+
+    #[test]
+    fn a_lock_whose_holder_stays_is_asked_for_less_often() {
+        let mut waits = BusyWaits::default();
+        for most in [50, 100, 200, 400, 750, 1500, 2000, 2000] {
+            let part = waits.after(3).as_secs_f64() * 1000.0 / f64::from(most);
+            assert!((0.75..=1.25).contains(&part), "{part}");
+        }
+    }
+
+    #[test]
+    fn waits_stay_below_a_second_while_the_holder_changes() {
+        let mut waits = BusyWaits::default();
+        for fence in 1..100 {
+            assert!(waits.after(fence).as_millis() < 1000);
+        }
+        for _ in 0..9 {
+            waits.after(100);
+        }
+        assert!(waits.after(101).as_millis() < 1000);
     }
 }

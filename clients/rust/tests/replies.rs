@@ -1,92 +1,20 @@
 //! A client against nodes that reply what a test says.
 
-use locks_client::{Client, Error, Numbers, Standing};
-use std::net::UdpSocket;
-use std::thread::{self, JoinHandle};
+#[path = "support/scripted.rs"]
+mod support;
+
+use locks_client::{Client, ClientId, ClusterId, Error, Numbers, Standing};
+use std::sync::{Arc, Mutex};
 use std::time::{Duration, Instant};
+use support::{
+    BUSY, GRANTED, Node, OWN_BUSY, RELEASED, answer, bound, client, elsewhere, hex, op, reply,
+};
 
 const ACQUIRE: &str = "4c4b0109 0000000000000005 00000000 0007 0000000000000001 00 04 01026462";
-const GRANTED: &str = "01 0000000000000001";
-const BUSY: &str = "02 0008 0000000000000003";
-const OWN_BUSY: &str = "02 0007 0000000000000003";
-
-/// The bytes of hex digits with spaces between them.
-fn hex(text: &str) -> Vec<u8> {
-    let digits: Vec<u32> = text.chars().filter_map(|it| it.to_digit(16)).collect();
-    digits
-        .chunks(2)
-        .map(|pair| (pair[0] * 16 + pair[1]) as u8)
-        .collect()
-}
-
-/// A reply of node 1 to that number of client 7.
-fn reply(kind: u8, number: u64, fields: &str) -> Vec<u8> {
-    let head = format!("4c4b01{kind:02x} 0000000000000005 00000001 0007 {number:016x}");
-    hex(&format!("{head} {fields}"))
-}
-
-fn answer(number: u64, fields: &str) -> Vec<u8> {
-    reply(10, number, fields)
-}
-
-fn elsewhere(port: u16) -> Vec<u8> {
-    reply(11, 1, &format!("00000002 {port:04x}"))
-}
-
-/// A node that takes datagrams in turn and replies to each what its row says.
-struct Node {
-    port: u16,
-    heard: JoinHandle<Vec<Vec<u8>>>,
-}
-
-fn bound() -> (UdpSocket, u16) {
-    let socket = UdpSocket::bind("127.0.0.1:0").unwrap();
-    let port = socket.local_addr().unwrap().port();
-    (socket, port)
-}
-
-impl Node {
-    fn new(rows: Vec<Vec<Vec<u8>>>) -> Node {
-        let (socket, port) = bound();
-        Node::on(socket, port, rows)
-    }
-
-    fn on(socket: UdpSocket, port: u16, rows: Vec<Vec<Vec<u8>>>) -> Node {
-        socket
-            .set_read_timeout(Some(Duration::from_secs(5)))
-            .unwrap();
-        let heard = thread::spawn(move || serve(&socket, rows));
-        Node { port, heard }
-    }
-
-    /// What it heard, once each row was used or nothing has come for five seconds.
-    fn heard(self) -> Vec<Vec<u8>> {
-        self.heard.join().unwrap()
-    }
-}
-
-fn serve(socket: &UdpSocket, rows: Vec<Vec<Vec<u8>>>) -> Vec<Vec<u8>> {
-    let mut heard = Vec::new();
-    for row in rows {
-        let mut buffer = [0; 100];
-        let Ok((length, from)) = socket.recv_from(&mut buffer) else {
-            break;
-        };
-        heard.push(buffer[..length].to_vec());
-        for reply in row {
-            socket.send_to(&reply, from).unwrap();
-        }
-    }
-    heard
-}
-
-fn client(ports: &[u16]) -> Client {
-    Client::new(5, 7, ports, Numbers::from_first(1).unwrap()).unwrap()
-}
 
 #[test]
 fn the_exchange_of_the_page() {
-    let node = Node::new(vec![vec![answer(1, GRANTED)], vec![answer(2, "03")]]);
+    let node = Node::new(vec![vec![answer(1, GRANTED)], vec![answer(2, RELEASED)]]);
     let mut client = client(&[node.port]);
     assert_eq!(client.acquire("db").unwrap(), 1);
     client.release("db", 1).unwrap();
@@ -98,7 +26,7 @@ fn the_exchange_of_the_page() {
 #[test]
 fn a_silent_node_is_left_for_the_next() {
     let silent = Node::new(vec![vec![answer(9, GRANTED)]]);
-    let node = Node::new(vec![vec![answer(1, GRANTED)], vec![answer(2, "03")]]);
+    let node = Node::new(vec![vec![answer(1, GRANTED)], vec![answer(2, RELEASED)]]);
     let mut client = client(&[silent.port, node.port]);
     assert_eq!(client.acquire("db").unwrap(), 1);
     client.release("db", 1).unwrap();
@@ -130,13 +58,7 @@ fn elsewheres_are_counted_anew_after_each_wait() {
 fn refusals_and_standings_are_told() {
     let asked = |fields: &str| client(&[Node::new(vec![vec![answer(1, fields)]]).port]);
     let busy = asked(BUSY).acquire("db");
-    assert!(matches!(
-        busy,
-        Err(Error::Busy {
-            holder: 8,
-            fence: 3
-        })
-    ));
+    assert_eq!(busy.unwrap_err().to_string(), "busy 8 3");
     let free = asked("05 0000000000000000").ask("db").unwrap();
     assert_eq!(free, Standing::Free { fence: 0 });
     let shared = asked("0d 02 0000000000000001").ask("db").unwrap();
@@ -183,47 +105,137 @@ fn a_lock_is_asked_for_until_a_deadline() {
 fn what_this_client_holds_itself_is_not_waited_for() {
     let node = Node::new(vec![vec![answer(1, OWN_BUSY)]]);
     let busy = client(&[node.port]).acquire_within("db", Duration::MAX);
-    assert!(matches!(busy, Err(Error::Busy { holder: 7, .. })));
+    assert_eq!(busy.unwrap_err().to_string(), "busy 7 3");
 }
 
 #[test]
 fn what_has_no_answer_is_asked_again_or_given_up() {
     let held = answer(2, "06 0007 0000000000000003");
-    let node = Node::new(vec![vec![], vec![], vec![held], vec![answer(3, "03")]]);
+    let node = Node::new(vec![vec![], vec![], vec![held], vec![answer(3, RELEASED)]]);
     let mut client = client(&[node.port]);
     client.set_patience(Duration::from_millis(100));
     assert!(matches!(client.acquire("db"), Err(Error::NoAnswer)));
     assert!(matches!(client.ask("db"), Err(Error::Unanswered)));
     assert!(matches!(client.again(), Err(Error::NoAnswer)));
     client.set_patience(Duration::from_secs(5));
-    assert!(client.withdraw("db").unwrap());
+    let held = Standing::Held {
+        holder: client.id(),
+        fence: 3,
+    };
+    assert_eq!(client.give_up("db").unwrap(), held);
     assert!(matches!(client.again(), Err(Error::NothingAsked)));
-    assert_eq!(
-        node.heard()[3][26..],
-        hex("00 0c 02026462 0000000000000003")
-    );
+    assert!(matches!(client.withdraw(), Err(Error::NothingAsked)));
+    client.release("db", 3).unwrap();
+    assert_eq!(node.ops()[2..], [op(3, None), op(2, Some(3))]);
+}
+
+/// What a withdraw comes to where the request without an answer is answered so, and the ops that
+/// the node hears by it.
+fn withdrawn(is_shared: bool, fields: &str) -> (bool, Vec<Vec<u8>>) {
+    let mut rows = vec![vec![], vec![answer(1, fields)]];
+    if fields != OWN_BUSY {
+        rows.push(vec![answer(2, RELEASED)]);
+    }
+    let node = Node::new(rows);
+    let mut client = client(&[node.port]);
+    client.set_patience(Duration::from_millis(200));
+    let asked = match is_shared {
+        true => client.share("db"),
+        false => client.acquire("db"),
+    };
+    assert!(matches!(asked, Err(Error::NoAnswer)));
+    let was_granted = client.withdraw().unwrap();
+    assert!(!client.is_waiting());
+    (was_granted, node.ops()[1..].to_vec())
 }
 
 #[test]
-fn a_lock_is_held_while_a_value_lives() {
-    let node = Node::new(vec![vec![answer(1, GRANTED)], vec![answer(2, "03")]]);
+fn a_grant_is_withdrawn() {
+    let ops = vec![op(1, None), op(2, Some(1))];
+    assert_eq!(withdrawn(false, GRANTED), (true, ops));
+}
+
+#[test]
+fn a_share_is_withdrawn() {
+    let ops = vec![op(5, None), op(2, Some(4))];
+    let shared = "0c 0000000000000004";
+    assert_eq!(withdrawn(true, shared), (true, ops));
+}
+
+#[test]
+fn a_grant_of_an_earlier_run_is_not_withdrawn() {
+    assert_eq!(withdrawn(false, OWN_BUSY), (false, vec![op(1, None)]));
+    assert_eq!(withdrawn(true, OWN_BUSY), (false, vec![op(5, None)]));
+}
+
+#[test]
+fn a_withdraw_goes_on_where_its_release_has_no_answer() {
+    let node = Node::new(vec![
+        vec![],
+        vec![answer(1, GRANTED)],
+        vec![],
+        vec![answer(2, RELEASED)],
+    ]);
     let mut client = client(&[node.port]);
-    let lock = client.lock("db", Duration::ZERO).unwrap();
-    assert_eq!(lock.fence(), 1);
-    drop(lock);
-    assert_eq!(
-        node.heard()[1][26..],
-        hex("00 0c 02026462 0000000000000001")
-    );
+    client.set_patience(Duration::from_millis(200));
+    assert!(matches!(client.acquire("db"), Err(Error::NoAnswer)));
+    assert!(matches!(client.withdraw(), Err(Error::NoAnswer)));
+    assert!(client.withdraw().unwrap());
+    assert_eq!(node.ops()[2..], [op(2, Some(1)), op(2, Some(1))]);
+}
+
+#[test]
+fn numbers_that_were_passed_are_skipped() {
+    let node = Node::new(vec![
+        vec![reply(12, 1, "0000000000000009")],
+        vec![answer(10, GRANTED)],
+    ]);
+    let mut client = client(&[node.port]);
+    assert!(matches!(client.acquire("db"), Err(Error::Passed(9))));
+    client.skip_to(10).unwrap();
+    assert_eq!(client.acquire("db").unwrap(), 1);
 }
 
 #[test]
 fn a_client_has_a_number_and_ports() {
-    for (number, ports) in [(0, &[7001][..]), (257, &[7001]), (7, &[]), (7, &[0])] {
-        let numbers = Numbers::from_first(1).unwrap();
-        assert!(matches!(
-            Client::new(5, number, ports, numbers),
-            Err(Error::Malformed(_))
-        ));
+    for number in [0, 257] {
+        let refused = ClientId::new(number).unwrap_err().to_string();
+        assert_eq!(
+            refused,
+            format!("invalid client {number}: must be 1 to 256")
+        );
     }
+    for ports in [&[][..], &[0], &[7001, 0]] {
+        let (numbers, id) = (Numbers::from_first(1).unwrap(), ClientId::new(7).unwrap());
+        let refused = Client::new(ClusterId::new(5), id, ports, numbers);
+        assert!(matches!(refused, Err(Error::Malformed(_))));
+    }
+}
+
+/// What the client logs.
+fn logged(client: &mut Client) -> Arc<Mutex<Vec<String>>> {
+    let events = Arc::new(Mutex::new(Vec::new()));
+    let kept = Arc::clone(&events);
+    client.set_log(move |event| kept.lock().unwrap().push(event.to_string()));
+    events
+}
+
+#[test]
+fn events_are_told() {
+    let node = Node::new(vec![vec![answer(1, BUSY)], vec![answer(2, GRANTED)]]);
+    let mut client = client(&[node.port]);
+    let events = logged(&mut client);
+    client
+        .acquire_within("db", Duration::from_secs(10))
+        .unwrap();
+    let port = node.port;
+    let mut events = events.lock().unwrap().clone();
+    assert!(events.remove(2).starts_with("busy 8 3: asks again in "));
+    let expected = [
+        format!("request 1 sent to port {port}"),
+        format!("request 1: port {port} answers busy 8 3"),
+        format!("request 2 sent to port {port}"),
+        format!("request 2: port {port} answers granted 1"),
+    ];
+    assert_eq!(events, expected);
 }

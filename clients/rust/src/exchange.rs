@@ -1,0 +1,176 @@
+//! How a client sends a request, and waits for its answer.
+
+use crate::numbers::Use;
+use crate::op::{Kind, Op};
+use crate::reply::{Label, Reply};
+use crate::{Answer, Client, Error, Event, Waits};
+use std::io::ErrorKind;
+use std::net::Ipv4Addr;
+use std::thread;
+use std::time::{Duration, Instant};
+
+/// The Elsewheres that are followed between two waits: a cluster has no more members.
+const FOLLOWED: u32 = 7;
+/// The wait after a socket that could not be read.
+const PAUSE: Duration = Duration::from_millis(10);
+
+/// A request that has no answer yet.
+#[derive(Clone, Debug)]
+pub(crate) struct Open {
+    label: Label,
+    pub(crate) kind: Kind,
+    // the lock that an acquire or a share asks for
+    pub(crate) name: Option<String>,
+    bytes: Vec<u8>,
+}
+
+/// The answer to a request of that kind; a refusal is an error.
+fn judged(kind: Kind, answer: Answer) -> Result<Answer, Error> {
+    if !kind.fits(&answer) {
+        return Err(Error::OtherAnswer(answer));
+    }
+    match Error::refusal(&answer) {
+        Some(error) => Err(error),
+        None => Ok(answer),
+    }
+}
+
+impl Client {
+    /// The answer to an op under a new number.
+    pub(crate) fn request(&mut self, op: Op<'_>, used_for: Use) -> Result<Answer, Error> {
+        if self.is_waiting() {
+            return Err(Error::Unanswered);
+        }
+        op.write(&mut Vec::new())?; // so that nothing malformed uses a number up
+        let label = Label {
+            cluster: self.cluster.get(),
+            client: self.client.get(),
+            number: self.numbers.take(used_for)?,
+        };
+        self.open = Some(Open {
+            label,
+            kind: op.kind(),
+            name: op.wanted().map(str::to_owned),
+            bytes: label.request(&op)?,
+        });
+        self.answer_of_open()
+    }
+
+    /// The answer to the request that is open.
+    pub(crate) fn answer_of_open(&mut self) -> Result<Answer, Error> {
+        let Some(open) = self.open.clone() else {
+            return Err(Error::NothingAsked);
+        };
+        self.numbers.of_this_process()?;
+        let answer = self.exchange(&open)?;
+        self.open = None;
+        judged(open.kind, answer)
+    }
+
+    /// Sends a request to one node after the other until its answer comes.
+    fn exchange(&mut self, open: &Open) -> Result<Answer, Error> {
+        let start = Instant::now();
+        let mut port = self.leader.unwrap_or(self.ports[self.turn]);
+        for wait in Waits::default() {
+            self.send(open, port);
+            let left = self.patience.saturating_sub(start.elapsed());
+            if let Some(answer) = self.answer_by(open, Instant::now() + wait.min(left))? {
+                return Ok(answer);
+            }
+            if start.elapsed() >= self.patience {
+                break;
+            }
+            port = self.port_after(port);
+        }
+        let number = open.label.number;
+        self.log.tell(&Event::Unanswered { number });
+        Err(Error::NoAnswer)
+    }
+
+    /// The answer that comes by then. A few Elsewheres are followed.
+    fn answer_by(&mut self, open: &Open, until: Instant) -> Result<Option<Answer>, Error> {
+        let mut followed = 0;
+        while let Some((reply, port)) = self.receive(&open.label, until)? {
+            self.tell(open.label.number, port, &reply);
+            match reply {
+                Reply::Answer(answer) => {
+                    self.leader = Some(port);
+                    return Ok(Some(answer));
+                }
+                Reply::Passed(last) => {
+                    self.open = None;
+                    return Err(Error::Passed(last));
+                }
+                Reply::Elsewhere(other) if followed < FOLLOWED => {
+                    followed += 1;
+                    self.send(open, other);
+                }
+                Reply::Elsewhere(_) => {}
+            }
+        }
+        Ok(None)
+    }
+
+    /// Tells the log of a reply.
+    fn tell(&mut self, number: u64, port: u16, reply: &Reply) {
+        self.log.tell(&match *reply {
+            Reply::Answer(answer) => Event::Answered {
+                number,
+                port,
+                answer,
+            },
+            Reply::Passed(last) => Event::Passed { number, last },
+            Reply::Elsewhere(other) => Event::Elsewhere {
+                number,
+                port,
+                other,
+            },
+        });
+    }
+
+    /// The next port in turn, another one than the silent one where there is one.
+    fn port_after(&mut self, silent: u16) -> u16 {
+        self.leader = None;
+        for _ in 0..self.ports.len() {
+            self.turn = (self.turn + 1) % self.ports.len();
+            if self.ports[self.turn] != silent {
+                break;
+            }
+        }
+        self.ports[self.turn]
+    }
+
+    /// Sends the request. One that cannot be sent counts as lost.
+    fn send(&mut self, open: &Open, port: u16) {
+        let number = open.label.number;
+        self.log.tell(&Event::Sent { number, port });
+        let _ = self
+            .socket
+            .send_to(&open.bytes, (Ipv4Addr::LOCALHOST, port));
+    }
+
+    /// The first reply to the request that comes by then, with the port it came from. All else is
+    /// dropped.
+    fn receive(&self, label: &Label, until: Instant) -> Result<Option<(Reply, u16)>, Error> {
+        let mut buffer = [0; 64];
+        loop {
+            let left = until.saturating_duration_since(Instant::now());
+            if left.is_zero() {
+                return Ok(None);
+            }
+            self.socket
+                .set_read_timeout(Some(left))
+                .map_err(Error::Socket)?;
+            match self.socket.recv_from(&mut buffer) {
+                Ok((length, from)) => {
+                    if let Some(reply) = label.reply(&buffer[..length]) {
+                        return Ok(Some((reply, from.port())));
+                    }
+                }
+                Err(error)
+                    if matches!(error.kind(), ErrorKind::WouldBlock | ErrorKind::TimedOut) => {}
+                Err(_) => thread::sleep(PAUSE.min(left)),
+            }
+        }
+    }
+}

@@ -1,0 +1,131 @@
+//! What a client tells of itself while it works.
+
+use crate::{Answer, ClientId, Error};
+use std::fmt;
+use std::panic::{AssertUnwindSafe, catch_unwind};
+use std::time::Duration;
+
+/// What happens in a client, for the callback that [`Client::set_log`](crate::Client::set_log)
+/// takes.
+///
+/// ```
+/// use locks_client::Event;
+///
+/// let sent = Event::Sent { number: 3, port: 7001 };
+/// assert_eq!(sent.to_string(), "request 3 sent to port 7001");
+/// ```
+#[derive(Debug)]
+#[non_exhaustive]
+pub enum Event<'a> {
+    /// A request was sent to a node, for the first time or again.
+    Sent {
+        /// The number of the request.
+        number: u64,
+        /// The node's port.
+        port: u16,
+    },
+    /// A node named another one that may lead.
+    Elsewhere {
+        /// The number of the request.
+        number: u64,
+        /// The port of the node that replied.
+        port: u16,
+        /// The port of the node that it named.
+        other: u16,
+    },
+    /// A request was answered; a refusal is an answer too.
+    Answered {
+        /// The number of the request.
+        number: u64,
+        /// The port of the node that answered.
+        port: u16,
+        /// The answer.
+        answer: Answer,
+    },
+    /// A request will not be executed any more: one with a greater number was.
+    Passed {
+        /// The number of the request.
+        number: u64,
+        /// The greater number.
+        last: u64,
+    },
+    /// No answer came in time.
+    Unanswered {
+        /// The number of the request.
+        number: u64,
+    },
+    /// A lock is held, and is asked for again after a pause.
+    Waiting {
+        /// Who holds it.
+        holder: ClientId,
+        /// The fence at which it is held.
+        fence: u64,
+        /// The pause.
+        pause: Duration,
+    },
+    /// The release of a guarded lock failed: the lock may still be held.
+    NotReleased {
+        /// The lock's name.
+        name: &'a str,
+        /// The fence at which it was held.
+        fence: u64,
+        /// Why the release failed.
+        cause: &'a Error,
+    },
+}
+
+impl fmt::Display for Event<'_> {
+    fn fmt(&self, f: &mut fmt::Formatter<'_>) -> fmt::Result {
+        match self {
+            Event::Sent { number, port } => write!(f, "request {number} sent to port {port}"),
+            Event::Elsewhere {
+                number,
+                port,
+                other,
+            } => write!(f, "request {number}: port {port} names port {other}"),
+            Event::Answered {
+                number,
+                port,
+                answer,
+            } => write!(f, "request {number}: port {port} answers {answer}"),
+            Event::Passed { number, last } => write!(f, "request {number}: passed {last}"),
+            Event::Unanswered { number } => write!(f, "request {number}: no answer"),
+            Event::Waiting {
+                holder,
+                fence,
+                pause,
+            } => write!(f, "busy {holder} {fence}: asks again in {pause:?}"),
+            Event::NotReleased { name, fence, cause } => {
+                write!(f, "{name} was not released at {fence}: {cause}")
+            }
+        }
+    }
+}
+
+type Callback = Box<dyn FnMut(&Event<'_>) + Send + Sync>;
+
+/// The callback of a client, if it has one.
+#[derive(Default)]
+pub(crate) struct Log(Option<Callback>);
+
+impl Log {
+    pub(crate) fn new(callback: impl FnMut(&Event<'_>) + Send + Sync + 'static) -> Log {
+        Log(Some(Box::new(callback)))
+    }
+
+    /// Calls it. A panic of its own ends there: it may run in a `drop` while another one unwinds.
+    pub(crate) fn tell(&mut self, event: &Event<'_>) {
+        let Log(Some(callback)) = self else { return };
+        let _ = catch_unwind(AssertUnwindSafe(|| callback(event)));
+    }
+}
+
+impl fmt::Debug for Log {
+    fn fmt(&self, f: &mut fmt::Formatter<'_>) -> fmt::Result {
+        f.write_str(if self.0.is_some() {
+            "Log(set)"
+        } else {
+            "Log(unset)"
+        })
+    }
+}

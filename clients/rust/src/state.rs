@@ -1,0 +1,178 @@
+//! The file that keeps the last number of a client.
+
+use crate::numbers::END;
+use crate::{Error, StateFault};
+use std::ffi::OsString;
+use std::fs::{self, File, OpenOptions, TryLockError};
+use std::io::{self, ErrorKind, Write};
+use std::os::unix::fs::MetadataExt;
+use std::path::{Path, PathBuf};
+
+/// A state file, and the lock file beside it, which this client alone has locked.
+#[derive(Debug)]
+pub(crate) struct State {
+    path: PathBuf,
+    // no number in the file is greater, unless another program has written it
+    greatest: u64,
+    _lock: File,
+}
+
+/// Appends a suffix to the file name.
+fn beside(path: &Path, suffix: &str) -> PathBuf {
+    let mut name = OsString::from(path);
+    name.push(suffix);
+    PathBuf::from(name)
+}
+
+/// The folder of a file.
+fn folder(path: &Path) -> &Path {
+    match path.parent() {
+        Some(parent) if !parent.as_os_str().is_empty() => parent,
+        _ => Path::new("."),
+    }
+}
+
+/// The one path of a file that may have several, by symbolic links; also of a file that is missing.
+fn resolved(path: &Path) -> io::Result<PathBuf> {
+    match fs::canonicalize(path) {
+        Err(error) if error.kind() == ErrorKind::NotFound => {}
+        found => return found,
+    }
+    if let Ok(target) = fs::read_link(path) {
+        return resolved(&folder(path).join(target));
+    }
+    let name = path.file_name().ok_or(ErrorKind::InvalidInput)?;
+    Ok(fs::canonicalize(folder(path))?.join(name))
+}
+
+/// The number that the text of a state file is.
+fn parsed(text: &[u8]) -> Result<u64, StateFault> {
+    let (digits, end) = match text {
+        [] => return Err(StateFault::Empty),
+        [digits @ .., b'\n'] => (digits, true),
+        digits => (digits, false),
+    };
+    if digits.is_empty() || !digits.iter().all(u8::is_ascii_digit) {
+        return Err(StateFault::NotANumber);
+    }
+    if !end {
+        return Err(StateFault::Cut);
+    }
+    let number = digits.iter().try_fold(0_u64, |number, digit| {
+        number.checked_mul(10)?.checked_add(u64::from(digit - b'0'))
+    });
+    match number {
+        None | Some(0) => Err(StateFault::NotANumber),
+        Some(number) if number > END => Err(StateFault::TooGreat(number)),
+        Some(number) => Ok(number),
+    }
+}
+
+/// The number that a file keeps.
+fn kept(path: &Path) -> Result<u64, StateFault> {
+    let metadata = fs::metadata(path).map_err(|error| match error.kind() {
+        ErrorKind::NotFound => StateFault::Missing,
+        _ => StateFault::Unreadable(error),
+    })?;
+    if !metadata.is_file() {
+        return Err(StateFault::NotAFile);
+    }
+    if metadata.nlink() > 1 {
+        return Err(StateFault::Linked);
+    }
+    parsed(&fs::read(path).map_err(StateFault::Unreadable)?)
+}
+
+/// Opens the lock file beside a state file, and locks it.
+fn locked(path: &Path) -> Result<File, StateFault> {
+    let lock = OpenOptions::new()
+        .write(true)
+        .create(true)
+        .truncate(false)
+        .open(beside(path, ".lock"))
+        .map_err(StateFault::Unwritable)?;
+    match lock.try_lock() {
+        Ok(()) => Ok(lock),
+        Err(TryLockError::WouldBlock) => Err(StateFault::InUse),
+        Err(TryLockError::Error(error)) => Err(StateFault::Unwritable(error)),
+    }
+}
+
+/// Writes a number to a new file and puts that in place of the old one, so that one of the two
+/// survives a power cut.
+fn write(path: &Path, number: u64) -> io::Result<()> {
+    let new = beside(path, ".new");
+    let mut file = File::create(&new)?;
+    writeln!(file, "{number}")?;
+    file.sync_all()?;
+    fs::rename(&new, path)?;
+    File::open(folder(path))?.sync_all()
+}
+
+impl State {
+    /// The state at a path, and the number that it keeps. Without `or_new` the file has to be
+    /// there.
+    pub(crate) fn open(path: &Path, or_new: bool) -> Result<(State, Option<u64>), Error> {
+        let real = resolved(path).map_err(|error| match error.kind() {
+            ErrorKind::NotFound if !or_new => StateFault::Missing.of(path),
+            _ => StateFault::Unwritable(error).of(path),
+        })?;
+        State::open_resolved(&real, or_new).map_err(|fault| fault.of(path))
+    }
+
+    fn open_resolved(path: &Path, or_new: bool) -> Result<(State, Option<u64>), StateFault> {
+        if !or_new {
+            kept(path)?; // so that no lock file is made for a file that is missing
+        }
+        let lock = locked(path)?;
+        let number = match kept(path) {
+            Ok(number) => Some(number),
+            Err(StateFault::Missing) if or_new => None,
+            Err(fault) => return Err(fault),
+        };
+        let state = State {
+            path: path.to_path_buf(),
+            greatest: number.unwrap_or(0),
+            _lock: lock,
+        };
+        Ok((state, number))
+    }
+
+    /// Keeps a number that is greater than all before.
+    pub(crate) fn keep(&mut self, number: u64) -> Result<(), Error> {
+        match kept(&self.path) {
+            Ok(found) if found > self.greatest => Err(StateFault::Changed),
+            Ok(_) | Err(StateFault::Missing) => Ok(()),
+            Err(fault) => Err(fault),
+        }
+        .map_err(|fault| fault.of(&self.path))?;
+        self.greatest = number;
+        write(&self.path, number).map_err(|error| StateFault::Unwritable(error).of(&self.path))
+    }
+}
+
+#[cfg(test)]
+mod tests {
+    use super::parsed;
+
+    #[test]
+    fn a_text_is_a_number_and_a_newline() {
+        assert!(matches!(parsed(b"41\n"), Ok(41)));
+        let rows: [(&[u8], &str); 10] = [
+            (b"", "empty; "),
+            (b"41", "cut short; "),
+            (b"\n", "not a number; "),
+            (b"0\n", "not a number; "),
+            (b"+41\n", "not a number; "),
+            (b" 41\n", "not a number; "),
+            (b"41\n\n", "not a number; "),
+            (b"41 \n", "not a number; "),
+            (b"99999999999999999999\n", "not a number; "),
+            (b"281474976710656\n", "281474976710656 is too near 2^48; "),
+        ];
+        for (text, expected) in rows {
+            let fault = parsed(text).unwrap_err().to_string();
+            assert!(fault.starts_with(expected), "{text:?}: {fault}");
+        }
+    }
+}

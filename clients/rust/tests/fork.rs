@@ -1,0 +1,78 @@
+//! A client belongs to the process that made it.
+
+#[path = "support/scripted.rs"]
+#[allow(dead_code)]
+mod support;
+
+use locks_client::{Client, ClientId, ClusterId, Error, Numbers};
+use std::process;
+use std::time::Duration;
+use support::{GRANTED, Node, RELEASED, answer, client, op};
+
+unsafe extern "C" {
+    fn fork() -> i32;
+    fn waitpid(process: i32, status: *mut i32, options: i32) -> i32;
+    fn _exit(status: i32) -> !;
+}
+
+/// Whether the block returns true in a child of this process.
+fn in_a_child(block: impl FnOnce() -> bool) -> bool {
+    let child = unsafe { fork() };
+    if child == 0 {
+        let is_good = block();
+        unsafe { _exit(i32::from(!is_good)) };
+    }
+    let mut status = -1;
+    assert_eq!(unsafe { waitpid(child, &mut status, 0) }, child);
+    status == 0
+}
+
+fn is_refused<T>(result: Result<T, Error>, parent: u32) -> bool {
+    matches!(result, Err(Error::OtherProcess(owner)) if owner == parent)
+}
+
+#[test]
+fn a_child_is_refused() {
+    let node = Node::new(vec![vec![answer(1, GRANTED)]]);
+    let (mut client, parent) = (client(&[node.port]), process::id());
+    assert!(in_a_child(|| is_refused(client.acquire("db"), parent)));
+    assert!(in_a_child(|| is_refused(client.skip_to(9), parent)));
+    assert_eq!(client.acquire("db").unwrap(), 1);
+}
+
+#[test]
+fn a_child_is_refused_the_answer_of_an_open_request() {
+    let node = Node::new(vec![vec![], vec![answer(1, GRANTED)]]);
+    let (mut client, parent) = (client(&[node.port]), process::id());
+    client.set_patience(Duration::from_millis(100));
+    assert!(matches!(client.acquire("db"), Err(Error::NoAnswer)));
+    assert!(in_a_child(|| is_refused(client.again(), parent)));
+    assert!(in_a_child(|| is_refused(client.withdraw(), parent)));
+    assert!(in_a_child(|| is_refused(client.give_up("db"), parent)));
+    client.again().unwrap();
+    assert_eq!(node.heard().len(), 2);
+}
+
+#[test]
+fn a_child_makes_no_client_of_numbers_of_its_parent() {
+    let numbers = Numbers::from_first(1).unwrap();
+    let parent = process::id();
+    assert!(in_a_child(|| {
+        let id = ClientId::new(7).unwrap();
+        is_refused(Client::new(ClusterId::new(5), id, &[7001], numbers), parent)
+    }));
+}
+
+#[test]
+fn a_child_does_not_release_a_lock_of_its_parent() {
+    let node = Node::new(vec![vec![answer(1, GRANTED)], vec![answer(2, RELEASED)]]);
+    let mut client = client(&[node.port]);
+    let lock = client.lock("db", Duration::ZERO).unwrap();
+    let mut lock = Some(lock);
+    assert!(in_a_child(|| {
+        drop(lock.take());
+        true
+    }));
+    lock.unwrap().release().unwrap();
+    assert_eq!(node.ops(), [op(1, None), op(2, Some(1))]);
+}

@@ -1,0 +1,107 @@
+// Nodes of the program that LOCKS_PROGRAM names. Examples include this file too.
+
+use locks_client::{Client, ClientId, ClusterId, Numbers, milliseconds};
+use std::net::UdpSocket;
+use std::path::PathBuf;
+use std::process::{Child, Command, Stdio};
+use std::sync::atomic::{AtomicU32, Ordering};
+use std::time::Duration;
+use std::{env, fs, process};
+
+static CLUSTERS: AtomicU32 = AtomicU32::new(0);
+
+/// Ports of 127.0.0.1 that nothing is bound to now.
+pub fn free_ports(count: usize) -> Vec<u16> {
+    let sockets: Vec<_> = (0..count)
+        .map(|_| UdpSocket::bind("127.0.0.1:0").unwrap())
+        .collect();
+    let port = |socket: &UdpSocket| socket.local_addr().unwrap().port();
+    sockets.iter().map(port).collect()
+}
+
+/// Processes of `locks node`, numbered from 1, whose stores stand in a folder of their own.
+pub struct Cluster {
+    program: String,
+    folder: PathBuf,
+    genesis: String,
+    nodes: Vec<(u16, Option<Child>)>,
+}
+
+impl Cluster {
+    /// So many nodes, all running.
+    pub fn start(count: usize) -> Cluster {
+        let number = CLUSTERS.fetch_add(1, Ordering::Relaxed);
+        let ports = free_ports(count);
+        let members = (1..)
+            .zip(&ports)
+            .map(|(node, port)| format!(",{node}:{port}"));
+        let mut cluster = Cluster {
+            program: env::var("LOCKS_PROGRAM").unwrap(),
+            folder: env::temp_dir().join(format!("locks-cluster-{}-{number}", process::id())),
+            genesis: format!("5,8{}", members.collect::<String>()),
+            nodes: Vec::new(),
+        };
+        for port in ports {
+            cluster.add(port);
+        }
+        cluster
+    }
+
+    /// Starts a further node.
+    pub fn add(&mut self, port: u16) {
+        self.nodes.push((port, None));
+        self.up(self.nodes.len());
+    }
+
+    /// Starts a node, on what its folder holds.
+    pub fn up(&mut self, node: usize) {
+        let folder = self.folder.join(node.to_string());
+        fs::create_dir_all(&folder).unwrap();
+        let (port, process) = &mut self.nodes[node - 1];
+        let child = Command::new(&self.program)
+            .args(["node", "--genesis", &self.genesis])
+            .args(["--number", &node.to_string(), "--port", &port.to_string()])
+            .arg("--dir")
+            .arg(folder)
+            .stdin(Stdio::null())
+            .spawn();
+        *process = Some(child.unwrap());
+    }
+
+    /// Kills a node: it has no time to do anything more.
+    pub fn down(&mut self, node: usize) {
+        if let Some(mut child) = self.nodes[node - 1].1.take() {
+            child.kill().unwrap();
+            child.wait().unwrap();
+        }
+    }
+
+    pub fn ports(&self) -> Vec<u16> {
+        self.nodes.iter().map(|(port, _)| *port).collect()
+    }
+
+    pub fn client(&self, number: u16) -> Client {
+        self.client_from(number, milliseconds())
+    }
+
+    /// A client whose numbers go on from that one.
+    pub fn client_from(&self, number: u16, first: u64) -> Client {
+        self.client_of(number, Numbers::from_first(first).unwrap())
+    }
+
+    pub fn client_of(&self, number: u16, numbers: Numbers) -> Client {
+        let id = ClientId::new(number).unwrap();
+        let mut client = Client::new(ClusterId::new(5), id, &self.ports(), numbers).unwrap();
+        client.set_patience(Duration::from_secs(30));
+        client
+    }
+}
+
+impl Drop for Cluster {
+    fn drop(&mut self) {
+        for node in 1..=self.nodes.len() {
+            self.down(node);
+        }
+        let _ = fs::remove_dir_all(&self.folder);
+    }
+}
