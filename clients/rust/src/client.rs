@@ -94,7 +94,7 @@ impl Client {
     /// A client of that number, which nobody else uses. It asks the nodes at these ports of
     /// 127.0.0.1, at least one.
     ///
-    /// [`Error::Malformed`] where there is no port, or one is 0; [`Error::OtherProcess`] where the
+    /// [`Error::Malformed`] where there is no port, or one is 0; [`Error::Forked`] where the
     /// numbers were made before a fork; [`Error::Socket`] where no socket can be made.
     pub fn new(
         cluster: ClusterId,
@@ -196,12 +196,12 @@ impl Client {
     /// fence.
     ///
     /// [`Error::Busy`] where it is held after that, or at once where this client itself holds it
-    /// (since an earlier run); [`Error::NoAnswer`] where the last request has no answer: it may
-    /// still be granted, so call [`Client::withdraw`] or [`Client::again`]. It returns within
-    /// `wait` and one patience.
+    /// (since an earlier run); [`Error::NoAnswer`] where the last request has no answer: it may still
+    /// be granted, so call [`Client::withdraw`] or [`Client::again`]. It returns within `wait`, or
+    /// within its patience where that is longer.
     ///
-    /// Between two requests it waits 50 ms at first, and then longer: below a second while the
-    /// fence changes, at most 2.5 seconds where it stays.
+    /// Between two requests it waits 50 ms at first, and then longer: below a second for the first
+    /// half minute, and while the fence changes; 2.5 seconds at most where it stays.
     pub fn acquire_within(&mut self, name: &str, wait: Duration) -> Result<u64, Error> {
         self.fence_within(Op::Acquire(name), wait)
     }
@@ -316,7 +316,7 @@ impl Client {
     /// Asks once more for the answer of the request that has none yet. It takes effect at most
     /// once.
     pub fn again(&mut self) -> Result<Answer, Error> {
-        self.answer_of_open()
+        self.answer_of_open(self.patience)
     }
 
     /// Gives up the request that has no answer yet: after `Ok` it has taken effect or never will.

@@ -33,17 +33,22 @@ pub enum Error {
     Passed(u64),
     /// This answers another request: the number was used before.
     OtherAnswer(Answer),
-    /// The process was forked after the client, or its numbers, had been made by this process id.
-    OtherProcess(u32),
+    /// The client, or its numbers, were made in another process, before a fork.
+    Forked {
+        /// The process in which they were made.
+        opened: u32,
+        /// This process.
+        here: u32,
+    },
     /// The state file cannot be used.
     State {
-        /// The file, as it was named, or where its links lead.
+        /// The file; where a symbolic link was named, the one that it leads to.
         path: PathBuf,
         /// What is wrong with it.
         fault: StateFault,
     },
-    /// The client has used its numbers up, but for the last million.
-    UsedUp,
+    /// The client has used its numbers up, all to 2^48 - 2^32.
+    OutOfNumbers,
     /// A lock was not released, and may still be held.
     NotReleased {
         /// The lock's name.
@@ -99,31 +104,23 @@ pub enum Error {
 pub enum StateFault {
     /// There is no file.
     Missing,
-    /// The file is empty.
-    Empty,
-    /// The file does not end with a newline, so digits may be missing.
-    Cut,
-    /// The file does not hold one decimal number and a newline.
-    NotANumber,
-    /// The number leaves the client fewer than a million numbers.
-    TooGreat(u64),
+    /// The file does not hold one decimal number, 1 to 2^48 - 2^32, and a newline, but this at most
+    /// at its front. Where the newline is missing, digits may be missing too.
+    NoNumber(Vec<u8>),
     /// The path leads to something else than a regular file.
     NotAFile,
-    /// The file has several names (hard links), which would part at the next write.
+    /// The file has a second name (a hard link), which would part from it at the next write.
     Linked,
-    /// Another process, or another client of this one, uses the file.
+    /// Another client uses the file, in this process or in another one.
     InUse,
-    /// Another program has changed the file since this client opened it.
+    /// Another program has written the file since this client opened it.
     Changed,
-    /// The file, or the lock file beside it, cannot be read.
-    Unreadable(io::Error),
-    /// The file, its folder or the lock file beside it cannot be written.
-    Unwritable(io::Error),
+    /// The file, its folder or the lock file beside it cannot be read or written.
+    Io(io::Error),
 }
 
-/// What to do where the number is lost.
-const BEGIN_AGAIN: &str =
-    "remove it and begin again with a first number above all that this client has used";
+/// What to do where the number is not there.
+const BEGIN: &str = "begin with a first number above all that this client used, as milliseconds()";
 
 impl StateFault {
     /// The error of the file at that path.
@@ -138,30 +135,33 @@ impl StateFault {
 impl fmt::Display for StateFault {
     fn fmt(&self, f: &mut fmt::Formatter<'_>) -> fmt::Result {
         match self {
-            StateFault::Missing => f.write_str(
-                "missing; begin with a first number above all that this client has used",
-            ),
-            StateFault::Empty => write!(f, "empty; {BEGIN_AGAIN}"),
-            StateFault::Cut => write!(f, "cut short; {BEGIN_AGAIN}"),
-            StateFault::NotANumber => write!(f, "not a number; {BEGIN_AGAIN}"),
-            StateFault::TooGreat(number) => write!(f, "{number} is too near 2^48; {BEGIN_AGAIN}"),
-            StateFault::NotAFile => f.write_str("not a regular file; name another one"),
-            StateFault::Linked => f.write_str("has several names; remove all but one"),
-            StateFault::InUse => {
-                f.write_str("in use by another process; end it, or use another client number")
-            }
-            StateFault::Changed => {
-                f.write_str("changed by another process; end it, and open the file again")
-            }
-            StateFault::Unreadable(error) => {
-                write!(f, "cannot be read: {error}; check its permissions")
-            }
-            StateFault::Unwritable(error) => {
+            StateFault::Missing => {
                 write!(
                     f,
-                    "cannot be written: {error}; check its folder and the disk"
+                    "it is not there; if this client is new or the file was lost, {BEGIN}"
                 )
             }
+            StateFault::NoNumber(text) => {
+                let text = text.escape_ascii();
+                write!(
+                    f,
+                    "it keeps no number but b'{text}'; remove it, and {BEGIN}"
+                )
+            }
+            StateFault::NotAFile => f.write_str("it is not a regular file; name another one"),
+            StateFault::Linked => {
+                f.write_str("it has a second name (a hard link); remove that, and use one")
+            }
+            StateFault::InUse => f.write_str(
+                "another client uses it; give each client a number and a file of its own",
+            ),
+            StateFault::Changed => {
+                f.write_str("another program has written it; end that one, and open it again")
+            }
+            StateFault::Io(error) => write!(
+                f,
+                "{error}; see that its folder is there, may be written and has room"
+            ),
         }
     }
 }
@@ -199,7 +199,9 @@ impl Error {
                 "the last request has no answer yet; call again, withdraw or give_up"
             }
             Error::NothingAsked => "no request is open",
-            Error::UsedUp => "this client has used its numbers up; use another client number",
+            Error::OutOfNumbers => {
+                "the numbers of this client are used up: use another client number"
+            }
             Error::NotHeld => "not held",
             Error::NoRoom => "no room",
             Error::Bad => "bad",
@@ -222,10 +224,10 @@ impl fmt::Display for Error {
                  lost; end that process, or skip_to a number above all that were used"
             ),
             Error::OtherAnswer(answer) => write!(f, "{answer}: this number was used before"),
-            Error::OtherProcess(owner) => write!(
+            Error::Forked { opened, here } => write!(
                 f,
-                "this client belongs to process {owner}; make another one, with a client number \
-                 of its own, after a fork"
+                "this client was opened in process {opened}, not in {here}: open another one, \
+                 with another client number"
             ),
             Error::State { path, fault } => write!(f, "state file {}: {fault}", path.display()),
             Error::NotReleased { name, fence, cause } => {
@@ -245,7 +247,7 @@ impl std::error::Error for Error {
             Error::Socket(error) => Some(error),
             Error::NotReleased { cause, .. } => Some(cause),
             Error::State {
-                fault: StateFault::Unreadable(error) | StateFault::Unwritable(error),
+                fault: StateFault::Io(error),
                 ..
             } => Some(error),
             _ => None,

@@ -38,6 +38,12 @@ fn judged(kind: Kind, answer: Answer) -> Result<Answer, Error> {
 impl Client {
     /// The answer to an op under a new number.
     pub(crate) fn request(&mut self, op: Op<'_>, used_for: Use) -> Result<Answer, Error> {
+        self.begin(op, used_for)?;
+        self.answer_of_open(self.patience)
+    }
+
+    /// Makes an op the open request, under a new number.
+    pub(crate) fn begin(&mut self, op: Op<'_>, used_for: Use) -> Result<(), Error> {
         if self.is_waiting() {
             return Err(Error::Unanswered);
         }
@@ -53,31 +59,31 @@ impl Client {
             name: op.wanted().map(str::to_owned),
             bytes: label.request(&op)?,
         });
-        self.answer_of_open()
+        Ok(())
     }
 
-    /// The answer to the request that is open.
-    pub(crate) fn answer_of_open(&mut self) -> Result<Answer, Error> {
+    /// The answer to the request that is open, if it comes within the patience.
+    pub(crate) fn answer_of_open(&mut self, patience: Duration) -> Result<Answer, Error> {
         let Some(open) = self.open.clone() else {
             return Err(Error::NothingAsked);
         };
         self.numbers.of_this_process()?;
-        let answer = self.exchange(&open)?;
+        let answer = self.exchange(&open, patience)?;
         self.open = None;
         judged(open.kind, answer)
     }
 
     /// Sends a request to one node after the other until its answer comes.
-    fn exchange(&mut self, open: &Open) -> Result<Answer, Error> {
+    fn exchange(&mut self, open: &Open, patience: Duration) -> Result<Answer, Error> {
         let start = Instant::now();
         let mut port = self.leader.unwrap_or(self.ports[self.turn]);
         for wait in Waits::default() {
             self.send(open, port);
-            let left = self.patience.saturating_sub(start.elapsed());
+            let left = patience.saturating_sub(start.elapsed());
             if let Some(answer) = self.answer_by(open, Instant::now() + wait.min(left))? {
                 return Ok(answer);
             }
-            if start.elapsed() >= self.patience {
+            if start.elapsed() >= patience {
                 break;
             }
             port = self.port_after(port);

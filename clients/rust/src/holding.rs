@@ -8,6 +8,9 @@ use std::mem;
 use std::thread;
 use std::time::{Duration, Instant};
 
+/// The time that a request is given at least: none is begun later before the end of a wait.
+const ANSWER_TIME: Duration = Duration::from_millis(500);
+
 /// The fence of a grant.
 pub(crate) fn granted(answer: Answer) -> Result<u64, Error> {
     match answer {
@@ -45,19 +48,24 @@ impl Client {
 
     /// The fence of a grant, for which is asked again while another client holds the name.
     pub(crate) fn fence_within(&mut self, op: Op<'_>, wait: Duration) -> Result<u64, Error> {
-        let start = Instant::now();
+        let (start, limit) = (Instant::now(), wait.max(self.patience));
+        let last = wait.min(limit.saturating_sub(ANSWER_TIME));
         let mut waits = BusyWaits::default();
         loop {
-            let found = self.fence_before(op, start, wait);
-            let left = wait.saturating_sub(start.elapsed());
+            let found = self.fence_by(op, limit.saturating_sub(start.elapsed()));
+            let left = last.saturating_sub(start.elapsed());
             match found {
                 Err(Error::Busy { holder, fence }) if holder != self.client && !left.is_zero() => {
-                    let pause = waits.after(fence).min(left);
-                    self.pause(holder, fence, pause);
+                    self.pause(holder, fence, waits.after(fence).min(left));
                 }
                 found => return found,
             }
         }
+    }
+
+    fn fence_by(&mut self, op: Op<'_>, patience: Duration) -> Result<u64, Error> {
+        self.begin(op, Use::Request)?;
+        self.answer_of_open(patience).and_then(granted)
     }
 
     fn pause(&mut self, holder: ClientId, fence: u64, pause: Duration) {
@@ -67,14 +75,5 @@ impl Client {
             pause,
         });
         thread::sleep(pause);
-    }
-
-    /// The fence of a grant, whose answer is asked for again while there is none and time is left.
-    fn fence_before(&mut self, op: Op<'_>, start: Instant, wait: Duration) -> Result<u64, Error> {
-        let mut found = self.request(op, Use::Request).and_then(granted);
-        while matches!(found, Err(Error::NoAnswer)) && start.elapsed() < wait {
-            found = self.again().and_then(granted);
-        }
-        found
     }
 }

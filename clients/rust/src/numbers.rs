@@ -6,12 +6,12 @@ use std::path::Path;
 use std::process;
 use std::time::{SystemTime, UNIX_EPOCH};
 
-/// The greatest number that is used. With the last one, 2^48, the client could never ask again.
-pub(crate) const END: u64 = MAX_COUNT - 1_000_000;
+/// The greatest number that is used. After 2^48 a client number could never ask again.
+pub(crate) const MAX_NUMBER: u64 = MAX_COUNT - (1 << 32);
 /// How many numbers are kept at once.
 const BLOCK: u64 = 1_000;
 /// How many kept numbers are left for what frees a lock, so that it needs no disk.
-const SPARE: u64 = 100;
+const SPARE: u64 = 16;
 
 /// What a number is taken for.
 #[derive(Clone, Copy, Debug, PartialEq, Eq)]
@@ -29,9 +29,10 @@ pub(crate) enum Use {
 /// [`Numbers::begun_in`]), or is told the first one ([`Numbers::from_first`]).
 ///
 /// The state file holds a number in decimal digits and a newline: all numbers that were used are at
-/// most as great. It is written before the first request, and once for each thousand from then on:
-/// a client that ends leaves the rest of its thousand unused. The file `PATH.lock` beside it is
-/// locked while a client uses it.
+/// most as great. It is written before the first request, and once for each thousand from then on. A
+/// client that is dropped gives back what it has not used of its thousand; one that is killed does
+/// not. The file `PATH.lock` beside it is locked while a client uses it, and also while a child runs
+/// that was forked meanwhile and has executed no other program.
 ///
 /// ```
 /// use locks_client::{Numbers, milliseconds};
@@ -57,8 +58,8 @@ pub struct Numbers {
 /// The milliseconds since 1970, a first number for a client that does not know its last one.
 ///
 /// It is above all numbers that the client used as long as each earlier run began so too, the clock
-/// was not set back, and the client asked less than a thousand times a second. A run with a state
-/// file counts for a thousand requests at least.
+/// was not set back, and the client used less than a thousand numbers a second. A run that is killed
+/// uses up its thousand.
 ///
 /// ```
 /// use locks_client::{Numbers, milliseconds};
@@ -71,14 +72,14 @@ pub fn milliseconds() -> u64 {
         .duration_since(UNIX_EPOCH)
         .unwrap_or_default();
     u64::try_from(since.as_millis())
-        .unwrap_or(END)
-        .clamp(1, END)
+        .unwrap_or(MAX_NUMBER)
+        .clamp(1, MAX_NUMBER)
 }
 
 /// A number that a caller tells.
 fn told(number: u64) -> Result<u64, Error> {
-    if !(1..=END).contains(&number) {
-        return Err(Error::malformed("number", number, "1 to 2^48 - 1000000"));
+    if !(1..=MAX_NUMBER).contains(&number) {
+        return Err(Error::malformed("number", number, "1 to 2^48 - 2^32"));
     }
     Ok(number)
 }
@@ -93,10 +94,10 @@ impl Numbers {
         }
     }
 
-    /// Numbers from `first` on, 1 to 2^48 - 1,000,000, which no file keeps. [`milliseconds`] is a
+    /// Numbers from `first` on, 1 to 2^48 - 2^32, which no file keeps. [`milliseconds`] is a
     /// sensible first number; **1 is not**, unless the client number was never used.
     pub fn from_first(first: u64) -> Result<Numbers, Error> {
-        Ok(Numbers::new(told(first)? - 1, END, None))
+        Ok(Numbers::new(told(first)? - 1, MAX_NUMBER, None))
     }
 
     /// Numbers that go on above the one that the state file keeps.
@@ -136,7 +137,10 @@ impl Numbers {
     /// fork.
     pub(crate) fn of_this_process(&self) -> Result<(), Error> {
         if process::id() != self.owner {
-            return Err(Error::OtherProcess(self.owner));
+            return Err(Error::Forked {
+                opened: self.owner,
+                here: process::id(),
+            });
         }
         Ok(())
     }
@@ -156,11 +160,24 @@ impl Numbers {
     fn reserve(&mut self) -> Result<(), Error> {
         let reserved = self.last + BLOCK;
         match &mut self.state {
-            Some(state) if reserved <= END => state.keep(reserved)?,
-            _ => return Err(Error::UsedUp),
+            Some(state) if reserved <= MAX_NUMBER => state.keep(reserved)?,
+            _ => return Err(Error::OutOfNumbers),
         }
         self.reserved = reserved;
         Ok(())
+    }
+}
+
+impl Drop for Numbers {
+    /// Gives kept numbers that were not used back to the file. Where that fails, they are left out.
+    fn drop(&mut self) {
+        let is_own = self.of_this_process().is_ok();
+        if let Some(state) = &mut self.state
+            && is_own
+            && (1..self.reserved).contains(&self.last)
+        {
+            let _ = state.keep(self.last);
+        }
     }
 }
 

@@ -1,10 +1,10 @@
 //! The file that keeps the last number of a client.
 
-use crate::numbers::END;
+use crate::numbers::MAX_NUMBER;
 use crate::{Error, StateFault};
 use std::ffi::OsString;
 use std::fs::{self, File, OpenOptions, TryLockError};
-use std::io::{self, ErrorKind, Write};
+use std::io::{self, ErrorKind, Read, Write};
 use std::os::unix::fs::MetadataExt;
 use std::path::{Path, PathBuf};
 
@@ -46,33 +46,20 @@ fn resolved(path: &Path) -> io::Result<PathBuf> {
 }
 
 /// The number that the text of a state file is.
-fn parsed(text: &[u8]) -> Result<u64, StateFault> {
-    let (digits, end) = match text {
-        [] => return Err(StateFault::Empty),
-        [digits @ .., b'\n'] => (digits, true),
-        digits => (digits, false),
-    };
-    if digits.is_empty() || !digits.iter().all(u8::is_ascii_digit) {
-        return Err(StateFault::NotANumber);
+fn parsed(text: &[u8]) -> Option<u64> {
+    let digits = text.strip_suffix(b"\n")?;
+    if !digits.iter().all(u8::is_ascii_digit) {
+        return None;
     }
-    if !end {
-        return Err(StateFault::Cut);
-    }
-    let number = digits.iter().try_fold(0_u64, |number, digit| {
-        number.checked_mul(10)?.checked_add(u64::from(digit - b'0'))
-    });
-    match number {
-        None | Some(0) => Err(StateFault::NotANumber),
-        Some(number) if number > END => Err(StateFault::TooGreat(number)),
-        Some(number) => Ok(number),
-    }
+    let number = str::from_utf8(digits).ok()?.parse().ok()?;
+    (1..=MAX_NUMBER).contains(&number).then_some(number)
 }
 
 /// The number that a file keeps.
 fn kept(path: &Path) -> Result<u64, StateFault> {
     let metadata = fs::metadata(path).map_err(|error| match error.kind() {
         ErrorKind::NotFound => StateFault::Missing,
-        _ => StateFault::Unreadable(error),
+        _ => StateFault::Io(error),
     })?;
     if !metadata.is_file() {
         return Err(StateFault::NotAFile);
@@ -80,7 +67,15 @@ fn kept(path: &Path) -> Result<u64, StateFault> {
     if metadata.nlink() > 1 {
         return Err(StateFault::Linked);
     }
-    parsed(&fs::read(path).map_err(StateFault::Unreadable)?)
+    let text = front(path).map_err(StateFault::Io)?;
+    parsed(&text).ok_or_else(|| StateFault::NoNumber(text[..text.len().min(32)].to_vec()))
+}
+
+/// The first bytes of a file, more than a number has.
+fn front(path: &Path) -> io::Result<Vec<u8>> {
+    let mut text = Vec::new();
+    File::open(path)?.take(64).read_to_end(&mut text)?;
+    Ok(text)
 }
 
 /// Opens the lock file beside a state file, and locks it.
@@ -90,11 +85,11 @@ fn locked(path: &Path) -> Result<File, StateFault> {
         .create(true)
         .truncate(false)
         .open(beside(path, ".lock"))
-        .map_err(StateFault::Unwritable)?;
+        .map_err(StateFault::Io)?;
     match lock.try_lock() {
         Ok(()) => Ok(lock),
         Err(TryLockError::WouldBlock) => Err(StateFault::InUse),
-        Err(TryLockError::Error(error)) => Err(StateFault::Unwritable(error)),
+        Err(TryLockError::Error(error)) => Err(StateFault::Io(error)),
     }
 }
 
@@ -115,9 +110,9 @@ impl State {
     pub(crate) fn open(path: &Path, or_new: bool) -> Result<(State, Option<u64>), Error> {
         let real = resolved(path).map_err(|error| match error.kind() {
             ErrorKind::NotFound if !or_new => StateFault::Missing.of(path),
-            _ => StateFault::Unwritable(error).of(path),
+            _ => StateFault::Io(error).of(path),
         })?;
-        State::open_resolved(&real, or_new).map_err(|fault| fault.of(path))
+        State::open_resolved(&real, or_new).map_err(|fault| fault.of(&real))
     }
 
     fn open_resolved(path: &Path, or_new: bool) -> Result<(State, Option<u64>), StateFault> {
@@ -138,7 +133,7 @@ impl State {
         Ok((state, number))
     }
 
-    /// Keeps a number that is greater than all before.
+    /// Keeps a number, unless another program has kept one meanwhile.
     pub(crate) fn keep(&mut self, number: u64) -> Result<(), Error> {
         match kept(&self.path) {
             Ok(found) if found > self.greatest => Err(StateFault::Changed),
@@ -146,8 +141,8 @@ impl State {
             Err(fault) => Err(fault),
         }
         .map_err(|fault| fault.of(&self.path))?;
-        self.greatest = number;
-        write(&self.path, number).map_err(|error| StateFault::Unwritable(error).of(&self.path))
+        self.greatest = self.greatest.max(number);
+        write(&self.path, number).map_err(|error| StateFault::Io(error).of(&self.path))
     }
 }
 
@@ -157,22 +152,24 @@ mod tests {
 
     #[test]
     fn a_text_is_a_number_and_a_newline() {
-        assert!(matches!(parsed(b"41\n"), Ok(41)));
-        let rows: [(&[u8], &str); 10] = [
-            (b"", "empty; "),
-            (b"41", "cut short; "),
-            (b"\n", "not a number; "),
-            (b"0\n", "not a number; "),
-            (b"+41\n", "not a number; "),
-            (b" 41\n", "not a number; "),
-            (b"41\n\n", "not a number; "),
-            (b"41 \n", "not a number; "),
-            (b"99999999999999999999\n", "not a number; "),
-            (b"281474976710656\n", "281474976710656 is too near 2^48; "),
+        assert_eq!(parsed(b"41\n"), Some(41));
+        assert_eq!(parsed(b"281470681743360\n"), Some((1 << 48) - (1 << 32)));
+        let rows: [&[u8]; 12] = [
+            b"",
+            b"41",
+            b"\n",
+            b"0\n",
+            b"+41\n",
+            b"-41\n",
+            b" 41\n",
+            b"41 \n",
+            b"41\n\n",
+            b"41\n42\n",
+            b"99999999999999999999\n",
+            b"281470681743361\n",
         ];
-        for (text, expected) in rows {
-            let fault = parsed(text).unwrap_err().to_string();
-            assert!(fault.starts_with(expected), "{text:?}: {fault}");
+        for text in rows {
+            assert_eq!(parsed(text), None, "{text:?}");
         }
     }
 }

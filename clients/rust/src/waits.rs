@@ -12,18 +12,17 @@ const STEPS: [Duration; 4] = [
 ];
 
 /// The same for a lock that is held.
-const BUSY_STEPS: [Duration; 7] = [
+const BUSY_STEPS: [Duration; 4] = [
     Duration::from_millis(50),
     Duration::from_millis(100),
     Duration::from_millis(200),
     Duration::from_millis(400),
-    Duration::from_millis(750),
-    Duration::from_millis(1500),
-    Duration::from_millis(2000),
 ];
-/// The step beyond which only a lock goes whose holder stays: up to it a scattered wait is shorter
-/// than a second.
-const CHANGING: usize = 4;
+/// What comes after these steps: scattered, it is shorter than a second.
+const BUSY: Duration = Duration::from_millis(750);
+/// How many steps one holder is waited for like that, and how long after them.
+const LONG_AFTER: usize = 34;
+const LONG: Duration = Duration::from_secs(2);
 
 /// Waits between two sends of a request: 0.5, 1, 2, 4, 4, .. seconds, each times a random 0.75 to
 /// 1.25, so that clients do not ask in step.
@@ -71,12 +70,15 @@ impl Iterator for Waits {
 impl BusyWaits {
     /// How long to wait where the lock is held at that fence.
     pub(crate) fn after(&mut self, fence: u64) -> Duration {
-        let most = match self.fence.replace(fence) {
-            Some(before) if before != fence => CHANGING,
-            _ => BUSY_STEPS.len() - 1,
+        if self.fence.replace(fence) != Some(fence) {
+            self.step = self.step.min(BUSY_STEPS.len());
+        }
+        let wait = match BUSY_STEPS.get(self.step) {
+            Some(wait) => *wait,
+            None if self.step < LONG_AFTER => BUSY,
+            None => LONG,
         };
-        let wait = BUSY_STEPS[self.step.min(most)];
-        self.step = (self.step + 1).min(most);
+        self.step += 1;
         scattered(wait)
     }
 }
@@ -84,6 +86,7 @@ impl BusyWaits {
 #[cfg(test)]
 mod tests {
     use super::{BusyWaits, Waits};
+    use std::time::Duration;
 
     #[test]
     fn waits_grow_and_are_scattered() {
@@ -95,13 +98,22 @@ mod tests {
         assert!(firsts.iter().any(|it| *it != firsts[0]));
     }
 
+    /// Whether the wait is one of so many milliseconds, scattered.
+    fn is_about(wait: Duration, milliseconds: u32) -> bool {
+        (0.75..=1.25).contains(&(wait.as_secs_f64() * 1000.0 / f64::from(milliseconds)))
+    }
+
     #[test]
     fn a_lock_whose_holder_stays_is_asked_for_less_often() {
         let mut waits = BusyWaits::default();
-        for most in [50, 100, 200, 400, 750, 1500, 2000, 2000] {
-            let part = waits.after(3).as_secs_f64() * 1000.0 / f64::from(most);
-            assert!((0.75..=1.25).contains(&part), "{part}");
+        for expected in [50, 100, 200, 400] {
+            assert!(is_about(waits.after(3), expected));
         }
+        for _ in 0..30 {
+            assert!(is_about(waits.after(3), 750));
+        }
+        assert!(is_about(waits.after(3), 2000));
+        assert!(is_about(waits.after(4), 750));
     }
 
     #[test]
@@ -110,9 +122,6 @@ mod tests {
         for fence in 1..100 {
             assert!(waits.after(fence).as_millis() < 1000);
         }
-        for _ in 0..9 {
-            waits.after(100);
-        }
-        assert!(waits.after(101).as_millis() < 1000);
+        assert!(is_about(waits.after(100), 750));
     }
 }

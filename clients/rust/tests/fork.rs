@@ -5,9 +5,9 @@
 mod support;
 
 use locks_client::{Client, ClientId, ClusterId, Error, Numbers};
-use std::process;
 use std::time::Duration;
-use support::{GRANTED, Node, RELEASED, answer, client, op};
+use std::{env, fs, process};
+use support::{GRANTED, Node, RELEASED, answer, client, client_of, op};
 
 unsafe extern "C" {
     fn fork() -> i32;
@@ -28,7 +28,7 @@ fn in_a_child(block: impl FnOnce() -> bool) -> bool {
 }
 
 fn is_refused<T>(result: Result<T, Error>, parent: u32) -> bool {
-    matches!(result, Err(Error::OtherProcess(owner)) if owner == parent)
+    matches!(result, Err(Error::Forked { opened, here }) if opened == parent && here == process::id())
 }
 
 #[test]
@@ -61,6 +61,25 @@ fn a_child_makes_no_client_of_numbers_of_its_parent() {
         let id = ClientId::new(7).unwrap();
         is_refused(Client::new(ClusterId::new(5), id, &[7001], numbers), parent)
     }));
+}
+
+#[test]
+fn a_child_leaves_the_state_file_as_it_is() {
+    let path = env::temp_dir().join(format!("locks-fork-{}", process::id()));
+    let numbers = Numbers::begun_in(&path, 1).unwrap();
+    let node = Node::new(vec![vec![answer(1, GRANTED)]]);
+    let mut client = Some(client_of(&[node.port], numbers));
+    client.as_mut().unwrap().acquire("db").unwrap();
+    assert!(in_a_child(|| {
+        drop(client.take());
+        true
+    }));
+    assert_eq!(fs::read_to_string(&path).unwrap(), "1000\n");
+    assert!(matches!(Numbers::kept_in(&path), Err(Error::State { .. })));
+    drop(client);
+    assert_eq!(fs::read_to_string(&path).unwrap(), "1\n");
+    fs::remove_file(format!("{}.lock", path.display())).unwrap();
+    fs::remove_file(path).unwrap();
 }
 
 #[test]

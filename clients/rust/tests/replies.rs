@@ -102,6 +102,17 @@ fn a_lock_is_asked_for_until_a_deadline() {
 }
 
 #[test]
+fn a_wait_ends_in_time_where_no_answer_comes() {
+    let node = Node::new(vec![vec![]; 9]);
+    let (mut client, start) = (client(&[node.port]), Instant::now());
+    client.set_patience(Duration::from_millis(1000));
+    let refused = client.acquire_within("db", Duration::from_millis(1200));
+    assert!(matches!(refused, Err(Error::NoAnswer)));
+    assert!((1200..1600).contains(&start.elapsed().as_millis()));
+    assert!(client.is_waiting());
+}
+
+#[test]
 fn what_this_client_holds_itself_is_not_waited_for() {
     let node = Node::new(vec![vec![answer(1, OWN_BUSY)]]);
     let busy = client(&[node.port]).acquire_within("db", Duration::MAX);

@@ -1,6 +1,6 @@
 //! Numbers, and the file that keeps them.
 
-use super::{END, Numbers, Use, milliseconds};
+use super::{MAX_NUMBER, Numbers, Use, milliseconds};
 use crate::{Error, StateFault};
 use std::os::unix::fs::symlink;
 use std::path::PathBuf;
@@ -50,7 +50,7 @@ fn numbers_rise_from_the_first() {
 
 #[test]
 fn a_number_near_the_last_is_refused_before_it_is_used() {
-    for first in [1 << 48, (1 << 48) - 1, (1 << 48) - 999_999, u64::MAX] {
+    for first in [1 << 48, (1 << 48) - 1, (1 << 48) - (1 << 32) + 1, u64::MAX] {
         assert!(matches!(
             Numbers::from_first(first),
             Err(Error::Malformed(_))
@@ -59,28 +59,43 @@ fn a_number_near_the_last_is_refused_before_it_is_used() {
         assert!(matches!(numbers.skip_to(first), Err(Error::Malformed(_))));
         assert_eq!(next(&mut numbers), 1);
     }
-    let mut last = Numbers::from_first(END).unwrap();
-    assert!(matches!(last.take(Use::Request), Err(Error::UsedUp)));
-    assert_eq!(last.take(Use::Freeing).unwrap(), END);
-    assert!(matches!(last.take(Use::Freeing), Err(Error::UsedUp)));
+    let mut last = Numbers::from_first(MAX_NUMBER).unwrap();
+    assert!(matches!(last.take(Use::Request), Err(Error::OutOfNumbers)));
+    assert_eq!(last.take(Use::Freeing).unwrap(), MAX_NUMBER);
+    assert!(matches!(last.take(Use::Freeing), Err(Error::OutOfNumbers)));
 }
 
 #[test]
 fn a_file_near_the_last_number_is_left_as_it_is() {
-    let text = format!("{}\n", END - 10);
+    let text = format!("{}\n", MAX_NUMBER - 10);
     let scratch = Scratch::with("end", &text);
     let mut numbers = Numbers::kept_in(&scratch.0).unwrap();
-    assert!(matches!(numbers.take(Use::Request), Err(Error::UsedUp)));
+    assert!(matches!(
+        numbers.take(Use::Request),
+        Err(Error::OutOfNumbers)
+    ));
     assert_eq!(scratch.text(), text);
 }
 
 #[test]
 fn numbers_rise_over_restarts() {
     let scratch = Scratch::with("restarts", "41\n");
-    for first in [42, 1042, 2042] {
+    for first in [42, 44, 46] {
         let mut numbers = Numbers::kept_in(&scratch.0).unwrap();
         assert_eq!([next(&mut numbers), next(&mut numbers)], [first, first + 1]);
         assert_eq!(scratch.text(), format!("{}\n", first + 999));
+        drop(numbers);
+        assert_eq!(scratch.text(), format!("{}\n", first + 1));
+    }
+}
+
+#[test]
+fn numbers_rise_over_a_kill() {
+    let scratch = Scratch::with("kill", "41\n");
+    for first in [42, 1042] {
+        let mut numbers = Numbers::kept_in(&scratch.0).unwrap();
+        assert_eq!(next(&mut numbers), first);
+        numbers.state = None; // so that nothing is given back
     }
 }
 
@@ -114,7 +129,7 @@ fn a_file_that_cannot_be_written_leaves_numbers_to_free_locks() {
     assert!(matches!(
         refused,
         Error::State {
-            fault: StateFault::Unwritable(_),
+            fault: StateFault::Io(_),
             ..
         }
     ));
@@ -127,16 +142,10 @@ fn a_file_that_cannot_be_written_leaves_numbers_to_free_locks() {
 fn a_new_file_begins_with_the_first_number() {
     let scratch = Scratch::new("begun");
     let now = milliseconds();
-    assert_eq!(next(&mut Numbers::begun_in(&scratch.0, now).unwrap()), now);
-    assert_eq!(
-        next(&mut Numbers::begun_in(&scratch.0, 1).unwrap()),
-        now + 1000
-    );
-    let later = now + 9_000;
-    assert_eq!(
-        next(&mut Numbers::begun_in(&scratch.0, later).unwrap()),
-        later
-    );
+    for (first, expected) in [(now, now), (1, now + 1), (now + 9_000, now + 9_000)] {
+        let mut numbers = Numbers::begun_in(&scratch.0, first).unwrap();
+        assert_eq!(next(&mut numbers), expected);
+    }
 }
 
 #[test]
@@ -151,28 +160,33 @@ fn numbers_skip_forward_alone() {
     assert_eq!(next(&mut numbers), 9_000);
 }
 
-/// What the error of a file with that text says, after its path.
-fn fault(name: &str, text: &str) -> String {
-    let scratch = Scratch::with(name, text);
-    let error = Numbers::kept_in(&scratch.0).unwrap_err().to_string();
-    let begun = Numbers::begun_in(&scratch.0, 1).unwrap_err().to_string();
-    assert_eq!(error, begun);
-    assert_eq!(scratch.text(), text);
-    let head = format!("state file {}: ", scratch.0.display());
-    error.strip_prefix(&head).unwrap().to_owned()
-}
+const BEGIN: &str = "begin with a first number above all that this client used, as milliseconds()";
 
 #[test]
 fn a_damaged_file_is_refused_and_left_as_it_is() {
-    let again = "remove it and begin again with a first number above all that this client has used";
-    assert_eq!(fault("empty", ""), format!("empty; {again}"));
-    assert_eq!(fault("cut", "176417"), format!("cut short; {again}"));
-    assert_eq!(fault("text", "abc\n"), format!("not a number; {again}"));
-    assert_eq!(fault("zero", "0\n"), format!("not a number; {again}"));
-    assert_eq!(
-        fault("great", "281474976710655\n"),
-        format!("281474976710655 is too near 2^48; {again}")
-    );
+    let (long, great) = ("9".repeat(90), format!("{}\n", 1_u64 << 48));
+    let rows = [
+        ("", ""),
+        ("176417", "176417"),
+        ("abc\n", r"abc\n"),
+        ("0\n", r"0\n"),
+        ("17\n18\n", r"17\n18\n"),
+        (long.as_str(), &long[..32]),
+        (great.as_str(), r"281474976710656\n"),
+    ];
+    for (text, told) in rows {
+        let scratch = Scratch::with("damaged", text);
+        let path = scratch.0.display();
+        let expected =
+            format!("state file {path}: it keeps no number but b'{told}'; remove it, and {BEGIN}");
+        let kept = Numbers::kept_in(&scratch.0).unwrap_err();
+        let begun = Numbers::begun_in(&scratch.0, 1).unwrap_err();
+        assert_eq!(
+            [kept.to_string(), begun.to_string()],
+            [expected.clone(), expected]
+        );
+        assert_eq!(scratch.text(), text);
+    }
 }
 
 #[test]
@@ -180,16 +194,22 @@ fn a_missing_file_is_refused_and_none_is_made() {
     let scratch = Scratch::new("missing");
     let error = Numbers::kept_in(&scratch.0).unwrap_err().to_string();
     let path = scratch.0.display();
-    assert_eq!(
-        error,
-        format!(
-            "state file {path}: missing; begin with a first number above all that this client has used"
-        )
-    );
-    assert_eq!(
-        fs::read_dir(scratch.0.parent().unwrap()).unwrap().count(),
-        0
-    );
+    let expected = "it is not there; if this client is new or the file was lost";
+    assert_eq!(error, format!("state file {path}: {expected}, {BEGIN}"));
+    let folder = scratch.0.parent().unwrap();
+    assert_eq!(fs::read_dir(folder).unwrap().count(), 0);
+}
+
+#[test]
+fn a_missing_folder_is_told() {
+    let scratch = Scratch::new("folder");
+    let path = scratch.beside("none/number");
+    let kept = Numbers::kept_in(&path).unwrap_err().to_string();
+    assert!(kept.contains("it is not there; "), "{kept}");
+    let begun = Numbers::begun_in(&path, 1).unwrap_err().to_string();
+    let head = format!("state file {}: ", path.display());
+    assert!(begun.starts_with(&head), "{begun}");
+    assert!(begun.ends_with("; see that its folder is there, may be written and has room"));
 }
 
 fn is_in_use(path: PathBuf) -> bool {
@@ -233,12 +253,12 @@ fn a_file_with_two_names_and_a_folder_are_refused() {
     let scratch = Scratch::with("linked", "41\n");
     fs::hard_link(&scratch.0, scratch.beside("second")).unwrap();
     let error = Numbers::kept_in(&scratch.0).unwrap_err().to_string();
-    assert!(error.ends_with("has several names; remove all but one"));
+    assert!(error.ends_with("it has a second name (a hard link); remove that, and use one"));
     let error = Numbers::kept_in(scratch.0.parent().unwrap()).unwrap_err();
     assert!(
         error
             .to_string()
-            .ends_with("not a regular file; name another one")
+            .ends_with("it is not a regular file; name another one")
     );
 }
 
@@ -253,7 +273,7 @@ fn a_file_that_another_program_wrote_is_not_written_over() {
         refused
             .unwrap()
             .to_string()
-            .contains("changed by another process; ")
+            .contains("another program has written it; ")
     );
     assert_eq!(scratch.text(), "5000\n");
 }
