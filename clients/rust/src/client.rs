@@ -325,7 +325,7 @@ impl Client {
     /// Where this client holds it, the grant may be one of an earlier run; [`Client::withdraw`]
     /// tells them apart.
     pub fn give_up(&mut self, name: &str) -> Result<Standing, Error> {
-        self.open = None;
+        self.forget_open();
         self.standing(name, Use::Freeing)
     }
 

@@ -24,6 +24,12 @@ pub(crate) struct Open {
     bytes: Vec<u8>,
 }
 
+impl Open {
+    pub(crate) fn number(&self) -> u64 {
+        self.label.number
+    }
+}
+
 /// The answer to a request of that kind; a refusal is an error.
 fn judged(kind: Kind, answer: Answer) -> Result<Answer, Error> {
     if !kind.fits(&answer) {

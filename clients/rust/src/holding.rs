@@ -32,12 +32,21 @@ impl Client {
     /// Releases a guarded lock. A request that is open is given up: the answer to this one settles
     /// it.
     pub(crate) fn free(&mut self, name: &str, fence: u64) -> Result<(), Error> {
-        self.open = None;
+        self.forget_open();
         let released = self.release(name, fence);
         if let Err(cause) = &released {
             self.log.tell(&Event::NotReleased { name, fence, cause });
         }
         released
+    }
+
+    /// Waits no more for the answer of the open request, if there is one.
+    pub(crate) fn forget_open(&mut self) {
+        let Some(open) = self.open.take() else { return };
+        self.log.tell(&Event::GivenUp {
+            number: open.number(),
+            name: open.name.as_deref(),
+        });
     }
 
     /// Takes no more patience than a drop has. What it was before.

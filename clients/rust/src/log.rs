@@ -54,6 +54,13 @@ pub enum Event<'a> {
         /// The number of the request.
         number: u64,
     },
+    /// A request without an answer was given up: the next one settles whether it takes effect.
+    GivenUp {
+        /// The number of the request.
+        number: u64,
+        /// The lock that it asked for, which it may have been granted.
+        name: Option<&'a str>,
+    },
     /// A lock is held, and is asked for again after a pause.
     Waiting {
         /// Who holds it.
@@ -90,6 +97,13 @@ impl fmt::Display for Event<'_> {
             } => write!(f, "request {number}: port {port} answers {answer}"),
             Event::Passed { number, last } => write!(f, "request {number}: passed {last}"),
             Event::Unanswered { number } => write!(f, "request {number}: no answer"),
+            Event::GivenUp { number, name } => {
+                let name = name.unwrap_or("no lock");
+                write!(
+                    f,
+                    "request {number} for {name} was given up without an answer"
+                )
+            }
             Event::Waiting {
                 holder,
                 fence,

@@ -71,6 +71,15 @@ fn kept(path: &Path) -> Result<u64, StateFault> {
     parsed(&text).ok_or_else(|| StateFault::NoNumber(text[..text.len().min(32)].to_vec()))
 }
 
+/// The same, or `None` for a file that is to be made.
+fn found(path: &Path, or_new: bool) -> Result<Option<u64>, StateFault> {
+    match kept(path) {
+        Ok(number) => Ok(Some(number)),
+        Err(StateFault::Missing) if or_new => Ok(None),
+        Err(fault) => Err(fault),
+    }
+}
+
 /// The first bytes of a file, more than a number has.
 fn front(path: &Path) -> io::Result<Vec<u8>> {
     let mut text = Vec::new();
@@ -116,15 +125,9 @@ impl State {
     }
 
     fn open_resolved(path: &Path, or_new: bool) -> Result<(State, Option<u64>), StateFault> {
-        if !or_new {
-            kept(path)?; // so that no lock file is made for a file that is missing
-        }
+        found(path, or_new)?; // so that no lock file is made beside what is refused
         let lock = locked(path)?;
-        let number = match kept(path) {
-            Ok(number) => Some(number),
-            Err(StateFault::Missing) if or_new => None,
-            Err(fault) => return Err(fault),
-        };
+        let number = found(path, or_new)?;
         let state = State {
             path: path.to_path_buf(),
             greatest: number.unwrap_or(0),

@@ -75,6 +75,29 @@ fn a_lock_is_released_though_a_request_has_no_answer() {
 }
 
 #[test]
+fn a_request_that_a_release_gives_up_is_told() {
+    let node = Node::new(vec![
+        vec![answer(1, GRANTED)],
+        vec![],
+        vec![answer(3, RELEASED)],
+    ]);
+    let mut client = client(&[node.port]);
+    let told = Arc::new(Mutex::new(Vec::new()));
+    let kept = Arc::clone(&told);
+    client.set_log(move |event| {
+        if let Event::GivenUp { .. } = event {
+            kept.lock().unwrap().push(event.to_string());
+        }
+    });
+    let mut lock = client.lock("db", Duration::ZERO).unwrap();
+    lock.client().set_patience(Duration::from_millis(100));
+    assert!(lock.client().acquire("other").is_err());
+    lock.release().unwrap();
+    let expected = "request 2 for other was given up without an answer";
+    assert_eq!(*told.lock().unwrap(), [expected]);
+}
+
+#[test]
 fn a_drop_is_bounded_and_tells_the_log() {
     let node = silent();
     let mut client = client(&[node.port]);

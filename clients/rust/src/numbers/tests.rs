@@ -254,12 +254,14 @@ fn a_file_with_two_names_and_a_folder_are_refused() {
     fs::hard_link(&scratch.0, scratch.beside("second")).unwrap();
     let error = Numbers::kept_in(&scratch.0).unwrap_err().to_string();
     assert!(error.ends_with("it has a second name (a hard link); remove that, and use one"));
-    let error = Numbers::kept_in(scratch.0.parent().unwrap()).unwrap_err();
+    let folder = scratch.0.parent().unwrap();
+    let error = Numbers::begun_in(folder, 1).unwrap_err();
     assert!(
         error
             .to_string()
             .ends_with("it is not a regular file; name another one")
     );
+    assert_eq!(fs::read_dir(folder).unwrap().count(), 2); // and no lock file
 }
 
 #[test]
