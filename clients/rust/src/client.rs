@@ -4,7 +4,7 @@ use crate::exchange::Open;
 use crate::holding::granted;
 use crate::log::Log;
 use crate::numbers::Use;
-use crate::op::{Kind, Op};
+use crate::op::Op;
 use crate::{Answer, ClientId, ClusterId, Error, Event, Lock, Numbers};
 use std::net::{Ipv4Addr, UdpSocket};
 use std::time::Duration;
@@ -196,36 +196,38 @@ impl Client {
     /// fence.
     ///
     /// [`Error::Busy`] where it is held after that, or at once where this client itself holds it
-    /// (since an earlier run); [`Error::NoAnswer`] where the last request has no answer: it may still
-    /// be granted, so call [`Client::withdraw`] or [`Client::again`]. It returns within `wait`, or
-    /// within its patience where that is longer.
+    /// (since an earlier run); [`Error::NoAnswer`] where the last request has no answer: it may
+    /// still be granted, so call [`Client::withdraw`] or [`Client::again`]. It returns within
+    /// `wait`, or within its patience where that is longer.
     ///
     /// Between two requests it waits 50 ms at first, and then longer: below a second for the first
     /// half minute, and while the fence changes; 2.5 seconds at most where it stays.
+    ///
+    #[doc = asks_a_node!()]
+    /// # mod support { include!(concat!(env!("CARGO_MANIFEST_DIR"), "/tests/support/cluster.rs")); }
+    /// # use locks_client::*;
+    /// # use std::time::Duration;
+    /// # fn main() -> Result<(), Error> {
+    /// # let cluster = support::Cluster::start(1);
+    /// # let mut client = cluster.client(7);
+    /// # cluster.client(8).acquire("db")?;
+    /// match client.acquire_within("db", Duration::from_millis(200)) {
+    ///     Ok(fence) => println!("granted at {fence}"),
+    ///     Err(Error::Busy { holder, fence }) => println!("client {holder} holds it at {fence}"),
+    ///     Err(Error::NoAnswer) => println!("withdrawn: {}", client.withdraw()?),
+    ///     Err(error) => return Err(error),
+    /// }
+    /// # Ok(())
+    /// # }
+    /// ```
     pub fn acquire_within(&mut self, name: &str, wait: Duration) -> Result<u64, Error> {
         self.fence_within(Op::Acquire(name), wait)
-    }
-
-    /// Takes a lock of a raised table together with up to seven other clients. Their common fence.
-    pub fn share(&mut self, name: &str) -> Result<u64, Error> {
-        granted(self.request(Op::Share(name), Use::Request)?)
-    }
-
-    /// Takes it together with others, and asks again for it as [`Client::acquire_within`] does.
-    pub fn share_within(&mut self, name: &str, wait: Duration) -> Result<u64, Error> {
-        self.fence_within(Op::Share(name), wait)
     }
 
     /// Holds the lock as long as the value lives, whose limits are those of a [`Lock`]. It asks for
     /// the lock, and fails, as [`Client::acquire_within`] does.
     pub fn lock(&mut self, name: &str, wait: Duration) -> Result<Lock<'_>, Error> {
         let fence = self.acquire_within(name, wait)?;
-        Ok(Lock::new(self, name, fence))
-    }
-
-    /// Holds the lock together with others as long as the value lives.
-    pub fn lock_shared(&mut self, name: &str, wait: Duration) -> Result<Lock<'_>, Error> {
-        let fence = self.share_within(name, wait)?;
         Ok(Lock::new(self, name, fence))
     }
 
@@ -280,93 +282,8 @@ impl Client {
         Ok(answer == Answer::Valid)
     }
 
-    /// Frees a name of a raised table of whoever holds it at that fence. Whether it was held at it.
-    ///
-    /// Whoever held it is not told, and may go on writing: only a resource that refuses smaller
-    /// fences is safe from that.
-    pub fn break_lock(&mut self, name: &str, fence: u64) -> Result<bool, Error> {
-        let answer = self.request(Op::Break(name, fence), Use::Freeing)?;
-        Ok(answer == Answer::Broken)
-    }
-
-    /// Raises the table for ever, so that it knows share and break. Whether it was not raised
-    /// before.
-    ///
-    /// Each node has to run a program that knows this, also those that are down.
-    pub fn raise_table(&mut self) -> Result<bool, Error> {
-        let answer = self.request(Op::Raise, Use::Request)?;
-        Ok(answer == Answer::Raised)
-    }
-
-    /// Makes a node a member; [`Error::Used`] or [`Error::Full`] where it is not made one.
-    pub fn join(&mut self, node: u32, port: u16) -> Result<(), Error> {
-        self.request(Op::Join(node, port), Use::Request).map(drop)
-    }
-
-    /// Ends a node's membership; [`Error::NotMember`] or [`Error::Last`] where it is not ended.
-    pub fn leave(&mut self, node: u32) -> Result<(), Error> {
-        self.request(Op::Leave(node), Use::Request).map(drop)
-    }
-
-    /// Whether a request has no answer yet.
-    pub fn is_waiting(&self) -> bool {
-        self.open.is_some()
-    }
-
-    /// Asks once more for the answer of the request that has none yet. It takes effect at most
-    /// once.
-    pub fn again(&mut self) -> Result<Answer, Error> {
-        self.answer_of_open(self.patience)
-    }
-
-    /// Gives up the request that has no answer yet: after `Ok` it has taken effect or never will.
     /// Who holds the name.
-    ///
-    /// Where this client holds it, the grant may be one of an earlier run; [`Client::withdraw`]
-    /// tells them apart.
-    pub fn give_up(&mut self, name: &str) -> Result<Standing, Error> {
-        self.forget_open();
-        self.standing(name, Use::Freeing)
-    }
-
-    /// Gives up an acquire or a share that has no answer, and releases the lock where it was
-    /// granted by it. Whether it was.
-    ///
-    /// It asks for the answer once more, since that alone tells this grant from one of an earlier
-    /// run, or from a share that others have. After [`Error::NoAnswer`] call it again;
-    /// [`Error::NothingAsked`] where no such request is open.
-    ///
-    #[doc = asks_a_node!()]
-    /// # mod support { include!(concat!(env!("CARGO_MANIFEST_DIR"), "/tests/support/cluster.rs")); }
-    /// # use locks_client::*;
-    /// # use std::time::Duration;
-    /// # fn main() -> Result<(), Error> {
-    /// # let mut cluster = support::Cluster::start(1);
-    /// # let mut client = cluster.client(7);
-    /// # client.ask("db")?;
-    /// # cluster.down(1);
-    /// # client.set_patience(Duration::from_millis(100));
-    /// if let Err(Error::NoAnswer) = client.acquire("db") {
-    ///     # cluster.up(1);
-    ///     # client.set_patience(Duration::from_secs(30));
-    ///     client.withdraw()?;
-    /// }
-    /// assert!(matches!(client.ask("db")?, Standing::Free { .. }));
-    /// # Ok(())
-    /// # }
-    /// ```
-    pub fn withdraw(&mut self) -> Result<bool, Error> {
-        let open = self.open.as_ref().ok_or(Error::NothingAsked)?;
-        match (open.kind, open.name.clone()) {
-            (_, Some(name)) => self.withdraw_grant(&name),
-            // the release of a withdraw that had no answer
-            (Kind::Release, None) => self.again().map(|_| true),
-            _ => Err(Error::NothingAsked),
-        }
-    }
-
-    /// Who holds the name.
-    fn standing(&mut self, name: &str, used_for: Use) -> Result<Standing, Error> {
+    pub(crate) fn standing(&mut self, name: &str, used_for: Use) -> Result<Standing, Error> {
         match self.request(Op::Ask(name), used_for)? {
             Answer::Free(fence) => Ok(Standing::Free { fence }),
             Answer::Held { holder, fence } => Ok(Standing::Held { holder, fence }),

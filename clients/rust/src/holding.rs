@@ -20,15 +20,6 @@ pub(crate) fn granted(answer: Answer) -> Result<u64, Error> {
 }
 
 impl Client {
-    /// Releases the lock where the open request is granted. Whether it is.
-    pub(crate) fn withdraw_grant(&mut self, name: &str) -> Result<bool, Error> {
-        match self.again().and_then(granted) {
-            Ok(fence) => self.release(name, fence).map(|()| true),
-            Err(Error::Busy { .. } | Error::NoRoom | Error::Spent | Error::Bad) => Ok(false),
-            Err(error) => Err(error),
-        }
-    }
-
     /// Releases a guarded lock. A request that is open is given up: the answer to this one settles
     /// it.
     pub(crate) fn free(&mut self, name: &str, fence: u64) -> Result<(), Error> {

@@ -4,11 +4,14 @@ use crate::{Client, Error};
 
 /// A lock that a client holds. [`Lock::release`] releases it, or the end of the value's life.
 ///
-/// ```no_run
+#[doc = asks_a_node!()]
+/// # mod support { include!(concat!(env!("CARGO_MANIFEST_DIR"), "/tests/support/cluster.rs")); }
 /// # use locks_client::{Client, Error};
 /// # use std::time::Duration;
 /// # fn write(_: u64) -> Result<(), Error> { Ok(()) }
-/// # fn f(client: &mut Client) -> Result<(), Error> {
+/// # fn main() -> Result<(), Error> {
+/// # let cluster = support::Cluster::start(1);
+/// # let mut client = cluster.client(7);
 /// let lock = client.lock("db", Duration::from_secs(60))?;
 /// write(lock.fence())?; // where this fails, the lock is released all the same
 /// lock.release()?; // tells whether it was

@@ -29,10 +29,10 @@ pub(crate) enum Use {
 /// [`Numbers::begun_in`]), or is told the first one ([`Numbers::from_first`]).
 ///
 /// The state file holds a number in decimal digits and a newline: all numbers that were used are at
-/// most as great. It is written before the first request, and once for each thousand from then on. A
-/// client that is dropped gives back what it has not used of its thousand; one that is killed does
-/// not. The file `PATH.lock` beside it is locked while a client uses it, and also while a child runs
-/// that was forked meanwhile and has executed no other program.
+/// most as great. It is written before the first request, and once for each thousand from then on.
+/// A client that is dropped gives back what it has not used of its thousand; one that is killed
+/// does not. The file `PATH.lock` beside it is locked while a client uses it, and also while a
+/// child runs that was forked meanwhile and has executed no other program.
 ///
 /// ```
 /// use locks_client::{Numbers, milliseconds};
@@ -58,8 +58,8 @@ pub struct Numbers {
 /// The milliseconds since 1970, a first number for a client that does not know its last one.
 ///
 /// It is above all numbers that the client used as long as each earlier run began so too, the clock
-/// was not set back, and the client used less than a thousand numbers a second. A run that is killed
-/// uses up its thousand.
+/// was not set back, and the client used less than a thousand numbers a second. A run that is
+/// killed uses up its thousand.
 ///
 /// ```
 /// use locks_client::{Numbers, milliseconds};

@@ -180,6 +180,16 @@ fn a_grant_of_an_earlier_run_is_not_withdrawn() {
 }
 
 #[test]
+fn a_grant_that_was_broken_meanwhile_is_withdrawn() {
+    let rows = vec![vec![], vec![answer(1, GRANTED)], vec![answer(2, "04")]];
+    let node = Node::new(rows);
+    let mut client = client(&[node.port]);
+    client.set_patience(Duration::from_millis(200));
+    assert!(matches!(client.acquire("db"), Err(Error::NoAnswer)));
+    assert!(client.withdraw().unwrap());
+}
+
+#[test]
 fn a_withdraw_goes_on_where_its_release_has_no_answer() {
     let node = Node::new(vec![
         vec![],
@@ -249,4 +259,12 @@ fn events_are_told() {
         format!("request 2: port {port} answers granted 1"),
     ];
     assert_eq!(events, expected);
+}
+
+#[test]
+fn a_client_and_its_errors_may_go_to_another_thread() {
+    fn may_go<T: Send + Sync + 'static>() {}
+    may_go::<Client>();
+    may_go::<Numbers>();
+    may_go::<Error>();
 }
