@@ -196,9 +196,9 @@ impl Client {
     /// fence.
     ///
     /// [`Error::Busy`] where it is held after that, or at once where this client itself holds it
-    /// (since an earlier run); [`Error::NoAnswer`] where the last request has no answer: it may
-    /// still be granted, so call [`Client::withdraw`] or [`Client::again`]. It returns within
-    /// `wait`, or within its patience where that is longer.
+    /// (since an earlier run); [`Error::NoAnswer`] where the last request has no answer: it may still
+    /// be granted, so call [`Client::withdraw`] or [`Client::again`]. It returns half a second after
+    /// `wait` at the latest, or within its patience where that is longer.
     ///
     /// Between two requests it waits 50 ms at first, and then longer: below a second for the first
     /// half minute, and while the fence changes; 2.5 seconds at most where it stays.

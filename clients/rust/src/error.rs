@@ -33,7 +33,8 @@ pub enum Error {
     Passed(u64),
     /// This answers another request: the number was used before.
     OtherAnswer(Answer),
-    /// The client, or its numbers, were made in another process, before a fork.
+    /// The client, or its numbers, were made in another process, before a fork. Make them after it,
+    /// and with another client number if the parent goes on to use this one.
     Forked {
         /// The process in which they were made.
         opened: u32,

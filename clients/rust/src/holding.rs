@@ -8,7 +8,7 @@ use std::mem;
 use std::thread;
 use std::time::{Duration, Instant};
 
-/// The time that a request is given at least: none is begun later before the end of a wait.
+/// The time that the last request of a wait is given at least.
 const ANSWER_TIME: Duration = Duration::from_millis(500);
 
 /// The fence of a grant.
@@ -48,12 +48,12 @@ impl Client {
 
     /// The fence of a grant, for which is asked again while another client holds the name.
     pub(crate) fn fence_within(&mut self, op: Op<'_>, wait: Duration) -> Result<u64, Error> {
-        let (start, limit) = (Instant::now(), wait.max(self.patience));
-        let last = wait.min(limit.saturating_sub(ANSWER_TIME));
+        let start = Instant::now();
+        let limit = wait.saturating_add(ANSWER_TIME).max(self.patience);
         let mut waits = BusyWaits::default();
         loop {
             let found = self.fence_by(op, limit.saturating_sub(start.elapsed()));
-            let left = last.saturating_sub(start.elapsed());
+            let left = wait.saturating_sub(start.elapsed());
             match found {
                 Err(Error::Busy { holder, fence }) if holder != self.client && !left.is_zero() => {
                     self.pause(holder, fence, waits.after(fence).min(left));
