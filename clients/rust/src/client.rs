@@ -200,8 +200,9 @@ impl Client {
     /// be granted, so call [`Client::withdraw`] or [`Client::again`]. It returns half a second after
     /// `wait` at the latest, or within its patience where that is longer.
     ///
-    /// Between two requests it waits 50 ms at first, and then longer: below a second for the first
-    /// half minute, and while the fence changes; 2.5 seconds at most where it stays.
+    /// Between two requests it waits 50 ms at first, and then longer, at most a second. It begins
+    /// anew where the fence has changed, and waits up to four seconds where it stays for longer than
+    /// half a minute.
     ///
     #[doc = asks_a_node!()]
     /// # mod support { include!(concat!(env!("CARGO_MANIFEST_DIR"), "/tests/support/cluster.rs")); }

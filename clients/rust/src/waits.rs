@@ -11,18 +11,17 @@ const STEPS: [Duration; 4] = [
     Duration::from_secs(4),
 ];
 
-/// The same for a lock that is held.
-const BUSY_STEPS: [Duration; 4] = [
+/// The same for a lock that is held. The last one, scattered, is shorter than a second.
+const BUSY_STEPS: [Duration; 5] = [
     Duration::from_millis(50),
     Duration::from_millis(100),
     Duration::from_millis(200),
     Duration::from_millis(400),
+    Duration::from_millis(800),
 ];
-/// What comes after these steps: scattered, it is shorter than a second.
-const BUSY: Duration = Duration::from_millis(750);
-/// How many steps one holder is waited for like that, and how long after them.
+/// How many steps one holder is waited for like that, about half a minute, and how long after them.
 const LONG_AFTER: usize = 34;
-const LONG: Duration = Duration::from_secs(2);
+const LONG: Duration = Duration::from_millis(3200);
 
 /// Waits between two sends of a request: 0.5, 1, 2, 4, 4, .. seconds, each times a random 0.75 to
 /// 1.25, so that clients do not ask in step.
@@ -39,8 +38,8 @@ pub struct Waits {
     step: usize,
 }
 
-/// Waits between two requests for a lock that is held, scattered too. They begin at 50 ms, and stay
-/// below a second while the fence changes from one request to the next.
+/// Waits between two requests for a lock that is held, scattered too. They begin at 50 ms, anew
+/// after each change of the fence, and stay below a second for half a minute.
 #[derive(Clone, Debug, Default)]
 pub(crate) struct BusyWaits {
     step: usize,
@@ -71,12 +70,11 @@ impl BusyWaits {
     /// How long to wait where the lock is held at that fence.
     pub(crate) fn after(&mut self, fence: u64) -> Duration {
         if self.fence.replace(fence) != Some(fence) {
-            self.step = self.step.min(BUSY_STEPS.len());
+            self.step = 0;
         }
-        let wait = match BUSY_STEPS.get(self.step) {
-            Some(wait) => *wait,
-            None if self.step < LONG_AFTER => BUSY,
-            None => LONG,
+        let wait = match self.step {
+            LONG_AFTER.. => LONG,
+            step => BUSY_STEPS[step.min(BUSY_STEPS.len() - 1)],
         };
         self.step += 1;
         scattered(wait)
@@ -110,18 +108,18 @@ mod tests {
             assert!(is_about(waits.after(3), expected));
         }
         for _ in 0..30 {
-            assert!(is_about(waits.after(3), 750));
+            assert!(is_about(waits.after(3), 800));
         }
-        assert!(is_about(waits.after(3), 2000));
-        assert!(is_about(waits.after(4), 750));
+        assert!(is_about(waits.after(3), 3200));
+        assert!(is_about(waits.after(3), 3200));
     }
 
     #[test]
-    fn waits_stay_below_a_second_while_the_holder_changes() {
+    fn waits_begin_anew_after_a_change_of_the_holder() {
         let mut waits = BusyWaits::default();
-        for fence in 1..100 {
-            assert!(waits.after(fence).as_millis() < 1000);
+        for fence in 1..9 {
+            assert!(is_about(waits.after(fence), 50));
+            assert!(is_about(waits.after(fence), 100));
         }
-        assert!(is_about(waits.after(100), 750));
     }
 }
