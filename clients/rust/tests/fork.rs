@@ -5,6 +5,7 @@
 mod support;
 
 use locks_client::{Client, ClientId, ClusterId, Error, Numbers};
+use std::panic::{AssertUnwindSafe, catch_unwind};
 use std::time::Duration;
 use std::{env, fs, process};
 use support::{GRANTED, Node, RELEASED, answer, client, client_of, op};
@@ -19,7 +20,7 @@ unsafe extern "C" {
 fn in_a_child(block: impl FnOnce() -> bool) -> bool {
     let child = unsafe { fork() };
     if child == 0 {
-        let is_good = block();
+        let is_good = catch_unwind(AssertUnwindSafe(block)).unwrap_or(false);
         unsafe { _exit(i32::from(!is_good)) };
     }
     let mut status = -1;
