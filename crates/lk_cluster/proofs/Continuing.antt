@@ -11,14 +11,14 @@ use Rattle.lk_step.specs.declared.note.Note.{Note}
 use Rattle.lk_node.specs.Histories.{Genesis, Datagram}
 use Rattle.lk_replica.specs.ReplicaValue.{ReplicaValue}
 use Rattle.lk_server.specs.Servers.{ServerValue, Turn, LastTurn, given_in}
-use Rattle.lk_service.specs.Turns.{TakesTurn}
 use Rattle.lk_service.specs.Chains.{Chain}
+use Rattle.lk_service.specs.Turns.{TakesTurn as ServerTurn}
 use Rattle.lk_sim.specs.Networks.{nothing}
 use Rattle.lk_sim.specs.Seats.{At}
 use Rattle.lk_sim.specs.declared.seat.Life.{Life}
 use Rattle.lk_sim.specs.declared.seat.Life.TheVariants.{Up, Down}
 use Rattle.lk_sim.proofs.Networks.{at_set_here, set_twice}
-use Rattle.lk_cluster.specs.Clusters.{Cluster, Network, Says, IsBegun, server_disks, Starts, TakesTurn, EndsByTurn, Happens, HappenAll, IsReachable}
+use Rattle.lk_cluster.specs.Clusters.{Node, Cluster, Network, Says, IsBegun, server_disks, Starts, TakesTurn, EndsByTurn, Happens, HappenAll, IsReachable}
 use Rattle.lk_cluster.specs.Continuing.{node_of, HasNode, Continues, letters_of, MayAllCome, ReportFailures}
 use Rattle.lk_cluster.proofs.Keeping.{IsSound, Unforged, own_may, given_may, ended_may, with_replica, reachable_sound}
 use Rattle.lk_cluster.proofs.Saying.{turn_so}
@@ -40,12 +40,12 @@ module _ (May : Network) (Metered tells : Type 0) where
 
   continues_with : (genesis : Genesis) (old : Cluster) (place n : ℕ) (life : Life (ServerValue ReplicaValue)) (letters : List LetterValue) (trace : List Note) → IsReachable May Metered tells genesis (continued old place n life letters trace)
       → Continues May Metered tells genesis old place n life letters
-  continues_with genesis old place n life letters trace all = record { cluster = continued old place n life letters trace; reachable = all; seats = refl; sent = refl }
+  continues_with genesis old place n life letters trace all = record { cluster = continued old place n life letters trace; reachable = all; began = refl; seats = refl; sent = refl }
 
   -- a start
-  pub start_continues : (genesis : Genesis) (old : Cluster) → IsReachable May Metered tells genesis old → (place n : ℕ) (device : Memory) → HasNode old place n (Down device)
-      → (disks : Side → Disk) → ((s : Side) → disk_of device s ≡ disks s) → (server : ServerValue ReplicaValue) → IsBegun old.genesis n disks server → Continues May Metered tells genesis old place n (Up server) []
-  start_continues genesis old all place n device at disks same server is =
+  pub start_comes : (genesis : Genesis) (old : Cluster) → IsReachable May Metered tells genesis old → (place n : ℕ) (device : Memory) → HasNode old place n (Down device) → (disks : Side → Disk) → ((s : Side) → disk_of device s ≡ disks s)
+      → (server : ServerValue ReplicaValue) → IsBegun old.genesis n disks server → (trace : List Note) × IsReachable May Metered tells genesis (continued old place n (Up server) [] trace)
+  start_comes genesis old all place n device at disks same server is =
       let path : disks ≡ disk_of device = λ i s. sym (same s) i in
       let begun : IsBegun old.genesis n (disk_of device) server = subst (λ (d : Side → Disk). IsBegun old.genesis n d server) path is in
       let new = continued old place n (Up server) [] begun.notes in
@@ -64,8 +64,13 @@ module _ (May : Network) (Metered tells : Type 0) where
         };
         own = begun.own;
         alive = begun.alive;
-      } in
-      continues_with genesis old place n (Up server) [] begun.notes (goes_on genesis old new all (inr (inl starts)))
+      } in (begun.notes, goes_on genesis old new all (inr (inl starts)))
+
+  pub start_continues : (genesis : Genesis) (old : Cluster) → IsReachable May Metered tells genesis old → (place n : ℕ) (device : Memory) → HasNode old place n (Down device)
+      → (disks : Side → Disk) → ((s : Side) → disk_of device s ≡ disks s) → (server : ServerValue ReplicaValue) → IsBegun old.genesis n disks server → Continues May Metered tells genesis old place n (Up server) []
+  start_continues genesis old all place n device at disks same server is =
+      let t = start_comes genesis old all place n device at disks same server is in
+      continues_with genesis old place n (Up server) [] t.0 t.1
 
   module _ (unforged : Unforged May) where
     -- a turn has a trace
@@ -151,14 +156,31 @@ module _ (May : Network) (Metered tells : Type 0) where
         continues_with genesis old place n (Down left) turn.hands_on.letters traced.0 (goes_on genesis old new all (inr (inr (inr (inr (inl ends))))))
 
     -- what was continued and then continued again
-    twice : (genesis : Genesis) (old : Cluster) (place n : ℕ) (life last : Life (ServerValue ReplicaValue)) (first rest : List LetterValue) (trace : List Note)
+    pub twice : (genesis : Genesis) (old : Cluster) (place n : ℕ) (life last : Life (ServerValue ReplicaValue)) (first rest : List LetterValue) (trace : List Note)
         → Continues May Metered tells genesis (continued old place n life first trace) place n last rest → Continues May Metered tells genesis old place n last (first ++ rest)
     twice genesis old place n life last first rest trace c = record {
       cluster = c.cluster;
       reachable = c.reachable;
+      began = c.began;
       seats = c.seats ∙ set_twice old.seats place (node_of n life) (node_of n last);
       sent = c.sent ∙ append_assoc old.sent (batch_of n first) (batch_of n rest) ∙ ap (λ (l : List Datagram). old.sent ++ l) (sym (map-append (datagram_of n) first rest));
     }
+
+    -- a cluster that was continued is continued again
+    pub joined_continues : (genesis : Genesis) (old : Cluster) (place n : ℕ) (life last : Life (ServerValue ReplicaValue)) (first rest : List LetterValue) (c : Continues May Metered tells genesis old place n life first)
+        → Continues May Metered tells genesis c.cluster place n last rest → Continues May Metered tells genesis old place n last (first ++ rest)
+    joined_continues genesis old place n life last first rest c d = record {
+      cluster = d.cluster;
+      reachable = d.reachable;
+      began = d.began ∙ c.began;
+      seats = d.seats ∙ ap (λ (seats : List Node). set seats place (node_of n last)) c.seats ∙ set_twice old.seats place (node_of n life) (node_of n last);
+      sent = d.sent ∙ ap (λ (l : List Datagram). l ++ batch_of n rest) c.sent ∙ append_assoc old.sent (batch_of n first) (batch_of n rest) ∙ ap (λ (l : List Datagram). old.sent ++ l) (sym (map-append (datagram_of n) first rest));
+    }
+
+    -- the node is so there
+    pub has_node : (genesis : Genesis) (old : Cluster) (place n : ℕ) (before life : Life (ServerValue ReplicaValue)) (letters : List LetterValue) → HasNode old place n before → (c : Continues May Metered tells genesis old place n life letters)
+        → HasNode c.cluster place n life
+    has_node genesis old place n before life letters at c = subst (λ (seats : List Node). At seats place (node_of n life)) (sym c.seats) (at_set_here old.seats place (node_of n life) at.0)
 
     -- no turn continues the cluster as it is
     same_again : {X : Type 0} (xs : List X) (place : ℕ) (x : X) → At xs place x → xs ≡ set xs place x
@@ -169,11 +191,11 @@ module _ (May : Network) (Metered tells : Type 0) where
     -- turns, one after another, of a replica that says so
     module _ (S : ReplicaValue → Option (List ℕ) → List LetterValue → ReplicaValue → Type 0) (so : (old : ReplicaValue) (o : Option (List ℕ)) (letters : List LetterValue) (new : ReplicaValue) → S old o letters new → Says Metered old o letters new) where
       pub turns_continue : (genesis : Genesis) (old : Cluster) → IsReachable May Metered tells genesis old → (place n : ℕ) (first : ServerValue ReplicaValue) (states : List (ServerValue ReplicaValue)) (last : ServerValue ReplicaValue)
-          → HasNode old place n (Up first) → (turns : Chain (TakesTurn S tells) first states last) → MayAllCome S tells May old.genesis n old.sent first states last turns
+          → HasNode old place n (Up first) → (turns : Chain (ServerTurn S tells) first states last) → MayAllCome S tells May old.genesis n old.sent first states last turns
           → ReportFailures states → Continues May Metered tells genesis old place n (Up last) (letters_of S tells first states last turns)
       turns_continue genesis old all place n first [] last at turns may tell =
           let here : HasNode old place n (Up last) = subst (λ (s : ServerValue ReplicaValue). HasNode old place n (Up s)) (sym turns) at in
-          record { cluster = old; reachable = all; seats = same_again old.seats place (node_of n (Up last)) here; sent = sym (append-nil old.sent) }
+          record { cluster = old; reachable = all; began = refl; seats = same_again old.seats place (node_of n (Up last)) here; sent = sym (append-nil old.sent) }
       turns_continue genesis old all place n first (next ∷ states) last at turns may tell =
           let turn : Turn (Says Metered) tells turns.0.came first next = turn_so S (Says Metered) so tells turns.0.came first next turns.0.turn in
           let alive : next.replica.failed ≡ false = sym (tell next (0, omega arith, refl)) ∙ turn.alive in

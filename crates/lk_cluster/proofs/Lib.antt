@@ -4,6 +4,7 @@ mod Calls
 mod Keeping
 mod Tracing
 mod Continuing
+mod Serving
 mod Sealing
 mod Forgetting
 mod Saying

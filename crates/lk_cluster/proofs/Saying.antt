@@ -24,7 +24,7 @@ module _ {R : Type 0} (S T : R → Option (List ℕ) → List LetterValue → R 
     alive = t.alive;
   }
 
-  last_so : (tells : Type 0) (came : Option (SocketAddr × List ℕ)) (old new : ServerValue R) → LastTurn S tells came old new → LastTurn T tells came old new
+  abbrev pub last_so : (tells : Type 0) (came : Option (SocketAddr × List ℕ)) (old new : ServerValue R) → LastTurn S tells came old new → LastTurn T tells came old new
   last_so tells came old new t = record {
     given = t.given;
     behind = t.behind;

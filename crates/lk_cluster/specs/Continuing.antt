@@ -1,12 +1,11 @@
 -- What a server does, as a part of what happens to its cluster.
 use Rattle.std.specs.Prelude.{◌≡◌, ℕ, List, [], ◌∷◌, ◌++◌, Option, set, Contains}
-use Rattle.std.specs.declared.net.socket_addr.SocketAddr.{SocketAddr}
 use Rattle.lk_types.specs.declared.genesis.Genesis.{Genesis}
 use Rattle.lk_node.specs.Histories.{Datagram}
 use Rattle.lk_replica.specs.ReplicaValue.{ReplicaValue}
 use Rattle.lk_server.specs.Servers.{ServerValue}
 use Rattle.lk_service.specs.Chains.{Chain}
-use Rattle.lk_service.specs.Turns.{TakesTurn}
+use Rattle.lk_service.specs.Turns.{TakesTurn as ServerTurn}
 use Rattle.lk_sim.specs.Seats.{At}
 use Rattle.lk_sim.specs.declared.seat.Life.{Life}
 use Rattle.lk_step.specs.Letters.{LetterValue, batch_of}
@@ -27,22 +26,23 @@ module _ (May : Network) (Metered tells : Type 0) where
   pub record Continues (genesis : Genesis) (old : Cluster) (place n : ℕ) (life : Life (ServerValue ReplicaValue)) (letters : List LetterValue) : Type 0 where
     pub cluster : Cluster
     pub reachable : IsReachable May Metered tells genesis cluster
+    pub began : cluster.genesis ≡ old.genesis
     pub seats : cluster.seats ≡ set old.seats place (node_of n life)
     pub sent : cluster.sent ≡ old.sent ++ batch_of n letters
 
 -- `Says` is what a replica says by what it is given, and `tells` that the sockets tell what they send
 module _ (Says : ReplicaValue → Option (List ℕ) → List LetterValue → ReplicaValue → Type 0) (tells : Type 0) where
   -- the letters that it gave to be sent in these turns, in order
-  abbrev pub letters_of : (first : ServerValue ReplicaValue) (states : List (ServerValue ReplicaValue)) (last : ServerValue ReplicaValue) → Chain (TakesTurn Says tells) first states last → List LetterValue
+  abbrev pub letters_of : (first : ServerValue ReplicaValue) (states : List (ServerValue ReplicaValue)) (last : ServerValue ReplicaValue) → Chain (ServerTurn Says tells) first states last → List LetterValue
   letters_of first [] last turns = []
   letters_of first (next ∷ states) last turns = turns.0.turn.hands_on.letters ++ letters_of next states last turns.1
 
   -- in each of these turns the network may bring what came, where the letters of the turns before it were given to be sent
-  abbrev pub MayAllCome : Network → Genesis → ℕ → List Datagram → (first : ServerValue ReplicaValue) (states : List (ServerValue ReplicaValue)) (last : ServerValue ReplicaValue) → Chain (TakesTurn Says tells) first states last → Type 0
+  abbrev pub MayAllCome : Network → Genesis → ℕ → List Datagram → (first : ServerValue ReplicaValue) (states : List (ServerValue ReplicaValue)) (last : ServerValue ReplicaValue) → Chain (ServerTurn Says tells) first states last → Type 0
   MayAllCome May genesis n sent first [] last turns = Unit {0}
   MayAllCome May genesis n sent first (next ∷ states) last turns =
       May genesis sent first turns.0.came × MayAllCome May genesis n (sent ++ batch_of n turns.0.turn.hands_on.letters) next states last turns.1
 
--- each of them tells whether a call has ended its replica
+-- each of them reports whether a call has ended its replica, as `Server::replica` ensures of every server
 abbrev pub ReportFailures : List (ServerValue ReplicaValue) → Type 0
 ReportFailures servers = (s : ServerValue ReplicaValue) → Contains servers s → s.failed ≡ s.replica.failed

@@ -1,19 +1,23 @@
 //! The promise holds of processes.
-ghost use Rattle.std.specs.Prelude.{◌≡◌, ◌≢◌, ℕ, true, false, Option, Some, List, [], Contains};
+ghost use Rattle.std.specs.Prelude.{◌≡◌, ◌≢◌, ℕ, true, false, Option, Some, List, [], ◌∷◌, ◌++◌, Contains};
 ghost use Rattle.std.specs.declared.net.socket_addr.SocketAddr.{SocketAddr};
 ghost use Rattle.lk_types.specs.declared.genesis.Genesis.{Genesis as GenesisValue};
 ghost use Rattle.lk_disk.specs.Disk.{Disk};
 ghost use Rattle.lk_disk.specs.Memory.{Memory, disk_of};
 ghost use Rattle.lk_disk.specs.declared.device.Side.{Side};
 ghost use Rattle.lk_wire.specs.declared.message.NodeMessage.{NodeMessage};
+ghost use Rattle.lk_locks.specs.Meaning.{table_meaning};
 ghost use Rattle.lk_history.specs.Datagrams.{HasSent};
+ghost use Rattle.lk_step.specs.Letters.{batch_of};
+ghost use Rattle.lk_node.specs.Leavings.{header_of};
 ghost use Rattle.lk_seal.specs.Seals.{key_list, heard};
 ghost use Rattle.lk_seal.specs.declared.seals.Seals.{Seals};
 ghost use Rattle.lk_replica.specs.ReplicaValue.{ReplicaValue};
 ghost use Rattle.lk_server.specs.Posts.{taken_as};
 ghost use Rattle.lk_server.specs.Servers.{ServerValue, Turn, LastTurn};
 ghost use Rattle.lk_service.specs.Chains.{Repeats};
-ghost use Rattle.lk_service.specs.Turns.{TakesTurn};
+ghost use Rattle.lk_service.specs.Revivals.{IsBegun as IsTakenUp};
+ghost use Rattle.lk_service.specs.Turns.{EndsEarly, Serves, TakesTurn};
 ghost use Rattle.lk_sim.specs.Networks.{MayCome};
 ghost use Rattle.lk_sim.specs.declared.seat.Life.TheVariants.{Up, Down};
 ghost use Rattle.lk_promise.specs.Linear.{IsLinearizable};
@@ -56,14 +60,14 @@ pub fn a_sealed_datagram_is_not_forged<D: LogDisk, S: Datagrams>()
     is_told_by_a_node();
 }
 
-/// So a cluster whose nodes share such a key needs no other premise of the network: whatever frames come, nothing is forged in it.
+/// A cluster whose nodes share such a key needs no other premise about the network: whatever frames come, nothing is forged in it.
 pub fn a_sealed_cluster_forges_nothing<D: LogDisk, S: Datagrams>()
     ensures { (genesis : GenesisValue) (cluster : Cluster) → IsReachable IsSealed D.is_metered S.is_telling genesis cluster → IsReachable ForgesNothing D.is_metered S.is_telling genesis cluster }
 {
     is_told_by_a_node();
 }
 
-/// And it keeps the promise.
+/// So a cluster whose nodes share such a key keeps the promise.
 pub fn a_sealed_cluster_keeps_the_promise<D: LogDisk, S: Datagrams>()
     ensures { (genesis : GenesisValue) (cluster : Cluster) → IsReachable IsSealed D.is_metered S.is_telling genesis cluster → KeepsPromise (scene_of cluster) }
 {
@@ -71,7 +75,7 @@ pub fn a_sealed_cluster_keeps_the_promise<D: LogDisk, S: Datagrams>()
     a_cluster_keeps_the_promise::<D, S>();
 }
 
-/// A server that comes up on the disks of a node continues its cluster.
+/// A server that is taken up from the disks of a node continues its cluster: the cluster in which that node is up is reachable too.
 pub fn a_start_continues_a_cluster<D: LogDisk, S: Datagrams>()
     ensures { (genesis : GenesisValue) (cluster : Cluster) → IsReachable ForgesNothing D.is_metered S.is_telling genesis cluster
         → (place n : ℕ) (device : Memory) → HasNode cluster place n (Down device)
@@ -80,7 +84,7 @@ pub fn a_start_continues_a_cluster<D: LogDisk, S: Datagrams>()
         → Continues ForgesNothing D.is_metered S.is_telling genesis cluster place n (Up server) [] }
 {}
 
-/// A turn of a server continues its cluster, where what came in it is not forged.
+/// A turn of a server continues its cluster if what came in it is not forged. What the turn adds to the trace follows from what its replica says.
 pub fn a_turn_continues_a_cluster<D: LogDisk, S: Datagrams>()
     ensures { (genesis : GenesisValue) (cluster : Cluster) → IsReachable ForgesNothing D.is_metered S.is_telling genesis cluster
         → (place n : ℕ) (server after : ServerValue ReplicaValue) → HasNode cluster place n (Up server)
@@ -89,7 +93,7 @@ pub fn a_turn_continues_a_cluster<D: LogDisk, S: Datagrams>()
         → Continues ForgesNothing D.is_metered S.is_telling genesis cluster place n (Up after) turn.hands_on.letters }
 {}
 
-/// So does a turn of a server that has the key of the nodes, whatever frame came in it: this is a turn of the program, as `turning::turn` ensures it.
+/// A turn of a server that has the key of the nodes continues its cluster whatever frame came in it. `turning::turn` ensures such a turn.
 pub fn a_sealed_turn_continues_a_cluster<D: LogDisk, S: Datagrams>()
     ensures { (genesis : GenesisValue) (cluster : Cluster) → IsReachable IsSealed D.is_metered S.is_telling genesis cluster
         → (place n : ℕ) (server after : ServerValue ReplicaValue) → HasNode cluster place n (Up server)
@@ -100,7 +104,7 @@ pub fn a_sealed_turn_continues_a_cluster<D: LogDisk, S: Datagrams>()
     is_told_by_a_node();
 }
 
-/// A turn that ends a server continues its cluster too: the node is down then, on the disks that its replica has left.
+/// A turn that ends a server continues its cluster: the node is down then, on the disks that its replica has left.
 pub fn a_last_turn_continues_a_cluster<D: LogDisk, S: Datagrams>()
     ensures { (genesis : GenesisValue) (cluster : Cluster) → IsReachable ForgesNothing D.is_metered S.is_telling genesis cluster
         → (place n : ℕ) (server after : ServerValue ReplicaValue) → HasNode cluster place n (Up server)
@@ -110,7 +114,7 @@ pub fn a_last_turn_continues_a_cluster<D: LogDisk, S: Datagrams>()
         → Continues ForgesNothing D.is_metered S.is_telling genesis cluster place n (Down left) turn.hands_on.letters }
 {}
 
-/// So do the turns of a process, one after another, on an honest device, where nothing that came in any of them is forged.
+/// The turns of a process on an honest device continue its cluster, one after another, if nothing that came in any of them is forged.
 pub fn turns_continue_a_cluster<D: LogDisk + Drop, S: Datagrams>()
     ensures { D.is_honest → (genesis : GenesisValue) (cluster : Cluster) → IsReachable ForgesNothing D.is_metered S.is_telling genesis cluster
         → (place n count : ℕ) (first last : ServerValue ReplicaValue) → HasNode cluster place n (Up first)
@@ -120,7 +124,35 @@ pub fn turns_continue_a_cluster<D: LogDisk + Drop, S: Datagrams>()
         (letters_of ⟦<Replica<LockTable, D> as NodeReplica>⟧.Says S.is_telling first turns.states last turns.chain) }
 {}
 
-/// No node of a cluster begins anew: the disks of one that has sent a Prepare, a Promise, an Accept or an Accepted are never two empty ones.
+/// A node that serves continues its cluster, from its start to its last turn. The program ensures such a service.
+pub fn a_service_continues_a_cluster<D: LogDisk + Drop, S: Datagrams>()
+    ensures { D.is_honest → (genesis : GenesisValue) (cluster : Cluster) → IsReachable ForgesNothing D.is_metered S.is_telling genesis cluster
+        → (place n count : ℕ) (device : Memory) → HasNode cluster place n (Down device)
+        → (disks : Side → Disk) → ((s : Side) → disk_of device s ≡ disks s)
+        → (served : Serves (IsTakenUp table_meaning D.is_honest disks (header_of cluster.genesis n)) (header_of cluster.genesis n) ⟦<Replica<LockTable, D> as NodeReplica>⟧.Says S.is_telling count)
+        → ReportFailures served.turns.states
+        → MayAllCome ⟦<Replica<LockTable, D> as NodeReplica>⟧.Says S.is_telling ForgesNothing cluster.genesis n cluster.sent served.begun served.turns.states served.ended served.turns.chain
+        → Continues ForgesNothing D.is_metered S.is_telling genesis cluster place n (Up served.ended)
+        (letters_of ⟦<Replica<LockTable, D> as NodeReplica>⟧.Says S.is_telling served.begun served.turns.states served.ended served.turns.chain) }
+{}
+
+/// A node whose service breaks off continues its cluster: its last turn ends it, and it is down on the disks that its replica has left.
+pub fn a_service_that_breaks_off_continues_a_cluster<D: LogDisk + Drop, S: Datagrams>()
+    ensures { D.is_honest → (genesis : GenesisValue) (cluster : Cluster) → IsReachable ForgesNothing D.is_metered S.is_telling genesis cluster
+        → (place n most : ℕ) (device : Memory) → HasNode cluster place n (Down device)
+        → (disks : Side → Disk) → ((s : Side) → disk_of device s ≡ disks s)
+        → (served : EndsEarly (IsTakenUp table_meaning D.is_honest disks (header_of cluster.genesis n)) (header_of cluster.genesis n) ⟦<Replica<LockTable, D> as NodeReplica>⟧.Says S.is_telling most)
+        → ReportFailures (served.breaks.turns.states ++ served.ended ∷ [])
+        → MayAllCome ⟦<Replica<LockTable, D> as NodeReplica>⟧.Says S.is_telling ForgesNothing cluster.genesis n cluster.sent served.begun served.breaks.turns.states served.breaks.last served.breaks.turns.chain
+        → ForgesNothing cluster.genesis
+        (cluster.sent ++ batch_of n (letters_of ⟦<Replica<LockTable, D> as NodeReplica>⟧.Says S.is_telling served.begun served.breaks.turns.states served.breaks.last served.breaks.turns.chain)) served.breaks.last served.breaks.ends.came
+        → (left : Memory) → ((s : Side) → disk_of left s ≡ server_disks served.ended s)
+        → Continues ForgesNothing D.is_metered S.is_telling genesis cluster place n (Down left)
+        (letters_of ⟦<Replica<LockTable, D> as NodeReplica>⟧.Says S.is_telling served.begun served.breaks.turns.states served.breaks.last served.breaks.turns.chain ++ served.breaks.ends.turn.hands_on.letters) }
+{}
+
+/// No node of a cluster begins anew with empty disks: a node that has sent a Prepare, a Promise, an Accept or an Accepted never has two empty ones
+/// (an acceptor must remember, even if it fails and restarts: Lamport, Paxos Made Simple, 2001, section 2.2).
 pub fn no_node_forgets<D: LogDisk, S: Datagrams>()
     ensures { (genesis : GenesisValue) (cluster : Cluster) → IsReachable ForgesNothing D.is_metered S.is_telling genesis cluster
         → (node : Node) → Contains cluster.seats node
