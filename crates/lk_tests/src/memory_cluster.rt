@@ -4,11 +4,14 @@ use crate::digits::bytes_of;
 use crate::node_turns::{Locks, header};
 use lk_disk::MemoryDisk;
 use lk_locks::LockTable;
+use lk_replica::ReviveFault;
 use lk_server::ear::Ear;
 use lk_server::memory_socket::{MemorySocket, Told};
 use lk_server::node_replica::NodeReplica;
+use lk_server::outside::Outside;
 use lk_server::server::{Server, node_turn};
 use lk_server::socket::{Datagrams, local};
+use lk_service::resources::Resources;
 use lk_service::running::revive;
 use log::sink::Discard;
 use std::alloc::Global;
@@ -31,9 +34,15 @@ pub struct Cluster {
 // The server of a node of three, at this port.
 fn begun(alloc: Global, node: u32, port: u16) -> Result<LockServer, Fail> {
     let header = header(node, 1, 3)?;
-    let socket = MemorySocket::new(alloc, port);
-    let disk = MemoryDisk::new(alloc);
-    Ok(revive::<LockTable, _, _, _>(alloc, &header, disk, socket, &Discard)?)
+    let resources = Resources {
+        device: MemoryDisk::new(alloc),
+        socket: MemorySocket::new(alloc, port),
+        outside: Outside::local(header.genesis().cluster, header.node()),
+    };
+    match revive::<LockTable, _, _, _>(alloc, &header, resources, &Discard) {
+        Ok(server) => Ok(server),
+        Err(ReviveFault { .. }) => Err("begun")?,
+    }
 }
 
 // The servers of nodes 1 to 3, at ports 7001 to 7003.
