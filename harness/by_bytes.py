@@ -14,12 +14,12 @@ def bytes_of(*texts):
 class Node:
     """Node 2 of three in cluster 5, on files of these bytes. The test stands at the ports of the others.
 
-    In a text the words 1b59, 1b5a and 1b5b stand for the ports of nodes 1 to 3."""
+    In a text the words 1b59, 1b5a and 1b5b stand for the ports of nodes 1 to 3. `words` are further options of the node."""
 
     def __init__(self, program, folder, alpha=1):
         self.program, self.folder, self.ports = program, folder, free_ports(3)
         self.genesis = f"5,{alpha}," + ",".join(f"{node}:{port}" for node, port in enumerate(self.ports, 1))
-        self.process, self.runs = None, []
+        self.process, self.runs, self.words = None, [], ()
         self.socket, self.third = self.bound(self.ports[0]), self.bound(self.ports[2])
 
     def __enter__(self):
@@ -63,7 +63,7 @@ class Node:
     def start(self):
         """Starts it, and waits until it serves: then `runs` has the positions that it executed as it came up, and the last line of standard error
         is given, which is its fault where it does not come up."""
-        words = ["--genesis", self.genesis, "--number", "2", "--port", str(self.ports[1]), "--dir", self.folder, "--log", "--verbose"]
+        words = ["--genesis", self.genesis, "--number", "2", "--port", str(self.ports[1]), "--dir", self.folder, "--log", "--verbose", *self.words]
         self.process = subprocess.Popen([self.program, "node", *words], stdin=subprocess.DEVNULL, stderr=subprocess.PIPE, text=True)
         self.runs, last = [], ""
         for line in self.process.stderr:

@@ -10,7 +10,7 @@ import tarfile
 
 from scripting import TOP, parser
 
-PAGES = ("docs/OPERATING.md", "docs/SECURITY.md", "docs/WIRE.md", "docs/PROVED.md")
+PAGES = ("docs/OPERATING.md", "docs/SECURITY.md", "docs/WIRE.md", "docs/FORMATS.md", "docs/PROVED.md")
 OF_PYTHON = ("python/locks_client/**/*", "python/backend/*.py", "python/pyproject.toml", "python/README.md")
 OF_RUST = ("rust/Cargo.*", "rust/build.rs", "rust/src/**/*", "rust/README.md")
 UNIT = "tools/systemd/locks@.service"
