@@ -4,8 +4,8 @@
 It runs the command and looks twice a second at the processor time of each process of the prover that the command
 started: which crate it checks, and whether its proof, its tests or its wrong bodies. What a process spent since it was
 last seen is lost, a second or so of each. One that has ended and waits for its parent has no words left, and is not
-looked at again. At the end it prints the table of docs/GATE.md in minutes of a processor, with the machine's load and
-the share of time that the host took away (`steal`)."""
+looked at again. At the end it prints a table in minutes of a processor, with the machine's load and the
+share of time that the host took away (`steal`)."""
 import argparse, collections, os, pathlib, re, subprocess, sys, time
 
 from scripting import TOP, parser
