@@ -4,14 +4,15 @@
 Of each crate of crates.txt it has what the root of src/ says at its head, the crates that it stands on, the modules of
 lemmas that other crates may use, and each file of definitions with the first sentence of its first comment.
 
-With --check it compares that with crates/README.md; then the last line is `N passed, M failed`, and the status is 1 if
-they differ."""
+With --check it compares that with crates/README.md, and the drawing of the crates with that of tools/crates.py; then the
+last line is `N passed, M failed`, and the status is 1 if one differs."""
 import re
 import textwrap
 
+from crates import draw, stands_on
 from scripting import TOP, Tally, parser
 
-PAGE = "crates/README.md"
+PAGE, DRAWING = "crates/README.md", "docs/pictures/crates.svg"
 HEAD = """# The crates
 
 Made by `tools/map.py > crates/README.md` from the heads of the files; `tools/map.py --check` compares. Read
@@ -21,8 +22,8 @@ definitions that contracts cite (listed here), `proofs/` lemmas and the answers 
 """
 
 
-def stands_on():
-    """For each crate of crates.txt all that it stands on, in the order of the file."""
+def below_each():
+    """For each crate of crates.txt all that it stands on, libraries of the kit too, in the order of the file."""
     lines = ((TOP / "crates.txt").read_text(encoding="utf-8")).splitlines()
     named = dict(line.split(":") for line in lines if line.strip() and not line.startswith("#"))
     return {crate: below.split() for crate, below in named.items()}
@@ -85,19 +86,21 @@ def section(crate, below):
 
 def page():
     """The page."""
-    below = stands_on()
+    below = below_each()
     return HEAD + "".join(part for crate in below for part in section(crate, below))
 
 
 def main():
     arguments = parser(__doc__)
-    arguments.add_argument("--check", action="store_true", help="compares the map with the page")
+    arguments.add_argument("--check", action="store_true", help="compares both with their files")
     if not arguments.parse_args().check:
         print(page(), end="")
         return
     tally = Tally()
-    is_same = (TOP / PAGE).read_text(encoding="utf-8") == page()
-    tally.row(PAGE, None if is_same else f"it differs: run tools/map.py > {PAGE}")
+    drawing = "\n".join(draw(stands_on())) + "\n"
+    for name, text, tool in ((PAGE, page(), "tools/map.py"), (DRAWING, drawing, "tools/crates.py")):
+        is_same = (TOP / name).read_text(encoding="utf-8") == text
+        tally.row(name, None if is_same else f"it differs: run {tool} > {name}")
     tally.end()
 
 
