@@ -1,11 +1,11 @@
 #!/usr/bin/env python3
-"""Prints the map of the crates, which stands in crates/README.md, from the heads of their files.
+"""Prints the map of the crates, for crates/README.md, from the heads of their files.
 
 Of each crate of crates.txt it has what the root of src/ says at its head, the crates that it stands on, the modules of
 lemmas that other crates may use, and each file of definitions with the first sentence of its first comment.
 
-With --check it compares that with crates/README.md, and the drawing of the crates with that of tools/crates.py; then the
-last line is `N passed, M failed`, and the status is 1 if one differs."""
+With --check it compares that with crates/README.md, and docs/pictures/crates.svg with what tools/crates.py draws; then
+the last line is `N passed, M failed`, and the status is 1 if one differs."""
 import re
 import textwrap
 
