@@ -1,28 +1,25 @@
 #!/usr/bin/env python3
 """Draws what a script of world mode does, as SVG on standard output.
 
-With --check it draws each picture docs/pictures/NAME.svg again from examples/NAME.txt, and says which differ.
+With --check it draws each picture docs/pictures/tour_NAME.svg again from examples/tour_NAME.txt, and says which differ.
 
 Each client and node has a lane, time goes downwards, and each line that the program prints has a line of the picture to
 itself, so no text lies upon another. It runs each prefix of the script to find what belongs to an event."""
-import html, pathlib, subprocess, sys
+import pathlib, subprocess, sys
 
+import svg
 from scripting import TOP, a_program, parser
 WIDTH, PITCH, HEAD, LEFT, RIGHT = 1000, 20, 58, 205, 125
-STYLE = """
-.paper{fill:#fff} .band{fill:#f3f5f8} text{font:13px sans-serif;fill:#1c2733}
+STYLE = svg.style("""\
 .script{font:12px monospace;fill:#44505c} .name{font-weight:bold}
 .lane{stroke:#7d8b99;stroke-width:3} .down{stroke:#c2cad2;stroke-width:1.5;stroke-dasharray:2 5} .line{fill:none;stroke:#2b6cb0;stroke-width:1.4}
 .line.again{stroke-dasharray:6 4} .lost{stroke:#c0392b;stroke-width:1.4} .cross{stroke:#c0392b;stroke-width:2.2;fill:none} .point{fill:#2b6cb0}
 .promise{fill:#b7791f} .vote{fill:#6b46c1} .promise.again{fill:none;stroke:#b7791f;stroke-width:1.6} .vote.again{fill:none;stroke:#6b46c1;stroke-width:1.6}
 .unsynced{fill:none;stroke:#44505c;stroke-width:1.6} .counted{fill:#2f855a} .ran{fill:#2f855a} .answered{fill:none;stroke:#2f855a;stroke-width:2.5}
-.edge{stroke:#44505c;stroke-width:3}
-@media (prefers-color-scheme: dark) {
-.paper{fill:#14191f} .band{fill:#1b222a} text{fill:#e6ebf0} .script{fill:#aab6c2}
+.edge{stroke:#44505c;stroke-width:3}""", """\
+.script{fill:#aab6c2}
 .lane{stroke:#74828f} .down{stroke:#46525e} .line{stroke:#63b3ed} .point{fill:#63b3ed} .lost,.cross{stroke:#fc8181}
-.promise{fill:#f6ad55} .vote{fill:#b794f4} .promise.again{stroke:#f6ad55} .vote.again{stroke:#b794f4} .unsynced{stroke:#aab6c2} .counted,.ran{fill:#68d391} .answered{stroke:#68d391} .edge{stroke:#cbd5de}
-}
-"""
+.promise{fill:#f6ad55} .vote{fill:#b794f4} .promise.again{stroke:#f6ad55} .vote.again{stroke:#b794f4} .unsynced{stroke:#aab6c2} .counted,.ran{fill:#68d391} .answered{stroke:#68d391} .edge{stroke:#cbd5de}""")
 
 
 def printed(program, lines):
@@ -75,11 +72,6 @@ def lanes(told):
     return sorted(names, key=lambda name: (name[0], int(name[1:])))
 
 
-def width(words):
-    """About how many pixels the words take, rather too many than too few."""
-    return round(sum(4.6 if letter in " .:ijltfr" else 12.8 if letter in "mw" else 8.2 for letter in words))
-
-
 class Picture:
     def __init__(self, told):
         self.told, self.names = told, lanes(told)
@@ -91,10 +83,10 @@ class Picture:
 
     def text(self, x, y, words, kind="label", anchor="start"):
         """Words on a ground of their own, so that no line goes through them."""
-        wide = width(words) + (width(words) // 8 if kind == "name" else 0) + 4
+        wide = svg.width(words) + (svg.width(words) // 8 if kind == "name" else 0) + 4
         left = {"start": x - 2, "end": x - wide + 2, "middle": x - wide // 2}[anchor]
         self.grounds.append(f'<rect class="{self.ground}" x="{left}" y="{y - 9}" width="{wide}" height="18"/>')
-        self.texts.append(f'<text class="{kind}" x="{x}" y="{y + 4}" text-anchor="{anchor}">{html.escape(words)}</text>')
+        self.texts.append(svg.text(x, y + 4, words, kind, anchor))
 
     def path(self, drawn, kind):
         (self.lanes if kind == "lane" else self.lines).append(f'<path class="{kind}" d="{drawn}"/>')
@@ -244,10 +236,8 @@ class Picture:
 
     def svg(self):
         self.finish()
-        parts = [f'<rect class="paper" width="{WIDTH}" height="{self.y}"/>', *self.under, *self.lines, *self.grounds, *self.lanes,
-                 *self.texts, *self.marks]
-        head = f'<svg xmlns="http://www.w3.org/2000/svg" viewBox="0 0 {WIDTH} {self.y}" width="{WIDTH}" height="{self.y}">'
-        return "\n".join([head, f"<style>{STYLE}</style>", *parts, "</svg>", ""])
+        parts = [*self.under, *self.lines, *self.grounds, *self.lanes, *self.texts, *self.marks]
+        return svg.document(STYLE, WIDTH, self.y, parts)
 
 
 def draw(program, script):
@@ -259,7 +249,7 @@ def draw(program, script):
 
 def check(program):
     differ = 0
-    for picture in sorted((TOP / "docs" / "pictures").glob("*.svg")):
+    for picture in sorted((TOP / "docs" / "pictures").glob("tour_*.svg")):
         same = picture.read_text() == draw(program, TOP / "examples" / f"{picture.stem}.txt")
         differ += not same
         print(f"{picture.name}: {'as drawn' if same else 'DIFFERS'}", flush=True)
