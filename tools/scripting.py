@@ -15,6 +15,7 @@ HINTS = {
     "man": "it shows manual pages; Debian: apt-get install man-db",
     "valgrind": "it counts instructions; Debian: apt-get install valgrind",
     "etcd": "Debian: apt-get install etcd-server",
+    "strace": "it counts and delays system calls; Debian: apt-get install strace",
 }
 
 
