@@ -14,6 +14,7 @@ HINTS = {
     "cargo": "it builds Rust; Debian: apt-get install cargo",
     "man": "it shows manual pages; Debian: apt-get install man-db",
     "valgrind": "it counts instructions; Debian: apt-get install valgrind",
+    "chromium": "it shows pages; Debian: apt-get install chromium",
     "etcd": "Debian: apt-get install etcd-server",
     "strace": "it counts and delays system calls; Debian: apt-get install strace",
 }
