@@ -5,7 +5,7 @@ use Rattle.std.specs.declared.net.socket_addr.SocketAddr.{SocketAddr}
 use Rattle.lk_disk.specs.Disk.{Disk}
 use Rattle.lk_disk.specs.Memory.{Memory, disk_of}
 use Rattle.lk_disk.specs.declared.device.Side.{Side}
-use Rattle.lk_history.proofs.Histories.{contains_more}
+use Rattle.lk_locks.specs.Meaning.{table_meaning}
 use Rattle.lk_step.specs.Letters.{LetterValue, batch_of, datagram_of}
 use Rattle.lk_step.specs.declared.note.Note.{Note}
 use Rattle.lk_node.specs.Histories.{Genesis, Datagram}
@@ -13,13 +13,13 @@ use Rattle.lk_replica.specs.ReplicaValue.{ReplicaValue}
 use Rattle.lk_server.specs.Servers.{ServerValue, Turn, LastTurn, given_in}
 use Rattle.lk_service.specs.Chains.{Chain}
 use Rattle.lk_service.specs.Turns.{TakesTurn as ServerTurn}
-use Rattle.lk_sim.specs.Networks.{nothing}
+use Rattle.lk_sim.specs.Networks.{Rests, RestsBy, nothing}
 use Rattle.lk_sim.specs.Seats.{At}
 use Rattle.lk_sim.specs.declared.seat.Life.{Life}
 use Rattle.lk_sim.specs.declared.seat.Life.TheVariants.{Up, Down}
 use Rattle.lk_sim.proofs.Networks.{at_set_here, set_twice}
 use Rattle.lk_cluster.specs.Clusters.{Node, Cluster, Network, Says, IsBegun, server_disks, Starts, TakesTurn, EndsByTurn, Happens, HappenAll, IsReachable}
-use Rattle.lk_cluster.specs.Continuing.{node_of, HasNode, Continues, letters_of, MayAllCome, ReportFailures}
+use Rattle.lk_cluster.specs.Continuing.{node_of, HasNode, Continues, letters_of, MayAllCome}
 use Rattle.lk_cluster.proofs.Keeping.{IsSound, Unforged, own_may, given_may, ended_may, with_replica, reachable_sound}
 use Rattle.lk_cluster.proofs.Saying.{turn_so}
 use Rattle.lk_cluster.proofs.Tracing.{Traced, trace_up}
@@ -71,6 +71,24 @@ module _ (May : Network) (Metered tells : Type 0) where
   start_continues genesis old all place n device at disks same server is =
       let t = start_comes genesis old all place n device at disks same server is in
       continues_with genesis old place n (Up server) [] t.0 t.1
+
+  -- a start that is refused
+  pub refused_start_continues : (genesis : Genesis) (old : Cluster) → IsReachable May Metered tells genesis old → (place n : ℕ) (device : Memory) → HasNode old place n (Down device)
+      → (left : Memory) → RestsBy table_meaning old.genesis n (disk_of device) (disk_of left) → Continues May Metered tells genesis old place n (Down left) []
+  refused_start_continues genesis old all place n device at left rests =
+      let new = continued old place n (Down left) [] [] in
+      let stays : Rests table_meaning old new = record {
+        seat = node_of n (Down device);
+        next = node_of n (Down left);
+        turns = record { place = place; at = at; number = refl; seats = refl };
+        device = device;
+        down = refl;
+        left = left;
+        still = refl;
+        rests = rests;
+        adds = record { genesis = refl; sent = refl; trace = refl };
+      } in
+      continues_with genesis old place n (Down left) [] [] (goes_on genesis old new all (inr (inr (inl stays))))
 
   module _ (unforged : Unforged May) where
     -- a turn has a trace
@@ -192,14 +210,13 @@ module _ (May : Network) (Metered tells : Type 0) where
     module _ (S : ReplicaValue → Option (List ℕ) → List LetterValue → ReplicaValue → Type 0) (so : (old : ReplicaValue) (o : Option (List ℕ)) (letters : List LetterValue) (new : ReplicaValue) → S old o letters new → Says Metered old o letters new) where
       pub turns_continue : (genesis : Genesis) (old : Cluster) → IsReachable May Metered tells genesis old → (place n : ℕ) (first : ServerValue ReplicaValue) (states : List (ServerValue ReplicaValue)) (last : ServerValue ReplicaValue)
           → HasNode old place n (Up first) → (turns : Chain (ServerTurn S tells) first states last) → MayAllCome S tells May old.genesis n old.sent first states last turns
-          → ReportFailures states → Continues May Metered tells genesis old place n (Up last) (letters_of S tells first states last turns)
-      turns_continue genesis old all place n first [] last at turns may tell =
+          → Continues May Metered tells genesis old place n (Up last) (letters_of S tells first states last turns)
+      turns_continue genesis old all place n first [] last at turns may =
           let here : HasNode old place n (Up last) = subst (λ (s : ServerValue ReplicaValue). HasNode old place n (Up s)) (sym turns) at in
           record { cluster = old; reachable = all; began = refl; seats = same_again old.seats place (node_of n (Up last)) here; sent = sym (append-nil old.sent) }
-      turns_continue genesis old all place n first (next ∷ states) last at turns may tell =
+      turns_continue genesis old all place n first (next ∷ states) last at turns may =
           let turn : Turn (Says Metered) tells turns.0.came first next = turn_so S (Says Metered) so tells turns.0.came first next turns.0.turn in
-          let alive : next.replica.failed ≡ false = sym (tell next (0, omega arith, refl)) ∙ turn.alive in
+          let alive : next.replica.failed ≡ false = sym turns.0.failure ∙ turn.alive in
           let t = turn_comes genesis old all place n first next at turns.0.came may.0 turn alive in
           twice genesis old place n (Up next) (Up last) turns.0.turn.hands_on.letters (letters_of S tells next states last turns.1) t.0
-          (turns_continue genesis (continued old place n (Up next) turns.0.turn.hands_on.letters t.0) t.1 place n next states last (at_set_here old.seats place (node_of n (Up next)) at.0) turns.1 may.1
-          (λ s c. tell s (contains_more next states s c)))
+          (turns_continue genesis (continued old place n (Up next) turns.0.turn.hands_on.letters t.0) t.1 place n next states last (at_set_here old.seats place (node_of n (Up next)) at.0) turns.1 may.1)

@@ -5,6 +5,7 @@ mod Keeping
 mod Tracing
 mod Continuing
 mod Serving
+mod Outcomes
 mod Sealing
 mod Forgetting
 mod Saying

@@ -1,5 +1,5 @@
 -- What only nodes seal is not forged.
-use Rattle.std.proofs.Common.{◌≡◌, ◌≢◌, ℕ, inl, inr, Option, Some, None, List, [], ◌∷◌, sym, subst}
+use Rattle.std.proofs.Common.{◌≡◌, ◌≢◌, ℕ, inl, inr, Option, Some, None, List, [], ◌∷◌, ◌++◌, ap, sym, ◌∙◌, subst}
 use Rattle.std.specs.declared.net.socket_addr.SocketAddr.{SocketAddr}
 use Rattle.lk_types.specs.declared.command.Request.{Request}
 use Rattle.lk_wire.specs.Grammar.{Spells}
@@ -7,14 +7,20 @@ use Rattle.lk_wire.specs.declared.message.Content.TheVariants as content
 use Rattle.lk_wire.specs.declared.message.NodeMessage.{NodeMessage}
 use Rattle.lk_history.specs.Datagrams.{said_by}
 use Rattle.lk_history.proofs.Histories.{heard_was_sent}
-use Rattle.lk_node.specs.Histories.{Genesis}
+use Rattle.lk_step.specs.Letters.{LetterValue, batch_of}
+use Rattle.lk_node.specs.Histories.{Genesis, Datagram}
+use Rattle.lk_replica.specs.ReplicaValue.{ReplicaValue}
 use Rattle.lk_seal.specs.Seals.{key_list, heard}
 use Rattle.lk_seal.specs.declared.seals.Seals.{Seals}
 use Rattle.lk_server.specs.Posts.{taken_as}
 use Rattle.lk_server.specs.Premises.{IsToldByANode}
+use Rattle.lk_server.specs.Servers.{ServerValue}
+use Rattle.lk_service.specs.Chains.{Chain}
+use Rattle.lk_service.specs.Turns.{TakesTurn as ServerTurn}
 use Rattle.lk_sim.specs.Networks.{MayCome, nothing}
 use Rattle.lk_cluster.specs.Clusters.{Cluster, Network, ForgesNothing, bytes_of, TakesTurn, EndsByTurn, Happens, HappenAll, IsReachable}
-use Rattle.lk_cluster.specs.Sealing.{OnlyNodesSeal, OnlyNodesSealWhatComes, IsSealed}
+use Rattle.lk_cluster.specs.Continuing.{MayAllCome}
+use Rattle.lk_cluster.specs.Sealing.{OnlyNodesSeal, OnlyNodesSealAll, OnlyNodesSealWhatComes, IsSealed}
 use Rattle.lk_cluster.proofs.Keeping.{IsSound, Unforged, happens, begun}
 
 no_request : (genesis : Genesis) (n : ℕ) (x : NodeMessage) (r : Request) → content.Node n x ≡ content.Request r → ⊥
@@ -35,6 +41,34 @@ module _ (told : (s : Seals) (frame : List ℕ) → key_list s.nodes ≢ [] → 
   pub seals_forge_nothing : Unforged IsSealed
   seals_forge_nothing c w server came may =
       subst (λ (o : Option (SocketAddr × List ℕ)). MayCome c.genesis c.sent (bytes_of o)) (sym may.opened) (what_comes c w server.addresses.seals may.has_key may.frame may.only_nodes_seal)
+
+-- ---- turns of a server that has the key
+
+-- what comes in a frame
+pub frame_sealed : (s : Seals) → key_list s.nodes ≢ [] → (genesis : Genesis) (sent : List Datagram) (server : ServerValue ReplicaValue) → server.addresses.seals ≡ s → (frame came : Option (SocketAddr × List ℕ)) → came ≡ taken_as server.addresses.seals frame → OnlyNodesSealWhatComes sent s frame
+    → IsSealed genesis sent server came
+frame_sealed s key genesis sent server same frame came opened only = record {
+  frame = frame;
+  opened = opened;
+  has_key = subst (λ (z : Seals). key_list z.nodes ≢ []) (sym same) key;
+  only_nodes_seal = subst (λ (z : Seals). OnlyNodesSealWhatComes sent z frame) (sym same) only;
+}
+
+module _ (S : ReplicaValue → Option (List ℕ) → List LetterValue → ReplicaValue → Type 0) (tells : Type 0) (s : Seals) where
+  -- the seals stay the same
+  pub still_sealed : (first : ServerValue ReplicaValue) (states : List (ServerValue ReplicaValue)) (last : ServerValue ReplicaValue) → Chain (ServerTurn S tells) first states last → first.addresses.seals ≡ s → last.addresses.seals ≡ s
+  still_sealed first [] last turns same = ap (λ (q : ServerValue ReplicaValue). q.addresses.seals) turns ∙ same
+  still_sealed first (next ∷ states) last turns same = still_sealed next states last turns.1 (turns.0.outside.1 ∙ same)
+
+  module _ (n : ℕ) (key : key_list s.nodes ≢ []) (genesis : Genesis) where
+    -- in all of them
+    pub all_sealed : (sent : List Datagram) (first : ServerValue ReplicaValue) (states : List (ServerValue ReplicaValue)) (last : ServerValue ReplicaValue) (turns : Chain (ServerTurn S tells) first states last) → first.addresses.seals ≡ s
+        → OnlyNodesSealAll S tells s n sent first states last turns → MayAllCome S tells IsSealed genesis n sent first states last turns
+    all_sealed sent first [] last turns same only = tt
+    all_sealed sent first (next ∷ states) last turns same only = (
+      frame_sealed s key genesis sent first same turns.0.frame turns.0.came turns.0.opened only.0,
+      all_sealed (sent ++ batch_of n turns.0.turn.hands_on.letters) next states last turns.1 (turns.0.outside.1 ∙ same) only.1,
+    )
 
 -- ---- what comes about where nothing is forged
 

@@ -1,5 +1,5 @@
 -- What a server does, as a part of what happens to its cluster.
-use Rattle.std.specs.Prelude.{◌≡◌, ℕ, List, [], ◌∷◌, ◌++◌, Option, set, Contains}
+use Rattle.std.specs.Prelude.{◌≡◌, ℕ, List, [], ◌∷◌, ◌++◌, Option, set}
 use Rattle.lk_types.specs.declared.genesis.Genesis.{Genesis}
 use Rattle.lk_node.specs.Histories.{Datagram}
 use Rattle.lk_replica.specs.ReplicaValue.{ReplicaValue}
@@ -42,7 +42,3 @@ module _ (Says : ReplicaValue → Option (List ℕ) → List LetterValue → Rep
   MayAllCome May genesis n sent first [] last turns = Unit {0}
   MayAllCome May genesis n sent first (next ∷ states) last turns =
       May genesis sent first turns.0.came × MayAllCome May genesis n (sent ++ batch_of n turns.0.turn.hands_on.letters) next states last turns.1
-
--- each of them reports whether a call has ended its replica, as `Server::replica` ensures of every server
-abbrev pub ReportFailures : List (ServerValue ReplicaValue) → Type 0
-ReportFailures servers = (s : ServerValue ReplicaValue) → Contains servers s → s.failed ≡ s.replica.failed

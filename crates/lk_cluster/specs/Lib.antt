@@ -1,4 +1,5 @@
 pub mod Clusters
 pub mod Sealing
 pub mod Continuing
+pub mod Running
 pub mod Forgetting

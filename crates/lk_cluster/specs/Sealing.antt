@@ -1,13 +1,16 @@
 -- Clusters whose nodes share a key, and take of the frames that come what is sealed under it.
-use Rattle.std.specs.Prelude.{◌≡◌, ◌≢◌, ℕ, Option, Some, None, List, [], Contains}
+use Rattle.std.specs.Prelude.{◌≡◌, ◌≢◌, ℕ, Option, Some, None, List, [], ◌∷◌, ◌++◌, Contains}
 use Rattle.std.specs.declared.net.socket_addr.SocketAddr.{SocketAddr}
 use Rattle.lk_types.specs.declared.genesis.Genesis.{Genesis}
+use Rattle.lk_step.specs.Letters.{LetterValue, batch_of}
 use Rattle.lk_node.specs.Histories.{Datagram}
 use Rattle.lk_replica.specs.ReplicaValue.{ReplicaValue}
 use Rattle.lk_seal.specs.Seals.{key_list, to_node, IsSealedBy}
 use Rattle.lk_seal.specs.declared.seals.Seals.{Seals}
 use Rattle.lk_server.specs.Posts.{taken_as}
 use Rattle.lk_server.specs.Servers.{ServerValue}
+use Rattle.lk_service.specs.Chains.{Chain}
+use Rattle.lk_service.specs.Turns.{TakesTurn as ServerTurn}
 
 -- a node of the cluster has given a datagram of these bytes to be sent
 abbrev pub WasGiven : List Datagram → List ℕ → Type 0
@@ -30,3 +33,11 @@ pub record IsSealed (genesis : Genesis) (sent : List Datagram) (server : ServerV
   pub opened : came ≡ taken_as server.addresses.seals frame
   pub has_key : key_list server.addresses.seals.nodes ≢ []
   pub only_nodes_seal : OnlyNodesSealWhatComes sent server.addresses.seals frame
+
+-- `Says` is what a replica says by what it is given, and `tells` that the sockets tell what they send
+module _ (Says : ReplicaValue → Option (List ℕ) → List LetterValue → ReplicaValue → Type 0) (tells : Type 0) (s : Seals) (n : ℕ) where
+  -- the same of each frame that came in these turns, where the letters of the turns before it were given to be sent
+  abbrev pub OnlyNodesSealAll : List Datagram → (first : ServerValue ReplicaValue) (states : List (ServerValue ReplicaValue)) (last : ServerValue ReplicaValue) → Chain (ServerTurn Says tells) first states last → Type 0
+  OnlyNodesSealAll sent first [] last turns = Unit {0}
+  OnlyNodesSealAll sent first (next ∷ states) last turns =
+      OnlyNodesSealWhatComes sent s turns.0.frame × OnlyNodesSealAll (sent ++ batch_of n turns.0.turn.hands_on.letters) next states last turns.1

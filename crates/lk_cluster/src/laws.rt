@@ -7,6 +7,7 @@ ghost use Rattle.lk_disk.specs.Memory.{Memory, disk_of};
 ghost use Rattle.lk_disk.specs.declared.device.Side.{Side};
 ghost use Rattle.lk_wire.specs.declared.message.NodeMessage.{NodeMessage};
 ghost use Rattle.lk_locks.specs.Meaning.{table_meaning};
+ghost use Rattle.lk_locks.specs.Packed.{IsTableText};
 ghost use Rattle.lk_history.specs.Datagrams.{HasSent};
 ghost use Rattle.lk_step.specs.Letters.{batch_of};
 ghost use Rattle.lk_node.specs.Leavings.{header_of};
@@ -15,17 +16,18 @@ ghost use Rattle.lk_seal.specs.declared.seals.Seals.{Seals};
 ghost use Rattle.lk_replica.specs.ReplicaValue.{ReplicaValue};
 ghost use Rattle.lk_server.specs.Posts.{taken_as};
 ghost use Rattle.lk_server.specs.Servers.{ServerValue, Turn, LastTurn};
+ghost use Rattle.lk_server.specs.declared.fault.ServiceFault.{ServiceFault};
 ghost use Rattle.lk_service.specs.Chains.{Repeats};
-ghost use Rattle.lk_service.specs.Revivals.{IsBegun as IsTakenUp};
+ghost use Rattle.lk_service.specs.Revivals.{IsBegun as IsTakenUp, IsRefusedWith};
 ghost use Rattle.lk_service.specs.Turns.{EndsEarly, Serves, TakesTurn};
 ghost use Rattle.lk_sim.specs.Networks.{MayCome};
 ghost use Rattle.lk_sim.specs.declared.seat.Life.TheVariants.{Up, Down};
 ghost use Rattle.lk_promise.specs.Linear.{IsLinearizable};
 ghost use Rattle.lk_promise.specs.Promise.{KeepsPromise};
 ghost use Rattle.lk_cluster.specs.Clusters.{Node, Cluster, IsReachable, ForgesNothing, IsBegun, Says, scene_of, server_disks};
-ghost use Rattle.lk_cluster.specs.Continuing.{Continues, HasNode, MayAllCome, ReportFailures, letters_of};
+ghost use Rattle.lk_cluster.specs.Continuing.{Continues, HasNode, MayAllCome, letters_of};
 ghost use Rattle.lk_cluster.specs.Forgetting.{HasEmptyDisks, MustBeRemembered};
-ghost use Rattle.lk_cluster.specs.Sealing.{IsSealed, OnlyNodesSeal, OnlyNodesSealWhatComes};
+ghost use Rattle.lk_cluster.specs.Sealing.{IsSealed, OnlyNodesSeal, OnlyNodesSealAll, OnlyNodesSealWhatComes};
 
 use lk_disk::LogDisk;
 use lk_locks::LockTable;
@@ -84,6 +86,16 @@ pub fn a_start_continues_a_cluster<D: LogDisk, S: Datagrams>()
         → Continues ForgesNothing D.is_metered S.is_telling genesis cluster place n (Up server) [] }
 {}
 
+/// A start that is refused continues its cluster: the node stays down, on the disks that the refusal has left. The program ensures such a refusal.
+pub fn a_refused_start_continues_a_cluster<D: LogDisk, S: Datagrams>()
+    ensures { D.is_honest → (genesis : GenesisValue) (cluster : Cluster) → IsReachable ForgesNothing D.is_metered S.is_telling genesis cluster
+        → (place n : ℕ) (device : Memory) → HasNode cluster place n (Down device)
+        → (disks : Side → Disk) → ((s : Side) → disk_of device s ≡ disks s)
+        → (told : ServiceFault) (refused : IsRefusedWith table_meaning IsTableText D.is_honest disks (header_of cluster.genesis n) told)
+        → (left : Memory) → ((s : Side) → disk_of left s ≡ refused.left s)
+        → Continues ForgesNothing D.is_metered S.is_telling genesis cluster place n (Down left) [] }
+{}
+
 /// A turn of a server continues its cluster if what came in it is not forged. What the turn adds to the trace follows from what its replica says.
 pub fn a_turn_continues_a_cluster<D: LogDisk, S: Datagrams>()
     ensures { (genesis : GenesisValue) (cluster : Cluster) → IsReachable ForgesNothing D.is_metered S.is_telling genesis cluster
@@ -118,7 +130,7 @@ pub fn a_last_turn_continues_a_cluster<D: LogDisk, S: Datagrams>()
 pub fn turns_continue_a_cluster<D: LogDisk + Drop, S: Datagrams>()
     ensures { D.is_honest → (genesis : GenesisValue) (cluster : Cluster) → IsReachable ForgesNothing D.is_metered S.is_telling genesis cluster
         → (place n count : ℕ) (first last : ServerValue ReplicaValue) → HasNode cluster place n (Up first)
-        → (turns : Repeats (TakesTurn ⟦<Replica<LockTable, D> as NodeReplica>⟧.Says S.is_telling) count first last) → ReportFailures turns.states
+        → (turns : Repeats (TakesTurn ⟦<Replica<LockTable, D> as NodeReplica>⟧.Says S.is_telling) count first last)
         → MayAllCome ⟦<Replica<LockTable, D> as NodeReplica>⟧.Says S.is_telling ForgesNothing cluster.genesis n cluster.sent first turns.states last turns.chain
         → Continues ForgesNothing D.is_metered S.is_telling genesis cluster place n (Up last)
         (letters_of ⟦<Replica<LockTable, D> as NodeReplica>⟧.Says S.is_telling first turns.states last turns.chain) }
@@ -129,8 +141,7 @@ pub fn a_service_continues_a_cluster<D: LogDisk + Drop, S: Datagrams>()
     ensures { D.is_honest → (genesis : GenesisValue) (cluster : Cluster) → IsReachable ForgesNothing D.is_metered S.is_telling genesis cluster
         → (place n count : ℕ) (device : Memory) → HasNode cluster place n (Down device)
         → (disks : Side → Disk) → ((s : Side) → disk_of device s ≡ disks s)
-        → (served : Serves (IsTakenUp table_meaning D.is_honest disks (header_of cluster.genesis n)) (header_of cluster.genesis n) ⟦<Replica<LockTable, D> as NodeReplica>⟧.Says S.is_telling count)
-        → ReportFailures served.turns.states
+        → (seals : Seals) (served : Serves (IsTakenUp table_meaning D.is_honest disks (header_of cluster.genesis n)) (header_of cluster.genesis n) seals ⟦<Replica<LockTable, D> as NodeReplica>⟧.Says S.is_telling count)
         → MayAllCome ⟦<Replica<LockTable, D> as NodeReplica>⟧.Says S.is_telling ForgesNothing cluster.genesis n cluster.sent served.begun served.turns.states served.ended served.turns.chain
         → Continues ForgesNothing D.is_metered S.is_telling genesis cluster place n (Up served.ended)
         (letters_of ⟦<Replica<LockTable, D> as NodeReplica>⟧.Says S.is_telling served.begun served.turns.states served.ended served.turns.chain) }
@@ -141,8 +152,7 @@ pub fn a_service_that_breaks_off_continues_a_cluster<D: LogDisk + Drop, S: Datag
     ensures { D.is_honest → (genesis : GenesisValue) (cluster : Cluster) → IsReachable ForgesNothing D.is_metered S.is_telling genesis cluster
         → (place n most : ℕ) (device : Memory) → HasNode cluster place n (Down device)
         → (disks : Side → Disk) → ((s : Side) → disk_of device s ≡ disks s)
-        → (served : EndsEarly (IsTakenUp table_meaning D.is_honest disks (header_of cluster.genesis n)) (header_of cluster.genesis n) ⟦<Replica<LockTable, D> as NodeReplica>⟧.Says S.is_telling most)
-        → ReportFailures (served.breaks.turns.states ++ served.ended ∷ [])
+        → (seals : Seals) (served : EndsEarly (IsTakenUp table_meaning D.is_honest disks (header_of cluster.genesis n)) (header_of cluster.genesis n) seals ⟦<Replica<LockTable, D> as NodeReplica>⟧.Says S.is_telling most)
         → MayAllCome ⟦<Replica<LockTable, D> as NodeReplica>⟧.Says S.is_telling ForgesNothing cluster.genesis n cluster.sent served.begun served.breaks.turns.states served.breaks.last served.breaks.turns.chain
         → ForgesNothing cluster.genesis
         (cluster.sent ++ batch_of n (letters_of ⟦<Replica<LockTable, D> as NodeReplica>⟧.Says S.is_telling served.begun served.breaks.turns.states served.breaks.last served.breaks.turns.chain)) served.breaks.last served.breaks.ends.came
@@ -150,6 +160,37 @@ pub fn a_service_that_breaks_off_continues_a_cluster<D: LogDisk + Drop, S: Datag
         → Continues ForgesNothing D.is_metered S.is_telling genesis cluster place n (Down left)
         (letters_of ⟦<Replica<LockTable, D> as NodeReplica>⟧.Says S.is_telling served.begun served.breaks.turns.states served.breaks.last served.breaks.turns.chain ++ served.breaks.ends.turn.hands_on.letters) }
 {}
+
+/// A node that serves with the key of the nodes continues its cluster whatever frames come. The program ensures such a service.
+pub fn a_sealed_service_continues_a_cluster<D: LogDisk + Drop, S: Datagrams>()
+    ensures { D.is_honest → (genesis : GenesisValue) (cluster : Cluster) → IsReachable IsSealed D.is_metered S.is_telling genesis cluster
+        → (place n count : ℕ) (device : Memory) → HasNode cluster place n (Down device)
+        → (disks : Side → Disk) → ((s : Side) → disk_of device s ≡ disks s)
+        → (seals : Seals) (served : Serves (IsTakenUp table_meaning D.is_honest disks (header_of cluster.genesis n)) (header_of cluster.genesis n) seals ⟦<Replica<LockTable, D> as NodeReplica>⟧.Says S.is_telling count)
+        → key_list seals.nodes ≢ []
+        → OnlyNodesSealAll ⟦<Replica<LockTable, D> as NodeReplica>⟧.Says S.is_telling seals n cluster.sent served.begun served.turns.states served.ended served.turns.chain
+        → Continues IsSealed D.is_metered S.is_telling genesis cluster place n (Up served.ended)
+        (letters_of ⟦<Replica<LockTable, D> as NodeReplica>⟧.Says S.is_telling served.begun served.turns.states served.ended served.turns.chain) }
+{
+    is_told_by_a_node();
+}
+
+/// So does one whose service breaks off.
+pub fn a_sealed_service_that_breaks_off_continues_a_cluster<D: LogDisk + Drop, S: Datagrams>()
+    ensures { D.is_honest → (genesis : GenesisValue) (cluster : Cluster) → IsReachable IsSealed D.is_metered S.is_telling genesis cluster
+        → (place n most : ℕ) (device : Memory) → HasNode cluster place n (Down device)
+        → (disks : Side → Disk) → ((s : Side) → disk_of device s ≡ disks s)
+        → (seals : Seals) (served : EndsEarly (IsTakenUp table_meaning D.is_honest disks (header_of cluster.genesis n)) (header_of cluster.genesis n) seals ⟦<Replica<LockTable, D> as NodeReplica>⟧.Says S.is_telling most)
+        → key_list seals.nodes ≢ []
+        → OnlyNodesSealAll ⟦<Replica<LockTable, D> as NodeReplica>⟧.Says S.is_telling seals n cluster.sent served.begun served.breaks.turns.states served.breaks.last served.breaks.turns.chain
+        → OnlyNodesSealWhatComes
+        (cluster.sent ++ batch_of n (letters_of ⟦<Replica<LockTable, D> as NodeReplica>⟧.Says S.is_telling served.begun served.breaks.turns.states served.breaks.last served.breaks.turns.chain)) seals served.breaks.ends.frame
+        → (left : Memory) → ((s : Side) → disk_of left s ≡ server_disks served.ended s)
+        → Continues IsSealed D.is_metered S.is_telling genesis cluster place n (Down left)
+        (letters_of ⟦<Replica<LockTable, D> as NodeReplica>⟧.Says S.is_telling served.begun served.breaks.turns.states served.breaks.last served.breaks.turns.chain ++ served.breaks.ends.turn.hands_on.letters) }
+{
+    is_told_by_a_node();
+}
 
 /// No node of a cluster begins anew with empty disks: a node that has sent a Prepare, a Promise, an Accept or an Accepted never has two empty ones
 /// (an acceptor must remember, even if it fails and restarts: Lamport, Paxos Made Simple, 2001, section 2.2).

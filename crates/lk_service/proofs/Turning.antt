@@ -1,5 +1,5 @@
 -- The turns of a server, one after another, and one more.
-use Rattle.std.proofs.Common.{◌≡◌, ◌+◌, ◌<◌, ℕ, List, Option, Result, Ok, Err, subst, sym}
+use Rattle.std.proofs.Common.{◌≡◌, ◌+◌, ◌<◌, ℕ, List, Option, Result, Ok, Err, refl, subst, sym}
 use Rattle.std.specs.declared.net.socket_addr.SocketAddr.{SocketAddr}
 use Rattle.std.specs.Prelude.{OnErr, IfErr, IsErrAnd}
 use Rattle.lk_disk.specs.Disk.{Disk}
@@ -10,10 +10,12 @@ use Rattle.lk_step.specs.Letters.{LetterValue}
 use Rattle.lk_replica.specs.ReplicaValue.{ReplicaValue}
 use Rattle.lk_replica.specs.Revivals.{IsRefusedFor}
 use Rattle.lk_server.specs.Addresses.{IsSameOutside}
+use Rattle.lk_server.specs.Posts.{taken_as}
 use Rattle.lk_server.specs.Sayings.{SaysOf}
 use Rattle.lk_server.specs.Servers.{ServerValue, Turn, LastTurn}
 use Rattle.lk_service.specs.Chains.{Repeats}
-use Rattle.lk_service.specs.Turns.{TakesTurn, BreaksOff}
+use Rattle.lk_service.specs.Revivals.{StaysDown}
+use Rattle.lk_service.specs.Turns.{TakesTurn, BreaksOff, TellsFailure}
 use Rattle.lk_service.proofs.Chaining.{repeats_more}
 
 -- what a replica on a device says, where that is honest
@@ -25,14 +27,15 @@ pub on_err : {T E P : Type 0} (r : Result T E) → P → OnErr r P
 on_err (Ok x) p = tt
 on_err (Err e) p = p
 
-module _ {R : Type 0} {Says : R → Option (List ℕ) → List LetterValue → R → Type 0} {tells : Type 0} {count : ℕ} {first last new : ServerValue R} (came : Option (SocketAddr × List ℕ)) where
+module _ {Says : ReplicaValue → Option (List ℕ) → List LetterValue → ReplicaValue → Type 0} {tells : Type 0} {count : ℕ} {first last new : ServerValue ReplicaValue} (frame : Option (SocketAddr × List ℕ)) where
   -- one more turn was taken
-  pub turns_more : Repeats (TakesTurn Says tells) count first last → Turn Says tells came last new → IsSameOutside last.addresses new.addresses → Repeats (TakesTurn Says tells) (count + 1) first new
-  turns_more so_far turn outside = repeats_more so_far (record { came = came; turn = turn; outside = outside })
+  pub turns_more : Repeats (TakesTurn Says tells) count first last → Turn Says tells (taken_as last.addresses.seals frame) last new → IsSameOutside last.addresses new.addresses → TellsFailure new → Repeats (TakesTurn Says tells) (count + 1) first new
+  turns_more so_far turn outside failure = repeats_more so_far (record { frame = frame; came = taken_as last.addresses.seals frame; opened = refl; turn = turn; outside = outside; failure = failure })
 
   -- one ended the replica
-  pub turns_end : (most : ℕ) → count < most → Repeats (TakesTurn Says tells) count first last → LastTurn Says tells came last new → IsSameOutside last.addresses new.addresses → BreaksOff Says tells most first new
-  turns_end most fewer so_far turn outside = record { count = count; fewer = fewer; last = last; turns = so_far; ends = record { came = came; turn = turn; outside = outside } }
+  pub turns_end : (most : ℕ) → count < most → Repeats (TakesTurn Says tells) count first last → LastTurn Says tells (taken_as last.addresses.seals frame) last new → IsSameOutside last.addresses new.addresses → TellsFailure new → BreaksOff Says tells most first new
+  turns_end most fewer so_far turn outside failure =
+      record { count = count; fewer = fewer; last = last; turns = so_far; ends = record { frame = frame; came = taken_as last.addresses.seals frame; opened = refl; turn = turn; outside = outside; failure = failure } }
 
 -- what follows of what stands after a refusal
 pub on_err_weaker : {T E P Q : Type 0} (r : Result T E) → (P → Q) → OnErr r P → OnErr r Q
@@ -43,6 +46,10 @@ on_err_weaker (Err e) f p = f p
 pub refused_as : (m : Meaning) (IsText : List ℕ → Type 0) (looked old : Side → Disk) (header : HeaderValue) (number : ℕ) (left : Side → Disk) → looked ≡ old
     → IsRefusedFor m IsText looked header number left → IsRefusedFor m IsText old header number left
 refused_as m IsText looked old header number left same refused = subst (λ (d : Side → Disk). IsRefusedFor m IsText d header number left) same refused
+
+-- and what was not taken up of the disks as they were looked at stays down as they were
+pub down_as : (m : Meaning) (looked old : Side → Disk) (header : HeaderValue) (left : Side → Disk) → looked ≡ old → StaysDown m header looked left → StaysDown m header old left
+down_as m looked old header left same stays = subst (λ (d : Side → Disk). StaysDown m header d left) same stays
 
 -- what stands of an error stands of a refusal with it
 pub if_err_is : {T E : Type 0} (P : E → Type 0) (r : Result T E) (e : E) → IsErrAnd r (λ y. y ≡ e) → P e → IfErr r P

@@ -27,6 +27,12 @@ pub record ComesUp (m : Meaning) (header : HeaderValue) (old : Side → Disk) (r
   pub goes : (h : History) (n : ℕ) → header ≡ header_of h.genesis n → IsLawful m h → DisksFit m h n old → Goes m h n (Stands m r.node r.store h.genesis n) (disks r.store) notes []
   pub room : StaysWithin max_base old (disks r.store)
 
+-- none comes up by what these disks had, and they are left so: whatever a stop may leave of them fits each history that they fitted, and the files are
+-- no longer than they were, or else than a Base
+pub record StaysDown (m : Meaning) (header : HeaderValue) (old left : Side → Disk) : Type 0 where
+  pub fits : (h : History) (n : ℕ) → header ≡ header_of h.genesis n → IsLawful m h → DisksFit m h n old → DisksFit m h n left
+  pub room : StaysWithin max_base old left
+
 -- `honest` says that the device is honest, which had these disks
 module _ (m : Meaning) (honest : Type 0) (old : Side → Disk) (header : HeaderValue) where
   -- it is the server of the node of this header, in its cluster, on a replica that can take calls as that node and comes up by what the device
@@ -41,11 +47,12 @@ module _ (m : Meaning) (honest : Type 0) (old : Side → Disk) (header : HeaderV
     pub received : s.received ≡ 0
 
 module _ (m : Meaning) (IsText : List ℕ → Type 0) (honest : Type 0) (old : Side → Disk) (header : HeaderValue) where
-  -- what the device had was not taken up, for the fault of this number, and it has these disks now. Damage, another's store and a store at its last
-  -- generation are told for their cause alone
+  -- what the device had was not taken up, for the fault of this number, and it has these disks now, which fit as those did. Damage, another's store and
+  -- a store at its last generation are told for their cause alone
   pub record IsNotTakenUp (number : ℕ) (left : Side → Disk) : Type 0 where
     pub among : (7 ≤ number) × (number ≤ 11)
     pub cause : honest → IsRefusedFor m IsText old header number left
+    pub stays_down : honest → StaysDown m header old left
 
   -- it was not taken up, and this is told for it
   pub record IsRefusedWith (told : ServiceFault) : Type 0 where

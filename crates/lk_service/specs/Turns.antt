@@ -6,29 +6,40 @@ use Rattle.lk_step.specs.Letters.{LetterValue}
 use Rattle.lk_replica.specs.ReplicaValue.{ReplicaValue}
 use Rattle.lk_seal.specs.declared.seals.Seals.{Seals}
 use Rattle.lk_server.specs.Addresses.{IsSameOutside}
+use Rattle.lk_server.specs.Posts.{taken_as}
 use Rattle.lk_server.specs.Servers.{ServerValue, Turn, LastTurn}
 use Rattle.lk_service.specs.Chains.{Repeats}
 
+-- the server tells whether a call has ended its replica
+abbrev pub TellsFailure : ServerValue ReplicaValue → Type 0
+TellsFailure s = s.failed ≡ s.replica.failed
+
 -- `Says` is what a replica says by what it is given, and `tells` that the socket tells what it sends and what comes to it
-module _ {R : Type 0} (Says : R → Option (List ℕ) → List LetterValue → R → Type 0) (tells : Type 0) where
-  -- a turn: something was taken of what came, or nothing; the replica was given the first letter of the node to itself, or where none waited just that, or
-  -- a tick, and goes on. Where nodes live, and the keys, are the same
-  pub record TakesTurn (old new : ServerValue R) : Type 0 where
+module _ (Says : ReplicaValue → Option (List ℕ) → List LetterValue → ReplicaValue → Type 0) (tells : Type 0) where
+  -- a turn: something was taken of what came, out of its frame where the nodes have a key, or nothing; the replica was given the first letter of the node to
+  -- itself, or where none waited just that, or a tick, and goes on. Where nodes live, and the keys, are the same
+  pub record TakesTurn (old new : ServerValue ReplicaValue) : Type 0 where
+    pub frame : Option (SocketAddr × List ℕ)
     pub came : Option (SocketAddr × List ℕ)
+    pub opened : came ≡ taken_as old.addresses.seals frame
     pub turn : Turn Says tells came old new
     pub outside : IsSameOutside old.addresses new.addresses
+    pub failure : TellsFailure new
 
   -- a turn that ended the replica
-  pub record EndsTurn (old new : ServerValue R) : Type 0 where
+  pub record EndsTurn (old new : ServerValue ReplicaValue) : Type 0 where
+    pub frame : Option (SocketAddr × List ℕ)
     pub came : Option (SocketAddr × List ℕ)
+    pub opened : came ≡ taken_as old.addresses.seals frame
     pub turn : LastTurn Says tells came old new
     pub outside : IsSameOutside old.addresses new.addresses
+    pub failure : TellsFailure new
 
   -- fewer turns than so many were taken, and then one that ended the replica
-  pub record BreaksOff (most : ℕ) (old new : ServerValue R) : Type 0 where
+  pub record BreaksOff (most : ℕ) (old new : ServerValue ReplicaValue) : Type 0 where
     pub count : ℕ
     pub fewer : count < most
-    pub last : ServerValue R
+    pub last : ServerValue ReplicaValue
     pub turns : Repeats TakesTurn count old last
     pub ends : EndsTurn last new
 
@@ -37,13 +48,18 @@ pub record AreSealsOf (header : HeaderValue) (s : Seals) : Type 0 where
   pub cluster : s.cluster ≡ header.cluster
   pub node : s.node ≡ header.node
 
+-- a server has these seals, which are those of the node of this header, in its cluster
+pub record HasSeals (header : HeaderValue) (seals : Seals) (s : ServerValue ReplicaValue) : Type 0 where
+  pub are : s.addresses.seals ≡ seals
+  pub whose : AreSealsOf header seals
+
 -- `Begins` is how the server of a node is taken up
-module _ (Begins : ServerValue ReplicaValue → Type 0) (header : HeaderValue) (Says : ReplicaValue → Option (List ℕ) → List LetterValue → ReplicaValue → Type 0) (tells : Type 0) where
-  -- it was taken up so, with the seals of the node of this header, and has taken so many turns
+module _ (Begins : ServerValue ReplicaValue → Type 0) (header : HeaderValue) (seals : Seals) (Says : ReplicaValue → Option (List ℕ) → List LetterValue → ReplicaValue → Type 0) (tells : Type 0) where
+  -- it was taken up so, with these seals of the node of this header, and has taken so many turns
   pub record Serves (count : ℕ) : Type 0 where
     pub begun : ServerValue ReplicaValue
     pub begins : Begins begun
-    pub seals : AreSealsOf header begun.addresses.seals
+    pub sealed : HasSeals header seals begun
     pub ended : ServerValue ReplicaValue
     pub turns : Repeats (TakesTurn Says tells) count begun ended
 
@@ -51,6 +67,6 @@ module _ (Begins : ServerValue ReplicaValue → Type 0) (header : HeaderValue) (
   pub record EndsEarly (most : ℕ) : Type 0 where
     pub begun : ServerValue ReplicaValue
     pub begins : Begins begun
-    pub seals : AreSealsOf header begun.addresses.seals
+    pub sealed : HasSeals header seals begun
     pub ended : ServerValue ReplicaValue
     pub breaks : BreaksOff Says tells most begun ended

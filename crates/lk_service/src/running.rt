@@ -10,7 +10,7 @@ ghost use Rattle.lk_server.specs.Posts.{taken_as};
 ghost use Rattle.lk_server.specs.Servers.{ServerValue, ServesOn, Turn, LastTurn};
 ghost use Rattle.lk_service.specs.Chains.{Repeats};
 ghost use Rattle.lk_service.specs.Revivals.{ComesUp, IsBegun, IsNotTakenUp, IsRefusedWith};
-ghost use Rattle.lk_service.specs.Turns.{TakesTurn, BreaksOff, AreSealsOf, Serves, EndsEarly};
+ghost use Rattle.lk_service.specs.Turns.{TakesTurn, BreaksOff, AreSealsOf, Serves, EndsEarly, TellsFailure};
 
 use crate::causes::{FailureCause, tell_device};
 use crate::resources::{NodePlan, Resources};
@@ -47,7 +47,7 @@ fn take_up<M: Machine, D: LogDisk + Drop, L: Log>(
     ensures ready { IfOk result (λ r. MayGoOn header.now r) }
     // It comes up by what the device has.
     ensures comes_up { D.is_honest → IfOk result (ComesUp M.meaning header.now (D.disk device)) }
-    // It is refused with 7 to 11, each with its cause.
+    // It is refused with 7 to 11, each with its cause, and what the device then has fits as what it had.
     ensures refused { IfErr result (λ e. IsNotTakenUp M.meaning M.IsText D.is_honest (D.disk device) header.now (fault_number e.fault) (D.disk e.device)) }
 {
     let mut device = device;
@@ -70,7 +70,7 @@ pub fn revive<M: Machine, D: LogDisk + Drop, S: Datagrams + Drop, L: Log>(
     ensures hosts { IfOk result (λ s. s.addresses.hosts ≡ resources.outside.hosts) }
     ensures seals { IfOk result (λ s. s.addresses.seals ≡ resources.outside.seals) }
     ensures socket { IfOk result (ServesOn (S.sent resources.socket) (S.failures resources.socket) (taken_as resources.outside.seals (S.next resources.socket))) }
-    // It is refused with 7 to 11, each with its cause.
+    // It is refused with 7 to 11, each with its cause, and what the device then has fits as what it had.
     ensures refused { IfErr result (λ e. IsNotTakenUp M.meaning M.IsText D.is_honest (D.disk resources.device) header.now (fault_number e.fault) (D.disk e.device)) }
 {
     let Resources {
@@ -118,11 +118,14 @@ fn take_turn<M: Machine, D: LogDisk + FailureCause + Drop, S: Datagrams + Drop, 
     ensures ends { OnErr result (LastTurn ⟦<Replica<M, D> as NodeReplica>⟧.Says S.is_telling (taken_as server.old.addresses.seals ear.new) server.old server.new) }
     // Where nodes live, and the keys, stay what they were.
     ensures outside { IsSameOutside server.old.addresses server.new.addresses }
+    ensures failure { TellsFailure server.new }
     ensures passes { IfErr result (λ f. f ≡ ServiceFault.Send → ⊥) }
 {
-    match node_turn(server, ear, log) {
+    let taken = node_turn(server, ear, log);
+    let device = server.replica().device();
+    match taken {
         Ok(()) => Ok(()),
-        Err(fault) => Err(tell_device(fault, server.replica().device(), folder, err)),
+        Err(fault) => Err(tell_device(fault, device, folder, err)),
     }
 }
 
@@ -170,9 +173,9 @@ fn serve<M: Machine, D: LogDisk + FailureCause + Drop, S: Datagrams + Drop, L: L
     err: &mut E,
 ) -> Result<(), ServiceFault>
     requires { AreSealsOf plan.now.header resources.outside.seals }
-    ensures ok { OnOk result (Serves (IsBegun M.meaning D.is_honest (D.disk resources.device) plan.now.header) plan.now.header ⟦<Replica<M, D> as NodeReplica>⟧.Says S.is_telling (2 ^ 48)) }
+    ensures ok { OnOk result (Serves (IsBegun M.meaning D.is_honest (D.disk resources.device) plan.now.header) plan.now.header resources.outside.seals ⟦<Replica<M, D> as NodeReplica>⟧.Says S.is_telling (2 ^ 48)) }
     ensures err { IfErr result (λ f. IsRefusedWith M.meaning M.IsText D.is_honest (D.disk resources.device) plan.now.header f
-        ⊎ EndsEarly (IsBegun M.meaning D.is_honest (D.disk resources.device) plan.now.header) plan.now.header ⟦<Replica<M, D> as NodeReplica>⟧.Says S.is_telling (2 ^ 48)) }
+        ⊎ EndsEarly (IsBegun M.meaning D.is_honest (D.disk resources.device) plan.now.header) plan.now.header resources.outside.seals ⟦<Replica<M, D> as NodeReplica>⟧.Says S.is_telling (2 ^ 48)) }
 {
     let server = revive_plan::<M, D, S, L, E>(alloc, plan, resources, log, err)?;
     serve_turns(server, plan, log, err)
@@ -189,10 +192,10 @@ pub fn run_node<
     requires { AreSealsOf plan.now.header resources.outside.seals }
     ensures status { result ≤ 1 }
     // At status 0 the server of the plan's node, on a replica that came up by what the device had, has taken so many turns.
-    ensures served { result ≡ 0 → Serves (IsBegun M.meaning D.is_honest (D.disk resources.device) plan.now.header) plan.now.header ⟦<Replica<M, D> as NodeReplica>⟧.Says S.is_telling (2 ^ 48) }
+    ensures served { result ≡ 0 → Serves (IsBegun M.meaning D.is_honest (D.disk resources.device) plan.now.header) plan.now.header resources.outside.seals ⟦<Replica<M, D> as NodeReplica>⟧.Says S.is_telling (2 ^ 48) }
     // At status 1 it was not taken up, or such a server has taken fewer, and then one that ended its replica.
     ensures broken { result ≡ 1 → ((f : ServiceFault) × IsRefusedWith M.meaning M.IsText D.is_honest (D.disk resources.device) plan.now.header f)
-        ⊎ EndsEarly (IsBegun M.meaning D.is_honest (D.disk resources.device) plan.now.header) plan.now.header ⟦<Replica<M, D> as NodeReplica>⟧.Says S.is_telling (2 ^ 48) }
+        ⊎ EndsEarly (IsBegun M.meaning D.is_honest (D.disk resources.device) plan.now.header) plan.now.header resources.outside.seals ⟦<Replica<M, D> as NodeReplica>⟧.Says S.is_telling (2 ^ 48) }
 {
     match serve::<M, D, S, L, E>(alloc, plan, resources, log, err) {
         Ok(()) => 0,

@@ -1,5 +1,4 @@
 use Rattle.std.proofs.Common.{◌≡◌, arith}
-use Rattle.lk_server.specs.Posts.{taken_as}
 use Rattle.lk_service.proofs.Chaining.{repeats_as}
 use Rattle.lk_service.proofs.Turning.{on_err, turns_more, turns_end}
 use Rattle.lk_service.proofs.running.take_turns.Goals as goal
@@ -7,7 +6,7 @@ use Rattle.lk_service.proofs.running.take_turns.Goals as goal
 pub turns-preserved : goal.turns-preserved
 turns-preserved g c =
     let taken = c.in_ok-take_turn.ensures in
-    turns_more (taken_as c.turns.server.addresses.seals c.take_turn.new.ear) c.turns.invariant taken.turn taken.outside
+    turns_more c.take_turn.new.ear c.turns.invariant taken.turn taken.outside taken.failure
 
 pub returns-clause-ok : goal.returns-clause-ok
 returns-clause-ok g c =
@@ -17,4 +16,4 @@ returns-clause-ok g c =
 pub returns-in_err-take_turn-clause-err : goal.returns-in_err-take_turn-clause-err
 returns-in_err-take_turn-clause-err g c =
     let ended = c.in_err-take_turn.ensures in
-    on_err c.from_residual.result (turns_end (taken_as c.turns.server.addresses.seals c.take_turn.new.ear) 281474976710656 c.turns-test.true c.turns.invariant ended.ends ended.outside)
+    on_err c.from_residual.result (turns_end c.take_turn.new.ear 281474976710656 c.turns-test.true c.turns.invariant ended.ends ended.outside ended.failure)

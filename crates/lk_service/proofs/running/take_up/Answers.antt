@@ -5,7 +5,7 @@ use Rattle.lk_log.specs.Rooms.{StaysWithin}
 use Rattle.lk_log.specs.StoreValue.{disks}
 use Rattle.lk_node.specs.Leavings.{DisksFit}
 use Rattle.lk_replica.specs.Faults.{fault_number}
-use Rattle.lk_service.proofs.Turning.{if_err_is, refused_as}
+use Rattle.lk_service.proofs.Turning.{if_err_is, refused_as, down_as}
 use Rattle.lk_service.proofs.running.take_up.Goals as goal
 
 pub returns-clause-comes_up : goal.returns-clause-comes_up
@@ -29,4 +29,5 @@ returns-in_err-revived-clause-refused g c =
     if_err_is _ c.from_residual.result left c.from_residual.ensures.1 (record {
       among = (looked.cause.0, looked.cause.1);
       cause = λ honest. refused_as m.meaning m.IsText (disk c.look.new.device) (disk c.args.device) c.args.header.now (fault_number left.fault) (disk left.device) (λ i s. c.look.ensures.unchanged honest s i) (looked.refused honest);
+      stays_down = λ honest. down_as m.meaning (disk c.look.new.device) (disk c.args.device) c.args.header.now (disk left.device) (λ i s. c.look.ensures.unchanged honest s i) (record { fits = looked.fits honest; room = looked.room honest });
     })

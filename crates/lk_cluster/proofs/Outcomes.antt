@@ -1,0 +1,42 @@
+-- A node that the program runs continues its cluster.
+use Rattle.std.proofs.Common.{◌≡◌, ◌⊎◌, ℕ, Option, List, inl, inr, subst}
+use Rattle.lk_disk.specs.Disk.{Disk}
+use Rattle.lk_disk.specs.declared.device.Side.{Side}
+use Rattle.lk_entries.specs.Values.{HeaderValue}
+use Rattle.lk_locks.specs.Meaning.{table_meaning}
+use Rattle.lk_locks.specs.Packed.{IsTableText}
+use Rattle.lk_step.specs.Letters.{LetterValue}
+use Rattle.lk_node.specs.Histories.{Genesis}
+use Rattle.lk_node.specs.Leavings.{header_of}
+use Rattle.lk_replica.specs.ReplicaValue.{ReplicaValue}
+use Rattle.lk_seal.specs.declared.seals.Seals.{Seals}
+use Rattle.lk_server.specs.declared.fault.ServiceFault.{ServiceFault}
+use Rattle.lk_service.specs.Revivals.{IsBegun as IsTakenUp, IsRefusedWith}
+use Rattle.lk_service.specs.Turns.{Serves, EndsEarly}
+use Rattle.lk_cluster.specs.Clusters.{Cluster, ForgesNothing, Says, IsReachable}
+use Rattle.lk_cluster.specs.Running.{IsDownOn, ServesIn, EndsIn, RestsIn}
+use Rattle.lk_cluster.proofs.Keeping.{forges_nothing}
+use Rattle.lk_cluster.proofs.Serving.{service_continues, broken_service_continues, refused_continues}
+
+module _ (Metered tells Honest : Type 0) (honest : Honest)
+    (S : ReplicaValue → Option (List ℕ) → List LetterValue → ReplicaValue → Type 0) (so : (old : ReplicaValue) (o : Option (List ℕ)) (letters : List LetterValue) (new : ReplicaValue) → S old o letters new → Says Metered old o letters new)
+    (genesis : Genesis) (old : Cluster) (all : IsReachable ForgesNothing Metered tells genesis old) (place n : ℕ) (disks : Side → Disk) (seals : Seals) (at : IsDownOn old place n disks) (header : HeaderValue) (whose : header ≡ header_of old.genesis n) where
+  pub serves_in : (count : ℕ) → Serves (IsTakenUp table_meaning Honest disks header) header seals S tells count → ServesIn Metered tells Honest S genesis old place n disks seals count
+  serves_in count here =
+      let served = subst (λ (h : HeaderValue). Serves (IsTakenUp table_meaning Honest disks h) h seals S tells count) whose here in
+      record { served = served; continues = service_continues ForgesNothing Metered tells forges_nothing Honest S so honest genesis old all place n count at.device at.down disks at.same seals served }
+
+  ends_in : (most : ℕ) → EndsEarly (IsTakenUp table_meaning Honest disks header) header seals S tells most → EndsIn Metered tells Honest S genesis old place n disks seals most
+  ends_in most here =
+      let served = subst (λ (h : HeaderValue). EndsEarly (IsTakenUp table_meaning Honest disks h) h seals S tells most) whose here in
+      record { served = served; continues = broken_service_continues ForgesNothing Metered tells forges_nothing Honest S so honest genesis old all place n most at.device at.down disks at.same seals served }
+
+  rests_in : (told : ServiceFault) → IsRefusedWith table_meaning IsTableText Honest disks header told → RestsIn Metered tells Honest S genesis old place n disks seals
+  rests_in told here =
+      let refused = subst (λ (h : HeaderValue). IsRefusedWith table_meaning IsTableText Honest disks h told) whose here in
+      record { told = told; refused = refused; continues = refused_continues ForgesNothing Metered tells Honest honest genesis old all place n at.device at.down disks at.same told refused }
+
+  pub breaks_in : (most : ℕ) → ((told : ServiceFault) × IsRefusedWith table_meaning IsTableText Honest disks header told) ⊎ EndsEarly (IsTakenUp table_meaning Honest disks header) header seals S tells most
+      → RestsIn Metered tells Honest S genesis old place n disks seals ⊎ EndsIn Metered tells Honest S genesis old place n disks seals most
+  breaks_in most (inl refused) = inl (rests_in refused.0 refused.1)
+  breaks_in most (inr ended) = inr (ends_in most ended)

@@ -1,0 +1,41 @@
+//! A node of the lock table that the program runs is a node of its cluster.
+ghost use Rattle.std.specs.Prelude.{◌≡◌, ◌≤◌, ◌⊎◌, ◌^◌, ℕ};
+ghost use Rattle.lk_types.specs.declared.genesis.Genesis.{Genesis as GenesisValue};
+ghost use Rattle.lk_node.specs.Leavings.{header_of};
+ghost use Rattle.lk_service.specs.Turns.{AreSealsOf};
+ghost use Rattle.lk_cluster.specs.Clusters.{Cluster, IsReachable, ForgesNothing};
+ghost use Rattle.lk_cluster.specs.Running.{IsDownOn, ServesIn, EndsIn, RestsIn};
+
+use lk_disk::LogDisk;
+use lk_locks::LockTable;
+use lk_replica::Replica;
+use lk_server::node_replica::NodeReplica;
+use lk_server::socket::Datagrams;
+use lk_service::causes::FailureCause;
+use lk_service::resources::{NodePlan, Resources};
+use lk_service::running::run_node;
+use log::Log;
+use std::alloc::Global;
+use std::io::Write;
+
+/// Runs a node of the lock table on any honest device and any socket. Whatever becomes of it, the reachable cluster in which it was down on what the
+/// device had goes on by it.
+pub fn run<D: LogDisk + FailureCause + Drop, S: Datagrams + Drop, L: Log, E: Write>(
+    alloc: Global,
+    plan: &NodePlan<'_>,
+    resources: Resources<D, S>,
+    log: &L,
+    err: &mut E,
+) -> u8
+    requires { AreSealsOf plan.now.header resources.outside.seals }
+    ensures served { D.is_honest → result ≡ 0 → (genesis : GenesisValue) (cluster : Cluster) → IsReachable ForgesNothing D.is_metered S.is_telling genesis cluster
+        → (place n : ℕ) → plan.now.header ≡ header_of cluster.genesis n → IsDownOn cluster place n (D.disk resources.device)
+        → ServesIn D.is_metered S.is_telling D.is_honest ⟦<Replica<LockTable, D> as NodeReplica>⟧.Says genesis cluster place n (D.disk resources.device) resources.outside.seals (2 ^ 48) }
+    ensures broken { D.is_honest → result ≡ 1 → (genesis : GenesisValue) (cluster : Cluster) → IsReachable ForgesNothing D.is_metered S.is_telling genesis cluster
+        → (place n : ℕ) → plan.now.header ≡ header_of cluster.genesis n → IsDownOn cluster place n (D.disk resources.device)
+        → RestsIn D.is_metered S.is_telling D.is_honest ⟦<Replica<LockTable, D> as NodeReplica>⟧.Says genesis cluster place n (D.disk resources.device) resources.outside.seals
+        ⊎ EndsIn D.is_metered S.is_telling D.is_honest ⟦<Replica<LockTable, D> as NodeReplica>⟧.Says genesis cluster place n (D.disk resources.device) resources.outside.seals (2 ^ 48) }
+    ensures status { result ≤ 1 }
+{
+    run_node::<LockTable, D, S, L, E>(alloc, plan, resources, log, err)
+}
