@@ -1,5 +1,5 @@
 -- A turn of a server continues its cluster.
-use Rattle.std.proofs.Common.{◌≡◌, ℕ, zero, suc, true, false, Option, List, [], ◌∷◌, ◌++◌, set, refl, ap, sym, ◌∙◌, subst, inl, inr, append_assoc, append-nil, arith}
+use Rattle.std.proofs.Common.{◌≡◌, ℕ, zero, suc, true, false, Option, List, [], ◌∷◌, ◌++◌, take, set, refl, ap, sym, ◌∙◌, subst, inl, inr, append_assoc, append-nil, arith}
 use Rattle.std.proofs.lemmas.List.{map-append}
 use Rattle.std.specs.declared.net.socket_addr.SocketAddr.{SocketAddr}
 use Rattle.lk_disk.specs.Disk.{Disk}
@@ -10,7 +10,7 @@ use Rattle.lk_step.specs.Letters.{LetterValue, batch_of, datagram_of}
 use Rattle.lk_step.specs.declared.note.Note.{Note}
 use Rattle.lk_node.specs.Histories.{Genesis, Datagram}
 use Rattle.lk_replica.specs.ReplicaValue.{ReplicaValue}
-use Rattle.lk_server.specs.Servers.{ServerValue, Turn, LastTurn, given_in}
+use Rattle.lk_server.specs.Servers.{ServerValue, Turn, LastTurn, given_in, datagrams_in}
 use Rattle.lk_service.specs.Chains.{Chain}
 use Rattle.lk_service.specs.Turns.{TakesTurn as ServerTurn}
 use Rattle.lk_sim.specs.Networks.{Rests, RestsBy, nothing}
@@ -18,11 +18,11 @@ use Rattle.lk_sim.specs.Seats.{At}
 use Rattle.lk_sim.specs.declared.seat.Life.{Life}
 use Rattle.lk_sim.specs.declared.seat.Life.TheVariants.{Up, Down}
 use Rattle.lk_sim.proofs.Networks.{at_set_here, set_twice}
-use Rattle.lk_cluster.specs.Clusters.{Node, Cluster, Network, Says, IsBegun, server_disks, Starts, TakesTurn, EndsByTurn, Happens, HappenAll, IsReachable}
+use Rattle.lk_cluster.specs.Clusters.{Node, Cluster, Network, Says, steps_of, IsBegun, server_disks, Starts, TakesTurn, EndsByTurn, Happens, HappenAll, IsReachable}
 use Rattle.lk_cluster.specs.Continuing.{node_of, HasNode, Continues, letters_of, MayAllCome}
-use Rattle.lk_cluster.proofs.Keeping.{IsSound, Unforged, own_may, given_may, ended_may, with_replica, reachable_sound}
+use Rattle.lk_cluster.proofs.Keeping.{IsSound, Unforged, turn_takes, ended_may, with_replica, reachable_sound}
 use Rattle.lk_cluster.proofs.Saying.{turn_so}
-use Rattle.lk_cluster.proofs.Tracing.{Traced, trace_up}
+use Rattle.lk_cluster.proofs.Tracing.{Traced, trace_group}
 
 -- the cluster in which that node is so, and has given these letters to be sent, and this has joined the trace
 abbrev pub continued : Cluster → ℕ → ℕ → Life (ServerValue ReplicaValue) → List LetterValue → List Note → Cluster
@@ -92,24 +92,24 @@ module _ (May : Network) (Metered tells : Type 0) where
 
   module _ (unforged : Unforged May) where
     -- a turn has a trace
-    turn_trace : (old : Cluster) (w : IsSound old) (place n : ℕ) (server after : ServerValue ReplicaValue) → HasNode old place n (Up server) → (came : Option (SocketAddr × List ℕ)) → May old.genesis old.sent server came
-        → (turn : Turn (Says Metered) tells came server after) → Traced Metered old.genesis n server.replica (given_in server.own came after.received) turn.hands_on.letters after.replica
+    turn_trace : (old : Cluster) (w : IsSound old) (place n : ℕ) (server after : ServerValue ReplicaValue) → HasNode old place n (Up server) → (came : List (SocketAddr × List ℕ)) → May old.genesis old.sent server came
+        → (turn : Turn (Says Metered) tells came server after) → Traced old.genesis n (given_in server.received (datagrams_in (take 64 server.own) came)) (steps_of Metered turn.hands_on.says.comes)
     turn_trace old w place n server after at came may turn =
         let node = node_of n (Up server) in
-        let may_all = given_may old.genesis old.sent server.own came after.received (own_may old w n server (w.own place node at server refl)) (unforged old w server came may) in
-        trace_up Metered old.genesis n old.seats place node at refl after (given_in server.own came after.received) server.replica turn.hands_on.letters after.replica turn.hands_on.says old.sent old.trace may_all
-        (with_replica old w place node at server after refl)
+        let may_all = turn_takes May Metered tells unforged old old w n 64 server came (w.own place node at server refl) may in
+        trace_group old.genesis n old.seats place node at after Metered (given_in server.received (datagrams_in (take 64 server.own) came)) server.replica turn.hands_on.letters after.replica old.sent old.trace may_all
+        (with_replica old w place node at server after refl) turn.hands_on.says
 
-    last_trace : (old : Cluster) (w : IsSound old) (place n : ℕ) (server after : ServerValue ReplicaValue) → HasNode old place n (Up server) → (came : Option (SocketAddr × List ℕ)) → May old.genesis old.sent server came
-        → (turn : LastTurn (Says Metered) tells came server after) → Traced Metered old.genesis n server.replica turn.given turn.hands_on.letters after.replica
+    last_trace : (old : Cluster) (w : IsSound old) (place n : ℕ) (server after : ServerValue ReplicaValue) → HasNode old place n (Up server) → (came : List (SocketAddr × List ℕ)) → May old.genesis old.sent server came
+        → (turn : LastTurn (Says Metered) tells came server after) → Traced old.genesis n turn.given (steps_of Metered turn.hands_on.says.comes)
     last_trace old w place n server after at came may turn =
         let node = node_of n (Up server) in
-        let may_all = ended_may old.genesis old.sent server.own came turn.given turn.behind (own_may old w n server (w.own place node at server refl)) (unforged old w server came may) in
-        trace_up Metered old.genesis n old.seats place node at refl after turn.given server.replica turn.hands_on.letters after.replica turn.hands_on.says old.sent old.trace may_all
-        (with_replica old w place node at server after refl)
+        let may_all = ended_may old.genesis old.sent turn.given (given_in server.received (datagrams_in (take turn.count server.own) came)) turn.front (turn_takes May Metered tells unforged old old w n turn.count server came (w.own place node at server refl) may) in
+        trace_group old.genesis n old.seats place node at after Metered turn.given server.replica turn.hands_on.letters after.replica old.sent old.trace may_all
+        (with_replica old w place node at server after refl) turn.hands_on.says
 
     -- a turn
-    turn_happens : (old : Cluster) → IsSound old → (place n : ℕ) (server after : ServerValue ReplicaValue) → HasNode old place n (Up server) → (came : Option (SocketAddr × List ℕ)) → May old.genesis old.sent server came
+    turn_happens : (old : Cluster) → IsSound old → (place n : ℕ) (server after : ServerValue ReplicaValue) → HasNode old place n (Up server) → (came : List (SocketAddr × List ℕ)) → May old.genesis old.sent server came
         → (turn : Turn (Says Metered) tells came server after) → after.replica.failed ≡ false → (trace : List Note) × TakesTurn May Metered tells old (continued old place n (Up after) turn.hands_on.letters trace)
     turn_happens old w place n server after at came may turn alive =
         let traced = turn_trace old w place n server after at came may turn in (
@@ -127,27 +127,27 @@ module _ (May : Network) (Metered tells : Type 0) where
             turn = turn;
             alive = alive;
             trace = traced.0;
-            calls = traced.1;
+            joins = traced.1;
             adds = record { genesis = refl; sent = refl; trace = refl };
           },
         )
 
     -- the cluster after it
-    turn_comes : (genesis : Genesis) (old : Cluster) → IsReachable May Metered tells genesis old → (place n : ℕ) (server after : ServerValue ReplicaValue) → HasNode old place n (Up server) → (came : Option (SocketAddr × List ℕ))
+    turn_comes : (genesis : Genesis) (old : Cluster) → IsReachable May Metered tells genesis old → (place n : ℕ) (server after : ServerValue ReplicaValue) → HasNode old place n (Up server) → (came : List (SocketAddr × List ℕ))
         → May old.genesis old.sent server came → (turn : Turn (Says Metered) tells came server after) → after.replica.failed ≡ false
         → (trace : List Note) × IsReachable May Metered tells genesis (continued old place n (Up after) turn.hands_on.letters trace)
     turn_comes genesis old all place n server after at came may turn alive =
         let t = turn_happens old (reachable_sound May Metered tells unforged genesis old all) place n server after at came may turn alive in
         (t.0, goes_on genesis old (continued old place n (Up after) turn.hands_on.letters t.0) all (inr (inr (inr (inl t.1)))))
 
-    pub turn_continues : (genesis : Genesis) (old : Cluster) → IsReachable May Metered tells genesis old → (place n : ℕ) (server after : ServerValue ReplicaValue) → HasNode old place n (Up server) → (came : Option (SocketAddr × List ℕ))
+    pub turn_continues : (genesis : Genesis) (old : Cluster) → IsReachable May Metered tells genesis old → (place n : ℕ) (server after : ServerValue ReplicaValue) → HasNode old place n (Up server) → (came : List (SocketAddr × List ℕ))
         → May old.genesis old.sent server came → (turn : Turn (Says Metered) tells came server after) → after.replica.failed ≡ false → Continues May Metered tells genesis old place n (Up after) turn.hands_on.letters
     turn_continues genesis old all place n server after at came may turn alive =
         let t = turn_comes genesis old all place n server after at came may turn alive in
         continues_with genesis old place n (Up after) turn.hands_on.letters t.0 t.1
 
     -- a turn that ends it
-    pub last_turn_continues : (genesis : Genesis) (old : Cluster) → IsReachable May Metered tells genesis old → (place n : ℕ) (server after : ServerValue ReplicaValue) → HasNode old place n (Up server) → (came : Option (SocketAddr × List ℕ))
+    pub last_turn_continues : (genesis : Genesis) (old : Cluster) → IsReachable May Metered tells genesis old → (place n : ℕ) (server after : ServerValue ReplicaValue) → HasNode old place n (Up server) → (came : List (SocketAddr × List ℕ))
         → May old.genesis old.sent server came → (turn : LastTurn (Says Metered) tells came server after) → after.replica.failed ≡ true → (left : Memory) → ((s : Side) → disk_of left s ≡ server_disks after s)
         → Continues May Metered tells genesis old place n (Down left) turn.hands_on.letters
     last_turn_continues genesis old all place n server after at came may turn ended left same =
@@ -168,7 +168,7 @@ module _ (May : Network) (Metered tells : Type 0) where
           turn = turn;
           ended = ended;
           trace = traced.0;
-          calls = traced.1;
+          joins = traced.1;
           adds = record { genesis = refl; sent = refl; trace = refl };
         } in
         continues_with genesis old place n (Down left) turn.hands_on.letters traced.0 (goes_on genesis old new all (inr (inr (inr (inr (inl ends))))))
@@ -207,7 +207,7 @@ module _ (May : Network) (Metered tells : Type 0) where
     same_again (y ∷ xs) (suc place) x at = ap (λ l. y ∷ l) (same_again xs place x (omega (arith, at.0), at.1))
 
     -- turns, one after another, of a replica that says so
-    module _ (S : ReplicaValue → Option (List ℕ) → List LetterValue → ReplicaValue → Type 0) (so : (old : ReplicaValue) (o : Option (List ℕ)) (letters : List LetterValue) (new : ReplicaValue) → S old o letters new → Says Metered old o letters new) where
+    module _ (S : ReplicaValue → List (Option (List ℕ)) → List LetterValue → ReplicaValue → Type 0) (so : (old : ReplicaValue) (given : List (Option (List ℕ))) (letters : List LetterValue) (new : ReplicaValue) → S old given letters new → Says Metered old given letters new) where
       pub turns_continue : (genesis : Genesis) (old : Cluster) → IsReachable May Metered tells genesis old → (place n : ℕ) (first : ServerValue ReplicaValue) (states : List (ServerValue ReplicaValue)) (last : ServerValue ReplicaValue)
           → HasNode old place n (Up first) → (turns : Chain (ServerTurn S tells) first states last) → MayAllCome S tells May old.genesis n old.sent first states last turns
           → Continues May Metered tells genesis old place n (Up last) (letters_of S tells first states last turns)

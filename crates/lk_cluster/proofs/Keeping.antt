@@ -1,6 +1,7 @@
 -- What happens to a cluster keeps all that holds of it.
-use Rattle.std.proofs.Common.{◌≡◌, ℕ, ◌⊎◌, ◌==◌, ◌%◌, true, false, Bool, Option, Some, None, List, [], ◌∷◌, ◌++◌, drop, set, Contains, refl, ap, sym, ◌∙◌, subst, subst₂, inl, inr, append-nil, arith}
+use Rattle.std.proofs.Common.{◌≡◌, ℕ, ◌⊎◌, ◌==◌, ◌%◌, true, false, Bool, Option, Some, None, List, [], ◌∷◌, ◌++◌, take, drop, set, zero, suc, Contains, refl, ap, sym, ◌∙◌, subst, subst₂, inl, inr, append-nil, arith}
 use Rattle.std.specs.Prelude.{map}
+use Rattle.std.specs.List.{AllByRecursion}
 use Rattle.std.proofs.lemmas.Bool.{cases_Bool}
 use Rattle.std.proofs.lemmas.List.Elements.{Contains-append_left, Contains-append_right, Contains-push_cases}
 use Rattle.std.specs.declared.net.socket_addr.SocketAddr.{SocketAddr}
@@ -17,7 +18,7 @@ use Rattle.lk_replica.specs.Posts.{CarriesAll}
 use Rattle.lk_replica.specs.ReplicaValue.{ReplicaValue}
 use Rattle.lk_server.specs.Addresses.{AddressBook}
 use Rattle.lk_server.specs.Posts.{Tray, Becomes}
-use Rattle.lk_server.specs.Servers.{ServerValue, HandsOn, inputs, given_in, EndsBehind, EndsBehindIn, tray_at}
+use Rattle.lk_server.specs.Servers.{ServerValue, HandsOn, one_more, inputs, all_inputs, given_in, datagrams_in, IsFront, tray_at}
 use Rattle.lk_sim.specs.Events.{Turns, Adds}
 use Rattle.lk_sim.specs.Networks.{MayCome, Steps, Appears, Rests, Stops, nothing}
 use Rattle.lk_sim.specs.Rooms.{AreShort}
@@ -26,8 +27,8 @@ use Rattle.lk_sim.specs.Traces.{happened}
 use Rattle.lk_sim.specs.Worlds.{Holds}
 use Rattle.lk_sim.specs.declared.seat.Life.TheVariants.{Up, Down}
 use Rattle.lk_sim.proofs.Networks.{step_holds, at_set, at_set_here, at_push, nothing_holds, set_twice, went_down}
-use Rattle.lk_cluster.specs.Clusters.{Node, Cluster, Network, ForgesNothing, ServerStands, server_disks, Says, bytes_of, Starts, TakesTurn, EndsByTurn, Happens, HappenAll, IsReachable}
-use Rattle.lk_cluster.proofs.Calls.{AllMay, chain}
+use Rattle.lk_cluster.specs.Clusters.{Node, Cluster, Network, ForgesNothing, ServerStands, server_disks, Says, Starts, TakesTurn, EndsByTurn, Happens, HappenAll, IsReachable}
+use Rattle.lk_cluster.proofs.Groups.{AllMay, group_leaves}
 use Rattle.lk_cluster.proofs.Mapped.{device_disks}
 
 -- ---- letters of a node to itself
@@ -39,9 +40,19 @@ in_map f (y ∷ xs) x c = elim (cons_cases y xs x c) [
   | inr later ↦ contains_more (f y) (map f xs) (f x) (in_map f xs x later)
 ]
 
-in_rest : (own : List LetterValue) (l : LetterValue) → Contains (drop 1 own) l → Contains own l
-in_rest [] l c = c
-in_rest (x ∷ own) l c = contains_more x own l c
+-- letters that were taken, and the others, stood there
+in_front : (k : ℕ) (own : List LetterValue) (l : LetterValue) → Contains (take k own) l → Contains own l
+in_front zero own l c = absurd (omega (arith, c.1))
+in_front (suc k) [] l c = c
+in_front (suc k) (x ∷ own) l c = elim (cons_cases x (take k own) l c) [
+  | inl here ↦ (0, omega arith, here)
+  | inr later ↦ contains_more x own l (in_front k own l later)
+]
+
+in_rest : (k : ℕ) (own : List LetterValue) (l : LetterValue) → Contains (drop k own) l → Contains own l
+in_rest zero own l c = c
+in_rest (suc k) [] l c = c
+in_rest (suc k) (x ∷ own) l c = contains_more x own l (in_rest k own l c)
 
 kept_one : (tells : Type 0) (node : ℕ) (book : AddressBook) (old new : Tray) (x : LetterValue) (is_sent : Bool) → Becomes tells node book old x is_sent new → (l : LetterValue) → Contains new.own l → Contains old.own l ⊎ (x ≡ l)
 kept_one tells node book old new x true (inl keeps) l c = Contains-push_cases old.own x l (subst (λ (ls : List LetterValue). Contains ls l) keeps.own c)
@@ -78,12 +89,12 @@ own_set seats place next sent now old among mine k s at q up = elim (at_set seat
 ]
 
 -- a server that has taken a turn
-after_turn : (tells : Type 0) (Says : ReplicaValue → Option (List ℕ) → List LetterValue → ReplicaValue → Type 0) (given : List (Option (List ℕ))) (sent : List Datagram) (n : ℕ) (server after : ServerValue ReplicaValue)
-    → IsKept sent n server → (h : HandsOn Says tells given (drop 1 server.own) server after) → after.replica.failed ≡ false → IsKept (sent ++ batch_of n h.letters) n after
-after_turn tells Says given sent n server after kept h alive = record {
+after_turn : (tells : Type 0) (Says : ReplicaValue → List (Option (List ℕ)) → List LetterValue → ReplicaValue → Type 0) (given : List (Option (List ℕ))) (count : ℕ) (sent : List Datagram) (n : ℕ) (server after : ServerValue ReplicaValue)
+    → IsKept sent n server → (h : HandsOn Says tells given (drop count server.own) server after) → after.replica.failed ≡ false → IsKept (sent ++ batch_of n h.letters) n after
+after_turn tells Says given count sent n server after kept h alive = record {
   alive = alive;
-  own = λ l c. elim (kept_of tells after.node after.addresses (tray_at (drop 1 server.own) server) (tray_at after.own after) h.letters h.carried l c) [
-    | inl old ↦ Contains-append_left sent (batch_of n h.letters) (datagram_of n l) (kept.own l (in_rest server.own l old))
+  own = λ l c. elim (kept_of tells after.node after.addresses (tray_at (drop count server.own) server) (tray_at after.own after) h.letters h.carried l c) [
+    | inl old ↦ Contains-append_left sent (batch_of n h.letters) (datagram_of n l) (kept.own l (in_rest count server.own l old))
     | inr new ↦ Contains-append_right sent (batch_of n h.letters) (datagram_of n l) (in_map (datagram_of n) h.letters l new)
   ];
 }
@@ -91,24 +102,45 @@ after_turn tells Says given sent n server after kept h alive = record {
 -- ---- what comes in a turn
 
 module _ (genesis : Genesis) (sent : List Datagram) where
+  append_may : (first rest : List (Option (List ℕ))) → AllMay genesis sent first → AllMay genesis sent rest → AllMay genesis sent (first ++ rest)
+  append_may [] rest may more = more
+  append_may (o ∷ first) rest may more = (may.0, append_may first rest may.1 more)
+
   inputs_may : (number : ℕ) (bytes : List ℕ) → MayCome genesis sent (Some bytes) → AllMay genesis sent (inputs number bytes)
   inputs_may number bytes may = elim (cases_Bool (number % 64 == 0)) [ inl e ↦ rw e (may, (tt, tt)) | inr e ↦ rw e (may, tt) ]
 
-  behind_may : (bytes : List ℕ) (given : List (Option (List ℕ))) → EndsBehind bytes given → MayCome genesis sent (Some bytes) → AllMay genesis sent given
-  behind_may bytes given (inl e) may = subst (λ (g : List (Option (List ℕ))). AllMay genesis sent g) (sym e) (may, tt)
-  behind_may bytes given (inr e) may = subst (λ (g : List (Option (List ℕ))). AllMay genesis sent g) (sym e) (may, (tt, tt))
+  -- these may
+  abbrev AreFree : List (List ℕ) → Type 0
+  AreFree datagrams = AllByRecursion (λ (bytes : List ℕ). MayCome genesis sent (Some bytes)) datagrams
 
-  pub given_may : (own : List LetterValue) (came : Option (SocketAddr × List ℕ)) (number : ℕ) → ((l : LetterValue) → Contains own l → MayCome genesis sent (Some l.bytes)) → MayCome genesis sent (bytes_of came)
-      → AllMay genesis sent (given_in own came number)
-  given_may (l ∷ own) came number mine may = inputs_may number l.bytes (mine l (0, omega arith, refl))
-  given_may [] (Some c) number mine may = inputs_may number c.1 may
-  given_may [] None number mine may = (tt, tt)
+  all_inputs_may : (received : ℕ) (datagrams : List (List ℕ)) → AreFree datagrams → AllMay genesis sent (all_inputs received datagrams)
+  all_inputs_may received [] may = tt
+  all_inputs_may received (bytes ∷ more) may =
+      append_may (inputs (one_more received) bytes) (all_inputs (one_more received) more) (inputs_may (one_more received) bytes may.0) (all_inputs_may (one_more received) more may.1)
 
-  pub ended_may : (own : List LetterValue) (came : Option (SocketAddr × List ℕ)) (given : List (Option (List ℕ))) → EndsBehindIn own came given → ((l : LetterValue) → Contains own l → MayCome genesis sent (Some l.bytes))
-      → MayCome genesis sent (bytes_of came) → AllMay genesis sent given
-  ended_may (l ∷ own) came given e mine may = behind_may l.bytes given e (mine l (0, omega arith, refl))
-  ended_may [] (Some c) given e mine may = behind_may c.1 given e may
-  ended_may [] None given e mine may = subst (λ (g : List (Option (List ℕ))). AllMay genesis sent g) (sym e) (tt, tt)
+  turn_may : (received : ℕ) (datagrams : List (List ℕ)) → AreFree datagrams → AllMay genesis sent (given_in received datagrams)
+  turn_may received [] may = (tt, tt)
+  turn_may received (bytes ∷ more) may = all_inputs_may received (bytes ∷ more) may
+
+  came_may : (came : List (SocketAddr × List ℕ)) → AllByRecursion (λ (c : SocketAddr × List ℕ). MayCome genesis sent (Some c.1)) came → AreFree (map (λ (c : SocketAddr × List ℕ). c.1) came)
+  came_may [] may = tt
+  came_may (c ∷ came) may = (may.0, came_may came may.1)
+
+  datagrams_may : (own : List LetterValue) (came : List (SocketAddr × List ℕ)) → ((l : LetterValue) → Contains own l → MayCome genesis sent (Some l.bytes))
+      → AllByRecursion (λ (c : SocketAddr × List ℕ). MayCome genesis sent (Some c.1)) came → AreFree (datagrams_in own came)
+  datagrams_may [] came mine may = came_may came may
+  datagrams_may (l ∷ own) came mine may = (mine l (0, omega arith, refl), datagrams_may own came (λ x c. mine x (contains_more l own x c)) may)
+
+  front_may : (given rest : List (Option (List ℕ))) → AllMay genesis sent (given ++ rest) → AllMay genesis sent given
+  front_may [] rest may = tt
+  front_may (o ∷ given) rest may = (may.0, front_may given rest may.1)
+
+  pub given_may : (count received : ℕ) (own : List LetterValue) (came : List (SocketAddr × List ℕ)) → ((l : LetterValue) → Contains own l → MayCome genesis sent (Some l.bytes))
+      → AllByRecursion (λ (c : SocketAddr × List ℕ). MayCome genesis sent (Some c.1)) came → AllMay genesis sent (given_in received (datagrams_in (take count own) came))
+  given_may count received own came mine may = turn_may received (datagrams_in (take count own) came) (datagrams_may (take count own) came (λ l c. mine l (in_front count own l c)) may)
+
+  pub ended_may : (given whole : List (Option (List ℕ))) → IsFront given whole → AllMay genesis sent whole → AllMay genesis sent given
+  ended_may given whole front may = front_may given front.0 (subst (λ (g : List (Option (List ℕ))). AllMay genesis sent g) front.1 may)
 
 -- ---- what holds of a cluster
 
@@ -122,7 +154,7 @@ begun genesis = record { holds = nothing_holds ServerStands server_disks table_m
 
 -- what the network brings is not forged, where that holds
 abbrev pub Unforged : Network → Type 0
-Unforged May = (c : Cluster) → IsSound c → (server : ServerValue ReplicaValue) (came : Option (SocketAddr × List ℕ)) → May c.genesis c.sent server came → MayCome c.genesis c.sent (bytes_of came)
+Unforged May = (c : Cluster) → IsSound c → (server : ServerValue ReplicaValue) (came : List (SocketAddr × List ℕ)) → May c.genesis c.sent server came → ForgesNothing c.genesis c.sent server came
 
 module _ (old : Cluster) (w : IsSound old) where
   -- a letter of the node to itself may come
@@ -190,22 +222,27 @@ module _ (May : Network) (Metered tells : Type 0) (unforged : Unforged May) wher
         (subst (λ z. Holds ServerStands server_disks table_meaning old.genesis z new.sent new.trace) (sym same)
         (subst₂ (λ x y. Holds ServerStands server_disks table_meaning old.genesis seats x y) (sym a.sent) (sym a.trace) h))
 
+    -- what a server takes in a turn of what waits and comes
+    pub turn_takes : (n count : ℕ) (server : ServerValue ReplicaValue) (came : List (SocketAddr × List ℕ)) → IsKept old.sent n server → May old.genesis old.sent server came
+        → AllMay old.genesis old.sent (given_in server.received (datagrams_in (take count server.own) came))
+    turn_takes n count server came kept may = given_may old.genesis old.sent count server.received server.own came (own_may old w n server kept) (unforged old w server came may)
+
     takes_turn : TakesTurn May Metered tells old new → IsSound new
     takes_turn a =
         let n : ℕ = a.node.number in
         let kept = w.own a.turns.place a.node a.turns.at a.server a.was in
-        let given = given_in a.server.own a.came a.after.received in
-        let may = given_may old.genesis old.sent a.server.own a.came a.after.received (own_may old w n a.server kept) (unforged old w a.server a.came a.may) in
-        let left = chain Metered old.genesis n old.seats a.turns.place a.node a.turns.at refl a.after given a.server.replica kept.alive a.turn.hands_on.letters a.trace a.after.replica a.calls old.sent old.trace may
-        (with_replica old w a.turns.place a.node a.turns.at a.server a.after a.was) in
+        let given = given_in a.server.received (datagrams_in (take 64 a.server.own) a.came) in
+        let letters : List LetterValue = a.turn.hands_on.letters in
+        let left = group_leaves old.genesis n old.seats a.turns.place a.node a.turns.at a.after Metered given a.server.replica letters a.after.replica a.turn.hands_on.says a.trace old.sent old.trace
+        (turn_takes n 64 a.server a.came kept a.may) (with_replica old w a.turns.place a.node a.turns.at a.server a.after a.was) a.joins in
         record {
-          holds = moved (set old.seats a.turns.place a.next) a.trace (batch_of n a.turn.hands_on.letters) a.turns.seats a.adds
-              (subst (λ (z : Node). Holds ServerStands server_disks table_meaning old.genesis (set old.seats a.turns.place z) (old.sent ++ batch_of n a.turn.hands_on.letters) (old.trace ++ a.trace))
+          holds = moved (set old.seats a.turns.place a.next) a.trace (batch_of n letters) a.turns.seats a.adds
+              (subst (λ (z : Node). Holds ServerStands server_disks table_meaning old.genesis (set old.seats a.turns.place z) (old.sent ++ batch_of n letters) (old.trace ++ a.trace))
               (λ i. record { number = sym a.turns.number i; life = sym a.up i }) (left.up a.alive));
-          own = own_moved a.node a.next a.turns (batch_of n a.turn.hands_on.letters) a.adds.sent (λ q up.
+          own = own_moved a.node a.next a.turns (batch_of n letters) a.adds.sent (λ q up.
               subst (λ (z : ServerValue ReplicaValue). IsKept new.sent a.next.number z) (same_up a.after q (sym a.up ∙ up))
               (subst₂ (λ (l : List Datagram) (k : ℕ). IsKept l k a.after) (sym a.adds.sent) (sym a.turns.number)
-              (after_turn tells (Says Metered) given old.sent n a.server a.after kept a.turn.hands_on a.alive)));
+              (after_turn tells (Says Metered) given 64 old.sent n a.server a.after kept a.turn.hands_on a.alive)));
         }
 
     -- other devices with the same disks
@@ -217,12 +254,12 @@ module _ (May : Network) (Metered tells : Type 0) (unforged : Unforged May) wher
         let n : ℕ = a.node.number in
         let kept = w.own a.turns.place a.node a.turns.at a.server a.was in
         let batch : List Datagram = batch_of n a.turn.hands_on.letters in
-        let may = ended_may old.genesis old.sent a.server.own a.came a.turn.given a.turn.behind (own_may old w n a.server kept) (unforged old w a.server a.came a.may) in
+        let may = ended_may old.genesis old.sent a.turn.given (given_in a.server.received (datagrams_in (take a.turn.count a.server.own) a.came)) a.turn.front (turn_takes n a.turn.count a.server a.came kept a.may) in
         let device : Memory = device_of a.after.replica.store in
         let seat : Node = record { number = n; life = Down device } in
         let next : Node = record { number = n; life = Down a.left } in
-        let left = chain Metered old.genesis n old.seats a.turns.place a.node a.turns.at refl a.after a.turn.given a.server.replica kept.alive a.turn.hands_on.letters a.trace a.after.replica a.calls old.sent old.trace may
-        (with_replica old w a.turns.place a.node a.turns.at a.server a.after a.was) in
+        let left = group_leaves old.genesis n old.seats a.turns.place a.node a.turns.at a.after Metered a.turn.given a.server.replica a.turn.hands_on.letters a.after.replica a.turn.hands_on.says a.trace old.sent old.trace may
+        (with_replica old w a.turns.place a.node a.turns.at a.server a.after a.was) a.joins in
         let first : Cluster = record { genesis = old.genesis; seats = set old.seats a.turns.place seat; sent = old.sent ++ batch; trace = old.trace ++ a.trace; ended = None } in
         let last : Cluster = record { genesis = old.genesis; seats = set old.seats a.turns.place next; sent = old.sent ++ batch; trace = old.trace ++ a.trace; ended = None } in
         let path = other_device a.after a.left a.same in

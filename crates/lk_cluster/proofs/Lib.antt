@@ -1,6 +1,6 @@
 mod Mapped
 mod Requests
-mod Calls
+mod Groups
 mod Keeping
 mod Tracing
 mod Continuing

@@ -19,7 +19,7 @@ use Rattle.lk_cluster.proofs.Keeping.{forges_nothing}
 use Rattle.lk_cluster.proofs.Serving.{service_continues, broken_service_continues, refused_continues}
 
 module _ (Metered tells Honest : Type 0) (honest : Honest)
-    (S : ReplicaValue → Option (List ℕ) → List LetterValue → ReplicaValue → Type 0) (so : (old : ReplicaValue) (o : Option (List ℕ)) (letters : List LetterValue) (new : ReplicaValue) → S old o letters new → Says Metered old o letters new)
+    (S : ReplicaValue → List (Option (List ℕ)) → List LetterValue → ReplicaValue → Type 0) (so : (old : ReplicaValue) (given : List (Option (List ℕ))) (letters : List LetterValue) (new : ReplicaValue) → S old given letters new → Says Metered old given letters new)
     (genesis : Genesis) (old : Cluster) (all : IsReachable ForgesNothing Metered tells genesis old) (place n : ℕ) (disks : Side → Disk) (seals : Seals) (at : IsDownOn old place n disks) (header : HeaderValue) (whose : header ≡ header_of old.genesis n) where
   pub serves_in : (count : ℕ) → Serves (IsTakenUp table_meaning Honest disks header) header seals S tells count → ServesIn Metered tells Honest S genesis old place n disks seals count
   serves_in count here =

@@ -1,5 +1,6 @@
 -- What only nodes seal is not forged.
-use Rattle.std.proofs.Common.{◌≡◌, ◌≢◌, ℕ, inl, inr, Option, Some, None, List, [], ◌∷◌, ◌++◌, ap, sym, ◌∙◌, subst}
+use Rattle.std.proofs.Common.{◌≡◌, ◌≢◌, ℕ, inl, inr, Option, Some, List, [], ◌∷◌, ◌++◌, ap, sym, ◌∙◌, subst}
+use Rattle.std.specs.List.{AllByRecursion}
 use Rattle.std.specs.declared.net.socket_addr.SocketAddr.{SocketAddr}
 use Rattle.lk_types.specs.declared.command.Request.{Request}
 use Rattle.lk_wire.specs.Grammar.{Spells}
@@ -12,13 +13,13 @@ use Rattle.lk_node.specs.Histories.{Genesis, Datagram}
 use Rattle.lk_replica.specs.ReplicaValue.{ReplicaValue}
 use Rattle.lk_seal.specs.Seals.{key_list, heard}
 use Rattle.lk_seal.specs.declared.seals.Seals.{Seals}
-use Rattle.lk_server.specs.Posts.{taken_as}
+use Rattle.lk_server.specs.Posts.{all_taken_as}
 use Rattle.lk_server.specs.Premises.{IsToldByANode}
 use Rattle.lk_server.specs.Servers.{ServerValue}
 use Rattle.lk_service.specs.Chains.{Chain}
 use Rattle.lk_service.specs.Turns.{TakesTurn as ServerTurn}
 use Rattle.lk_sim.specs.Networks.{MayCome, nothing}
-use Rattle.lk_cluster.specs.Clusters.{Cluster, Network, ForgesNothing, bytes_of, TakesTurn, EndsByTurn, Happens, HappenAll, IsReachable}
+use Rattle.lk_cluster.specs.Clusters.{Cluster, Network, ForgesNothing, TakesTurn, EndsByTurn, Happens, HappenAll, IsReachable}
 use Rattle.lk_cluster.specs.Continuing.{MayAllCome}
 use Rattle.lk_cluster.specs.Sealing.{OnlyNodesSeal, OnlyNodesSealAll, OnlyNodesSealWhatComes, IsSealed}
 use Rattle.lk_cluster.proofs.Keeping.{IsSound, Unforged, happens, begun}
@@ -34,27 +35,28 @@ taken_unforged c w s frame (inl sealed) only n x spelled =
 taken_unforged c w s frame (inr free) only n x spelled = let r = free (said_by c.genesis n x) spelled in absurd (no_request c.genesis n x r.0 r.1)
 
 module _ (told : (s : Seals) (frame : List ℕ) → key_list s.nodes ≢ [] → IsToldByANode s frame) where
-  what_comes : (c : Cluster) → IsSound c → (s : Seals) → key_list s.nodes ≢ [] → (frame : Option (SocketAddr × List ℕ)) → OnlyNodesSealWhatComes c.sent s frame → MayCome c.genesis c.sent (bytes_of (taken_as s frame))
-  what_comes c w s key None only = tt
-  what_comes c w s key (Some frame) only = taken_unforged c w s frame.1 (told s frame.1 key) only
+  what_comes : (c : Cluster) → IsSound c → (s : Seals) → key_list s.nodes ≢ [] → (frames : List (SocketAddr × List ℕ)) → OnlyNodesSealWhatComes c.sent s frames
+      → AllByRecursion (λ (d : SocketAddr × List ℕ). MayCome c.genesis c.sent (Some d.1)) (all_taken_as s frames)
+  what_comes c w s key [] only = tt
+  what_comes c w s key (frame ∷ frames) only = (taken_unforged c w s frame.1 (told s frame.1 key) only.0, what_comes c w s key frames only.1)
 
   pub seals_forge_nothing : Unforged IsSealed
   seals_forge_nothing c w server came may =
-      subst (λ (o : Option (SocketAddr × List ℕ)). MayCome c.genesis c.sent (bytes_of o)) (sym may.opened) (what_comes c w server.addresses.seals may.has_key may.frame may.only_nodes_seal)
+      subst (λ (l : List (SocketAddr × List ℕ)). ForgesNothing c.genesis c.sent server l) (sym may.opened) (what_comes c w server.addresses.seals may.has_key may.frames may.only_nodes_seal)
 
 -- ---- turns of a server that has the key
 
--- what comes in a frame
-pub frame_sealed : (s : Seals) → key_list s.nodes ≢ [] → (genesis : Genesis) (sent : List Datagram) (server : ServerValue ReplicaValue) → server.addresses.seals ≡ s → (frame came : Option (SocketAddr × List ℕ)) → came ≡ taken_as server.addresses.seals frame → OnlyNodesSealWhatComes sent s frame
+-- what comes in frames
+pub frames_sealed : (s : Seals) → key_list s.nodes ≢ [] → (genesis : Genesis) (sent : List Datagram) (server : ServerValue ReplicaValue) → server.addresses.seals ≡ s → (frames came : List (SocketAddr × List ℕ)) → came ≡ all_taken_as server.addresses.seals frames → OnlyNodesSealWhatComes sent s frames
     → IsSealed genesis sent server came
-frame_sealed s key genesis sent server same frame came opened only = record {
-  frame = frame;
+frames_sealed s key genesis sent server same frames came opened only = record {
+  frames = frames;
   opened = opened;
   has_key = subst (λ (z : Seals). key_list z.nodes ≢ []) (sym same) key;
-  only_nodes_seal = subst (λ (z : Seals). OnlyNodesSealWhatComes sent z frame) (sym same) only;
+  only_nodes_seal = subst (λ (z : Seals). OnlyNodesSealWhatComes sent z frames) (sym same) only;
 }
 
-module _ (S : ReplicaValue → Option (List ℕ) → List LetterValue → ReplicaValue → Type 0) (tells : Type 0) (s : Seals) where
+module _ (S : ReplicaValue → List (Option (List ℕ)) → List LetterValue → ReplicaValue → Type 0) (tells : Type 0) (s : Seals) where
   -- the seals stay the same
   pub still_sealed : (first : ServerValue ReplicaValue) (states : List (ServerValue ReplicaValue)) (last : ServerValue ReplicaValue) → Chain (ServerTurn S tells) first states last → first.addresses.seals ≡ s → last.addresses.seals ≡ s
   still_sealed first [] last turns same = ap (λ (q : ServerValue ReplicaValue). q.addresses.seals) turns ∙ same
@@ -66,7 +68,7 @@ module _ (S : ReplicaValue → Option (List ℕ) → List LetterValue → Replic
         → OnlyNodesSealAll S tells s n sent first states last turns → MayAllCome S tells IsSealed genesis n sent first states last turns
     all_sealed sent first [] last turns same only = tt
     all_sealed sent first (next ∷ states) last turns same only = (
-      frame_sealed s key genesis sent first same turns.0.frame turns.0.came turns.0.opened only.0,
+      frames_sealed s key genesis sent first same turns.0.frames turns.0.came turns.0.opened only.0,
       all_sealed (sent ++ batch_of n turns.0.turn.hands_on.letters) next states last turns.1 (turns.0.outside.1 ∙ same) only.1,
     )
 
@@ -87,7 +89,7 @@ module _ (May : Network) (Metered tells : Type 0) (unforged : Unforged May) wher
     turn = a.turn;
     alive = a.alive;
     trace = a.trace;
-    calls = a.calls;
+    joins = a.joins;
     adds = a.adds;
   }
 
@@ -107,7 +109,7 @@ module _ (May : Network) (Metered tells : Type 0) (unforged : Unforged May) wher
     turn = a.turn;
     ended = a.ended;
     trace = a.trace;
-    calls = a.calls;
+    joins = a.joins;
     adds = a.adds;
   }
 

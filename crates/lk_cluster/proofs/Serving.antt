@@ -57,7 +57,7 @@ refused_continues May Metered tells Honest honest genesis cluster all place n de
     (subst₂ (λ (d e : Side → Disk). RestsBy table_meaning cluster.genesis n d e) (λ i s. sym (same s) i) (λ i s. sym (same_left s) i) rests)
 
 module _ (May : Network) (Metered tells : Type 0) (unforged : Unforged May) (Honest : Type 0)
-    (S : ReplicaValue → Option (List ℕ) → List LetterValue → ReplicaValue → Type 0) (so : (old : ReplicaValue) (o : Option (List ℕ)) (letters : List LetterValue) (new : ReplicaValue) → S old o letters new → Says Metered old o letters new) where
+    (S : ReplicaValue → List (Option (List ℕ)) → List LetterValue → ReplicaValue → Type 0) (so : (old : ReplicaValue) (given : List (Option (List ℕ))) (letters : List LetterValue) (new : ReplicaValue) → S old given letters new → Says Metered old given letters new) where
   abbrev IsOf : Cluster → ℕ → (Side → Disk) → ServerValue ReplicaValue → Type 0
   IsOf cluster n old = IsTakenUp table_meaning Honest old (header_of cluster.genesis n)
 

@@ -2,7 +2,8 @@
 -- another, in any order.
 use Rattle.std.proofs.Common.{inl, inr}
 use Rattle.std.specs.Prelude.{◌≡◌, ◌⊎◌, ℕ, true, false, Option, Some, None, List, [], ◌∷◌, ◌++◌}
-use Rattle.std.specs.Prelude.{map}
+use Rattle.std.specs.Prelude.{map, take, drop}
+use Rattle.std.specs.List.{AllByRecursion}
 use Rattle.std.specs.declared.net.socket_addr.SocketAddr.{SocketAddr}
 use Rattle.lk_types.specs.declared.genesis.Genesis.{Genesis}
 use Rattle.lk_disk.specs.Disk.{Disk}
@@ -16,9 +17,10 @@ use Rattle.lk_step.specs.declared.note.Note.{Note}
 use Rattle.lk_node.specs.Histories.{Datagram, RequestValue}
 use Rattle.lk_node.specs.Holdings.{Holding}
 use Rattle.lk_node.specs.Keeping.{Stands}
+use Rattle.lk_replica.specs.Groups.{StepSaid}
 use Rattle.lk_replica.specs.ReplicaValue.{ReplicaValue}
-use Rattle.lk_server.specs.Sayings.{SaysByStep, IsSilenced, SaysOf}
-use Rattle.lk_server.specs.Servers.{ServerValue, Turn, LastTurn, given_in}
+use Rattle.lk_server.specs.Sayings.{SaysByGroup, IsSilenced, SaysOf}
+use Rattle.lk_server.specs.Servers.{ServerValue, Turn, LastTurn, given_in, datagrams_in}
 use Rattle.lk_sim.specs.Events.{Turns, Adds}
 use Rattle.lk_sim.specs.Networks.{MayCome, AreAsking, TellsOf, RisesBy, Appears, Rises, Rests, Stops, nothing}
 use Rattle.lk_sim.specs.Scenes.{Scene}
@@ -61,49 +63,47 @@ pub record IsBegun (genesis : Genesis) (n : ℕ) (old : Side → Disk) (s : Serv
   pub own : s.own ≡ []
   pub alive : s.replica.failed ≡ false
 
--- the bytes that were taken of what came
-abbrev pub bytes_of : Option (SocketAddr × List ℕ) → Option (List ℕ)
-bytes_of None = None
-bytes_of (Some c) = Some c.1
-
 -- ---- what a network may bring
 
--- what a server of a cluster that began so may take of what comes to it, where this was given to be sent
+-- what a server of a cluster that began so may take of what comes to it in a turn, where this was given to be sent
 abbrev pub Network : Type 1
-Network = Genesis → List Datagram → ServerValue ReplicaValue → Option (SocketAddr × List ℕ) → Type 0
+Network = Genesis → List Datagram → ServerValue ReplicaValue → List (SocketAddr × List ℕ) → Type 0
 
--- whatever the bytes say for a node of the cluster, that node has said. All else is free: datagrams are lost, repeated, late, cut, or come from
+-- whatever the bytes of each say for a node of the cluster, that node has said. All else is free: datagrams are lost, repeated, late, cut, or come from
 -- clients, from other clusters, or from nobody
 abbrev pub ForgesNothing : Network
-ForgesNothing genesis sent server came = MayCome genesis sent (bytes_of came)
+ForgesNothing genesis sent server came = AllByRecursion (λ (c : SocketAddr × List ℕ). MayCome genesis sent (Some c.1)) came
 
 -- ---- what a replica says
 
 -- `Metered` says that the devices count their calls
 module _ (Metered : Type 0) where
-  abbrev pub Says : ReplicaValue → Option (List ℕ) → List LetterValue → ReplicaValue → Type 0
+  abbrev pub Says : ReplicaValue → List (Option (List ℕ)) → List LetterValue → ReplicaValue → Type 0
   Says = SaysOf table_meaning IsTableText Metered
 
-  -- what a call notes
-  abbrev pub noted : {old new : ReplicaValue} {o : Option (List ℕ)} {letters : List LetterValue} → SaysByStep table_meaning IsTableText Metered old o letters new ⊎ IsSilenced letters new → List Note
-  noted (inl s) = s.notes
-  noted (inr s) = []
+  -- what each step of a group noted and said; of a group that was refused nothing
+  abbrev pub steps_of : {old new : ReplicaValue} {given : List (Option (List ℕ))} {letters : List LetterValue} → SaysByGroup table_meaning IsTableText Metered old given letters new ⊎ IsSilenced letters new → List StepSaid
+  steps_of (inl s) = s.said
+  steps_of (inr s) = []
 
-  -- a call of the replica of that node, and what joins the trace by it: the request that is asked by what it was given, what it noted, and the
-  -- answers and passes that it gave to be sent
-  pub record Call (n : ℕ) (old : ReplicaValue) (o : Option (List ℕ)) (letters : List LetterValue) (trace : List Note) (new : ReplicaValue) : Type 0 where
-    pub says : Says old o letters new
-    pub request : Option RequestValue
-    pub asks : AreAsking o request
-    pub told : List Note
-    pub tells_of : TellsOf (batch_of n letters) told
-    pub joins : trace ≡ (asked_note request ++ noted says.comes) ++ told
+-- the first of these steps, or where there is none one that noted and said nothing
+abbrev pub next_step : List StepSaid → StepSaid
+next_step [] = ([], [])
+next_step (step ∷ said) = step
 
-  abbrev pub Calls : ℕ → ReplicaValue → List (Option (List ℕ)) → List LetterValue → List Note → ReplicaValue → Type 0
-  Calls n old [] letters trace new = (letters ≡ []) × (trace ≡ []) × (new ≡ old)
-  Calls n old (o ∷ given) letters trace new =
-      (mid : ReplicaValue) × (first : List LetterValue) × (rest : List LetterValue) × (here : List Note) × (more : List Note)
-      × (letters ≡ first ++ rest) × (trace ≡ here ++ more) × Call n old o first here mid × Calls n mid given rest more new
+-- what joins the trace by a step of the node of that number that was given this: the request that is asked by it, what it noted, and the answers and passes
+-- that it gave to be sent
+pub record JoinsByStep (n : ℕ) (o : Option (List ℕ)) (step : StepSaid) (trace : List Note) : Type 0 where
+  pub request : Option RequestValue
+  pub asks : AreAsking o request
+  pub told : List Note
+  pub tells_of : TellsOf (batch_of n step.1) told
+  pub joins : trace ≡ (asked_note request ++ step.0) ++ told
+
+-- and by a group, one step after another
+abbrev pub Joins : ℕ → List (Option (List ℕ)) → List StepSaid → List Note → Type 0
+Joins n [] said trace = trace ≡ []
+Joins n (o ∷ given) said trace = (here : List Note) × (rest : List Note) × (trace ≡ here ++ rest) × JoinsByStep n o (next_step said) here × Joins n given (drop 1 said) rest
 
 -- ---- what happens
 
@@ -115,7 +115,7 @@ pub record Starts (old new : Cluster) : Type 0 where
 
 -- `May` says what the network may bring, `Metered` that the devices count their calls, and `tells` that the sockets tell what they send
 module _ (May : Network) (Metered tells : Type 0) where
-  -- a node that is up takes a turn, in which something may come or nothing: what it is given by that its replica takes, and the letters of that
+  -- a node that is up takes a turn, in which datagrams may come or nothing: what it is given by that its replica takes as one group, and the letters of that
   -- join what was given to be sent. `came` is what is taken of what comes, out of its frame where the nodes have a key
   pub record TakesTurn (old new : Cluster) : Type 0 where
     pub node : Node
@@ -125,12 +125,12 @@ module _ (May : Network) (Metered tells : Type 0) where
     pub was : node.life ≡ Up server
     pub after : ServerValue ReplicaValue
     pub up : next.life ≡ Up after
-    pub came : Option (SocketAddr × List ℕ)
+    pub came : List (SocketAddr × List ℕ)
     pub may : May old.genesis old.sent server came
     pub turn : Turn (Says Metered) tells came server after
     pub alive : after.replica.failed ≡ false
     pub trace : List Note
-    pub calls : Calls Metered node.number server.replica (given_in server.own came after.received) turn.hands_on.letters trace after.replica
+    pub joins : Joins node.number (given_in server.received (datagrams_in (take 64 server.own) came)) (steps_of Metered turn.hands_on.says.comes) trace
     pub adds : Adds old new trace (batch_of node.number turn.hands_on.letters)
 
   -- a turn ends it, and it is down on the disks that its replica has left
@@ -144,12 +144,12 @@ module _ (May : Network) (Metered tells : Type 0) where
     pub left : Memory
     pub down : next.life ≡ Down left
     pub same : (s : Side) → disk_of left s ≡ server_disks after s
-    pub came : Option (SocketAddr × List ℕ)
+    pub came : List (SocketAddr × List ℕ)
     pub may : May old.genesis old.sent server came
     pub turn : LastTurn (Says Metered) tells came server after
     pub ended : after.replica.failed ≡ true
     pub trace : List Note
-    pub calls : Calls Metered node.number server.replica turn.given turn.hands_on.letters trace after.replica
+    pub joins : Joins node.number turn.given (steps_of Metered turn.hands_on.says.comes) trace
     pub adds : Adds old new trace (batch_of node.number turn.hands_on.letters)
 
   -- a node appears, with empty disks; it starts, or does not; it takes a turn, or ends by one; or it stops, up or down, and its disks have what a

@@ -31,7 +31,7 @@ module _ (May : Network) (Metered tells : Type 0) where
     pub sent : cluster.sent ≡ old.sent ++ batch_of n letters
 
 -- `Says` is what a replica says by what it is given, and `tells` that the sockets tell what they send
-module _ (Says : ReplicaValue → Option (List ℕ) → List LetterValue → ReplicaValue → Type 0) (tells : Type 0) where
+module _ (Says : ReplicaValue → List (Option (List ℕ)) → List LetterValue → ReplicaValue → Type 0) (tells : Type 0) where
   -- the letters that it gave to be sent in these turns, in order
   abbrev pub letters_of : (first : ServerValue ReplicaValue) (states : List (ServerValue ReplicaValue)) (last : ServerValue ReplicaValue) → Chain (ServerTurn Says tells) first states last → List LetterValue
   letters_of first [] last turns = []

@@ -25,7 +25,7 @@ pub record IsDownOn (c : Cluster) (place n : ℕ) (disks : Side → Disk) : Type
 
 -- the node of a reachable cluster that was down there on these disks, and was run on them with these seals. `Metered` and `Honest` say that its device counts
 -- its calls, and that it is honest
-module _ (Metered tells Honest : Type 0) (Says : ReplicaValue → Option (List ℕ) → List LetterValue → ReplicaValue → Type 0) (genesis : Genesis) (old : Cluster) (place n : ℕ) (disks : Side → Disk) (seals : Seals) where
+module _ (Metered tells Honest : Type 0) (Says : ReplicaValue → List (Option (List ℕ)) → List LetterValue → ReplicaValue → Type 0) (genesis : Genesis) (old : Cluster) (place n : ℕ) (disks : Side → Disk) (seals : Seals) where
   -- it has taken so many turns, and by them the cluster goes on to one in which it is up, if nothing that came in them is forged
   pub record ServesIn (count : ℕ) : Type 0 where
     pub served : Serves (IsTakenUp table_meaning Honest disks (header_of old.genesis n)) (header_of old.genesis n) seals Says tells count

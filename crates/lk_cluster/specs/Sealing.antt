@@ -1,5 +1,6 @@
 -- Clusters whose nodes share a key, and take of the frames that come what is sealed under it.
-use Rattle.std.specs.Prelude.{◌≡◌, ◌≢◌, ℕ, Option, Some, None, List, [], ◌∷◌, ◌++◌, Contains}
+use Rattle.std.specs.Prelude.{◌≡◌, ◌≢◌, ℕ, Option, List, [], ◌∷◌, ◌++◌, Contains}
+use Rattle.std.specs.List.{AllByRecursion}
 use Rattle.std.specs.declared.net.socket_addr.SocketAddr.{SocketAddr}
 use Rattle.lk_types.specs.declared.genesis.Genesis.{Genesis}
 use Rattle.lk_step.specs.Letters.{LetterValue, batch_of}
@@ -7,7 +8,7 @@ use Rattle.lk_node.specs.Histories.{Datagram}
 use Rattle.lk_replica.specs.ReplicaValue.{ReplicaValue}
 use Rattle.lk_seal.specs.Seals.{key_list, to_node, IsSealedBy}
 use Rattle.lk_seal.specs.declared.seals.Seals.{Seals}
-use Rattle.lk_server.specs.Posts.{taken_as}
+use Rattle.lk_server.specs.Posts.{all_taken_as}
 use Rattle.lk_server.specs.Servers.{ServerValue}
 use Rattle.lk_service.specs.Chains.{Chain}
 use Rattle.lk_service.specs.Turns.{TakesTurn as ServerTurn}
@@ -22,22 +23,21 @@ WasGiven sent bytes = (d : Datagram) × Contains sent d × (d.bytes ≡ bytes)
 abbrev pub OnlyNodesSeal : List Datagram → Seals → List ℕ → Type 0
 OnlyNodesSeal sent s frame = (datagram : List ℕ) → IsSealedBy (key_list s.nodes) (to_node s.cluster s.node) frame datagram → WasGiven sent datagram
 
--- the same of what comes, if anything does
-abbrev pub OnlyNodesSealWhatComes : List Datagram → Seals → Option (SocketAddr × List ℕ) → Type 0
-OnlyNodesSealWhatComes sent s None = Unit {0}
-OnlyNodesSealWhatComes sent s (Some frame) = OnlyNodesSeal sent s frame.1
+-- the same of all that comes in a turn
+abbrev pub OnlyNodesSealWhatComes : List Datagram → Seals → List (SocketAddr × List ℕ) → Type 0
+OnlyNodesSealWhatComes sent s frames = AllByRecursion (λ (frame : SocketAddr × List ℕ). OnlyNodesSeal sent s frame.1) frames
 
--- the network of such a cluster: the nodes have a key under which only they seal, and a server takes of a frame what it opens
-pub record IsSealed (genesis : Genesis) (sent : List Datagram) (server : ServerValue ReplicaValue) (came : Option (SocketAddr × List ℕ)) : Type 0 where
-  pub frame : Option (SocketAddr × List ℕ)
-  pub opened : came ≡ taken_as server.addresses.seals frame
+-- the network of such a cluster: the nodes have a key under which only they seal, and a server takes of each frame what it opens
+pub record IsSealed (genesis : Genesis) (sent : List Datagram) (server : ServerValue ReplicaValue) (came : List (SocketAddr × List ℕ)) : Type 0 where
+  pub frames : List (SocketAddr × List ℕ)
+  pub opened : came ≡ all_taken_as server.addresses.seals frames
   pub has_key : key_list server.addresses.seals.nodes ≢ []
-  pub only_nodes_seal : OnlyNodesSealWhatComes sent server.addresses.seals frame
+  pub only_nodes_seal : OnlyNodesSealWhatComes sent server.addresses.seals frames
 
 -- `Says` is what a replica says by what it is given, and `tells` that the sockets tell what they send
-module _ (Says : ReplicaValue → Option (List ℕ) → List LetterValue → ReplicaValue → Type 0) (tells : Type 0) (s : Seals) (n : ℕ) where
-  -- the same of each frame that came in these turns, where the letters of the turns before it were given to be sent
+module _ (Says : ReplicaValue → List (Option (List ℕ)) → List LetterValue → ReplicaValue → Type 0) (tells : Type 0) (s : Seals) (n : ℕ) where
+  -- the same of all frames that came in these turns, where the letters of the turns before it were given to be sent
   abbrev pub OnlyNodesSealAll : List Datagram → (first : ServerValue ReplicaValue) (states : List (ServerValue ReplicaValue)) (last : ServerValue ReplicaValue) → Chain (ServerTurn Says tells) first states last → Type 0
   OnlyNodesSealAll sent first [] last turns = Unit {0}
   OnlyNodesSealAll sent first (next ∷ states) last turns =
-      OnlyNodesSealWhatComes sent s turns.0.frame × OnlyNodesSealAll (sent ++ batch_of n turns.0.turn.hands_on.letters) next states last turns.1
+      OnlyNodesSealWhatComes sent s turns.0.frames × OnlyNodesSealAll (sent ++ batch_of n turns.0.turn.hands_on.letters) next states last turns.1

@@ -14,7 +14,7 @@ ghost use Rattle.lk_node.specs.Leavings.{header_of};
 ghost use Rattle.lk_seal.specs.Seals.{key_list, heard};
 ghost use Rattle.lk_seal.specs.declared.seals.Seals.{Seals};
 ghost use Rattle.lk_replica.specs.ReplicaValue.{ReplicaValue};
-ghost use Rattle.lk_server.specs.Posts.{taken_as};
+ghost use Rattle.lk_server.specs.Posts.{all_taken_as};
 ghost use Rattle.lk_server.specs.Servers.{ServerValue, Turn, LastTurn};
 ghost use Rattle.lk_server.specs.declared.fault.ServiceFault.{ServiceFault};
 ghost use Rattle.lk_service.specs.Chains.{Repeats};
@@ -100,17 +100,17 @@ pub fn a_refused_start_continues_a_cluster<D: LogDisk, S: Datagrams>()
 pub fn a_turn_continues_a_cluster<D: LogDisk, S: Datagrams>()
     ensures { (genesis : GenesisValue) (cluster : Cluster) → IsReachable ForgesNothing D.is_metered S.is_telling genesis cluster
         → (place n : ℕ) (server after : ServerValue ReplicaValue) → HasNode cluster place n (Up server)
-        → (came : Option (SocketAddr × List ℕ)) → ForgesNothing cluster.genesis cluster.sent server came
+        → (came : List (SocketAddr × List ℕ)) → ForgesNothing cluster.genesis cluster.sent server came
         → (turn : Turn (Says D.is_metered) S.is_telling came server after) → after.replica.failed ≡ false
         → Continues ForgesNothing D.is_metered S.is_telling genesis cluster place n (Up after) turn.hands_on.letters }
 {}
 
-/// A turn of a server that has the key of the nodes continues its cluster whatever frame came in it. `turning::turn` ensures such a turn.
+/// A turn of a server that has the key of the nodes continues its cluster whatever frames came in it. `turning::turn` ensures such a turn.
 pub fn a_sealed_turn_continues_a_cluster<D: LogDisk, S: Datagrams>()
     ensures { (genesis : GenesisValue) (cluster : Cluster) → IsReachable IsSealed D.is_metered S.is_telling genesis cluster
         → (place n : ℕ) (server after : ServerValue ReplicaValue) → HasNode cluster place n (Up server)
-        → key_list server.addresses.seals.nodes ≢ [] → (frame : Option (SocketAddr × List ℕ)) → OnlyNodesSealWhatComes cluster.sent server.addresses.seals frame
-        → (turn : Turn (Says D.is_metered) S.is_telling (taken_as server.addresses.seals frame) server after) → after.replica.failed ≡ false
+        → key_list server.addresses.seals.nodes ≢ [] → (frames : List (SocketAddr × List ℕ)) → OnlyNodesSealWhatComes cluster.sent server.addresses.seals frames
+        → (turn : Turn (Says D.is_metered) S.is_telling (all_taken_as server.addresses.seals frames) server after) → after.replica.failed ≡ false
         → Continues IsSealed D.is_metered S.is_telling genesis cluster place n (Up after) turn.hands_on.letters }
 {
     is_told_by_a_node();
@@ -120,7 +120,7 @@ pub fn a_sealed_turn_continues_a_cluster<D: LogDisk, S: Datagrams>()
 pub fn a_last_turn_continues_a_cluster<D: LogDisk, S: Datagrams>()
     ensures { (genesis : GenesisValue) (cluster : Cluster) → IsReachable ForgesNothing D.is_metered S.is_telling genesis cluster
         → (place n : ℕ) (server after : ServerValue ReplicaValue) → HasNode cluster place n (Up server)
-        → (came : Option (SocketAddr × List ℕ)) → ForgesNothing cluster.genesis cluster.sent server came
+        → (came : List (SocketAddr × List ℕ)) → ForgesNothing cluster.genesis cluster.sent server came
         → (turn : LastTurn (Says D.is_metered) S.is_telling came server after) → after.replica.failed ≡ true
         → (left : Memory) → ((s : Side) → disk_of left s ≡ server_disks after s)
         → Continues ForgesNothing D.is_metered S.is_telling genesis cluster place n (Down left) turn.hands_on.letters }
@@ -184,7 +184,7 @@ pub fn a_sealed_service_that_breaks_off_continues_a_cluster<D: LogDisk + Drop, S
         → key_list seals.nodes ≢ []
         → OnlyNodesSealAll ⟦<Replica<LockTable, D> as NodeReplica>⟧.Says S.is_telling seals n cluster.sent served.begun served.breaks.turns.states served.breaks.last served.breaks.turns.chain
         → OnlyNodesSealWhatComes
-        (cluster.sent ++ batch_of n (letters_of ⟦<Replica<LockTable, D> as NodeReplica>⟧.Says S.is_telling served.begun served.breaks.turns.states served.breaks.last served.breaks.turns.chain)) seals served.breaks.ends.frame
+        (cluster.sent ++ batch_of n (letters_of ⟦<Replica<LockTable, D> as NodeReplica>⟧.Says S.is_telling served.begun served.breaks.turns.states served.breaks.last served.breaks.turns.chain)) seals served.breaks.ends.frames
         → (left : Memory) → ((s : Side) → disk_of left s ≡ server_disks served.ended s)
         → Continues IsSealed D.is_metered S.is_telling genesis cluster place n (Down left)
         (letters_of ⟦<Replica<LockTable, D> as NodeReplica>⟧.Says S.is_telling served.begun served.breaks.turns.states served.breaks.last served.breaks.turns.chain ++ served.breaks.ends.turn.hands_on.letters) }

@@ -1,9 +1,10 @@
 //! What a server does as it comes up, and in a turn, is what the theorem takes it to do.
-ghost use Rattle.std.specs.Prelude.{◌≡◌, IfOk, OnOk, OnErr};
+ghost use Rattle.std.specs.Prelude.{◌≡◌, ℕ, List, IfOk, OnOk, OnErr};
+ghost use Rattle.std.specs.declared.net.socket_addr.SocketAddr.{SocketAddr as Address};
 ghost use Rattle.lk_types.specs.declared.genesis.Genesis.{Genesis as GenesisValue};
 ghost use Rattle.lk_node.specs.Leavings.{header_of};
 ghost use Rattle.lk_cluster.specs.Clusters.{IsBegun, Says};
-ghost use Rattle.lk_server.specs.Posts.{taken_as};
+ghost use Rattle.lk_server.specs.Posts.{all_taken_as};
 ghost use Rattle.lk_server.specs.Servers.{Turn, LastTurn};
 
 use lk_disk::LogDisk;
@@ -19,14 +20,14 @@ use lk_service::running::revive;
 use log::Log;
 use std::alloc::Global;
 
-/// One turn of a server of the lock table, on any honest device and any socket. It takes what the ear has heard, out of its frame where the nodes have a key.
+/// One turn of a server of the lock table, on any honest device and any socket. It takes what came, out of its frames where the nodes have a key.
 pub fn turn<D: LogDisk + Drop, S: Datagrams + Drop, L: Log>(
     server: &mut Server<Replica<LockTable, D>, S>,
     ear: &mut Ear,
     log: &L,
 ) -> Result<(), ServiceFault>
-    ensures turn { D.is_honest → OnOk result (Turn (Says D.is_metered) S.is_telling (taken_as server.old.addresses.seals ear.new) server.old server.new) }
-    ensures ends { D.is_honest → OnErr result (LastTurn (Says D.is_metered) S.is_telling (taken_as server.old.addresses.seals ear.new) server.old server.new) }
+    ensures turn { D.is_honest → OnOk result ((frames : List (Address × List ℕ)) × Turn (Says D.is_metered) S.is_telling (all_taken_as server.old.addresses.seals frames) server.old server.new) }
+    ensures ends { D.is_honest → OnErr result ((frames : List (Address × List ℕ)) × LastTurn (Says D.is_metered) S.is_telling (all_taken_as server.old.addresses.seals frames) server.old server.new) }
     ensures failed { server.new.failed ≡ server.new.replica.failed }
 {
     let taken = node_turn(server, ear, log);

@@ -67,8 +67,22 @@ impl Group {
         }
     }
 
-    // What one more step came to, in front of which this waited.
-    fn add(&mut self, waits: bool, outbox: Outbox) -> Result<(), NoMemory>
+    /// What the steps noted, in order.
+    pub fn notes(&self) -> &[Note]
+        ensures { result.now ≡ self.now.notes }
+    {
+        &self.notes
+    }
+
+    /// What they said, in order.
+    pub fn letters(&self) -> &[Letter]
+        ensures { result.now ≡ self.now.letters }
+    {
+        &self.letters
+    }
+
+    /// What one more step came to, in front of which this waited.
+    pub fn add(&mut self, waits: bool, outbox: Outbox) -> Result<(), NoMemory>
         ensures { OnOk result (self.new ≡ with_step waits outbox self.old) }
     {
         let Outbox {
@@ -309,6 +323,9 @@ impl<M: Machine, D: LogDisk + Drop> Replica<M, D> {
         ensures gives { IfOk result (λ all. CarriesAll P.Carries post.old group.now.letters post.new) }
         ensures silent { OnErr result (post.new ≡ post.old) }
         ensures room { D.is_honest → StaysWithin 0 (disks self.old.store) (disks self.new.store) }
+        // It has synced what waited for that, and has done nothing else.
+        ensures exact { D.is_honest → IfOk result (λ all. (self.old.failed ≡ false) × (self.new.node ≡ self.old.node) × Settles group.now.waits self.old.store self.new.store
+            × (self.old.store.failed ≡ false → self.new.store.failed ≡ false)) }
         ensures calls { D.is_metered → D.is_honest → IfOk result (λ all. Passes self.old.store.meter self.new.store.meter (settle_calls group.now.waits)) }
         // Nothing but 7, 8 and 11 comes, each for its cause, and each ends it.
         ensures refused { IfErr result (λ e. IsRefusedInGroup D.is_honest D.is_metered self.old self.new (fault_number e)) }

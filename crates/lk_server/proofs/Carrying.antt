@@ -1,12 +1,13 @@
--- What became of letters, one step after another.
-use Rattle.std.proofs.Common.{◌≡◌, ℕ, ◌+◌, ◌==◌, Bool, true, false, List, [], ◌∷◌, ◌++◌, Option, Some, None, refl, sym, ap, ◌∙◌, subst, append_assoc, append-nil, inl, inr}
-use Rattle.std.specs.Prelude.{◌%◌, ◌^◌, Result, Ok, Err, OnErr}
+-- What became of the letters of a group.
+use Rattle.std.proofs.Common.{◌≡◌, ℕ, Bool, true, false, List, [], ◌∷◌, ◌++◌, Option, sym, ap, ◌∙◌, subst, append_assoc, append-nil, inl, inr}
+use Rattle.std.specs.Prelude.{Result, Ok, Err, IfOk, OnOk, OnErr}
 use Rattle.lk_step.specs.Letters.{LetterValue}
+use Rattle.lk_replica.specs.Groups.{GroupValue}
 use Rattle.lk_replica.specs.Posts.{CarriesAll, GivesLetters}
 use Rattle.lk_server.specs.Addresses.{AddressBook}
-use Rattle.lk_server.specs.Sayings.{SaysAll}
+use Rattle.lk_server.specs.Gatherings.{Sayings, Gatherings, HandsOnAll, SaysNothing}
 use Rattle.lk_server.specs.Posts.{PostValue, Tray, Becomes, CarriesLetter, tray_of}
-use Rattle.lk_server.specs.Servers.{ServerValue, Grows, HandsOn, Takes, EndsOn, inputs, tray_at}
+use Rattle.lk_server.specs.Servers.{ServerValue, Grows, tray_at}
 
 -- what stands whatever became of a call stands after a refusal
 pub on_err : {T E P : Type 0} (r : Result T E) → P → OnErr r P
@@ -18,24 +19,10 @@ pub if_err_on : {T E P Q : Type 0} (r : Result T E) → (P → Q) → OnErr r P 
 if_err_on (Ok x) f p = tt
 if_err_on (Err e) f p = f p
 
--- letters after letters
-pub carries_on : {P : Type 0} (C : P → LetterValue → Bool → P → Type 0) (old mid new : P) (first rest : List LetterValue) → CarriesAll C old first mid → CarriesAll C mid rest new → CarriesAll C old (first ++ rest) new
-carries_on {P} C old mid new [] rest a b = subst (λ (p : P). CarriesAll C p rest new) a b
-carries_on {P} C old mid new (l ∷ first) rest a b = (a.0, a.1, a.2, carries_on C a.1 mid new first rest a.3 b)
-
--- what was said after what was said
-pub says_on : {R : Type 0} (S : R → Option (List ℕ) → List LetterValue → R → Type 0) (old mid new : R) (given more : List (Option (List ℕ))) (first rest : List LetterValue) →
-    SaysAll S old given first mid → SaysAll S mid more rest new → SaysAll S old (given ++ more) (first ++ rest) new
-says_on {R} S old mid new [] more first rest a b =
-    subst (λ (ls : List LetterValue). SaysAll S old more (ls ++ rest) new) (sym a.0) (subst (λ (r : R). SaysAll S r more rest new) a.1 b)
-says_on {R} S old mid new (i ∷ given) more first rest a b = (
-  a.0,
-  a.1,
-  a.2 ++ rest,
-  ap (λ (ls : List LetterValue). ls ++ rest) a.3 ∙ append_assoc a.1 a.2 rest,
-  a.4,
-  says_on S a.0 mid new given more a.2 rest a.5 b,
-)
+-- what follows of what stands where a call went on
+pub if_ok_weaker : {T E : Type 0} {P Q : T → Type 0} (r : Result T E) → ((x : T) → P x → Q x) → IfOk r P → IfOk r Q
+if_ok_weaker (Ok x) f p = f x p
+if_ok_weaker (Err e) f p = tt
 
 -- of a post nothing else changes
 pub same_node : (tells : Type 0) (old new : PostValue) (letters : List LetterValue) → CarriesAll (CarriesLetter tells) old letters new → new.node ≡ old.node
@@ -69,61 +56,33 @@ pub grows_by : (tells : Type 0) (node : ℕ) (book : AddressBook) (old new : Tra
 grows_by tells node book old new [] all = record { added = []; is = ap (λ (t : Tray). t.own) all ∙ sym (append-nil old.own) }
 grows_by tells node book old new (l ∷ letters) all = grows_on (grows_one tells node book old all.1 l all.0 all.2) (grows_by tells node book all.1 new letters all.3)
 
-module _ {R : Type 0} (S : R → Option (List ℕ) → List LetterValue → R → Type 0) (tells : Type 0) where
-  -- one call of its replica
-  pub hands_on_one : (old new : ServerValue R) (before after : PostValue) (i : Option (List ℕ)) → GivesLetters (CarriesLetter tells) before after (λ letters. S old.replica i letters new.replica) →
-      new.node ≡ before.node → new.addresses ≡ before.addresses →
-      tray_of before ≡ tray_at old.own old → tray_of after ≡ tray_at new.own new → HandsOn S tells (i ∷ []) old.own old new
-  hands_on_one old new before after i said whose by first last =
+-- whatever has become of a call, the post is that node's, and has these addresses
+pub same_post : (tells : Type 0) {T E : Type 0} (r : Result T E) (H : List LetterValue → Type 0) (before after : PostValue) → OnOk r (GivesLetters (CarriesLetter tells) before after H) → OnErr r (after ≡ before)
+    → (after.node ≡ before.node) × (after.addresses ≡ before.addresses)
+same_post tells (Ok x) H before after gives unsent = (same_node tells before after gives.letters gives.carried, same_addresses tells before after gives.letters gives.carried)
+same_post tells (Err e) H before after gives unsent = (ap (λ (p : PostValue). p.node) unsent, ap (λ (p : PostValue). p.addresses) unsent)
+
+module _ {R : Type 0} (S : Sayings R) (G : Gatherings R) (tells : Type 0) (old new : ServerValue R) (before after : PostValue) (group : GroupValue) where
+  -- the end of a group
+  pub hands_on_all : {T E : Type 0} (mine : R) → mine ≡ old.replica → (r : Result T E) → OnOk r (GivesLetters (CarriesLetter tells) before after (λ letters. (first : R) (given : List (Option (List ℕ))) → G first given group mine → S first given letters new.replica))
+      → new.node ≡ before.node → new.addresses ≡ before.addresses → tray_of before ≡ tray_at old.own old → tray_of after ≡ tray_at new.own new → OnOk r (HandsOnAll S G tells group old new)
+  hands_on_all mine is (Err e) said whose by first last = tt
+  hands_on_all mine is (Ok x) said whose by begun last = λ from given was sent failures.
       let all = trays tells new.node new.addresses before after said.letters whose by said.carried in
-      let met = subst (λ (t : Tray). CarriesAll (Becomes tells new.node new.addresses) t said.letters (tray_of after)) first all in
+      let met = subst (λ (t : Tray). CarriesAll (Becomes tells new.node new.addresses) t said.letters (tray_of after)) begun all in
       let carried = subst (λ (t : Tray). CarriesAll (Becomes tells new.node new.addresses) (tray_at old.own old) said.letters t) last met in
+      let same : tray_at old.own old ≡ tray_at old.own from = λ i. record { own = old.own; sent = sym sent i; failures = sym failures i } in
       record {
         letters = said.letters;
-        says = (new.replica, said.letters, [], sym (append-nil said.letters), said.holds, (refl, refl));
+        says = said.holds from.replica given (subst (λ (x : R). G from.replica given group x) (sym is) was);
         kept = grows_by tells new.node new.addresses (tray_at old.own old) (tray_at new.own new) said.letters carried;
-        carried = carried;
+        carried = subst (λ (t : Tray). CarriesAll (Becomes tells new.node new.addresses) t said.letters (tray_at new.own new)) same carried;
       }
 
-  -- one after another
-  pub hands_on_more : (given more : List (Option (List ℕ))) (own : List LetterValue) (old mid new : ServerValue R) → HandsOn S tells given own old mid → HandsOn S tells more mid.own mid new →
-      new.node ≡ mid.node → new.addresses ≡ mid.addresses → HandsOn S tells (given ++ more) own old new
-  hands_on_more given more own old mid new a b whose by =
-      let met = subst (λ (n : ℕ). CarriesAll (Becomes tells n mid.addresses) (tray_at own old) a.letters (tray_at mid.own mid)) (sym whose) a.carried in
-      let first = subst (λ (k : AddressBook). CarriesAll (Becomes tells new.node k) (tray_at own old) a.letters (tray_at mid.own mid)) (sym by) met in
-      record {
-        letters = a.letters ++ b.letters;
-        says = says_on S old.replica mid.replica new.replica given more a.letters b.letters a.says b.says;
-        kept = grows_on a.kept b.kept;
-        carried = carries_on (Becomes tells new.node new.addresses) (tray_at own old) (tray_at mid.own mid) (tray_at new.own new) a.letters b.letters first b.carried;
-      }
-
-  -- how many datagrams came says nothing of it, nor what comes next, nor from where others wrote before
-  pub hands_on_from : (given : List (Option (List ℕ))) (own : List LetterValue) (old begun new : ServerValue R) → begun.replica ≡ old.replica → begun.sent ≡ old.sent → begun.socket_failures ≡ old.socket_failures →
-      HandsOn S tells given own begun new → HandsOn S tells given own old new
-  hands_on_from given own old begun new replica sent failures h = record {
-    letters = h.letters;
-    says = subst (λ (r : R). SaysAll S r given h.letters new.replica) replica h.says;
-    kept = h.kept;
-    carried = subst (λ (t : Tray). CarriesAll (Becomes tells new.node new.addresses) t h.letters (tray_at new.own new)) (λ i. record { own = own; sent = sent i; failures = failures i }) h.carried;
-  }
-
-  pub takes_from : (bytes : List ℕ) (own : List LetterValue) (old begun new : ServerValue R) → begun.replica ≡ old.replica → begun.sent ≡ old.sent → begun.socket_failures ≡ old.socket_failures →
-      begun.received ≡ old.received → Takes S tells bytes own begun new → Takes S tells bytes own old new
-  takes_from bytes own old begun new replica sent failures received t = record {
-    counted = t.counted ∙ ap (λ (n : ℕ). (n + 1) % 2 ^ 64) received;
-    hands_on = hands_on_from (inputs new.received bytes) own old begun new replica sent failures t.hands_on;
-  }
-
-  pub ends_from : (bytes : List ℕ) (own : List LetterValue) (old begun new : ServerValue R) → begun.replica ≡ old.replica → begun.sent ≡ old.sent → begun.socket_failures ≡ old.socket_failures →
-      EndsOn S tells bytes own begun new → EndsOn S tells bytes own old new
-  ends_from bytes own old begun new replica sent failures e = record { given = e.given; behind = e.behind; hands_on = hands_on_from e.given own old begun new replica sent failures e.hands_on }
-
-  -- a datagram, and a tick after it or none
-  pub takes_alone : (bytes : List ℕ) (own : List LetterValue) (old new : ServerValue R) → (new.received % 64 == 0) ≡ false → new.received ≡ (old.received + 1) % 2 ^ 64 →
-      HandsOn S tells (Some bytes ∷ []) own old new → Takes S tells bytes own old new
-  takes_alone bytes own old new e counted h = record { counted = counted; hands_on = rw e h }
-
-  pub takes_with_tick : (bytes : List ℕ) (own : List LetterValue) (old new : ServerValue R) → (new.received % 64 == 0) ≡ true → new.received ≡ (old.received + 1) % 2 ^ 64 →
-      HandsOn S tells (Some bytes ∷ None ∷ []) own old new → Takes S tells bytes own old new
-  takes_with_tick bytes own old new e counted h = record { counted = counted; hands_on = rw e h }
+  -- one that was refused
+  pub says_nothing : {T E : Type 0} (r : Result T E) → OnErr r ((first : R) (given : List (Option (List ℕ))) → G first given group old.replica → S first given [] new.replica) → OnErr r (after ≡ before)
+      → tray_of before ≡ tray_at old.own old → tray_of after ≡ tray_at new.own new → OnErr r (SaysNothing S G group old new)
+  says_nothing (Ok x) silent unsent first last = tt
+  says_nothing (Err e) silent unsent first last =
+      let same : tray_at new.own new ≡ tray_at old.own old = sym last ∙ ap tray_of unsent ∙ first in
+      record { silent = silent; own = ap (λ (t : Tray). t.own) same; sent = ap (λ (t : Tray). t.sent) same; failures = ap (λ (t : Tray). t.failures) same }

@@ -3,6 +3,7 @@ pub mod Addresses
 pub mod Hosts
 pub mod Posts
 pub mod Servers
+pub mod Gatherings
 pub mod Sights
 pub mod Sayings
 pub mod Hearing

@@ -17,7 +17,7 @@ use Rattle.lk_server.specs.Addresses.{AddressBook, client_at, node_at, moved_up,
 use Rattle.lk_server.specs.Hosts.{host_of}
 
 -- whose it is, from where others wrote, the letters of the node to itself that are kept, what the socket has sent, how often a send
--- of the socket has failed and how often in this step, and what comes to the socket next
+-- of the socket has failed and how often in this step, and what comes to the socket, in order
 pub record PostValue : Type 0 where
   pub node : ℕ
   pub addresses : AddressBook
@@ -25,7 +25,7 @@ pub record PostValue : Type 0 where
   pub sent : List (SocketAddr × List ℕ)
   pub socket_failures : ℕ
   pub failures : ℕ
-  pub next : Option (SocketAddr × List ℕ)
+  pub coming : List (SocketAddr × List ℕ)
 
 -- what a letter may change: the letters of the node to itself that are kept, what the socket has sent, and how many of its sends have failed
 pub record Tray : Type 0 where
@@ -55,10 +55,15 @@ abbrev pub keys_for : Seals → To → List (List ℕ)
 keys_for s (Client c) = key_list s.clients
 keys_for s (Node n port) = key_list s.nodes
 
--- what comes next, as it is taken
+-- what came, as it is taken: out of its frame
 abbrev pub taken_as : Seals → Option (SocketAddr × List ℕ) → Option (SocketAddr × List ℕ)
 taken_as s None = None
 taken_as s (Some d) = Some (d.0, heard s d.1)
+
+-- so of each of these
+abbrev pub all_taken_as : Seals → List (SocketAddr × List ℕ) → List (SocketAddr × List ℕ)
+all_taken_as s [] = []
+all_taken_as s (d ∷ came) = (d.0, heard s d.1) ∷ all_taken_as s came
 
 -- what goes there; nothing where there is no address
 abbrev pub carried : Option SocketAddr → List ℕ → List (SocketAddr × List ℕ)
@@ -125,3 +130,8 @@ HearsContent (content.Node n m) from old new = HearsNode n from old new
 pub record Hears (cluster : ℕ) (bytes : List ℕ) (from : SocketAddr) (old new : AddressBook) : Type 0 where
   pub message : (m : Message) → Spells m bytes → m.cluster ≡ cluster → HearsContent m.content from old new
   pub other : ((m : Message) → Spells m bytes → m.cluster ≡ cluster → ⊥) → new ≡ old
+
+-- so of each of these, one after another
+abbrev pub HearsAll : ℕ → List (SocketAddr × List ℕ) → AddressBook → AddressBook → Type 0
+HearsAll cluster [] old new = new ≡ old
+HearsAll cluster (c ∷ came) old new = (mid : AddressBook) × Hears cluster c.1 c.0 old mid × HearsAll cluster came mid new

@@ -1,36 +1,60 @@
--- What a replica says by what it is given.
-use Rattle.std.specs.Prelude.{◌≡◌, ◌⊎◌, ℕ, true, List, [], ◌∷◌, ◌++◌, Option, Contains}
+-- What a replica says by what it is given, as one group: all of it is taken, one after another, and synced once, before anything is said.
+use Rattle.std.specs.Prelude.{◌≡◌, ◌≢◌, ◌⊎◌, ℕ, true, false, List, [], ◌∷◌, ◌++◌, map, Option, Contains}
+use Rattle.std.specs.List.{AllByRecursion}
+use Rattle.lk_disk.specs.Disk.{Disk}
+use Rattle.lk_disk.specs.Meters.{Passes}
+use Rattle.lk_disk.specs.declared.device.Side.{Side}
 use Rattle.lk_wire.specs.Grammar.{Spells}
 use Rattle.lk_state.specs.Meanings.{Meaning}
 use Rattle.lk_history.specs.Datagrams.{NodeMessage, said_by}
-use Rattle.lk_log.specs.StoreValue.{disks}
+use Rattle.lk_log.specs.Rooms.{StaysWithin}
+use Rattle.lk_log.specs.StoreValue.{StoreValue, disks}
 use Rattle.lk_step.specs.Letters.{LetterValue, batch_of}
 use Rattle.lk_step.specs.declared.input.Input.{Input}
-use Rattle.lk_step.specs.declared.note.Note.{Note}
-use Rattle.lk_node.specs.Calls.{heard_by, InputFits, NodeFits, Goes}
+use Rattle.lk_node.specs.Calls.{heard_by, InputFits, NodeFits}
 use Rattle.lk_node.specs.Histories.{History, Genesis, Datagram}
 use Rattle.lk_node.specs.Keeping.{Stands}
-use Rattle.lk_node.specs.Leavings.{AllCover}
+use Rattle.lk_node.specs.Leavings.{DisksFit, AllCover}
+use Rattle.lk_node.specs.NodeValue.{NodeValue}
+use Rattle.lk_replica.specs.Groups.{GroupValue, StepSaid, letters_of, IsGathered, GoesThrough, GroupStays, IsCovered, Recalls, Settles, as_sent}
 use Rattle.lk_replica.specs.Remembering.{Remembers}
-use Rattle.lk_replica.specs.Rooms.{max_after}
 use Rattle.lk_replica.specs.ReplicaValue.{ReplicaValue}
-use Rattle.lk_replica.specs.Taking.{IsTaken, LeavesDisks}
+use Rattle.lk_replica.specs.Rooms.{max_after}
 
--- it was given these one after another, and said these letters by all of them together, in order
-abbrev pub SaysAll : {R : Type 0} → (R → Option (List ℕ) → List LetterValue → R → Type 0) → R → List (Option (List ℕ)) → List LetterValue → R → Type 0
-SaysAll {R} Says old [] letters new = (letters ≡ []) × (new ≡ old)
-SaysAll {R} Says old (i ∷ given) letters new =
-    (mid : R) × (first : List LetterValue) × (rest : List LetterValue) × (letters ≡ first ++ rest) × Says old i first mid × SaysAll Says mid given rest new
+-- a group that has taken nothing
+abbrev pub nothing_taken : GroupValue
+nothing_taken = record { notes = []; letters = []; waits = false }
 
--- a replica has taken a step by this, and these are the letters of the step. All that it notes and says it may note and say by what it holds, and
--- each image that a stop may leave covers it: it was synced before it was said
-pub record SaysByStep (m : Meaning) (IsText : List ℕ → Type 0) (Metered : Type 0) (old : ReplicaValue) (bytes : Option (List ℕ)) (letters : List LetterValue) (new : ReplicaValue) : Type 0 where
-  pub input : Input
-  pub given : heard_by input ≡ bytes
-  pub notes : List Note
-  pub taken : IsTaken m IsText Metered old input new notes (λ all. all ≡ letters)
-  pub goes : (h : History) (n : ℕ) → NodeFits m h n (Stands m old.node old.store h.genesis n) (disks old.store) → InputFits h input
-      → Goes m h n (Stands m new.node new.store h.genesis n) (disks new.store) notes (batch_of n letters)
+-- these inputs were taken into a group one after another, and this is what each step noted and said
+abbrev pub AreGathered : Meaning → (List ℕ → Type 0) → NodeValue → StoreValue → GroupValue → List Input → List StepSaid → NodeValue → StoreValue → GroupValue → Type 0
+AreGathered m IsText node store group [] said new after now = (said ≡ []) × (new ≡ node) × (after ≡ store) × (now ≡ group)
+AreGathered m IsText node store group (i ∷ inputs) said new after now =
+    (mid : NodeValue) × (between : StoreValue) × (gathered : GroupValue) × (taken : IsGathered m IsText node store group i mid between gathered)
+    × (rest : List StepSaid) × (said ≡ (taken.out.notes, taken.out.letters) ∷ rest) × AreGathered m IsText mid between gathered inputs rest new after now
+
+-- a replica has taken these inputs as one group, one after another, each with these notes and letters; then it has synced what waited for that, and has done
+-- nothing else. It goes on
+pub record IsGroupTaken (m : Meaning) (IsText : List ℕ → Type 0) (Metered : Type 0) (old : ReplicaValue) (inputs : List Input) (said : List StepSaid) (new : ReplicaValue) : Type 0 where
+  pub node : NodeValue
+  pub store : StoreValue
+  pub group : GroupValue
+  pub steps : AreGathered m IsText old.node old.store nothing_taken inputs said node store group
+  pub same : new.node ≡ node
+  pub settles : Settles group.waits store new.store
+  pub calls : Metered → (k : ℕ) × Passes old.store.meter new.store.meter k
+  pub alive : new.failed ≡ false
+  pub store_alive : inputs ≢ [] → new.store.failed ≡ false
+  pub awake : inputs ≢ [] → new.node.halted ≡ false
+
+-- a replica has taken a group of what it was given, and these are the letters of the steps. All that each step notes and says it may note and say by what it
+-- then holds, where what the steps before it said is sent; and each image that a stop may leave covers all of it: it was synced before it was said
+pub record SaysByGroup (m : Meaning) (IsText : List ℕ → Type 0) (Metered : Type 0) (old : ReplicaValue) (given : List (Option (List ℕ))) (letters : List LetterValue) (new : ReplicaValue) : Type 0 where
+  pub inputs : List Input
+  pub are_given : map heard_by inputs ≡ given
+  pub said : List StepSaid
+  pub are_said : letters ≡ letters_of said
+  pub taken : IsGroupTaken m IsText Metered old inputs said new
+  pub goes : (genesis : Genesis) (k : ℕ) → Remembers old.node old.store genesis k → (n : ℕ) → GoesThrough m n old inputs new said
   pub syncs : (genesis : Genesis) (n : ℕ) (x : NodeMessage) → Remembers old.node old.store genesis n
       → (d : Datagram) → Contains (batch_of n letters) d → Spells (said_by genesis n x) d.bytes → AllCover m genesis n (disks new.store) x
 
@@ -39,11 +63,39 @@ pub record IsSilenced (letters : List LetterValue) (new : ReplicaValue) : Type 0
   pub none : letters ≡ []
   pub ended : new.failed ≡ true
 
+-- what a group leaves on the disks, however it ends: where the history has all that it was given, each image that a stop may leave fits the history as it was;
+-- each covers what every image covered; and neither file is longer than it was, or else than so many bytes
+pub record GroupLeaves (m : Meaning) (Hears : History → Type 0) (most : ℕ) (node : NodeValue) (store : StoreValue) (after : Side → Disk) : Type 0 where
+  pub ends : (h : History) (n : ℕ) → NodeFits m h n (Stands m node store h.genesis n) (disks store) → Hears h → DisksFit m h n after
+  pub covers : (genesis : Genesis) (n : ℕ) (x : NodeMessage) → Remembers node store genesis n → AllCover m genesis n (disks store) x → AllCover m genesis n after x
+  pub room : StaysWithin most (disks store) after
+
 -- so, or so; and however it ends, whatever a stop may leave of its disks fits, covers what every image covered, and is not long. One that a call has
 -- ended stays as it is
-pub record SaysOf (m : Meaning) (IsText : List ℕ → Type 0) (Metered : Type 0) (old : ReplicaValue) (bytes : Option (List ℕ)) (letters : List LetterValue) (new : ReplicaValue) : Type 0 where
-  pub input : Input
-  pub given : heard_by input ≡ bytes
-  pub comes : SaysByStep m IsText Metered old bytes letters new ⊎ IsSilenced letters new
-  pub leaves : LeavesDisks m (λ h. InputFits h input) max_after old.node old.store (disks new.store)
+pub record SaysOf (m : Meaning) (IsText : List ℕ → Type 0) (Metered : Type 0) (old : ReplicaValue) (given : List (Option (List ℕ))) (letters : List LetterValue) (new : ReplicaValue) : Type 0 where
+  pub inputs : List Input
+  pub are_given : map heard_by inputs ≡ given
+  pub comes : SaysByGroup m IsText Metered old given letters new ⊎ IsSilenced letters new
+  pub leaves : GroupLeaves m (λ h. AllByRecursion (InputFits h) inputs) max_after old.node old.store (disks new.store)
   pub once : old.failed ≡ true → new ≡ old
+
+-- ---- in the middle of a group
+
+-- A replica was so when the group began, and has taken into it what it was given, one after another. Whatever comes of it further, all of that goes through;
+-- once all is synced that waits for that, whatever the group has said is covered; and whatever a stop may leave, if nothing of it is sent, fits
+pub record GathersOf (m : Meaning) (IsText : List ℕ → Type 0) (Metered : Type 0) (start : ReplicaValue) (given : List (Option (List ℕ))) (group : GroupValue) (now : ReplicaValue) : Type 0 where
+  pub inputs : List Input
+  pub are_given : map heard_by inputs ≡ given
+  pub said : List StepSaid
+  pub are_said : group.letters ≡ letters_of said
+  pub steps : AreGathered m IsText start.node start.store nothing_taken inputs said now.node now.store group
+  pub calls : Metered → (k : ℕ) × Passes start.store.meter now.store.meter k
+  pub goes : (genesis : Genesis) (k : ℕ) → Remembers start.node start.store genesis k → (n : ℕ) (more : List Input) (q : ReplicaValue) (rest : List StepSaid)
+      → GoesThrough m n (record { node = now.node; store = as_sent group.waits now.store; failed = false }) more q rest → GoesThrough m n start (inputs ++ more) q (said ++ rest)
+  pub recalls : (genesis : Genesis) (n : ℕ) → Remembers start.node start.store genesis n → Recalls now.node now.store group.waits genesis n × IsCovered m genesis n group now.store
+  pub stays : (h : History) (n : ℕ) → NodeFits m h n (Stands m start.node start.store h.genesis n) (disks start.store) → AllByRecursion (InputFits h) inputs
+      → GroupStays m h n now.node now.store group.waits
+  pub covers : (genesis : Genesis) (n : ℕ) (x : NodeMessage) → Remembers start.node start.store genesis n → AllCover m genesis n (disks start.store) x → AllCover m genesis n (disks now.store) x
+  pub room : StaysWithin max_after (disks start.store) (disks now.store)
+  pub up : inputs ≢ [] → (now.store.failed ≡ false) × (now.node.halted ≡ false)
+  pub once : start.failed ≡ true → now ≡ start

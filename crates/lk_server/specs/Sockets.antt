@@ -1,5 +1,5 @@
 -- What a socket in memory has sent, and what comes to it.
-use Rattle.std.specs.Prelude.{ℕ, List, [], ◌∷◌, take, map, Option, Some, None}
+use Rattle.std.specs.Prelude.{ℕ, List, take, map}
 use Rattle.std.specs.declared.net.socket_addr.SocketAddr.{SocketAddr}
 use Rattle.lk_server.specs.declared.memory_socket.Told.{Told}
 
@@ -9,7 +9,6 @@ datagram t = (t.place, t.bytes.items)
 abbrev pub sent_in : List Told → List (SocketAddr × List ℕ)
 sent_in ts = map datagram ts
 
--- the first of them; of one that is too long the beginning
-abbrev pub next_in : List Told → Option (SocketAddr × List ℕ)
-next_in [] = None
-next_in (t ∷ ts) = Some (t.place, take 8229 t.bytes.items)
+-- each of them; of one that is too long the beginning
+abbrev pub coming_in : List Told → List (SocketAddr × List ℕ)
+coming_in ts = map (λ (t : Told). (t.place, take 8229 t.bytes.items)) ts

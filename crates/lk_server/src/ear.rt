@@ -1,6 +1,7 @@
 //! The place into which datagrams come.
 
-ghost use Rattle.std.specs.Prelude.{◌≡◌, Some, None, IfSome, IsNone};
+ghost use Rattle.std.specs.Prelude.{◌≡◌, ◌++◌, Some, None, IfSome, IsNone};
+ghost use Rattle.lk_server.specs.Hearing.{listed, next_of};
 
 use crate::socket::Datagrams;
 use lk_seal::OVERHEAD;
@@ -44,11 +45,22 @@ impl Ear {
     /// Hears the next datagram of a socket: its own bytes, and none of an earlier one; or nothing, where none came within 100 ms, or the
     /// receive failed.
     pub fn receive<S: Datagrams>(&mut self, socket: &mut S)
-        ensures comes { S.is_telling → S.next socket.old ≡ self.new }
+        ensures comes { S.is_telling → S.coming socket.old ≡ listed self.new ++ S.coming socket.new }
+        ensures next { S.is_telling → next_of S.coming socket.old ≡ self.new }
         ensures unchanged { S.sent socket.new ≡ S.sent socket.old }
         ensures spares { S.failures socket.new ≡ S.failures socket.old }
     {
         self.last = socket.receive(&mut self.buffer);
+    }
+
+    /// The same of a datagram that waits at the socket already; or nothing, where none does.
+    pub fn receive_waiting<S: Datagrams>(&mut self, socket: &mut S)
+        ensures comes { S.is_telling → S.coming socket.old ≡ listed self.new ++ S.coming socket.new }
+        ensures next { S.is_telling → next_of S.coming socket.old ≡ self.new }
+        ensures unchanged { S.sent socket.new ≡ S.sent socket.old }
+        ensures spares { S.failures socket.new ≡ S.failures socket.old }
+    {
+        self.last = socket.receive_waiting(&mut self.buffer);
     }
 
     /// What was heard last, and from where it came.

@@ -6,6 +6,7 @@ pub mod addresses;
 pub mod came;
 pub mod ear;
 pub mod fault;
+mod gathering;
 mod hearing;
 pub mod hosts;
 pub mod laws;

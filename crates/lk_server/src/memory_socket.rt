@@ -1,7 +1,7 @@
 //! A socket in memory, for tests: it tells what is sent and what comes.
 
 ghost use Rattle.std.specs.Prelude.{◌≡◌, ◌++◌, ◌∷◌, [], min, OnOk, OnErr};
-ghost use Rattle.lk_server.specs.Sockets.{sent_in, next_in};
+ghost use Rattle.lk_server.specs.Sockets.{sent_in, coming_in};
 
 use crate::socket::Datagrams;
 use lk_replica::SendFault;
@@ -38,7 +38,7 @@ fn cut(length: usize) -> usize
 impl MemorySocket {
     /// The socket of a port, to which nothing comes and from which nothing was sent.
     pub fn new(alloc: Global, port: u16) -> MemorySocket
-        ensures coming { next_in result.coming.items ≡ None }
+        ensures coming { coming_in result.coming.items ≡ [] }
         ensures sent { result.sent.items ≡ [] }
     {
         MemorySocket {
@@ -89,7 +89,7 @@ impl Datagrams for MemorySocket {
 
     ghost sent = { λ s. sent_in s.sent.items };
 
-    ghost next = { λ s. next_in s.coming.items };
+    ghost coming = { λ s. coming_in s.coming.items };
 
     ghost failures = { λ s. s.failures };
 
@@ -113,6 +113,10 @@ impl Datagrams for MemorySocket {
         let length = cut(bytes.len());
         buffer[..length].copy_from_slice(&bytes[..length]);
         Some((length, place))
+    }
+
+    fn receive_waiting(&mut self, buffer: &mut [u8]) -> Option<(usize, SocketAddr)> {
+        self.receive(buffer)
     }
 
     fn cause(&self) -> Option<io::Error> {

@@ -4,7 +4,8 @@ ghost use Rattle.std.specs.Prelude.{◌≡◌, ◌≢◌, ◌↔◌, ◌++◌, �
 ghost use Rattle.lk_types.specs.Ranges.{IsClient};
 ghost use Rattle.lk_disk.specs.Disk.{HasCause};
 ghost use Rattle.lk_server.specs.Addresses.{client_at, node_at, IsSameOutside};
-ghost use Rattle.lk_server.specs.Posts.{IsRoute, IsBoundFor, Becomes, Hears, tray_of, taken_as, frame_of, keys_for};
+ghost use Rattle.lk_server.specs.Hearing.{listed};
+ghost use Rattle.lk_server.specs.Posts.{IsRoute, IsBoundFor, Becomes, Hears, tray_of, taken_as, all_taken_as, frame_of, keys_for};
 
 use crate::addresses::Addresses;
 use crate::came::Came;
@@ -41,19 +42,15 @@ pub struct SocketPost<S: Datagrams + Drop> {
     frame: Vec<u8>,
     // the letters of the node to itself
     own: VecDeque<Letter>,
-    // how many sends failed in this step
+    // how many sends failed in this group
     failures: u64,
-    // how many letters were sent or kept in it
-    sent: u64,
     // the last node to which a Want was sent in it
     wanted: Option<NodeNo>,
 }
 
-/// What became of the letters of a step, for the log.
+/// What became of the letters of a group, for the log.
 #[derive(Clone, Copy)]
 pub struct Carried {
-    /// How many were sent, or kept for the node itself.
-    pub sent: u64,
     /// How many sends failed.
     pub lost: u64,
     /// The last node to which a Want was sent.
@@ -61,11 +58,11 @@ pub struct Carried {
 }
 
 impl<S: Datagrams + Drop> Model for SocketPost<S> {
-    ghost use Rattle.lk_server.specs.Posts.{PostValue, taken_as};
+    ghost use Rattle.lk_server.specs.Posts.{PostValue, all_taken_as};
 
     ghost Value = { PostValue };
 
-    ghost view = { λ p. record { node = p.node; addresses = p.addresses; own = p.own.items; sent = S.sent p.socket; socket_failures = S.failures p.socket; failures = p.failures; next = taken_as p.addresses.seals (S.next p.socket) } };
+    ghost view = { λ p. record { node = p.node; addresses = p.addresses; own = p.own.items; sent = S.sent p.socket; socket_failures = S.failures p.socket; failures = p.failures; coming = all_taken_as p.addresses.seals (S.coming p.socket) } };
 }
 
 /// Where a letter goes.
@@ -110,7 +107,7 @@ impl<S: Datagrams + Drop> SocketPost<S> {
         ensures failures { result.failures ≡ 0 }
         ensures hosts { result.addresses.hosts ≡ outside.hosts }
         ensures seals { result.addresses.seals ≡ outside.seals }
-        ensures next { result.next ≡ taken_as outside.seals (S.next socket) }
+        ensures coming { result.coming ≡ all_taken_as outside.seals (S.coming socket) }
     {
         SocketPost {
             alloc,
@@ -120,7 +117,6 @@ impl<S: Datagrams + Drop> SocketPost<S> {
             frame: Vec::new(alloc),
             own: VecDeque::new(alloc),
             failures: 0,
-            sent: 0,
             wanted: None,
         }
     }
@@ -146,10 +142,20 @@ impl<S: Datagrams + Drop> SocketPost<S> {
 
     /// The ear hears the next datagram of the socket, if one comes.
     pub fn listen(&mut self, ear: &mut Ear)
-        ensures comes { S.is_telling → self.old.next ≡ taken_as self.old.addresses.seals ear.new }
-        ensures others { self.new ≡ record self.old { next = self.new.next } }
+        ensures comes { S.is_telling → self.old.coming ≡ all_taken_as self.old.addresses.seals (listed ear.new) ++ self.new.coming }
+        ensures none { S.is_telling → ear.new ≡ None → self.old.coming ≡ [] }
+        ensures others { self.new ≡ record self.old { coming = self.new.coming } }
     {
         ear.receive(&mut self.socket);
+    }
+
+    /// The ear hears the next datagram of the socket that waits there already.
+    pub fn listen_waiting(&mut self, ear: &mut Ear)
+        ensures comes { S.is_telling → self.old.coming ≡ all_taken_as self.old.addresses.seals (listed ear.new) ++ self.new.coming }
+        ensures none { S.is_telling → ear.new ≡ None → self.old.coming ≡ [] }
+        ensures others { self.new ≡ record self.old { coming = self.new.coming } }
+    {
+        ear.receive_waiting(&mut self.socket);
     }
 
     /// What is taken of that, out of its frame, and from where it came.
@@ -173,21 +179,19 @@ impl<S: Datagrams + Drop> SocketPost<S> {
         self.socket.cause()
     }
 
-    /// A step begins.
+    /// A group is sent.
     pub fn begin(&mut self)
         ensures { self.new ≡ record self.old { failures = 0 } }
     {
         self.failures = 0;
-        self.sent = 0;
         self.wanted = None;
     }
 
-    /// What became of what it was given in this step.
+    /// What became of what it was given in this group.
     pub fn carried(&self) -> Carried
         ensures { result.lost ≡ self.now.failures }
     {
         Carried {
-            sent: self.sent,
             lost: self.failures,
             wanted: self.wanted,
         }
@@ -197,7 +201,6 @@ impl<S: Datagrams + Drop> SocketPost<S> {
     fn note(&mut self, to: &To, bytes: &[u8])
         ensures { self.new ≡ self.old }
     {
-        self.sent = self.sent.saturating_add(1);
         match to {
             To::Node(node, _) if bytes.get(KIND) == Some(&WANT) => self.wanted = Some(*node),
             _ => {}

@@ -1,14 +1,14 @@
 //! A node that serves on a socket.
 
-ghost use Rattle.std.specs.Prelude.{◌≡◌, ℕ, ◌∷◌, [], None, true, false, OnOk, OnErr, IfOk, IfErr};
+ghost use Rattle.std.specs.Prelude.{◌≡◌, ℕ, List, ◌∷◌, [], None, true, false, OnOk, OnErr, IfOk, IfErr};
+ghost use Rattle.std.specs.declared.net.socket_addr.SocketAddr.{SocketAddr as Address};
 ghost use Rattle.lk_types.specs.Ranges.{IsClient};
-ghost use Rattle.lk_node.specs.Calls.{heard_by};
-ghost use Rattle.lk_replica.specs.Faults.{fault_number, IfSend};
+ghost use Rattle.lk_replica.specs.Faults.{fault_number};
 ghost use Rattle.lk_server.specs.Addresses.{client_at, node_at, IsSameOutside};
-ghost use Rattle.lk_server.specs.Posts.{Hears, taken_as};
-ghost use Rattle.lk_server.specs.Servers.{EndsIn, EndsOn, FindsNone, HandsOn, LastTurn, Runs, ServesOn, Takes, TakesIn, Turn};
+ghost use Rattle.lk_server.specs.Gatherings.{FindsNone, HandsOnAll, SaysNothing};
+ghost use Rattle.lk_server.specs.Posts.{all_taken_as};
+ghost use Rattle.lk_server.specs.Servers.{HandsOn, HandsNothing, LastTurn, Runs, ServesOn, Turn};
 
-use crate::came::Came;
 use crate::ear::Ear;
 use crate::fault::ServiceFault;
 use crate::node_replica::NodeReplica;
@@ -17,29 +17,25 @@ use crate::outside::Outside;
 use crate::post::SocketPost;
 use crate::socket::Datagrams;
 use crate::strangers::Strangers;
-use crate::watching::{log_carried, log_changes};
-use lk_replica::ReplicaFault;
-use lk_step::{Input, Letter, Note};
+use crate::watching::log_carried;
+use lk_replica::{Group, ReplicaFault};
 use lk_types::NodeNo;
 use log::Log;
 use std::alloc::Global;
 use std::marker::Model;
-use std::net::SocketAddr;
-
-/// So many datagrams bring a tick, however fast they come.
-const DATAGRAMS_PER_TICK: u64 = 64;
 
 /// A replica, and the post with the socket on which it serves.
 #[derive(Drop)]
 pub struct Server<R: NodeReplica, S: Datagrams + Drop> {
-    cluster: u64,
-    replica: R,
+    pub(crate) alloc: Global,
+    pub(crate) cluster: u64,
+    pub(crate) replica: R,
     // what the node wrote to itself and has not taken yet is kept there
-    post: SocketPost<S>,
+    pub(crate) post: SocketPost<S>,
     // the datagrams that came, modulo 2^64
-    received: u64,
+    pub(crate) received: u64,
     // those of them that say nothing to it
-    strangers: Strangers,
+    pub(crate) strangers: Strangers,
 }
 
 impl<R: NodeReplica, S: Datagrams + Drop> Model for Server<R, S> {
@@ -47,7 +43,7 @@ impl<R: NodeReplica, S: Datagrams + Drop> Model for Server<R, S> {
 
     ghost Value = { ServerValue R };
 
-    ghost view = { λ s. record { cluster = s.cluster; node = s.post.node; replica = s.replica; own = s.post.own; addresses = s.post.addresses; received = s.received; failed = R.failed s.replica; sent = s.post.sent; socket_failures = s.post.socket_failures; next = s.post.next } };
+    ghost view = { λ s. record { cluster = s.cluster; node = s.post.node; replica = s.replica; own = s.post.own; addresses = s.post.addresses; received = s.received; failed = R.failed s.replica; sent = s.post.sent; socket_failures = s.post.socket_failures; coming = s.post.coming } };
 }
 
 impl<R: NodeReplica, S: Datagrams + Drop> Server<R, S> {
@@ -69,9 +65,10 @@ impl<R: NodeReplica, S: Datagrams + Drop> Server<R, S> {
         ensures received { result.received ≡ 0 }
         ensures hosts { result.addresses.hosts ≡ outside.hosts }
         ensures seals { result.addresses.seals ≡ outside.seals }
-        ensures socket { ServesOn (S.sent socket) (S.failures socket) (taken_as outside.seals (S.next socket)) result }
+        ensures socket { ServesOn (S.sent socket) (S.failures socket) (all_taken_as outside.seals (S.coming socket)) result }
     {
         Server {
+            alloc,
             cluster,
             replica,
             post: SocketPost::new(alloc, node, outside, socket),
@@ -99,6 +96,7 @@ impl<R: NodeReplica, S: Datagrams + Drop> Server<R, S> {
         ensures { result ≡ self.replica }
     {
         let Server {
+            alloc: _,
             cluster: _,
             replica,
             post: _,
@@ -108,192 +106,103 @@ impl<R: NodeReplica, S: Datagrams + Drop> Server<R, S> {
         replica
     }
 
-    /// Its replica takes a tick or a datagram, and what changes by that is logged.
-    fn step<L: Log>(
-        &mut self,
-        input: Input,
-        came: &Came,
-        log: &L,
-    ) -> Result<Vec<Note>, ReplicaFault>
-        ensures addresses { self.new.addresses ≡ self.old.addresses }
-        ensures cluster { self.new.cluster ≡ self.old.cluster }
-        ensures node { self.new.node ≡ self.old.node }
-        // The replica was given that and nothing else; what it said was sent or kept, or a send of it failed, and nothing else was sent.
-        ensures hands_on { HandsOn R.Says S.is_telling (heard_by input.entry ∷ []) self.old.own self.old self.new }
-        ensures received { self.new.received ≡ self.old.received }
-        ensures alive { OnOk result (self.new.failed ≡ false) }
-        ensures sends_on { IfErr result (IfSend (λ notes. self.new.failed ≡ false)) }
-        ensures broken { IfErr result (λ e. (fault_number e ≡ 15 → ⊥) → self.new.failed ≡ true) }
+    // A group begins.
+    fn begin(&self) -> Group
+        ensures { R.Gathers self.now.replica [] result self.now.replica }
     {
-        let before = self.replica.sight();
-        self.post.begin();
-        let taken = self.replica.take(input, &mut self.post);
-        log_changes(log, came, &before, &self.replica.sight());
-        log_carried(log, came, &self.post.carried(), self.post.cause());
-        taken
+        self.replica.begin(self.alloc)
     }
 
-    /// Its replica takes a tick or a datagram. What could not be sent is lost, and the notes count all the same.
-    fn take<L: Log>(&mut self, input: Input, came: &Came, log: &L) -> Result<(), ServiceFault>
+    // Ends a group: what its replica says by it is sent or kept, and what became of that is logged.
+    fn hand_over<L: Log>(&mut self, group: &Group, log: &L) -> Result<bool, ReplicaFault>
+        ensures gives { OnOk result (HandsOnAll R.Says R.Gathers S.is_telling group.now self.old self.new) }
+        ensures silent { OnErr result (SaysNothing R.Says R.Gathers group.now self.old self.new) }
         ensures addresses { self.new.addresses ≡ self.old.addresses }
         ensures cluster { self.new.cluster ≡ self.old.cluster }
         ensures node { self.new.node ≡ self.old.node }
-        // The replica was given that and nothing else; what it said was sent or kept, or a send of it failed, and nothing else was sent.
-        ensures hands_on { HandsOn R.Says S.is_telling (heard_by input.entry ∷ []) self.old.own self.old self.new }
+        ensures received { self.new.received ≡ self.old.received }
+        ensures alive { OnOk result (self.new.failed ≡ false) }
+        ensures broken { OnErr result (self.new.failed ≡ true) }
+        ensures no_send { IfErr result (λ e. fault_number e ≡ 15 → ⊥) }
+    {
+        self.post.begin();
+        let released = self.replica.release(group, &mut self.post);
+        log_carried(log, &self.post.carried(), self.post.cause());
+        released
+    }
+
+    /// Ends a group. What could not be sent is lost, and the notes count all the same.
+    fn release<L: Log>(&mut self, group: &Group, log: &L) -> Result<(), ServiceFault>
+        // The letters of the group were each sent where they go, kept for the node itself, or lost by a send that failed, in order.
+        ensures gives { OnOk result (HandsOnAll R.Says R.Gathers S.is_telling group.now self.old self.new) }
+        // After a refusal nothing of it is sent.
+        ensures silent { OnErr result (SaysNothing R.Says R.Gathers group.now self.old self.new) }
+        ensures addresses { self.new.addresses ≡ self.old.addresses }
+        ensures cluster { self.new.cluster ≡ self.old.cluster }
+        ensures node { self.new.node ≡ self.old.node }
         ensures received { self.new.received ≡ self.old.received }
         ensures passes { IfErr result (λ f. f ≡ ServiceFault.Send → ⊥) }
         ensures alive { OnOk result (self.new.failed ≡ false) }
         ensures broken { OnErr result (self.new.failed ≡ true) }
     {
-        match &self.step(input, came, log) {
-            Ok(notes) | Err(ReplicaFault::Send(notes)) => {
-                log_notes(log, notes);
+        match self.hand_over(group, log) {
+            Ok(_) => {
+                log_notes(log, group.notes());
                 Ok(())
             }
-            Err(fault) => Err(ServiceFault::of_replica(fault)),
+            Err(fault) => Err(ServiceFault::of_replica(&fault)),
         }
     }
 
-    /// Some time has passed.
+    /// Some time has passed: a group of a tick alone.
     pub fn tick<L: Log>(&mut self, log: &L) -> Result<(), ServiceFault>
+        // The replica was given that and nothing else; what it said was sent or kept, or a send of it failed, and nothing else was sent.
+        ensures hands_on { OnOk result (HandsOn R.Says S.is_telling (None ∷ []) self.old.own self.old self.new) }
+        ensures ends { OnErr result (HandsNothing R.Says (None ∷ []) self.old.own self.old self.new) }
         ensures addresses { self.new.addresses ≡ self.old.addresses }
         ensures cluster { self.new.cluster ≡ self.old.cluster }
         ensures node { self.new.node ≡ self.old.node }
-        // The replica was given that and nothing else; what it said was sent or kept, or a send of it failed, and nothing else was sent.
-        ensures hands_on { HandsOn R.Says S.is_telling (None ∷ []) self.old.own self.old self.new }
         ensures received { self.new.received ≡ self.old.received }
         ensures passes { IfErr result (λ f. f ≡ ServiceFault.Send → ⊥) }
         ensures alive { OnOk result (self.new.failed ≡ false) }
         ensures broken { OnErr result (self.new.failed ≡ true) }
     {
-        self.take(Input::Tick, &Came::Tick, log)
+        let mut group = self.begin();
+        self.gather_tick(&mut group, log)?;
+        self.release(&group, log)
     }
 
-    // Its replica takes a datagram, and after every 64th a tick.
-    fn take_counted<L: Log>(
-        &mut self,
-        bytes: &[u8],
-        came: &Came,
-        log: &L,
-    ) -> Result<(), ServiceFault>
-        ensures takes { OnOk result (Takes R.Says S.is_telling bytes.now self.old.own self.old self.new) }
-        ensures ends { OnErr result (EndsOn R.Says S.is_telling bytes.now self.old.own self.old self.new) }
-        ensures addresses { self.new.addresses ≡ self.old.addresses }
-        ensures cluster { self.new.cluster ≡ self.old.cluster }
-        ensures node { self.new.node ≡ self.old.node }
-        ensures passes { IfErr result (λ f. f ≡ ServiceFault.Send → ⊥) }
-        ensures alive { OnOk result (self.new.failed ≡ false) }
-        ensures broken { OnErr result (self.new.failed ≡ true) }
-    {
-        self.received = self.received.wrapping_add(1);
-        self.take(Input::Datagram(bytes), came, log)?;
-        if self.received % DATAGRAMS_PER_TICK == 0 {
-            self.tick(log)?;
-        }
-        Ok(())
-    }
-
-    /// A datagram has come from an address. Every 64th is followed by a tick.
-    pub fn take_datagram<L: Log>(
-        &mut self,
-        bytes: &[u8],
-        from: SocketAddr,
-        log: &L,
-    ) -> Result<(), ServiceFault>
-        ensures takes { OnOk result (Takes R.Says S.is_telling bytes.now self.old.own self.old self.new) }
-        ensures ends { OnErr result (EndsOn R.Says S.is_telling bytes.now self.old.own self.old self.new) }
-        ensures heard { Hears self.old.cluster bytes.now from self.old.addresses self.new.addresses }
-        // Where nodes live, and the keys, stay what they were.
-        ensures outside { IsSameOutside self.old.addresses self.new.addresses }
-        ensures cluster { self.new.cluster ≡ self.old.cluster }
-        ensures node { self.new.node ≡ self.old.node }
-        ensures passes { IfErr result (λ f. f ≡ ServiceFault.Send → ⊥) }
-        ensures alive { OnOk result (self.new.failed ≡ false) }
-        ensures broken { OnErr result (self.new.failed ≡ true) }
-    {
-        let came = self.post.hear(self.cluster, bytes, from);
-        self.strangers.count(&came, log);
-        self.take_counted(bytes, &came, log)
-    }
-
-    // Takes a letter of the node to itself, as the datagram that it is.
-    fn take_own<L: Log>(&mut self, letter: &Letter, log: &L) -> Result<(), ServiceFault>
-        ensures takes { OnOk result (Takes R.Says S.is_telling letter.now.bytes self.old.own self.old self.new) }
-        ensures ends { OnErr result (EndsOn R.Says S.is_telling letter.now.bytes self.old.own self.old self.new) }
-        ensures addresses { self.new.addresses ≡ self.old.addresses }
-        ensures cluster { self.new.cluster ≡ self.old.cluster }
-        ensures node { self.new.node ≡ self.old.node }
-        ensures passes { IfErr result (λ f. f ≡ ServiceFault.Send → ⊥) }
-        ensures alive { OnOk result (self.new.failed ≡ false) }
-        ensures broken { OnErr result (self.new.failed ≡ true) }
-    {
-        let came = Came::own(&letter.bytes);
-        self.take_counted(&letter.bytes, &came, log)
-    }
-
-    // Takes the next datagram from the socket, if one comes. Whether one did.
-    fn serve_socket<L: Log>(&mut self, ear: &mut Ear, log: &L) -> Result<bool, ServiceFault>
-        requires { self.old.own ≡ [] }
-        ensures turn { IfOk result (λ came. came ≡ true → TakesIn R.Says S.is_telling [] (taken_as self.old.addresses.seals ear.new) self.old self.new) }
-        ensures ends { OnErr result (EndsIn R.Says S.is_telling [] (taken_as self.old.addresses.seals ear.new) self.old self.new) }
-        ensures comes { S.is_telling → self.old.next ≡ taken_as self.old.addresses.seals ear.new }
-        ensures none { IfOk result (λ came. came ≡ false → (record self.new { next = self.old.next } ≡ self.old) × (ear.new ≡ None)) }
-        // Where nodes live, and the keys, stay what they were.
-        ensures outside { IsSameOutside self.old.addresses self.new.addresses }
-        ensures cluster { self.new.cluster ≡ self.old.cluster }
-        ensures node { self.new.node ≡ self.old.node }
-        ensures passes { IfErr result (λ f. f ≡ ServiceFault.Send → ⊥) }
-        ensures alive { IfOk result (λ came. came ≡ true → self.new.failed ≡ false) }
-        ensures broken { OnErr result (self.new.failed ≡ true) }
-    {
-        self.post.listen(ear);
-        let Some((bytes, from)) = self.post.heard(ear) else {
-            return Ok(false);
-        };
-        self.take_datagram(bytes, from, log)?;
-        Ok(true)
-    }
-
-    /// Takes the next datagram, if one comes: the first one that the node wrote to itself, and where there is none that of the socket.
-    /// Whether one did.
+    /// Takes a group of what waits, if anything does: the first letters that the node wrote to itself, and where there is none what comes to
+    /// the socket. Whether there was anything.
     pub fn serve_next<L: Log>(&mut self, ear: &mut Ear, log: &L) -> Result<bool, ServiceFault>
-        // What the node wrote to itself it takes once and in order, and before it looks at the socket. Else it is the whole of what came, from
-        // where it came. What the replica said by that was sent or kept, or a send of it failed, in order, and nothing else was sent.
-        ensures turn { IfOk result (λ came. came ≡ true → TakesIn R.Says S.is_telling self.old.own (taken_as self.old.addresses.seals ear.new) self.old self.new) }
-        ensures ends { OnErr result (EndsIn R.Says S.is_telling self.old.own (taken_as self.old.addresses.seals ear.new) self.old self.new) }
-        ensures comes { S.is_telling → self.old.own ≡ [] → self.old.next ≡ taken_as self.old.addresses.seals ear.new }
-        ensures none { IfOk result (λ came. came ≡ false → FindsNone S.is_telling self.old self.new × (ear.new ≡ None)) }
+        ensures turn { IfOk result (λ came. came ≡ true → (frames : List (Address × List ℕ)) × Turn R.Says S.is_telling (all_taken_as self.old.addresses.seals frames) self.old self.new) }
+        ensures ends { OnErr result ((frames : List (Address × List ℕ)) × LastTurn R.Says S.is_telling (all_taken_as self.old.addresses.seals frames) self.old self.new) }
+        ensures none { IfOk result (λ came. came ≡ false → FindsNone S.is_telling self.old self.new) }
         // Where nodes live, and the keys, stay what they were.
         ensures outside { IsSameOutside self.old.addresses self.new.addresses }
-        ensures cluster { self.new.cluster ≡ self.old.cluster }
-        ensures node { self.new.node ≡ self.old.node }
         ensures passes { IfErr result (λ f. f ≡ ServiceFault.Send → ⊥) }
-        ensures alive { IfOk result (λ came. came ≡ true → self.new.failed ≡ false) }
-        ensures broken { OnErr result (self.new.failed ≡ true) }
     {
-        match self.post.next_own() {
-            Some(letter) => {
-                self.take_own(&letter, log)?;
-                Ok(true)
-            }
-            None => self.serve_socket(ear, log),
+        let mut group = self.begin();
+        if !self.gather_all(ear, &mut group, log)? {
+            return Ok(false);
         }
+        self.release(&group, log)?;
+        Ok(true)
     }
 }
 
-/// One turn of a server: it takes the next datagram, or a tick where none came.
+/// One turn of a server: it takes a group of what waits, or a tick where nothing does.
 pub fn node_turn<R: NodeReplica, S: Datagrams + Drop, L: Log>(
     server: &mut Server<R, S>,
     ear: &mut Ear,
     log: &L,
 ) -> Result<(), ServiceFault>
-    // Where the node wrote to itself it takes the first letter of that, and no tick. Else it takes what came, whole and out of its frame, from where it
-    // came, and a tick where nothing did; what came stands in the ear. Its replica was given just that. The letters that it said were each sent where
-    // they go, kept for the node itself, or lost by a send that failed, in order, and nothing else was sent.
-    ensures turn { OnOk result (Turn R.Says S.is_telling (taken_as server.old.addresses.seals ear.new) server.old server.new) }
-    ensures ends { OnErr result (LastTurn R.Says S.is_telling (taken_as server.old.addresses.seals ear.new) server.old server.new) }
-    // A socket that tells what comes next has given just that.
-    ensures comes { S.is_telling → server.old.own ≡ [] → server.old.next ≡ taken_as server.old.addresses.seals ear.new }
+    // Where the node wrote to itself it takes the first 64 letters of that, once and in order, and nothing of the socket. Else it takes what came, each whole and
+    // out of its frame, from where it came, and a tick where nothing did. Its replica was given just that, as one group. The letters that it said were each sent
+    // where they go, kept for the node itself, or lost by a send that failed, in order, and nothing else was sent.
+    ensures turn { OnOk result ((frames : List (Address × List ℕ)) × Turn R.Says S.is_telling (all_taken_as server.old.addresses.seals frames) server.old server.new) }
+    // After a refusal nothing of the group is sent.
+    ensures ends { OnErr result ((frames : List (Address × List ℕ)) × LastTurn R.Says S.is_telling (all_taken_as server.old.addresses.seals frames) server.old server.new) }
     // Where nodes live, and the keys, stay what they were.
     ensures outside { IsSameOutside server.old.addresses server.new.addresses }
     ensures passes { IfErr result (λ f. f ≡ ServiceFault.Send → ⊥) }

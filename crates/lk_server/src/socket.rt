@@ -1,6 +1,6 @@
 //! Datagrams between addresses of this machine.
 
-ghost use Rattle.std.specs.Prelude.{◌≡◌, ◌≤◌, ◌++◌, ◌∷◌, [], List, ℕ, Option, Some, None, length, take, IfSome, IsNone, OnOk, OnErr};
+ghost use Rattle.std.specs.Prelude.{◌≡◌, ◌≤◌, ◌++◌, ◌∷◌, [], List, ℕ, length, take, IfSome, IsNone, OnOk, OnErr};
 ghost use Rattle.std.specs.Net.Socket.{socket_port};
 ghost use Rattle.std.specs.declared.net.socket_addr.SocketAddr.{SocketAddr as Address};
 ghost use Rattle.lk_disk.specs.Disk.{HasCause};
@@ -26,13 +26,13 @@ pub trait Datagrams {
     /// What was sent, in order: to which address, and the bytes.
     ghost sent: { Self → List (Address × List ℕ) };
 
-    /// What comes next: from which address, and the bytes.
-    ghost next: { Self → Option (Address × List ℕ) };
+    /// What comes, in order: from which address, and the bytes.
+    ghost coming: { Self → List (Address × List ℕ) };
 
     /// How often a send has failed.
     ghost failures: { Self → ℕ };
 
-    /// It tells what was sent, how often that failed, and what comes next. It is a fact of its kind, so no call can end it.
+    /// It tells what was sent, how often that failed, and what comes. It is a fact of its kind, so no call can end it.
     ghost is_telling: { Type 0 };
 
     /// Sends a datagram. A failed call sends nothing, and is counted.
@@ -47,8 +47,17 @@ pub trait Datagrams {
         // There is room for the frame of the longest datagram, and a byte more.
         requires room { 8229 ≤ length buffer.old }
         ensures within { IfSome result (λ r. r.0 ≤ length buffer.new) }
-        ensures some { is_telling → IfSome result (λ r. next self.old ≡ Some (r.1, take r.0 buffer.new)) }
-        ensures none { is_telling → IsNone result → next self.old ≡ None }
+        ensures some { is_telling → IfSome result (λ r. coming self.old ≡ (r.1, take r.0 buffer.new) ∷ coming self.new) }
+        ensures none { is_telling → IsNone result → (coming self.old ≡ []) × (coming self.new ≡ []) }
+        ensures unchanged { sent self.new ≡ sent self.old }
+        ensures spares { failures self.new ≡ failures self.old };
+
+    /// The same, but it does not wait: `None` where none has come.
+    fn receive_waiting(&mut self, buffer: &mut [u8]) -> Option<(usize, SocketAddr)>
+        requires room { 8229 ≤ length buffer.old }
+        ensures within { IfSome result (λ r. r.0 ≤ length buffer.new) }
+        ensures some { is_telling → IfSome result (λ r. coming self.old ≡ (r.1, take r.0 buffer.new) ∷ coming self.new) }
+        ensures none { is_telling → IsNone result → (coming self.old ≡ []) × (coming self.new ≡ []) }
         ensures unchanged { sent self.new ≡ sent self.old }
         ensures spares { failures self.new ≡ failures self.old };
 
@@ -63,6 +72,10 @@ pub trait Datagrams {
 #[derive(Drop)]
 pub struct LocalSocket {
     socket: UdpSocket,
+    // its receives wait for what has not come yet
+    waits: bool,
+    // they never do
+    never_waits: bool,
     // why the last send that failed did
     cause: Option<io::Error>,
 }
@@ -79,6 +92,8 @@ impl LocalSocket {
         socket.set_read_timeout(Some(Duration::from_millis(WAIT)))?;
         Ok(LocalSocket {
             socket,
+            waits: true,
+            never_waits: false,
             cause: None,
         })
     }
@@ -90,18 +105,31 @@ impl LocalSocket {
 
     /// The same, but its receives do not wait.
     pub fn without_waiting<R: Net>(rt: &R, port: u16) -> Result<LocalSocket, ServiceFault> {
-        let socket = LocalSocket::bind(rt, port)?;
-        if socket.socket.set_nonblocking(true).is_err() {
+        let mut socket = LocalSocket::bind(rt, port)?;
+        socket.never_waits = true;
+        if !socket.waits_as(false) {
             return Err(ServiceFault::CannotOpen);
         }
         Ok(socket)
+    }
+
+    // Has its receives wait or not, by a call of the system only where that changes. Whether they do so now.
+    fn waits_as(&mut self, waits: bool) -> bool {
+        if self.waits == waits {
+            return true;
+        }
+        if self.socket.set_nonblocking(!waits).is_err() {
+            return false;
+        }
+        self.waits = waits;
+        true
     }
 }
 
 impl Datagrams for LocalSocket {
     ghost sent = { λ _. [] };
 
-    ghost next = { λ _. None };
+    ghost coming = { λ _. [] };
 
     ghost failures = { λ _. 0 };
 
@@ -118,6 +146,16 @@ impl Datagrams for LocalSocket {
     }
 
     fn receive(&mut self, buffer: &mut [u8]) -> Option<(usize, SocketAddr)> {
+        if !self.never_waits {
+            let _ = self.waits_as(true);
+        }
+        self.socket.recv_from(buffer).ok()
+    }
+
+    fn receive_waiting(&mut self, buffer: &mut [u8]) -> Option<(usize, SocketAddr)> {
+        if !self.waits_as(false) {
+            return None;
+        }
         self.socket.recv_from(buffer).ok()
     }
 

@@ -82,13 +82,17 @@ pub fn log_changes<L: Log>(log: &L, came: &Came, before: &Sight, after: &Sight) 
     log_store(log, before, after);
 }
 
-/// Logs that the node wants to be told what it has missed, and by how many datagrams it has told another that.
-fn log_wants<L: Log>(log: &L, came: &Came, carried: &Carried) {
+/// Logs by how many datagrams another node is told what it has missed, where it wants that.
+pub fn log_served<L: Log>(log: &L, came: &Came, said: usize) {
+    if let Came::Want(node) = came {
+        debug!(log; "Want of node {} served by {said} datagrams", node.get());
+    }
+}
+
+/// Logs that the node wants to be told what it has missed.
+fn log_wants<L: Log>(log: &L, carried: &Carried) {
     if let Some(node) = carried.wanted {
         log_number(log, "Want sent to node", u64::from(node.get()));
-    }
-    if let Came::Want(node) = came {
-        debug!(log; "Want of node {} served by {} datagrams", node.get(), carried.sent);
     }
 }
 
@@ -102,7 +106,7 @@ fn log_lost<L: Log>(log: &L, lost: u64, cause: Option<io::Error>) {
 }
 
 /// Logs what became of what was sent in a turn.
-pub fn log_carried<L: Log>(log: &L, came: &Came, carried: &Carried, cause: Option<io::Error>) {
-    log_wants(log, came, carried);
+pub fn log_carried<L: Log>(log: &L, carried: &Carried, cause: Option<io::Error>) {
+    log_wants(log, carried);
     log_lost(log, carried.lost, cause);
 }

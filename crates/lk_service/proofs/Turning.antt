@@ -10,7 +10,7 @@ use Rattle.lk_step.specs.Letters.{LetterValue}
 use Rattle.lk_replica.specs.ReplicaValue.{ReplicaValue}
 use Rattle.lk_replica.specs.Revivals.{IsRefusedFor}
 use Rattle.lk_server.specs.Addresses.{IsSameOutside}
-use Rattle.lk_server.specs.Posts.{taken_as}
+use Rattle.lk_server.specs.Posts.{all_taken_as}
 use Rattle.lk_server.specs.Sayings.{SaysOf}
 use Rattle.lk_server.specs.Servers.{ServerValue, Turn, LastTurn}
 use Rattle.lk_service.specs.Chains.{Repeats}
@@ -19,23 +19,23 @@ use Rattle.lk_service.specs.Turns.{TakesTurn, BreaksOff, TellsFailure}
 use Rattle.lk_service.proofs.Chaining.{repeats_more}
 
 -- what a replica on a device says, where that is honest
-abbrev pub SaysOn : Type 0 → Type 0 → Meaning → (List ℕ → Type 0) → ReplicaValue → Option (List ℕ) → List LetterValue → ReplicaValue → Type 0
-SaysOn honest metered m IsText old bytes letters new = honest → SaysOf m IsText metered old bytes letters new
+abbrev pub SaysOn : Type 0 → Type 0 → Meaning → (List ℕ → Type 0) → ReplicaValue → List (Option (List ℕ)) → List LetterValue → ReplicaValue → Type 0
+SaysOn honest metered m IsText old given letters new = honest → SaysOf m IsText metered old given letters new
 
 -- what stands whatever became of a call stands after a refusal
 pub on_err : {T E P : Type 0} (r : Result T E) → P → OnErr r P
 on_err (Ok x) p = tt
 on_err (Err e) p = p
 
-module _ {Says : ReplicaValue → Option (List ℕ) → List LetterValue → ReplicaValue → Type 0} {tells : Type 0} {count : ℕ} {first last new : ServerValue ReplicaValue} (frame : Option (SocketAddr × List ℕ)) where
+module _ {Says : ReplicaValue → List (Option (List ℕ)) → List LetterValue → ReplicaValue → Type 0} {tells : Type 0} {count : ℕ} {first last new : ServerValue ReplicaValue} (frames : List (SocketAddr × List ℕ)) where
   -- one more turn was taken
-  pub turns_more : Repeats (TakesTurn Says tells) count first last → Turn Says tells (taken_as last.addresses.seals frame) last new → IsSameOutside last.addresses new.addresses → TellsFailure new → Repeats (TakesTurn Says tells) (count + 1) first new
-  turns_more so_far turn outside failure = repeats_more so_far (record { frame = frame; came = taken_as last.addresses.seals frame; opened = refl; turn = turn; outside = outside; failure = failure })
+  pub turns_more : Repeats (TakesTurn Says tells) count first last → Turn Says tells (all_taken_as last.addresses.seals frames) last new → IsSameOutside last.addresses new.addresses → TellsFailure new → Repeats (TakesTurn Says tells) (count + 1) first new
+  turns_more so_far turn outside failure = repeats_more so_far (record { frames = frames; came = all_taken_as last.addresses.seals frames; opened = refl; turn = turn; outside = outside; failure = failure })
 
   -- one ended the replica
-  pub turns_end : (most : ℕ) → count < most → Repeats (TakesTurn Says tells) count first last → LastTurn Says tells (taken_as last.addresses.seals frame) last new → IsSameOutside last.addresses new.addresses → TellsFailure new → BreaksOff Says tells most first new
+  pub turns_end : (most : ℕ) → count < most → Repeats (TakesTurn Says tells) count first last → LastTurn Says tells (all_taken_as last.addresses.seals frames) last new → IsSameOutside last.addresses new.addresses → TellsFailure new → BreaksOff Says tells most first new
   turns_end most fewer so_far turn outside failure =
-      record { count = count; fewer = fewer; last = last; turns = so_far; ends = record { frame = frame; came = taken_as last.addresses.seals frame; opened = refl; turn = turn; outside = outside; failure = failure } }
+      record { count = count; fewer = fewer; last = last; turns = so_far; ends = record { frames = frames; came = all_taken_as last.addresses.seals frames; opened = refl; turn = turn; outside = outside; failure = failure } }
 
 -- what follows of what stands after a refusal
 pub on_err_weaker : {T E P Q : Type 0} (r : Result T E) → (P → Q) → OnErr r P → OnErr r Q

@@ -6,7 +6,7 @@ use Rattle.lk_step.specs.Letters.{LetterValue}
 use Rattle.lk_replica.specs.ReplicaValue.{ReplicaValue}
 use Rattle.lk_seal.specs.declared.seals.Seals.{Seals}
 use Rattle.lk_server.specs.Addresses.{IsSameOutside}
-use Rattle.lk_server.specs.Posts.{taken_as}
+use Rattle.lk_server.specs.Posts.{all_taken_as}
 use Rattle.lk_server.specs.Servers.{ServerValue, Turn, LastTurn}
 use Rattle.lk_service.specs.Chains.{Repeats}
 
@@ -15,22 +15,22 @@ abbrev pub TellsFailure : ServerValue ReplicaValue → Type 0
 TellsFailure s = s.failed ≡ s.replica.failed
 
 -- `Says` is what a replica says by what it is given, and `tells` that the socket tells what it sends and what comes to it
-module _ (Says : ReplicaValue → Option (List ℕ) → List LetterValue → ReplicaValue → Type 0) (tells : Type 0) where
-  -- a turn: something was taken of what came, out of its frame where the nodes have a key, or nothing; the replica was given the first letter of the node to
-  -- itself, or where none waited just that, or a tick, and goes on. Where nodes live, and the keys, are the same
+module _ (Says : ReplicaValue → List (Option (List ℕ)) → List LetterValue → ReplicaValue → Type 0) (tells : Type 0) where
+  -- a turn: the replica was given the first letters of the node to itself as one group, or where none waited what was taken of what came, out of its frames where
+  -- the nodes have a key, or where nothing did a tick, and goes on. Where nodes live, and the keys, are the same
   pub record TakesTurn (old new : ServerValue ReplicaValue) : Type 0 where
-    pub frame : Option (SocketAddr × List ℕ)
-    pub came : Option (SocketAddr × List ℕ)
-    pub opened : came ≡ taken_as old.addresses.seals frame
+    pub frames : List (SocketAddr × List ℕ)
+    pub came : List (SocketAddr × List ℕ)
+    pub opened : came ≡ all_taken_as old.addresses.seals frames
     pub turn : Turn Says tells came old new
     pub outside : IsSameOutside old.addresses new.addresses
     pub failure : TellsFailure new
 
   -- a turn that ended the replica
   pub record EndsTurn (old new : ServerValue ReplicaValue) : Type 0 where
-    pub frame : Option (SocketAddr × List ℕ)
-    pub came : Option (SocketAddr × List ℕ)
-    pub opened : came ≡ taken_as old.addresses.seals frame
+    pub frames : List (SocketAddr × List ℕ)
+    pub came : List (SocketAddr × List ℕ)
+    pub opened : came ≡ all_taken_as old.addresses.seals frames
     pub turn : LastTurn Says tells came old new
     pub outside : IsSameOutside old.addresses new.addresses
     pub failure : TellsFailure new
@@ -54,7 +54,7 @@ pub record HasSeals (header : HeaderValue) (seals : Seals) (s : ServerValue Repl
   pub whose : AreSealsOf header seals
 
 -- `Begins` is how the server of a node is taken up
-module _ (Begins : ServerValue ReplicaValue → Type 0) (header : HeaderValue) (seals : Seals) (Says : ReplicaValue → Option (List ℕ) → List LetterValue → ReplicaValue → Type 0) (tells : Type 0) where
+module _ (Begins : ServerValue ReplicaValue → Type 0) (header : HeaderValue) (seals : Seals) (Says : ReplicaValue → List (Option (List ℕ)) → List LetterValue → ReplicaValue → Type 0) (tells : Type 0) where
   -- it was taken up so, with these seals of the node of this header, and has taken so many turns
   pub record Serves (count : ℕ) : Type 0 where
     pub begun : ServerValue ReplicaValue

@@ -2,6 +2,7 @@
 
 ghost use Rattle.std.specs.Prelude.{◌≡◌, ◌≤◌, ◌⊎◌, ◌↔◌, ◌∷◌, ℕ, true, List, Some, IfOk, OnOk, IfErr, OnErr, IfSome, IsSomeAnd, length};
 ghost use Rattle.lk_wire.specs.Grammar.{Spells};
+ghost use Rattle.lk_server.specs.Hearing.{next_of};
 ghost use Rattle.lk_service.specs.Questions.{asking, first_place, IsAsked, Place, Hears, SendsOnce, SendsEach, Receives, Exchanges, Comes, IsTold};
 ghost use Rattle.lk_service.specs.declared.reply.Reply.{Reply as ReplyValue};
 
@@ -67,7 +68,7 @@ pub enum Heard {
 
 /// What comes next to whoever asked that.
 pub fn next_reply<S: Datagrams>(ear: &mut Ear, socket: &mut S, question: &Question) -> Heard
-    ensures heard { S.is_telling → Hears question.now (S.next socket.old) result }
+    ensures heard { S.is_telling → Hears question.now (next_of S.coming socket.old) result }
     ensures unchanged { S.sent socket.new ≡ S.sent socket.old }
     ensures spares { S.failures socket.new ≡ S.failures socket.old }
 {
@@ -114,7 +115,7 @@ fn take_next<S: Datagrams>(
     followed: &mut u32,
 ) -> Option<Reply>
     // What comes next is heard, and ends the exchange or is followed, to the member that it tells, by what it is.
-    ensures heard { S.is_telling → Receives S.sent S.failures S.next question.now bytes.now result
+    ensures heard { S.is_telling → Receives S.sent S.failures (next_of S.coming) question.now bytes.now result
         (record { socket = socket.old; followed = followed.old }) (record { socket = socket.new; followed = followed.new }) }
     ensures told { IfSome result IsTold }
     ensures most { followed.old ≤ 20 → followed.new ≤ 20 }
@@ -142,7 +143,7 @@ pub fn exchange<S: Datagrams>(
         × SendsEach (first_place question.now ∷ others) bytes (S.sent socket.old) (S.failures socket.old) (S.sent socket.new) (S.failures socket.new)) }
     // Of what comes next after that it hears one after another, at most 50, until it is told something: to follow an Elsewhere that it hears it
     // sends to the member that this tells, and else it sends nothing more.
-    ensures hears { S.is_telling → IfOk result (λ told. Exchanges S.sent S.failures S.next question.now told socket.old socket.new) }
+    ensures hears { S.is_telling → IfOk result (λ told. Exchanges S.sent S.failures (next_of S.coming) question.now told socket.old socket.new) }
     ensures told { IfOk result (λ reply. IfSome reply IsTold) }
     ensures unchanged { OnErr result (socket.new ≡ socket.old) }
     ensures only { IfErr result (λ f. f ≡ ServiceFault.NoMemory) }
@@ -195,7 +196,7 @@ fn ask_and_write<S: Datagrams, W: Write>(
     out: &mut W,
 ) -> Result<bool, ServiceFault>
     // It is told exactly where the exchange came to a reply.
-    ensures told { S.is_telling → IfOk result (λ is_told. Comes S.sent S.failures S.next question.now is_told socket.old socket.new) }
+    ensures told { S.is_telling → IfOk result (λ is_told. Comes S.sent S.failures (next_of S.coming) question.now is_told socket.old socket.new) }
     ensures only { IfErr result (λ f. (f ≡ ServiceFault.NoMemory) ⊎ (f ≡ ServiceFault.Write)) }
 {
     let reply = exchange(alloc, socket, question)?;
@@ -216,7 +217,7 @@ pub fn ask<S: Datagrams, W: Write, E: Write>(
 ) -> u8
     ensures status { result ≤ 1 }
     // Status 0 only where it has asked, and was told what becomes of the request.
-    ensures asked { S.is_telling → result ≡ 0 → (reply : ReplyValue) × Exchanges S.sent S.failures S.next question.now (Some reply) socket.old socket.new }
+    ensures asked { S.is_telling → result ≡ 0 → (reply : ReplyValue) × Exchanges S.sent S.failures (next_of S.coming) question.now (Some reply) socket.old socket.new }
 {
     match ask_and_write(alloc, socket, question, out) {
         Ok(true) => 0,

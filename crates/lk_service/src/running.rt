@@ -1,12 +1,13 @@
 //! A node: a server that is taken up from a device, and its turns.
 
-ghost use Rattle.std.specs.Prelude.{◌≡◌, ◌≤◌, ◌^◌, ◌⊎◌, IfOk, IfErr, OnOk, OnErr};
+ghost use Rattle.std.specs.Prelude.{◌≡◌, ◌≤◌, ◌^◌, ◌⊎◌, ℕ, List, IfOk, IfErr, OnOk, OnErr};
+ghost use Rattle.std.specs.declared.net.socket_addr.SocketAddr.{SocketAddr as Address};
 ghost use Rattle.lk_replica.specs.Faults.{fault_number};
 ghost use Rattle.lk_replica.specs.ReplicaValue.{ReplicaValue};
 ghost use Rattle.lk_replica.specs.Revivals.{MayGoOn};
 ghost use Rattle.lk_server.specs.Addresses.{IsSameOutside};
 ghost use Rattle.lk_server.specs.Faults.{replica_fault};
-ghost use Rattle.lk_server.specs.Posts.{taken_as};
+ghost use Rattle.lk_server.specs.Posts.{all_taken_as};
 ghost use Rattle.lk_server.specs.Servers.{ServerValue, ServesOn, Turn, LastTurn};
 ghost use Rattle.lk_service.specs.Chains.{Repeats};
 ghost use Rattle.lk_service.specs.Revivals.{ComesUp, IsBegun, IsNotTakenUp, IsRefusedWith};
@@ -69,7 +70,7 @@ pub fn revive<M: Machine, D: LogDisk + Drop, S: Datagrams + Drop, L: Log>(
     ensures begun { IfOk result (IsBegun M.meaning D.is_honest (D.disk resources.device) header.now) }
     ensures hosts { IfOk result (λ s. s.addresses.hosts ≡ resources.outside.hosts) }
     ensures seals { IfOk result (λ s. s.addresses.seals ≡ resources.outside.seals) }
-    ensures socket { IfOk result (ServesOn (S.sent resources.socket) (S.failures resources.socket) (taken_as resources.outside.seals (S.next resources.socket))) }
+    ensures socket { IfOk result (ServesOn (S.sent resources.socket) (S.failures resources.socket) (all_taken_as resources.outside.seals (S.coming resources.socket))) }
     // It is refused with 7 to 11, each with its cause, and what the device then has fits as what it had.
     ensures refused { IfErr result (λ e. IsNotTakenUp M.meaning M.IsText D.is_honest (D.disk resources.device) header.now (fault_number e.fault) (D.disk e.device)) }
 {
@@ -112,10 +113,10 @@ fn take_turn<M: Machine, D: LogDisk + FailureCause + Drop, S: Datagrams + Drop, 
     log: &L,
     err: &mut E,
 ) -> Result<(), ServiceFault>
-    // What came stands in the ear, and its replica was given just what was taken of that, or what it wrote to itself. Of the letters that it said it keeps none but
-    // those of the node to itself, after the ones that wait.
-    ensures turn { OnOk result (Turn ⟦<Replica<M, D> as NodeReplica>⟧.Says S.is_telling (taken_as server.old.addresses.seals ear.new) server.old server.new) }
-    ensures ends { OnErr result (LastTurn ⟦<Replica<M, D> as NodeReplica>⟧.Says S.is_telling (taken_as server.old.addresses.seals ear.new) server.old server.new) }
+    // Its replica was given as one group just what it wrote to itself, or what was taken of what came. Of the letters that it said it keeps none but those of the
+    // node to itself, after the ones that wait.
+    ensures turn { OnOk result ((frames : List (Address × List ℕ)) × Turn ⟦<Replica<M, D> as NodeReplica>⟧.Says S.is_telling (all_taken_as server.old.addresses.seals frames) server.old server.new) }
+    ensures ends { OnErr result ((frames : List (Address × List ℕ)) × LastTurn ⟦<Replica<M, D> as NodeReplica>⟧.Says S.is_telling (all_taken_as server.old.addresses.seals frames) server.old server.new) }
     // Where nodes live, and the keys, stay what they were.
     ensures outside { IsSameOutside server.old.addresses server.new.addresses }
     ensures failure { TellsFailure server.new }

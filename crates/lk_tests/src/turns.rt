@@ -1,8 +1,8 @@
 //! What a turn logs, and a demonstration that nobody answers.
-ghost use Rattle.std.specs.Prelude.{◌≡◌, []};
+ghost use Rattle.std.specs.Prelude.{◌≡◌, [], ⊤};
 
 use lk_locks::LockTable;
-use lk_replica::{Post, ReplicaFault};
+use lk_replica::{Group, Post, ReplicaFault};
 use lk_server::ear::Ear;
 use lk_server::memory_socket::MemorySocket;
 use lk_server::node_replica::NodeReplica;
@@ -10,13 +10,13 @@ use lk_server::outside::Outside;
 use lk_server::server::{Server, node_turn};
 use lk_server::sight::Sight;
 use lk_service::demo::{Sockets, play};
-use lk_step::{Input, Note};
+use lk_step::{Input, Note, Outbox};
 use lk_types::{Ballot, Command, Executed, NodeNo, Position, RealBallot};
 use log::sink::{Discard, Memory};
 use std::alloc::Global;
 use std::test::Fail;
 
-// How each call of a replica ends.
+// How a group of a replica ends.
 #[derive(Clone, Copy)]
 enum End {
     Notes,
@@ -35,15 +35,15 @@ struct Told {
     after: Sight,
 }
 
-// A note of position 3.
-fn ran(alloc: Global) -> Result<Vec<Note>, ReplicaFault> {
-    let mut notes = Vec::new(alloc);
+// A step that notes position 3.
+fn ran(alloc: Global) -> Option<Outbox> {
     let (Some(node), Some(position)) = (NodeNo::of(1), Position::of(3)) else {
-        return Err(ReplicaFault::Damaged);
+        return None;
     };
-    match notes.push(Note::Ran(node, position, Command::Noop)) {
-        Ok(()) => Ok(notes),
-        Err(_) => Err(ReplicaFault::NoMemory),
+    let mut outbox = Outbox::new(alloc);
+    match outbox.note(Note::Ran(node, position, Command::Noop)) {
+        Ok(()) => Some(outbox),
+        Err(_) => None,
     }
 }
 
@@ -52,16 +52,29 @@ impl NodeReplica for Told {
 
     ghost Says = { λ _ _ letters _. letters ≡ [] };
 
-    fn take<P: Post>(&mut self, _input: Input, _post: &mut P) -> Result<Vec<Note>, ReplicaFault> {
+    ghost Gathers = { λ _ _ _ _. ⊤ };
+
+    fn begin(&self, alloc: Global) -> Group {
+        Group::new(alloc)
+    }
+
+    fn gather(&mut self, _input: Input, group: &mut Group) -> Result<(), ReplicaFault> {
         self.failed = true;
         self.sight = self.after;
-        let Ok(notes) = ran(self.alloc) else {
+        let Some(outbox) = ran(self.alloc) else {
             return Err(ReplicaFault::NoMemory);
         };
+        match group.add(false, outbox) {
+            Ok(()) => Ok(()),
+            Err(_) => Err(ReplicaFault::NoMemory),
+        }
+    }
+
+    fn release<P: Post>(&mut self, _group: &Group, _post: &mut P) -> Result<bool, ReplicaFault> {
         self.failed = self.end == End::Broken;
         match self.end {
-            End::Notes => Ok(notes),
-            End::Lost => Err(ReplicaFault::Send(notes)),
+            End::Notes => Ok(true),
+            End::Lost => Ok(false),
             End::Broken => Err(ReplicaFault::Device),
         }
     }

@@ -1,11 +1,11 @@
 use Rattle.std.proofs.Common.{refl}
-use Rattle.lk_server.specs.Posts.{taken_as}
+use Rattle.lk_server.specs.Posts.{all_taken_as}
 use Rattle.lk_cluster.specs.Sealing.{IsSealed}
 use Rattle.lk_cluster.proofs.Continuing.{turn_continues}
 use Rattle.lk_cluster.proofs.Sealing.{seals_forge_nothing}
 use Rattle.lk_cluster.proofs.laws.a_sealed_turn_continues_a_cluster.Goals as goal
 
 pub returns : goal.returns
-returns g c genesis cluster all place n server after at key frame only turn alive =
-    turn_continues IsSealed g.D.LogDisk.is_metered g.S.Datagrams.is_telling (seals_forge_nothing c.is_told_by_a_node.ensures) genesis cluster all place n server after at (taken_as server.addresses.seals frame)
-    (record { frame = frame; opened = refl; has_key = key; only_nodes_seal = only }) turn alive
+returns g c genesis cluster all place n server after at key frames only turn alive =
+    turn_continues IsSealed g.D.LogDisk.is_metered g.S.Datagrams.is_telling (seals_forge_nothing c.is_told_by_a_node.ensures) genesis cluster all place n server after at (all_taken_as server.addresses.seals frames)
+    (record { frames = frames; opened = refl; has_key = key; only_nodes_seal = only }) turn alive

@@ -1,5 +1,6 @@
 -- The bytes went to the question's first place and then to those that were followed, and nothing else was sent; none of the receives told anything.
 use Rattle.std.specs.Prelude.{◌≤◌, None}
+use Rattle.lk_server.specs.Hearing.{next_of}
 use Rattle.lk_service.specs.Chains.{Repeats}
 use Rattle.lk_service.specs.Questions.{first_place, Receives}
 use Rattle.lk_service.proofs.Sending.{SendsTo}
@@ -11,5 +12,5 @@ invariant-receives g l =
     let failures = g.S.Datagrams.failures in
     (l.followed ≤ 20)
     × (g.S.Datagrams.is_telling → SendsTo (first_place l.question) l.followed l.bytes.items (sent l.fn.socket) (failures l.fn.socket) (sent l.socket) (failures l.socket))
-    × (g.S.Datagrams.is_telling → Repeats (Receives sent failures g.S.Datagrams.next l.question l.bytes.items None) l.counter
+    × (g.S.Datagrams.is_telling → Repeats (Receives sent failures (next_of g.S.Datagrams.coming) l.question l.bytes.items None) l.counter
     (record { socket = l.initial.socket; followed = 0 }) (record { socket = l.socket; followed = l.followed }))

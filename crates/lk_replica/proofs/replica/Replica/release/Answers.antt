@@ -84,6 +84,13 @@ invariant_of-self-2 g c = (λ lives. c.self.invariant.0 c.if-self.false, c.settl
 
 -- ---- what it has done
 
+pub returns-clause-exact : goal.returns-clause-exact
+returns-clause-exact g c honest =
+    let e = ap (λ (y : GroupValue). y.waits) c.group.view_is in
+    let settles = subst (λ (w : Bool). Settles w c.self.inside.store c.settle.new.store) e (c.in_ok-settle.ensures.settles honest) in
+    subst (λ (r : ReplicaValue). (r.failed ≡ false) × (c.self.inside.node ≡ r.node) × Settles c.args.group.now.waits r.store c.settle.new.store × (r.store.failed ≡ false → c.settle.new.store.failed ≡ false)) c.self.view_is
+    (c.if-self.false, refl, settles, λ lives. c.in_ok-settle.ensures.alive lives)
+
 pub returns-clause-calls : goal.returns-clause-calls
 returns-clause-calls g c metered honest =
     let e = ap (λ (y : GroupValue). y.waits) c.group.view_is in

@@ -1,0 +1,371 @@
+-- What a server has taken into a group, one datagram after another.
+use Rattle.std.proofs.Common.{◌≡◌, ◌≢◌, ℕ, zero, suc, ◌+◌, ◌≤◌, ◌%◌, ◌==◌, true, false, List, [], ◌∷◌, ◌++◌, length, map, take, drop, Option, Some, None, refl, sym, ap, ◌∙◌, subst, subst₂, append_assoc, append-nil, length-append, inl, inr, arith}
+use Rattle.std.proofs.lemmas.Bool.{cases_Bool}
+use Rattle.std.proofs.lemmas.List.{map-append, take_all}
+use Rattle.std.specs.declared.net.socket_addr.SocketAddr.{SocketAddr}
+use Rattle.lk_step.specs.Letters.{LetterValue}
+use Rattle.lk_seal.specs.Seals.{heard}
+use Rattle.lk_seal.specs.declared.seals.Seals.{Seals}
+use Rattle.lk_replica.specs.Groups.{GroupValue}
+use Rattle.lk_server.specs.Addresses.{AddressBook, IsSameOutside}
+use Rattle.lk_server.specs.Gatherings.{Sayings, Gatherings, GathersMore, SaysNoMore, TakesAll, EndsWithin, TakesOwn, EndsOwn, TakesHeard, EndsHeard, TakesSocket, EndsSocket}
+use Rattle.lk_server.specs.Hearing.{listed}
+use Rattle.lk_server.specs.Posts.{Hears, HearsAll, taken_as, all_taken_as}
+use Rattle.lk_server.specs.Servers.{ServerValue, one_more, inputs, all_inputs, counted, datagrams_in}
+
+-- ---- lists
+
+pub all_more : (received : ℕ) (xs ys : List (List ℕ)) → all_inputs received (xs ++ ys) ≡ all_inputs received xs ++ all_inputs (counted received xs) ys
+all_more received [] ys = refl
+all_more received (x ∷ xs) ys =
+    ap (λ (l : List (Option (List ℕ))). inputs (one_more received) x ++ l) (all_more (one_more received) xs ys)
+    ∙ sym (append_assoc (inputs (one_more received) x) (all_inputs (one_more received) xs) (all_inputs (counted (one_more received) xs) ys))
+
+pub counted_more : (received : ℕ) (xs ys : List (List ℕ)) → counted received (xs ++ ys) ≡ counted (counted received xs) ys
+counted_more received [] ys = refl
+counted_more received (x ∷ xs) ys = counted_more (one_more received) xs ys
+
+alone : (n : ℕ) (bytes : List ℕ) → (n % 64 == 0) ≡ false → inputs n bytes ++ [] ≡ Some bytes ∷ []
+alone n bytes e = rw e refl
+
+with_tick : (n : ℕ) (bytes : List ℕ) → (n % 64 == 0) ≡ true → inputs n bytes ++ [] ≡ Some bytes ∷ None ∷ []
+with_tick n bytes e = rw e refl
+
+-- the first of what is given at a datagram is its bytes
+bytes_first : (n : ℕ) (bytes : List ℕ) → (rest : List (Option (List ℕ))) × (inputs n bytes ++ [] ≡ (Some bytes ∷ []) ++ rest)
+bytes_first n bytes = elim (cases_Bool (n % 64 == 0)) [ inl e ↦ (None ∷ [], with_tick n bytes e) | inr e ↦ ([], alone n bytes e) ]
+
+pub taken_more : (s : Seals) (xs ys : List (SocketAddr × List ℕ)) → all_taken_as s (xs ++ ys) ≡ all_taken_as s xs ++ all_taken_as s ys
+taken_more s [] ys = refl
+taken_more s (x ∷ xs) ys = ap (λ (l : List (SocketAddr × List ℕ)). (x.0, heard s x.1) ∷ l) (taken_more s xs ys)
+
+pub long_as : (s : Seals) (xs : List (SocketAddr × List ℕ)) → length (all_taken_as s xs) ≡ length xs
+long_as s [] = refl
+long_as s (x ∷ xs) = ap suc (long_as s xs)
+
+abbrev bytes_of : LetterValue → List ℕ
+bytes_of l = l.bytes
+
+-- one more letter
+pub own_more : (taken : List LetterValue) (l : LetterValue) → datagrams_in taken [] ++ l.bytes ∷ [] ≡ datagrams_in (taken ++ l ∷ []) []
+own_more taken l =
+    ap (λ (ds : List (List ℕ)). ds ++ l.bytes ∷ []) (append-nil (map bytes_of taken)) ∙ sym (map-append bytes_of taken (l ∷ [])) ∙ sym (append-nil (map bytes_of (taken ++ l ∷ [])))
+
+-- more frames
+pub heard_more : (s : Seals) (xs ys : List (SocketAddr × List ℕ)) → datagrams_in [] (all_taken_as s xs) ++ datagrams_in [] (all_taken_as s ys) ≡ datagrams_in [] (all_taken_as s (xs ++ ys))
+heard_more s xs ys =
+    sym (map-append (λ (c : SocketAddr × List ℕ). c.1) (all_taken_as s xs) (all_taken_as s ys))
+    ∙ ap (λ (cs : List (SocketAddr × List ℕ)). map (λ (c : SocketAddr × List ℕ). c.1) cs) (sym (taken_more s xs ys))
+
+take_front : {X : Type 0} (xs ys : List X) → take (length xs) (xs ++ ys) ≡ xs
+take_front [] ys = none ys
+  where
+    none : {X : Type 0} (ys : List X) → take 0 ys ≡ []
+    none [] = refl
+    none (y ∷ ys) = refl
+take_front (x ∷ xs) ys = ap (λ l. x ∷ l) (take_front xs ys)
+
+drop_front : {X : Type 0} (xs ys : List X) → drop (length xs) (xs ++ ys) ≡ ys
+drop_front [] ys = none ys
+  where
+    none : {X : Type 0} (ys : List X) → drop 0 ys ≡ ys
+    none [] = refl
+    none (y ∷ ys) = refl
+drop_front (x ∷ xs) ys = drop_front xs ys
+
+drop_all : {X : Type 0} (n : ℕ) (xs : List X) → length xs ≤ n → drop n xs ≡ []
+drop_all zero [] le = refl
+drop_all zero (x ∷ xs) le = absurd (omega (arith, le))
+drop_all (suc n) [] le = refl
+drop_all (suc n) (x ∷ xs) le = drop_all n xs (omega (arith, le))
+
+-- so many letters were taken
+pub own_full : (own taken left : List LetterValue) (n : ℕ) → own ≡ taken ++ left → length taken ≡ n → (take n own ≡ taken) × (drop n own ≡ left)
+own_full own taken left n parts long = (
+  subst₂ (λ (k : ℕ) (o : List LetterValue). take k o ≡ taken) long (sym parts) (take_front taken left),
+  subst₂ (λ (k : ℕ) (o : List LetterValue). drop k o ≡ left) long (sym parts) (drop_front taken left),
+)
+
+-- all of them were
+pub own_all : (own taken left : List LetterValue) (n : ℕ) → own ≡ taken ++ left → left ≡ [] → length taken ≤ n → (take n own ≡ taken) × (drop n own ≡ left)
+own_all own taken left n parts none short =
+    let is : own ≡ taken = parts ∙ ap (λ (l : List LetterValue). taken ++ l) none ∙ append-nil taken in (
+      subst (λ (o : List LetterValue). take n o ≡ taken) (sym is) (take_all n taken short),
+      subst (λ (o : List LetterValue). drop n o ≡ left) (sym is) (drop_all n taken short ∙ sym none),
+    )
+
+pub some_own : (own taken left : List LetterValue) (l : LetterValue) → own ≡ (taken ++ l ∷ []) ++ left → own ≢ []
+some_own own taken left l parts none = omega (arith, ap length (sym none ∙ parts), length-append (taken ++ l ∷ []) left, length-append taken (l ∷ []))
+
+-- what was heard, one datagram after another
+pub hears_more : (cluster : ℕ) (xs ys : List (SocketAddr × List ℕ)) (old mid new : AddressBook) → HearsAll cluster xs old mid → HearsAll cluster ys mid new → HearsAll cluster (xs ++ ys) old new
+hears_more cluster [] ys old mid new a b = subst (λ (k : AddressBook). HearsAll cluster ys k new) a b
+hears_more cluster (x ∷ xs) ys old mid new a b = (a.0, a.1, hears_more cluster xs ys a.0 mid new a.2 b)
+
+pub same_outside : (old mid new : AddressBook) → IsSameOutside old mid → IsSameOutside mid new → IsSameOutside old new
+same_outside old mid new a b = (b.0 ∙ a.0, b.1 ∙ a.1)
+
+-- what was taken of a frame
+abbrev pub taken_of : Seals → SocketAddr × List ℕ → SocketAddr × List ℕ
+taken_of s d = (d.0, heard s d.1)
+
+abbrev unsome : {X : Type 0} → Option X → X → X
+unsome None x = x
+unsome (Some y) x = y
+
+-- the frame of which that was taken
+pub frame_of_taken : (s : Seals) (e : Option (SocketAddr × List ℕ)) (x : SocketAddr × List ℕ) → taken_as s e ≡ Some x → (frame : SocketAddr × List ℕ) × (e ≡ Some frame) × (taken_of s frame ≡ x)
+frame_of_taken s None x is = absurd (cc is)
+frame_of_taken s (Some d) x is = (d, refl, ap (λ (o : Option (SocketAddr × List ℕ)). unsome o x) is)
+
+-- no frame came
+pub none_came : {R : Type 0} (tells : Type 0) (e : Option (SocketAddr × List ℕ)) (old mid new : ServerValue R) → e ≡ None → (tells → old.coming ≡ all_taken_as old.addresses.seals (listed e) ++ mid.coming)
+    → (tells → e ≡ None → old.coming ≡ []) → mid ≡ record old { coming = mid.coming } → new ≡ mid → (tells → (old.coming ≡ []) × (new.coming ≡ [])) × (record new { coming = old.coming } ≡ old)
+none_came {R} tells e old mid new is comes none others same = (
+  λ t. (none t is, ap (λ (s : ServerValue R). s.coming) same ∙ sym (comes t ∙ ap (λ (o : Option (SocketAddr × List ℕ)). all_taken_as old.addresses.seals (listed o) ++ mid.coming) is) ∙ none t is),
+  ap (λ (s : ServerValue R). record s { coming = old.coming }) (same ∙ others),
+)
+
+-- ---- what goes on
+
+module _ {R : Type 0} (G : Gatherings R) where
+  -- given to a replica that is the same
+  pub gathers_from : (more : List (Option (List ℕ))) (group now : GroupValue) (old begun new : R) → begun ≡ old → GathersMore G more group now begun new → GathersMore G more group now old new
+  gathers_from more group now old begun new same gathers = subst (λ (r : R). GathersMore G more group now r new) same gathers
+
+  -- nothing is taken
+  pub takes_nothing : (group now : GroupValue) (old new : ServerValue R) → now ≡ group → new ≡ old → TakesAll G [] group now old new
+  takes_nothing group now old new is same = record {
+    gathers = λ first given was.
+        subst (λ (l : List (Option (List ℕ))). G first l now new.replica) (sym (append-nil given))
+        (subst₂ (λ (x : GroupValue) (s : ServerValue R). G first given x s.replica) (sym is) (sym same) was);
+    counted = ap (λ (s : ServerValue R). s.received) same;
+  }
+
+  -- a datagram
+  pub takes_one : (bytes : List ℕ) (group now : GroupValue) (old new : ServerValue R) → GathersMore G (Some bytes ∷ []) group now old.replica new.replica
+      → new.received ≡ one_more old.received → (new.received % 64 == 0) ≡ false → TakesAll G (bytes ∷ []) group now old new
+  takes_one bytes group now old new gathers count is = record {
+    gathers = subst (λ (l : List (Option (List ℕ))). GathersMore G l group now old.replica new.replica) (sym (alone (one_more old.received) bytes (subst (λ (n : ℕ). (n % 64 == 0) ≡ false) count is))) gathers;
+    counted = count;
+  }
+
+  -- and a tick after it
+  pub takes_tick : (bytes : List ℕ) (group one now : GroupValue) (old new : ServerValue R) (mid : R) → GathersMore G (Some bytes ∷ []) group one old.replica mid → GathersMore G (None ∷ []) one now mid new.replica
+      → new.received ≡ one_more old.received → (new.received % 64 == 0) ≡ true → TakesAll G (bytes ∷ []) group now old new
+  takes_tick bytes group one now old new mid gathers ticks count is = record {
+    gathers = subst (λ (l : List (Option (List ℕ))). GathersMore G l group now old.replica new.replica) (sym (with_tick (one_more old.received) bytes (subst (λ (n : ℕ). (n % 64 == 0) ≡ true) count is)))
+        (λ first given was. subst (λ (l : List (Option (List ℕ))). G first l now new.replica) (append_assoc given (Some bytes ∷ []) (None ∷ [])) (ticks first (given ++ Some bytes ∷ []) (gathers first given was)));
+    counted = count;
+  }
+
+  -- datagrams, and more
+  pub takes_more : (xs ys : List (List ℕ)) (group one now : GroupValue) (old mid new : ServerValue R) → TakesAll G xs group one old mid → TakesAll G ys one now mid new → TakesAll G (xs ++ ys) group now old new
+  takes_more xs ys group one now old mid new a b = record {
+    gathers = λ first given was.
+        subst (λ (l : List (Option (List ℕ))). G first l now new.replica)
+        (append_assoc given (all_inputs old.received xs) (all_inputs mid.received ys)
+        ∙ ap (λ (l : List (Option (List ℕ))). given ++ l) (ap (λ (n : ℕ). all_inputs old.received xs ++ all_inputs n ys) a.counted ∙ sym (all_more old.received xs ys)))
+        (b.gathers first (given ++ all_inputs old.received xs) (a.gathers first given was));
+    counted = b.counted ∙ ap (λ (n : ℕ). counted n ys) a.counted ∙ sym (counted_more old.received xs ys);
+  }
+
+  -- of a server that was the same
+  pub takes_from : (xs : List (List ℕ)) (group now : GroupValue) (old begun new : ServerValue R) → begun.replica ≡ old.replica → begun.received ≡ old.received → TakesAll G xs group now begun new → TakesAll G xs group now old new
+  takes_from xs group now old begun new replica received t = record {
+    gathers = subst₂ (λ (r : R) (n : ℕ). GathersMore G (all_inputs n xs) group now r new.replica) replica received t.gathers;
+    counted = t.counted ∙ ap (λ (n : ℕ). counted n xs) received;
+  }
+
+  pub socket_more : (tells : Type 0) (xs ys : List (SocketAddr × List ℕ)) (group one now : GroupValue) (old mid new : ServerValue R) → mid.cluster ≡ old.cluster
+      → TakesSocket G tells xs group one old mid → TakesSocket G tells ys one now mid new → TakesSocket G tells (xs ++ ys) group now old new
+  socket_more tells xs ys group one now old mid new cluster a b =
+      let seals = a.takes.outside.1 in
+      record {
+        takes = record {
+          takes = subst (λ (ds : List (List ℕ)). TakesAll G ds group now old new) (heard_more old.addresses.seals xs ys)
+              (takes_more (datagrams_in [] (all_taken_as old.addresses.seals xs)) (datagrams_in [] (all_taken_as old.addresses.seals ys)) group one now old mid new a.takes.takes
+              (subst (λ (s : Seals). TakesAll G (datagrams_in [] (all_taken_as s ys)) one now mid new) seals b.takes.takes));
+          heard = subst (λ (cs : List (SocketAddr × List ℕ)). HearsAll old.cluster cs old.addresses new.addresses) (sym (taken_more old.addresses.seals xs ys))
+              (hears_more old.cluster (all_taken_as old.addresses.seals xs) (all_taken_as old.addresses.seals ys) old.addresses mid.addresses new.addresses a.takes.heard
+              (subst₂ (λ (n : ℕ) (s : Seals). HearsAll n (all_taken_as s ys) mid.addresses new.addresses) cluster seals b.takes.heard));
+          outside = same_outside old.addresses mid.addresses new.addresses a.takes.outside b.takes.outside;
+        };
+        comes = λ t.
+            a.comes t
+            ∙ ap (λ (l : List (SocketAddr × List ℕ)). all_taken_as old.addresses.seals xs ++ l) (b.comes t ∙ ap (λ (s : Seals). all_taken_as s ys ++ new.coming) seals)
+            ∙ sym (append_assoc (all_taken_as old.addresses.seals xs) (all_taken_as old.addresses.seals ys) new.coming)
+            ∙ ap (λ (l : List (SocketAddr × List ℕ)). l ++ new.coming) (sym (taken_more old.addresses.seals xs ys));
+      }
+
+  -- a frame of which this was taken
+  pub heard_one : (frame x : SocketAddr × List ℕ) (group now : GroupValue) (old mid new : ServerValue R) → taken_of old.addresses.seals frame ≡ x
+      → Hears old.cluster x.1 x.0 old.addresses mid.addresses → IsSameOutside old.addresses mid.addresses → new.addresses ≡ mid.addresses → mid.replica ≡ old.replica → mid.received ≡ old.received
+      → TakesAll G (x.1 ∷ []) group now mid new → TakesHeard G (frame ∷ []) group now old new
+  heard_one frame x group now old mid new is hears outside book replica received takes = record {
+    takes = subst (λ (c : SocketAddr × List ℕ). TakesAll G (c.1 ∷ []) group now old new) (sym is) (takes_from (x.1 ∷ []) group now old mid new replica received takes);
+    heard = subst (λ (c : SocketAddr × List ℕ). HearsAll old.cluster (c ∷ []) old.addresses new.addresses) (sym is) (mid.addresses, hears, book);
+    outside = subst (λ (b : AddressBook). IsSameOutside old.addresses b) (sym book) outside;
+  }
+
+  -- it came from the socket
+  pub socket_one : (tells : Type 0) (e : Option (SocketAddr × List ℕ)) (frame : SocketAddr × List ℕ) (group now : GroupValue) (old mid new : ServerValue R) → e ≡ Some frame
+      → (tells → old.coming ≡ all_taken_as old.addresses.seals (listed e) ++ mid.coming) → mid ≡ record old { coming = mid.coming } → new.coming ≡ mid.coming
+      → TakesHeard G (frame ∷ []) group now mid new → TakesSocket G tells (frame ∷ []) group now old new
+  socket_one tells e frame group now old mid new is comes others coming heard =
+      let h = subst (λ (s : ServerValue R). TakesHeard G (frame ∷ []) group now s new) others heard in
+      record {
+        takes = record { takes = record { gathers = h.takes.gathers; counted = h.takes.counted }; heard = h.heard; outside = h.outside };
+        comes = λ t.
+            comes t ∙ ap (λ (o : Option (SocketAddr × List ℕ)). all_taken_as old.addresses.seals (listed o) ++ mid.coming) is
+            ∙ ap (λ (l : List (SocketAddr × List ℕ)). all_taken_as old.addresses.seals (frame ∷ []) ++ l) (sym coming);
+      }
+
+  -- no frame
+  pub socket_nothing : (tells : Type 0) (group now : GroupValue) (old new : ServerValue R) → now ≡ group → new ≡ old → TakesSocket G tells [] group now old new
+  socket_nothing tells group now old new is same = record {
+    takes = record {
+      takes = takes_nothing group now old new is same;
+      heard = ap (λ (s : ServerValue R). s.addresses) same;
+      outside = (ap (λ (s : ServerValue R). s.addresses.hosts) same, ap (λ (s : ServerValue R). s.addresses.seals) same);
+    };
+    comes = λ t. sym (ap (λ (s : ServerValue R). s.coming) same);
+  }
+
+  -- and no further one
+  pub socket_still : (tells : Type 0) (xs : List (SocketAddr × List ℕ)) (group one now : GroupValue) (old mid new : ServerValue R) → TakesSocket G tells xs group one old mid → now ≡ one
+      → record new { coming = mid.coming } ≡ mid → (tells → new.coming ≡ mid.coming) → TakesSocket G tells xs group now old new
+  socket_still tells xs group one now old mid new a is same none =
+      let book : new.addresses ≡ mid.addresses = ap (λ (s : ServerValue R). s.addresses) same in
+      record {
+        takes = record {
+          takes = record {
+            gathers = subst₂ (λ (x : GroupValue) (r : R). GathersMore G (all_inputs old.received (datagrams_in [] (all_taken_as old.addresses.seals xs))) group x old.replica r) (sym is) (sym (ap (λ (s : ServerValue R). s.replica) same)) a.takes.takes.gathers;
+            counted = ap (λ (s : ServerValue R). s.received) same ∙ a.takes.takes.counted;
+          };
+          heard = subst (λ (b : AddressBook). HearsAll old.cluster (all_taken_as old.addresses.seals xs) old.addresses b) (sym book) a.takes.heard;
+          outside = subst (λ (b : AddressBook). IsSameOutside old.addresses b) (sym book) a.takes.outside;
+        };
+        comes = λ t. a.comes t ∙ ap (λ (l : List (SocketAddr × List ℕ)). all_taken_as old.addresses.seals xs ++ l) (sym (none t));
+      }
+
+  -- all letters that waited were taken
+  pub own_stops : (taken : List LetterValue) (group one now : GroupValue) (old mid new : ServerValue R) → old.own ≡ taken ++ mid.own → length taken ≤ 63 → TakesAll G (datagrams_in taken []) group one old mid
+      → mid.own ≡ [] → new ≡ mid → now ≡ one → TakesOwn G 63 group now old new
+  own_stops taken group one now old mid new parts few t none same is =
+      let all = own_all old.own taken mid.own 63 parts none few in
+      record {
+        takes = subst (λ (ls : List LetterValue). TakesAll G (datagrams_in ls []) group now old new) (sym all.0)
+            (subst₂ (λ (x : GroupValue) (s : ServerValue R). TakesAll G (datagrams_in taken []) group x old s) (sym is) (sym same) t);
+        left = ap (λ (s : ServerValue R). s.own) same ∙ sym all.1;
+      }
+
+  -- so many were
+  pub own_fills : (taken : List LetterValue) (group now : GroupValue) (old new : ServerValue R) → old.own ≡ taken ++ new.own → length taken ≡ 63 → TakesAll G (datagrams_in taken []) group now old new → TakesOwn G 63 group now old new
+  own_fills taken group now old new parts many t =
+      let all = own_full old.own taken new.own 63 parts many in
+      record { takes = subst (λ (ls : List LetterValue). TakesAll G (datagrams_in ls []) group now old new) (sym all.0) t; left = sym all.1 }
+
+  -- one more
+  pub own_goes : (taken : List LetterValue) (l : LetterValue) (group one now : GroupValue) (old mid new : ServerValue R) → TakesAll G (datagrams_in taken []) group one old mid → TakesAll G (l.bytes ∷ []) one now mid new
+      → TakesAll G (datagrams_in (taken ++ l ∷ []) []) group now old new
+  own_goes taken l group one now old mid new a b =
+      subst (λ (ds : List (List ℕ)). TakesAll G ds group now old new) (own_more taken l) (takes_more (datagrams_in taken []) (l.bytes ∷ []) group one now old mid new a b)
+
+-- ---- what ends it
+
+module _ {R : Type 0} (S : Sayings R) (G : Gatherings R) where
+  -- said by a replica that was the same
+  pub silent_from : (more : List (Option (List ℕ))) (group : GroupValue) (old begun new : R) → begun ≡ old → SaysNoMore S G more group begun new → SaysNoMore S G more group old new
+  silent_from more group old begun new same silent = subst (λ (r : R). SaysNoMore S G more group r new) same silent
+
+  -- a datagram has ended it, whether a tick was to follow or not
+  pub ends_one : (bytes : List ℕ) (group : GroupValue) (old new : ServerValue R) → SaysNoMore S G (Some bytes ∷ []) group old.replica new.replica → EndsWithin S G (bytes ∷ []) group old new
+  ends_one bytes group old new silent = record { given = Some bytes ∷ []; front = bytes_first (one_more old.received) bytes; silent = silent }
+
+  -- the tick after it
+  pub ends_tick : (bytes : List ℕ) (group one : GroupValue) (old new : ServerValue R) (mid : R) (received : ℕ) → GathersMore G (Some bytes ∷ []) group one old.replica mid → SaysNoMore S G (None ∷ []) one mid new.replica
+      → received ≡ one_more old.received → (received % 64 == 0) ≡ true → EndsWithin S G (bytes ∷ []) group old new
+  ends_tick bytes group one old new mid received gathers silent count is = record {
+    given = Some bytes ∷ None ∷ [];
+    front = ([], with_tick (one_more old.received) bytes (subst (λ (n : ℕ). (n % 64 == 0) ≡ true) count is));
+    silent = λ first given was. subst (λ (l : List (Option (List ℕ))). S first l [] new.replica) (append_assoc given (Some bytes ∷ []) (None ∷ [])) (silent first (given ++ Some bytes ∷ []) (gathers first given was));
+  }
+
+  pub ends_more : (xs ys : List (List ℕ)) (group one : GroupValue) (old mid new : ServerValue R) → TakesAll G xs group one old mid → EndsWithin S G ys one mid new → EndsWithin S G (xs ++ ys) group old new
+  ends_more xs ys group one old mid new a e = record {
+    given = all_inputs old.received xs ++ e.given;
+    front = (
+      e.front.0,
+      all_more old.received xs ys ∙ ap (λ (n : ℕ). all_inputs old.received xs ++ all_inputs n ys) (sym a.counted) ∙ ap (λ (l : List (Option (List ℕ))). all_inputs old.received xs ++ l) e.front.1
+          ∙ sym (append_assoc (all_inputs old.received xs) e.given e.front.0),
+    );
+    silent = λ first given was.
+        subst (λ (l : List (Option (List ℕ))). S first l [] new.replica) (append_assoc given (all_inputs old.received xs) e.given)
+        (e.silent first (given ++ all_inputs old.received xs) (a.gathers first given was));
+  }
+
+  pub ends_from : (xs : List (List ℕ)) (group : GroupValue) (old begun new : ServerValue R) → begun.replica ≡ old.replica → begun.received ≡ old.received → EndsWithin S G xs group begun new → EndsWithin S G xs group old new
+  ends_from xs group old begun new replica received e = record {
+    given = e.given;
+    front = (e.front.0, ap (λ (n : ℕ). all_inputs n xs) (sym received) ∙ e.front.1);
+    silent = subst (λ (r : R). SaysNoMore S G e.given group r new.replica) replica e.silent;
+  }
+
+  pub ends_heard : (frame x : SocketAddr × List ℕ) (group : GroupValue) (old mid new : ServerValue R) → taken_of old.addresses.seals frame ≡ x
+      → Hears old.cluster x.1 x.0 old.addresses mid.addresses → IsSameOutside old.addresses mid.addresses → new.addresses ≡ mid.addresses → mid.replica ≡ old.replica → mid.received ≡ old.received
+      → EndsWithin S G (x.1 ∷ []) group mid new → EndsHeard S G (frame ∷ []) group old new
+  ends_heard frame x group old mid new is hears outside book replica received ends = record {
+    ends = subst (λ (c : SocketAddr × List ℕ). EndsWithin S G (c.1 ∷ []) group old new) (sym is) (ends_from (x.1 ∷ []) group old mid new replica received ends);
+    heard = subst (λ (c : SocketAddr × List ℕ). HearsAll old.cluster (c ∷ []) old.addresses new.addresses) (sym is) (mid.addresses, hears, book);
+    outside = subst (λ (b : AddressBook). IsSameOutside old.addresses b) (sym book) outside;
+  }
+
+  pub ends_socket : (tells : Type 0) (e : Option (SocketAddr × List ℕ)) (frame : SocketAddr × List ℕ) (group : GroupValue) (old mid new : ServerValue R) → e ≡ Some frame
+      → (tells → old.coming ≡ all_taken_as old.addresses.seals (listed e) ++ mid.coming) → mid ≡ record old { coming = mid.coming } → new.coming ≡ mid.coming
+      → EndsHeard S G (frame ∷ []) group mid new → EndsSocket S G tells (frame ∷ []) group old new
+  ends_socket tells e frame group old mid new is comes others coming ends =
+      let h = subst (λ (s : ServerValue R). EndsHeard S G (frame ∷ []) group s new) others ends in
+      record {
+        ends = record { ends = record { given = h.ends.given; front = h.ends.front; silent = h.ends.silent }; heard = h.heard; outside = h.outside };
+        comes = λ t.
+            comes t ∙ ap (λ (o : Option (SocketAddr × List ℕ)). all_taken_as old.addresses.seals (listed o) ++ mid.coming) is
+            ∙ ap (λ (l : List (SocketAddr × List ℕ)). all_taken_as old.addresses.seals (frame ∷ []) ++ l) (sym coming);
+      }
+
+  pub ends_further : (tells : Type 0) (xs ys : List (SocketAddr × List ℕ)) (group one : GroupValue) (old mid new : ServerValue R) → mid.cluster ≡ old.cluster
+      → TakesSocket G tells xs group one old mid → EndsSocket S G tells ys one mid new → EndsSocket S G tells (xs ++ ys) group old new
+  ends_further tells xs ys group one old mid new cluster a b =
+      let seals = a.takes.outside.1 in
+      record {
+        ends = record {
+          ends = subst (λ (ds : List (List ℕ)). EndsWithin S G ds group old new) (heard_more old.addresses.seals xs ys)
+              (ends_more (datagrams_in [] (all_taken_as old.addresses.seals xs)) (datagrams_in [] (all_taken_as old.addresses.seals ys)) group one old mid new a.takes.takes
+              (subst (λ (s : Seals). EndsWithin S G (datagrams_in [] (all_taken_as s ys)) one mid new) seals b.ends.ends));
+          heard = subst (λ (cs : List (SocketAddr × List ℕ)). HearsAll old.cluster cs old.addresses new.addresses) (sym (taken_more old.addresses.seals xs ys))
+              (hears_more old.cluster (all_taken_as old.addresses.seals xs) (all_taken_as old.addresses.seals ys) old.addresses mid.addresses new.addresses a.takes.heard
+              (subst₂ (λ (n : ℕ) (s : Seals). HearsAll n (all_taken_as s ys) mid.addresses new.addresses) cluster seals b.ends.heard));
+          outside = same_outside old.addresses mid.addresses new.addresses a.takes.outside b.ends.outside;
+        };
+        comes = λ t.
+            a.comes t
+            ∙ ap (λ (l : List (SocketAddr × List ℕ)). all_taken_as old.addresses.seals xs ++ l) (b.comes t ∙ ap (λ (s : Seals). all_taken_as s ys ++ new.coming) seals)
+            ∙ sym (append_assoc (all_taken_as old.addresses.seals xs) (all_taken_as old.addresses.seals ys) new.coming)
+            ∙ ap (λ (l : List (SocketAddr × List ℕ)). l ++ new.coming) (sym (taken_more old.addresses.seals xs ys));
+      }
+
+  -- a letter has ended it
+  pub own_breaks : (taken : List LetterValue) (l : LetterValue) (group one : GroupValue) (old mid new : ServerValue R) → old.own ≡ taken ++ mid.own → length taken + 1 ≤ 63 → mid.own ≡ l ∷ new.own
+      → TakesAll G (datagrams_in taken []) group one old mid → EndsWithin S G (l.bytes ∷ []) one mid new → EndsOwn S G 63 group old new
+  own_breaks taken l group one old mid new parts few first a e =
+      let all_parts : old.own ≡ (taken ++ l ∷ []) ++ new.own = parts ∙ ap (λ (o : List LetterValue). taken ++ o) first ∙ sym (append_assoc taken (l ∷ []) new.own) in
+      let all = own_full old.own (taken ++ l ∷ []) new.own (length (taken ++ l ∷ [])) all_parts refl in
+      record {
+        count = length (taken ++ l ∷ []);
+        at_most = omega (arith, few, length-append taken (l ∷ []));
+        some = λ is. absurd (omega (arith, is, length-append taken (l ∷ [])));
+        waited = some_own old.own taken new.own l all_parts;
+        ends = subst (λ (ls : List LetterValue). EndsWithin S G (datagrams_in ls []) group old new) (sym all.0)
+            (subst (λ (ds : List (List ℕ)). EndsWithin S G ds group old new) (own_more taken l) (ends_more (datagrams_in taken []) (l.bytes ∷ []) group one old mid new a e));
+        left = sym all.1;
+      }

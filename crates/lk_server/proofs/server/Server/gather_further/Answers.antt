@@ -1,0 +1,41 @@
+use Rattle.std.proofs.Common.{◌≡◌, [], ◌∷◌, ◌++◌, ap, ◌∙◌, length-append, arith}
+use Rattle.lk_server.specs.Servers.{ServerValue}
+use Rattle.lk_server.proofs.Carrying.{on_err}
+use Rattle.lk_server.proofs.Gatherings.{socket_more, socket_still, ends_further}
+use Rattle.lk_server.proofs.server.Server.gather_further.Goals as goal
+
+pub datagrams-preserved : goal.datagrams-preserved
+datagrams-preserved g c =
+    let i = c.datagrams.invariant in
+    let t = c.in_ok-gather_waiting.ensures.takes (cc c.if-not-branch.false) in
+    let new = c.gather_waiting.new.self in (
+      i.0 ++ t.0 ∷ [],
+      omega (arith, i.1, length-append i.0 (t.0 ∷ [])),
+      socket_more g.R.NodeReplica.Gathers g.S.Datagrams.is_telling i.0 (t.0 ∷ []) c.args.group.now c.datagrams.group c.gather_waiting.new.group c.args.self.now c.datagrams.self new (ap (λ (s : ServerValue _). s.cluster) i.3) i.2 t.1,
+      c.gather_waiting.ensures.others
+          ∙ ap (λ (s : ServerValue _). record s { replica = new.replica; failed = new.failed; received = new.received; addresses = new.addresses; coming = new.coming }) i.3,
+    )
+
+pub returns-then-not-branch-clause-takes : goal.returns-then-not-branch-clause-takes
+returns-then-not-branch-clause-takes g c =
+    let i = c.datagrams.invariant in
+    let n = c.in_ok-gather_waiting.ensures.none (cc c.if-not-branch.true) in (
+      i.0,
+      omega (arith, i.1, c.datagrams-test.true),
+      socket_still g.R.NodeReplica.Gathers g.S.Datagrams.is_telling i.0 c.args.group.now c.datagrams.group c.gather_waiting.new.group c.args.self.now c.datagrams.self c.gather_waiting.new.self i.2 n.2 n.1 n.0,
+    )
+
+pub returns-clause-takes : goal.returns-clause-takes
+returns-clause-takes g c =
+    let i = c.datagrams.invariant in
+    let all : c.datagrams.counter ≡ 63 = omega arith in (i.0, omega (arith, i.1, all), i.2)
+
+pub returns-in_err-gather_waiting-clause-ends : goal.returns-in_err-gather_waiting-clause-ends
+returns-in_err-gather_waiting-clause-ends g c =
+    let i = c.datagrams.invariant in
+    let e = c.in_err-gather_waiting.ensures.ends in
+    on_err c.from_residual.result (
+      i.0 ++ e.0 ∷ [],
+      omega (arith, i.1, c.datagrams-test.true, length-append i.0 (e.0 ∷ [])),
+      ends_further g.R.NodeReplica.Says g.R.NodeReplica.Gathers g.S.Datagrams.is_telling i.0 (e.0 ∷ []) c.args.group.now c.datagrams.group c.args.self.now c.datagrams.self c.gather_waiting.new.self (ap (λ (s : ServerValue _). s.cluster) i.3) i.2 e.1,
+    )

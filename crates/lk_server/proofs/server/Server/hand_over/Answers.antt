@@ -1,0 +1,33 @@
+use Rattle.std.proofs.Common.{rules, ◌≡◌, ◌∙◌, refl}
+use Rattle.lk_server.specs.Posts.{tray_of}
+use Rattle.lk_server.specs.Servers.{tray_at}
+use Rattle.lk_server.proofs.Carrying.{same_post, hands_on_all, says_nothing}
+use Rattle.lk_server.proofs.server.Server.hand_over.Goals as goal
+
+pub returns-clause-addresses : goal.returns-clause-addresses
+returns-clause-addresses g c =
+    let e = c.release-released.ensures in
+    let begun : c.begin.new.self.addresses ≡ c.args.self.now.addresses = search rules in
+    (same_post g.S.Datagrams.is_telling c.release-released.result _ c.begin.new.self c.release-released.new.post e.hands e.unsent).1 ∙ begun
+
+pub returns-clause-node : goal.returns-clause-node
+returns-clause-node g c =
+    let e = c.release-released.ensures in
+    let begun : c.begin.new.self.node ≡ c.args.self.now.node = search rules in
+    (same_post g.S.Datagrams.is_telling c.release-released.result _ c.begin.new.self c.release-released.new.post e.hands e.unsent).0 ∙ begun
+
+pub returns-clause-gives : goal.returns-clause-gives
+returns-clause-gives g c =
+    let e = c.release-released.ensures in
+    let r = g.R.NodeReplica in
+    let tells = g.S.Datagrams.is_telling in
+    let same = same_post tells c.release-released.result _ c.begin.new.self c.release-released.new.post e.hands e.unsent in
+    let mine : c.self.inside.replica ≡ c.args.self.now.replica = search rules in
+    let begun : tray_of c.begin.new.self ≡ tray_at c.args.self.now.own c.args.self.now = search rules in
+    hands_on_all r.Says r.Gathers tells c.args.self.now _ c.begin.new.self c.release-released.new.post c.args.group.now c.self.inside.replica mine c.release-released.result e.hands same.0 same.1 begun refl
+
+pub returns-clause-silent : goal.returns-clause-silent
+returns-clause-silent g c =
+    let e = c.release-released.ensures in
+    let r = g.R.NodeReplica in
+    rw (← c.self.view_is) (says_nothing r.Says r.Gathers g.S.Datagrams.is_telling _ _ c.begin.new.self c.release-released.new.post c.args.group.now c.release-released.result e.silent e.unsent (search rules) refl)

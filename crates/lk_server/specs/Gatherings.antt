@@ -1,0 +1,115 @@
+-- A server in the middle of a turn: what its replica has taken into the group, of which nothing is synced or sent yet.
+use Rattle.std.specs.Prelude.{◌≡◌, ◌≢◌, ◌⊎◌, ◌≤◌, ℕ, List, [], ◌++◌, length, take, drop, Option}
+use Rattle.std.specs.declared.net.socket_addr.SocketAddr.{SocketAddr}
+use Rattle.lk_step.specs.Letters.{LetterValue}
+use Rattle.lk_replica.specs.Groups.{GroupValue}
+use Rattle.lk_server.specs.Addresses.{IsSameOutside}
+use Rattle.lk_server.specs.Posts.{HearsAll, all_taken_as}
+use Rattle.lk_server.specs.Servers.{ServerValue, all_inputs, counted, datagrams_in, IsFront, ComesOf, HandsOn}
+
+-- how a replica says: what becomes of it by a group, and the letters of that
+abbrev pub Sayings : Type 0 → Type 1
+Sayings R = R → List (Option (List ℕ)) → List LetterValue → R → Type 0
+
+-- how it gathers: as it was when the group began, what it was given since, what the group has come to, and as it is
+abbrev pub Gatherings : Type 0 → Type 1
+Gatherings R = R → List (Option (List ℕ)) → GroupValue → R → Type 0
+
+-- no letter of the node to itself waited, nothing was to come to the socket, if that tells, and nothing is changed
+abbrev pub FindsNone : {R : Type 0} → Type 0 → ServerValue R → ServerValue R → Type 0
+FindsNone tells old new = (old.own ≡ []) × (tells → old.coming ≡ []) × (record new { coming = old.coming } ≡ old)
+
+module _ {R : Type 0} (Gathers : Gatherings R) where
+  -- whatever the replica was given in this group, it was then given this too, and nothing is synced or sent for that
+  abbrev pub GathersMore : List (Option (List ℕ)) → GroupValue → GroupValue → R → R → Type 0
+  GathersMore more group now old new = (start : R) (given : List (Option (List ℕ))) → Gathers start given group old → Gathers start (given ++ more) now new
+
+  -- these datagrams were taken into the group one after another, each counted, and a tick after every 64th
+  pub record TakesAll (datagrams : List (List ℕ)) (group now : GroupValue) (old new : ServerValue R) : Type 0 where
+    pub gathers : GathersMore (all_inputs old.received datagrams) group now old.replica new.replica
+    pub counted : new.received ≡ counted old.received datagrams
+
+  -- of the letters of the node to itself the first, so many at most
+  pub record TakesOwn (most : ℕ) (group now : GroupValue) (old new : ServerValue R) : Type 0 where
+    pub takes : TakesAll (datagrams_in (take most old.own) []) group now old new
+    pub left : new.own ≡ drop most old.own
+
+  -- what came in these frames, and whoever sent it was heard
+  pub record TakesHeard (frames : List (SocketAddr × List ℕ)) (group now : GroupValue) (old new : ServerValue R) : Type 0 where
+    pub takes : TakesAll (datagrams_in [] (all_taken_as old.addresses.seals frames)) group now old new
+    pub heard : HearsAll old.cluster (all_taken_as old.addresses.seals frames) old.addresses new.addresses
+    pub outside : IsSameOutside old.addresses new.addresses
+
+  -- just these frames came from the socket, in order
+  pub record TakesSocket (tells : Type 0) (frames : List (SocketAddr × List ℕ)) (group now : GroupValue) (old new : ServerValue R) : Type 0 where
+    pub takes : TakesHeard frames group now old new
+    pub comes : tells → old.coming ≡ all_taken_as old.addresses.seals frames ++ new.coming
+
+  -- what is taken in a turn: letters of the node to itself, or these frames of the socket
+  pub record TakesGroup (tells : Type 0) (frames : List (SocketAddr × List ℕ)) (group now : GroupValue) (old new : ServerValue R) : Type 0 where
+    pub alone : (old.own ≡ []) ⊎ (all_taken_as old.addresses.seals frames ≡ [])
+    pub few : length (all_taken_as old.addresses.seals frames) ≤ 64
+    pub comes : tells → old.own ≡ [] → ComesOf (all_taken_as old.addresses.seals frames) old.coming
+    pub takes : TakesAll (datagrams_in (take 64 old.own) (all_taken_as old.addresses.seals frames)) group now old new
+    pub some : datagrams_in (take 64 old.own) (all_taken_as old.addresses.seals frames) ≢ []
+    pub left : new.own ≡ drop 64 old.own
+    pub heard : HearsAll old.cluster (all_taken_as old.addresses.seals frames) old.addresses new.addresses
+    pub outside : IsSameOutside old.addresses new.addresses
+
+module _ {R : Type 0} (Says : Sayings R) (Gathers : Gatherings R) where
+  -- whatever it was given in this group, this has ended it, and nothing of the group is said
+  abbrev pub SaysNoMore : List (Option (List ℕ)) → GroupValue → R → R → Type 0
+  SaysNoMore more group old new = (start : R) (given : List (Option (List ℕ))) → Gathers start given group old → Says start (given ++ more) [] new
+
+  -- a beginning of what it is given at these datagrams has ended it
+  pub record EndsWithin (datagrams : List (List ℕ)) (group : GroupValue) (old new : ServerValue R) : Type 0 where
+    pub given : List (Option (List ℕ))
+    pub front : IsFront given (all_inputs old.received datagrams)
+    pub silent : SaysNoMore given group old.replica new.replica
+
+  -- at the first letters of the node to itself: so many were taken
+  pub record EndsOwn (most : ℕ) (group : GroupValue) (old new : ServerValue R) : Type 0 where
+    pub count : ℕ
+    pub at_most : count ≤ most
+    pub some : count ≢ 0
+    pub waited : old.own ≢ []
+    pub ends : EndsWithin (datagrams_in (take count old.own) []) group old new
+    pub left : new.own ≡ drop count old.own
+
+  -- at what came in these frames
+  pub record EndsHeard (frames : List (SocketAddr × List ℕ)) (group : GroupValue) (old new : ServerValue R) : Type 0 where
+    pub ends : EndsWithin (datagrams_in [] (all_taken_as old.addresses.seals frames)) group old new
+    pub heard : HearsAll old.cluster (all_taken_as old.addresses.seals frames) old.addresses new.addresses
+    pub outside : IsSameOutside old.addresses new.addresses
+
+  pub record EndsSocket (tells : Type 0) (frames : List (SocketAddr × List ℕ)) (group : GroupValue) (old new : ServerValue R) : Type 0 where
+    pub ends : EndsHeard frames group old new
+    pub comes : tells → old.coming ≡ all_taken_as old.addresses.seals frames ++ new.coming
+
+  -- at what is taken in a turn
+  pub record EndsGroup (tells : Type 0) (frames : List (SocketAddr × List ℕ)) (group : GroupValue) (old new : ServerValue R) : Type 0 where
+    pub alone : (old.own ≡ []) ⊎ (all_taken_as old.addresses.seals frames ≡ [])
+    pub few : length (all_taken_as old.addresses.seals frames) ≤ 64
+    pub comes : tells → old.own ≡ [] → ComesOf (all_taken_as old.addresses.seals frames) old.coming
+    pub count : ℕ
+    pub at_most : count ≤ 64
+    pub some_own : count ≡ 0 → old.own ≡ []
+    pub ends : EndsWithin (datagrams_in (take count old.own) (all_taken_as old.addresses.seals frames)) group old new
+    pub some : datagrams_in (take count old.own) (all_taken_as old.addresses.seals frames) ≢ []
+    pub left : new.own ≡ drop count old.own
+    pub heard : HearsAll old.cluster (all_taken_as old.addresses.seals frames) old.addresses new.addresses
+    pub outside : IsSameOutside old.addresses new.addresses
+
+  -- ---- the end of a group
+
+  -- nothing of the group is said: no letter is kept or sent
+  pub record SaysNothing (group : GroupValue) (old new : ServerValue R) : Type 0 where
+    pub silent : (start : R) (given : List (Option (List ℕ))) → Gathers start given group old.replica → Says start given [] new.replica
+    pub own : new.own ≡ old.own
+    pub sent : new.sent ≡ old.sent
+    pub failures : new.socket_failures ≡ old.socket_failures
+
+  -- whatever the group was given since the server was so, of which nothing is sent, it has handed on what its replica says by that
+  abbrev pub HandsOnAll : Type 0 → GroupValue → ServerValue R → ServerValue R → Type 0
+  HandsOnAll tells group old new = (start : ServerValue R) (given : List (Option (List ℕ))) → Gathers start.replica given group old.replica
+      → start.sent ≡ old.sent → start.socket_failures ≡ old.socket_failures → HandsOn Says tells given old.own start new

@@ -1,0 +1,290 @@
+//! What a server takes in one group, in the middle of which nothing is sent.
+
+ghost use Rattle.std.specs.Prelude.{◌≡◌, ◌≤◌, ◌++◌, ℕ, List, ◌∷◌, [], length, Some, None, true, false, OnOk, OnErr, IfOk, IfErr, IfSome, IsNone};
+ghost use Rattle.std.specs.declared.net.socket_addr.SocketAddr.{SocketAddr as Address};
+ghost use Rattle.lk_step.specs.Letters.{LetterValue};
+ghost use Rattle.lk_node.specs.Calls.{heard_by};
+ghost use Rattle.lk_server.specs.Addresses.{IsSameOutside};
+ghost use Rattle.lk_server.specs.Gatherings.{GathersMore, SaysNoMore, FindsNone, TakesAll, EndsWithin, TakesOwn, EndsOwn, TakesHeard, EndsHeard, TakesSocket, EndsSocket, TakesGroup, EndsGroup};
+ghost use Rattle.lk_server.specs.Hearing.{listed};
+ghost use Rattle.lk_server.specs.Posts.{Hears, all_taken_as};
+
+use crate::came::Came;
+use crate::ear::Ear;
+use crate::fault::ServiceFault;
+use crate::node_replica::NodeReplica;
+use crate::server::Server;
+use crate::socket::Datagrams;
+use crate::watching::{log_changes, log_served};
+use lk_replica::Group;
+use lk_step::{Input, Letter};
+use log::Log;
+use std::net::SocketAddr;
+
+/// So many datagrams bring a tick, however fast they come.
+const DATAGRAMS_PER_TICK: u64 = 64;
+
+/// So many datagrams are in a group at most, behind its first.
+const FURTHER: u64 = 63;
+
+impl<R: NodeReplica, S: Datagrams + Drop> Server<R, S> {
+    // Takes out the first letter of the node to itself.
+    fn next_letter(&mut self) -> Option<Letter>
+        ensures some { IfSome result (λ l. self.old.own ≡ l ∷ self.new.own) }
+        ensures none { IsNone result → (self.old.own ≡ []) × (self.new ≡ self.old) }
+        ensures others { self.new ≡ record self.old { own = self.new.own } }
+    {
+        self.post.next_own()
+    }
+
+    // The ear hears the next datagram of the socket, if one comes.
+    fn listen(&mut self, ear: &mut Ear)
+        ensures comes { S.is_telling → self.old.coming ≡ all_taken_as self.old.addresses.seals (listed ear.new) ++ self.new.coming }
+        ensures none { S.is_telling → ear.new ≡ None → self.old.coming ≡ [] }
+        ensures others { self.new ≡ record self.old { coming = self.new.coming } }
+    {
+        self.post.listen(ear);
+    }
+
+    // The same of one that waits there already.
+    fn listen_waiting(&mut self, ear: &mut Ear)
+        ensures comes { S.is_telling → self.old.coming ≡ all_taken_as self.old.addresses.seals (listed ear.new) ++ self.new.coming }
+        ensures none { S.is_telling → ear.new ≡ None → self.old.coming ≡ [] }
+        ensures others { self.new ≡ record self.old { coming = self.new.coming } }
+    {
+        self.post.listen_waiting(ear);
+    }
+
+    // Keeps from where a datagram of its cluster came, and counts one that says nothing to it.
+    fn hear<L: Log>(&mut self, bytes: &[u8], from: SocketAddr, log: &L) -> Came
+        ensures heard { Hears self.old.cluster bytes.now from self.old.addresses self.new.addresses }
+        // Where nodes live, and the keys, stay what they were.
+        ensures outside { IsSameOutside self.old.addresses self.new.addresses }
+        ensures others { self.new ≡ record self.old { addresses = self.new.addresses } }
+    {
+        let came = self.post.hear(self.cluster, bytes, from);
+        self.strangers.count(&came, log);
+        came
+    }
+
+    // Its replica takes a tick or a datagram into the group, and what changes by that is logged.
+    fn gather<L: Log>(
+        &mut self,
+        input: Input,
+        came: &Came,
+        group: &mut Group,
+        log: &L,
+    ) -> Result<(), ServiceFault>
+        ensures gathers { OnOk result (GathersMore R.Gathers (heard_by input.entry ∷ []) group.old group.new self.old.replica self.new.replica) }
+        ensures silent { OnErr result (SaysNoMore R.Says R.Gathers (heard_by input.entry ∷ []) group.old self.old.replica self.new.replica) }
+        ensures others { self.new ≡ record self.old { replica = self.new.replica; failed = self.new.failed } }
+        ensures passes { IfErr result (λ f. f ≡ ServiceFault.Send → ⊥) }
+        ensures broken { OnErr result (self.new.failed ≡ true) }
+    {
+        let before = self.replica.sight();
+        let said = group.letters().len();
+        let gathered = self.replica.gather(input, group);
+        log_changes(log, came, &before, &self.replica.sight());
+        log_served(log, came, group.letters().len().saturating_sub(said));
+        match gathered {
+            Ok(()) => Ok(()),
+            Err(fault) => Err(ServiceFault::of_replica(&fault)),
+        }
+    }
+
+    // Some time has passed.
+    pub(crate) fn gather_tick<L: Log>(
+        &mut self,
+        group: &mut Group,
+        log: &L,
+    ) -> Result<(), ServiceFault>
+        ensures gathers { OnOk result (GathersMore R.Gathers (None ∷ []) group.old group.new self.old.replica self.new.replica) }
+        ensures silent { OnErr result (SaysNoMore R.Says R.Gathers (None ∷ []) group.old self.old.replica self.new.replica) }
+        ensures others { self.new ≡ record self.old { replica = self.new.replica; failed = self.new.failed } }
+        ensures passes { IfErr result (λ f. f ≡ ServiceFault.Send → ⊥) }
+        ensures broken { OnErr result (self.new.failed ≡ true) }
+    {
+        self.gather(Input::Tick, &Came::Tick, group, log)
+    }
+
+    // Its replica takes a datagram into the group, and after every 64th a tick.
+    fn gather_counted<L: Log>(
+        &mut self,
+        bytes: &[u8],
+        came: &Came,
+        group: &mut Group,
+        log: &L,
+    ) -> Result<(), ServiceFault>
+        ensures takes { OnOk result (TakesAll R.Gathers (bytes.now ∷ []) group.old group.new self.old self.new) }
+        ensures ends { OnErr result (EndsWithin R.Says R.Gathers (bytes.now ∷ []) group.old self.old self.new) }
+        ensures others { self.new ≡ record self.old { replica = self.new.replica; failed = self.new.failed; received = self.new.received } }
+        ensures passes { IfErr result (λ f. f ≡ ServiceFault.Send → ⊥) }
+        ensures broken { OnErr result (self.new.failed ≡ true) }
+    {
+        self.received = self.received.wrapping_add(1);
+        self.gather(Input::Datagram(bytes), came, group, log)?;
+        if self.received % DATAGRAMS_PER_TICK == 0 {
+            self.gather_tick(group, log)?;
+        }
+        Ok(())
+    }
+
+    // The group takes the first letter of the node to itself, if one waits. Whether one did.
+    fn gather_letter<L: Log>(&mut self, group: &mut Group, log: &L) -> Result<bool, ServiceFault>
+        ensures takes { IfOk result (λ some. some ≡ true → (l : LetterValue) × (self.old.own ≡ l ∷ self.new.own) × TakesAll R.Gathers (l.bytes ∷ []) group.old group.new self.old self.new) }
+        ensures none { IfOk result (λ some. some ≡ false → (self.old.own ≡ []) × (self.new ≡ self.old) × (group.new ≡ group.old)) }
+        ensures ends { OnErr result ((l : LetterValue) × (self.old.own ≡ l ∷ self.new.own) × EndsWithin R.Says R.Gathers (l.bytes ∷ []) group.old self.old self.new) }
+        ensures others { self.new ≡ record self.old { replica = self.new.replica; failed = self.new.failed; received = self.new.received; own = self.new.own } }
+        ensures passes { IfErr result (λ f. f ≡ ServiceFault.Send → ⊥) }
+        ensures broken { OnErr result (self.new.failed ≡ true) }
+    {
+        let Some(letter) = self.next_letter() else {
+            return Ok(false);
+        };
+        let came = Came::own(&letter.bytes);
+        self.gather_counted(&letter.bytes, &came, group, log)?;
+        Ok(true)
+    }
+
+    // The group takes further letters of the node to itself, in order, and at most 63.
+    fn gather_letters<L: Log>(&mut self, group: &mut Group, log: &L) -> Result<(), ServiceFault>
+        ensures takes { OnOk result (TakesOwn R.Gathers 63 group.old group.new self.old self.new) }
+        ensures ends { OnErr result (EndsOwn R.Says R.Gathers 63 group.old self.old self.new) }
+        ensures others { self.new ≡ record self.old { replica = self.new.replica; failed = self.new.failed; received = self.new.received; own = self.new.own } }
+        ensures passes { IfErr result (λ f. f ≡ ServiceFault.Send → ⊥) }
+        ensures broken { OnErr result (self.new.failed ≡ true) }
+    {
+        'letters: for _ in 0..FURTHER {
+            if !self.gather_letter(group, log)? {
+                return Ok(());
+            }
+        }
+        Ok(())
+    }
+
+    // The group takes what the ear has heard, out of its frame. Whether it has heard something.
+    fn gather_heard<L: Log>(
+        &mut self,
+        ear: &Ear,
+        group: &mut Group,
+        log: &L,
+    ) -> Result<bool, ServiceFault>
+        ensures takes { IfOk result (λ came. came ≡ true → (frame : Address × List ℕ) × (ear.now ≡ Some frame) × TakesHeard R.Gathers (frame ∷ []) group.old group.new self.old self.new) }
+        ensures none { IfOk result (λ came. came ≡ false → (ear.now ≡ None) × (self.new ≡ self.old) × (group.new ≡ group.old)) }
+        ensures ends { OnErr result ((frame : Address × List ℕ) × (ear.now ≡ Some frame) × EndsHeard R.Says R.Gathers (frame ∷ []) group.old self.old self.new) }
+        ensures others { self.new ≡ record self.old { replica = self.new.replica; failed = self.new.failed; received = self.new.received; addresses = self.new.addresses } }
+        ensures passes { IfErr result (λ f. f ≡ ServiceFault.Send → ⊥) }
+        ensures broken { OnErr result (self.new.failed ≡ true) }
+    {
+        let Some((bytes, from)) = self.post.heard(ear) else {
+            return Ok(false);
+        };
+        let came = self.hear(bytes, from, log);
+        self.gather_counted(bytes, &came, group, log)?;
+        Ok(true)
+    }
+
+    // The group takes the next datagram of the socket, if one comes. Whether one did.
+    fn gather_first<L: Log>(
+        &mut self,
+        ear: &mut Ear,
+        group: &mut Group,
+        log: &L,
+    ) -> Result<bool, ServiceFault>
+        ensures takes { IfOk result (λ came. came ≡ true → (frame : Address × List ℕ) × TakesSocket R.Gathers S.is_telling (frame ∷ []) group.old group.new self.old self.new) }
+        ensures none { IfOk result (λ came. came ≡ false → (S.is_telling → (self.old.coming ≡ []) × (self.new.coming ≡ [])) × (record self.new { coming = self.old.coming } ≡ self.old) × (group.new ≡ group.old)) }
+        ensures ends { OnErr result ((frame : Address × List ℕ) × EndsSocket R.Says R.Gathers S.is_telling (frame ∷ []) group.old self.old self.new) }
+        ensures others { self.new ≡ record self.old { replica = self.new.replica; failed = self.new.failed; received = self.new.received; addresses = self.new.addresses; coming = self.new.coming } }
+        ensures passes { IfErr result (λ f. f ≡ ServiceFault.Send → ⊥) }
+        ensures broken { OnErr result (self.new.failed ≡ true) }
+    {
+        self.listen(ear);
+        self.gather_heard(ear, group, log)
+    }
+
+    // The group takes the next datagram of the socket that waits there already, if one does, and if the group has something to send. Whether it took one.
+    fn gather_waiting<L: Log>(
+        &mut self,
+        ear: &mut Ear,
+        group: &mut Group,
+        log: &L,
+    ) -> Result<bool, ServiceFault>
+        ensures takes { IfOk result (λ came. came ≡ true → (frame : Address × List ℕ) × TakesSocket R.Gathers S.is_telling (frame ∷ []) group.old group.new self.old self.new) }
+        ensures none { IfOk result (λ came. came ≡ false → (S.is_telling → self.new.coming ≡ self.old.coming) × (record self.new { coming = self.old.coming } ≡ self.old) × (group.new ≡ group.old)) }
+        ensures ends { OnErr result ((frame : Address × List ℕ) × EndsSocket R.Says R.Gathers S.is_telling (frame ∷ []) group.old self.old self.new) }
+        ensures others { self.new ≡ record self.old { replica = self.new.replica; failed = self.new.failed; received = self.new.received; addresses = self.new.addresses; coming = self.new.coming } }
+        ensures passes { IfErr result (λ f. f ≡ ServiceFault.Send → ⊥) }
+        ensures broken { OnErr result (self.new.failed ≡ true) }
+    {
+        if group.letters().is_empty() {
+            return Ok(false);
+        }
+        self.listen_waiting(ear);
+        self.gather_heard(ear, group, log)
+    }
+
+    // The group takes further datagrams of the socket, in order and at most 63: those that wait there already, as long as it has something to send.
+    fn gather_further<L: Log>(
+        &mut self,
+        ear: &mut Ear,
+        group: &mut Group,
+        log: &L,
+    ) -> Result<(), ServiceFault>
+        ensures takes { OnOk result ((frames : List (Address × List ℕ)) × (length frames ≤ 63) × TakesSocket R.Gathers S.is_telling frames group.old group.new self.old self.new) }
+        ensures ends { OnErr result ((frames : List (Address × List ℕ)) × (length frames ≤ 63) × EndsSocket R.Says R.Gathers S.is_telling frames group.old self.old self.new) }
+        ensures others { self.new ≡ record self.old { replica = self.new.replica; failed = self.new.failed; received = self.new.received; addresses = self.new.addresses; coming = self.new.coming } }
+        ensures passes { IfErr result (λ f. f ≡ ServiceFault.Send → ⊥) }
+        ensures broken { OnErr result (self.new.failed ≡ true) }
+    {
+        'datagrams: for _ in 0..FURTHER {
+            if !self.gather_waiting(ear, group, log)? {
+                return Ok(());
+            }
+        }
+        Ok(())
+    }
+
+    // The group takes what comes to the socket: the next datagram, and those that wait behind it. Whether one came.
+    fn gather_socket<L: Log>(
+        &mut self,
+        ear: &mut Ear,
+        group: &mut Group,
+        log: &L,
+    ) -> Result<bool, ServiceFault>
+        requires { self.old.own ≡ [] }
+        ensures takes { IfOk result (λ came. came ≡ true → (frames : List (Address × List ℕ)) × TakesGroup R.Gathers S.is_telling frames group.old group.new self.old self.new) }
+        ensures none { IfOk result (λ came. came ≡ false → FindsNone S.is_telling self.old self.new × (group.new ≡ group.old)) }
+        ensures ends { OnErr result ((frames : List (Address × List ℕ)) × EndsGroup R.Says R.Gathers S.is_telling frames group.old self.old self.new) }
+        ensures others { self.new ≡ record self.old { replica = self.new.replica; failed = self.new.failed; received = self.new.received; addresses = self.new.addresses; coming = self.new.coming } }
+        ensures passes { IfErr result (λ f. f ≡ ServiceFault.Send → ⊥) }
+        ensures broken { OnErr result (self.new.failed ≡ true) }
+    {
+        if !self.gather_first(ear, group, log)? {
+            return Ok(false);
+        }
+        self.gather_further(ear, group, log)?;
+        Ok(true)
+    }
+
+    // The group takes what waits: the letters of the node to itself, the first 64 of them, and where there is none what comes to the socket.
+    // Whether there was anything. A letter that the group says is sent at its end, so it waits for another group.
+    pub(crate) fn gather_all<L: Log>(
+        &mut self,
+        ear: &mut Ear,
+        group: &mut Group,
+        log: &L,
+    ) -> Result<bool, ServiceFault>
+        ensures takes { IfOk result (λ came. came ≡ true → (frames : List (Address × List ℕ)) × TakesGroup R.Gathers S.is_telling frames group.old group.new self.old self.new) }
+        ensures none { IfOk result (λ came. came ≡ false → FindsNone S.is_telling self.old self.new × (group.new ≡ group.old)) }
+        ensures ends { OnErr result ((frames : List (Address × List ℕ)) × EndsGroup R.Says R.Gathers S.is_telling frames group.old self.old self.new) }
+        ensures others { self.new ≡ record self.old { replica = self.new.replica; failed = self.new.failed; received = self.new.received; own = self.new.own; addresses = self.new.addresses; coming = self.new.coming } }
+        ensures passes { IfErr result (λ f. f ≡ ServiceFault.Send → ⊥) }
+        ensures broken { OnErr result (self.new.failed ≡ true) }
+    {
+        if !self.gather_letter(group, log)? {
+            return self.gather_socket(ear, group, log);
+        }
+        self.gather_letters(group, log)?;
+        Ok(true)
+    }
+}
