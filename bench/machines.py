@@ -1,14 +1,17 @@
 #!/usr/bin/env python3
-"""Runs three nodes on three machines: elects, grants, cuts the leader off, goes on, heals, forges, loses and delays datagrams.
+"""Runs three nodes on three machines while clients hold locks: elects, cuts the leader off, parts the nodes, cuts one way alone, loses,
+delays, repeats and reorders datagrams, forges and replays them, and checks that no fence is given twice and no two clients hold a lock.
 
 A machine is a network namespace of its own, joined to the others by a bridge that stands in a fourth; nothing leaves them. Where
-namespaces are not allowed, or with --loopback, the machines are 127.0.0.1, 127.0.0.2 and 127.0.0.3, and a node is stopped in place of
-being cut off. The last line is `N passed, M failed`; the status is 0 where none failed.
+namespaces are not allowed, or with --loopback, the machines are 127.0.0.1, 127.0.0.2 and 127.0.0.3, with a relay between them, and a node
+is stopped in place of being cut off. The last line is `N passed, M failed`; the status is 0 where none failed.
 """
 
 import argparse
 import hashlib
 import hmac
+import itertools
+import json
 import os
 import re
 import shutil
@@ -17,11 +20,18 @@ import socket
 import subprocess
 import sys
 import tempfile
+import threading
 import time
+
+from cluster import TOP
+from harness.holders import faults
+from harness.relay import Relay
+from locks_client.seals import client_key
 
 CLUSTER, PORT, ALPHA = 5, 7101, 2
 NODES = (1, 2, 3)
-KEY, CLIENT_KEY = bytes([0x11]) * 32, bytes([0x22]) * 32
+KEY, MASTER = bytes([0x11]) * 32, bytes([0x22]) * 32
+ASKER, HOLDERS = 7, (1, 2, 3, 4)  # the client that asks one thing, and those that hold locks all the time
 LABELS = {1: b"locks v1 to node", 2: b"locks v1 request", 3: b"locks v1 replies"}
 
 
@@ -37,9 +47,16 @@ class Score:
         print(f"{'ok' if is_well else 'FAILED'}: {name}{more and ': '}{more}", flush=True)
 
 
-def seal(key, purpose, bound, datagram, cluster=CLUSTER):
-    """The frame of a datagram."""
-    front = LABELS[purpose] + cluster.to_bytes(8, "big") + bound.to_bytes(4, "big")
+def digest(alpha=ALPHA):
+    """The digest of the genesis."""
+    members = b"".join(node.to_bytes(4, "big") + PORT.to_bytes(2, "big") for node in NODES)
+    return hashlib.sha256(CLUSTER.to_bytes(8, "big") + bytes([alpha, len(NODES)]) + members).digest()
+
+
+def seal(key, purpose, bound, datagram, cluster=CLUSTER, genesis=None):
+    """The frame of a datagram. Clients do not name the genesis."""
+    named = bytes(32) if purpose != 1 else genesis or digest()
+    front = LABELS[purpose] + cluster.to_bytes(8, "big") + named + bound.to_bytes(4, "big")
     return b"LS\1" + bytes([purpose]) + hmac.new(key, front + datagram, hashlib.sha256).digest() + datagram
 
 
@@ -53,6 +70,11 @@ def acquire(client, number, name):
     """A Request to acquire a name."""
     body = bytes([1, len(name)]) + name
     return b"LK\1\11" + CLUSTER.to_bytes(8, "big") + bytes(4) + client.to_bytes(2, "big") + number.to_bytes(8, "big") + bytes([0, len(body)]) + body
+
+
+def client_seal(purpose, client, datagram, key=None):
+    """The frame of a request of that client, or of a reply to it."""
+    return seal(key or client_key(MASTER, client), purpose, client, datagram)
 
 
 def run(*words):
@@ -95,16 +117,34 @@ class Namespaces:
     def at(self, machine, *words):
         return ["ip", "netns", "exec", self.name(machine), *words]
 
+    def seen_by(self, node, other):
+        """The address at which a node reaches another one."""
+        return self.address(other)
+
+    def block(self, *pairs):
+        """Nothing goes from the first to the second of each pair."""
+        for sender, receiver in pairs:
+            run("ip", "-n", self.name(sender), "route", "replace", "blackhole", f"{self.address(receiver)}/32")
+
+    def unblock(self, *pairs):
+        for sender, receiver in pairs:
+            run("ip", "-n", self.name(sender), "route", "del", "blackhole", f"{self.address(receiver)}/32")
+
+    def recorded(self, receiver):
+        """Frames that nodes have sent to that one, where they were recorded."""
+        return []
+
     def cut(self, node, process):
         run("ip", "-n", self.name(node), "link", "set", "wire", "down")
 
     def heal(self, node, process):
         run("ip", "-n", self.name(node), "link", "set", "wire", "up")
 
-    def worsen(self, loss, delay):
+    def worsen(self):
+        """A fifth of the datagrams is lost each way from now on, a fifth comes twice, and others come late and in another order."""
+        rules = ["loss", "20%", "duplicate", "20%", "delay", "20ms", "20ms", "reorder", "25%"]
         for node in NODES:
-            run("tc", "-n", self.name(node), "qdisc", "replace", "dev", "wire", "root", "netem", "loss", loss, "delay", *delay)
-        return True
+            run("tc", "-n", self.name(node), "qdisc", "replace", "dev", "wire", "root", "netem", *rules)
 
     def mend(self):
         for node in NODES:
@@ -120,6 +160,21 @@ class Loopback:
 
     kind = "addresses of 127/8"
 
+    def __init__(self):
+        self.relay = Relay(NODES, PORT, self.address)
+
+    def seen_by(self, node, other):
+        return self.address(other) if node == other else self.relay.address(node, other)
+
+    def block(self, *pairs):
+        self.relay.cut |= set(pairs)
+
+    def unblock(self, *pairs):
+        self.relay.cut -= set(pairs)
+
+    def recorded(self, receiver):
+        return [frame for (_, to), frames in self.relay.kept.items() if to == receiver for frame in frames]
+
     def address(self, at):
         return f"127.0.0.{at}"
 
@@ -132,11 +187,14 @@ class Loopback:
     def heal(self, node, process):
         process.send_signal(signal.SIGCONT)
 
-    def worsen(self, loss, delay):
-        return False
+    def worsen(self):
+        self.relay.loss, self.relay.repeats, self.relay.delay = 0.2, 0.2, 0.04
+
+    def mend(self):
+        self.relay.loss = self.relay.repeats = self.relay.delay = 0.0
 
     def end(self):
-        pass
+        self.relay.end()
 
 
 def machines(is_loopback):
@@ -152,8 +210,13 @@ class Cluster:
     def __init__(self, program, world, folder):
         self.program, self.world, self.folder, self.number, self.processes = program, world, folder, 0, {}
         self.write("hosts", "".join(f"{node} {world.address(node)}\n" for node in NODES))
+        for node in NODES:
+            self.write(f"hosts{node}", "".join(f"{other} {world.seen_by(node, other)}\n" for other in NODES))
         self.write("key", KEY.hex() + "\n")
-        self.write("client-key", CLIENT_KEY.hex() + "\n")
+        self.write("master", MASTER.hex() + "\n")
+        for client in (ASKER, *HOLDERS):
+            words = [program, "client-key", "--master", f"{folder}/master", "--client", str(client)]
+            self.write(f"client{client}", run(*words))
 
     def write(self, name, text):
         with open(os.open(f"{self.folder}/{name}", os.O_CREAT | os.O_WRONLY | os.O_TRUNC, 0o600), "w") as it:
@@ -163,8 +226,8 @@ class Cluster:
         genesis = f"{CLUSTER},{ALPHA}," + ",".join(f"{it}:{PORT}" for it in NODES)
         folder = f"{self.folder}/d{node}"
         os.makedirs(folder, exist_ok=True)
-        words = ["node", "--genesis", genesis, "--number", str(node), "--port", str(PORT), "--dir", folder, "--hosts", f"{self.folder}/hosts"]
-        words += ["--key", f"{self.folder}/key", "--client-key", f"{self.folder}/client-key", "--verbose", *more]
+        words = ["node", "--genesis", genesis, "--number", str(node), "--port", str(PORT), "--dir", folder, "--hosts", f"{self.folder}/hosts{node}"]
+        words += ["--key", f"{self.folder}/key", "--client-key", f"{self.folder}/master", "--verbose", *more]
         with open(f"{self.folder}/log{node}", "a") as log:
             self.processes[node] = subprocess.Popen(self.world.at(node, self.program, *words), stderr=log, stdin=subprocess.DEVNULL)
 
@@ -172,7 +235,7 @@ class Cluster:
         with open(f"{self.folder}/log{node}") as it:
             return it.read()
 
-    def ask(self, node, *op, client=7, key="client-key", number=None):
+    def ask(self, node, *op, client=ASKER, key=f"client{ASKER}", number=None):
         if number is None:
             self.number += 1
             number = self.number
@@ -246,10 +309,11 @@ def forged(ballot, leader, follower):
     return {
         "a Prepare without a seal": ballot,
         "under another key": seal(bytes([0x33]) * 32, 1, leader, ballot),
-        "under the clients' key": seal(CLIENT_KEY, 1, leader, ballot),
-        "as a client's request under the clients' key": seal(CLIENT_KEY, 2, 0, ballot),
+        "under the clients' master": seal(MASTER, 1, leader, ballot),
+        "as a request under a client's key": client_seal(2, int.from_bytes(ballot[16:18], "big"), ballot),
         "sealed for another node": seal(KEY, 1, follower, ballot),
         "sealed in another cluster": seal(KEY, 1, leader, ballot, cluster=6),
+        "sealed at another genesis": seal(KEY, 1, leader, ballot, genesis=digest(ALPHA + 1)),
         "with a bit changed": good[:-1] + bytes([good[-1] ^ 1]),
         "cut": good[:-1],
         "with a byte after it": good + b"\0",
@@ -257,67 +321,144 @@ def forged(ballot, leader, follower):
     }
 
 
+def next_ballot(cluster, term, leader, node):
+    """A Prepare of that node in the next round, above all positions that the leader runs before it comes."""
+    return prepare(term + 1, node, 10_000 + max(int(it) for it in re.findall(r"ran (\d+)", cluster.log(leader))))
+
+
 def forge(cluster, score):
     """An outsider sends what it has forged, and then what is right: a node that hears nothing does not pass."""
     time.sleep(1)
     term, leader = cluster.leader()
     follower = next(it for it in NODES if it != leader)
-    ballot = prepare(term + 1, follower, 1 + max(int(it) for it in re.findall(r"ran (\d+)", cluster.log(leader))))
+    ballot = next_ballot(cluster, term, leader, follower)
     for name, frame in forged(ballot, leader, follower).items():
         back = cluster.send(leader, frame)
         score.check(f"dropped: {name}", not back and cluster.leader() == (term, leader))
     ends = cluster.log(leader).count(f"ended by Prepare of node {follower}")
-    cluster.send(leader, seal(KEY, 1, leader, ballot))
+    cluster.send(leader, seal(KEY, 1, leader, next_ballot(cluster, term, leader, follower)))
     found, _ = until(5, lambda: cluster.log(leader).count(f"ended by Prepare of node {follower}") > ends)
     score.check("with the key and for that node it is taken", found)
 
 
 def ask_without_key(cluster, score):
-    """Only a client with the clients' key is answered."""
+    """Only a client with its own key is answered."""
     leader = cluster.leader()[1]
     request = acquire(8, 1, b"x")
-    score.check("a client without the key is not heard", not cluster.send(leader, request))
-    score.check("nor one with the nodes' key in its place", not cluster.send(leader, seal(KEY, 2, 0, request)))
-    right = cluster.send(leader, seal(CLIENT_KEY, 2, 0, request))
+    wrong = {
+        "without a key": request,
+        "with the nodes' key in its place": client_seal(2, 8, request, KEY),
+        "with the master in its place": client_seal(2, 8, request, MASTER),
+        "in the name of another one": client_seal(2, 7, request),
+        "in the name of another one, under its own key": client_seal(2, 8, request, client_key(MASTER, 7)),
+    }
+    for name, frame in wrong.items():
+        score.check(f"a client is not heard {name}", not cluster.send(leader, frame))
+    right = cluster.send(leader, client_seal(2, 8, request))
     body = right and bytes.fromhex(right[0])[36:]
-    score.check("one with the key is, and its reply is sealed", right and bytes.fromhex(right[0]) == seal(CLIENT_KEY, 3, 0, body) and body[:4] == b"LK\1\12")
+    score.check("one with its key is, and its reply is sealed", right and bytes.fromhex(right[0]) == client_seal(3, 8, body) and body[:4] == b"LK\1\12")
     score.check("ask without the key has no answer", cluster.ask(leader, "ask", "db", key=None) == "no answer")
 
 
-def is_worse(world):
-    """Whether a fifth of the datagrams is lost each way from now on, and others come late."""
+class Work:
+    """Clients that hold locks on the outsider's machine, and what they have held."""
+
+    def __init__(self, cluster):
+        world, folder = cluster.world, cluster.folder
+        places, keys = [(world.address(node), PORT) for node in NODES], {client: f"{folder}/client{client}" for client in HOLDERS}
+        plan = {"cluster": CLUSTER, "places": places, "hosts": f"{folder}/hosts", "keys": keys, "names": ["one", "two"]}
+        paths = os.pathsep.join([TOP, os.path.join(TOP, "clients", "python")])
+        how = {"stdin": subprocess.PIPE, "stdout": subprocess.PIPE, "text": True, "env": os.environ | {"PYTHONPATH": paths}}
+        self.holds = []
+        self.process = subprocess.Popen(world.at(9, sys.executable, "-m", "harness.holders", json.dumps(plan)), **how)
+        self.reader = threading.Thread(target=self.read, daemon=True)
+        self.reader.start()
+
+    def read(self):
+        for line in self.process.stdout:
+            name, fence, begin, end = line.split()
+            self.holds.append((name, int(fence), float(begin), float(end)))
+
+    def since(self, begun):
+        """How many holds began after that."""
+        return sum(begin > begun for _, _, begin, _ in self.holds)
+
+    def end(self):
+        self.process.stdin.close()
+        self.process.wait()
+        self.reader.join()
+
+
+def go_on(work, score, name):
+    """Three locks are granted, and it takes less than half a minute."""
+    begun = time.monotonic()
+    found, took = until(30, lambda: work.since(begun) >= 3)
+    score.check(f"clients go on {name}", found, f"after {took:.1f} s")
+
+
+def stand_still(world, work, score, name, pairs):
+    """Nothing is granted while these are cut, since no majority answers a leader, and clients go on after that."""
+    world.block(*pairs)
+    time.sleep(0.5)
+    begun = time.monotonic()
+    time.sleep(1.5)
+    score.check(f"nothing is granted {name}", not work.since(begun))
+    world.unblock(*pairs)
+    go_on(work, score, "after that")
+
+
+def part(cluster, work, score):
+    """The leader is cut off, one way after the other too, and then all are."""
+    world, pairs = cluster.world, list(itertools.permutations(NODES, 2))
+    for is_away, is_towards, name in ((1, 1, "without their leader"), (1, 0, "where it is not heard")):
+        leader = cluster.leader()[1]
+        cut = [pair for pair in pairs if pair[0] == leader and is_away or pair[1] == leader and is_towards]
+        world.block(*cut)
+        go_on(work, score, name)
+        world.unblock(*cut)
+        go_on(work, score, "after that")
+    stand_still(world, work, score, "where the leader is heard and does not hear", [pair for pair in pairs if pair[1] == cluster.leader()[1]])
+    stand_still(world, work, score, "where two of three are cut off", pairs)
+
+
+def worsen(world, work, score):
+    """Datagrams are lost, late, repeated and reordered, where the kernel can do that."""
     try:
-        return world.worsen("20%", ("20ms", "10ms"))
+        world.worsen()
     except subprocess.CalledProcessError as error:
         print(f"no netem: {error.stderr.strip()}")
-        return False
+        return
+    for _ in range(3):
+        go_on(work, score, "where datagrams are lost, late, repeated and in another order")
+    world.mend()
 
 
-def ask_again(cluster, at):
-    """What acquiring a name is answered, within four tries."""
-    for _ in range(4):
-        answer = cluster.ask(NODES[at % 3], "acquire", f"n{at}")
-        if answer.startswith(("granted", "busy 7")):
-            return True
-    return False
-
-
-def lose(cluster, world, score):
-    """Datagrams are lost and late, where the kernel can do that."""
-    if is_worse(world):
-        began = time.time()
-        done = sum(ask_again(cluster, at) for at in range(30))
-        score.check("30 locks where a fifth of the datagrams is lost each way", done == 30, f"{done} in {time.time() - began:.1f} s")
-        world.mend()
+def replay(cluster, score):
+    """What was sealed for one node comes to another one, which drops it."""
+    time.sleep(1)
+    term, leader = cluster.leader()
+    third, other = [node for node in NODES if node != leader]
+    made = [seal(KEY, 1, other, prepare(term + 1, leader, first)) for first in range(1, 65)]
+    cluster.send(third, *(cluster.world.recorded(other) or made)[:64], *made)
+    counts = [0, *map(int, re.findall(r"datagrams that do not read: (\d+)", cluster.log(third)))]
+    score.check("what was sealed for a node is dropped by another", max(counts) >= 64 and cluster.leader() == (term, leader), f"{max(counts)} dropped")
 
 
 def tell_story(cluster, world, score):
     """All of it, one after another."""
     elect(cluster, score)
+    work = Work(cluster)
+    go_on(work, score, "at first")
     cut_off(cluster, world, score)
+    part(cluster, work, score)
     ask_without_key(cluster, score)
     forge(cluster, score)
-    lose(cluster, world, score)
+    replay(cluster, score)
+    worsen(world, work, score)
+    go_on(work, score, "after all of it")
+    work.end()
+    wrong = faults(work.holds)
+    score.check("no fence was given twice, and no lock held by two", not wrong, f"{len(work.holds)} holds {wrong[:3] or ''}")
 
 
 def main():

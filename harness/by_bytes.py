@@ -14,10 +14,11 @@ def bytes_of(*texts):
 class Node:
     """Node 2 of three in cluster 5, on files of these bytes. The test stands at the ports of the others.
 
-    In a text the words 1b59, 1b5a and 1b5b stand for the ports of nodes 1 to 3. `words` are further options of the node."""
+    In a text the words 1b59, 1b5a and 1b5b stand for the ports of nodes 1 to 3. `words` are further options of the node, and `address` is
+    the one at which all live."""
 
-    def __init__(self, program, folder, alpha=1):
-        self.program, self.folder, self.ports = program, folder, free_ports(3)
+    def __init__(self, program, folder, alpha=1, address="127.0.0.1", ports=None):
+        self.program, self.folder, self.address, self.ports = program, folder, address, ports or free_ports(3)
         self.genesis = f"5,{alpha}," + ",".join(f"{node}:{port}" for node, port in enumerate(self.ports, 1))
         self.process, self.runs, self.words = None, [], ()
         self.socket, self.third = self.bound(self.ports[0]), self.bound(self.ports[2])
@@ -33,7 +34,7 @@ class Node:
     def bound(self, port):
         """A socket at a port."""
         it = socket.socket(socket.AF_INET, socket.SOCK_DGRAM)
-        it.bind(("127.0.0.1", port))
+        it.bind((self.address, port))
         it.settimeout(10.0)
         return it
 
@@ -85,7 +86,7 @@ class Node:
 
     def send(self, data):
         """Sends it a datagram in the name of node 1."""
-        self.socket.sendto(data, ("127.0.0.1", self.ports[1]))
+        self.socket.sendto(data, (self.address, self.ports[1]))
 
     def asked(self, data):
         """What it sends first for a datagram."""

@@ -1,5 +1,6 @@
 """The worked examples of docs/FORMATS.md, byte by byte, as the program sends, writes and reads them."""
 import os
+import random
 import re
 import subprocess
 import tempfile
@@ -12,6 +13,7 @@ PAGE = os.path.join(HERE, "..", "docs", "FORMATS.md")
 TABLE = os.path.join(HERE, "..", "crates", "lk_tests", "src", "wire.rt")
 PROGRAM = os.environ.get("LOCKS_PROGRAM")
 KEY = "11" * 32
+PORTS = [7001, 7002, 7003]  # of the page: the genesis is under the tag
 
 
 def examples():
@@ -40,9 +42,9 @@ def base_of(state):
 
 @unittest.skipUnless(PROGRAM, "LOCKS_PROGRAM does not tell the program")
 class FormatPageTest(unittest.TestCase):
-    def node(self, *words):
+    def node(self, *words, **places):
         """A node on empty files, which serves."""
-        node = self.enterContext(Node(PROGRAM, self.enterContext(tempfile.TemporaryDirectory())))
+        node = self.enterContext(Node(PROGRAM, self.enterContext(tempfile.TemporaryDirectory()), **places))
         node.words = words
         self.assertEqual(node.start(), f"port {node.ports[1]}")
         return node
@@ -84,10 +86,13 @@ class FormatPageTest(unittest.TestCase):
                 self.assertEqual(self.ran("inspect", "--dir", folder), told)
 
     def test_a_sealed_exchange_has_these_bytes(self):
-        with tempfile.NamedTemporaryFile("w") as key:
+        address = ".".join(["127", *(str(random.randrange(1, 255)) for _ in range(3))])
+        with tempfile.NamedTemporaryFile("w") as key, tempfile.NamedTemporaryFile("w") as hosts:
             print(KEY, file=key, flush=True)
+            print(*(f"{node} {address}" for node in (1, 2, 3)), sep="\n", file=hosts, flush=True)
+            node = self.node("--key", key.name, "--hosts", hosts.name, address=address, ports=PORTS)
             asked, answered = texts("sealed")
-            self.says(self.node("--key", key.name), asked, answered)
+            self.says(node, asked, answered)
 
 
 if __name__ == "__main__":

@@ -11,6 +11,7 @@ A file is rows with an empty line between them; a line `# ..` is a comment. The 
     ? NUMBER    the status, where it is not 0
     @ FILE      standard output is this file, and is not read
     % NAME HEX  a file of the folder, and its bytes; several lines of a file follow one another; NAME/ is a folder in it
+    %> NAME TEXT  a line of a file of the folder; %! NAME TEXT the same of a file that only its owner may have
     <* LINE     as `<`, one of several in a row, each of which stands in this place in a run of its own
 
 A row with several lines `$` is run with each of them. Bytes are written as in Python, `\\x20` for a space at an end. A
@@ -32,7 +33,7 @@ class Row:
 
     def __init__(self, name):
         self.name, self.arguments, self.lines, self.out, self.err = name, [], [], [], []
-        self.status, self.to, self.is_told, self.files = 0, None, False, {}
+        self.status, self.to, self.is_told, self.files, self.secret = 0, None, False, {}, set()
 
     def take(self, line):
         mark, _, text = line.partition(" ")
@@ -59,6 +60,10 @@ class Row:
         elif mark == "%":
             name, _, digits = text.partition(" ")
             self.files[name] = self.files.get(name, b"") + bytes.fromhex(digits)
+        elif mark in ("%>", "%!"):
+            name, _, told = text.partition(" ")
+            self.files[name] = self.files.get(name, b"") + read(told) + b"\n"
+            self.secret |= {name} if mark == "%!" else set()
         else:
             sys.exit(f"{self.name}: no line of a row: {line}")
 
@@ -70,6 +75,7 @@ class Row:
                     pathlib.Path(folder, file).mkdir()
                 else:
                     pathlib.Path(folder, file).write_bytes(text)
+                    pathlib.Path(folder, file).chmod(0o600 if file in self.secret else 0o644)
             how = {"stdout": to if self.to else subprocess.PIPE, "stderr": subprocess.PIPE, "cwd": folder, "timeout": 60}
             run = subprocess.run([program, *words], input=given, **how)
         err = bool(run.stderr) if self.is_told else run.stderr == b"".join(self.err)

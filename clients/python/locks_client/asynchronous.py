@@ -6,9 +6,10 @@ from collections.abc import AsyncIterator
 from types import TracebackType
 from typing import Any, Self, TypeVar
 
-from .base import LOOPBACK, Base
+from .base import Base
 from .core import Datagram, Effect, Listen, Plan, Send, Sleep
 from .errors import Unanswered
+from .places import address_of, placed
 from .results import Free, Held, HeldShared, result
 from .wire import Answer, Op, join_op, leave_op, raise_op, table_op
 
@@ -25,7 +26,7 @@ class Inbox(asyncio.DatagramProtocol):
     def datagram_received(self, data: bytes, place: tuple[str | Any, int]) -> None:
         """A datagram came."""
         with contextlib.suppress(asyncio.QueueFull):
-            self.queue.put_nowait(Datagram(data, place[1]))
+            self.queue.put_nowait(Datagram(data, placed(place[0], place[1])))
 
 
 class AsyncClient(Base):
@@ -159,7 +160,7 @@ class AsyncClient(Base):
             return None
         transport, inbox = await self.opened()
         if isinstance(effect, Send):
-            transport.sendto(effect.data, (LOOPBACK, effect.port))
+            transport.sendto(effect.data, address_of(effect.port))
             return None
         return await self.receive(inbox, effect)
 

@@ -8,9 +8,10 @@ from collections.abc import Iterable
 from .core import Core
 from .errors import Busy, Forked, LocksError
 from .numbers import Numbers
+from .places import Place, own_address, read_hosts
+from .seals import read_keys
 
-LOOPBACK = "127.0.0.1"
-LONGEST = 64  # bytes that are read of a datagram: more than any reply has
+LONGEST = 100  # bytes that are read of a datagram: more than any reply has
 
 log = logging.getLogger("locks_client")
 
@@ -19,24 +20,29 @@ class Base:
     """One client of a cluster, with one socket.
 
     cluster: its number. client: the number of this client, 1 to 256, which nobody else uses. ports: those of the nodes
-    on 127.0.0.1, one at least. first: the number of the first request. state: a file that keeps the numbers over
-    restarts; one of the two has to be given. patience: seconds until NoAnswer.
+    on 127.0.0.1, or (address, port) of each, one at least. first: the number of the first request. state: a file that
+    keeps the numbers over restarts; one of the two has to be given. patience: seconds until NoAnswer. hosts: a file of
+    lines NODE ADDRESS, where a node named by another one lives. key: the file of this client's key.
     """
 
     def __init__(
         self,
         cluster: int,
         client: int,
-        ports: Iterable[int],
+        ports: Iterable[Place],
         first: int | None = None,
         state: str | os.PathLike[str] | None = None,
         patience: float = 10.0,
+        hosts: str | os.PathLike[str] | None = None,
+        key: str | os.PathLike[str] | None = None,
     ) -> None:
-        self.core = Core(cluster, client, ports, patience)
+        known = read_hosts(hosts) if hosts else None
+        self.core = Core(cluster, client, ports, patience, hosts=known, keys=read_keys(key) if key else ())
         self.guard = threading.RLock()  # one that an interrupt leaves locked does not lock its own thread out
         self.numbers = self.core.numbers = Numbers(first, state)
-        self.socket = socket.socket(socket.AF_INET, socket.SOCK_DGRAM)
-        self.socket.bind((LOOPBACK, 0))
+        own = own_address(self.core.ports)
+        self.socket = socket.socket(socket.AF_INET6 if ":" in own else socket.AF_INET, socket.SOCK_DGRAM)
+        self.socket.bind((own, 0))
 
     @property
     def cluster(self) -> int:
@@ -49,8 +55,8 @@ class Base:
         return self.core.client
 
     @property
-    def leader(self) -> int | None:
-        """The port from which the last answer came, None if none has come since a node was silent."""
+    def leader(self) -> Place | None:
+        """The place from which the last answer came, None if none has come since a node was silent."""
         return self.core.leader
 
     @property

@@ -6,9 +6,10 @@ from collections.abc import Iterator
 from types import TracebackType
 from typing import Any, Self, TypeVar
 
-from .base import LONGEST, LOOPBACK, Base
+from .base import LONGEST, Base
 from .core import Datagram, Effect, Listen, Plan, Send, Sleep
 from .errors import Unanswered
+from .places import Place, address_of, placed
 from .results import Free, Held, HeldShared, result
 from .wire import Answer, Op, join_op, leave_op, raise_op, table_op
 
@@ -19,8 +20,10 @@ class Client(Base):
     """A client whose calls wait, for one thread at a time. A forked child cannot use it: `Forked` is raised there.
 
     cluster: its number. client: the number of this client, 1 to 256, which nobody else uses. ports: those of the nodes
-    on 127.0.0.1, one at least. first: the number of the first request. state: a file that keeps the numbers over
-    restarts; one of the two has to be given. patience: seconds until NoAnswer. Use it in a `with`, or call `close`.
+    on 127.0.0.1, or (address, port) of each, one at least. first: the number of the first request. state: a file that
+    keeps the numbers over restarts; one of the two has to be given. patience: seconds until NoAnswer. hosts: a file of
+    lines NODE ADDRESS, where a node named by another one lives. key: the file of this client's key. Use it in a `with`,
+    or call `close`.
     """
 
     def close(self) -> None:
@@ -160,18 +163,18 @@ class Client(Base):
             time.sleep(effect.seconds)
         return None
 
-    def send(self, data: bytes, port: int) -> None:
+    def send(self, data: bytes, place: Place) -> None:
         """Sends the bytes. A datagram that cannot be sent counts as lost."""
         with contextlib.suppress(OSError):
-            self.socket.sendto(data, (LOOPBACK, port))
+            self.socket.sendto(data, address_of(place))
 
     def receive(self, until: float) -> Datagram | None:
         """The next datagram that comes by then."""
         while (left := until - self.core.clock()) > 0:
             self.socket.settimeout(left)
             try:
-                data, (_, port) = self.socket.recvfrom(LONGEST)
-                return Datagram(data, port)
+                data, (address, port, *_) = self.socket.recvfrom(LONGEST)
+                return Datagram(data, placed(address, port))
             except TimeoutError:
                 return None
             except OSError:

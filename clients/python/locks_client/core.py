@@ -6,14 +6,16 @@ Each call is a plan: a generator that yields what is to be done (`Send`, `Listen
 import itertools
 import logging
 import time
-from collections.abc import Callable, Generator, Iterable
+from collections.abc import Callable, Generator, Iterable, Mapping, Sequence
 from typing import Any, NamedTuple, TypeVar
 
 from .errors import Busy, LocksError, NoAnswer, NotHeld, Passed, Refused, Unanswered
 from .numbers import SPARE, Numbers
+from .places import Place, address_of, place_of, placed
 from .results import Free, Held, HeldShared, result
+from .seals import Seals
 from .waits import Polls, waits
-from .wire import MAX_CLIENT, MAX_PORT, Answer, Elsewhere, Op, Overtaken, ranged, read_reply, request_bytes, table_op
+from .wire import MAX_CLIENT, Answer, Elsewhere, Op, Overtaken, ranged, read_reply, request_bytes, table_op
 
 MAX_ELSEWHERE = 7  # Elsewheres that are followed between two waits: a cluster has no more members
 ANSWER_TIME = 0.5  # seconds that a request is given at least: none is begun later before the end of a wait
@@ -23,17 +25,17 @@ log = logging.getLogger("locks_client")
 
 
 class Datagram(NamedTuple):
-    """Bytes that came, and the port they came from."""
+    """Bytes that came, and the place they came from."""
 
     data: bytes
-    port: int
+    port: Place
 
 
 class Send(NamedTuple):
-    """These bytes go to that port of 127.0.0.1."""
+    """These bytes go to that place."""
 
     data: bytes
-    port: int
+    port: Place
 
 
 class Listen(NamedTuple):
@@ -80,18 +82,21 @@ class Core:
         self,
         cluster: int,
         client: int,
-        ports: Iterable[int],
+        ports: Iterable[Place],
         patience: float = 10.0,
         clock: Callable[[], float] = time.monotonic,
+        hosts: Mapping[int, str] | None = None,
+        keys: Sequence[bytes] = (),
     ) -> None:
         self.cluster = ranged(cluster, 0, (1 << 64) - 1, "cluster")
         self.client = ranged(client, 1, MAX_CLIENT, "client")
-        self.ports = [ranged(port, 1, MAX_PORT, "port") for port in ports]
+        self.ports = [place_of(port) for port in ports]
         if not self.ports:
             raise ValueError("no port of a node is given")
-        self.patience, self.clock = patience, clock
+        self.patience, self.clock, self.hosts = patience, clock, hosts or {}
+        self.seals = Seals(self.cluster, self.client, keys)
         self.turn = itertools.cycle(self.ports)
-        self.leader: int | None = None  # the port from which the last answer came
+        self.leader: Place | None = None  # the place from which the last answer came
         self.open: Request | None = None
         self.last: Request | None = None
         self.grants: dict[str, Grant] = {}
@@ -163,7 +168,8 @@ class Core:
         if self.open:
             raise Unanswered()
         number = self.numbers.take(0 if op.word == "release" else SPARE)
-        self.open = self.last = Request(number, request_bytes(self.cluster, self.client, number, op), op, made)
+        data = self.seals.sealed(request_bytes(self.cluster, self.client, number, op))
+        self.open = self.last = Request(number, data, op, made)
         return (yield from self.again(end))
 
     def again(self, end: float | None = None) -> Plan[Any]:
@@ -199,7 +205,7 @@ class Core:
                 return answer
             if self.clock() >= end:
                 raise NoAnswer()
-            log.debug("number %d: no answer from port %d", request.number, port)
+            log.debug("number %d: no answer from %s", request.number, port)
             port = self.port_after(port)
         raise NoAnswer()
 
@@ -207,7 +213,7 @@ class Core:
         """The answer that comes by then. A few Elsewheres are followed."""
         followed = 0
         while heard := (yield Listen(until)):
-            reply = read_reply(heard.data, self.cluster, self.client, request.number)
+            reply = read_reply(self.seals.opened(heard.data), self.cluster, self.client, request.number)
             if isinstance(reply, Answer):
                 self.leader = heard.port
                 return reply
@@ -216,10 +222,14 @@ class Core:
                 raise Passed(reply.last)
             if isinstance(reply, Elsewhere) and followed < MAX_ELSEWHERE:
                 followed += 1
-                yield Send(request.data, reply.port)
+                yield Send(request.data, self.place_in(reply, heard.port))
         return None
 
-    def port_after(self, silent: int) -> int:
+    def place_in(self, reply: Elsewhere, teller: Place) -> Place:
+        """Where the node lives that an Elsewhere names: where the hosts say, else at the address of who told it."""
+        return placed(self.hosts.get(reply.node, address_of(teller)[0]), reply.port)
+
+    def port_after(self, silent: Place) -> Place:
         """The next port in turn, another one than the silent one if there is one."""
         self.leader = None
         port = next(self.turn)

@@ -1,11 +1,13 @@
 """The program: one request and its answer, or a command that runs while a lock is held."""
 import argparse
+import itertools
 import math
 import sys
 
 from .client import Client
 from .errors import LocksError, NoAnswer, Passed
 from .hold import hold, tell
+from .places import LOOPBACK, Place
 from .results import FAILING, fitting
 from .statuses import INTERRUPTED, REFUSED, TABLE, status_of
 from .wire import Op, op_of, table_op
@@ -36,7 +38,10 @@ def arguments() -> argparse.ArgumentParser:
     )
     add = parser.add_argument
     add("--cluster", type=int, required=True, help="the number of the cluster")
-    add("--port", type=int, action="append", required=True, help="a node's port on 127.0.0.1; may be repeated")
+    add("--port", type=int, action="append", required=True, help="a node's port; may be repeated")
+    add("--address", action="append", help="the node's address, 127.0.0.1 if not given; one for all ports or one each")
+    add("--hosts", help="a file of lines NODE ADDRESS: where each node lives")
+    add("--client-key", help="the file of this client's key")
     add("--client", type=int, required=True, help="the number of this client, 1 to 256, used by nobody else")
     add("--first", "--request", type=int, help="the first number, above all that this client used, as $(date +%%s%%3N)")
     add("--state", help="a file that keeps the numbers; a new one wants --first too; one of the two is needed")
@@ -46,6 +51,13 @@ def arguments() -> argparse.ArgumentParser:
     add("--release-wait", type=seconds, default=60.0, metavar="S", help="seconds that hold tries to release; 60")
     add("op", nargs="+", metavar="OP", help="the words of the request, or hold NAME -- COMMAND ..")
     return parser
+
+
+def places_of(ports: list[int], addresses: list[str]) -> list[Place]:
+    """Each port at its address, or all at the one that is given."""
+    if len(addresses) not in (1, len(ports)):
+        raise ValueError("give one --address, or one for each --port")
+    return list(zip(itertools.cycle(addresses), ports))
 
 
 def ask_once(client: Client, op: Op, is_strict: bool) -> int:
@@ -77,8 +89,10 @@ def main() -> int:
     args = parser.parse_args()
     try:
         op = op_in(args.op)
-        client = Client(args.cluster, args.client, args.port, args.first, args.state, args.patience)
-    except ValueError as error:
+        places = places_of(args.port, args.address or [LOOPBACK])
+        more = {"hosts": args.hosts, "key": args.client_key}
+        client = Client(args.cluster, args.client, places, args.first, args.state, args.patience, **more)
+    except (OSError, ValueError) as error:
         parser.error(str(error))
     except LocksError as error:
         tell(str(error))

@@ -2,11 +2,13 @@
 
 use crate::exchange::Open;
 use crate::holding::granted;
+use crate::key::{Keys, Seals};
 use crate::log::Log;
 use crate::numbers::Use;
 use crate::op::Op;
 use crate::{Answer, ClientId, ClusterId, Error, Event, Lock, Numbers};
-use std::net::{Ipv4Addr, UdpSocket};
+use std::collections::HashMap;
+use std::net::{IpAddr, Ipv4Addr, Ipv6Addr, SocketAddr, UdpSocket};
 use std::time::Duration;
 
 /// How long a request waits for its answer where nothing else is said.
@@ -75,19 +77,32 @@ pub enum Standing {
 /// ```
 #[derive(Debug)]
 pub struct Client {
-    pub(crate) cluster: ClusterId,
-    pub(crate) client: ClientId,
-    pub(crate) ports: Vec<u16>,
+    pub(crate) seals: Seals,
+    pub(crate) places: Vec<SocketAddr>,
+    // where nodes live that other nodes name
+    pub(crate) hosts: HashMap<u32, IpAddr>,
     pub(crate) numbers: Numbers,
     pub(crate) patience: Duration,
     pub(crate) drop_patience: Duration,
     pub(crate) socket: UdpSocket,
-    // the place in `ports` of the node that is asked next
+    // which of `places` is asked next
     pub(crate) turn: usize,
-    // the port from which the last answer came
-    pub(crate) leader: Option<u16>,
+    // where the last answer came from
+    pub(crate) leader: Option<SocketAddr>,
     pub(crate) open: Option<Open>,
     pub(crate) log: Log,
+}
+
+/// Where a client that asks there listens: on loopback where all are 127.0.0.1, else anywhere in
+/// their family.
+fn own_address(places: &[SocketAddr]) -> IpAddr {
+    if places.iter().all(|place| place.ip() == Ipv4Addr::LOCALHOST) {
+        return Ipv4Addr::LOCALHOST.into();
+    }
+    match places[0] {
+        SocketAddr::V4(_) => Ipv4Addr::UNSPECIFIED.into(),
+        SocketAddr::V6(_) => Ipv6Addr::UNSPECIFIED.into(),
+    }
 }
 
 impl Client {
@@ -102,7 +117,36 @@ impl Client {
         ports: &[u16],
         numbers: Numbers,
     ) -> Result<Client, Error> {
-        if ports.is_empty() || ports.contains(&0) {
+        let at = |port: &u16| SocketAddr::from((Ipv4Addr::LOCALHOST, *port));
+        let places: Vec<SocketAddr> = ports.iter().map(at).collect();
+        Client::at(cluster, client, &places, numbers)
+    }
+
+    /// The same of a client that asks nodes at these addresses and ports, all of one family.
+    ///
+    /// Give it its key ([`Client::set_key`]) where other machines reach it: without one, anybody who
+    /// reaches its socket can tell it that it was granted a lock.
+    ///
+    /// ```
+    /// # use locks_client::*;
+    /// # fn main() -> Result<(), Box<dyn std::error::Error>> {
+    /// # let key = "11".repeat(32);
+    /// let places = ["10.0.0.1:7101".parse()?, "10.0.0.2:7101".parse()?];
+    /// let numbers = Numbers::from_first(milliseconds())?;
+    /// let mut client = Client::at(ClusterId::new(5), ClientId::new(7)?, &places, numbers)?;
+    /// client.set_key(Keys::read(&key)?);
+    /// client.set_hosts([(1, "10.0.0.1".parse()?), (2, "10.0.0.2".parse()?)]);
+    /// # Ok(())
+    /// # }
+    /// ```
+    pub fn at(
+        cluster: ClusterId,
+        client: ClientId,
+        places: &[SocketAddr],
+        numbers: Numbers,
+    ) -> Result<Client, Error> {
+        if places.is_empty() || places.iter().any(|place| place.port() == 0) {
+            let ports: Vec<u16> = places.iter().map(SocketAddr::port).collect();
             return Err(Error::malformed(
                 "ports",
                 format_args!("{ports:?}"),
@@ -110,14 +154,19 @@ impl Client {
             ));
         }
         numbers.of_this_process()?;
+        let keys = None;
         Ok(Client {
-            cluster,
-            client,
-            ports: ports.to_vec(),
+            seals: Seals {
+                cluster,
+                client,
+                keys,
+            },
+            places: places.to_vec(),
+            hosts: HashMap::new(),
             numbers,
             patience: PATIENCE,
             drop_patience: DROP_PATIENCE,
-            socket: UdpSocket::bind((Ipv4Addr::LOCALHOST, 0)).map_err(Error::Socket)?,
+            socket: UdpSocket::bind((own_address(places), 0)).map_err(Error::Socket)?,
             turn: 0,
             leader: None,
             open: None,
@@ -127,7 +176,19 @@ impl Client {
 
     /// The client's number.
     pub fn id(&self) -> ClientId {
-        self.client
+        self.seals.client
+    }
+
+    /// Sets the key of this client: what it asks is sealed from now on, and of what comes it takes
+    /// what nodes have sealed for it alone.
+    pub fn set_key(&mut self, keys: Keys) {
+        self.seals.keys = Some(keys);
+    }
+
+    /// Sets where nodes live that other nodes name. One that does not stand there is asked at the
+    /// address of the node that names it.
+    pub fn set_hosts(&mut self, hosts: impl IntoIterator<Item = (u32, IpAddr)>) {
+        self.hosts = hosts.into_iter().collect();
     }
 
     /// Sets how long a request waits for its answer, at first ten seconds.

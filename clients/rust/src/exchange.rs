@@ -5,7 +5,7 @@ use crate::op::{Kind, Op};
 use crate::reply::{Label, Reply};
 use crate::{Answer, Client, Error, Event, Waits};
 use std::io::ErrorKind;
-use std::net::Ipv4Addr;
+use std::net::SocketAddr;
 use std::thread;
 use std::time::{Duration, Instant};
 
@@ -13,6 +13,8 @@ use std::time::{Duration, Instant};
 const FOLLOWED: u32 = 7;
 /// The wait after a socket that could not be read.
 const PAUSE: Duration = Duration::from_millis(10);
+/// The bytes that are read of a datagram: more than any reply has.
+const LONGEST: usize = 100;
 
 /// A request that has no answer yet.
 #[derive(Clone, Debug)]
@@ -55,15 +57,15 @@ impl Client {
         }
         op.write(&mut Vec::new())?; // so that nothing malformed uses a number up
         let label = Label {
-            cluster: self.cluster.get(),
-            client: self.client.get(),
+            cluster: self.seals.cluster.get(),
+            client: self.seals.client.get(),
             number: self.numbers.take(used_for)?,
         };
         self.open = Some(Open {
             label,
             kind: op.kind(),
             name: op.wanted().map(str::to_owned),
-            bytes: label.request(&op)?,
+            bytes: self.seals.sealed(label.request(&op)?),
         });
         Ok(())
     }
@@ -82,9 +84,9 @@ impl Client {
     /// Sends a request to one node after the other until its answer comes.
     fn exchange(&mut self, open: &Open, patience: Duration) -> Result<Answer, Error> {
         let start = Instant::now();
-        let mut port = self.leader.unwrap_or(self.ports[self.turn]);
+        let mut place = self.leader.unwrap_or(self.places[self.turn]);
         for wait in Waits::default() {
-            self.send(open, port);
+            self.send(open, place);
             let left = patience.saturating_sub(start.elapsed());
             if let Some(answer) = self.answer_by(open, Instant::now() + wait.min(left))? {
                 return Ok(answer);
@@ -92,7 +94,7 @@ impl Client {
             if start.elapsed() >= patience {
                 break;
             }
-            port = self.port_after(port);
+            place = self.place_after(place);
         }
         let number = open.label.number;
         self.log.tell(&Event::Unanswered { number });
@@ -102,22 +104,22 @@ impl Client {
     /// The answer that comes by then. A few Elsewheres are followed.
     fn answer_by(&mut self, open: &Open, until: Instant) -> Result<Option<Answer>, Error> {
         let mut followed = 0;
-        while let Some((reply, port)) = self.receive(&open.label, until)? {
-            self.tell(open.label.number, port, &reply);
+        while let Some((reply, from)) = self.receive(&open.label, until)? {
+            self.tell(open.label.number, from.port(), &reply);
             match reply {
                 Reply::Answer(answer) => {
-                    self.leader = Some(port);
+                    self.leader = Some(from);
                     return Ok(Some(answer));
                 }
                 Reply::Passed(last) => {
                     self.open = None;
                     return Err(Error::Passed(last));
                 }
-                Reply::Elsewhere(other) if followed < FOLLOWED => {
+                Reply::Elsewhere { node, port } if followed < FOLLOWED => {
                     followed += 1;
-                    self.send(open, other);
+                    self.send(open, self.place_of(node, port, from));
                 }
-                Reply::Elsewhere(_) => {}
+                Reply::Elsewhere { .. } => {}
             }
         }
         Ok(None)
@@ -132,7 +134,7 @@ impl Client {
                 answer,
             },
             Reply::Passed(last) => Event::Passed { number, last },
-            Reply::Elsewhere(other) => Event::Elsewhere {
+            Reply::Elsewhere { port: other, .. } => Event::Elsewhere {
                 number,
                 port,
                 other,
@@ -140,31 +142,36 @@ impl Client {
         });
     }
 
-    /// The next port in turn, another one than the silent one where there is one.
-    fn port_after(&mut self, silent: u16) -> u16 {
+    /// Where a node lives that an Elsewhere names: where the hosts say, else at the address of who
+    /// told it.
+    fn place_of(&self, node: u32, port: u16, teller: SocketAddr) -> SocketAddr {
+        let address = self.hosts.get(&node).copied().unwrap_or(teller.ip());
+        SocketAddr::new(address, port)
+    }
+
+    /// The next place in turn, another one than the silent one where there is one.
+    fn place_after(&mut self, silent: SocketAddr) -> SocketAddr {
         self.leader = None;
-        for _ in 0..self.ports.len() {
-            self.turn = (self.turn + 1) % self.ports.len();
-            if self.ports[self.turn] != silent {
+        for _ in 0..self.places.len() {
+            self.turn = (self.turn + 1) % self.places.len();
+            if self.places[self.turn] != silent {
                 break;
             }
         }
-        self.ports[self.turn]
+        self.places[self.turn]
     }
 
     /// Sends the request. One that cannot be sent counts as lost.
-    fn send(&mut self, open: &Open, port: u16) {
-        let number = open.label.number;
+    fn send(&mut self, open: &Open, place: SocketAddr) {
+        let (number, port) = (open.label.number, place.port());
         self.log.tell(&Event::Sent { number, port });
-        let _ = self
-            .socket
-            .send_to(&open.bytes, (Ipv4Addr::LOCALHOST, port));
+        let _ = self.socket.send_to(&open.bytes, place);
     }
 
-    /// The first reply to the request that comes by then, with the port it came from. All else is
+    /// The first reply to the request that comes by then, with the place it came from. All else is
     /// dropped.
-    fn receive(&self, label: &Label, until: Instant) -> Result<Option<(Reply, u16)>, Error> {
-        let mut buffer = [0; 64];
+    fn receive(&self, label: &Label, until: Instant) -> Result<Option<(Reply, SocketAddr)>, Error> {
+        let mut buffer = [0; LONGEST];
         loop {
             let left = until.saturating_duration_since(Instant::now());
             if left.is_zero() {
@@ -175,8 +182,9 @@ impl Client {
                 .map_err(Error::Socket)?;
             match self.socket.recv_from(&mut buffer) {
                 Ok((length, from)) => {
-                    if let Some(reply) = label.reply(&buffer[..length]) {
-                        return Ok(Some((reply, from.port())));
+                    let datagram = self.seals.opened(&buffer[..length]);
+                    if let Some(reply) = datagram.and_then(|it| label.reply(it)) {
+                        return Ok(Some((reply, from)));
                     }
                 }
                 Err(error)

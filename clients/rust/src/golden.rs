@@ -8,12 +8,17 @@ use std::fs;
 const PATH: &str = concat!(env!("CARGO_MANIFEST_DIR"), "/../golden.txt");
 
 /// The bytes of hex digits.
-fn hex(text: &str) -> Vec<u8> {
+pub(crate) fn hex(text: &str) -> Vec<u8> {
     assert!(text.len().is_multiple_of(2), "{text}");
     let pairs = (0..text.len()).step_by(2);
     pairs
         .map(|at| u8::from_str_radix(&text[at..at + 2], 16).unwrap())
         .collect()
+}
+
+/// The hex digits of bytes.
+pub(crate) fn text_of(bytes: &[u8]) -> String {
+    bytes.iter().map(|byte| format!("{byte:02x}")).collect()
 }
 
 /// The lines of that kind, their words after it.
@@ -51,7 +56,7 @@ fn op(words: &[String]) -> Op<'_> {
 }
 
 /// The rows of a kind, each checked; there have to be some.
-fn each(kind: &str, check: impl Fn(&[String])) {
+pub(crate) fn each(kind: &str, check: impl Fn(&[String])) {
     let text = fs::read_to_string(PATH).unwrap();
     let rows = rows(&text, kind);
     assert!(!rows.is_empty(), "no row of {kind}");
@@ -79,7 +84,8 @@ fn each_answer_is_read() {
 #[test]
 fn each_elsewhere_and_passed_is_read() {
     each("elsewhere", |words| {
-        let expected = Reply::Elsewhere(words[6].parse().unwrap());
+        let (node, port) = (words[5].parse().unwrap(), words[6].parse().unwrap());
+        let expected = Reply::Elsewhere { node, port };
         assert_eq!(label(&words[1..]).reply(&hex(&words[0])), Some(expected));
     });
     each("passed", |words| {

@@ -55,7 +55,9 @@ impl Client {
             let found = self.fence_by(op, limit.saturating_sub(start.elapsed()));
             let left = wait.saturating_sub(start.elapsed());
             match found {
-                Err(Error::Busy { holder, fence }) if holder != self.client && !left.is_zero() => {
+                Err(Error::Busy { holder, fence })
+                    if holder != self.seals.client && !left.is_zero() =>
+                {
                     self.pause(holder, fence, waits.after(fence).min(left));
                 }
                 found => return found,

@@ -21,8 +21,11 @@ pub(crate) struct Label {
 #[derive(Clone, Copy, Debug, PartialEq, Eq)]
 pub(crate) enum Reply {
     Answer(Answer),
-    /// A node at this port may lead.
-    Elsewhere(u16),
+    /// That node, at this port, may lead.
+    Elsewhere {
+        node: u32,
+        port: u16,
+    },
     /// A request of the client with this greater number was executed.
     Passed(u64),
 }
@@ -55,7 +58,7 @@ impl Label {
         }
         match kind {
             ANSWER => Answer::read(rest).map(Reply::Answer),
-            ELSEWHERE => elsewhere(rest).map(Reply::Elsewhere),
+            ELSEWHERE => elsewhere(rest),
             PASSED => self.passed(rest).map(Reply::Passed),
             _ => None,
         }
@@ -68,14 +71,14 @@ impl Label {
     }
 }
 
-/// The port that an Elsewhere tells.
-fn elsewhere(rest: &[u8]) -> Option<u16> {
+/// The node and the port that an Elsewhere tells.
+fn elsewhere(rest: &[u8]) -> Option<Reply> {
     let [n0, n1, n2, n3, p0, p1] = *rest else {
         return None;
     };
     let node = u32::from_be_bytes([n0, n1, n2, n3]);
     let port = u16::from_be_bytes([p0, p1]);
-    ((1..=MAX_NODE).contains(&node) && port > 0).then_some(port)
+    ((1..=MAX_NODE).contains(&node) && port > 0).then_some(Reply::Elsewhere { node, port })
 }
 
 #[cfg(test)]
@@ -117,7 +120,11 @@ mod tests {
         assert_eq!(LABEL.reply(&passed), Some(Reply::Passed(2)));
         let elsewhere =
             hex("4c4b010b 0000000000000005 00000001 0007 0000000000000001 00000002 1b5a");
-        assert_eq!(LABEL.reply(&elsewhere), Some(Reply::Elsewhere(7002)));
+        let leads = Reply::Elsewhere {
+            node: 2,
+            port: 7002,
+        };
+        assert_eq!(LABEL.reply(&elsewhere), Some(leads));
     }
 
     #[test]

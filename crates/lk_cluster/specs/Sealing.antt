@@ -21,7 +21,7 @@ WasGiven sent bytes = (d : Datagram) × Contains sent d × (d.bytes ≡ bytes)
 -- be sent. It holds of a key that only the nodes of one cluster have, and only in one life of it: nobody without a key can compute the HMAC-SHA-256 of
 -- a message under it (RFC 2104, section 6). Frames may be lost, repeated, delayed or cut, and anybody may send other bytes
 abbrev pub OnlyNodesSeal : List Datagram → Seals → List ℕ → Type 0
-OnlyNodesSeal sent s frame = (datagram : List ℕ) → IsSealedBy (key_list s.nodes) (to_node s.cluster s.node) frame datagram → WasGiven sent datagram
+OnlyNodesSeal sent s frame = (datagram : List ℕ) → IsSealedBy (key_list s.nodes) (to_node s s.node) frame datagram → WasGiven sent datagram
 
 -- the same of all that comes in a turn
 abbrev pub OnlyNodesSealWhatComes : List Datagram → Seals → List (SocketAddr × List ℕ) → Type 0

@@ -41,7 +41,7 @@ const SUBCOMMANDS: &[Usage] = &[
         (Kind::Given, "hosts", "a file of lines NODE ADDRESS: where each node lives"),
         (Kind::Given, "bind", "the address at which the node listens"),
         (Kind::Given, "key", "the file of the key that the nodes share"),
-        (Kind::Given, "client-key", "the file of the key that the clients share"),
+        (Kind::Given, "client-key", "the file of the master of which the clients' keys are made"),
         (Kind::Flag, "log", "tells on standard error what is counted and run"),
         (Kind::Flag, "verbose", "tells on standard error what --log does, and what else happens to the node"),
     ]),
@@ -50,7 +50,7 @@ const SUBCOMMANDS: &[Usage] = &[
         (Kind::Word, "port", "the port of a node"),
         (Kind::Given, "address", "the address of that node"),
         (Kind::Given, "hosts", "a file of lines NODE ADDRESS: where each node lives"),
-        (Kind::Given, "client-key", "the file of the key that the clients share"),
+        (Kind::Given, "client-key", "the file of the client's key"),
         (Kind::Word, "client", "the number of the client, 1 to 256"),
         (Kind::Word, "request", "the number of the request, higher each time"),
         (Kind::Words, "op", "acquire NAME, release NAME FENCE, ask NAME, check NAME FENCE, share NAME, break NAME FENCE, join NODE PORT, leave NODE, raise 2 or raw HEX"),
@@ -61,6 +61,10 @@ const SUBCOMMANDS: &[Usage] = &[
     ]),
     ("inspect", "prints what the store of a folder comes to", &[
         (Kind::Word, "dir", "the folder of a node's files"),
+    ]),
+    ("client-key", "prints the key of a client", &[
+        (Kind::Word, "master", "the file of the master of which the clients' keys are made"),
+        (Kind::Word, "client", "the number of the client, 1 to 256"),
     ]),
 ];
 

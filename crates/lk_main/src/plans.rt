@@ -73,6 +73,12 @@ fn client_of(word: &[u8]) -> Option<ClientNo> {
     ClientNo::of(number as u16)
 }
 
+/// The file of the masters, and the client whose key `locks client-key` is to print.
+pub fn client_key_plan<'a>(matches: &ArgMatches<'a>) -> Option<(&'a str, ClientNo)> {
+    let client = client_of(word(matches, "client")?)?;
+    Some((matches.get_str("master")?, client))
+}
+
 /// The question of an operation that `locks ask` is to put.
 fn question_of(matches: &ArgMatches<'_>, op: Op) -> Option<Question> {
     let cluster = read_number(word(matches, "cluster")?, u64::MAX)?;

@@ -10,10 +10,11 @@ pub enum Subcommand {
     Demo,
     Dump,
     Inspect,
+    ClientKey,
 }
 
 /// All of them, by their names.
-const NAMED: [(&str, Subcommand); 7] = [
+const NAMED: [(&str, Subcommand); 8] = [
     ("sim", Subcommand::Sim),
     ("fuzz", Subcommand::Fuzz),
     ("node", Subcommand::Node),
@@ -21,6 +22,7 @@ const NAMED: [(&str, Subcommand); 7] = [
     ("demo", Subcommand::Demo),
     ("dump", Subcommand::Dump),
     ("inspect", Subcommand::Inspect),
+    ("client-key", Subcommand::ClientKey),
 ];
 
 impl Subcommand {

@@ -3,7 +3,7 @@
 ghost use Rattle.std.specs.Prelude.{◌≤◌};
 
 use crate::commands::program;
-use crate::plans::{ask_away, ask_plan, fuzz_plan, node_plan};
+use crate::plans::{ask_away, ask_plan, client_key_plan, fuzz_plan, node_plan};
 use crate::subcommand::Subcommand;
 use clap::error::ErrorKind;
 use clap::{ArgMatches, Error};
@@ -17,6 +17,7 @@ use lk_script::fault::ScriptFault;
 use lk_script::script::run_to_end;
 use lk_server::fault::ServiceFault;
 use lk_service::causes::open_socket_at;
+use lk_service::client_key::client_key;
 use lk_service::demo::demo;
 use lk_service::dump::dump;
 use lk_service::outside::{Away, far_of};
@@ -128,6 +129,22 @@ fn ask_words<R: Files<File = File> + Net, W: Write, E: Write>(
     }
 }
 
+/// Prints the key of a client.
+fn client_key_words<R: Files<File = File>, W: Write, E: Write>(
+    rt: &R,
+    alloc: Global,
+    matches: &ArgMatches<'_>,
+    out: &mut W,
+    err: &mut E,
+) -> u8
+    ensures { result ≤ 2 }
+{
+    match client_key_plan(matches) {
+        Some((master, client)) => client_key(rt, alloc, master, client, out, err),
+        None => refuse_words(err),
+    }
+}
+
 /// Runs a random schedule.
 fn fuzz_words<W: Write, E: Write>(
     alloc: Global,
@@ -162,6 +179,7 @@ fn run_subcommand<H: Files<File = File> + Net + Eprint, R: BufRead, W: Write, E:
         Subcommand::Ask => ask_words(rt, alloc, matches, out, err),
         Subcommand::Demo => demo::<LockTable, H, W, E>(rt, alloc, out, err),
         Subcommand::Dump => dump(rt, alloc, folder_in(matches), out, err),
+        Subcommand::ClientKey => client_key_words(rt, alloc, matches, out, err),
         Subcommand::Inspect => inspect(rt, alloc, folder_in(matches), out, err),
     }
 }

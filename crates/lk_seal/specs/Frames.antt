@@ -22,9 +22,9 @@ purpose_byte Replying = 3
 abbrev pub head : Purpose → List ℕ
 head p = 76 ∷ 83 ∷ 1 ∷ purpose_byte p ∷ []
 
--- what is tagged in front of the datagram: for what it is, the cluster, and for whom
+-- what is tagged in front of the datagram: for what it is, the cluster, the digest of its genesis, and for whom
 unfoldable pub front : Scope → List ℕ
-front s = label s.purpose ++ (to_be_bytes w64 s.cluster ++ to_be_bytes w32 s.bound)
+front s = label s.purpose ++ (to_be_bytes w64 s.cluster ++ (s.genesis ++ to_be_bytes w32 s.bound))
 
 -- the tag of a datagram
 unfoldable pub seal_tag : List ℕ → Scope → List ℕ → List ℕ

@@ -1,5 +1,6 @@
 -- What a node makes of the bytes that come to its socket, and of the datagrams that it sends.
-use Rattle.std.specs.Prelude.{◌≡◌, ◌⊎◌, ℕ, List, [], ◌∷◌, Option, Some, None, if◌then◌else◌, ◌==◌, slice_index}
+use Rattle.std.specs.Prelude.{◌≡◌, ◌⊎◌, ℕ, List, [], ◌∷◌, Option, Some, None, if◌then◌else◌, ◌==◌, slice_index, drop, replicate}
+use Rattle.lk_seal.specs.Clients.{client_keys, client_in}
 use Rattle.lk_seal.specs.Frames.{sealed, opened}
 use Rattle.lk_seal.specs.declared.frame.Purpose.TheVariants.{ToNode, Asking, Replying}
 use Rattle.lk_seal.specs.declared.frame.Scope.{Scope}
@@ -13,17 +14,21 @@ key_list keys.NoKey = []
 key_list (keys.One key) = key ∷ []
 key_list (keys.Two first second) = first ∷ second ∷ []
 
--- what a node says to that node
-abbrev pub to_node : ℕ → ℕ → Scope
-to_node cluster node = record { purpose = ToNode; cluster = cluster; bound = node }
+-- what a node of the same genesis says to that node
+abbrev pub to_node : Seals → ℕ → Scope
+to_node s node = record { purpose = ToNode; cluster = s.cluster; genesis = s.genesis; bound = node }
 
--- what a client asks
-abbrev pub asking : ℕ → Scope
-asking cluster = record { purpose = Asking; cluster = cluster; bound = 0 }
+-- zeros stand for the digest of the genesis in what a client asks or is replied: it knows its cluster by the number alone
+abbrev pub no_genesis : List ℕ
+no_genesis = replicate 32 0
 
--- what a node replies to a client
-abbrev pub replying : ℕ → Scope
-replying cluster = record { purpose = Replying; cluster = cluster; bound = 0 }
+-- what that client asks
+abbrev pub asking : ℕ → ℕ → Scope
+asking cluster client = record { purpose = Asking; cluster = cluster; genesis = no_genesis; bound = client }
+
+-- what a node replies to that client
+abbrev pub replying : ℕ → ℕ → Scope
+replying cluster client = record { purpose = Replying; cluster = cluster; genesis = no_genesis; bound = client }
 
 -- the first that is there
 abbrev pub first_of : Option (List ℕ) → Option (List ℕ) → Option (List ℕ)
@@ -43,10 +48,15 @@ abbrev pub only_request_in : Option (List ℕ) → List ℕ
 only_request_in None = []
 only_request_in (Some datagram) = only_request datagram
 
--- what a client has sent; nothing where that is not of its kind, or where there are keys and none of them opens it
+-- what that client has sent, by the keys that the masters make for it
+abbrev pub heard_of : ℕ → List (List ℕ) → ℕ → List ℕ → List ℕ
+heard_of client masters cluster frame = only_request_in (opened_by (client_keys client masters) (asking cluster client) frame)
+
+-- what a client has sent; nothing where that is not of its kind, or where there are masters and no key that they make for the client that
+-- the datagram names opens it
 abbrev pub heard_of_client : List (List ℕ) → ℕ → List ℕ → List ℕ
 heard_of_client [] cluster frame = only_request frame
-heard_of_client (key ∷ keys) cluster frame = only_request_in (opened_by (key ∷ keys) (asking cluster) frame)
+heard_of_client (key ∷ keys) cluster frame = heard_of (client_in (drop 36 frame)) (key ∷ keys) cluster frame
 
 -- what a node has said to this one, or else what a client has sent
 abbrev pub said_or : Option (List ℕ) → List ℕ → List ℕ
@@ -56,7 +66,7 @@ said_or None other = other
 -- what is taken of the bytes that come: all as it is, where the nodes have no key
 abbrev pub heard_with : List (List ℕ) → Seals → List ℕ → List ℕ
 heard_with [] s frame = frame
-heard_with (key ∷ keys) s frame = said_or (opened_by (key ∷ keys) (to_node s.cluster s.node) frame) (heard_of_client (key_list s.clients) s.cluster frame)
+heard_with (key ∷ keys) s frame = said_or (opened_by (key ∷ keys) (to_node s s.node) frame) (heard_of_client (key_list s.clients) s.cluster frame)
 
 abbrev pub heard : Seals → List ℕ → List ℕ
 heard s frame = heard_with (key_list s.nodes) s frame
@@ -80,7 +90,7 @@ abbrev pub IsAmong : List ℕ → List (List ℕ) → Type 0
 IsAmong key [] = ⊥
 IsAmong key (other ∷ keys) = (key ≡ other) ⊎ IsAmong key keys
 
--- what a client takes of the bytes that come: what a node has replied, and all as it is where there is no key
-abbrev pub replied : List (List ℕ) → ℕ → List ℕ → List ℕ
-replied [] cluster frame = frame
-replied (key ∷ keys) cluster frame = said_or (opened_by (key ∷ keys) (replying cluster) frame) []
+-- what that client takes of the bytes that come: what a node has replied to it, and all as it is where there is no key
+abbrev pub replied : List (List ℕ) → ℕ → ℕ → List ℕ → List ℕ
+replied [] cluster client frame = frame
+replied (key ∷ keys) cluster client frame = said_or (opened_by (key ∷ keys) (replying cluster client) frame) []

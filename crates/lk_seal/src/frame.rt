@@ -14,7 +14,10 @@ const HEAD: usize = 4;
 pub const OVERHEAD: usize = HEAD + TAG;
 
 /// The bytes that are tagged in front of a datagram.
-const FRONT: usize = 28;
+const FRONT: usize = 60;
+
+/// The bytes of a genesis' digest.
+pub const DIGEST: usize = 32;
 
 /// For what a frame is.
 #[derive(Clone, Copy, PartialEq, Eq)]
@@ -27,11 +30,13 @@ pub enum Purpose {
     Replying,
 }
 
-/// What a tag vouches for beside the datagram: for what it is, in which cluster, and for which node, or 0.
+/// What a tag vouches for beside the datagram: for what it is, in which cluster, of which genesis, and for which node, or 0. For clients
+/// zeros stand for the digest of the genesis.
 #[derive(Clone, Copy)]
 pub struct Scope {
     pub purpose: Purpose,
     pub cluster: u64,
+    pub genesis: [u8; DIGEST],
     pub bound: u32,
 }
 
@@ -66,9 +71,10 @@ fn front_of(scope: &Scope) -> [u8; FRONT]
     ensures { result ≡ front scope.now }
 {
     let mut bytes = [0; FRONT];
-    bytes[..16].copy_from_slice(&scope.purpose.label());
+    bytes[56..].copy_from_slice(&scope.bound.to_be_bytes());
+    bytes[24..56].copy_from_slice(&scope.genesis);
     bytes[16..24].copy_from_slice(&scope.cluster.to_be_bytes());
-    bytes[24..].copy_from_slice(&scope.bound.to_be_bytes());
+    bytes[..16].copy_from_slice(&scope.purpose.label());
     bytes
 }
 

@@ -1,5 +1,7 @@
 ghost use Rattle.std.specs.Prelude.{◌≡◌, ◌↔◌, ℕ, IsTrue, List};
+ghost use Rattle.lk_seal.specs.Clients.{client_key};
 
+use crate::mac::tag_of;
 use std::marker::Model;
 
 /// The bytes of a key.
@@ -32,6 +34,14 @@ impl Key {
         ensures { IsTrue result ↔ (self.now ≡ other.now) }
     {
         self.bytes == other.bytes
+    }
+
+    /// The key of a client, made of this one, which is a master. Whoever has the key of one client can make that of no other.
+    #[tactic(auto, unfolding(crate::specs::Clients::client_key))]
+    pub fn of_client(&self, client: u16) -> Key
+        ensures { result ≡ client_key client self.now }
+    {
+        Key::of(tag_of(&self.bytes, b"locks v1 client", &client.to_be_bytes()))
     }
 
     /// Its bytes.

@@ -1,4 +1,5 @@
 ghost use Rattle.std.specs.Prelude.{◌≡◌, ◌≢◌, ◌↔◌, [], ℕ, List, Some, None, IsTrue, IfSome, IsNone, IfOk, IsErr};
+ghost use Rattle.lk_seal.specs.Clients.{client_keys};
 ghost use Rattle.lk_seal.specs.Seals.{key_list, opened_by, framed_by};
 
 use crate::frame::{Scope, open, seal};
@@ -36,6 +37,19 @@ impl Keys {
             Keys::NoKey => false,
             Keys::One(key) => self.has(key),
             Keys::Two(first, second) => self.has(first) || self.has(second),
+        }
+    }
+
+    /// The keys of a client, made of these, which are masters.
+    pub fn of_client(&self, client: u16) -> Keys
+        ensures { key_list result ≡ client_keys client (key_list self.now) }
+    {
+        match self {
+            Keys::NoKey => Keys::NoKey,
+            Keys::One(master) => Keys::One(master.of_client(client)),
+            Keys::Two(first, second) => {
+                Keys::Two(first.of_client(client), second.of_client(client))
+            }
         }
     }
 

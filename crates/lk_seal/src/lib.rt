@@ -10,7 +10,7 @@ mod mac;
 mod seals;
 
 pub use asker::AskerSeals;
-pub use frame::{OVERHEAD, Purpose, Scope, open, seal};
+pub use frame::{DIGEST, OVERHEAD, Purpose, Scope, open, seal};
 pub use key::{KEY, Key};
 pub use keys::Keys;
 pub use mac::{TAG, tag};

@@ -1,9 +1,10 @@
 //! What a node makes of the bytes that come to its socket, and of the datagrams that it sends.
 
-ghost use Rattle.std.specs.Prelude.{◌≡◌, ◌≢◌, [], IfOk, IsErr};
-ghost use Rattle.lk_seal.specs.Seals.{key_list, heard, heard_of_client, only_request, framed_by, to_node, asking, replying};
+ghost use Rattle.std.specs.Prelude.{◌≡◌, ◌≢◌, [], drop, IfOk, IsErr};
+ghost use Rattle.lk_seal.specs.Clients.{client_keys, client_in};
+ghost use Rattle.lk_seal.specs.Seals.{key_list, heard, heard_of, heard_of_client, only_request, framed_by, to_node, no_genesis, asking, replying};
 
-use crate::frame::{Purpose, Scope};
+use crate::frame::{DIGEST, OVERHEAD, Purpose, Scope};
 use crate::keys::Keys;
 use std::alloc::AllocError;
 
@@ -12,13 +13,38 @@ const KIND: usize = 3;
 
 const REQUEST: u8 = 9;
 
-/// The keys by which a node knows who wrote: in which cluster it is which node, the keys of the nodes, and those of the clients.
+/// The keys by which a node knows who wrote: in which cluster of which genesis it is which node, the keys of the nodes, and those of the
+/// clients' masters, of which the key of each client is made.
 #[derive(Clone, Copy)]
 pub struct Seals {
     pub cluster: u64,
+    /// The digest of the genesis.
+    pub genesis: [u8; DIGEST],
     pub node: u32,
     pub nodes: Keys,
     pub clients: Keys,
+}
+
+/// Where a request names its client, in two bytes.
+const CLIENT: usize = 16;
+
+/// What stands behind the tag of a frame.
+fn behind_tag<'a>(frame: &'a [u8]) -> &'a [u8]
+    ensures { result.now ≡ drop 36 frame.now }
+{
+    if frame.len() < OVERHEAD {
+        return &[];
+    }
+    &frame[OVERHEAD..]
+}
+
+/// The client that a request names.
+fn client_in(datagram: &[u8]) -> u16
+    ensures { result ≡ client_in datagram.now }
+{
+    let first = datagram.get(CLIENT).copied().unwrap_or(0);
+    let second = datagram.get(CLIENT + 1).copied().unwrap_or(0);
+    u16::from_be_bytes([first, second])
 }
 
 /// The datagram, where it is of the kind that clients send.
@@ -34,23 +60,36 @@ fn only_request<'a>(datagram: &'a [u8]) -> &'a [u8]
 impl Seals {
     /// What a node says to that node.
     fn to_node(&self, node: u32) -> Scope
-        ensures { result ≡ to_node self.now.cluster node }
+        ensures { result ≡ to_node self.now node }
     {
         Scope {
             purpose: Purpose::ToNode,
             cluster: self.cluster,
+            genesis: self.genesis,
             bound: node,
         }
     }
 
-    /// What a client asks, or is replied.
-    fn with_client(&self, purpose: Purpose) -> Scope
-        ensures { result ≡ record { purpose = purpose; cluster = self.now.cluster; bound = 0 } }
+    /// What that client asks, or is replied.
+    fn with_client(&self, purpose: Purpose, client: u16) -> Scope
+        ensures { result ≡ record { purpose = purpose; cluster = self.now.cluster; genesis = no_genesis; bound = client } }
     {
         Scope {
             purpose,
             cluster: self.cluster,
-            bound: 0,
+            genesis: [0; DIGEST],
+            bound: u32::from(client),
+        }
+    }
+
+    // What that client has sent, by the keys that the masters make for it.
+    fn heard_of<'a>(&self, client: u16, frame: &'a [u8]) -> &'a [u8]
+        ensures { result.now ≡ heard_of client (key_list self.now.clients) self.now.cluster frame.now }
+    {
+        let keys = self.clients.of_client(client);
+        match keys.open(&self.with_client(Purpose::Asking, client), frame) {
+            Some(datagram) => only_request(datagram),
+            None => &[],
         }
     }
 
@@ -61,10 +100,7 @@ impl Seals {
         if self.clients.is_none() {
             return only_request(frame);
         }
-        match self.clients.open(&self.with_client(Purpose::Asking), frame) {
-            Some(datagram) => only_request(datagram),
-            None => &[],
-        }
+        self.heard_of(client_in(behind_tag(frame)), frame)
     }
 
     /// What is taken of the bytes that come: what a node of the cluster has said to this one, what a client has sent, and else
@@ -88,22 +124,27 @@ impl Seals {
         datagram: &'a [u8],
         frame: &'a mut Vec<u8>,
     ) -> Result<&'a [u8], AllocError>
-        ensures ok { IfOk result (λ f. f.now ≡ framed_by (key_list self.now.nodes) (to_node self.now.cluster node) datagram.now) }
+        ensures ok { IfOk result (λ f. f.now ≡ framed_by (key_list self.now.nodes) (to_node self.now node) datagram.now) }
         ensures refused { IsErr result → key_list self.now.nodes ≢ [] }
     {
         self.nodes.frame_of(&self.to_node(node), datagram, frame)
     }
 
-    /// The same of one that is bound for a client.
+    /// The same of one that is bound for that client.
     pub fn frame_to_client<'a>(
         &self,
+        client: u16,
         datagram: &'a [u8],
         frame: &'a mut Vec<u8>,
     ) -> Result<&'a [u8], AllocError>
-        ensures ok { IfOk result (λ f. f.now ≡ framed_by (key_list self.now.clients) (replying self.now.cluster) datagram.now) }
-        ensures refused { IsErr result → key_list self.now.clients ≢ [] }
+        ensures ok { IfOk result (λ f. f.now ≡ framed_by (client_keys client (key_list self.now.clients)) (replying self.now.cluster client) datagram.now) }
+        ensures refused { IsErr result → client_keys client (key_list self.now.clients) ≢ [] }
     {
-        self.clients
-            .frame_of(&self.with_client(Purpose::Replying), datagram, frame)
+        let keys = self.clients.of_client(client);
+        keys.frame_of(
+            &self.with_client(Purpose::Replying, client),
+            datagram,
+            frame,
+        )
     }
 }

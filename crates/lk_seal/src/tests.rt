@@ -1,5 +1,5 @@
 //! The tags of RFC 4231, section 4, and a frame by its bytes.
-use crate::{Key, Keys, Seals, tag};
+use crate::{DIGEST, Key, Keys, Seals, tag};
 use std::alloc::Global;
 use std::test::Fail;
 
@@ -38,25 +38,36 @@ fn first_bad<'a>(alloc: Global, rows: &'a [Row<'a>]) -> Result<Option<&'a Row<'a
     Ok(None)
 }
 
-// The frame of a datagram to node 2 of cluster 5 under the key of bytes 11, of a request and of a reply under that of bytes 22, and what node 2 hears
-// of each where its keys are these.
+// The digest of the genesis of cluster 5, alpha 1, nodes 1 to 3 at the ports 7001 to 7003.
+const GENESIS: &str = "4f3bb6f030464576cd47dd05ebba7bfb50b4cfb1534bdd7ba9d3260e91a2b06b";
+
+// Frames in cluster 5, under the nodes' key of bytes 11 and the key that the clients' master of bytes 22 makes for client 7, and what node 2 of that
+// genesis hears of each: a datagram to it, a request, a reply, a datagram to node 1, one to node 2 where alpha is 2, a datagram of a node in place of a
+// request, a request of client 8 as client 7's and as its own, and one under the master.
 #[rattlefmt::skip]
-const FRAMES: [(&str, &str); 5] = [
-    ("4c53010142701ead25427f85948e303fddea5d2d110c6202d2ffa3e7eb1ddd03010f64164c4b01010000000000000005000000010000000000000003000000010000000000000064", "4c4b01010000000000000005000000010000000000000003000000010000000000000064"),
-    ("4c530102ba0c0677231cc1f70fed84511fba4d903f309278241dcde548f588c8c1ff8c514c4b010900000000000000050000000000070000000000000001000401026462", "4c4b010900000000000000050000000000070000000000000001000401026462"),
-    ("4c530103968d09e5cb3da913468b52576399b0a689c14174cc0244cc9455d93d6539667a4c4b010a00000000000000050000000100070000000000000001010000000000000001", ""),
-    ("4c5301010e84ada49de2b39fa619c0145d24344b27dbc2a7ae812095749b79edec3ee9d94c4b01010000000000000005000000010000000000000003000000010000000000000064", ""),
-    ("4c530102875e3f205be2aa0ae614b7a4064a03cae84e882d88a84b4a15e6953a1e32c4a14c4b01010000000000000005000000010000000000000003000000010000000000000064", ""),
+const FRAMES: [(&str, &str); 9] = [
+    ("4c5301011f15d5833f31acfadaf329cae2fc0a27ec210361085a47a28eba3f5a352588084c4b01010000000000000005000000010000000000000003000000010000000000000064", "4c4b01010000000000000005000000010000000000000003000000010000000000000064"),
+    ("4c53010255befd4c51fbc83c78747eb1f2129b7ab3a4fcea6d131dbe0c3018fe069fb6674c4b010900000000000000050000000000070000000000000001000401026462", "4c4b010900000000000000050000000000070000000000000001000401026462"),
+    ("4c53010300609d17a75b8453aba4ff716b56efa843c2bd4317f63645eddaa9d49f8ec2404c4b010a00000000000000050000000100070000000000000001010000000000000001", ""),
+    ("4c530101b020c87a7a59b401f4a4355c7fb4ef067cef1e73613812ee4c1b7f39dc6fb8594c4b01010000000000000005000000010000000000000003000000010000000000000064", ""),
+    ("4c5301014ab40907f9d2f07d51aede5e65761d4f433d89a4993f5cc49a41077b0e56d3564c4b01010000000000000005000000010000000000000003000000010000000000000064", ""),
+    ("4c5301023089109ec1d1986a5363158a7623670282487bdc4943fd02676adad49bb75d1f4c4b01010000000000000005000000010000000000000003000000010000000000000064", ""),
+    ("4c530102892e8880a8fae262b200b86ff63ca0d000904b9a26b9079cfed3b5bc9d3731f04c4b010900000000000000050000000000080000000000000001000401026462", ""),
+    ("4c5301023e3217d7d3da65b1d88d5f9c23ecdfa387d6d3a4d0e64b3a6992a1da98dc61244c4b010900000000000000050000000000080000000000000001000401026462", ""),
+    ("4c5301023deea49f1e9dbed09b7926eefcc80d34e7e19eed60b6cc0a221384c75662ddcc4c4b010900000000000000050000000000070000000000000001000401026462", ""),
 ];
 
 // The seals of node 2.
-fn of_node_2() -> Seals {
-    Seals {
+fn of_node_2() -> Result<Seals, Fail> {
+    let mut genesis = [0; DIGEST];
+    hex::decode_to_slice(GENESIS, &mut genesis)?;
+    Ok(Seals {
         cluster: 5,
+        genesis,
         node: 2,
         nodes: Keys::One(Key::of([0x11; 32])),
         clients: Keys::Two(Key::of([0x33; 32]), Key::of([0x22; 32])),
-    }
+    })
 }
 
 // Whether node 2 hears that of it.
@@ -64,7 +75,7 @@ fn is_heard(alloc: Global, row: (&str, &str)) -> Result<bool, Fail> {
     let (frame, datagram) = row;
     let frame = hex::decode(alloc, frame)?;
     let datagram = hex::decode(alloc, datagram)?;
-    Ok(of_node_2().heard(&frame) == datagram.as_slice())
+    Ok(of_node_2()?.heard(&frame) == datagram.as_slice())
 }
 
 // Whether it hears of each what stands in its row.
@@ -90,7 +101,7 @@ fn frames_are_heard_by_their_bytes(rt: HostRuntime) -> Result<(), Fail> {
     let mut frame = Vec::new(alloc);
     let datagram = hex::decode(alloc, FRAMES[0].1)?;
     assert_eq!(rt;
-        of_node_2().frame_to_node(2, &datagram, &mut frame)?,
+        of_node_2()?.frame_to_node(2, &datagram, &mut frame)?,
         hex::decode(alloc, FRAMES[0].0)?.as_slice()
     );
     Ok(())

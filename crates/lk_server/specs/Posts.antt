@@ -11,6 +11,7 @@ use Rattle.lk_wire.specs.declared.message.Content.TheVariants as content
 use Rattle.lk_step.specs.Letters.{LetterValue}
 use Rattle.lk_step.specs.declared.to.To.{To}
 use Rattle.lk_step.specs.declared.to.To.TheVariants.{Node, Client}
+use Rattle.lk_seal.specs.Clients.{client_keys}
 use Rattle.lk_seal.specs.Seals.{key_list, to_node, replying, framed_by, heard}
 use Rattle.lk_seal.specs.declared.seals.Seals.{Seals}
 use Rattle.lk_server.specs.Addresses.{AddressBook, client_at, node_at, moved_up, IsSameOutside}
@@ -45,14 +46,14 @@ abbrev pub IsRoute : AddressBook → To → Option SocketAddr → Type 0
 IsRoute b (Client c) place = place ≡ client_at b c
 IsRoute b (Node n port) place = MatchBool (port == 0) (place ≡ node_at b n) (IsPlaceOf b n port place)
 
--- as what it is sent: to a node by the seal of the nodes for that node, to a client by that of the clients; as it is where they have no key
+-- as what it is sent: to a node by the seal of the nodes for that node, to a client by its own; as it is where they have no key
 abbrev pub frame_of : Seals → To → List ℕ → List ℕ
-frame_of s (Client c) bytes = framed_by (key_list s.clients) (replying s.cluster) bytes
-frame_of s (Node n port) bytes = framed_by (key_list s.nodes) (to_node s.cluster n) bytes
+frame_of s (Client c) bytes = framed_by (client_keys c (key_list s.clients)) (replying s.cluster c) bytes
+frame_of s (Node n port) bytes = framed_by (key_list s.nodes) (to_node s n) bytes
 
 -- the keys under which it is sent
 abbrev pub keys_for : Seals → To → List (List ℕ)
-keys_for s (Client c) = key_list s.clients
+keys_for s (Client c) = client_keys c (key_list s.clients)
 keys_for s (Node n port) = key_list s.nodes
 
 -- what came, as it is taken: out of its frame

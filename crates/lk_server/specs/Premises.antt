@@ -13,4 +13,4 @@ IsFree bytes = (m : Message) → Spells m bytes → (r : Request) × (m.content 
 
 -- what is taken of a frame was sealed for this node by someone who has a key of the nodes, or no node says it
 abbrev pub IsToldByANode : Seals → List ℕ → Type 0
-IsToldByANode s frame = IsSealedBy (key_list s.nodes) (to_node s.cluster s.node) frame (heard s frame) ⊎ IsFree (heard s frame)
+IsToldByANode s frame = IsSealedBy (key_list s.nodes) (to_node s s.node) frame (heard s frame) ⊎ IsFree (heard s frame)

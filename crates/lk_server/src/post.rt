@@ -91,7 +91,7 @@ fn framed<'a>(
 {
     match to {
         To::Node(node, _) => seals.frame_to_node(node.get(), bytes, frame),
-        To::Client(_) => seals.frame_to_client(bytes, frame),
+        To::Client(client) => seals.frame_to_client(client.get(), bytes, frame),
     }
 }
 

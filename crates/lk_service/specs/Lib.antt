@@ -1,4 +1,5 @@
 pub mod Chains
+pub mod Digests
 pub mod Guards
 pub mod Questions
 pub mod Replies

@@ -44,13 +44,13 @@ first_place q = (q.far.address, q.port)
 abbrev pub asking : Question → Message
 asking q = record { cluster = q.cluster; content = content.Request q.request }
 
--- these are sent for it: the bytes of its message, in a frame where there is a key
+-- these are sent for it: the bytes of its message, in a frame of its client where there is a key
 abbrev pub IsAsked : Question → List ℕ → Type 0
-IsAsked q frame = (bytes : List ℕ) × Spells (asking q) bytes × (frame ≡ framed_by (key_list q.far.seals.keys) (seals.asking q.far.seals.cluster) bytes)
+IsAsked q frame = (bytes : List ℕ) × Spells (asking q) bytes × (frame ≡ framed_by (key_list q.far.seals.keys) (seals.asking q.far.seals.cluster q.request.client) bytes)
 
 -- the datagram, out of its frame where there is a key, is that reply of a node of its cluster to the request
 abbrev pub IsReply : Question → List ℕ → ReplyValue → Type 0
-IsReply q bytes r = (node : ℕ) × Spells (reply_of q.cluster node q.request.client q.request.number r) (replied (key_list q.far.seals.keys) q.far.seals.cluster bytes)
+IsReply q bytes r = (node : ℕ) × Spells (reply_of q.cluster node q.request.client q.request.number r) (replied (key_list q.far.seals.keys) q.far.seals.cluster q.request.client bytes)
 
 -- what is heard where this comes next: a reply where that is one to the request, nothing where nothing comes
 abbrev pub Hears : Question → Option (SocketAddr × List ℕ) → Heard → Type 0

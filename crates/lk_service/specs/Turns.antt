@@ -9,6 +9,7 @@ use Rattle.lk_server.specs.Addresses.{IsSameOutside}
 use Rattle.lk_server.specs.Posts.{all_taken_as}
 use Rattle.lk_server.specs.Servers.{ServerValue, Turn, LastTurn}
 use Rattle.lk_service.specs.Chains.{Repeats}
+use Rattle.lk_service.specs.Digests.{genesis_digest}
 
 -- the server tells whether a call has ended its replica
 abbrev pub TellsFailure : ServerValue ReplicaValue → Type 0
@@ -43,9 +44,10 @@ module _ (Says : ReplicaValue → List (Option (List ℕ)) → List LetterValue 
     pub turns : Repeats TakesTurn count old last
     pub ends : EndsTurn last new
 
--- they are the seals of the node of this header, in its cluster
+-- they are the seals of the node of this header, in its cluster, of its genesis
 pub record AreSealsOf (header : HeaderValue) (s : Seals) : Type 0 where
   pub cluster : s.cluster ≡ header.cluster
+  pub genesis : s.genesis ≡ genesis_digest header
   pub node : s.node ≡ header.node
 
 -- a server has these seals, which are those of the node of this header, in its cluster

@@ -2,8 +2,10 @@
 #![tactic(auto)]
 
 pub mod causes;
+pub mod client_key;
 pub mod command_words;
 pub mod demo;
+pub mod digest;
 pub mod dump;
 pub mod far;
 pub mod folder;

@@ -5,6 +5,7 @@ ghost use Rattle.lk_service.specs.Guards.{IsReachedWithKey};
 ghost use Rattle.lk_service.specs.Turns.{AreSealsOf};
 
 use crate::causes::tell_cause;
+use crate::digest::genesis_digest;
 use crate::far::Far;
 use lk_entries::Header;
 use lk_seal::{AskerSeals, KEY, Key, Keys, Seals};
@@ -162,7 +163,7 @@ fn hosts_in<R: Files<File = File>, E: Write>(
 }
 
 /// The keys of a file, and none where no file is named.
-fn keys_in<R: Files<File = File>, E: Write>(
+pub fn keys_in<R: Files<File = File>, E: Write>(
     rt: &R,
     alloc: Global,
     path: Option<&str>,
@@ -214,7 +215,7 @@ fn check_keys<E: Write>(
     Ok(())
 }
 
-/// The keys of the node of a header, in its cluster.
+/// The keys of the node of a header, in its cluster, of its genesis.
 fn seals_in<R: Files<File = File>, E: Write>(
     rt: &R,
     alloc: Global,
@@ -229,6 +230,7 @@ fn seals_in<R: Files<File = File>, E: Write>(
     check_keys(&nodes, &clients, away.client_key.unwrap_or(""), err)?;
     Ok(Seals {
         cluster: header.genesis().cluster,
+        genesis: genesis_digest(alloc, header)?,
         node: header.node().get(),
         nodes,
         clients,
@@ -264,7 +266,7 @@ pub fn outside_of<R: Files<File = File>, E: Write>(
     away: &Away<'_>,
     err: &mut E,
 ) -> Result<(Outside, SocketAddr), ServiceFault>
-    // They are the seals of this node in its cluster.
+    // They are the seals of this node in its cluster, of its genesis.
     ensures seals { IfOk result (λ r. AreSealsOf header.now r.0.seals) }
     // Where other machines may reach the address, the nodes have a key.
     ensures guarded { IfOk result (λ r. IsReachedWithKey r.0.seals r.1) }

@@ -79,7 +79,10 @@ pub fn next_reply<S: Datagrams>(ear: &mut Ear, socket: &mut S, question: &Questi
     match read_reply(
         question.cluster,
         &question.request,
-        question.far.seals.heard(bytes),
+        question
+            .far
+            .seals
+            .heard(question.request.client.get(), bytes),
     ) {
         Some(reply) => Heard::Reply(reply),
         None => Heard::Other,
@@ -93,7 +96,8 @@ fn asked(alloc: Global, question: &Question) -> Result<Vec<u8>, ServiceFault>
 {
     let bytes = datagram(alloc, question)?;
     let mut frame = Vec::new(alloc);
-    let framed = question.far.seals.frame_of(&bytes, &mut frame)?;
+    let client = question.request.client.get();
+    let framed = question.far.seals.frame_of(client, &bytes, &mut frame)?;
     Ok(framed.to_vec(alloc)?)
 }
 

@@ -1,0 +1,59 @@
+"""Where nodes live."""
+import ipaddress
+import os
+
+from .seals import lines
+from .wire import MAX_NODE, MAX_PORT, ranged
+
+LOOPBACK = "127.0.0.1"
+Place = int | tuple[str, int]  # a port of 127.0.0.1, or an address and a port
+
+
+def place_of(given: Place) -> Place:
+    """A place that a caller gives, if it is one."""
+    if not isinstance(given, tuple):
+        return ranged(given, 1, MAX_PORT, "port")
+    address, port = given
+    return placed(str(ipaddress.ip_address(address)), ranged(port, 1, MAX_PORT, "port"))
+
+
+def placed(address: str, port: int) -> Place:
+    """The place of a port at an address."""
+    return port if address == LOOPBACK else (address, port)
+
+
+def address_of(place: Place) -> tuple[str, int]:
+    """The address and the port of a place."""
+    return place if isinstance(place, tuple) else (LOOPBACK, place)
+
+
+def own_address(places: list[Place]) -> str:
+    """Where a client that asks these listens: on loopback if they all are 127.0.0.1, else anywhere in their family."""
+    addresses = [address_of(place)[0] for place in places]
+    if set(addresses) == {LOOPBACK}:
+        return LOOPBACK
+    return "::" if ":" in addresses[0] else "0.0.0.0"
+
+
+def host_of(line: str) -> tuple[int, str]:
+    """The node and the address of a line NODE ADDRESS; else ValueError."""
+    node, address = line.split(" ")
+    if not node.isdecimal() or node.startswith("0"):
+        raise ValueError(node)
+    return ranged(int(node), 1, MAX_NODE, "node"), str(ipaddress.ip_address(address))
+
+
+def read_hosts(path: str | os.PathLike[str]) -> dict[int, str]:
+    """The address of each node of a file, in which nodes rise and families do not mix; else ValueError."""
+    hosts: dict[int, str] = {}
+    with open(path, "rb") as file:
+        text = file.read()
+    for number, line in lines(text):
+        try:
+            node, address = host_of(line)
+            if hosts and (node <= max(hosts) or (":" in address) != (":" in hosts[max(hosts)])):
+                raise ValueError(line)
+        except ValueError as error:
+            raise ValueError(f"{path}: line {number} is not NODE ADDRESS") from error
+        hosts[node] = address
+    return hosts

@@ -1,0 +1,46 @@
+//! The digest of a genesis.
+
+ghost use Rattle.std.specs.Prelude.{◌≡◌, ◌≤◌, ◌++◌, length, OnOk, IfOk};
+ghost use Rattle.lk_types.specs.Limits.{max_members};
+ghost use Rattle.lk_entries.specs.Entries.{members};
+ghost use Rattle.lk_service.specs.Digests.{genesis_spelling, genesis_digest};
+
+use bytes::BytesMut;
+use lk_entries::Header;
+use lk_fields::{put_member, put_u8, put_u64};
+use lk_seal::DIGEST;
+use lk_types::Member;
+use sha2::{Digest, Sha256};
+use std::alloc::{AllocError, Global};
+
+/// Appends the count of the members, and these.
+fn put_members(out: &mut BytesMut, list: &[Member]) -> Result<(), AllocError>
+    requires { length list.now ≤ max_members }
+    ensures { OnOk result (out.new.items ≡ out.old.items ++ members list.now) }
+{
+    put_u8(out, list.len() as u8)?;
+    for member in list {
+        put_member(out, *member)?;
+    }
+    Ok(())
+}
+
+/// Appends the one spelling of the genesis of a header.
+fn put_genesis(out: &mut BytesMut, header: &Header) -> Result<(), AllocError>
+    ensures { OnOk result (out.new.items ≡ out.old.items ++ genesis_spelling header.now) }
+{
+    put_u64(out, header.genesis().cluster)?;
+    put_u8(out, header.genesis().alpha)?;
+    put_members(out, header.genesis().members.as_slice())?;
+    Ok(())
+}
+
+/// The digest of the genesis of a header, by which nodes of two geneses do not hear each other.
+#[tactic(auto, unfolding(crate::specs::Digests::genesis_digest))]
+pub fn genesis_digest(alloc: Global, header: &Header) -> Result<[u8; DIGEST], AllocError>
+    ensures { IfOk result (λ digest. digest ≡ genesis_digest header.now) }
+{
+    let mut bytes = BytesMut::new(alloc);
+    put_genesis(&mut bytes, header)?;
+    Ok(Sha256::digest(bytes))
+}

@@ -1,0 +1,60 @@
+"""A relay between nodes on loopback: it cuts, loses, delays, repeats and reorders what they send each other."""
+import heapq
+import itertools
+import random
+import selectors
+import socket
+import threading
+import time
+
+
+class Relay:
+    """Carries what node a sends to node b at `address(a, b)` on to where b listens, by rules that may change at any time.
+
+    cut: pairs of which nothing is carried. loss, repeats: which part is lost, and which comes twice. delay: seconds that
+    each waits at most; several wait differently, so that they come in another order. kept: the last frames of each pair."""
+
+    KEPT = 64  # frames of each pair
+
+    def __init__(self, nodes, port, place, seed=1):
+        self.cut, self.loss, self.repeats, self.delay = set(), 0.0, 0.0, 0.0
+        self.kept = {pair: [] for pair in itertools.permutations(nodes, 2)}
+        self.places = {node: (place(node), port) for node in nodes}
+        self.random, self.late, self.count = random.Random(seed), [], itertools.count()
+        self.selector, self.is_over = selectors.DefaultSelector(), False
+        for pair in self.kept:
+            it = socket.socket(socket.AF_INET, socket.SOCK_DGRAM)
+            it.bind((self.address(*pair), port))
+            it.setblocking(False)
+            self.selector.register(it, selectors.EVENT_READ, pair)
+        self.thread = threading.Thread(target=self.run, daemon=True)
+        self.thread.start()
+
+    @staticmethod
+    def address(sender, receiver):
+        """Where that node sends what is bound for that other one."""
+        return f"127.10.{sender}.{receiver}"
+
+    def run(self):
+        while not self.is_over:
+            for key, _ in self.selector.select(0.005):
+                self.take(key.fileobj, key.data)
+            while self.late and self.late[0][0] <= time.monotonic():
+                _, _, it, data, place = heapq.heappop(self.late)
+                it.sendto(data, place)
+
+    def take(self, it, pair):
+        """Takes a datagram of that pair."""
+        data = it.recv(9000)
+        self.kept[pair] = [*self.kept[pair][1 - self.KEPT:], data]
+        if pair in self.cut or self.random.random() < self.loss:
+            return
+        for _ in range(1 + (self.random.random() < self.repeats)):
+            due = time.monotonic() + self.random.random() * self.delay
+            heapq.heappush(self.late, (due, next(self.count), it, data, self.places[pair[1]]))
+
+    def end(self):
+        self.is_over = True
+        self.thread.join()
+        for key in list(self.selector.get_map().values()):
+            key.fileobj.close()
