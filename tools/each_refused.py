@@ -10,8 +10,8 @@ Each file of crates/CRATE/must-fail (or those named, without .edit) is applied t
 
 A line `named: TEXT` after a line `refused:` says which wrong body that the promises name this function shows. With --named the script
 takes each such function of the crates (of all where none is given), applies only the pairs that change it, and checks that the prover
-refuses it. A file that changes one function alone is left to the gate, which tries nothing else in it. The last line is
-`N passed, M failed`; --list prints the named bodies and tries none.
+refuses it. A file with one line `refused:` is one wrong body as a whole, also where it changes what its function calls, and is left to the
+gate, which tries nothing else in it. The last line is `N passed, M failed`; --list prints the named bodies and tries none.
 
 Run it at the top of the repository once the crates are proved (`rt check`), so that kept work serves. The status is 1 where something
 was not refused.
@@ -174,6 +174,8 @@ def named_bodies(crate):
             own = [change for changed, change in places if is_of(function, changed)]
             if not own:
                 sys.exit(f"{title}: no pair changes {function}")
+            if len(edit.refused) == 1:
+                own = edit.changes
             yield Body(crate, title, function, name, own, len(edit.changes) - len(own))
 
 

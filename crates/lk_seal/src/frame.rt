@@ -94,7 +94,7 @@ fn has_head(bytes: &[u8], purpose: Purpose) -> bool
     bytes == head.as_slice()
 }
 
-/// Whether two tags are the same. It takes the same time for all that are not.
+/// Whether two tags are the same. It reads each byte of both, wherever they differ; how long that takes no clause says.
 fn is_same(left: &[u8; TAG], right: &[u8]) -> bool
     requires { length right.now ≡ 32 }
     ensures { IsTrue result ↔ (left.now ≡ right.now) }

@@ -1,4 +1,4 @@
-use Rattle.std.proofs.Common.{◌≡◌, ◌+◌, rules, arith, [], ◌∷◌, refl, sym, ap, subst, inl, inr}
+use Rattle.std.proofs.Common.{◌≡◌, rules, arith, [], ◌∷◌, refl, sym, ap, subst, inl, inr}
 use Rattle.lk_entries.specs.Values.{StandingValue}
 use Rattle.lk_entries.specs.declared.stored.Stored.TheVariants.{Base}
 use Rattle.lk_log.specs.StoreValue.{disks}

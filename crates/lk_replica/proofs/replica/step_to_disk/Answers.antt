@@ -1,4 +1,4 @@
-use Rattle.std.proofs.Common.{◌≡◌, ℕ, ◌+◌, true, false, List, [], ◌++◌, ◌∙◌, ◌≤◌, length, refl, sym, ap, subst, arith}
+use Rattle.std.proofs.Common.{◌≡◌, ◌+◌, true, false, List, [], ◌++◌, ◌∙◌, ◌≤◌, length, refl, sym, ap, subst, arith}
 use Rattle.lk_types.specs.declared.entry.Entry.{Entry}
 use Rattle.lk_entries.specs.Entries.{plain}
 use Rattle.lk_log.specs.StoreValue.{disks}
@@ -14,7 +14,7 @@ use Rattle.lk_replica.proofs.Behind.{still_keeps, still_remembers, sent_is_cover
 use Rattle.lk_replica.proofs.Going.{put_leaves, put_goes, remembered, step_keeps, step_remembers, step_syncs, step_covers}
 use Rattle.lk_replica.proofs.replica.step_to_disk.Goals as goal
 use Rattle.lk_node.proofs.Nodes.{few_entries}
-use Rattle.lk_disk.specs.Meters.{Passes, start}
+use Rattle.lk_disk.specs.Meters.{start}
 use Rattle.lk_replica.specs.declared.fault.ReplicaFault.TheVariants as fault
 use Rattle.lk_replica.proofs.Calling.{err_as, refused_after, put_written, base_written}
 use Rattle.lk_replica.proofs.Compactions.{put_refused}
