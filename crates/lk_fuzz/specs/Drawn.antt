@@ -14,7 +14,7 @@ pub record IsNext (about : ℕ) (r : RequestValue) : Type 0 where
   pub above : about < r.number
   pub near : r.number ≤ about + 8
 
--- an event that may be drawn where so many datagrams stand: any but a Start
+-- an event that may be drawn where so many datagrams stand: any but a Start or a Group
 abbrev pub IsDrawn : ℕ → Event → Type 0
 IsDrawn sent (event.Start n) = ⊥
 IsDrawn sent (event.Restart n) = IsNear n
@@ -22,6 +22,7 @@ IsDrawn sent (event.Tick n) = IsNear n
 IsDrawn sent (event.Compact n) = IsNear n
 IsDrawn sent (event.Client n r) = IsNear n
 IsDrawn sent (event.Deliver k) = k ≤ sent
+IsDrawn sent (event.Group n turns) = ⊥
 IsDrawn sent (event.Inject n bytes) = IsNear n
 IsDrawn sent (event.Stop n x y) = IsNear n
 IsDrawn sent (event.FailAt n count) = IsNear n × (count ≤ 4)

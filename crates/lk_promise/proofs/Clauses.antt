@@ -20,6 +20,7 @@ use Rattle.lk_replica.specs.Compacted.{CompactsTo}
 use Rattle.lk_replica.specs.ReplicaValue.{ReplicaValue}
 use Rattle.lk_replica.specs.Revivals.{RevivesTo}
 use Rattle.lk_replica.specs.Taking.{ComesTo}
+use Rattle.lk_replica.specs.Together.{ComesToAll}
 use Rattle.lk_sim.specs.Events.{Does}
 use Rattle.lk_sim.specs.Events as doing
 use Rattle.lk_sim.specs.Packed.{LeavesPacked}
@@ -92,6 +93,7 @@ locks_behave = record {
   memory = λ r. device_of r.store;
   with_trap = λ t r. record r { store = record r.store { meter = trapped t r.store.meter } };
   Takes = λ old bytes new came. ComesTo table_meaning IsTableText old bytes new came;
+  TakesAll = λ old given new came. ComesToAll table_meaning IsTableText old given new came;
   Revives = λ device whose came. RevivesTo table_meaning IsTableText device whose came;
   Compacts = λ old new came. CompactsTo table_meaning old new came;
 }
@@ -127,6 +129,7 @@ compacts (event.Tick n) w k = tt
 compacts (event.Compact n) w k = λ e. compacted w n (k e)
 compacts (event.Client n r) w k = tt
 compacts (event.Deliver i) w k = tt
+compacts (event.Group n turns) w k = tt
 compacts (event.Inject n bytes) w k = tt
 compacts (event.Stop n x y) w k = tt
 compacts (event.FailAt n count) w k = tt

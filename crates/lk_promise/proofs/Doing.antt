@@ -1,5 +1,5 @@
 -- What events do, in the words of the promise.
-use Rattle.std.proofs.Common.{◌≡◌, ℕ, zero, suc, ◌⊎◌, List, [], ◌∷◌, ◌++◌, take, set, slice_get, Option, Some, None, refl, sym, ap, ◌∙◌, inl, inr, append-nil, arith}
+use Rattle.std.proofs.Common.{◌≡◌, ℕ, zero, suc, ◌⊎◌, List, [], ◌∷◌, ◌++◌, map, take, set, slice_get, Option, Some, None, refl, sym, ap, ◌∙◌, inl, inr, append-nil, arith}
 use Rattle.std.proofs.lemmas.List.Elements.{filter_map-append}
 use Rattle.lk_disk.specs.Memory.{Memory, empty}
 use Rattle.lk_wire.specs.declared.message.Content.{Content}
@@ -13,7 +13,9 @@ use Rattle.lk_node.specs.Leavings.{header_of}
 use Rattle.lk_node.specs.Served.{IsOfNode}
 use Rattle.lk_replica.specs.Behaviours.{Behaviour}
 use Rattle.lk_replica.specs.ReplicaValue.{ReplicaValue}
-use Rattle.lk_sim.specs.Events.{Turns, AreOwn, Adds, IsGiven, ComesUp, IsCompacted, Brings, Does, IsHalted, LeftBy, LeftByRevival, LeftByPacking, Wants, IsRefused}
+use Rattle.lk_sim.specs.Events.{Turns, AreOwn, AreAllOwn, Adds, IsGiven, IsGivenTogether, ComesUp, IsCompacted, Brings, Does, IsHalted, LeftBy, LeftByGroup, LeftByRevival, LeftByPacking, Wants, IsRefused}
+use Rattle.lk_replica.specs.Together.{Said, sent_of}
+use Rattle.lk_sim.specs.Groups.{AreNotesOf, cut_short, left_over, given_by}
 use Rattle.lk_sim.specs.Heard.{Asks}
 use Rattle.lk_sim.specs.Refusals.{datagram_at}
 use Rattle.lk_sim.specs.Scenes.{Scene}
@@ -96,6 +98,27 @@ module _ (b : Behaviour ReplicaValue) where
     | inr (inr f) ↦ adds_just old new asked [] f.adds
   ]
 
+  steps_ask : (said : List Said) (notes : List Note) → AreAllOwn said → AreNotesOf said notes → requests notes ≡ []
+  steps_ask [] notes own tells = rw tells refl
+  steps_ask (x ∷ said) notes own tells =
+      ap requests tells.3 ∙ requests-append (x.0 ++ tells.0) tells.1 ∙ ap (λ (r : List RequestValue). r ++ requests tells.1) (requests-append x.0 tells.0 ∙ (λ i. own_ask x.0 own.0 i ++ tells_ask x.1 tells.0 tells.2 i))
+      ∙ steps_ask said tells.1 own.1 tells.4
+
+  steps_add : (old new : Scene ReplicaValue) (said : List Said) (notes : List Note) (batch : List Datagram) → AreAllOwn said → AreNotesOf said notes → Adds old new notes batch → AsksThese old new []
+  steps_add old new said notes batch own tells adds = ap requests adds.trace ∙ requests-append old.trace notes ∙ ap (λ (r : List RequestValue). requests old.trace ++ r) (steps_ask said notes own tells)
+
+  -- a step that sends less is as much its own
+  cut_own : (k : ℕ) (said : List Said) → AreAllOwn said → AreAllOwn (cut_short k said)
+  cut_own k [] own = tt
+  cut_own k (x ∷ said) own = (own.0, cut_own (left_over k x.1) said own.1)
+
+  together_asks : (old new : Scene ReplicaValue) (n : ℕ) (given : List (Option (List ℕ))) → IsGivenTogether b old new n given → AsksThese old new []
+  together_asks old new n given k = elim k.comes_to [
+    | inl r ↦ steps_add old new r.said r.notes (sent_of r.said) r.own r.tells r.adds
+    | inr (inl r) ↦ steps_add old new (cut_short r.sends r.said) r.notes (take r.sends (sent_of r.said)) (cut_own r.sends r.said r.own) r.tells r.adds
+    | inr (inr f) ↦ adds_just old new [] [] f.adds
+  ]
+
   comes_ask : (old new : Scene ReplicaValue) (t : Seat ReplicaValue) (d : Memory) → ComesUp b old new t d → AsksThese old new []
   comes_ask old new t d c = elim c [
     | inl r ↦ ap requests r.adds.trace ∙ requests-append old.trace r.notes ∙ ap (λ (rs : List RequestValue). requests old.trace ++ rs) (own_ask r.notes r.own)
@@ -136,6 +159,7 @@ module _ (b : Behaviour ReplicaValue) where
   brings_only old new (event.Deliver i) k =
       let g = k.given in
       (k.node, bound old.sent i k.datagram k.node k.stands k.bound, turned old.seats new.seats k.node g.seat g.next g.turns g.number)
+  brings_only old new (event.Group n turns) k = (n, refl, turned old.seats new.seats n k.seat k.next k.turns k.number)
   brings_only old new (event.Inject n bytes) k = let g = k.given in (n, refl, turned old.seats new.seats n g.seat g.next g.turns g.number)
   brings_only old new (event.Stop n x y) k = (n, refl, turned old.seats new.seats n k.seat k.next k.turns k.number)
   brings_only old new (event.FailAt n count) k = (n, refl, turned old.seats new.seats n k.seat k.next k.turns k.number)
@@ -148,6 +172,7 @@ module _ (b : Behaviour ReplicaValue) where
   brings_sends old new (event.Compact n) k = tt
   brings_sends old new (event.Client n r) k = (k.datagram, k.from, k.to, k.spelled, k.adds.sent, k.seats)
   brings_sends old new (event.Deliver i) k = tt
+  brings_sends old new (event.Group n turns) k = tt
   brings_sends old new (event.Inject n bytes) k = tt
   brings_sends old new (event.Stop n x y) k = tt
   brings_sends old new (event.FailAt n count) k = tt
@@ -175,6 +200,13 @@ module _ (b : Behaviour ReplicaValue) where
     | inr f ↦ record { notes = []; batch = []; adds = f.adds }
   ]
 
+  together_adds : (old new : Scene ReplicaValue) (n : ℕ) (given : List (Option (List ℕ))) → IsGivenTogether b old new n given → Adding old new
+  together_adds old new n given k = elim k.comes_to [
+    | inl r ↦ record { notes = r.notes; batch = sent_of r.said; adds = r.adds }
+    | inr (inl r) ↦ record { notes = r.notes; batch = take r.sends (sent_of r.said); adds = r.adds }
+    | inr (inr f) ↦ record { notes = []; batch = []; adds = f.adds }
+  ]
+
   brings_adds : (old new : Scene ReplicaValue) (e : Event) → Brings b old e new → Adding old new
   brings_adds old new (event.Start n) k = comes_add old new k.seat empty k.comes
   brings_adds old new (event.Restart n) k = comes_add old new k.next k.device k.comes
@@ -182,6 +214,7 @@ module _ (b : Behaviour ReplicaValue) where
   brings_adds old new (event.Compact n) k = record { notes = []; batch = []; adds = compacted_adds b old new n k }
   brings_adds old new (event.Client n r) k = record { notes = note.Asked r ∷ []; batch = k.datagram ∷ []; adds = k.adds }
   brings_adds old new (event.Deliver i) k = given_adds old new k.node (Some k.datagram.bytes) [] k.given
+  brings_adds old new (event.Group n turns) k = together_adds old new n (map (given_by old.sent) turns.items) k
   brings_adds old new (event.Inject n bytes) k = given_adds old new n (Some bytes.items) (asked_note k.request) k.given
   brings_adds old new (event.Stop n x y) k = record { notes = []; batch = []; adds = k.adds }
   brings_adds old new (event.FailAt n count) k = record { notes = []; batch = []; adds = k.adds }
@@ -202,6 +235,7 @@ module _ (b : Behaviour ReplicaValue) where
   brings_asks old new (event.Compact n) k = ([], refl, adds_just old new [] [] (compacted_adds b old new n k))
   brings_asks old new (event.Client n r) k = (r ∷ [], refl, adds_just old new (note.Asked r ∷ []) (k.datagram ∷ []) k.adds)
   brings_asks old new (event.Deliver i) k = ([], refl, given_asks b old new k.node (Some k.datagram.bytes) [] k.given)
+  brings_asks old new (event.Group n turns) k = ([], refl, together_asks b old new n (map (given_by old.sent) turns.items) k)
   brings_asks old new (event.Inject n bytes) k = (requests (asked_note k.request), asked_in bytes.items k.request k.asks, given_asks b old new n (Some bytes.items) (asked_note k.request) k.given)
   brings_asks old new (event.Stop n x y) k = ([], refl, adds_just old new [] [] k.adds)
   brings_asks old new (event.FailAt n count) k = ([], refl, adds_just old new [] [] k.adds)
@@ -223,6 +257,7 @@ module _ (b : Behaviour ReplicaValue) where
   wants_add old new (event.Compact n) k = k.adds
   wants_add old new (event.Client n r) k = same_adds old new k
   wants_add old new (event.Deliver i) k = elim k [ inl same ↦ same_adds old new same | inr h ↦ h.4.adds ]
+  wants_add old new (event.Group n turns) k = elim k [ inl same ↦ same_adds old new same | inr h ↦ h.adds ]
   wants_add old new (event.Inject n bytes) k = elim k [ inl same ↦ same_adds old new same.0 | inr h ↦ h.adds ]
   wants_add old new (event.Stop n x y) k = absurd k
   wants_add old new (event.FailAt n count) k = absurd k
@@ -252,6 +287,10 @@ module _ (b : Behaviour ReplicaValue) where
   wants_falls old new (event.Deliver i) k = elim k [
     | inl same ↦ inl (same_seats old new same)
     | inr h ↦ inr (h.0, bound old.sent i h.1 h.0 h.2 h.3, halted_falls (LeftBy b (Some h.1.bytes)) old new h.0 h.4)
+  ]
+  wants_falls old new (event.Group n turns) k = elim k [
+    | inl same ↦ inl (same_seats old new same)
+    | inr h ↦ inr (n, refl, halted_falls (LeftByGroup b (map (given_by old.sent) turns.items)) old new n h)
   ]
   wants_falls old new (event.Inject n bytes) k = elim k [
     | inl same ↦ inl (same_seats old new same.0)
@@ -301,6 +340,7 @@ module _ (b : Behaviour ReplicaValue) (memory_is : (r : ReplicaValue) → b.memo
   stops old new (event.Compact n) k = tt
   stops old new (event.Client n r) k = tt
   stops old new (event.Deliver i) k = tt
+  stops old new (event.Group n turns) k = tt
   stops old new (event.Inject n bytes) k = tt
   stops old new (event.Stop n x y) k = stopped old new n x y k
   stops old new (event.FailAt n count) k = tt
@@ -316,6 +356,7 @@ module _ (b : Behaviour ReplicaValue) (memory_is : (r : ReplicaValue) → b.memo
   silent old new (event.Compact n) k = adds_nothing old new (compacted_adds b old new n k)
   silent old new (event.Client n r) k = tt
   silent old new (event.Deliver i) k = tt
+  silent old new (event.Group n turns) k = tt
   silent old new (event.Inject n bytes) k = tt
   silent old new (event.Stop n x y) k = tt
   silent old new (event.FailAt n count) k = adds_nothing old new k.adds

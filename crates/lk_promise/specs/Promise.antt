@@ -325,6 +325,7 @@ IsFor sent (event.Tick n) number = number ≡ n
 IsFor sent (event.Compact n) number = number ≡ n
 IsFor sent (event.Client n r) number = number ≡ n
 IsFor sent (event.Deliver k) number = (j : ℕ) × (d : Datagram) × (k ≡ j + 1) × (slice_get sent j ≡ Some d) × (d.to ≡ party.Node number)
+IsFor sent (event.Group n turns) number = number ≡ n
 IsFor sent (event.Inject n bytes) number = number ≡ n
 IsFor sent (event.Stop n x y) number = number ≡ n
 IsFor sent (event.FailAt n count) number = number ≡ n

@@ -20,3 +20,4 @@ pub mod Replicas
 mod Rerunning
 mod Restoring
 mod Grouped
+pub mod TakenTogether

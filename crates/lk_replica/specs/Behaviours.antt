@@ -13,6 +13,10 @@ use Rattle.lk_node.specs.Histories.{Datagram}
 abbrev pub Taking : Type 0 → Type 1
 Taking R = R → Option (List ℕ) → R → Result (List Note × List Datagram) ℕ → Type 0
 
+-- a replica was given these together, and became another: with the notes and the datagrams of each step, or with the number of a fault
+abbrev pub TakingAll : Type 0 → Type 1
+TakingAll R = R → List (Option (List ℕ)) → R → Result (List (List Note × List Datagram)) ℕ → Type 0
+
 -- a node of this header was revived on this device: it came up with its notes, or there is the number of a fault, and the device as
 -- it was left
 abbrev pub Reviving : Type 0 → Type 1
@@ -31,6 +35,9 @@ pub record Behaviour (R : Type 0) : Type 1 where
   -- The first replica, given a tick (`None`) or these bytes, becomes the second by one call of `take`, which gives these notes and
   -- sends these datagrams in order, and does nothing else, or refuses with the fault of this number.
   pub Takes : Taking R
+  -- The first replica, given these, becomes the second by one call of `take_all`, whose steps give these notes and send these datagrams in order, and does
+  -- nothing else, or refuses with the fault of this number.
+  pub TakesAll : TakingAll R
   -- A revival on this device, for a node of this header, makes this replica and gives these notes, or refuses with the fault of this
   -- number and leaves that device.
   pub Revives : Reviving R

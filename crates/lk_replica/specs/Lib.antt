@@ -11,3 +11,4 @@ pub mod Rooms
 pub mod Remembering
 pub mod Renewals
 pub mod Groups
+pub mod Together

@@ -70,6 +70,24 @@ fn datagram_of(node: NodeNo, letter: Letter) -> Datagram
     }
 }
 
+/// Letters as datagrams of the node.
+#[tactic(auto, using(lk_node::proofs::Nodes::mapped_append))]
+pub fn datagrams(
+    alloc: Global,
+    node: NodeNo,
+    letters: Vec<Letter>,
+) -> Result<Vec<Datagram>, NoMemory>
+    ensures ok { IfOk result (λ ds. ds.items ≡ batch_of node letters.items) }
+    // Memory is wanted only where there are letters.
+    ensures memory { OnErr result (letters.items ≡ [] → ⊥) }
+{
+    let mut datagrams = Vec::new(alloc);
+    for letter in letters {
+        datagrams.push(datagram_of(node, letter))?;
+    }
+    Ok(datagrams)
+}
+
 impl Collected {
     /// Nothing was sent.
     pub fn new(alloc: Global) -> Collected
@@ -93,7 +111,6 @@ impl Collected {
     }
 
     /// The letters as datagrams of the node.
-    #[tactic(auto, using(lk_node::proofs::Nodes::mapped_append))]
     pub fn into_datagrams(self, node: NodeNo) -> Result<Vec<Datagram>, NoMemory>
         ensures ok { IfOk result (λ ds. ds.items ≡ batch_of node self.letters) }
         // Memory is wanted only where there are letters.
@@ -104,10 +121,6 @@ impl Collected {
             letters,
             failures: _,
         } = self;
-        let mut datagrams = Vec::new(alloc);
-        for letter in letters {
-            datagrams.push(datagram_of(node, letter))?;
-        }
-        Ok(datagrams)
+        datagrams(alloc, node, letters)
     }
 }

@@ -1,5 +1,5 @@
 // Steps of a group: what they tell to write is written unsynced, and synced once before what they say is sent.
-ghost use Rattle.std.specs.Prelude.{◌≡◌, ℕ, ◌++◌, ◌≤◌, ◌<◌, List, [], length, true, false, Contains, IfOk, IfErr, OnOk, OnErr, IsErrOf, ⊤};
+ghost use Rattle.std.specs.Prelude.{◌≡◌, ℕ, ◌-◌, ◌++◌, ◌≤◌, ◌<◌, List, [], length, true, false, Contains, IfOk, IfErr, OnOk, OnErr, IsErrOf, ⊤};
 ghost use Rattle.std.specs.List.{AllByRecursion};
 ghost use Rattle.lk_types.specs.Limits.{max_base};
 ghost use Rattle.lk_disk.specs.Disk.{contents};
@@ -30,6 +30,7 @@ use crate::delivering::deliver;
 use crate::fault::ReplicaFault;
 use crate::post::{Post, SendFault};
 use crate::replica::Replica;
+use crate::taken::Step;
 use lk_disk::LogDisk;
 use lk_log::Store;
 use lk_node::Node;
@@ -38,6 +39,7 @@ use lk_step::{Input, Letter, Note, Outbox};
 use lk_types::NoMemory;
 use std::alloc::Global;
 use std::marker::Model;
+use std::mem;
 
 /// What a group of inputs has come to so far: what was noted, what is to be sent, in order, and whether something that was written waits for a sync.
 #[derive(Drop)]
@@ -79,6 +81,39 @@ impl Group {
         ensures { result.now ≡ self.now.letters }
     {
         &self.letters
+    }
+
+    /// How many letters it has said.
+    pub fn count(&self) -> usize
+        ensures { result ≡ length self.now.letters }
+    {
+        self.letters.len()
+    }
+
+    /// Whether something that was written waits for a sync.
+    pub fn waits(&self) -> bool
+        ensures { result ≡ self.now.waits }
+    {
+        self.waits
+    }
+
+    /// What the last step came to, in front of which so many letters had been said. What it noted is taken out.
+    pub fn take_step(&mut self, alloc: Global, before: usize) -> Step
+        ensures notes { result.notes.items ≡ self.old.notes }
+        ensures sends { result.sends ≡ length self.old.letters - before }
+        ensures rest { self.new ≡ record self.old { notes = [] } }
+    {
+        Step {
+            notes: mem::replace(&mut self.notes, Vec::new(alloc)),
+            sends: self.letters.len().saturating_sub(before),
+        }
+    }
+
+    /// What it has said.
+    pub fn into_letters(self) -> Vec<Letter>
+        ensures { result.items ≡ self.letters }
+    {
+        self.letters
     }
 
     /// What one more step came to, in front of which this waited.

@@ -6,11 +6,13 @@ ghost use Rattle.lk_node.specs.Keeping.{Stands};
 ghost use Rattle.lk_replica.specs.Compacted.{CompactsTo};
 ghost use Rattle.lk_replica.specs.Revivals.{RevivesTo};
 ghost use Rattle.lk_replica.specs.Taking.{ComesTo};
+ghost use Rattle.lk_replica.specs.Together.{ComesToAll};
 
-use crate::collected::Collected;
+use crate::collected::{Collected, datagrams};
 use crate::fault::ReplicaFault;
-use crate::memory_replica::{MemoryReplica, ReviveFault, Revived, Taken};
+use crate::memory_replica::{MemoryReplica, ReviveFault, Revived};
 use crate::replica::Replica;
+use crate::taken::{Taken, TakenAll};
 use lk_disk::{LogDisk, MemoryDisk, Trap};
 use lk_entries::Header;
 use lk_state::Machine;
@@ -24,6 +26,11 @@ impl<M: Machine, D: LogDisk + Drop> Replica<M, D> {
         ensures { result ≡ self.now.node.header.node }
     {
         self.node.header().node()
+    }
+
+    // What it takes memory by.
+    fn alloc(&self) -> Global {
+        self.alloc
     }
 
     // A post to which nothing was given.
@@ -43,6 +50,7 @@ impl<M: Machine> MemoryReplica for Replica<M, MemoryDisk> {
       memory = λ r. device_of r.store;
       with_trap = λ t r. record r { store = record r.store { meter = trapped t r.store.meter } };
       Takes = λ old bytes new came. ComesTo M.meaning M.IsText old bytes new came;
+      TakesAll = λ old given new came. ComesToAll M.meaning M.IsText old given new came;
       Revives = λ device whose came. RevivesTo M.meaning M.IsText device whose came;
       Compacts = λ old new came. CompactsTo M.meaning old new came;
     } };
@@ -64,6 +72,24 @@ impl<M: Machine> MemoryReplica for Replica<M, MemoryDisk> {
         match post.into_datagrams(node) {
             Ok(sent) => Ok(Taken { notes, sent }),
             Err(NoMemory) => Err(ReplicaFault::Send(notes)),
+        }
+    }
+
+    fn take_all(&mut self, inputs: Vec<Input<'_>>) -> Result<TakenAll, ReplicaFault> {
+        let node = self.number();
+        let alloc = self.alloc();
+        let mut group = self.begin_group();
+        let mut steps = self.no_steps();
+        'inputs: for input in inputs {
+            let before = group.count();
+            self.gather(input, &mut group)?;
+            let step = group.take_step(alloc, before);
+            self.keep(&mut steps, step)?;
+        }
+        self.end_group(group.waits())?;
+        match datagrams(alloc, node, group.into_letters()) {
+            Ok(sent) => Ok(TakenAll { steps, sent }),
+            Err(NoMemory) => Err(ReplicaFault::Send(Vec::new(alloc))),
         }
     }
 

@@ -14,10 +14,13 @@ mod relearning;
 mod renewing;
 mod replica;
 mod reviving;
+mod taken;
+mod together;
 
 pub use datagram::Datagram;
 pub use fault::ReplicaFault;
 pub use grouping::Group;
-pub use memory_replica::{MemoryReplica, ReviveFault, Revived, Taken};
+pub use memory_replica::{MemoryReplica, ReviveFault, Revived};
 pub use post::{Post, SendFault};
 pub use replica::Replica;
+pub use taken::{Step, Taken, TakenAll};

@@ -1,4 +1,5 @@
-ghost use Rattle.std.specs.Prelude.{◌≡◌, ℕ, [], Contains, Ok, Err, IfOk, IfErr, OnOk, OnErr};
+ghost use Rattle.std.specs.Prelude.{◌≡◌, ℕ, [], map, Contains, Ok, Err, IfOk, IfErr, OnOk, OnErr};
+ghost use Rattle.std.specs.List.{AllByRecursion};
 ghost use Rattle.lk_types.specs.Limits.{max_base};
 ghost use Rattle.lk_disk.specs.Memory.{disk_of};
 ghost use Rattle.lk_disk.specs.Meters.{Passes};
@@ -19,9 +20,10 @@ ghost use Rattle.lk_replica.specs.Compacted.{IsStoreFault};
 ghost use Rattle.lk_replica.specs.Compacting.{AllStandAt};
 ghost use Rattle.lk_replica.specs.Faults.{fault_number, RefusedAfter, IsNumberOfCalls, IsNumberOfRevival};
 ghost use Rattle.lk_replica.specs.Rooms.{max_after};
+ghost use Rattle.lk_replica.specs.Together.{GoesAll, said_in, sent_of};
 
-use crate::datagram::Datagram;
 use crate::fault::ReplicaFault;
+use crate::taken::{Taken, TakenAll};
 use lk_disk::{MemoryDisk, Trap};
 use lk_entries::Header;
 use lk_step::{Input, Note};
@@ -39,13 +41,6 @@ pub struct Revived<R: Drop> {
 pub struct ReviveFault<D: Drop> {
     pub fault: ReplicaFault,
     pub device: D,
-}
-
-/// What a call came to: its notes, and the datagrams that it sent, in order.
-#[derive(Drop)]
-pub struct Taken {
-    pub notes: Vec<Note>,
-    pub sent: Vec<Datagram>,
 }
 
 /// A replica on disks in memory, as a world of replicas runs it: what is promised here is all that the world rests on.
@@ -111,6 +106,27 @@ pub trait MemoryReplica: Sized + Drop {
         ensures told { IfErr result (λ e. IsNumberOfCalls (fault_number e)) }
         ensures exact { IfOk result (λ t. behaves.Takes self.old (heard_by input.entry) self.new (Ok (t.notes.items, t.sent.items))) }
         ensures refused { IfErr result (λ e. behaves.Takes self.old (heard_by input.entry) self.new (Err (fault_number e))) };
+
+    /// Takes ticks and datagrams together: each as `take` does, in order, but what they tell to write is synced once, where something waits for that, and
+    /// nothing is sent before that. After a refusal nothing is sent.
+    fn take_all(&mut self, inputs: Vec<Input<'_>>) -> Result<TakenAll, ReplicaFault>
+        // At Ok it has gone on by each of them, in each history in which what the steps before it have sent is sent.
+        ensures goes { (genesis : Genesis) (n : ℕ) (held : Holding) → Shows self.old genesis n held
+            → IfOk result (λ t. GoesAll Shows (disks_by behaves) meaning n self.old inputs.entry.items self.new (said_in t)) }
+        // After any exit whatever a stop may leave fits where nothing of it is sent.
+        ensures ends { (h : History) (n : ℕ) → NodeFits meaning h n (Shows self.old h.genesis n) (disks_by behaves self.old) → AllByRecursion (InputFits h) inputs.entry.items
+            → DisksFit meaning h n (disks_by behaves self.new) }
+        // Sync before send: whatever was sent, and whatever every image covered, every image covers, also after a refusal.
+        ensures syncs { (genesis : Genesis) (n : ℕ) (held : Holding) (x : NodeMessage) → Shows self.old genesis n held
+            → IfOk result (λ t. (d : DatagramValue) → Contains t.sent.items d → Spells (said_by genesis n x) d.bytes → AllCover meaning genesis n (disks_by behaves self.new) x) }
+        ensures covers { (genesis : Genesis) (n : ℕ) (held : Holding) (x : NodeMessage) → Shows self.old genesis n held
+            → AllCover meaning genesis n (disks_by behaves self.old) x → AllCover meaning genesis n (disks_by behaves self.new) x }
+        ensures room { StaysWithin max_after (disks_by behaves self.old) (disks_by behaves self.new) }
+        ensures calls { IfOk result (λ t. (k : ℕ) × Passes (behaves.memory self.old).meter (behaves.memory self.new).meter k) }
+        ensures calls_err { IfErr result (λ e. RefusedAfter (fault_number e) (behaves.memory self.old).meter (behaves.memory self.new).meter) }
+        // What was sent is that of the steps, in order.
+        ensures exact { IfOk result (λ t. (t.sent.items ≡ sent_of (said_in t)) × behaves.TakesAll self.old (map heard_by inputs.entry.items) self.new (Ok (said_in t))) }
+        ensures refused { IfErr result (λ e. IsNumberOfCalls (fault_number e) × behaves.TakesAll self.old (map heard_by inputs.entry.items) self.new (Err (fault_number e))) };
 
     /// Writes a snapshot of all that is executed, in the place of the commands and the votes up to there. It notes and sends nothing.
     ///

@@ -1,5 +1,6 @@
 pub mod HexSpelling
 pub mod WordLemmas
+pub mod TurnLemmas
 pub mod GenesisLemmas
 pub mod LineLemmas
 pub mod TableServerLemmas

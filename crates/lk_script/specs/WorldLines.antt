@@ -7,6 +7,8 @@ use Rattle.lk_members.specs.Effects.{RequestValue}
 use Rattle.lk_words.specs.Operations.{SpellsOp}
 use Rattle.lk_sim.specs.declared.event.Event.{Event}
 use Rattle.lk_sim.specs.declared.event.Event.TheVariants as event
+use Rattle.lk_sim.specs.declared.event.Turn.{Turn}
+use Rattle.lk_sim.specs.declared.event.Turn.TheVariants as turn
 use Rattle.lk_script.specs.declared.event_verb.EventVerb.{EventVerb}
 use Rattle.lk_script.specs.declared.event_verb.EventVerb.TheVariants as verb
 use Rattle.lk_script.specs.declared.order.Order.{Order}
@@ -49,6 +51,25 @@ AsksToCompact words o = (n : ℕ) × IsNodeWord n words × (o ≡ Once (event.Co
 abbrev pub AsksToDeliver : List ℕ → Order → Type 0
 AsksToDeliver words o = (k : ℕ) × IsWord 1 max_count k words × (o ≡ Once (event.Deliver k))
 
+-- `t`, or `K`
+abbrev pub IsTurnWord : Turn → List ℕ → Type 0
+IsTurnWord turn.Tick word = word ≡ codes "t"
+IsTurnWord (turn.Deliver k) word = IsWord 1 max_count k word
+
+-- parts of a group in words, one or more, separated by spaces
+pub data SpellsTurns : List ℕ → List Turn → Type 0 where
+  one : (t : Turn) (word : List ℕ) → IsTurnWord t word → SpellsTurns word (t ∷ [])
+  more : (t : Turn) (word rest : List ℕ) (turns : List Turn) → IsTurnWord t word → SpellsTurns rest turns → SpellsTurns (word ++ 32 ∷ rest) (t ∷ turns)
+
+-- the node takes these together
+abbrev pub Groups : ℕ → List Turn → Event → Type 0
+Groups n turns (event.Group m taken) = (m ≡ n) × (taken.items ≡ turns)
+Groups n turns e = ⊥
+
+-- `N WORD ..`
+abbrev pub AsksForGroup : List ℕ → Order → Type 0
+AsksForGroup words o = (n : ℕ) × (rest : List ℕ) × (turns : List Turn) × (e : Event) × NodeLeads n rest words × SpellsTurns rest turns × Groups n turns e × (o ≡ Once e)
+
 -- `C NUMBER OP`
 abbrev pub SpellsRequest : List ℕ → RequestValue → Type 0
 SpellsRequest words r = (rest : List ℕ) × (text : List ℕ) × Leads 1 max_client r.client rest words × Leads 1 max_count r.number text rest × SpellsOp text r.op
@@ -89,6 +110,7 @@ word_of verb.Restart = codes "restart"
 word_of verb.Tick = codes "tick"
 word_of verb.Compact = codes "compact"
 word_of verb.Deliver = codes "deliver"
+word_of verb.Group = codes "group"
 word_of verb.Client = codes "client"
 word_of verb.Inject = codes "inject"
 word_of verb.Stop = codes "stop"
@@ -101,6 +123,7 @@ Asks verb.Restart = AsksToRestart
 Asks verb.Tick = AsksForTicks
 Asks verb.Compact = AsksToCompact
 Asks verb.Deliver = AsksToDeliver
+Asks verb.Group = AsksForGroup
 Asks verb.Client = AsksOfClient
 Asks verb.Inject = AsksToInject
 Asks verb.Stop = AsksToStop

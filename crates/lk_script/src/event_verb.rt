@@ -11,6 +11,7 @@ pub enum EventVerb {
     Tick,
     Compact,
     Deliver,
+    Group,
     Client,
     Inject,
     Stop,
@@ -19,12 +20,13 @@ pub enum EventVerb {
 }
 
 /// All of them.
-const ALL: [EventVerb; 10] = [
+const ALL: [EventVerb; 11] = [
     EventVerb::Start,
     EventVerb::Restart,
     EventVerb::Tick,
     EventVerb::Compact,
     EventVerb::Deliver,
+    EventVerb::Group,
     EventVerb::Client,
     EventVerb::Inject,
     EventVerb::Stop,
@@ -43,6 +45,7 @@ impl EventVerb {
             EventVerb::Tick => b"tick",
             EventVerb::Compact => b"compact",
             EventVerb::Deliver => b"deliver",
+            EventVerb::Group => b"group",
             EventVerb::Client => b"client",
             EventVerb::Inject => b"inject",
             EventVerb::Stop => b"stop",

@@ -14,6 +14,7 @@ pub mod order;
 pub mod printing;
 pub mod script;
 pub mod table_server;
-pub mod world_line;
+mod turn_words;
+mod world_line;
 mod world_run;
 mod world_words;

@@ -101,15 +101,25 @@ fn is_reply(datagram: &Datagram) -> bool {
     matches!(datagram.bytes.get(3), Some(10 | 12))
 }
 
-/// Adds the lines of the notes from that place on, up to those that come with datagrams, and tells where these stand.
-fn print_notes(text: &mut Vec<u8>, trace: &[Note], from: usize) -> Result<usize, NoMemory> {
-    for i in from..trace.len() {
-        if is_told(&trace[i]) {
-            return Ok(i);
+/// Adds the lines of the notes but of those that come with datagrams.
+fn print_notes(text: &mut Vec<u8>, notes: &[Note]) -> Result<(), NoMemory> {
+    for note in notes {
+        if !is_told(note) {
+            print_note(text, note)?;
         }
-        print_note(text, &trace[i])?;
     }
-    Ok(trace.len())
+    Ok(())
+}
+
+/// Adds the line of the first of the notes that comes with a datagram, and gives those behind it.
+fn print_told<'a>(text: &mut Vec<u8>, notes: &'a [Note]) -> Result<&'a [Note], NoMemory> {
+    for i in 0..notes.len() {
+        if is_told(&notes[i]) {
+            print_note(text, &notes[i])?;
+            return Ok(&notes[i + 1..]);
+        }
+    }
+    Ok(&[])
 }
 
 /// Adds the lines of the datagrams from that place on, and just before each the line of the note that comes with it.
@@ -117,15 +127,12 @@ fn print_sent(
     text: &mut Vec<u8>,
     sent: &[Datagram],
     from: usize,
-    told: &[Note],
+    notes: &[Note],
 ) -> Result<(), NoMemory> {
-    let mut told = told;
+    let mut notes = notes;
     for k in from..sent.len() {
         if is_reply(&sent[k]) {
-            if let Some((note, behind)) = told.split_first() {
-                print_note(text, note)?;
-                told = behind;
-            }
+            notes = print_told(text, notes)?;
         }
         print_datagram(text, k + 1, &sent[k])?;
     }
@@ -154,8 +161,8 @@ fn print_end(text: &mut Vec<u8>, end: &End) -> Result<(), NoMemory> {
     }
 }
 
-/// Adds what an event printed, which added the notes and the datagrams from these places on: its notes, the datagrams, each
-/// answer and pass after its own note, and the fault that ended a node.
+/// Adds what an event printed, which added the notes and the datagrams from these places on: its notes, of a group those of all
+/// steps, the datagrams, each answer and pass after its own note, and the fault that ended a node.
 pub fn print_event(
     text: &mut Vec<u8>,
     trace: &[Note],
@@ -163,8 +170,9 @@ pub fn print_event(
     (notes, datagrams): (usize, usize),
     end: Option<End>,
 ) -> Result<(), NoMemory> {
-    let told = print_notes(text, trace, notes)?;
-    print_sent(text, sent, datagrams, trace.get(told..).unwrap_or(&[]))?;
+    let notes = trace.get(notes..).unwrap_or(&[]);
+    print_notes(text, notes)?;
+    print_sent(text, sent, datagrams, notes)?;
     match &end {
         Some(end) => print_end(text, end),
         None => Ok(()),

@@ -6,11 +6,12 @@ ghost use Rattle.lk_types.specs.Limits.{max_node};
 ghost use Rattle.lk_members.specs.Effects.{RequestValue};
 ghost use Rattle.lk_script.specs.declared.order.Order.TheVariants as order;
 ghost use Rattle.lk_script.specs.declared.order.Order.{Order as OrderValue};
-ghost use Rattle.lk_script.specs.WorldLines.{AsksToStart, AsksToRestart, AsksForTicks, AsksToCompact, AsksToDeliver, SpellsRequest, AsksOfClient, AsksToInject, AsksToStop, AsksToFail, AsksToArm, Asks, SpellsOrder};
+ghost use Rattle.lk_script.specs.WorldLines.{AsksToStart, AsksToRestart, AsksForTicks, AsksToCompact, AsksToDeliver, AsksForGroup, SpellsRequest, AsksOfClient, AsksToInject, AsksToStop, AsksToFail, AsksToArm, Asks, SpellsOrder};
 
 use crate::event_verb::EventVerb;
 use crate::fault::LineFault;
 use crate::order::Order;
+use crate::turn_words::read_turns;
 use crate::world_words::{first_number, number_of};
 use lk_sim::Event;
 use lk_types::limits::{MAX_CLIENT, MAX_COUNT, MAX_NODE};
@@ -167,6 +168,18 @@ fn to_inject(alloc: Global, words: &[u8]) -> Result<Order, LineFault>
     Ok(Order::Once(Event::Inject(node, bytes)))
 }
 
+fn to_group(alloc: Global, words: &[u8]) -> Result<Order, LineFault>
+    ensures ok { IfOk result (AsksForGroup words.now) }
+    ensures not_understood { IsErrOf result LineFault.NotUnderstood → (o : OrderValue) → AsksForGroup words.now o → ⊥ }
+{
+    let Some((number, words)) = first_number(words, 1, LAST_NODE) else {
+        return Err(LineFault::NotUnderstood);
+    };
+    let turns = read_turns(alloc, words)?;
+    let node = NodeNo::of(number as u32).unwrap();
+    Ok(Order::Once(Event::Group(node, turns)))
+}
+
 /// An order, or the fault that there is none.
 fn understood(order: Option<Order>) -> Result<Order, LineFault>
     ensures ok { IfOk result (λ o. order ≡ Some o) }
@@ -186,6 +199,7 @@ fn asked(alloc: Global, verb: EventVerb, words: &[u8]) -> Result<Order, LineFaul
         EventVerb::Tick => understood(to_tick(words)),
         EventVerb::Compact => understood(to_compact(words)),
         EventVerb::Deliver => understood(to_deliver(words)),
+        EventVerb::Group => to_group(alloc, words),
         EventVerb::Client => understood(to_ask(words)),
         EventVerb::Inject => to_inject(alloc, words),
         EventVerb::Stop => understood(to_stop(words)),

@@ -1,6 +1,6 @@
 -- By which faults a node ends.
 use Rattle.std.proofs.Common.{◌≡◌, ℕ, Option, Some, None, refl, sym, subst, inl, inr, arith}
-use Rattle.std.specs.Prelude.{List, [], ◌∷◌, take}
+use Rattle.std.specs.Prelude.{List, [], ◌∷◌, map, take}
 use Rattle.lk_disk.specs.Memory.{Memory, empty}
 use Rattle.lk_replica.specs.Behaviours.{Behaviour}
 use Rattle.lk_replica.specs.Compacted.{IsStoreFault}
@@ -8,7 +8,8 @@ use Rattle.lk_replica.specs.Faults.{fault_number, IsNumberOfCalls, IsNumberOfRev
 use Rattle.lk_replica.specs.declared.fault.ReplicaFault.{ReplicaFault}
 use Rattle.lk_replica.specs.declared.fault.ReplicaFault.TheVariants as fault
 use Rattle.lk_step.specs.declared.note.Note.{Note}
-use Rattle.lk_sim.specs.Events.{IsNoWant, IsNumberOfEnd, IsToldEnd, end_by, end_at, IsGiven, ComesUp, Brings, Does, Wants, IsRefused}
+use Rattle.lk_sim.specs.Events.{IsNoWant, IsNumberOfEnd, IsToldEnd, end_by, end_at, IsGiven, IsGivenTogether, ComesUp, Brings, Does, Wants, IsRefused}
+use Rattle.lk_sim.specs.Groups.{given_by}
 use Rattle.lk_sim.specs.Runs.{Passes, StopsAt, Runs}
 use Rattle.lk_sim.specs.Scenes.{Scene}
 use Rattle.lk_sim.specs.Traces.{asked_note}
@@ -75,6 +76,9 @@ module _ {R : Type 0} (b : Behaviour R) where
   given_told : (old new : Scene R) (n : ℕ) (o : Option (List ℕ)) (asked : List Note) → IsGiven b old new n o asked → IsToldEnd new.ended
   given_told old new n o asked k = elim k.comes_to [ inl r ↦ nothing_told new r.ended | inr (inl r) ↦ told_as new.ended _ r.ended tt | inr (inr f) ↦ f.told ]
 
+  together_told : (old new : Scene R) (n : ℕ) (given : List (Option (List ℕ))) → IsGivenTogether b old new n given → IsToldEnd new.ended
+  together_told old new n given k = elim k.comes_to [ inl r ↦ nothing_told new r.ended | inr (inl r) ↦ told_as new.ended _ r.ended tt | inr (inr f) ↦ f.told ]
+
   brings_told : (old new : Scene R) (e : Event) → Brings b old e new → IsToldEnd new.ended
   brings_told old new (event.Start n) k = come_told old new k.seat empty k.comes
   brings_told old new (event.Restart n) k = come_told old new k.next k.device k.comes
@@ -82,6 +86,7 @@ module _ {R : Type 0} (b : Behaviour R) where
   brings_told old new (event.Compact n) k = elim k.comes_to [ inl p ↦ nothing_told new p.ended | inr f ↦ f.told ]
   brings_told old new (event.Client n r) k = nothing_told new k.ended
   brings_told old new (event.Deliver i) k = given_told old new k.node (Some k.datagram.bytes) [] k.given
+  brings_told old new (event.Group n turns) k = together_told old new n (map (given_by old.sent) turns.items) k
   brings_told old new (event.Inject n bytes) k = given_told old new n (Some bytes.items) (asked_note k.request) k.given
   brings_told old new (event.Stop n x y) k = nothing_told new k.ended
   brings_told old new (event.FailAt n count) k = nothing_told new k.ended
@@ -100,6 +105,7 @@ module _ {R : Type 0} (b : Behaviour R) where
   wants_told old new (event.Compact m) k told = told_as new.ended old.ended k.ended told
   wants_told old new (event.Client m r) k told = same_told old new k told
   wants_told old new (event.Deliver i) k told = elim k [ inl same ↦ same_told old new same told | inr h ↦ told_as new.ended old.ended h.4.ended told ]
+  wants_told old new (event.Group m turns) k told = elim k [ inl same ↦ same_told old new same told | inr h ↦ told_as new.ended old.ended h.ended told ]
   wants_told old new (event.Inject m bytes) k told = elim k [ inl same ↦ same_told old new same.0 told | inr h ↦ told_as new.ended old.ended h.ended told ]
   wants_told old new (event.Stop m x y) k told = absurd k
   wants_told old new (event.FailAt m count) k told = absurd k

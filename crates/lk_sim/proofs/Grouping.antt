@@ -1,24 +1,19 @@
 -- A node takes several inputs, one after another, before it sends: what is then added keeps all that holds of the world.
-use Rattle.std.proofs.Common.{◌≡◌, ℕ, List, [], ◌∷◌, ◌++◌, set, Contains, refl, ap, sym, ◌∙◌, subst, append_assoc, zero, suc, take, append-nil, arith}
+use Rattle.std.proofs.Common.{◌≡◌, ℕ, List, [], ◌∷◌, ◌++◌, set, Contains, refl, ap, sym, ◌∙◌, subst, append_assoc, zero, suc, take}
 use Rattle.std.proofs.lemmas.List.Elements.{Contains-append_left}
 use Rattle.lk_disk.specs.Disk.{Disk}
 use Rattle.lk_disk.specs.declared.device.Side.{Side}
-use Rattle.lk_log.specs.Rooms.{StaysWithin}
-use Rattle.lk_log.specs.StoreValue.{disks as disks_of_store}
 use Rattle.lk_state.specs.Meanings.{Meaning}
 use Rattle.lk_step.specs.declared.note.Note.{Note}
 use Rattle.lk_step.specs.declared.input.Input.{Input}
 use Rattle.lk_step.specs.declared.input.Input.TheVariants.{Tick, Datagram as Heard}
 use Rattle.lk_node.specs.Calls.{InputFits, NodeFits, Goes}
-use Rattle.lk_step.specs.Letters.{batch_of}
-use Rattle.lk_node.specs.Histories.{History, Genesis, Datagram, later}
-use Rattle.lk_node.specs.Keeping.{Stands}
-use Rattle.lk_node.specs.Leavings.{DisksFit}
-use Rattle.lk_replica.specs.Groups.{StepSaid, GoesThrough}
-use Rattle.lk_replica.specs.ReplicaValue.{ReplicaValue}
+use Rattle.lk_node.specs.Histories.{History, Genesis, Datagram}
 use Rattle.lk_node.specs.Holdings.{Holding}
-use Rattle.lk_replica.specs.Rooms.{max_after}
-use Rattle.lk_sim.specs.Rooms.{AreShort}
+pub use Rattle.lk_replica.specs.Together.{Said, sent_of, said_by_steps, GoesAll}
+pub use Rattle.lk_replica.proofs.TakenTogether.{goes_all}
+pub use Rattle.lk_sim.specs.Groups.{WasSentTo, WereSentTo, AreNotesOf, left_over, cut_short}
+use Rattle.lk_sim.specs.Events.{AreOwn, AreAllOwn}
 use Rattle.lk_sim.specs.Seats.{At}
 use Rattle.lk_sim.specs.Traces.{happened, Tells}
 use Rattle.lk_sim.specs.Worlds.{Holds}
@@ -31,40 +26,6 @@ use Rattle.lk_sim.proofs.Sending.{goes_on}
 use Rattle.lk_sim.proofs.Shortness.{stepped_short}
 use Rattle.lk_sim.proofs.Explaining.{lawful}
 use Rattle.lk_sim.proofs.Stopping.{goes_before}
-
--- what a step of the group noted, and what it said, which is sent once all of them are over
-abbrev pub Said : Type 0
-Said = List Note × List Datagram
-
--- a tick, or a datagram that was sent
-abbrev pub WasSentTo : List Datagram → Input → Type 0
-WasSentTo sent Tick = Unit {0}
-WasSentTo sent (Heard bytes) = (d : Datagram) × Contains sent d × (bytes.now ≡ d.bytes)
-
-abbrev pub WereSentTo : List Datagram → List Input → Type 0
-WereSentTo sent [] = Unit {0}
-WereSentTo sent (i ∷ is) = WasSentTo sent i × WereSentTo sent is
-
--- The replica took these inputs in order: in each history to which it fits, in which what it said before is sent, it goes on by each of them as by a call
--- of `take`, and at last it is as it would be. Each `mid` is as the replica will be once all is synced that it has written.
-abbrev pub GoesAll : {R : Type 0} → (R → Genesis → ℕ → Holding → Type 0) → (R → Side → Disk) → Meaning → ℕ → R → List Input → R → List Said → Type 0
-GoesAll Shows disks m n r [] q said = (said ≡ [])
-    × ((h : History) → NodeFits m h n (Shows r h.genesis n) (disks r) → Goes m h n (Shows q h.genesis n) (disks q) [] [])
-    × StaysWithin max_after (disks r) (disks q)
-GoesAll {R} Shows disks m n r (i ∷ is) q said = (mid : R) × (one : Said) × (rest : List Said) × (said ≡ one ∷ rest)
-    × ((h : History) → NodeFits m h n (Shows r h.genesis n) (disks r) → InputFits h i → Goes m h n (Shows mid h.genesis n) (disks mid) one.0 one.1)
-    × StaysWithin max_after (disks r) (disks mid)
-    × GoesAll Shows disks m n mid is q rest
-
--- all that was sent of it
-abbrev pub sent_of : List Said → List Datagram
-sent_of [] = []
-sent_of (x ∷ xs) = x.1 ++ sent_of xs
-
--- its notes, each step's behind those of the steps before it
-abbrev pub AreNotesOf : List Said → List Note → Type 0
-AreNotesOf [] notes = notes ≡ []
-AreNotesOf (x ∷ xs) notes = (told rest : List Note) × Tells x.1 told × (notes ≡ (x.0 ++ told) ++ rest) × AreNotesOf xs rest
 
 still_sent_to : (sent more : List Datagram) (is : List Input) → WereSentTo sent is → WereSentTo (sent ++ more) is
 still_sent_to sent more [] w = tt
@@ -107,18 +68,28 @@ module _ {R : Type 0} (Shows : R → Genesis → ℕ → Holding → Type 0) (di
       fits Tick was = tt
       fits (Heard bytes) was = heard_sent Shows disks m genesis seats sent trace w was.0 was.1 bytes.now was.2
 
+  -- each step notes what is its own
+  pub group_own : (is : List Input) (r q : R) (said : List Said) (seats : List (Seat R)) (sent : List Datagram) (trace notes : List Note) (s : Seat R)
+      → Holds Shows disks m genesis seats sent trace → At seats i s → s.life ≡ Up r → WereSentTo sent is → GoesAll Shows disks m s.number r is q said → AreNotesOf said notes → AreAllOwn said
+  group_own [] r q said seats sent trace notes s w at up were goes told = subst (λ (l : List Said). AreAllOwn l) (sym goes.0) tt
+  group_own (x ∷ is) r q said seats sent trace notes s w at up were goes told =
+      let mid = goes.0 in
+      let one = goes.1 in
+      let rest = goes.2 in
+      let names : AreNotesOf (one ∷ rest) notes = subst (λ (l : List Said). AreNotesOf l notes) goes.3 told in
+      let h = happened genesis sent trace in
+      let u = (w.seated i s at).up r up in
+      let g : Goes m h s.number (Shows mid genesis s.number) (disks mid) one.0 one.1 = goes.4 h (node_fits Shows disks m h (w.views s.number) s.number r (lawful Shows disks m genesis seats sent trace w) u) (fits x were.0) in
+      let next = goes_on Shows disks m genesis seats sent trace w i s (seat_with s.number mid) at mid refl refl one.0 names.0 one.1 g names.2 (stepped_short (disks r) (disks mid) goes.5 u.room) in
+      let all = group_own is mid q rest (set seats i (seat_with s.number mid)) (sent ++ one.1) (trace ++ (one.0 ++ names.0)) names.1 (seat_with s.number mid) next (at_set_here seats i (seat_with s.number mid) at.0) refl
+      (still_sent_to sent one.1 is were.1) goes.6 names.4 in
+      subst (λ (l : List Said). AreAllOwn l) (sym goes.3) ((λ n c. (g.noted n c).0), all)
+    where
+      fits : (x : Input) → WasSentTo sent x → InputFits (happened genesis sent trace) x
+      fits Tick was = tt
+      fits (Heard bytes) was = heard_sent Shows disks m genesis seats sent trace w was.0 was.1 bytes.now was.2
+
 -- ---- a stop at one of its sends
-
--- how many of so many are left behind these
-abbrev pub left_over : {X : Type 0} → ℕ → List X → ℕ
-left_over k [] = k
-left_over zero (x ∷ xs) = zero
-left_over (suc k) (x ∷ xs) = left_over k xs
-
--- with so many datagrams sent, and no more
-abbrev pub cut_short : ℕ → List Said → List Said
-cut_short k [] = []
-cut_short k (x ∷ xs) = (x.0, take k x.1) ∷ cut_short (left_over k x.1) xs
 
 take_both : {X : Type 0} (k : ℕ) (xs ys : List X) → take k xs ++ take (left_over k xs) ys ≡ take k (xs ++ ys)
 take_both k [] ys = nothing k
@@ -150,44 +121,3 @@ cut_goes Shows disks m n (x ∷ is) r q said k goes = (
   goes.5,
   cut_goes Shows disks m n is goes.0 q goes.2 (left_over k goes.1.1) goes.6,
 )
-
--- ---- of a replica
-
-module _ (m : Meaning) (n : ℕ) where
-  abbrev ShowsBy : ReplicaValue → Genesis → ℕ → Holding → Type 0
-  ShowsBy r genesis k x = Stands m r.node r.store genesis k x
-
-  abbrev DisksBy : ReplicaValue → Side → Disk
-  DisksBy r = disks_of_store r.store
-
-  abbrev said_by_steps : List StepSaid → List Said
-  said_by_steps [] = []
-  said_by_steps (x ∷ xs) = (x.0, batch_of n x.1) ∷ said_by_steps xs
-
-  -- what `take_all` promises
-  pub goes_all : (is : List Input) (r q : ReplicaValue) (said : List StepSaid) → GoesThrough m n r is q said → GoesAll ShowsBy DisksBy m n r is q (said_by_steps said)
-  goes_all [] r q said goes = (ap said_by_steps goes.0, λ h f. rests h (goes.1 h f), goes.2)
-    where
-      rests : (h : History) → NodeFits m h n (Stands m q.node q.store h.genesis n) (disks_of_store q.store) → Goes m h n (Stands m q.node q.store h.genesis n) (disks_of_store q.store) [] []
-      rests h f = record {
-        holding = f.holding;
-        shown = f.shown;
-        fits = f.fits;
-        may = λ d c. absurd (omega (arith, c.1));
-        noted = λ x c. absurd (omega (arith, c.1));
-        left = λ k. subst (λ (l : List Datagram). DisksFit m (later h l) n (disks_of_store q.store)) (nothing_in_front k)
-            (subst (λ (l : List Datagram). DisksFit m (record h { sent = l }) n (disks_of_store q.store)) (sym (append-nil h.sent)) f.left);
-      }
-        where
-          nothing_in_front : (k : ℕ) → let none : List Datagram = [] in none ≡ take k none
-          nothing_in_front zero = refl
-          nothing_in_front (suc k) = refl
-  goes_all (i ∷ is) r q said goes = (
-    goes.0,
-    (goes.1, batch_of n goes.2),
-    said_by_steps goes.3,
-    ap said_by_steps goes.4,
-    λ h f heard. goes.5 h f heard goes.2 (λ l c. c),
-    goes.6,
-    goes_all is goes.0 q goes.3 goes.7,
-  )

@@ -19,3 +19,4 @@ mod Running
 mod Stopping
 pub mod Networks
 mod Grouping
+mod GivenTogether

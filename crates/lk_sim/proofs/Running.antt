@@ -1,11 +1,14 @@
 -- Events in a row.
-use Rattle.std.proofs.Common.{◌≡◌, ℕ, suc, List, [], ◌∷◌, ◌++◌, take, slice_get, Some, None, refl, sym, ap, ◌∙◌, subst, inl, inr, append_assoc, append-nil}
+use Rattle.std.proofs.Common.{◌≡◌, ℕ, suc, List, [], ◌∷◌, ◌++◌, map, take, slice_get, Some, None, refl, sym, ap, ◌∙◌, subst, inl, inr, append_assoc, append-nil}
 use Rattle.lk_disk.specs.Memory.{Memory, empty}
 use Rattle.lk_replica.specs.Behaviours.{Behaviour}
 use Rattle.std.specs.Prelude.{Option, Result, Ok, Err, Vec, OnOk, IfErr, IsErrAnd}
 use Rattle.std.specs.Global.{Global}
 use Rattle.lk_step.specs.declared.note.Note.{Note}
-use Rattle.lk_sim.specs.Events.{IsGiven, ComesUp, Brings, Does, Wants, IsRefused, IsNotInjected, Grows}
+use Rattle.lk_sim.specs.Events.{IsGiven, IsGivenTogether, ComesUp, Brings, Does, Wants, IsRefused, IsNotInjected, IsNotGrouped, Grows}
+use Rattle.lk_replica.specs.Together.{sent_of}
+use Rattle.lk_sim.specs.Groups.{given_by}
+use Rattle.lk_sim.specs.declared.event.Turn.{Turn}
 use Rattle.lk_sim.specs.Runs.{Passes, StopsAt, Runs}
 use Rattle.lk_sim.specs.Scenes.{Scene}
 use Rattle.lk_sim.specs.Traces.{asked_note}
@@ -43,6 +46,14 @@ injected_refused b old new n bytes r k = elim k [
   | inr wants ↦ inr wants
 ]
 
+-- a group that was refused is a refused event
+pub group_refused : {R : Type 0} (b : Behaviour R) (old new : Scene R) (n : ℕ) (turns : Vec Turn Global) (r : Refused)
+    → IsNotGrouped b old n turns.items r new → IsRefused b old (event.Group n turns) r new
+group_refused b old new n turns r k = elim k [
+  | inl why ↦ inl why
+  | inr wants ↦ inr wants
+]
+
 -- ---- the datagrams only grow
 
 -- whatever a call came to
@@ -60,6 +71,9 @@ module _ {R : Type 0} (b : Behaviour R) where
   given_grows : (old new : Scene R) (n : ℕ) (o : Option (List ℕ)) (asked : List Note) → IsGiven b old new n o asked → Grows old new
   given_grows old new n o asked k = elim k.comes_to [ inl r ↦ (r.batch, r.adds.sent) | inr (inl r) ↦ (take r.sends r.batch, r.adds.sent) | inr (inr f) ↦ ([], f.adds.sent) ]
 
+  together_grows : (old new : Scene R) (n : ℕ) (given : List (Option (List ℕ))) → IsGivenTogether b old new n given → Grows old new
+  together_grows old new n given k = elim k.comes_to [ inl r ↦ (sent_of r.said, r.adds.sent) | inr (inl r) ↦ (take r.sends (sent_of r.said), r.adds.sent) | inr (inr f) ↦ ([], f.adds.sent) ]
+
   brings_grows : (old new : Scene R) (e : Event) → Brings b old e new → Grows old new
   brings_grows old new (event.Start n) k = come_grows old new k.seat empty k.comes
   brings_grows old new (event.Restart n) k = come_grows old new k.next k.device k.comes
@@ -67,6 +81,7 @@ module _ {R : Type 0} (b : Behaviour R) where
   brings_grows old new (event.Compact n) k = elim k.comes_to [ inl p ↦ ([], p.adds.sent) | inr f ↦ ([], f.adds.sent) ]
   brings_grows old new (event.Client n r) k = (k.datagram ∷ [], k.adds.sent)
   brings_grows old new (event.Deliver i) k = given_grows old new k.node (Some k.datagram.bytes) [] k.given
+  brings_grows old new (event.Group n turns) k = together_grows old new n (map (given_by old.sent) turns.items) k
   brings_grows old new (event.Inject n bytes) k = given_grows old new n (Some bytes.items) (asked_note k.request) k.given
   brings_grows old new (event.Stop n x y) k = ([], k.adds.sent)
   brings_grows old new (event.FailAt n count) k = ([], k.adds.sent)
@@ -82,6 +97,7 @@ module _ {R : Type 0} (b : Behaviour R) where
   wants_grow old new (event.Compact m) k = ([], k.adds.sent)
   wants_grow old new (event.Client m r) k = nothing_more old new k
   wants_grow old new (event.Deliver i) k = elim k [ inl same ↦ nothing_more old new same | inr h ↦ ([], h.4.adds.sent) ]
+  wants_grow old new (event.Group m turns) k = elim k [ inl same ↦ nothing_more old new same | inr h ↦ ([], h.adds.sent) ]
   wants_grow old new (event.Inject m bytes) k = elim k [ inl same ↦ nothing_more old new same.0 | inr h ↦ ([], h.adds.sent) ]
   wants_grow old new (event.Stop m x y) k = absurd k
   wants_grow old new (event.FailAt m count) k = absurd k

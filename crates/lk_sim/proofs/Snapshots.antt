@@ -63,6 +63,7 @@ module _ {R : Type 0} (b : Behaviour R) (Shows : R → Genesis → ℕ → Holdi
   ]
   leaves_packed old new w (event.Client n r) k = tt
   leaves_packed old new w (event.Deliver i) k = tt
+  leaves_packed old new w (event.Group n turns) k = tt
   leaves_packed old new w (event.Inject n bytes) k = tt
   leaves_packed old new w (event.Stop n x y) k = tt
   leaves_packed old new w (event.FailAt n count) k = tt

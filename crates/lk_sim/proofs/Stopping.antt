@@ -66,7 +66,7 @@ module _ {R : Type 0} (b : Behaviour R) (alone : TrapsAlone b) (Shows : R → Ge
       left = λ j. same_disks m (later h (take j sent)) n (disks_by b r) (disks_by b (b.with_trap t r)) (trapped_disks t r) (g.left j);
     }
 
-    counted_goes : (t : Trap) (sends : ℕ) (r : R) (sent : List Datagram) → Goes m h n (Shows r h.genesis n) (disks_by b r) notes sent → Goes m h n (Shows (counting b t sends r) h.genesis n) (disks_by b (counting b t sends r)) notes sent
+    pub counted_goes : (t : Trap) (sends : ℕ) (r : R) (sent : List Datagram) → Goes m h n (Shows r h.genesis n) (disks_by b r) notes sent → Goes m h n (Shows (counting b t sends r) h.genesis n) (disks_by b (counting b t sends r)) notes sent
     counted_goes Off sends r sent g = g
     counted_goes (Fail count) sends r sent g = g
     counted_goes (Arm count bytes) sends r sent g = trapped_goes (Arm (count - sends) bytes) r sent g
@@ -89,6 +89,11 @@ module _ {R : Type 0} (b : Behaviour R) (alone : TrapsAlone b) (Shows : R → Ge
     left = same_disks m h n (disks_by b r) (disks_by b (b.with_trap t r)) (trapped_disks t r) u.left;
     room = same_short (disks_by b r) (disks_by b (b.with_trap t r)) (trapped_disks t r) u.room;
   }
+
+  pub counted_disks : (t : Trap) (sends : ℕ) (r : R) (s : Side) → disks_by b (counting b t sends r) s ≡ disks_by b r s
+  counted_disks Off sends r s = refl
+  counted_disks (Fail count) sends r s = refl
+  counted_disks (Arm count bytes) sends r s = trapped_disks (Arm (count - sends) bytes) r s
 
   counted_short : (t : Trap) (sends : ℕ) (r : R) → AreShort (disks_by b r) → AreShort (disks_by b (counting b t sends r))
   counted_short Off sends r short = short

@@ -1,6 +1,7 @@
 -- What an event does to a world.
-use Rattle.std.specs.Prelude.{◌≡◌, ℕ, ◌+◌, ◌<◌, ◌-◌, ◌⊎◌, ◌&&◌, nat_lt, nat_le, true, false, length, take, List, [], ◌∷◌, ◌++◌, Option, Some, None, Result, Ok, Err, set, Contains, if◌then◌else◌, Vec, vec_len, vec_capacity}
+use Rattle.std.specs.Prelude.{◌≡◌, ℕ, ◌+◌, ◌<◌, ◌-◌, ◌⊎◌, ◌&&◌, nat_lt, nat_le, true, false, length, map, take, List, [], ◌∷◌, ◌++◌, Option, Some, None, Result, Ok, Err, IfErr, set, Contains, if◌then◌else◌, Vec, vec_len, vec_capacity}
 use Rattle.std.specs.Global.{Global}
+use Rattle.std.specs.List.{AllByRecursion}
 use Rattle.lk_disk.specs.Memory.{Memory, empty}
 use Rattle.lk_disk.specs.Meters.{Passes, stopping}
 use Rattle.lk_disk.specs.declared.trap.Trap.{Trap}
@@ -17,8 +18,10 @@ use Rattle.lk_node.specs.Leavings.{header_of}
 use Rattle.lk_node.specs.Served.{IsOfNode}
 use Rattle.lk_replica.specs.Behaviours.{Behaviour}
 use Rattle.lk_replica.specs.Faults.{RefusedAfter}
+use Rattle.lk_replica.specs.Together.{Said, sent_of}
+use Rattle.lk_sim.specs.Groups.{AreNotesOf, cut_short, given_by}
 use Rattle.lk_sim.specs.Heard.{Asks}
-use Rattle.lk_sim.specs.Refusals.{datagram_at, May, MayInject, MayNot, NoInjection}
+use Rattle.lk_sim.specs.Refusals.{datagram_at, May, MayGroup, MayInject, MayNot, NoGroup, NoInjection}
 use Rattle.lk_sim.specs.Scenes.{Scene}
 use Rattle.lk_sim.specs.Seats.{At, stopped_on, rested_on, IsTrapped}
 use Rattle.lk_sim.specs.Traces.{Tells, asked_note}
@@ -26,6 +29,7 @@ use Rattle.lk_sim.specs.declared.end.End.{End}
 use Rattle.lk_sim.specs.declared.end.End.TheVariants.{Fault, Stopped}
 use Rattle.lk_sim.specs.declared.event.Event.{Event}
 use Rattle.lk_sim.specs.declared.event.Event.TheVariants as event
+use Rattle.lk_sim.specs.declared.event.Turn.{Turn}
 use Rattle.lk_sim.specs.declared.refused.Refused.{Refused}
 use Rattle.lk_sim.specs.declared.refused.Refused.TheVariants.{WorldMemory}
 use Rattle.lk_sim.specs.declared.seat.Seat.{Seat}
@@ -182,6 +186,63 @@ pub record IsDelivered {R : Type 0} (b : Behaviour R) (old new : Scene R) (k : �
   pub bound : datagram.to ≡ party.Node node
   pub given : IsGiven b old new node (Some datagram.bytes) []
 
+-- ---- a node is given a group
+
+-- a call of the replica for a group was refused with the fault of this number, and left this device
+abbrev pub BreaksTogether : {R : Type 0} → Behaviour R → R → List (Option (List ℕ)) → ℕ → Memory → Type 0
+BreaksTogether {R = R} b r given number left = (q : R) × b.TakesAll r given q (Err number) × RefusedAfter number (b.memory r).meter left.meter × (left ≡ b.memory q)
+
+-- each step itself notes what it counted and executed, and nothing else
+abbrev pub AreAllOwn : List Said → Type 0
+AreAllOwn said = AllByRecursion (λ (x : Said). AreOwn x.0) said
+
+-- it goes on: all calls of its device have passed, no armed stop came at a send, and what the steps noted and sent was added, step by step, the answers and
+-- passes noted as they were sent
+pub record GoesOnTogether {R : Type 0} (b : Behaviour R) (old new : Scene R) (r : R) (t : Seat R) (given : List (Option (List ℕ))) : Type 0 where
+  pub replica : R
+  pub said : List Said
+  pub notes : List Note
+  pub takes : b.TakesAll r given replica (Ok said)
+  pub calls : ℕ
+  pub passes : Passes (b.memory r).meter (b.memory replica).meter calls
+  pub no_stop : stop_among (b.memory replica).meter.trap (length (sent_of said)) ≡ None
+  pub up : t.life ≡ Up (after_sends b (length (sent_of said)) replica)
+  pub own : AreAllOwn said
+  pub tells : AreNotesOf said notes
+  pub adds : Adds old new notes (sent_of said)
+  pub ended : new.ended ≡ None
+
+-- an armed stop ended it at a send: all that the steps noted was added, and what they sent in front of that
+pub record StopsTogether {R : Type 0} (b : Behaviour R) (old new : Scene R) (r : R) (t : Seat R) (given : List (Option (List ℕ))) : Type 0 where
+  pub replica : R
+  pub said : List Said
+  pub notes : List Note
+  pub takes : b.TakesAll r given replica (Ok said)
+  pub calls : ℕ
+  pub passes : Passes (b.memory r).meter (b.memory replica).meter calls
+  pub sends : ℕ
+  pub bytes : ℕ
+  pub stop : stop_among (b.memory replica).meter.trap (length (sent_of said)) ≡ Some (sends, bytes)
+  pub down : t.life ≡ Down (stopped_on bytes bytes (b.memory replica))
+  pub own : AreAllOwn said
+  pub tells : AreNotesOf (cut_short sends said) notes
+  pub adds : Adds old new notes (take sends (sent_of said))
+  pub ended : new.ended ≡ Some (Stopped t.number)
+
+-- what came of the group; where a fault ended the node, or an armed stop at a call of its device, it noted and sent nothing
+abbrev pub ComesTogether : {R : Type 0} → Behaviour R → Scene R → Scene R → R → Seat R → List (Option (List ℕ)) → Type 0
+ComesTogether b old new r t given = GoesOnTogether b old new r t given ⊎ StopsTogether b old new r t given ⊎ Falls (BreaksTogether b r given) old new t []
+
+-- the node of this number was given these together
+pub record IsGivenTogether {R : Type 0} (b : Behaviour R) (old new : Scene R) (n : ℕ) (given : List (Option (List ℕ))) : Type 0 where
+  pub seat : Seat R
+  pub number : seat.number ≡ n
+  pub replica : R
+  pub up : seat.life ≡ Up replica
+  pub next : Seat R
+  pub turns : Turns old.seats new.seats seat next
+  pub comes_to : ComesTogether b old new replica next given
+
 -- the node was given these bytes, and a request in them was noted as asked
 pub record IsInjected {R : Type 0} (b : Behaviour R) (old new : Scene R) (n : ℕ) (bytes : List ℕ) : Type 0 where
   pub request : Option RequestValue
@@ -285,6 +346,7 @@ Brings b old (event.Tick n) new = IsGiven b old new n None []
 Brings b old (event.Compact n) new = IsCompacted b old new n
 Brings b old (event.Client n r) new = IsAsked old new n r
 Brings b old (event.Deliver k) new = IsDelivered b old new k
+Brings b old (event.Group n turns) new = IsGivenTogether b old new n (map (given_by old.sent) turns.items)
 Brings b old (event.Inject n bytes) new = IsInjected b old new n bytes.items
 Brings b old (event.Stop n x y) new = GoesDown b old new n x y
 Brings b old (event.FailAt n count) new = HasTrap b old new n (Fail count)
@@ -304,6 +366,11 @@ TakesMemory (Err number) left = IsWant number left
 -- such a call of the replica left this device
 abbrev pub LeftBy : {R : Type 0} → Behaviour R → Option (List ℕ) → Life R → Memory → Type 0
 LeftBy {R = R} b o life left = (r q : R) × (came : Result (List Note × List Datagram) ℕ) × (life ≡ Up r) × b.Takes r o q came × (left ≡ b.memory q) × TakesMemory came left
+
+-- a call for a group left this device; where it was refused it was so when out of memory. What its steps came to takes memory
+abbrev pub LeftByGroup : {R : Type 0} → Behaviour R → List (Option (List ℕ)) → Life R → Memory → Type 0
+LeftByGroup {R = R} b given life left =
+    (r q : R) × (came : Result (List (List Note × List Datagram)) ℕ) × (life ≡ Up r) × b.TakesAll r given q came × (left ≡ b.memory q) × IfErr came (λ number. IsWant number left)
 
 -- this is the device of what a revival came to that takes memory: it was refused when out of memory, or there is something to be noted
 abbrev pub IsOf : {R : Type 0} → Behaviour R → Result (R × List Note) (ℕ × Memory) → Memory → Type 0
@@ -340,6 +407,10 @@ pub record IsHalted {R : Type 0} (Left : Life R → Memory → Type 0) (old new 
 abbrev pub WantsInjection : {R : Type 0} → Behaviour R → Scene R → ℕ → List ℕ → Scene R → Type 0
 WantsInjection b old n bytes new = ((new ≡ old) × ((r : RequestValue) × Asks bytes (Some r))) ⊎ IsHalted (LeftBy b (Some bytes)) old new n
 
+-- what refused memory leaves of a group: there was no room for what its node was to be given, before the node stepped; or the node has stopped
+abbrev pub WantsGroup : {R : Type 0} → Behaviour R → Scene R → ℕ → List Turn → Scene R → Type 0
+WantsGroup b old n turns new = (new ≡ old) ⊎ IsHalted (LeftByGroup b (map (given_by old.sent) turns)) old new n
+
 -- what refused memory leaves of an event: the node that it steps, or revives, has stopped. Where no node was stepping yet nothing has
 -- changed, nor where the node was never started before: it is as never started. A stop, and a trap that is set, take no memory, nor does a
 -- call that came to another fault, or that left nothing to be noted or sent. Nothing was noted or sent
@@ -351,6 +422,7 @@ Wants b old (event.Compact n) new = IsHalted (LeftByPacking b) old new n
 Wants b old (event.Client n r) new = new ≡ old
 Wants b old (event.Deliver k) new =
     (new ≡ old) ⊎ ((n : ℕ) × (d : Datagram) × (datagram_at old.sent k ≡ Some d) × (d.to ≡ party.Node n) × IsHalted (LeftBy b (Some d.bytes)) old new n)
+Wants b old (event.Group n turns) new = WantsGroup b old n turns.items new
 Wants b old (event.Inject n bytes) new = WantsInjection b old n bytes.items new
 Wants b old (event.Stop n x y) new = ⊥
 Wants b old (event.FailAt n count) new = ⊥
@@ -363,6 +435,10 @@ IsRefused b old e r new = (MayNot old e r × (new ≡ old)) ⊎ ((r ≡ WorldMem
 -- so of bytes that no node has sent
 abbrev pub IsNotInjected : {R : Type 0} → Behaviour R → Scene R → ℕ → List ℕ → Refused → Scene R → Type 0
 IsNotInjected b old n bytes r new = (NoInjection old.seats old.sent n bytes r × (new ≡ old)) ⊎ ((r ≡ WorldMemory) × MayInject old n bytes × WantsInjection b old n bytes new)
+
+-- so of a group
+abbrev pub IsNotGrouped : {R : Type 0} → Behaviour R → Scene R → ℕ → List Turn → Refused → Scene R → Type 0
+IsNotGrouped b old n turns r new = (NoGroup old.seats old.sent n turns r × (new ≡ old)) ⊎ ((r ≡ WorldMemory) × MayGroup old n turns × WantsGroup b old n turns new)
 
 -- ---- what every event keeps
 

@@ -6,6 +6,7 @@ pub mod Heard
 pub mod Explained
 pub mod States
 pub mod Refusals
+pub mod Groups
 pub mod Events
 pub mod Outcomes
 pub mod Orders

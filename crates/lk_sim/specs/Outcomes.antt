@@ -10,7 +10,10 @@ use Rattle.lk_step.specs.declared.note.Note.{Note}
 use Rattle.lk_node.specs.Histories.{History, Genesis, Datagram}
 use Rattle.lk_node.specs.Holdings.{Holding}
 use Rattle.lk_replica.specs.Behaviours.{Behaviour, disks_by}
+use Rattle.lk_replica.specs.Together.{sent_of, parts_of}
+use Rattle.lk_replica.specs.declared.taken.Step.{Step}
 use Rattle.lk_sim.specs.Events.{Adds, IsNoWant, IsWant, SentUpTo, end_by, end_at}
+use Rattle.lk_sim.specs.Groups.{AreNotesOf}
 use Rattle.lk_sim.specs.Scenes.{Scene}
 use Rattle.lk_sim.specs.Seats.{SeatFits, At, stopped_on, fallen_on, device_in}
 use Rattle.lk_sim.specs.Traces.{Tells}
@@ -60,6 +63,24 @@ pub record HasTaken {R : Type 0} (b : Behaviour R) (r : R) (o : Option (List ℕ
   pub sends : SentUpTo b stop replica after all batch
   pub ended : how ≡ end_at stop s.number
 
+-- its replica took these together, whose steps and datagrams these are; it may have come to an armed stop at a send
+pub record HasTakenTogether {R : Type 0} (b : Behaviour R) (r : R) (given : List (Option (List ℕ))) (s : Seat R) (steps : List Step) (batch : List Datagram) (how : Option End) (stop : Option ℕ) : Type 0 where
+  pub replica : R
+  pub all : List Datagram
+  pub takes : b.TakesAll r given replica (Ok (parts_of steps all))
+  pub whole : all ≡ sent_of (parts_of steps all)
+  pub calls : ℕ
+  pub passes : Passes (b.memory r).meter (b.memory replica).meter calls
+  pub after : R
+  pub up : s.life ≡ Up after
+  pub sends : SentUpTo b stop replica after all batch
+  pub ended : how ≡ end_at stop s.number
+
+-- a fault ended the node in a group
+pub record HasFallenTogether {R : Type 0} (Ends : ℕ → Memory → Type 0) (s : Seat R) (steps : List Step) (batch : List Datagram) (how : Option End) (stop : Option ℕ) : Type 0 where
+  pub no_steps : steps ≡ []
+  pub fallen : HasFallen Ends s [] batch how stop
+
 -- it came up on this device
 pub record HasRevived {R : Type 0} (b : Behaviour R) (device : Memory) (header : HeaderValue) (s : Seat R) (mine : List Note) (batch : List Datagram) (how : Option End) (stop : Option ℕ) : Type 0 where
   pub replica : R
@@ -102,6 +123,28 @@ pub record HasSettled {R : Type 0} (Shows : R → Genesis → ℕ → Holding �
   pub rests : Rests b stop seat next
   pub fits : (h : History) (w : View) → SeatFits Shows (disks_by b) m h w seat → SeatFits Shows (disks_by b) m h w next
   pub adds : Adds old new ((asked ++ mine) ++ told) batch
+  pub ended : new.ended ≡ how
+
+-- what the steps noted and sent was added, step by step, their answers and passes noted as they were sent
+pub record HasAddedSteps {R : Type 0} (old new : Scene R) (steps : List Step) (batch : List Datagram) (how : Option End) : Type 0 where
+  pub notes : List Note
+  pub tells : AreNotesOf (parts_of steps batch) notes
+  pub seats : new.seats ≡ old.seats
+  pub adds : Adds old new notes batch
+  pub ended : new.ended ≡ how
+
+-- so it was, and the node at this place rests where it has come to an armed stop
+pub record HasSettledSteps {R : Type 0} (Shows : R → Genesis → ℕ → Holding → Type 0) (b : Behaviour R) (m : Meaning) (old : Scene R) (i : ℕ) (new : Scene R) (steps : List Step) (batch : List Datagram) (how : Option End) (stop : Option ℕ) : Type 0 where
+  pub notes : List Note
+  pub tells : AreNotesOf (parts_of steps batch) notes
+  pub seat : Seat R
+  pub next : Seat R
+  pub at : At old.seats i seat
+  pub number : next.number ≡ seat.number
+  pub seats : new.seats ≡ set old.seats i next
+  pub rests : Rests b stop seat next
+  pub fits : (h : History) (w : View) → SeatFits Shows (disks_by b) m h w seat → SeatFits Shows (disks_by b) m h w next
+  pub adds : Adds old new notes batch
   pub ended : new.ended ≡ how
 
 -- the node at this place was stopped, and nothing was added

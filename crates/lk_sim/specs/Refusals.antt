@@ -1,5 +1,6 @@
 -- Why an event is refused, the smallest number first.
-use Rattle.std.specs.Prelude.{◌≡◌, ℕ, zero, suc, ◌<◌, ◌≤◌, List, length, Option, Some, None, slice_get}
+use Rattle.std.specs.Prelude.{◌≡◌, ℕ, zero, suc, ◌<◌, ◌≤◌, List, length, Option, Some, None, slice_get, Contains}
+use Rattle.std.specs.List.{AllByRecursion}
 use Rattle.lk_history.specs.declared.party.Party.{Party}
 use Rattle.lk_history.specs.declared.party.Party.TheVariants as party
 use Rattle.lk_node.specs.Histories.{Datagram}
@@ -8,6 +9,8 @@ use Rattle.lk_sim.specs.Scenes.{Scene}
 use Rattle.lk_sim.specs.Seats.{IsStarted, IsUp, IsDown, HasNo}
 use Rattle.lk_sim.specs.declared.event.Event.{Event}
 use Rattle.lk_sim.specs.declared.event.Event.TheVariants as event
+use Rattle.lk_sim.specs.declared.event.Turn.{Turn}
+use Rattle.lk_sim.specs.declared.event.Turn.TheVariants as turn
 use Rattle.lk_sim.specs.declared.refused.Refused.{Refused}
 use Rattle.lk_sim.specs.declared.refused.Refused.TheVariants.{NoSuchNode, NotUp, AlreadyUp, NoSuchDatagram, Forged, WorldFull, WorldMemory}
 use Rattle.lk_sim.specs.declared.seat.Seat.{Seat}
@@ -32,6 +35,15 @@ HasRoom sent = length sent ≤ 99000
 abbrev pub datagram_at : List Datagram → ℕ → Option Datagram
 datagram_at sent zero = None
 datagram_at sent (suc k) = slice_get sent k
+
+-- the datagram of the turn stands there, bound for the node
+abbrev pub IsFor : List Datagram → ℕ → Turn → Type 0
+IsFor sent n turn.Tick = Unit {0}
+IsFor sent n (turn.Deliver k) = (d : Datagram) × (datagram_at sent k ≡ Some d) × (d.to ≡ party.Node n)
+
+-- so with each of these
+abbrev pub AreFor : List Datagram → ℕ → List Turn → Type 0
+AreFor sent n turns = AllByRecursion (IsFor sent n) turns
 
 -- ---- why not
 
@@ -84,6 +96,14 @@ NoInjection seats sent n bytes Forged = IsUp seats n × IsForged bytes
 NoInjection seats sent n bytes WorldFull = IsUp seats n × (IsForged bytes → ⊥) × IsFull sent
 NoInjection seats sent n bytes _ = ⊥
 
+-- each datagram of a group has to be bound for its node
+abbrev pub NoGroup : {R : Type 0} → List (Seat R) → List Datagram → ℕ → List Turn → Refused → Type 0
+NoGroup seats sent n turns NoSuchNode = HasNo seats n
+NoGroup seats sent n turns NotUp = IsDown seats n
+NoGroup seats sent n turns NoSuchDatagram = IsUp seats n × (AreFor sent n turns → ⊥)
+NoGroup seats sent n turns WorldFull = IsUp seats n × AreFor sent n turns × IsFull sent
+NoGroup seats sent n turns _ = ⊥
+
 -- the event is refused so, and not when out of memory
 abbrev pub MayNot : {R : Type 0} → Scene R → Event → Refused → Type 0
 MayNot w (event.Start n) e = NoStart w.seats n e
@@ -92,6 +112,7 @@ MayNot w (event.Tick n) e = NoTurn w.seats w.sent n e
 MayNot w (event.Compact n) e = NoneUp w.seats n e
 MayNot w (event.Client n r) e = NoClient w.seats w.sent n e
 MayNot w (event.Deliver k) e = NoDelivery w.seats w.sent (datagram_at w.sent k) e
+MayNot w (event.Group n turns) e = NoGroup w.seats w.sent n turns.items e
 MayNot w (event.Inject n bytes) e = NoInjection w.seats w.sent n bytes.items e
 MayNot w (event.Stop n x y) e = NoneUp w.seats n e
 MayNot w (event.FailAt n count) e = NotStarted w.seats n e
@@ -107,6 +128,10 @@ MayTurn w n = IsUp w.seats n × HasRoom w.sent
 abbrev pub MayDeliver : {R : Type 0} → Scene R → ℕ → Type 0
 MayDeliver w k = (d : Datagram) × (n : ℕ) × (datagram_at w.sent k ≡ Some d) × (d.to ≡ party.Node n) × MayTurn w n
 
+-- so is each datagram of a group
+abbrev pub MayGroup : {R : Type 0} → Scene R → ℕ → List Turn → Type 0
+MayGroup w n turns = MayTurn w n × AreFor w.sent n turns
+
 -- and the bytes are none that only a node sends
 abbrev pub MayInject : {R : Type 0} → Scene R → ℕ → List ℕ → Type 0
 MayInject w n bytes = MayTurn w n × (IsForged bytes → ⊥)
@@ -118,6 +143,7 @@ May w (event.Tick n) = MayTurn w n
 May w (event.Compact n) = IsUp w.seats n
 May w (event.Client n r) = IsStarted w.seats n × HasRoom w.sent
 May w (event.Deliver k) = MayDeliver w k
+May w (event.Group n turns) = MayGroup w n turns.items
 May w (event.Inject n bytes) = MayInject w n bytes.items
 May w (event.Stop n x y) = IsUp w.seats n
 May w (event.FailAt n count) = IsStarted w.seats n

@@ -48,8 +48,8 @@ pub fn tick<R: MemoryReplica>(parts: &mut Parts<R>, number: NodeNo) -> Result<()
     Ok(())
 }
 
-// The datagram of this place. Places count from 1.
-fn datagram(sent: &[Datagram], k: usize) -> Option<&Datagram>
+/// The datagram of this place. Places count from 1.
+pub fn datagram(sent: &[Datagram], k: usize) -> Option<&Datagram>
     ensures some { IfSome result (λ d. datagram_at sent.now k ≡ Some d.now) }
     ensures none { result ≡ None → datagram_at sent.now k ≡ None }
 {

@@ -1,5 +1,14 @@
 use lk_types::{NodeNo, Request};
 
+/// A part of a group.
+#[derive(Clone, Copy)]
+pub enum Turn {
+    /// Some time passes.
+    Tick,
+    /// The datagram of this place, which was bound for the node. Places count from 1.
+    Deliver(usize),
+}
+
 /// What happens in a world.
 #[derive(Drop)]
 pub enum Event {
@@ -15,6 +24,8 @@ pub enum Event {
     Client(NodeNo, Request),
     /// The node to which the datagram of this place was bound takes it. Places count from 1.
     Deliver(usize),
+    /// A node takes these together: what they tell to write is synced once, and nothing is sent before that.
+    Group(NodeNo, Vec<Turn>),
     /// A node is handed bytes that no node has sent.
     Inject(NodeNo, Vec<u8>),
     /// A node stops; its disks keep up to so many of their unsynced bytes, those of A first.

@@ -38,8 +38,8 @@ fn notes_of(
     Ok(notes)
 }
 
-// Both join their lists, or neither does.
-fn join(
+/// Both join their lists, or neither does.
+pub fn join(
     sent: &mut Vec<Datagram>,
     trace: &mut Vec<Note>,
     mut batch: Vec<Datagram>,

@@ -9,6 +9,7 @@ use crate::client::client;
 use crate::delivery::{deliver, inject, tick};
 use crate::end::RunEnd;
 use crate::event::Event;
+use crate::group::group;
 use crate::lives::{arm, fail_at, halt, restart, start};
 use crate::packing::compact;
 use crate::parts::Parts;
@@ -29,6 +30,7 @@ pub fn happen<R: MemoryReplica>(parts: &mut Parts<R>, event: &Event) -> Result<(
         Event::Compact(number) => compact(parts, *number),
         Event::Client(number, request) => client(parts, *number, request),
         Event::Deliver(k) => deliver(parts, *k),
+        Event::Group(number, turns) => group(parts, *number, turns),
         Event::Inject(number, bytes) => inject(parts, *number, bytes),
         Event::Stop(number, x, y) => halt(parts, *number, *x, *y),
         Event::FailAt(number, count) => fail_at(parts, *number, *count),

@@ -7,6 +7,7 @@ mod end;
 mod event;
 mod finding;
 mod giving;
+mod group;
 mod happening;
 pub mod laws;
 mod lives;
@@ -18,6 +19,6 @@ mod telling;
 mod world;
 
 pub use end::{End, RunEnd};
-pub use event::Event;
+pub use event::{Event, Turn};
 pub use refused::Refused;
 pub use world::World;

@@ -147,8 +147,8 @@ fn ended_by(stop: Option<usize>, node: NodeNo, number: u8) -> End
     }
 }
 
-// How a node ended that has come to an armed stop at a send, if it has.
-fn ended_at(stop: Option<usize>, node: NodeNo) -> Option<End>
+/// How a node ended that has come to an armed stop at a send, if it has.
+pub fn ended_at(stop: Option<usize>, node: NodeNo) -> Option<End>
     ensures { result ≡ end_at stop node }
 {
     match stop {
@@ -157,9 +157,9 @@ fn ended_at(stop: Option<usize>, node: NodeNo) -> Option<End>
     }
 }
 
-// Counts the sends of a step against an armed trap. Where the node stops at one of them, those from it on are not sent, and it
-// is told for how many bytes.
-fn count_sends<R: MemoryReplica>(replica: &mut R, sent: &mut Vec<Datagram>) -> Option<usize>
+/// Counts the sends of a call against an armed trap. Where the node stops at one of them, those from it on are not sent, and it
+/// is told for how many bytes.
+pub fn count_sends<R: MemoryReplica>(replica: &mut R, sent: &mut Vec<Datagram>) -> Option<usize>
     ensures sends { SentUpTo R.behaves result replica.old replica.new sent.old.items sent.new.items }
 {
     let Trap::Arm(count, bytes) = replica.device().pending() else {

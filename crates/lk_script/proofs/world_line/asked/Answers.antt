@@ -18,6 +18,9 @@ returns-in-Compact-clause-not_understood c = λ bad o asks. c.to_compact.ensures
 pub returns-in-Deliver-clause-not_understood : goal.returns-in-Deliver-clause-not_understood
 returns-in-Deliver-clause-not_understood c = λ bad o asks. c.to_deliver.ensures.none (c.understood-in-Deliver.ensures.not_understood bad) o (subst (λ (v : EventVerb). Asks v c.args.words.now o) c.in-Deliver.is asks)
 
+pub returns-in-Group-clause-not_understood : goal.returns-in-Group-clause-not_understood
+returns-in-Group-clause-not_understood c = λ bad o asks. c.to_group.ensures.not_understood bad o (subst (λ (v : EventVerb). Asks v c.args.words.now o) c.in-Group.is asks)
+
 pub returns-in-Client-clause-not_understood : goal.returns-in-Client-clause-not_understood
 returns-in-Client-clause-not_understood c = λ bad o asks. c.to_ask.ensures.none (c.understood-in-Client.ensures.not_understood bad) o (subst (λ (v : EventVerb). Asks v c.args.words.now o) c.in-Client.is asks)
 

@@ -3,7 +3,7 @@ use Rattle.lk_words.specs.Words.{HasNoSpace}
 use Rattle.lk_words.proofs.Splits.{one_way}
 use Rattle.lk_script.specs.WorldLines.{word_of}
 use Rattle.lk_script.specs.declared.event_verb.EventVerb.{EventVerb}
-use Rattle.lk_script.specs.declared.event_verb.EventVerb.TheVariants.{Start, Restart, Tick, Compact, Deliver, Client, Inject, Stop, Fail, Arm}
+use Rattle.lk_script.specs.declared.event_verb.EventVerb.TheVariants.{Start, Restart, Tick, Compact, Deliver, Group, Client, Inject, Stop, Fail, Arm}
 use Rattle.lk_script.proofs.world_line.read_order.Goals as goal
 
 one_verb : (v : EventVerb) → HasNoSpace (word_of v)
@@ -12,6 +12,7 @@ one_verb Restart = refl
 one_verb Tick = refl
 one_verb Compact = refl
 one_verb Deliver = refl
+one_verb Group = refl
 one_verb Client = refl
 one_verb Inject = refl
 one_verb Stop = refl

@@ -1,0 +1,385 @@
+-- A group that a replica takes together, step by step.
+use Rattle.std.proofs.Common.{◌≡◌, ℕ, ◌+◌, ◌-◌, Bool, ◌⊎◌, false, inl, inr, List, [], ◌∷◌, ◌++◌, length, take, drop, map, Contains, refl, sym, ap, ◌∙◌, subst, arith, append_assoc, append-nil, length-append, zero, suc}
+use Rattle.std.specs.List.{AllByRecursion}
+use Rattle.std.specs.Prelude.{Option, ⊤}
+use Rattle.std.proofs.Math.Nat.{add-sub_cancel_left}
+use Rattle.std.proofs.Math.Seq.{take-append_seam, drop-append_seam}
+use Rattle.std.proofs.lemmas.List.{append_cancel_left}
+use Rattle.lk_disk.specs.Disk.{Disk}
+use Rattle.lk_disk.specs.Memory.{disk_of}
+use Rattle.lk_disk.specs.Meters.{Passes, start}
+use Rattle.lk_disk.specs.declared.device.Side.{Side}
+use Rattle.lk_disk.specs.declared.device.Side.TheVariants.{A, B}
+use Rattle.lk_disk.proofs.Devices.{passes_on}
+use Rattle.lk_log.proofs.Room.{within_first, within_more, within_same}
+use Rattle.lk_log.specs.Rooms.{StaysWithin}
+use Rattle.lk_log.specs.StoreValue.{StoreValue, disks, device_of}
+use Rattle.lk_state.specs.Meanings.{Meaning}
+use Rattle.lk_wire.specs.Grammar.{Spells}
+use Rattle.lk_entries.specs.Entries.{plain}
+use Rattle.lk_entries.specs.Values.{HeaderValue}
+use Rattle.lk_entries.specs.declared.stored.Stored.{Stored}
+use Rattle.lk_log.specs.Stores.{Holds, KeepsAtLeast}
+use Rattle.lk_history.specs.Datagrams.{NodeMessage, said_by}
+use Rattle.lk_step.specs.Letters.{LetterValue, datagram_of, batch_of}
+use Rattle.lk_step.specs.declared.input.Input.{Input}
+use Rattle.lk_step.specs.declared.note.Note.{Note}
+use Rattle.lk_node.specs.Calls.{heard_by, InputFits, NodeFits, Goes}
+use Rattle.lk_node.specs.Histories.{History, Genesis, Datagram, later}
+use Rattle.lk_node.specs.Holdings.{Holding}
+use Rattle.lk_node.specs.Keeping.{Stands}
+use Rattle.lk_node.specs.Leavings.{DisksFit, AllCover}
+use Rattle.lk_node.specs.NodeValue.{NodeValue}
+use Rattle.lk_replica.specs.Groups.{GroupValue, Adds, IsCovered, IsGathered, IsRefusedInGroup, Settles, StepSaid, letters_of, GoesThrough, as_sent, with_step, Recalls, GroupStays}
+use Rattle.lk_replica.specs.Posts.{AreOf}
+use Rattle.lk_replica.specs.Remembering.{Remembers}
+use Rattle.lk_replica.specs.ReplicaValue.{ReplicaValue}
+use Rattle.lk_replica.specs.Rooms.{max_after}
+use Rattle.lk_replica.specs.Faults.{RefusedAfter}
+use Rattle.lk_replica.specs.Together.{Said, sent_of, parts_of, said_by_steps, GoesAll, GathersAll, IsGatheredFrom, IsTakenTogether, IsNotKept, IsNotSent, IsTogetherRefused}
+use Rattle.lk_replica.specs.declared.taken.Step.{Step}
+use Rattle.lk_replica.proofs.Calling.{refused_on}
+use Rattle.lk_replica.proofs.Grouped.{begun, begin_fits, as_gathered, room_as_sent, settled_fits, settled_covers, settle_leaves, settle_covers}
+
+-- ---- steps
+
+-- the steps noted this, and as many of the letters are their own
+abbrev pub AreStepsOf : List Step → List StepSaid → Type 0
+AreStepsOf [] said = said ≡ []
+AreStepsOf (s ∷ steps) said = (letters : List LetterValue) × (rest : List StepSaid) × (said ≡ (s.notes.items, letters) ∷ rest) × (s.sends ≡ length letters) × AreStepsOf steps rest
+
+one_step_more : (steps : List Step) (said : List StepSaid) (s : Step) (letters : List LetterValue) → AreStepsOf steps said → s.sends ≡ length letters → AreStepsOf (steps ++ s ∷ []) (said ++ (s.notes.items, letters) ∷ [])
+one_step_more [] said s letters are sends = (letters, [], ap (λ (l : List StepSaid). l ++ (s.notes.items, letters) ∷ []) are, sends, refl)
+one_step_more (x ∷ steps) said s letters are sends =
+    (are.0, are.1 ++ (s.notes.items, letters) ∷ [], ap (λ (l : List StepSaid). l ++ (s.notes.items, letters) ∷ []) are.2, are.3, one_step_more steps are.1 s letters are.4 sends)
+
+batch_append : (n : ℕ) (xs ys : List LetterValue) → batch_of n (xs ++ ys) ≡ batch_of n xs ++ batch_of n ys
+batch_append n [] ys = refl
+batch_append n (x ∷ xs) ys = ap (λ (l : List Datagram). datagram_of n x ∷ l) (batch_append n xs ys)
+
+batch_length : (n : ℕ) (xs : List LetterValue) → length (batch_of n xs) ≡ length xs
+batch_length n [] = refl
+batch_length n (x ∷ xs) = omega (arith, batch_length n xs)
+
+own_of : (n k : ℕ) (letters more : List LetterValue) → k ≡ length letters → take k (batch_of n (letters ++ more)) ≡ batch_of n letters
+own_of n k letters more is =
+    ap (λ (j : ℕ). take j (batch_of n (letters ++ more))) (is ∙ sym (batch_length n letters)) ∙ ap (take (length (batch_of n letters))) (batch_append n letters more)
+    ∙ take-append_seam (batch_of n letters) (batch_of n more)
+
+later_of : (n k : ℕ) (letters more : List LetterValue) → k ≡ length letters → drop k (batch_of n (letters ++ more)) ≡ batch_of n more
+later_of n k letters more is =
+    ap (λ (j : ℕ). drop j (batch_of n (letters ++ more))) (is ∙ sym (batch_length n letters)) ∙ ap (drop (length (batch_of n letters))) (batch_append n letters more)
+    ∙ drop-append_seam (batch_of n letters) (batch_of n more)
+
+-- each step takes its own
+pub parts_are : (n : ℕ) (steps : List Step) (said : List StepSaid) → AreStepsOf steps said → parts_of steps (batch_of n (letters_of said)) ≡ said_by_steps n said
+parts_are n [] said are = ap (said_by_steps n) (sym are)
+parts_are n (s ∷ steps) said are =
+    let own = own_of n s.sends are.0 (letters_of are.1) are.3 in
+    let rest = ap (parts_of steps) (later_of n s.sends are.0 (letters_of are.1) are.3) ∙ parts_are n steps are.1 are.4 in
+    let whole : parts_of (s ∷ steps) (batch_of n (letters_of ((s.notes.items, are.0) ∷ are.1))) ≡ said_by_steps n ((s.notes.items, are.0) ∷ are.1) = λ i. (s.notes.items, own i) ∷ rest i in
+    subst (λ (l : List StepSaid). parts_of (s ∷ steps) (batch_of n (letters_of l)) ≡ said_by_steps n l) (sym are.2) whole
+
+-- and all of them take all
+pub all_sent : (n : ℕ) (said : List StepSaid) → batch_of n (letters_of said) ≡ sent_of (said_by_steps n said)
+all_sent n [] = refl
+all_sent n (x ∷ xs) = batch_append n x.1 (letters_of xs) ∙ ap (λ (l : List Datagram). batch_of n x.1 ++ l) (all_sent n xs)
+
+-- ---- what was gathered
+
+module _ (m : Meaning) (IsText : List ℕ → Type 0) where
+  gathers_on : (node : NodeValue) (store : StoreValue) (waits : Bool) (done : List Input) (mid : NodeValue) (between : StoreValue) (still : Bool) (steps : List StepSaid) → GathersAll m IsText node store waits done mid between still steps
+      → (i : Input) (new : NodeValue) (later : StoreValue) (one : GroupValue) → IsGathered m IsText mid between (record { notes = []; letters = []; waits = still }) i new later one
+      → GathersAll m IsText node store waits (done ++ i ∷ []) new later one.waits (steps ++ (one.notes, one.letters) ∷ [])
+  gathers_on node store waits [] mid between still steps g i new later one e = (
+    new,
+    later,
+    one,
+    [],
+    ap (λ (l : List StepSaid). l ++ (one.notes, one.letters) ∷ []) g.3,
+    subst (λ (k : NodeValue). IsGathered m IsText k store (record { notes = []; letters = []; waits = waits }) i new later one) g.0
+        (subst (λ (k : StoreValue). IsGathered m IsText mid k (record { notes = []; letters = []; waits = waits }) i new later one) g.1
+        (subst (λ (w : Bool). IsGathered m IsText mid between (record { notes = []; letters = []; waits = w }) i new later one) g.2 e)),
+    (refl, refl, refl, refl),
+  )
+  gathers_on node store waits (x ∷ done) mid between still steps g i new later one e = (
+    g.0,
+    g.1,
+    g.2,
+    g.3 ++ (one.notes, one.letters) ∷ [],
+    ap (λ (l : List StepSaid). l ++ (one.notes, one.letters) ∷ []) g.4,
+    g.5,
+    gathers_on g.0 g.1 g.2.waits done mid between still g.3 g.6 i new later one e,
+  )
+
+-- what a replica has come to that has taken some of the inputs, of which these are still to come
+pub record TakenSoFar (m : Meaning) (IsText : List ℕ → Type 0) (begun_as : ReplicaValue) (all : List Input) (now : ReplicaValue) (g : GroupValue) (steps : List Step) (rest : List Input) : Type 0 where
+  pub said : List StepSaid
+  pub counted : AreStepsOf steps said
+  pub letters : letters_of said ≡ g.letters
+  pub no_notes : g.notes ≡ []
+  pub done : List Input
+  pub joined : done ++ rest ≡ all
+  pub gathered : IsGatheredFrom m IsText begun_as done now g.waits said
+  pub recalls : (genesis : Genesis) (n : ℕ) → Remembers begun_as.node begun_as.store genesis n → Recalls now.node now.store g.waits genesis n
+  pub covered : (genesis : Genesis) (n : ℕ) → Remembers begun_as.node begun_as.store genesis n → IsCovered m genesis n g now.store
+  pub covers : (genesis : Genesis) (n : ℕ) (x : NodeMessage) → Remembers begun_as.node begun_as.store genesis n → AllCover m genesis n (disks begun_as.store) x → AllCover m genesis n (disks now.store) x
+  pub stays : (h : History) (n : ℕ) → NodeFits m h n (Stands m begun_as.node begun_as.store h.genesis n) (disks begun_as.store) → AllByRecursion (InputFits h) all
+      → GroupStays m h n now.node now.store g.waits × AllByRecursion (InputFits h) rest
+  pub goes : (genesis : Genesis) (k : ℕ) → Remembers begun_as.node begun_as.store genesis k → (n : ℕ) (q : ReplicaValue) (more : List StepSaid)
+      → GoesThrough m n (record { node = now.node; store = as_sent g.waits now.store; failed = false }) rest q more → GoesThrough m n begun_as all q (said ++ more)
+  pub room : StaysWithin max_after (disks begun_as.store) (disks now.store)
+  pub calls : ℕ
+  pub passes : Passes begun_as.store.meter now.store.meter calls
+
+-- nothing
+nothing_taken : (m : Meaning) (IsText : List ℕ → Type 0) (r : ReplicaValue) (all : List Input) → TakenSoFar m IsText r all r (record { notes = []; letters = []; waits = false }) [] all
+nothing_taken m IsText r all = record {
+  said = [];
+  counted = refl;
+  letters = refl;
+  no_notes = refl;
+  done = [];
+  joined = refl;
+  gathered = record { gathers = (refl, refl, refl, refl); alive = inl refl };
+  recalls = λ genesis n k. begun r.node r.store genesis n k;
+  covered = λ genesis n k x d listed. absurd (omega (arith, listed.1));
+  covers = λ genesis n x k c. c;
+  stays = λ h n f fits. (begin_fits m h n r.node r.store f, fits);
+  goes = λ genesis k rem n q more goes. unfailed n all q more goes;
+  room = within_same 132704 (disks r.store) (disks r.store) (λ s. refl);
+  calls = 0;
+  passes = start;
+}
+  where
+    unfailed : (n : ℕ) (all : List Input) (q : ReplicaValue) (more : List StepSaid) → GoesThrough m n (record { node = r.node; store = r.store; failed = false }) all q more → GoesThrough m n r all q more
+    unfailed n [] q more goes = goes
+    unfailed n (i ∷ is) q more goes = goes
+
+pub taken_nothing : (m : Meaning) (IsText : List ℕ → Type 0) (r : ReplicaValue) (all rest : List Input) (g : GroupValue) (steps : List Step) → g ≡ record { notes = []; letters = []; waits = false } → steps ≡ [] → rest ≡ all
+    → TakenSoFar m IsText r all r g steps rest
+taken_nothing m IsText r all rest g steps none no_steps same =
+    subst (λ (k : GroupValue). TakenSoFar m IsText r all r k steps rest) (sym none)
+    (subst (λ (l : List Step). TakenSoFar m IsText r all r (record { notes = []; letters = []; waits = false }) l rest) (sym no_steps)
+    (subst (λ (l : List Input). TakenSoFar m IsText r all r (record { notes = []; letters = []; waits = false }) [] l) (sym same) (nothing_taken m IsText r all)))
+
+-- one more
+module _ (m : Meaning) (IsText : List ℕ → Type 0) (begun_as : ReplicaValue) (all : List Input) (old now : ReplicaValue) (g new : GroupValue) (steps : List Step) (i : Input) (rest : List Input) (step : Step)
+    (s : TakenSoFar m IsText begun_as all old g steps (i ∷ rest))
+    (goes : Adds g new (λ notes letters. (genesis : Genesis) (k : ℕ) → Recalls old.node old.store g.waits genesis k
+    → (h : History) (n : ℕ) → NodeFits m h n (Stands m old.node (as_sent g.waits old.store) h.genesis n) (disks (as_sent g.waits old.store)) → InputFits h i
+    → (sent : List LetterValue) → AreOf sent letters → Goes m h n (Stands m now.node (as_sent new.waits now.store) h.genesis n) (disks (as_sent new.waits now.store)) notes (batch_of n sent)))
+    (exact : IsGathered m IsText old.node old.store g i now.node now.store new)
+    (notes : step.notes.items ≡ new.notes) (sends : step.sends ≡ length new.letters - length g.letters) where
+  abbrev one : GroupValue
+  one = with_step exact.waits exact.out (record { notes = []; letters = []; waits = g.waits })
+
+  said_is : new.letters ≡ g.letters ++ one.letters
+  said_is = ap (λ (k : GroupValue). k.letters) exact.adds
+
+  noted_is : new.notes ≡ g.notes ++ one.notes
+  noted_is = ap (λ (k : GroupValue). k.notes) exact.adds
+
+  same_letters : goes.letters ≡ one.letters
+  same_letters = append_cancel_left g.letters goes.letters one.letters (sym goes.said ∙ said_is)
+
+  same_notes : goes.notes ≡ one.notes
+  same_notes = append_cancel_left g.notes goes.notes one.notes (sym goes.noted ∙ noted_is)
+
+  fresh : IsGathered m IsText old.node old.store (record { notes = []; letters = []; waits = g.waits }) i now.node now.store one
+  fresh = record { mid = exact.mid; between = exact.between; rebases = exact.rebases; waits = exact.waits; out = exact.out; steps = exact.steps; adds = refl }
+
+  own_notes : step.notes.items ≡ one.notes
+  own_notes = notes ∙ noted_is ∙ ap (λ l. l ++ one.notes) s.no_notes
+
+  own_letters : step.sends ≡ length one.letters
+  own_letters = sends ∙ ap (λ l. length l - length g.letters) said_is ∙ ap (λ k. k - length g.letters) (length-append g.letters one.letters) ∙ add-sub_cancel_left (length g.letters) (length one.letters)
+
+  letters_more : (xs ys : List StepSaid) → letters_of (xs ++ ys) ≡ letters_of xs ++ letters_of ys
+  letters_more [] ys = refl
+  letters_more (x ∷ xs) ys = ap (λ l. x.1 ++ l) (letters_more xs ys) ∙ sym (append_assoc x.1 (letters_of xs) (letters_of ys))
+
+  -- in each history it goes on by it, as by a call of its own
+  link : (genesis : Genesis) (k : ℕ) → Recalls old.node old.store g.waits genesis k → (n : ℕ) (h : History) → NodeFits m h n (Stands m old.node (as_sent g.waits old.store) h.genesis n) (disks (as_sent g.waits old.store)) → InputFits h i
+      → (sent : List LetterValue) → AreOf sent one.letters → Goes m h n (Stands m now.node (as_sent new.waits now.store) h.genesis n) (disks (as_sent new.waits now.store)) one.notes (batch_of n sent)
+  link genesis k was n h f heard sent among =
+      subst (λ (l : List Note). Goes m h n (Stands m now.node (as_sent new.waits now.store) h.genesis n) (disks (as_sent new.waits now.store)) l (batch_of n sent)) same_notes
+      (goes.are genesis k was h n f heard sent (subst (λ (l : List LetterValue). AreOf sent l) (sym same_letters) among))
+
+  module _ (recalls : (genesis : Genesis) (n : ℕ) → Recalls old.node old.store g.waits genesis n → Recalls now.node now.store new.waits genesis n)
+      (said : (genesis : Genesis) (n : ℕ) → Recalls old.node old.store g.waits genesis n → IsCovered m genesis n g old.store → IsCovered m genesis n new now.store)
+      (covers : (genesis : Genesis) (n : ℕ) (x : NodeMessage) → Recalls old.node old.store g.waits genesis n → AllCover m genesis n (disks old.store) x → AllCover m genesis n (disks now.store) x)
+      (stays : (h : History) (n : ℕ) → GroupStays m h n old.node old.store g.waits → InputFits h i → GroupStays m h n now.node now.store new.waits)
+      (room : StaysWithin max_after (disks old.store) (disks now.store)) (calls : (k : ℕ) × Passes old.store.meter now.store.meter k) (alive : now.failed ≡ false) where
+    pub one_taken : TakenSoFar m IsText begun_as all now (record new { notes = [] }) (steps ++ step ∷ []) rest
+    one_taken = record {
+      said = s.said ++ (step.notes.items, one.letters) ∷ [];
+      counted = one_step_more steps s.said step one.letters s.counted own_letters;
+      letters = letters_more s.said ((step.notes.items, one.letters) ∷ []) ∙ (λ k. s.letters k ++ append-nil one.letters k) ∙ sym said_is;
+      no_notes = refl;
+      done = s.done ++ i ∷ [];
+      joined = append_assoc s.done (i ∷ []) rest ∙ s.joined;
+      gathered = record {
+        gathers = subst (λ (l : List Note). GathersAll m IsText begun_as.node begun_as.store false (s.done ++ i ∷ []) now.node now.store new.waits (s.said ++ (l, one.letters) ∷ [])) (sym own_notes)
+            (subst (λ (w : Bool). GathersAll m IsText begun_as.node begun_as.store false (s.done ++ i ∷ []) now.node now.store w (s.said ++ (one.notes, one.letters) ∷ [])) (sym (ap (λ (k : GroupValue). k.waits) exact.adds))
+            (gathers_on m IsText begun_as.node begun_as.store false s.done old.node old.store g.waits s.said s.gathered.gathers i now.node now.store one fresh));
+        alive = inr alive;
+      };
+      recalls = λ genesis n r. recalls genesis n (s.recalls genesis n r);
+      covered = λ genesis n r x d listed spelled. said genesis n (s.recalls genesis n r) (s.covered genesis n r) x d listed spelled;
+      covers = λ genesis n x r c. covers genesis n x (s.recalls genesis n r) (s.covers genesis n x r c);
+      stays = λ h n f fit. let was = s.stays h n f fit in (stays h n was.0 was.1.0, was.1.1);
+      goes = λ genesis k r n q more through.
+          subst (λ (l : List StepSaid). GoesThrough m n begun_as all q l) (sym (append_assoc s.said ((step.notes.items, one.letters) ∷ []) more))
+          (subst (λ (l : List Note). GoesThrough m n begun_as all q (s.said ++ (l, one.letters) ∷ more)) (sym own_notes)
+          (s.goes genesis k r n q ((one.notes, one.letters) ∷ more) (
+            record { node = now.node; store = as_sent new.waits now.store; failed = false },
+            one.notes,
+            one.letters,
+            more,
+            refl,
+            (λ h f heard sent among. link genesis k (s.recalls genesis k r) n h f heard sent among),
+            room_as_sent 132704 g.waits new.waits old.store now.store room,
+            through,
+          )));
+      room = within_first 132704 (disks begun_as.store) (disks old.store) (disks now.store) s.room room;
+      calls = s.calls + calls.0;
+      passes = passes_on s.calls s.passes calls.0 calls.1;
+    }
+
+-- ---- all are taken
+
+module _ (m : Meaning) (n : ℕ) where
+  abbrev pub ShowsBy : ReplicaValue → Genesis → ℕ → Holding → Type 0
+  ShowsBy r genesis k x = Stands m r.node r.store genesis k x
+
+  abbrev pub DisksBy : ReplicaValue → Side → Disk
+  DisksBy r = disks r.store
+
+  -- in words of datagrams
+  pub goes_all : (is : List Input) (r q : ReplicaValue) (said : List StepSaid) → GoesThrough m n r is q said → GoesAll ShowsBy DisksBy m n r is q (said_by_steps n said)
+  goes_all [] r q said goes = (ap (said_by_steps n) goes.0, λ h f. rests h (goes.1 h f), goes.2)
+    where
+      rests : (h : History) → NodeFits m h n (Stands m q.node q.store h.genesis n) (disks q.store) → Goes m h n (Stands m q.node q.store h.genesis n) (disks q.store) [] []
+      rests h f = record {
+        holding = f.holding;
+        shown = f.shown;
+        fits = f.fits;
+        may = λ d c. absurd (omega (arith, c.1));
+        noted = λ x c. absurd (omega (arith, c.1));
+        left = λ k. subst (λ (l : List Datagram). DisksFit m (later h l) n (disks q.store)) (nothing_in_front k)
+            (subst (λ (l : List Datagram). DisksFit m (record h { sent = l }) n (disks q.store)) (sym (append-nil h.sent)) f.left);
+      }
+        where
+          nothing_in_front : (k : ℕ) → let none : List Datagram = [] in none ≡ take k none
+          nothing_in_front zero = refl
+          nothing_in_front (suc k) = refl
+  goes_all (i ∷ is) r q said goes = (
+    goes.0,
+    (goes.1, batch_of n goes.2),
+    said_by_steps n goes.3,
+    ap (said_by_steps n) goes.4,
+    λ h f heard. goes.5 h f heard goes.2 (λ l c. c),
+    goes.6,
+    goes_all is goes.0 q goes.3 goes.7,
+  )
+
+-- a device in memory has the disks of its store
+same_disks : (s : StoreValue) (side : Side) → disks s side ≡ disk_of (device_of s) side
+same_disks s A = refl
+same_disks s B = refl
+
+pub goes_in_memory : (m : Meaning) (n : ℕ) (is : List Input) (r q : ReplicaValue) (said : List Said) → GoesAll (ShowsBy m n) (DisksBy m n) m n r is q said
+    → GoesAll (λ (r : ReplicaValue) genesis k x. Stands m r.node r.store genesis k x) (λ (r : ReplicaValue). disk_of (device_of r.store)) m n r is q said
+goes_in_memory m n is r q said goes = subst (λ (d : ReplicaValue → Side → Disk). GoesAll (ShowsBy m n) d m n r is q said) (λ i k side. same_disks k.store side i) goes
+
+-- all are taken, and what waits is synced
+pub goes_to_the_end : (m : Meaning) (IsText : List ℕ → Type 0) (begun_as : ReplicaValue) (all : List Input) (now q : ReplicaValue) (g : GroupValue) (steps : List Step) (rest : List Input) (s : TakenSoFar m IsText begun_as all now g steps rest)
+    → rest ≡ [] → Settles g.waits now.store q.store → q.node ≡ now.node → StaysWithin 0 (disks now.store) (disks q.store)
+    → (genesis : Genesis) (k : ℕ) → Remembers begun_as.node begun_as.store genesis k → (n : ℕ) → GoesThrough m n begun_as all q s.said
+goes_to_the_end m IsText begun_as all now q g steps rest s none synced node room genesis k r n =
+    subst (λ (l : List StepSaid). GoesThrough m n begun_as all q l) (append-nil s.said)
+    (s.goes genesis k r n q []
+    (subst (λ (l : List Input). GoesThrough m n (record { node = now.node; store = as_sent g.waits now.store; failed = false }) l q []) (sym none)
+    (refl, (λ h f. ended h f), room_as_sent 132704 g.waits false now.store q.store (within_more 132704 (disks now.store) (disks q.store) room))))
+  where
+    ended : (h : History) → NodeFits m h n (Stands m now.node (as_sent g.waits now.store) h.genesis n) (disks (as_sent g.waits now.store)) → NodeFits m h n (Stands m q.node q.store h.genesis n) (disks q.store)
+    ended h f = subst (λ (k : NodeValue). NodeFits m h n (Stands m k q.store h.genesis n) (disks q.store)) (sym node)
+        (settled_fits m h n now.node now.store q.store g.waits synced (as_gathered m genesis k now.node now.store g.waits (s.recalls genesis k r) h n f))
+
+-- ---- what a call leaves, where a part of it ended so
+
+-- whatever a stop may leave fits, and covers what was covered, after any exit of the sync
+pub ended_leaves : (m : Meaning) (h : History) (n : ℕ) (mid new : ReplicaValue) (waits : Bool) → GroupStays m h n mid.node mid.store waits → ((ks ls : List Stored) → Holds mid.store ks ls → KeepsAtLeast new.store ks ls) → DisksFit m h n (disks new.store)
+ended_leaves m h n mid new waits s any = settle_leaves m h n mid.node mid.store new.store waits s (any s.fits.shown.keeps.entries (plain s.fits.shown.keeps.loose) s.fits.shown.keeps.holds)
+
+pub ended_covers : (m : Meaning) (genesis : Genesis) (n : ℕ) (mid new : ReplicaValue) (waits : Bool) → Recalls mid.node mid.store waits genesis n → ((ks ls : List Stored) → Holds mid.store ks ls → KeepsAtLeast new.store ks ls)
+    → (x : NodeMessage) → AllCover m genesis n (disks mid.store) x → AllCover m genesis n (disks new.store) x
+ended_covers m genesis n mid new waits r any = settle_covers m genesis n mid.node mid.store new.store waits r (any r.keeps.entries (plain r.keeps.loose) r.keeps.holds)
+
+-- the inputs that were gathered are a beginning of what was given
+pub given_begins : (done rest all : List Input) → done ++ rest ≡ all → map heard_by (done ++ rest) ≡ map heard_by all
+given_begins done rest all joined = ap (map heard_by) joined
+
+-- the calls of the device so far, and of a part that was refused
+pub refused_further : (m : Meaning) (IsText : List ℕ → Type 0) (begun_as : ReplicaValue) (all : List Input) (now new : ReplicaValue) (g : GroupValue) (steps : List Step) (rest : List Input) (number : ℕ) → TakenSoFar m IsText begun_as all now g steps rest
+    → RefusedAfter number now.store.meter new.store.meter → RefusedAfter number begun_as.store.meter new.store.meter
+refused_further m IsText begun_as all now new g steps rest number s by = refused_on s.calls s.passes new.store.meter number by
+
+pub refused_in_all : (m : Meaning) (IsText : List ℕ → Type 0) (begun_as : ReplicaValue) (all : List Input) (now new : ReplicaValue) (g : GroupValue) (steps : List Step) (rest : List Input) (number : ℕ) → TakenSoFar m IsText begun_as all now g steps rest
+    → IsRefusedInGroup ⊤ ⊤ now new number ⊎ IsNotKept now new number ⊎ IsNotSent now g.waits new number → IsTogetherRefused m IsText begun_as (map heard_by all) new number
+refused_in_all m IsText begun_as all now new g steps rest number s why = record {
+  inputs = s.done;
+  rest = rest;
+  are = ap (map heard_by) s.joined;
+  mid = now;
+  waits = g.waits;
+  steps = s.said;
+  gathered = s.gathered;
+  refused = why;
+}
+
+-- all were taken together
+pub taken_in_all : (m : Meaning) (IsText : List ℕ → Type 0) (begun_as : ReplicaValue) (all : List Input) (now new : ReplicaValue) (g : GroupValue) (steps : List Step) (rest : List Input) (sent : List Datagram) → (s : TakenSoFar m IsText begun_as all now g steps rest) → rest ≡ []
+    → new.node ≡ now.node → Settles g.waits now.store new.store → new.failed ≡ false → sent ≡ batch_of begun_as.node.header.node g.letters
+    → (sent ≡ sent_of (parts_of steps sent)) × IsTakenTogether m IsText begun_as (map heard_by all) new (parts_of steps sent)
+taken_in_all m IsText begun_as all now new g steps rest sent s none node synced alive batch =
+    let n : ℕ = begun_as.node.header.node in
+    let letters : sent ≡ batch_of n (letters_of s.said) = batch ∙ ap (batch_of n) (sym s.letters) in
+    let parts : parts_of steps sent ≡ said_by_steps n s.said = ap (parts_of steps) letters ∙ parts_are n steps s.said s.counted in (
+      letters ∙ all_sent n s.said ∙ ap sent_of (sym parts),
+      record {
+        inputs = s.done;
+        are = ap (map heard_by) (sym (append-nil s.done) ∙ ap (λ (l : List Input). s.done ++ l) (sym none) ∙ s.joined);
+        mid = now;
+        waits = g.waits;
+        steps = s.said;
+        gathered = s.gathered;
+        node = node;
+        synced = synced;
+        sends = parts;
+        alive = alive;
+      },
+    )
+
+-- and in each history it has gone on by each of them
+pub gone_in_all : (m : Meaning) (IsText : List ℕ → Type 0) (begun_as : ReplicaValue) (all : List Input) (now new : ReplicaValue) (g : GroupValue) (steps : List Step) (rest : List Input) (sent : List Datagram) → (s : TakenSoFar m IsText begun_as all now g steps rest) → rest ≡ []
+    → new.node ≡ now.node → Settles g.waits now.store new.store → StaysWithin 0 (disks now.store) (disks new.store) → sent ≡ batch_of begun_as.node.header.node g.letters
+    → (genesis : Genesis) (n : ℕ) → Remembers begun_as.node begun_as.store genesis n
+    → GoesAll (λ (r : ReplicaValue) genesis k x. Stands m r.node r.store genesis k x) (λ (r : ReplicaValue). disk_of (device_of r.store)) m n begun_as all new (parts_of steps sent)
+gone_in_all m IsText begun_as all now new g steps rest sent s none node synced room batch genesis n r =
+    let own : begun_as.node.header.node ≡ n = ap (λ (w : HeaderValue). w.node) r.whose in
+    let letters : sent ≡ batch_of n (letters_of s.said) = batch ∙ ap (λ (k : ℕ). batch_of k g.letters) own ∙ ap (batch_of n) (sym s.letters) in
+    let parts : parts_of steps sent ≡ said_by_steps n s.said = ap (parts_of steps) letters ∙ parts_are n steps s.said s.counted in
+    subst (λ (l : List Said). GoesAll (λ (r : ReplicaValue) genesis k x. Stands m r.node r.store genesis k x) (λ (r : ReplicaValue). disk_of (device_of r.store)) m n begun_as all new l) (sym parts)
+    (goes_in_memory m n all begun_as new (said_by_steps n s.said)
+    (goes_all m n all begun_as new s.said (goes_to_the_end m IsText begun_as all now new g steps rest s none synced node room genesis n r n)))
+
+-- what was sent every image covers
+pub covered_in_all : (m : Meaning) (IsText : List ℕ → Type 0) (begun_as : ReplicaValue) (all : List Input) (now new : ReplicaValue) (g : GroupValue) (steps : List Step) (rest : List Input) (sent : List Datagram) → TakenSoFar m IsText begun_as all now g steps rest
+    → Settles g.waits now.store new.store → sent ≡ batch_of begun_as.node.header.node g.letters → (genesis : Genesis) (n : ℕ) (x : NodeMessage) → Remembers begun_as.node begun_as.store genesis n
+    → (d : Datagram) → Contains sent d → Spells (said_by genesis n x) d.bytes → AllCover m genesis n (disks new.store) x
+covered_in_all m IsText begun_as all now new g steps rest sent s synced batch genesis n x r d listed spelled =
+    let own : begun_as.node.header.node ≡ n = ap (λ (w : HeaderValue). w.node) r.whose in
+    let letters : sent ≡ batch_of n g.letters = batch ∙ ap (λ (k : ℕ). batch_of k g.letters) own in
+    settled_covers m genesis n now.node now.store new.store g.waits synced (s.recalls genesis n r) x (s.covered genesis n r x d (subst (λ (l : List Datagram). Contains l d) letters listed) spelled)

@@ -1,0 +1,112 @@
+-- What a group of inputs comes to, step by step, where a replica takes them together.
+use Rattle.std.specs.Prelude.{◌≡◌, ◌⊎◌, ℕ, Bool, true, false, List, [], ◌∷◌, ◌++◌, length, map, take, drop, Option, Result, Ok, Err, ⊤}
+use Rattle.lk_disk.specs.Disk.{Disk}
+use Rattle.lk_disk.specs.declared.device.Side.{Side}
+use Rattle.lk_log.specs.Rooms.{StaysWithin}
+use Rattle.lk_log.specs.StoreValue.{StoreValue}
+use Rattle.lk_state.specs.Meanings.{Meaning}
+use Rattle.lk_step.specs.Letters.{batch_of}
+use Rattle.lk_step.specs.declared.input.Input.{Input}
+use Rattle.lk_step.specs.declared.note.Note.{Note}
+use Rattle.lk_node.specs.Calls.{heard_by, InputFits, NodeFits, Goes}
+use Rattle.lk_node.specs.Histories.{History, Genesis, Datagram}
+use Rattle.lk_node.specs.Holdings.{Holding}
+use Rattle.lk_node.specs.NodeValue.{NodeValue}
+use Rattle.lk_replica.specs.Groups.{GroupValue, IsGathered, IsRefusedInGroup, Settles, StepSaid}
+use Rattle.lk_replica.specs.ReplicaValue.{ReplicaValue}
+use Rattle.lk_replica.specs.Rooms.{max_after}
+use Rattle.lk_replica.specs.declared.taken.Step.{Step}
+use Rattle.lk_replica.specs.declared.taken.TakenAll.{TakenAll}
+
+-- ---- what the steps noted, and what they sent
+
+-- what a step of the group noted, and what it said, which is sent once all of them are over
+abbrev pub Said : Type 0
+Said = List Note × List Datagram
+
+-- all that was sent of it
+abbrev pub sent_of : List Said → List Datagram
+sent_of [] = []
+sent_of (x ∷ xs) = x.1 ++ sent_of xs
+
+-- each step takes its own of what the group sent, or what is left of that
+abbrev pub parts_of : List Step → List Datagram → List Said
+parts_of [] sent = []
+parts_of (s ∷ steps) sent = (s.notes.items, take s.sends sent) ∷ parts_of steps (drop s.sends sent)
+
+abbrev pub said_in : TakenAll → List Said
+said_in t = parts_of t.steps.items t.sent.items
+
+-- the letters of the steps, as datagrams of the node
+abbrev pub said_by_steps : ℕ → List StepSaid → List Said
+said_by_steps n [] = []
+said_by_steps n (x ∷ xs) = (x.0, batch_of n x.1) ∷ said_by_steps n xs
+
+-- ---- what the replica may note and send, in each history to which it fits
+
+-- The replica took these inputs in order: in each history to which it fits, in which what it said before is sent, it goes on by each of them as by a call
+-- of `take`, and at last it is as it would be. Each `mid` is as the replica will be once all is synced that it has written.
+abbrev pub GoesAll : {R : Type 0} → (R → Genesis → ℕ → Holding → Type 0) → (R → Side → Disk) → Meaning → ℕ → R → List Input → R → List Said → Type 0
+GoesAll Shows disks m n r [] q said = (said ≡ [])
+    × ((h : History) → NodeFits m h n (Shows r h.genesis n) (disks r) → Goes m h n (Shows q h.genesis n) (disks q) [] [])
+    × StaysWithin max_after (disks r) (disks q)
+GoesAll {R} Shows disks m n r (i ∷ is) q said = (mid : R) × (one : Said) × (rest : List Said) × (said ≡ one ∷ rest)
+    × ((h : History) → NodeFits m h n (Shows r h.genesis n) (disks r) → InputFits h i → Goes m h n (Shows mid h.genesis n) (disks mid) one.0 one.1)
+    × StaysWithin max_after (disks r) (disks mid)
+    × GoesAll Shows disks m n mid is q rest
+
+-- ---- what it has done, that and nothing else
+
+-- these inputs were gathered, one after another, by a node whose files stood so, and of which something waited for a sync or not; and what each step noted
+-- and said
+abbrev pub GathersAll : Meaning → (List ℕ → Type 0) → NodeValue → StoreValue → Bool → List Input → NodeValue → StoreValue → Bool → List StepSaid → Type 0
+GathersAll m IsText node store waits [] new after still steps = (new ≡ node) × (after ≡ store) × (still ≡ waits) × (steps ≡ [])
+GathersAll m IsText node store waits (i ∷ is) new after still steps =
+    (mid : NodeValue) × (between : StoreValue) × (one : GroupValue) × (rest : List StepSaid) × (steps ≡ (one.notes, one.letters) ∷ rest)
+    × IsGathered m IsText node store (record { notes = []; letters = []; waits = waits }) i mid between one
+    × GathersAll m IsText mid between one.waits is new after still rest
+
+-- these were given to the replica, and it gathered them, after which it was so
+pub record IsGatheredFrom (m : Meaning) (IsText : List ℕ → Type 0) (old : ReplicaValue) (inputs : List Input) (mid : ReplicaValue) (waits : Bool) (steps : List StepSaid) : Type 0 where
+  pub gathers : GathersAll m IsText old.node old.store false inputs mid.node mid.store waits steps
+  pub alive : (mid ≡ old) ⊎ (mid.failed ≡ false)
+
+-- it took all of these, synced once where something waited for that, and then sent what the steps had said
+pub record IsTakenTogether (m : Meaning) (IsText : List ℕ → Type 0) (old : ReplicaValue) (given : List (Option (List ℕ))) (new : ReplicaValue) (said : List Said) : Type 0 where
+  pub inputs : List Input
+  pub are : map heard_by inputs ≡ given
+  pub mid : ReplicaValue
+  pub waits : Bool
+  pub steps : List StepSaid
+  pub gathered : IsGatheredFrom m IsText old inputs mid waits steps
+  pub node : new.node ≡ mid.node
+  pub synced : Settles waits mid.store new.store
+  pub sends : said ≡ said_by_steps old.node.header.node steps
+  pub alive : new.failed ≡ false
+
+-- memory was refused for what a step came to, which ended the replica
+pub record IsNotKept (mid new : ReplicaValue) (number : ℕ) : Type 0 where
+  pub no_memory : number ≡ 8
+  pub ends : new ≡ record mid { failed = true }
+
+-- memory was refused for what was to be sent, once it was synced
+pub record IsNotSent (mid : ReplicaValue) (waits : Bool) (new : ReplicaValue) (number : ℕ) : Type 0 where
+  pub not_sent : number ≡ 15
+  pub node : new.node ≡ mid.node
+  pub synced : Settles waits mid.store new.store
+
+-- it gathered the first of these, and then a call was refused so; nothing was sent
+pub record IsTogetherRefused (m : Meaning) (IsText : List ℕ → Type 0) (old : ReplicaValue) (given : List (Option (List ℕ))) (new : ReplicaValue) (number : ℕ) : Type 0 where
+  pub inputs : List Input
+  pub rest : List Input
+  pub are : map heard_by (inputs ++ rest) ≡ given
+  pub mid : ReplicaValue
+  pub waits : Bool
+  pub steps : List StepSaid
+  pub gathered : IsGatheredFrom m IsText old inputs mid waits steps
+  pub refused : IsRefusedInGroup ⊤ ⊤ mid new number ⊎ IsNotKept mid new number ⊎ IsNotSent mid waits new number
+
+-- what a call came to
+abbrev pub ComesToAll : Meaning → (List ℕ → Type 0) → ReplicaValue → List (Option (List ℕ)) → ReplicaValue → Result (List (List Note × List Datagram)) ℕ → Type 0
+ComesToAll m IsText old given new (Ok said) = IsTakenTogether m IsText old given new said
+ComesToAll m IsText old given new (Err number) = IsTogetherRefused m IsText old given new number

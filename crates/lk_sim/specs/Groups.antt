@@ -1,0 +1,57 @@
+-- The steps of a group in a world: what a node takes together, and what then stands in the trace.
+use Rattle.std.specs.Prelude.{◌≡◌, ℕ, zero, suc, ◌++◌, List, [], ◌∷◌, take, Option, Some, None, Contains, Vec}
+use Rattle.std.specs.Global.{Global}
+use Rattle.lk_step.specs.declared.input.Input.{Input}
+use Rattle.lk_step.specs.declared.input.Input.TheVariants.{Tick, Datagram as Heard}
+use Rattle.lk_step.specs.declared.note.Note.{Note}
+use Rattle.lk_node.specs.Histories.{Datagram}
+use Rattle.lk_replica.specs.Together.{Said}
+use Rattle.lk_sim.specs.Refusals.{datagram_at}
+use Rattle.lk_sim.specs.Traces.{Tells}
+use Rattle.lk_sim.specs.declared.event.Turn.{Turn}
+use Rattle.lk_sim.specs.declared.event.Turn.TheVariants as turn
+
+-- ---- what a node takes
+
+abbrev pub bytes_of : Option Datagram → Option (List ℕ)
+bytes_of None = None
+bytes_of (Some d) = Some d.bytes
+
+-- what the node is given by a turn: the datagram's bytes, none at a tick
+abbrev pub given_by : List Datagram → Turn → Option (List ℕ)
+given_by sent turn.Tick = None
+given_by sent (turn.Deliver k) = bytes_of (datagram_at sent k)
+
+-- bytes, as they are copied
+abbrev pub copied : Option (Vec ℕ Global) → Option (List ℕ)
+copied None = None
+copied (Some bytes) = Some bytes.items
+
+-- a tick, or a datagram that was sent
+abbrev pub WasSentTo : List Datagram → Input → Type 0
+WasSentTo sent Tick = Unit {0}
+WasSentTo sent (Heard bytes) = (d : Datagram) × Contains sent d × (bytes.now ≡ d.bytes)
+
+abbrev pub WereSentTo : List Datagram → List Input → Type 0
+WereSentTo sent [] = Unit {0}
+WereSentTo sent (i ∷ is) = WasSentTo sent i × WereSentTo sent is
+
+-- ---- what then stands in the trace
+
+-- the notes of the steps, each step's behind those of the steps before it: what the node noted, and its answers and passes as they are sent
+abbrev pub AreNotesOf : List Said → List Note → Type 0
+AreNotesOf [] notes = notes ≡ []
+AreNotesOf (x ∷ xs) notes = (told rest : List Note) × Tells x.1 told × (notes ≡ (x.0 ++ told) ++ rest) × AreNotesOf xs rest
+
+-- ---- a stop at one of its sends
+
+-- how many of so many are left behind these
+abbrev pub left_over : {X : Type 0} → ℕ → List X → ℕ
+left_over k [] = k
+left_over zero (x ∷ xs) = zero
+left_over (suc k) (x ∷ xs) = left_over k xs
+
+-- with so many datagrams sent, and no more
+abbrev pub cut_short : ℕ → List Said → List Said
+cut_short k [] = []
+cut_short k (x ∷ xs) = (x.0, take k x.1) ∷ cut_short (left_over k x.1) xs

@@ -1,0 +1,282 @@
+// A node takes several turns together: it syncs once for all of them, and only then sends.
+ghost use Rattle.std.specs.Prelude.{◌≡◌, ◌↔◌, ℕ, ◌<◌, ◌⊎◌, [], true, false, length, map, IsTrue, IfOk, IfErr, OnOk, OnErr};
+ghost use Rattle.std.specs.List.{AllByRecursion};
+ghost use Rattle.lk_disk.specs.Memory.{Memory, disk_of};
+ghost use Rattle.lk_history.specs.Nodes.{View};
+ghost use Rattle.lk_node.specs.Calls.{heard_by, InputFits};
+ghost use Rattle.lk_node.specs.Histories.{History, Genesis as GenesisValue, IsLawful};
+ghost use Rattle.lk_node.specs.Holdings.{Holding};
+ghost use Rattle.lk_node.specs.Leavings.{DisksFit};
+ghost use Rattle.lk_replica.specs.Behaviours.{disks_by};
+ghost use Rattle.lk_replica.specs.Together.{GoesAll, parts_of};
+ghost use Rattle.lk_sim.specs.Events.{BreaksTogether, IsGivenTogether, IsHalted, IsNotGrouped, IsToldEnd, LeftByGroup};
+ghost use Rattle.lk_sim.specs.Groups.{AreNotesOf, WereSentTo, copied, given_by};
+ghost use Rattle.lk_sim.specs.Outcomes.{HasAddedSteps, HasFallenTogether, HasGivenUp, HasSettledSteps, HasTakenTogether, HasWanted};
+ghost use Rattle.lk_sim.specs.Refusals.{AreFor, IsFor, MayGroup};
+ghost use Rattle.lk_sim.specs.Rooms.{AreShort};
+ghost use Rattle.lk_sim.specs.Seats.{IsUpAt, SeatFits, device_in};
+ghost use Rattle.lk_sim.specs.Worlds.{PartsHold, scene_of};
+ghost use Rattle.lk_sim.specs.declared.seat.Life.TheVariants.{Up};
+
+use crate::delivery::datagram;
+use crate::end::End;
+use crate::event::Turn;
+use crate::finding::{find_up, has_room};
+use crate::giving::join;
+use crate::parts::Parts;
+use crate::refused::Refused;
+use crate::seat::{Life, Outcome, Seat, count_sends, ended_at, fall, rest, stop, take_device};
+use crate::telling::tell;
+use lk_history::Party;
+use lk_replica::{Datagram, MemoryReplica, Step, TakenAll};
+use lk_step::{Input, Note};
+use lk_types::{NoMemory, NodeNo};
+use std::alloc::Global;
+
+// What a group of a node came to: its steps, what they sent, and how it ended the node, if it did.
+#[derive(Drop)]
+struct GroupOutcome {
+    steps: Vec<Step>,
+    sent: Vec<Datagram>,
+    ended: Option<End>,
+    // it has come to an armed stop, for so many bytes, which is still to be made
+    stop: Option<usize>,
+}
+
+// A node that has fallen has taken no step.
+fn fallen(alloc: Global, outcome: Outcome) -> GroupOutcome
+    ensures steps { result.steps.items ≡ [] }
+    ensures sent { result.sent ≡ outcome.sent }
+    ensures ended { result.ended ≡ outcome.ended }
+    ensures stop { result.stop ≡ outcome.stop }
+{
+    GroupOutcome {
+        steps: Vec::new(alloc),
+        sent: outcome.sent,
+        ended: outcome.ended,
+        stop: outcome.stop,
+    }
+}
+
+// The node, which is up, takes the inputs together. Where its replica ends, it goes down.
+fn step_all<R: MemoryReplica>(
+    alloc: Global,
+    seat: &mut Seat<R>,
+    inputs: Vec<Input<'_>>,
+) -> Result<GroupOutcome, NoMemory>
+    requires up { (r : R) × (seat.old.life ≡ Up r) }
+    ensures number { seat.new.number ≡ seat.old.number }
+    ensures goes { (r : R) → seat.old.life ≡ Up r → (genesis : GenesisValue) (held : Holding) → R.Shows r genesis seat.old.number held
+        → IfOk result (λ o. (q : R) → seat.new.life ≡ Up q → GoesAll R.Shows (disks_by R.behaves) R.meaning seat.old.number r inputs.entry.items q (parts_of o.steps.items o.sent.items)) }
+    // After any exit whatever a stop may leave of it fits where nothing of the group is sent.
+    ensures leaves { (h : History) (w : View) → IsLawful R.meaning h → SeatFits R.Shows (disks_by R.behaves) R.meaning h w seat.old → AllByRecursion (InputFits h) inputs.entry.items
+        → DisksFit R.meaning h seat.new.number (disk_of (device_in R.behaves seat.new.life)) × AreShort (disk_of (device_in R.behaves seat.new.life)) }
+    ensures exact { (r : R) → seat.old.life ≡ Up r
+        → IfOk result (λ o. HasTakenTogether R.behaves r (map heard_by inputs.entry.items) seat.new o.steps.items o.sent.items o.ended o.stop
+        ⊎ HasFallenTogether (BreaksTogether R.behaves r (map heard_by inputs.entry.items)) seat.new o.steps.items o.sent.items o.ended o.stop) }
+    ensures told { IfOk result (λ o. IsToldEnd o.ended) }
+    ensures wants { (r : R) → seat.old.life ≡ Up r → OnErr result (HasWanted (BreaksTogether R.behaves r (map heard_by inputs.entry.items)) seat.new) }
+{
+    let node = seat.number;
+    let Life::Up(replica) = &mut seat.life else {
+        unreachable!()
+    };
+    match replica.take_all(inputs) {
+        Ok(taken) => {
+            let TakenAll { steps, mut sent } = taken;
+            let stop = count_sends(replica, &mut sent);
+            Ok(GroupOutcome {
+                steps,
+                sent,
+                ended: ended_at(stop, node),
+                stop,
+            })
+        }
+        Err(fault) => {
+            let device = take_device(alloc, seat);
+            let outcome = fall(alloc, seat, device, fault)?;
+            Ok(fallen(alloc, outcome))
+        }
+    }
+}
+
+// All notes of the steps, one step after another: what the node noted, and its answers and passes as they are sent.
+fn notes_of(alloc: Global, steps: Vec<Step>, sent: &[Datagram]) -> Result<Vec<Note>, NoMemory>
+    ensures { IfOk result (λ notes. AreNotesOf (parts_of steps.items sent.now) notes.items) }
+{
+    let mut notes = Vec::new(alloc);
+    let mut rest = sent;
+    'steps: for step in steps {
+        let Step {
+            notes: mut own,
+            sends,
+        } = step;
+        notes.append(&mut own)?;
+        let (now, later) = rest.split_at(sends.min(rest.len()));
+        tell(alloc, &mut notes, now)?;
+        rest = later;
+    }
+    Ok(notes)
+}
+
+// Whether nothing is to be noted or sent.
+fn is_nothing(outcome: &GroupOutcome) -> bool
+    ensures steps { result ≡ true → outcome.now.steps.items ≡ [] }
+    ensures sent { result ≡ true → outcome.now.sent.items ≡ [] }
+    ensures some { result ≡ false → outcome.now.steps.items ≡ [] → outcome.now.sent.items ≡ [] → ⊥ }
+{
+    outcome.steps.is_empty() && outcome.sent.is_empty()
+}
+
+// Keeps what a group came to, or nothing of it. Where there is nothing to keep it takes no memory.
+fn add_all<R: MemoryReplica>(parts: &mut Parts<R>, outcome: GroupOutcome) -> Result<(), NoMemory>
+    ensures ok { OnOk result (HasAddedSteps (scene_of parts.old) (scene_of parts.new) outcome.steps.items outcome.sent.items outcome.ended) }
+    ensures err { OnErr result (scene_of parts.new ≡ scene_of parts.old) }
+    ensures wants { OnErr result (outcome.steps.items ≡ [] → outcome.sent.items ≡ [] → ⊥) }
+    ensures seats { parts.new.seats ≡ parts.old.seats }
+{
+    if is_nothing(&outcome) {
+        parts.ended = outcome.ended;
+        return Ok(());
+    }
+    let GroupOutcome {
+        steps,
+        sent,
+        ended,
+        stop: _,
+    } = outcome;
+    let notes = notes_of(parts.alloc, steps, &sent)?;
+    join(&mut parts.sent, &mut parts.trace, sent, notes)?;
+    parts.ended = ended;
+    Ok(())
+}
+
+// Keeps what a group of the node at this place came to, and makes an armed stop to which it has come; where memory is refused,
+// the node is stopped.
+fn settle_all<R: MemoryReplica>(
+    parts: &mut Parts<R>,
+    i: usize,
+    outcome: GroupOutcome,
+) -> Result<(), NoMemory>
+    requires place { i < length parts.old.seats.items }
+    ensures ok { OnOk result (HasSettledSteps R.Shows R.behaves R.meaning (scene_of parts.old) i (scene_of parts.new) outcome.steps.items outcome.sent.items outcome.ended outcome.stop) }
+    ensures err { OnErr result (HasGivenUp R.Shows R.behaves R.meaning (scene_of parts.old) i (scene_of parts.new)) }
+    ensures wants { OnErr result (outcome.steps.items ≡ [] → outcome.sent.items ≡ [] → ⊥) }
+{
+    let at = outcome.stop;
+    match add_all(parts, outcome) {
+        Ok(()) => {
+            rest(parts.alloc, &mut parts.seats[i], at);
+            Ok(())
+        }
+        Err(refused) => {
+            stop(parts.alloc, &mut parts.seats[i], 0, 0);
+            Err(refused)
+        }
+    }
+}
+
+// The node at this place, which is up, takes the inputs together: ticks, and datagrams that were sent.
+fn give_all<R: MemoryReplica>(
+    parts: &mut Parts<R>,
+    i: usize,
+    inputs: Vec<Input<'_>>,
+) -> Result<(), NoMemory>
+    requires up { (n : ℕ) × IsUpAt parts.old.seats.items i n }
+    requires heard { WereSentTo parts.old.sent.items inputs.items }
+    requires holds { PartsHold R.Shows (disks_by R.behaves) R.meaning parts.old }
+    ensures holds { PartsHold R.Shows (disks_by R.behaves) R.meaning parts.new }
+    ensures given { (n : ℕ) → IsUpAt parts.old.seats.items i n
+        → OnOk result (IsGivenTogether R.behaves (scene_of parts.old) (scene_of parts.new) n (map heard_by inputs.entry.items)) }
+    ensures halted { (n : ℕ) → IsUpAt parts.old.seats.items i n
+        → OnErr result (IsHalted (LeftByGroup R.behaves (map heard_by inputs.entry.items)) (scene_of parts.old) (scene_of parts.new) n) }
+{
+    let outcome = step_all(parts.alloc, &mut parts.seats[i], inputs)?;
+    settle_all(parts, i, outcome)?;
+    Ok(())
+}
+
+// Whether the datagram of the turn stands there, bound for the node.
+fn is_for(sent: &[Datagram], number: NodeNo, turn: Turn) -> bool
+    ensures { IsTrue result ↔ IsFor sent.now number turn }
+{
+    let Turn::Deliver(k) = turn else {
+        return true;
+    };
+    match datagram(sent, k) {
+        Some(found) => found.to == Party::Node(number),
+        None => false,
+    }
+}
+
+// Whether each of them does.
+fn are_for(sent: &[Datagram], number: NodeNo, turns: &[Turn]) -> bool
+    ensures { IsTrue result ↔ AreFor sent.now number turns.now }
+{
+    turns.iter().all(|turn| is_for(sent, number, *turn))
+}
+
+// A copy of the bytes that the turn brings, none at a tick.
+fn bytes_for<R: MemoryReplica>(parts: &Parts<R>, turn: Turn) -> Result<Option<Vec<u8>>, NoMemory>
+    ensures { IfOk result (λ o. copied o ≡ given_by parts.now.sent.items turn) }
+{
+    let Turn::Deliver(k) = turn else {
+        return Ok(None);
+    };
+    match datagram(&parts.sent, k) {
+        Some(found) => Ok(Some(found.bytes.to_vec(parts.alloc)?)),
+        None => Ok(None),
+    }
+}
+
+// So of each turn.
+fn bytes_for_all<R: MemoryReplica>(
+    parts: &Parts<R>,
+    turns: &[Turn],
+) -> Result<Vec<Option<Vec<u8>>>, NoMemory>
+    ensures { IfOk result (λ l. map copied l.items ≡ map (given_by parts.now.sent.items) turns.now) }
+{
+    let mut all = Vec::new(parts.alloc);
+    'turns: for turn in turns {
+        all.push(bytes_for(parts, *turn)?)?;
+    }
+    Ok(all)
+}
+
+// What a node takes of that.
+fn inputs_of<'a>(alloc: Global, all: &'a [Option<Vec<u8>>]) -> Result<Vec<Input<'a>>, NoMemory>
+    ensures { IfOk result (λ l. map heard_by l.items ≡ map copied all.now) }
+{
+    let mut inputs = Vec::new(alloc);
+    'all: for bytes in all {
+        inputs.push(match bytes {
+            Some(bytes) => Input::Datagram(bytes),
+            None => Input::Tick,
+        })?;
+    }
+    Ok(inputs)
+}
+
+/// A node takes the turns together.
+pub fn group<R: MemoryReplica>(
+    parts: &mut Parts<R>,
+    number: NodeNo,
+    turns: &[Turn],
+) -> Result<(), Refused>
+    requires { PartsHold R.Shows (disks_by R.behaves) R.meaning parts.old }
+    ensures holds { PartsHold R.Shows (disks_by R.behaves) R.meaning parts.new }
+    ensures ok { OnOk result (MayGroup (scene_of parts.old) number turns.now × IsGivenTogether R.behaves (scene_of parts.old) (scene_of parts.new) number (map (given_by parts.old.sent.items) turns.now)) }
+    ensures err { IfErr result (λ e. IsNotGrouped R.behaves (scene_of parts.old) number turns.now e (scene_of parts.new)) }
+{
+    let i = find_up(&parts.seats, number)?;
+    if !are_for(&parts.sent, number, turns) {
+        return Err(Refused::NoSuchDatagram);
+    }
+    if !has_room(&parts.sent) {
+        return Err(Refused::WorldFull);
+    }
+    let bytes = bytes_for_all(parts, turns)?;
+    let inputs = inputs_of(parts.alloc, &bytes)?;
+    give_all(parts, i, inputs)?;
+    Ok(())
+}
