@@ -1,5 +1,4 @@
 """The frames of docs/FORMATS.md: what a client with a key sends, and what it takes."""
-import hashlib
 import hmac
 import os
 import stat
@@ -33,12 +32,12 @@ class Seals:
     def frame(self, purpose: tuple[bytes, bytes], key: bytes, datagram: bytes) -> bytes:
         """The frame of a datagram under a key."""
         head, label = purpose
-        return head + hmac.digest(key, label + self.scope + datagram, hashlib.sha256) + datagram
+        return head + hmac.digest(key, label + self.scope + datagram, "sha256") + datagram
 
 
 def client_key(master: bytes, client: int) -> bytes:
     """The key of a client, which the nodes make of their master."""
-    return hmac.digest(master, b"locks v1 client" + client.to_bytes(2, "big"), hashlib.sha256)
+    return hmac.digest(master, b"locks v1 client" + client.to_bytes(2, "big"), "sha256")
 
 
 def lines(text: bytes) -> Iterator[tuple[int, str]]:
