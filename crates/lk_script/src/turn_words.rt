@@ -15,7 +15,7 @@ fn turn_of(word: &[u8]) -> Option<Turn>
     ensures some { IfSome result (λ t. IsTurnWord t word.now) }
     ensures none { IsNone result → (t : TurnValue) → IsTurnWord t word.now → ⊥ }
 {
-    if word == b"t" {
+    if word == b"t".as_slice() {
         return Some(Turn::Tick);
     }
     let k = number_of(word, 1, MAX_COUNT)?;

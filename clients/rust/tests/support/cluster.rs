@@ -24,12 +24,18 @@ pub struct Cluster {
     program: String,
     folder: PathBuf,
     genesis: String,
+    options: Vec<String>,
     nodes: Vec<(u16, Option<Child>)>,
 }
 
 impl Cluster {
     /// So many nodes, all running.
     pub fn start(count: usize) -> Cluster {
+        Cluster::start_with(count, Vec::new())
+    }
+
+    /// The same, each with these options.
+    pub fn start_with(count: usize, options: Vec<String>) -> Cluster {
         let number = CLUSTERS.fetch_add(1, Ordering::Relaxed);
         let ports = free_ports(count);
         let members = (1..)
@@ -39,6 +45,7 @@ impl Cluster {
             program: env::var("LOCKS_PROGRAM").unwrap(),
             folder: env::temp_dir().join(format!("locks-cluster-{}-{number}", process::id())),
             genesis: format!("5,8{}", members.collect::<String>()),
+            options,
             nodes: Vec::new(),
         };
         for port in ports {
@@ -63,6 +70,7 @@ impl Cluster {
             .args(["--number", &node.to_string(), "--port", &port.to_string()])
             .arg("--dir")
             .arg(folder)
+            .args(&self.options)
             .stdin(Stdio::null())
             .spawn();
         *process = Some(child.unwrap());
