@@ -1,14 +1,20 @@
 -- What no node says.
-use Rattle.std.proofs.Common.{◌≡◌, ◌≢◌, inl, inr, ℕ, List, [], ap, sym, ◌∙◌, refl, arith, slice_index}
+use Rattle.std.proofs.Common.{◌≡◌, ◌≢◌, ◌⊎◌, inl, inr, ℕ, List, [], ap, sym, subst, ◌∙◌, refl, arith, slice_index, ◌++◌}
+use Rattle.std.proofs.lemmas.Nat.{from_be_bytes-to_be_bytes_2}
 use Rattle.lk_types.specs.declared.command.Request.{Request}
-use Rattle.lk_wire.specs.Grammar.{spelling, kind}
+use Rattle.lk_fields.specs.Fields.{two, four, eight}
+use Rattle.lk_types.specs.Ranges.{IsClient}
+use Rattle.lk_wire.specs.Grammar.{spelling, kind, sender, fields, header, Spells, IsContent}
+use Rattle.lk_wire.specs.declared.message.Message.{Message}
 use Rattle.lk_wire.specs.declared.message.Content.{Content}
 use Rattle.lk_wire.specs.declared.message.Content.TheVariants as content
 use Rattle.lk_wire.specs.declared.message.NodeMessage.TheVariants as kinds
 use Rattle.lk_seal.specs.Seals.{key_list, heard, IsOfNoNode}
 use Rattle.lk_seal.specs.declared.seals.Seals.{Seals}
-use Rattle.lk_seal.proofs.VouchLaws.{is_vouched}
-use Rattle.lk_server.specs.Premises.{IsFree, IsToldByANode}
+use Rattle.lk_seal.specs.Clients.{client_in}
+use Rattle.lk_seal.specs.Vouching.{IsSealedByClient}
+use Rattle.lk_seal.proofs.VouchLaws.{is_vouched, is_of_who_it_names}
+use Rattle.lk_server.specs.Premises.{IsFree, IsToldByANode, IsToldOrAsked}
 
 -- a message of kind 9 is a request
 of_kind_9 : (c : Content) → kind c ≡ 9 → (r : Request) × (c ≡ content.Request r)
@@ -36,4 +42,31 @@ pub told_by_a_node : (s : Seals) (frame : List ℕ) → key_list s.nodes ≢ [] 
 told_by_a_node s frame some = elim (is_vouched s frame some) [
   | inl sealed ↦ inl sealed
   | inr other ↦ inr (free (heard s frame) other)
+]
+
+-- the client that stands in the bytes of a request
+request_names : (m : Message) (r : Request) → m.content ≡ content.Request r → IsClient r.client → client_in (spelling m) ≡ r.client
+unfolding two four eight
+request_names m r is fits =
+    ap (λ (c : Content). client_in (header (kind c) m.cluster (sender c) ++ fields c)) is ∙ from_be_bytes-to_be_bytes_2 r.client (omega (arith, fits.1))
+
+-- what spells a request, and was sealed by the client that it names
+asked : (s : Seals) (frame bytes : List ℕ) → IsFree bytes → (bytes ≡ []) ⊎ IsSealedByClient s (client_in bytes) frame bytes
+    → (m : Message) → Spells m bytes → (r : Request) × (m.content ≡ content.Request r) × IsSealedByClient s r.client frame bytes
+asked s frame bytes free (inl none) m spells =
+    let empty : [] ≡ spelling m = sym none ∙ spells.1 in
+    absurd cc
+asked s frame bytes free (inr own) m spells =
+    let request = free m spells in
+    let fits = subst IsContent request.1 spells.0.1 in
+    let names : client_in bytes ≡ request.0.client = ap client_in spells.1 ∙ request_names m request.0 request.1 fits.0 in
+    (request.0, request.1, subst (λ (n : ℕ). IsSealedByClient s n frame bytes) names own)
+
+pub told_or_asked : (s : Seals) (frame : List ℕ) → key_list s.nodes ≢ [] → key_list s.clients ≢ [] → IsToldOrAsked s frame
+told_or_asked s frame some masters = elim (told_by_a_node s frame some) [
+  | inl told ↦ inl told
+  | inr none_says ↦ elim (is_of_who_it_names s frame some masters) [
+    | inl told ↦ inl told
+    | inr own ↦ inr (asked s frame (heard s frame) none_says own)
+  ]
 ]

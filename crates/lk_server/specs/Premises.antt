@@ -5,6 +5,7 @@ use Rattle.lk_wire.specs.Grammar.{Spells}
 use Rattle.lk_wire.specs.declared.message.Message.{Message}
 use Rattle.lk_wire.specs.declared.message.Content.TheVariants as content
 use Rattle.lk_seal.specs.Seals.{key_list, to_node, heard, IsSealedBy}
+use Rattle.lk_seal.specs.Vouching.{IsSealedByClient}
 use Rattle.lk_seal.specs.declared.seals.Seals.{Seals}
 
 -- no node says that: it spells a client's request, or nothing
@@ -14,3 +15,11 @@ IsFree bytes = (m : Message) → Spells m bytes → (r : Request) × (m.content 
 -- what is taken of a frame was sealed for this node by someone who has a key of the nodes, or no node says it
 abbrev pub IsToldByANode : Seals → List ℕ → Type 0
 IsToldByANode s frame = IsSealedBy (key_list s.nodes) (to_node s s.node) frame (heard s frame) ⊎ IsFree (heard s frame)
+
+-- what is taken of a frame is a request of the client under whose key it was sealed, or it spells nothing
+abbrev pub IsAskedByItsClient : Seals → List ℕ → Type 0
+IsAskedByItsClient s frame = (m : Message) → Spells m (heard s frame) → (r : Request) × (m.content ≡ content.Request r) × IsSealedByClient s r.client frame (heard s frame)
+
+-- what is taken of a frame was sealed for this node by someone who has a key of the nodes, or its client asks it
+abbrev pub IsToldOrAsked : Seals → List ℕ → Type 0
+IsToldOrAsked s frame = IsSealedBy (key_list s.nodes) (to_node s s.node) frame (heard s frame) ⊎ IsAskedByItsClient s frame
