@@ -3,6 +3,7 @@ import os
 import re
 import subprocess
 import tempfile
+import threading
 import time
 import unittest
 
@@ -186,9 +187,12 @@ class LogTest(unittest.TestCase):
                 told = subprocess.run([PROGRAM, "ask", *asked, str(number), *op.split()], capture_output=True, text=True)
                 if told.returncode == 0:
                     break
+        late = threading.Timer(10, node.kill)  # the node may log after it has answered
+        late.start()
+        lines = [node.stderr.readline().rstrip("\n") for _ in range(4)]
+        late.cancel()
         node.kill()
-        lines = node.communicate(timeout=30)[1].splitlines()
-        self.assertEqual(len(lines), 4, lines)
+        self.assertEqual(node.communicate(timeout=30)[1], "", lines)
         for line, message in zip(lines, ("counted 1", "ran 1", "counted 2", "ran 2")):
             self.assertRegex(line, rf"\A\[INFO [^\]]*\] {message}\Z")
 
