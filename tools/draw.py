@@ -3,13 +3,15 @@
 
 With --check it draws each picture docs/pictures/tour_NAME.svg again from examples/tour_NAME.txt, and says which differ.
 
-Each client and node has a lane, time goes downwards, and each line that the program prints has a line of the picture to
-itself, so no text lies upon another. It runs each prefix of the script to find what belongs to an event."""
+Each client and node has a lane, time goes downwards, and each line that the program prints and each datagram or tick of
+a group has a line of the picture to itself, so no text lies upon another. It runs each prefix of the script to find
+what belongs to an event."""
 import pathlib, subprocess, sys
 
 import svg
 from scripting import TOP, a_program, parser
 WIDTH, PITCH, HEAD, LEFT, RIGHT = 1000, 20, 58, 205, 125
+ALL = 1 << 48
 STYLE = svg.style("""\
 .script{font:12px monospace;fill:#44505c} .name{font-weight:bold}
 .lane{stroke:#7d8b99;stroke-width:3} .down{stroke:#c2cad2;stroke-width:1.5;stroke-dasharray:2 5} .line{fill:none;stroke:#2b6cb0;stroke-width:1.4}
@@ -46,10 +48,12 @@ def events(program, script):
 
 
 def calls(program, lines, line, output):
-    """How many appends, syncs and cuts a tick or a delivery makes, told up to 2: found by letting the first fail, and then the second."""
+    """How many appends, syncs and cuts a tick or a delivery makes, told up to 2: found by letting the first fail, and then the second.
+    A group makes 2 where it syncs, and 1 where it appends alone."""
     words = line.split()
     sent = {said.split()[1]: said.split()[3] for said in output if said.startswith("sent ")}
-    node = {"tick": "n" + words[1] if len(words) > 1 else "", "deliver": sent.get(words[-1], "")}.get(words[0], "")
+    named = "n" + words[1] if len(words) > 1 else ""
+    node = {"tick": named, "group": named, "deliver": sent.get(words[-1], "")}.get(words[0], "")
     fell = lambda run: any(said.startswith(("fault ", "stopped ")) for said in run)
     plain = [said for said in printed(program, lines)[0] if not said.startswith("done ")]
     if node[:1] != "n" or fell(output[len(plain):]):
@@ -58,7 +62,20 @@ def calls(program, lines, line, output):
         run, _ = printed(program, [*lines, f"fail {node[1:]} {count}", line])
         if not fell(run[len(plain):]):
             return count - 1
+        if words[0] == "group":
+            return 1 if is_unsynced(program, [*lines, line], words[1]) else 2
     return 2
+
+
+def is_unsynced(program, lines, node):
+    """Whether a stop that keeps nothing unsynced would cost the node something that it executes at its restart."""
+    kept, lost = (printed(program, [*lines, f"stop {node} {count} {count}", f"restart {node}"]) for count in (ALL, 0))
+    return kept != lost
+
+
+def carried(words):
+    """What an event gives a node at once: the numbers of datagrams, and `t` for a tick."""
+    return {"deliver": words[1:], "group": words[2:]}.get(words[0], [])
 
 
 def is_refused(output):
@@ -79,7 +96,7 @@ class Picture:
         self.x = {name: round(LEFT + place * step) for place, name in enumerate(self.names)}
         self.under, self.lines, self.grounds, self.lanes, self.texts, self.marks = [], [], [], [], [], []
         self.sent, self.came, self.up, self.loops, self.y, self.ground = {}, set(), {}, [], HEAD, "paper"
-        self.delivered = {line.split()[1] for line, output, _ in told if line.startswith("deliver ") and not is_refused(output)}
+        self.delivered = {number for line, output, _ in told if not is_refused(output) for number in carried(line.split())}
 
     def text(self, x, y, words, kind="label", anchor="start"):
         """Words on a ground of their own, so that no line goes through them."""
@@ -108,19 +125,20 @@ class Picture:
         self.marks.append(shapes[kind])
 
     def event(self, line, output, calls):
-        """Draws the event at the line where it stands, and each line that it printed a line lower."""
+        """Draws the event at the line where it stands, what else a group takes a line lower each, and then each line that it printed."""
         top, words, self.calls = self.y, line.split(" "), calls
         shown = [said.split() for said in output if not said.startswith("asked ")]
         refused = is_refused(output)
         self.ground = "paper" if self.ground == "band" else "band"
-        self.y = top + PITCH * (len(shown) + 1)
+        taken = 1 if refused else max(1, len(carried(words)))
+        self.y = top + PITCH * (len(shown) + taken)
         self.under.append(f'<rect class="{self.ground}" y="{top - 10}" width="{WIDTH}" height="{self.y - top}"/>')
         self.text(8, top, line if len(line) < 27 else line[:24] + "..", "script")
         if not refused:
             self.before(top, words)
             if calls == 1:
                 self.unsynced(top, words)
-        for place, said in enumerate(shown, 1):
+        for place, said in enumerate(shown, taken):
             self.said(top + PITCH * place, said)
         if words[0] == "stop" and not refused:
             self.ends("n" + words[1], self.y - PITCH)
@@ -129,18 +147,26 @@ class Picture:
         if words[0] in ("start", "restart"):
             self.up["n" + words[1]] = y
             self.mark("edge", self.x["n" + words[1]], y)
-        if words[0] == "deliver":
-            self.arrive(words[1], y)
+        for place, word in enumerate(carried(words)):
+            self.take(word, "n" + words[1], y + PITCH * place)
         if words[0] == "compact":
             self.text(self.x["n" + words[1]] + 12, y, "compacts", "name")
         if words[0] == "inject" and "n" + words[1] in self.x:
             x = self.x["n" + words[1]]
             self.arrow(x - 60, y, x, y, "line")
 
+    def take(self, word, node, y):
+        """What an event gives a node at this line: a datagram, or a tick of a group."""
+        if word == "t":
+            return self.text(self.x[node] + 12, y, "tick", "name")
+        self.arrive(word, y)
+
     def unsynced(self, y, words):
-        """Marks a write that is not synced, on the side that no arrow comes from."""
-        frm, to = (self.sent[words[1]][:2] if words[0] == "deliver" else ("n" + words[1],) * 2)
-        self.mark("unsynced", self.x[to] + (-10 if self.x[frm] > self.x[to] else 10), y)
+        """Marks a write that is not synced, beside the last thing taken, on the side that no arrow comes from."""
+        taken = carried(words)
+        frm, to = self.sent[taken[-1]][:2] if taken and taken[-1] != "t" else ("n" + words[1],) * 2
+        low = y + PITCH * max(0, len(taken) - 1)
+        self.mark("unsynced", self.x[to] + (-10 if self.x[frm] > self.x[to] else 10), low)
 
     def ends(self, name, y):
         self.path(f"M{self.x[name]} {self.up.pop(name)}V{y}", "lane")

@@ -88,6 +88,21 @@ def arrives(line, sent):
     return f"Datagram {it.number} arrives: {it.kind}, from {party(it.sender)} to {party(it.receiver, it.sender)}."
 
 
+def taken(line, sent):
+    """What a line says that gives a node several things at once."""
+    node, words = line.split()[1], line.split()[2:]
+    known = {str(number): f"{it.kind} {number} from {party(it.sender, f'n{node}')}" for number, it in sent.items()}
+    each = ["a tick" if word == "t" else known.get(word, f"datagram {word}") for word in words]
+    return f"Node {node} takes these as one group, and syncs at most once: {listed(each)}."
+
+
+def line_said(line, sent):
+    """What a line does."""
+    if line.startswith("deliver "):
+        return arrives(line, sent)
+    return taken(line, sent) if line.startswith("group ") else said(EVENTS, line)
+
+
 def done(line, asked):
     """What a printed line says, with what the executed request asks."""
     found = re.fullmatch(r"ran \d+ \d+ (\d+ \d+)", line)
@@ -98,7 +113,7 @@ def done(line, asked):
 def sentences(line, output, sent, asked):
     """An event in sentences: what its line does, and what was printed. A request that sets out is told by its line.
     `asked` has what each request asks."""
-    told = [arrives(line, sent) if line.startswith("deliver ") else said(EVENTS, line)]
+    told = [line_said(line, sent)]
     heard = [it for it in output if not re.match(r"asked |sent .* request$", it)]
     of_one = lambda it: (it.split()[2], it.split()[4]) if it.startswith("sent ") else it
     for _, group in itertools.groupby(heard, of_one):

@@ -8,14 +8,14 @@ after a position is what a cluster of one node answers that was asked the same r
 import itertools
 import re
 
-from draw import events, is_refused
+from draw import carried, events, is_refused
 from probing import Runs, asked_first, counted, datagrams, executed
 from scripting import parser
 
 ALL = 262144  # bytes of the longest file: a stop that keeps so many keeps all
 TICKS = 28  # of silence, after which a member of any place stands for election
 LATER = 99999  # a call that no run comes to
-REPLIES = ("promise", "accepted", "nack")
+REPLIES = {"prepare": ("promise", "nack"), "accept": ("accepted", "nack")}
 OPS = ("acquire", "release", "ask", "check", "share", "break")
 
 
@@ -59,9 +59,9 @@ class Story:
         node = self.touched(words)
         if node:
             self.live(node, words[0], output)
-        if words[0] == "deliver":
-            self.deliver(event, self.sent[int(words[1])], new)
-        self.name_ballots(event, new, words[0] == "tick" and calls > 0)
+        for number in (int(word) for word in carried(words) if word != "t"):
+            self.deliver(event, self.sent[number], new)
+        self.name_ballots(event, new, self.is_begun(words, new, calls))
         self.name_proposals(event, new)
         return {**before, node: self.state(event, node)} if node else before
 
@@ -90,9 +90,9 @@ class Story:
         came.delivered.append(event)
         if came.kind == "part":
             self.reached[number_of(came.receiver)] = None
-        for it in new:
-            if it.kind in REPLIES:
-                it.of, it.ballot, it.proposal = came.number, came.ballot, came.proposal
+        kinds = REPLIES.get(came.kind, ())
+        for it in [it for it in new if it.of is None and it.kind in kinds and it.receiver == came.sender][:1]:
+            it.of, it.ballot, it.proposal = came.number, came.ballot, came.proposal
 
     def say(self, new, words, output):
         """Notes what requests ask and what answers say: the line in front of such a datagram tells."""
@@ -105,6 +105,11 @@ class Story:
                 it.words = f"{'last request ' * (it.kind == 'passed')}{first[4]}, to request {first[3]}"
 
     # Ballots and proposals.
+
+    def is_begun(self, words, new, calls):
+        """Whether a ballot begins: a tick writes, or a tick of a group asks its own node for a promise."""
+        asks_itself = any(it.kind == "prepare" and it.sender == it.receiver for it in new)
+        return calls > 0 if words[0] == "tick" else words[0] == "group" and "t" in words[2:] and asks_itself
 
     def name_ballots(self, event, new, is_written):
         """Names the ballots of Prepares and Accepts. A ballot begins with a tick that writes its promise, and is the

@@ -223,7 +223,9 @@ function renderList() {
 
 function laneNames(isNarrow) {
   const { line, prints } = data.events[at];
-  const numbers = [line, ...data.texts[prints]].map((it) => it.match(/^(?:deliver|sent) (\d+)/)?.[1]);
+  const grouped = line.startsWith("group ") ? line.split(" ").slice(2) : [];
+  const named = [line, ...data.texts[prints]].map((it) => it.match(/^(?:deliver|sent) (\d+)/)?.[1]);
+  const numbers = [...grouped, ...named];
   const sent = isNarrow ? numbers.filter((it) => data.sent[it]).map((it) => data.sent[it]) : Object.values(data.sent);
   const names = new Set(sent.flatMap((it) => [it.sender, it.receiver]));
   Object.keys(data.after[last]).forEach((node) => names.add(`n${node}`));
@@ -304,6 +306,7 @@ class Stage {
 function drawEvent(stage, line) {
   const [verb, to, ...words] = line.split(" ");
   if (verb === "deliver" && data.sent[to]) return stage.datagram(data.sent[to], "arrow");
+  if (verb === "group") return words.forEach((it) => drawEvent(stage, it === "t" ? `tick ${to}` : `deliver ${it}`));
   const isOfNode = !["client", "genesis", "deliver"].includes(verb) && stage.x[`n${to}`] != null;
   if (isOfNode) stage.event(stage.x[`n${to}`], [verb, ...words].join(" ").slice(0, 24));
 }
