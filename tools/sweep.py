@@ -7,7 +7,8 @@ number of unsynced BYTES 0, 1 and all; then by `fail NODE COUNT` in the same way
 rest of the script follows, once with that event again in front of it and once without.
 
 What stands before the trap has to be printed as before, and no revival may end by a fault. The run goes on to the
-script's end or to a refusal 16 to 19, since a later line may name a datagram that was never sent. The tick at which a
+script's end or to a refusal 16 to 19, since a later line may name a datagram that was never sent. Each script is swept
+once more with groups: what comes to one node in a row, and was sent before, comes as one `group`. The tick at which a
 node writes its snapshot, after 256 executed requests, is swept in the same way, and after each stop the node is led on:
 its next request runs at position 257, so all 256 are executed. Whatever has run at a position, and whatever a request
 was answered, is the same at each node and each time.
@@ -44,7 +45,34 @@ def worker(line, bound):
     verb, *words = line.split()
     if verb == "deliver":
         return bound.get(words[0])
-    return words[0] if verb in ("tick", "inject", "restart", "compact") else None
+    return words[0] if verb in ("tick", "inject", "restart", "compact", "group") else None
+
+
+def receivers(output):
+    """The nodes to which datagrams are bound, by the numbers of those."""
+    sent = [words for words in map(str.split, output.splitlines()) if words[0] == "sent"]
+    return {words[1]: words[3][1:] for words in sent if words[3][0] == "n"}
+
+
+def given(line, bound):
+    """How a group begins that takes what the line gives a node, and its word there, if it is a tick or a datagram that was sent."""
+    verb, *words = line.split()
+    if verb == "tick":
+        return f"group {words[0]}", "t"
+    return (f"group {bound[words[0]]}", words[0]) if verb == "deliver" and words[0] in bound else ("", "")
+
+
+def grouped(program, lines):
+    """The script with what comes to one node in a row as one group, where all of it was sent before."""
+    groups, bound = [], {}
+    for at, line in enumerate(lines):
+        group, word = given(line, bound)
+        if group and groups and groups[-1].startswith(f"{group} "):
+            groups[-1] += f" {word}"
+        else:
+            bound = receivers(printed(program, lines[:at]))
+            groups.append(" ".join(given(line, bound)).strip() or line)
+    return groups
 
 
 def contradiction(output):
@@ -89,8 +117,7 @@ def swept(program, lines, at, node, after):
 
 def sweep(program, lines, first, after):
     """How many stops and how many failures of a script were tried from the event at a place on, and what was wrong."""
-    output = printed(program, lines)
-    bound = {words[1]: words[3][1:] for words in map(str.split, output.splitlines()) if words[0] == "sent" and words[3][0] == "n"}
+    bound = receivers(printed(program, lines))
     works = [(at, worker(line, bound)) for at, line in enumerate(lines)]
     runs = [run for at, node in works[first:] if node for run in swept(program, lines, at, node, after)]
     stops = sum(trap.startswith("arm") for trap, _ in runs)
@@ -114,6 +141,7 @@ def scripts(program):
         is_world = lines and lines[0].startswith("genesis ") and not any(line.startswith(("arm ", "fail ")) for line in lines)
         if is_world and re.search(r"done \d+\n\Z", printed(program, lines)):
             yield file.name, lines, 0, []
+            yield f"{file.name} in groups", grouped(program, lines), 0, []
     lines = [*filled()]
     yield "256 requests", lines, len(lines) - 1, NEXT
 
