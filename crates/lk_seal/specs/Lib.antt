@@ -1,4 +1,5 @@
 pub mod Hmac
+pub mod Macs
 pub mod Clients
 pub mod Frames
 pub mod Seals

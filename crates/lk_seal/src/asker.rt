@@ -8,7 +8,7 @@ use crate::keys::Keys;
 use std::alloc::AllocError;
 
 /// The keys of a client, by which it knows who replied, in a cluster. The nodes make them of their masters.
-#[derive(Clone, Copy)]
+#[derive(Drop)]
 pub struct AskerSeals {
     pub cluster: u64,
     pub keys: Keys,

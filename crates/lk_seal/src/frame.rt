@@ -4,7 +4,7 @@ ghost use Rattle.std.specs.Prelude.{◌≡◌, ◌↔◌, ℕ, List, IsTrue, len
 ghost use Rattle.lk_seal.specs.Frames.{label, head, front, seal_tag, sealed, opened};
 
 use crate::key::Key;
-use crate::mac::{TAG, tag_of};
+use crate::mac::TAG;
 use std::alloc::AllocError;
 
 /// The bytes in front of the tag.
@@ -83,7 +83,7 @@ fn front_of(scope: &Scope) -> [u8; FRONT]
 fn tag_in(key: &Key, scope: &Scope, datagram: &[u8]) -> [u8; TAG]
     ensures { result ≡ seal_tag key.now scope.now datagram.now }
 {
-    tag_of(key.bytes(), &front_of(scope), datagram)
+    key.tag(&front_of(scope), datagram)
 }
 
 /// Whether these are what a frame begins with.

@@ -1,24 +1,29 @@
-ghost use Rattle.std.specs.Prelude.{◌≡◌, ◌↔◌, ℕ, IsTrue, List};
+ghost use Rattle.std.specs.Prelude.{◌≡◌, ◌↔◌, ◌++◌, IsTrue};
 ghost use Rattle.lk_seal.specs.Clients.{client_key};
+ghost use Rattle.lk_seal.specs.Hmac.{hmac};
 
-use crate::mac::tag_of;
+use crate::mac::{Mac, TAG};
 use std::marker::Model;
 
 /// The bytes of a key.
 pub const KEY: usize = 32;
 
-/// A key.
-#[derive(Clone, Copy)]
+/// A key, and HMAC under it.
+#[derive(Drop)]
 pub struct Key {
     bytes: [u8; KEY],
+    mac: Mac,
 }
 
 impl Model for Key {
+    ghost use Rattle.std.specs.Prelude.{ℕ, List};
+    ghost use Rattle.lk_seal.specs.Macs.{IsKeyed};
+
     ghost Value = { List ℕ };
 
     ghost view = { λ k. k.bytes };
 
-    ghost inverse = { λ b. record { bytes = b } };
+    ghost invariant = { λ k. IsKeyed k.bytes k.mac };
 }
 
 impl Key {
@@ -26,7 +31,8 @@ impl Key {
     pub fn of(bytes: [u8; KEY]) -> Key
         ensures { result ≡ bytes }
     {
-        Key { bytes }
+        let mac = Mac::new(&bytes);
+        Key { bytes, mac }
     }
 
     /// Whether it is that key.
@@ -41,7 +47,14 @@ impl Key {
     pub fn of_client(&self, client: u16) -> Key
         ensures { result ≡ client_key client self.now }
     {
-        Key::of(tag_of(&self.bytes, b"locks v1 client", &client.to_be_bytes()))
+        Key::of(self.tag(b"locks v1 client", &client.to_be_bytes()))
+    }
+
+    /// The tag of two pieces, taken as one message, under the key.
+    pub fn tag(&self, first: &[u8], second: &[u8]) -> [u8; TAG]
+        ensures { result ≡ hmac self.now (first.now ++ second.now) }
+    {
+        self.mac.tag(first, second)
     }
 
     /// Its bytes.

@@ -7,7 +7,7 @@ use crate::key::Key;
 use std::alloc::AllocError;
 
 /// No key, one, or two while keys are changed: the first seals, and each of them opens.
-#[derive(Clone, Copy)]
+#[derive(Drop)]
 pub enum Keys {
     NoKey,
     One(Key),

@@ -1,7 +1,8 @@
 //! HMAC with SHA-256 (RFC 2104).
 
-ghost use Rattle.std.specs.Prelude.{◌≡◌, ◌++◌, length, ◌↔◌, IsTrue};
-ghost use Rattle.lk_seal.specs.Hmac.{hmac, hmac_by, key_block, with_pad};
+ghost use Rattle.std.specs.Prelude.{◌≡◌, ◌++◌, ℕ, List};
+ghost use Rattle.lk_seal.specs.Hmac.{hmac, key_block, with_pad};
+ghost use Rattle.lk_seal.specs.Macs.{IsKeyed};
 
 use sha2::{Digest, Sha256};
 
@@ -42,32 +43,43 @@ fn padded(block: &[u8; BLOCK], pad: u8) -> [u8; BLOCK]
     mixed
 }
 
-/// The tag of two pieces, taken as one message, under the key of a block.
-#[tactic(auto, unfolding(crate::specs::Hmac::hmac_by))]
-fn tag_by(block: &[u8; BLOCK], first: &[u8], second: &[u8]) -> [u8; TAG]
-    ensures { result ≡ hmac_by block.now (first.now ++ second.now) }
-{
-    let mut inner = Sha256::new();
-    inner.update(padded(block, INNER));
-    inner.update(first);
-    inner.update(second);
-    let digest = inner.finalize();
-    let mut outer = Sha256::new();
-    outer.update(padded(block, OUTER));
-    outer.update(digest);
-    outer.finalize()
+/// HMAC under a key: the hashers of the inner and of the outer digest, each of which has taken in the key's block. A tag begins with copies of
+/// them, so that the blocks are compressed once for all tags.
+#[derive(Drop)]
+pub struct Mac {
+    inner: Sha256,
+    outer: Sha256,
 }
 
-/// The tag of two pieces, taken as one message, under a key.
-pub fn tag_of(key: &[u8], first: &[u8], second: &[u8]) -> [u8; TAG]
-    ensures { result ≡ hmac key.now (first.now ++ second.now) }
-{
-    tag_by(&block_of(key), first, second)
+impl Mac {
+    /// HMAC under that key.
+    pub fn new(key: &[u8]) -> Mac
+        ensures { IsKeyed key.now result }
+    {
+        let block = block_of(key);
+        Mac {
+            inner: Sha256::new_with_prefix(padded(&block, INNER)),
+            outer: Sha256::new_with_prefix(padded(&block, OUTER)),
+        }
+    }
+
+    /// The tag of two pieces, taken as one message.
+    #[tactic(auto, unfolding(crate::specs::Hmac::hmac_by))]
+    pub fn tag(&self, first: &[u8], second: &[u8]) -> [u8; TAG]
+        ensures { (key : List ℕ) → IsKeyed key self.now → result ≡ hmac key (first.now ++ second.now) }
+    {
+        let mut inner = self.inner.clone().unwrap();
+        inner.update(first);
+        inner.update(second);
+        let mut outer = self.outer.clone().unwrap();
+        outer.update(inner.finalize());
+        outer.finalize()
+    }
 }
 
 /// The tag of a message under a key.
 pub fn tag(key: &[u8], message: &[u8]) -> [u8; TAG]
     ensures { result ≡ hmac key.now message.now }
 {
-    tag_of(key, &[], message)
+    Mac::new(key).tag(&[], message)
 }

@@ -15,7 +15,7 @@ const REQUEST: u8 = 9;
 
 /// The keys by which a node knows who wrote: in which cluster of which genesis it is which node, the keys of the nodes, and those of the
 /// clients' masters, of which the key of each client is made.
-#[derive(Clone, Copy)]
+#[derive(Drop)]
 pub struct Seals {
     pub cluster: u64,
     /// The digest of the genesis.
