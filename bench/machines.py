@@ -207,8 +207,10 @@ def machines(is_loopback):
 
 
 class Cluster:
-    def __init__(self, program, world, folder):
-        self.program, self.world, self.folder, self.number, self.processes = program, world, folder, 0, {}
+    """Three nodes, one on each machine. They and the clients have keys, or none where it is bare."""
+
+    def __init__(self, program, world, folder, is_bare=False):
+        self.program, self.world, self.folder, self.is_bare, self.number, self.processes = program, world, folder, is_bare, 0, {}
         self.write("hosts", "".join(f"{node} {world.address(node)}\n" for node in NODES))
         for node in NODES:
             self.write(f"hosts{node}", "".join(f"{other} {world.seen_by(node, other)}\n" for other in NODES))
@@ -227,7 +229,8 @@ class Cluster:
         folder = f"{self.folder}/d{node}"
         os.makedirs(folder, exist_ok=True)
         words = ["node", "--genesis", genesis, "--number", str(node), "--port", str(PORT), "--dir", folder, "--hosts", f"{self.folder}/hosts{node}"]
-        words += ["--key", f"{self.folder}/key", "--client-key", f"{self.folder}/master", "--verbose", *more]
+        words += [] if self.is_bare else ["--key", f"{self.folder}/key", "--client-key", f"{self.folder}/master"]
+        words += ["--verbose", *more]
         with open(f"{self.folder}/log{node}", "a") as log:
             self.processes[node] = subprocess.Popen(self.world.at(node, self.program, *words), stderr=log, stdin=subprocess.DEVNULL)
 
@@ -365,7 +368,8 @@ class Work:
 
     def __init__(self, cluster):
         world, folder = cluster.world, cluster.folder
-        places, keys = [(world.address(node), PORT) for node in NODES], {client: f"{folder}/client{client}" for client in HOLDERS}
+        places = [(world.address(node), PORT) for node in NODES]
+        keys = {client: None if cluster.is_bare else f"{folder}/client{client}" for client in HOLDERS}
         plan = {"cluster": CLUSTER, "places": places, "hosts": f"{folder}/hosts", "keys": keys, "names": ["one", "two"]}
         paths = os.pathsep.join([TOP, os.path.join(TOP, "clients", "python")])
         how = {"stdin": subprocess.PIPE, "stdout": subprocess.PIPE, "text": True, "env": os.environ | {"PYTHONPATH": paths}}
