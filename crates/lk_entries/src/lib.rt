@@ -19,4 +19,4 @@ pub use reading::first_entry;
 pub use standing::Standing;
 pub use stored::Stored;
 pub use unread::Unread;
-pub use writing::{entries_facts, spelled, spelled_base, spelled_parts};
+pub use writing::{entries_facts, put_members, spelled, spelled_base, spelled_parts};

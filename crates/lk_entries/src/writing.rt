@@ -17,7 +17,8 @@ use lk_fields::{
 use lk_types::{Command, Entry, Member, Position, Vote};
 use std::alloc::{AllocError, Global};
 
-fn put_members(out: &mut BytesMut, list: &[Member]) -> Result<(), AllocError>
+/// Appends the count of the members, and these.
+pub fn put_members(out: &mut BytesMut, list: &[Member]) -> Result<(), AllocError>
     requires { length list.now ≤ max_members }
     ensures { OnOk result (out.new.items ≡ out.old.items ++ members list.now) }
 {

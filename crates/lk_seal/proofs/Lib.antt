@@ -1,3 +1,4 @@
 mod Bits
 pub mod FrameLaws
 pub mod VouchLaws
+pub mod KeyFileLaws

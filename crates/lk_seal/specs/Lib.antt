@@ -3,4 +3,5 @@ pub mod Macs
 pub mod Clients
 pub mod Frames
 pub mod Seals
+pub mod KeyFiles
 pub mod Vouching

@@ -1,4 +1,4 @@
-ghost use Rattle.std.specs.Prelude.{◌≡◌, ◌↔◌, ◌++◌, IsTrue};
+ghost use Rattle.std.specs.Prelude.{◌≡◌, ◌↔◌, ◌++◌, IsTrue, length};
 ghost use Rattle.lk_seal.specs.Clients.{client_key};
 ghost use Rattle.lk_seal.specs.Hmac.{hmac};
 
@@ -58,8 +58,9 @@ impl Key {
     }
 
     /// Its bytes.
-    pub fn bytes(&self) -> &[u8]
-        ensures { result.now ≡ self.now }
+    pub fn bytes(&self) -> &[u8; KEY]
+        ensures bytes { result.now ≡ self.now }
+        ensures long { length result.now ≡ 32 }
     {
         &self.bytes
     }

@@ -4,6 +4,7 @@
 mod asker;
 mod frame;
 mod key;
+mod key_file;
 mod keys;
 pub mod laws;
 mod mac;

@@ -5,3 +5,4 @@ pub mod Questions
 pub mod Replies
 pub mod Revivals
 pub mod Turns
+pub mod ClientKeys

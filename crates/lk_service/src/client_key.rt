@@ -1,33 +1,31 @@
 //! The key of a client, for whoever runs the nodes.
 
-ghost use Rattle.std.specs.Prelude.{◌≤◌};
+ghost use Rattle.std.specs.Prelude.{◌≡◌, ◌≤◌, List, ℕ, OnOk};
+ghost use Rattle.lk_service.specs.ClientKeys.{Prints};
 
-use crate::outside::keys_in;
-use lk_seal::{KEY, Key, Keys};
+use crate::outside::keys_of;
 use lk_server::fault::ServiceFault;
 use lk_types::ClientNo;
 use std::alloc::Global;
 use std::fs::{File, Files};
-use std::io;
 use std::io::Write;
 
-/// Writes a key in a line of hex digits.
-fn write_key<W: Write>(key: &Key, out: &mut W) -> io::Result<()> {
-    let mut digits = [0; 2 * KEY];
-    let _ = hex::encode_to_slice(key.bytes(), &mut digits);
-    out.write_all(&digits)?;
-    out.write_all(b"\n")
-}
-
-/// Writes the lines of a key file.
-fn write_keys<W: Write>(keys: &Keys, out: &mut W) -> io::Result<()> {
-    match keys {
-        Keys::NoKey => Ok(()),
-        Keys::One(key) => write_key(key, out),
-        Keys::Two(first, second) => {
-            write_key(first, out)?;
-            write_key(second, out)
-        }
+/// Prints the key file of a client, made of the masters in a file.
+fn print_keys<R: Files<File = File>, W: Write, E: Write>(
+    rt: &R,
+    alloc: Global,
+    master: &str,
+    client: ClientNo,
+    out: &mut W,
+    err: &mut E,
+) -> Result<(), ServiceFault>
+    ensures { OnOk result ((text : List ℕ) × Prints text client (W.contents out.old) (W.contents out.new)) }
+{
+    let masters = keys_of(rt, alloc, master, err)?;
+    let keys = masters.of_client(client.get());
+    match keys.write(out) {
+        Ok(()) => Ok(()),
+        Err(_) => Err(ServiceFault::Write),
     }
 }
 
@@ -40,14 +38,12 @@ pub fn client_key<R: Files<File = File>, W: Write, E: Write>(
     out: &mut W,
     err: &mut E,
 ) -> u8
-    ensures { result ≤ 1 }
+    ensures status { result ≤ 1 }
+    // Status 0 only where what was read is a key file of masters, and the keys that these make for the client are printed.
+    ensures printed { result ≡ 0 → (text : List ℕ) × Prints text client (W.contents out.old) (W.contents out.new) }
 {
-    let keys = match keys_in(rt, alloc, Some(master), err) {
-        Ok(masters) => masters.of_client(client.get()),
-        Err(fault) => return fault.tell(err),
-    };
-    match (write_keys(&keys, out), out.flush()) {
-        (Ok(()), Ok(())) => 0,
-        _ => ServiceFault::Write.tell(err),
+    match print_keys(rt, alloc, master, client, out, err) {
+        Ok(()) => 0,
+        Err(fault) => fault.tell(err),
     }
 }

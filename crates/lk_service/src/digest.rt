@@ -1,29 +1,14 @@
 //! The digest of a genesis.
 
-ghost use Rattle.std.specs.Prelude.{◌≡◌, ◌≤◌, ◌++◌, length, OnOk, IfOk};
-ghost use Rattle.lk_types.specs.Limits.{max_members};
-ghost use Rattle.lk_entries.specs.Entries.{members};
+ghost use Rattle.std.specs.Prelude.{◌≡◌, ◌++◌, OnOk, IfOk};
 ghost use Rattle.lk_service.specs.Digests.{genesis_spelling, genesis_digest};
 
 use bytes::BytesMut;
-use lk_entries::Header;
-use lk_fields::{put_member, put_u8, put_u64};
+use lk_entries::{Header, put_members};
+use lk_fields::{put_u8, put_u64};
 use lk_seal::DIGEST;
-use lk_types::Member;
 use sha2::{Digest, Sha256};
 use std::alloc::{AllocError, Global};
-
-/// Appends the count of the members, and these.
-fn put_members(out: &mut BytesMut, list: &[Member]) -> Result<(), AllocError>
-    requires { length list.now ≤ max_members }
-    ensures { OnOk result (out.new.items ≡ out.old.items ++ members list.now) }
-{
-    put_u8(out, list.len() as u8)?;
-    for member in list {
-        put_member(out, *member)?;
-    }
-    Ok(())
-}
 
 /// Appends the one spelling of the genesis of a header.
 fn put_genesis(out: &mut BytesMut, header: &Header) -> Result<(), AllocError>

@@ -1,6 +1,8 @@
 //! Where the nodes of a cluster live, and the keys by which they know each other, from the files that a command line names.
 
-ghost use Rattle.std.specs.Prelude.{IfOk, OnOk};
+ghost use Rattle.std.specs.Prelude.{◌≡◌, List, ℕ, Some, IfOk, OnOk};
+ghost use Rattle.lk_seal.specs.KeyFiles.{key_file};
+ghost use Rattle.lk_seal.specs.Seals.{key_list};
 ghost use Rattle.lk_service.specs.Guards.{IsReachedWithKey};
 ghost use Rattle.lk_service.specs.Turns.{AreSealsOf};
 
@@ -8,7 +10,7 @@ use crate::causes::tell_cause;
 use crate::digest::genesis_digest;
 use crate::far::Far;
 use lk_entries::Header;
-use lk_seal::{AskerSeals, KEY, Key, Keys, Seals};
+use lk_seal::{AskerSeals, Keys, Seals};
 use lk_server::fault::ServiceFault;
 use lk_server::hosts::Hosts;
 use lk_server::outside::Outside;
@@ -111,37 +113,6 @@ fn read_hosts(
     Ok(Ok(hosts))
 }
 
-/// A line of keys: 64 hex digits.
-fn key_of(line: &[u8]) -> Option<Key> {
-    let mut bytes = [0; KEY];
-    match hex::decode_to_slice(line, &mut bytes) {
-        Ok(()) => Some(Key::of(bytes)),
-        Err(_) => None,
-    }
-}
-
-/// One key or two.
-fn read_keys(text: &[u8]) -> Option<Keys> {
-    let mut keys = Keys::NoKey;
-    for line in text.split(|byte| *byte == b'\n') {
-        if is_idle(line) {
-            continue;
-        }
-        let Some(key) = key_of(line) else {
-            return None;
-        };
-        keys = match keys {
-            Keys::NoKey => Keys::One(key),
-            Keys::One(first) => Keys::Two(first, key),
-            Keys::Two(_, _) => return None,
-        };
-    }
-    match keys {
-        Keys::NoKey => None,
-        keys => Some(keys),
-    }
-}
-
 /// Where the nodes live.
 fn hosts_in<R: Files<File = File>, E: Write>(
     rt: &R,
@@ -162,20 +133,32 @@ fn hosts_in<R: Files<File = File>, E: Write>(
     }
 }
 
-/// The keys of a file, and none where no file is named.
-pub fn keys_in<R: Files<File = File>, E: Write>(
+/// The keys of a file, which others than its owner may not have.
+pub fn keys_of<R: Files<File = File>, E: Write>(
+    rt: &R,
+    alloc: Global,
+    path: &str,
+    err: &mut E,
+) -> Result<Keys, ServiceFault>
+    ensures { IfOk result (λ keys. (text : List ℕ) × (key_file text ≡ Some (key_list keys))) }
+{
+    let text = bytes_of(rt, alloc, path, true, err)?;
+    match Keys::read(&text) {
+        Some(keys) => Ok(keys),
+        None => Err(tell_cause(path, "its lines are not one key or two", err)),
+    }
+}
+
+/// The same, and none where no file is named.
+fn keys_in<R: Files<File = File>, E: Write>(
     rt: &R,
     alloc: Global,
     path: Option<&str>,
     err: &mut E,
 ) -> Result<Keys, ServiceFault> {
-    let Some(path) = path else {
-        return Ok(Keys::NoKey);
-    };
-    let text = bytes_of(rt, alloc, path, true, err)?;
-    match read_keys(&text) {
-        Some(keys) => Ok(keys),
-        None => Err(tell_cause(path, "its lines are not one key or two", err)),
+    match path {
+        Some(path) => keys_of(rt, alloc, path, err),
+        None => Ok(Keys::NoKey),
     }
 }
 
