@@ -1,6 +1,7 @@
 #!/usr/bin/env python3
 """Runs three nodes on three machines while clients hold locks: elects, cuts the leader off, parts the nodes, cuts one way alone, loses,
-delays, repeats and reorders datagrams, forges and replays them, and checks that no fence is given twice and no two clients hold a lock.
+delays, repeats and reorders datagrams, forges and replays them, misuses a client's key, and checks that no fence is given twice and no
+two clients hold a lock.
 
 A machine is a network namespace of its own, joined to the others by a bridge that stands in a fourth; nothing leaves them. Where
 namespaces are not allowed, or with --loopback, the machines are 127.0.0.1, 127.0.0.2 and 127.0.0.3, with a relay between them, and a node
@@ -8,8 +9,6 @@ is stopped in place of being cut off. The last line is `N passed, M failed`; the
 """
 
 import argparse
-import hashlib
-import hmac
 import itertools
 import json
 import os
@@ -24,6 +23,7 @@ import threading
 import time
 
 from cluster import TOP
+from harness import frames
 from harness.holders import faults
 from harness.relay import Relay
 from locks_client.seals import client_key
@@ -32,7 +32,6 @@ CLUSTER, PORT, ALPHA = 5, 7101, 2
 NODES = (1, 2, 3)
 KEY, MASTER = bytes([0x11]) * 32, bytes([0x22]) * 32
 ASKER, HOLDERS = 7, (1, 2, 3, 4)  # the client that asks one thing, and those that hold locks all the time
-LABELS = {1: b"locks v1 to node", 2: b"locks v1 request", 3: b"locks v1 replies"}
 
 
 class Score:
@@ -47,17 +46,9 @@ class Score:
         print(f"{'ok' if is_well else 'FAILED'}: {name}{more and ': '}{more}", flush=True)
 
 
-def digest(alpha=ALPHA):
-    """The digest of the genesis."""
-    members = b"".join(node.to_bytes(4, "big") + PORT.to_bytes(2, "big") for node in NODES)
-    return hashlib.sha256(CLUSTER.to_bytes(8, "big") + bytes([alpha, len(NODES)]) + members).digest()
-
-
-def seal(key, purpose, bound, datagram, cluster=CLUSTER, genesis=None):
-    """The frame of a datagram. Clients do not name the genesis."""
-    named = bytes(32) if purpose != 1 else genesis or digest()
-    front = LABELS[purpose] + cluster.to_bytes(8, "big") + named + bound.to_bytes(4, "big")
-    return b"LS\1" + bytes([purpose]) + hmac.new(key, front + datagram, hashlib.sha256).digest() + datagram
+def seal(key, purpose, bound, datagram, cluster=CLUSTER, alpha=ALPHA):
+    """The frame of a datagram."""
+    return frames.seal(key, purpose, cluster, frames.genesis_digest(cluster, alpha, dict.fromkeys(NODES, PORT)), bound, datagram)
 
 
 def prepare(round, node, first):
@@ -66,10 +57,19 @@ def prepare(round, node, first):
     return b"LK\1\1" + number(CLUSTER, 8) + number(node, 4) + number(round, 8) + number(node, 4) + number(first, 8)
 
 
-def acquire(client, number, name):
-    """A Request to acquire a name."""
-    body = bytes([1, len(name)]) + name
+def request(client, number, body):
+    """A Request with that body."""
     return b"LK\1\11" + CLUSTER.to_bytes(8, "big") + bytes(4) + client.to_bytes(2, "big") + number.to_bytes(8, "big") + bytes([0, len(body)]) + body
+
+
+def acquire(name):
+    """The body that acquires a name."""
+    return bytes([1, len(name)]) + name
+
+
+def release(name, fence):
+    """The body that releases a name."""
+    return bytes([2, len(name)]) + name + fence.to_bytes(8, "big")
 
 
 def client_seal(purpose, client, datagram, key=None):
@@ -234,6 +234,10 @@ class Cluster:
         with open(f"{self.folder}/log{node}", "a") as log:
             self.processes[node] = subprocess.Popen(self.world.at(node, self.program, *words), stderr=log, stdin=subprocess.DEVNULL)
 
+    def stop(self, node):
+        self.processes[node].terminate()
+        self.processes[node].wait()
+
     def log(self, node):
         with open(f"{self.folder}/log{node}") as it:
             return it.read()
@@ -316,7 +320,7 @@ def forged(ballot, leader, follower):
         "as a request under a client's key": client_seal(2, int.from_bytes(ballot[16:18], "big"), ballot),
         "sealed for another node": seal(KEY, 1, follower, ballot),
         "sealed in another cluster": seal(KEY, 1, leader, ballot, cluster=6),
-        "sealed at another genesis": seal(KEY, 1, leader, ballot, genesis=digest(ALPHA + 1)),
+        "sealed at another genesis": seal(KEY, 1, leader, ballot, alpha=ALPHA + 1),
         "with a bit changed": good[:-1] + bytes([good[-1] ^ 1]),
         "cut": good[:-1],
         "with a byte after it": good + b"\0",
@@ -347,20 +351,29 @@ def forge(cluster, score):
 def ask_without_key(cluster, score):
     """Only a client with its own key is answered."""
     leader = cluster.leader()[1]
-    request = acquire(8, 1, b"x")
+    asked = request(8, 1, acquire(b"x"))
     wrong = {
-        "without a key": request,
-        "with the nodes' key in its place": client_seal(2, 8, request, KEY),
-        "with the master in its place": client_seal(2, 8, request, MASTER),
-        "in the name of another one": client_seal(2, 7, request),
-        "in the name of another one, under its own key": client_seal(2, 8, request, client_key(MASTER, 7)),
+        "without a key": asked,
+        "with the nodes' key in its place": client_seal(2, 8, asked, KEY),
+        "with the master in its place": client_seal(2, 8, asked, MASTER),
+        "in the name of another one": client_seal(2, 7, asked),
+        "in the name of another one, under its own key": client_seal(2, 8, asked, client_key(MASTER, 7)),
     }
     for name, frame in wrong.items():
         score.check(f"a client is not heard {name}", not cluster.send(leader, frame))
-    right = cluster.send(leader, client_seal(2, 8, request))
+    right = cluster.send(leader, client_seal(2, 8, asked))
     body = right and bytes.fromhex(right[0])[36:]
     score.check("one with its key is, and its reply is sealed", right and bytes.fromhex(right[0]) == client_seal(3, 8, body) and body[:4] == b"LK\1\12")
     score.check("ask without the key has no answer", cluster.ask(leader, "ask", "db", key=None) == "no answer")
+
+
+def misuse(cluster, work, score):
+    """A client with its own key releases what others hold, at fences that they have, or are about to have."""
+    last = max(fence for name, fence, _, _ in work.holds if name == "one")
+    bodies = [release(b"one", fence) for fence in range(last, last + 200)]
+    back = cluster.send(cluster.leader()[1], *(client_seal(2, 8, request(8, number, body)) for number, body in enumerate(bodies, 2)))
+    answers = [bytes.fromhex(it)[36:][26] for it in back]
+    score.check("a client cannot release what another one holds", answers and set(answers) == {4}, f"{len(answers)} answers")
 
 
 class Work:
@@ -400,15 +413,25 @@ def go_on(work, score, name):
     score.check(f"clients go on {name}", found, f"after {took:.1f} s")
 
 
-def stand_still(world, work, score, name, pairs):
-    """Nothing is granted while these are cut, since no majority answers a leader, and clients go on after that."""
-    world.block(*pairs)
+def stand_still(work, score, name):
+    """Nothing is granted, since no majority answers a leader."""
     time.sleep(0.5)
     begun = time.monotonic()
     time.sleep(1.5)
     score.check(f"nothing is granted {name}", not work.since(begun))
-    world.unblock(*pairs)
-    go_on(work, score, "after that")
+
+
+def deafen(cluster, work, score):
+    """The leader is heard and does not hear: nothing is granted until it is stopped."""
+    leader = cluster.leader()[1]
+    cut = [(node, leader) for node in NODES if node != leader]
+    cluster.world.block(*cut)
+    stand_still(work, score, "where the leader is heard and does not hear")
+    cluster.stop(leader)
+    go_on(work, score, "once that node is stopped")
+    cluster.world.unblock(*cut)
+    cluster.start(leader)
+    go_on(work, score, "once it is started again")
 
 
 def part(cluster, work, score):
@@ -421,8 +444,10 @@ def part(cluster, work, score):
         go_on(work, score, name)
         world.unblock(*cut)
         go_on(work, score, "after that")
-    stand_still(world, work, score, "where the leader is heard and does not hear", [pair for pair in pairs if pair[1] == cluster.leader()[1]])
-    stand_still(world, work, score, "where two of three are cut off", pairs)
+    world.block(*pairs)
+    stand_still(work, score, "where two of three are cut off")
+    world.unblock(*pairs)
+    go_on(work, score, "after that")
 
 
 def worsen(world, work, score):
@@ -437,8 +462,8 @@ def worsen(world, work, score):
     world.mend()
 
 
-def replay(cluster, score):
-    """What was sealed for one node comes to another one, which drops it."""
+def replay(cluster, work, score):
+    """What was sealed for one node comes to another one, which drops it, and to itself again, which does no harm."""
     time.sleep(1)
     term, leader = cluster.leader()
     third, other = [node for node in NODES if node != leader]
@@ -446,6 +471,11 @@ def replay(cluster, score):
     cluster.send(third, *(cluster.world.recorded(other) or made)[:64], *made)
     counts = [0, *map(int, re.findall(r"datagrams that do not read: (\d+)", cluster.log(third)))]
     score.check("what was sealed for a node is dropped by another", max(counts) >= 64 and cluster.leader() == (term, leader), f"{max(counts)} dropped")
+    old = {node: cluster.world.recorded(node) for node in NODES}
+    for node in [*NODES] * 2:
+        cluster.send(node, *old[node])
+    if any(old.values()):
+        go_on(work, score, f"where nodes hear {sum(map(len, old.values()))} frames twice more")
 
 
 def tell_story(cluster, world, score):
@@ -455,9 +485,11 @@ def tell_story(cluster, world, score):
     go_on(work, score, "at first")
     cut_off(cluster, world, score)
     part(cluster, work, score)
+    deafen(cluster, work, score)
     ask_without_key(cluster, score)
+    misuse(cluster, work, score)
     forge(cluster, score)
-    replay(cluster, score)
+    replay(cluster, work, score)
     worsen(world, work, score)
     go_on(work, score, "after all of it")
     work.end()
