@@ -143,18 +143,38 @@ class Locks(System):
 
     kind, cluster = "locks", 5
 
-    def __init__(self, folder, before=(), *, program, alpha):
+    def __init__(self, folder, before=(), *, program, alpha, is_sealed=False):
         super().__init__(folder, before)
-        self.program, self.alpha = program, alpha
+        self.program, self.alpha, self.is_sealed = program, alpha, is_sealed
+        if is_sealed:
+            self.write_keys()
+
+    def write_keys(self):
+        """Makes the key of the nodes, the master, and the key of each client."""
+        master = os.urandom(32)
+        (self.folder / "keys").mkdir()
+        keys = {str(client): locks_client.seals.client_key(master, client) for client in range(1, 257)}
+        for name, key in {"nodes": os.urandom(32), "master": master, **keys}.items():
+            with open(self.key(name), "x", opener=lambda path, flags: os.open(path, flags, 0o600)) as file:
+                file.write(f"{key.hex()}\n")
+
+    def key(self, name):
+        """The file of a key."""
+        return str(self.folder / "keys" / name)
 
     def words(self, node):
         genesis = f"{self.cluster},{self.alpha}," + ",".join(f"{it}:{port}" for it, port in self.ports.items())
         place = ["--number", str(node), "--port", str(self.ports[node]), "--dir", str(self.folder / str(node))]
-        return [self.program, "node", "--genesis", genesis, *place]
+        keys = ["--key", self.key("nodes"), "--client-key", self.key("master")] if self.is_sealed else []
+        return [self.program, "node", "--genesis", genesis, *place, *keys]
+
+    def load_words(self, *words):
+        return super().load_words(*words) + (["--keys", str(self.folder / "keys")] if self.is_sealed else [])
 
     def leader(self):
         ports, first = list(self.ports.values()), locks_client.milliseconds()
-        with locks_client.Client(self.cluster, 256, ports, first=first, patience=60.0) as client:
+        key = self.key("256") if self.is_sealed else None
+        with locks_client.Client(self.cluster, 256, ports, first=first, patience=60.0, key=key) as client:
             client.ask("leader")
             return next(node for node, port in self.ports.items() if port == client.leader)
 

@@ -7,6 +7,7 @@ use crate::locks::Locks;
 use crate::redis::Redis;
 use crate::tcp::OverTcp;
 use crate::zookeeper::ZooKeeper;
+use std::path::PathBuf;
 use std::str::FromStr;
 use std::time::Duration;
 
@@ -14,12 +15,12 @@ use std::time::Duration;
 pub const HELP: &str = "\
 Loads a lock service with pairs of an acquire and a release, and prints one line of JSON.
 
-Usage: load SYSTEM --ports PORT[,PORT..] [--clients N] [--seconds S | --pairs N]
+Usage: load SYSTEM --ports PORT[,PORT..] [--clients N] [--seconds S | --pairs N] [--keys FOLDER]
 
 SYSTEM is locks, etcd, zookeeper or redis, at these ports of 127.0.0.1; the first is asked first.
 N clients (1 if not given), each in a thread, acquire and release a lock of their own, for
 S seconds (5 if not given) or until they have done so many pairs together. A cluster of locks has
-the number 5 (--cluster).";
+the number 5 (--cluster); the key of its client N is FOLDER/N.";
 
 /// A service that can be loaded.
 #[derive(Clone, Copy, Debug)]
@@ -50,6 +51,7 @@ pub struct Arguments {
     system: System,
     ports: Vec<u16>,
     cluster: u64,
+    keys: Option<PathBuf>,
     /// The number of clients.
     pub clients: u16,
     /// How long the run lasts.
@@ -79,6 +81,7 @@ impl Arguments {
             system,
             ports: Vec::new(),
             cluster: 5,
+            keys: None,
             clients: 1,
             length: Length::Time(Duration::from_secs(5)),
         }
@@ -88,6 +91,7 @@ impl Arguments {
         match option {
             "--ports" => self.ports = value.split(',').map(number).collect::<Result<_, _>>()?,
             "--cluster" => self.cluster = number(value)?,
+            "--keys" => self.keys = Some(PathBuf::from(value)),
             "--clients" => self.clients = number(value)?,
             "--pairs" => self.length = Length::Pairs(number(value)?),
             "--seconds" => {
@@ -103,7 +107,10 @@ impl Arguments {
     pub fn lock(&self, number: u16) -> Box<dyn Lock> {
         let (ports, name) = (&self.ports, format!("load-{number}"));
         match self.system {
-            System::Locks => Box::new(Locks::new(self.cluster, ports, number, &name)),
+            System::Locks => {
+                let keys = self.keys.as_deref();
+                Box::new(Locks::new(self.cluster, ports, number, &name, keys))
+            }
             System::Etcd => Box::new(OverTcp::new(ports, Etcd::new(&name))),
             System::ZooKeeper => Box::new(OverTcp::new(ports, ZooKeeper::new(&name))),
             System::Redis => Box::new(OverTcp::new(ports, Redis::new(&name))),

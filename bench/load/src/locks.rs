@@ -1,11 +1,12 @@
 //! A client of `locks`: the library in `clients/rust`, with its own schedule of waits.
 
 use crate::lock::Lock;
-use locks_client::{Client, ClientId, ClusterId, Error, Event, Numbers};
-use std::io;
+use locks_client::{Client, ClientId, ClusterId, Error, Event, Keys, Numbers};
+use std::path::Path;
 use std::sync::Arc;
 use std::sync::atomic::{AtomicU64, Ordering};
 use std::time::{Duration, SystemTime, UNIX_EPOCH};
+use std::{fs, io};
 
 const PATIENCE: Duration = Duration::from_secs(60);
 
@@ -19,10 +20,13 @@ pub struct Locks {
 }
 
 impl Locks {
-    /// The client of that number in a cluster, which asks the nodes at these ports.
-    pub fn new(cluster: u64, ports: &[u16], number: u16, name: &str) -> Locks {
+    /// The client of that number in a cluster, which asks the nodes at these ports. Its key is in the
+    /// file of that number in the folder, if there is one.
+    pub fn new(cluster: u64, ports: &[u16], number: u16, name: &str, keys: Option<&Path>) -> Locks {
         let sent = Arc::new(AtomicU64::new(0));
-        let client = made(cluster, ports, number, Arc::clone(&sent)).map_err(io::Error::other);
+        let client = made(cluster, ports, number, Arc::clone(&sent))
+            .map_err(io::Error::other)
+            .and_then(|client| with_key(client, number, keys));
         Locks {
             client,
             name: name.to_owned(),
@@ -59,6 +63,14 @@ fn made(cluster: u64, ports: &[u16], number: u16, sent: Arc<AtomicU64>) -> Resul
             sent.fetch_add(1, Ordering::Relaxed);
         }
     });
+    Ok(client)
+}
+
+fn with_key(mut client: Client, number: u16, keys: Option<&Path>) -> io::Result<Client> {
+    if let Some(folder) = keys {
+        let text = fs::read_to_string(folder.join(number.to_string()))?;
+        client.set_key(Keys::read(&text).map_err(io::Error::other)?);
+    }
     Ok(client)
 }
 
