@@ -159,11 +159,13 @@ def changed_function(crate, change):
 
 
 def is_of(function, changed):
-    """Whether `module::function`, `module::Type::function` or `module::TypeTrait::function` is the changed function."""
+    """Whether `module::function`, `module::Type::function` or `module::TypeTrait::function` is the changed function: between `Type` and
+    `Trait` stand the arguments of the type, if it has any."""
     owner, trait, last = changed
     *front, name = function.split("::")
     own = front[-1] if front and front[-1][:1].isupper() else ""
-    return name == last and own == owner + trait
+    is_trait = bool(trait) and own.startswith(owner) and own.endswith(trait)
+    return name == last and (own == owner or is_trait)
 
 
 def named_bodies(crate):

@@ -1,6 +1,6 @@
 -- What a step of a group leaves, and the sync after it.
-use Rattle.std.proofs.Common.{◌≡◌, ℕ, ◌+◌, ◌<◌, ◌≤◌, ◌||◌, Bool, true, false, List, [], ◌∷◌, ◌++◌, length, map, take, Contains, inl, inr, Result, IsErrAnd, refl, sym, ◌∙◌, ap, subst, append_assoc, append-nil, arith}
-use Rattle.std.specs.Prelude.{⊤, Ok, Err, OnErr, IfErr, if◌then◌else◌}
+use Rattle.std.proofs.Common.{◌≡◌, ℕ, ◌+◌, ◌<◌, ◌≤◌, ◌||◌, Bool, true, false, List, [], ◌∷◌, ◌++◌, length, map, Contains, inl, inr, Result, IsErrAnd, refl, sym, ◌∙◌, ap, subst, append_assoc, append-nil, arith}
+use Rattle.std.specs.Prelude.{⊤, IfErr, if◌then◌else◌}
 use Rattle.std.specs.List.{AllByRecursion}
 use Rattle.std.proofs.Math.Seq.{take-length}
 use Rattle.std.proofs.lemmas.List.Elements.{Contains-append_cases}
@@ -24,7 +24,7 @@ use Rattle.lk_entries.specs.declared.stored.Stored.{Stored}
 use Rattle.lk_entries.specs.declared.stored.Stored.TheVariants.{Base, Plain}
 use Rattle.lk_entries.proofs.Mixed.{format-append}
 use Rattle.lk_entries.proofs.Spelling.{spelled-append, all-append}
-use Rattle.lk_log.specs.Images.{Image, MayLeaveBoth, IsLive}
+use Rattle.lk_log.specs.Images.{IsLive}
 use Rattle.lk_log.specs.StoreValue.{StoreValue, pick, disks}
 use Rattle.lk_log.specs.Stores.{Holds, IsOlder, KeepsAtLeast, KeepsItsFile, MayBegin, next_base}
 use Rattle.lk_log.proofs.StoreLaws.{all_stand, header_more, plain_append, holds_keeps, synced_live, of_every}
@@ -38,7 +38,7 @@ use Rattle.lk_step.specs.declared.input.Input.{Input}
 use Rattle.lk_step.specs.declared.note.Note.{Note}
 use Rattle.lk_learner.specs.Learners.{executed}
 use Rattle.lk_node.specs.Calls.{InputFits, NodeFits, Goes}
-use Rattle.lk_node.specs.Entries.{EntriesFit, Rests}
+use Rattle.lk_node.specs.Entries.{Rests}
 use Rattle.lk_node.specs.Histories.{History, Genesis, Datagram}
 use Rattle.lk_node.specs.Holdings.{Holding}
 use Rattle.lk_node.specs.Keeping.{TellsDecided, IsKnown, Keeps, Stands}
@@ -47,8 +47,8 @@ use Rattle.lk_node.specs.NodeValue.{NodeValue}
 use Rattle.lk_node.specs.Packing.{standing_of, standing_here}
 use Rattle.lk_node.specs.Served.{text}
 use Rattle.lk_node.specs.Serving.{with_entries, GoesOn}
-use Rattle.lk_replica.specs.Compacting.{IsSameStore, Rebases}
-use Rattle.lk_replica.specs.Groups.{as_synced, as_sent, waits_after, Gathers, Recalls, Gathered, GroupFits, GroupGoes, GroupStays, Settles, GroupValue, Adds, IsCovered, IsRefusedInGroup, StepSaid, letters_of, GoesThrough, StepsToFile, settle_calls, gather_calls}
+use Rattle.lk_replica.specs.Compacting.{IsDue, IsSameStore, Rebases}
+use Rattle.lk_replica.specs.Groups.{as_synced, as_sent, waits_after, Gathers, Recalls, Gathered, GroupFits, GroupGoes, GroupStays, Settles, GroupValue, Adds, IsCovered, IsRefusedInGroup, LeavesInGroup, IsSettled, MakesRoom, settle_calls, gather_calls}
 use Rattle.lk_replica.specs.Compacted.{IsStoreFault}
 use Rattle.lk_replica.specs.Faults.{fault_number, failures_by, WantsNoMemory}
 use Rattle.lk_replica.specs.Posts.{AreOf}
@@ -528,6 +528,24 @@ says_more m genesis n old new first last still adds was x d c said =
     map_append f [] ys = refl
     map_append f (x ∷ xs) ys = ap (λ l. f x ∷ l) (map_append f xs ys)
 
+-- ---- the end of a group
+
+-- what a sync leaves on the disks, after any exit
+pub ended_in_group : (m : Meaning) (old : ReplicaValue) (waits : Bool) (after : StoreValue) → ((ks ls : List Stored) → Holds old.store ks ls → KeepsAtLeast after ks ls) → StaysWithin 0 (disks old.store) (disks after)
+    → LeavesInGroup m (λ h. ⊤) 0 old.node old.store waits (disks after)
+ended_in_group m old waits after any room = record {
+  ends = λ h n s heard. let k = s.fits.shown.keeps in settle_leaves m h n old.node old.store after waits s (any k.entries (plain k.loose) k.holds);
+  covers = λ genesis n x r every. settle_covers m genesis n old.node old.store after waits r (any r.keeps.entries (plain r.keeps.loose) r.keeps.holds) x every;
+  room = room;
+}
+
+-- the node fits to each history to which it fitted as it would be
+pub settled_node_fits : (m : Meaning) (Metered : Type 0) (old : ReplicaValue) (waits : Bool) (new : ReplicaValue) → IsSettled Metered old waits new → (genesis : Genesis) (k : ℕ) → Recalls old.node old.store waits genesis k → (h : History) (n : ℕ)
+    → NodeFits m h n (Stands m old.node (as_sent waits old.store) h.genesis n) (disks (as_sent waits old.store)) → NodeFits m h n (Stands m new.node new.store h.genesis n) (disks new.store)
+settled_node_fits m Metered old waits new s genesis k r h n f =
+    subst (λ (x : NodeValue). NodeFits m h n (Stands m x new.store h.genesis n) (disks new.store)) (sym s.node)
+    (settled_fits m h n old.node old.store new.store waits s.settles (as_gathered m genesis k old.node old.store waits r h n f))
+
 -- ---- which calls were made
 
 pub settled_none : (m : Meter) (waits : Bool) → waits ≡ false → Passes m m (settle_calls waits)
@@ -571,8 +589,33 @@ same_rebases m node new old mid after same r = record {
       subst (λ (x : BaseValue). Holds after (Base x ∷ []) []) b (r.writes ks ls (same_holds m old mid same ks ls h));
 }
 
-pub uncounted : (m : Meaning) (IsText : List ℕ → Type 0) (Metered : Type 0) (node new : NodeValue) (store after : StoreValue) (waits : Bool) (i : Input) (out : OutboxValue) → StepsToFile m IsText Metered node store waits i out new after → StepsToFile m IsText ⊥ node store waits i out new after
-uncounted m IsText Metered node new store later waits i out s = record { stepped = s.stepped; steps = s.steps; rebases = s.rebases; puts = s.puts; calls = λ none. absurd none }
+-- ---- the room for a step
+
+-- none had to be made
+pub no_room_made : (Metered : Type 0) (node : NodeValue) (old new : StoreValue) (waits : Bool) → (IsDue node old → ⊥) → IsSameStore old new → (Metered → Passes old.meter new.meter 0) → MakesRoom Metered node old waits node new waits
+no_room_made Metered node old new waits none same calls = record {
+  rebases = record { due = λ is. absurd (none is); rests = λ other. (refl, same) };
+  synced = λ is. absurd (none is);
+  rests = λ other. refl;
+  calls = λ metered. (0, record { due = λ is. absurd (none is); rests = λ other. refl }, calls metered);
+}
+
+-- it was made by a rebase
+pub room_made : (m : Meaning) (Metered : Type 0) (node new : NodeValue) (old asked mid after : StoreValue) (waits : Bool) → IsDue node old → IsSameStore old asked → Settles waits asked mid → KeepsItsFile asked mid → Rebases node mid new after
+    → (Metered → Passes old.meter asked.meter 0) → (Metered → Passes asked.meter mid.meter (settle_calls waits)) → (Metered → Passes mid.meter after.meter rebase_calls) → MakesRoom Metered node old waits new after false
+room_made m Metered node new old asked mid after waits due same settles file rebases first then_calls last = record {
+  rebases = record {
+    due = λ is. same_rebases m node new old asked after same (settled_rebases node new asked mid after waits settles file rebases);
+    rests = λ other. absurd (other due);
+  };
+  synced = λ is. refl;
+  rests = λ other. absurd (other due);
+  calls = λ metered.
+      let k : ℕ = settle_calls waits + rebase_calls in
+      let all = passes_on 0 (first metered) k (passes_on (settle_calls waits) (then_calls metered) rebase_calls (last metered)) in
+      let none : 0 + k ≡ k = omega arith in
+      (k, record { due = λ is. refl; rests = λ other. absurd (other due) }, subst (λ (j : ℕ). Passes old.meter after.meter j) none all);
+}
 
 -- ---- what a refused call of a group leaves
 
@@ -600,11 +643,6 @@ group_refused Honest Metered r f old node store is alive failures cut =
 pub of_store_too : (number : ℕ) → WantsNoMemory number → IsStoreFault number
 of_store_too number by = elim by [ inl device ↦ inl device | inr failed ↦ inr (inr failed) ]
 
--- what holds after any exit holds after a refusal
-pub on_err : {T E : Type 0} {P : Type 0} (r : Result T E) → P → OnErr r P
-on_err (Ok x) p = tt
-on_err (Err e) p = p
-
 -- ---- room
 
 as_long : (waits : Bool) (s : StoreValue) (side : Side) → length (contents (disks (as_sent waits s) side)) ≡ length (contents (disks s side))
@@ -620,47 +658,3 @@ as_long true s side = at s.live side
 -- the files as they will be are as long as they are
 pub room_as_sent : (most : ℕ) (before after : Bool) (old new : StoreValue) → StaysWithin most (disks old) (disks new) → StaysWithin most (disks (as_sent before old)) (disks (as_sent after new))
 room_as_sent most before after old new stays side = omega (arith, stays side, as_long before old side, as_long after new side)
-
--- ---- a whole group
-
--- what is still to come makes the whole of what has come so far
-pub record GoesSoFar (m : Meaning) (r : ReplicaValue) (all : List Input) (node : NodeValue) (store : StoreValue) (letters : List LetterValue) (rest : List Input) : Type 0 where
-  pub said : List StepSaid
-  pub are : letters_of said ≡ letters
-  pub whole : (n : ℕ) (q : ReplicaValue) (more : List StepSaid) → GoesThrough m n (record { node = node; store = store; failed = false }) rest q more → GoesThrough m n r all q (said ++ more)
-
-letters_append : (xs ys : List StepSaid) → letters_of (xs ++ ys) ≡ letters_of xs ++ letters_of ys
-letters_append [] ys = refl
-letters_append (x ∷ xs) ys = ap (λ l. x.1 ++ l) (letters_append xs ys) ∙ sym (append_assoc x.1 (letters_of xs) (letters_of ys))
-
--- nothing has come: the replica is as it is, whether it has failed or not
-pub none_so_far : (m : Meaning) (r : ReplicaValue) (all : List Input) → GoesSoFar m r all r.node r.store [] all
-none_so_far m r all = record { said = []; are = refl; whole = λ n q more goes. unfailed m n r all q more goes }
-  where
-    unfailed : (m : Meaning) (n : ℕ) (r : ReplicaValue) (all : List Input) (q : ReplicaValue) (more : List StepSaid) → GoesThrough m n (record { node = r.node; store = r.store; failed = false }) all q more → GoesThrough m n r all q more
-    unfailed m n r [] q more goes = goes
-    unfailed m n r (i ∷ is) q more goes = goes
-
--- one more
-pub one_so_far : (m : Meaning) (r : ReplicaValue) (all : List Input) (node new : NodeValue) (store after : StoreValue) (old now : List LetterValue) (i : Input) (rest : List Input) (notes : List Note) (letters : List LetterValue)
-    → GoesSoFar m r all node store old (i ∷ rest) → now ≡ old ++ letters
-    → ((n : ℕ) (h : History) → NodeFits m h n (Stands m node store h.genesis n) (disks store) → InputFits h i → (sent : List LetterValue) → AreOf sent letters → Goes m h n (Stands m new after h.genesis n) (disks after) notes (batch_of n sent))
-    → StaysWithin 132704 (disks store) (disks after) → GoesSoFar m r all new after now rest
-one_so_far m r all node new store after old now i rest notes letters s is link room = record {
-  said = s.said ++ (notes, letters) ∷ [];
-  are = letters_append s.said ((notes, letters) ∷ []) ∙ (λ k. s.are k ++ append-nil letters k) ∙ sym is;
-  whole = λ n q more goes.
-      subst (λ (l : List StepSaid). GoesThrough m n r all q l) (sym (append_assoc s.said ((notes, letters) ∷ []) more))
-      (s.whole n q ((notes, letters) ∷ more) (record { node = new; store = after; failed = false }, notes, letters, more, refl, link n, room, goes));
-}
-
--- all
-pub all_so_far : (m : Meaning) (r q : ReplicaValue) (all : List Input) (node : NodeValue) (store : StoreValue) (letters : List LetterValue) (rest : List Input) → GoesSoFar m r all node store letters rest → rest ≡ []
-    → ((n : ℕ) (h : History) → NodeFits m h n (Stands m node store h.genesis n) (disks store) → NodeFits m h n (Stands m q.node q.store h.genesis n) (disks q.store)) → StaysWithin 132704 (disks store) (disks q.store)
-    → (said : List StepSaid) × (letters_of said ≡ letters) × ((n : ℕ) → GoesThrough m n r all q said)
-all_so_far m r q all node store letters rest s none last room = (
-  s.said,
-  s.are,
-  λ n. subst (λ (l : List StepSaid). GoesThrough m n r all q l) (append-nil s.said)
-      (s.whole n q [] (subst (λ (l : List Input). GoesThrough m n (record { node = node; store = store; failed = false }) l q []) (sym none) (refl, last n, room))),
-)

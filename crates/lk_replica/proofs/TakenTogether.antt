@@ -1,7 +1,7 @@
 -- A group that a replica takes together, step by step.
 use Rattle.std.proofs.Common.{◌≡◌, ℕ, ◌+◌, ◌-◌, Bool, ◌⊎◌, false, inl, inr, List, [], ◌∷◌, ◌++◌, length, take, drop, map, Contains, refl, sym, ap, ◌∙◌, subst, arith, append_assoc, append-nil, length-append, zero, suc}
 use Rattle.std.specs.List.{AllByRecursion}
-use Rattle.std.specs.Prelude.{Option, ⊤}
+use Rattle.std.specs.Prelude.{⊤}
 use Rattle.std.proofs.Math.Nat.{add-sub_cancel_left}
 use Rattle.std.proofs.Math.Seq.{take-append_seam, drop-append_seam}
 use Rattle.std.proofs.lemmas.List.{append_cancel_left}
@@ -16,10 +16,7 @@ use Rattle.lk_log.specs.Rooms.{StaysWithin}
 use Rattle.lk_log.specs.StoreValue.{StoreValue, disks, device_of}
 use Rattle.lk_state.specs.Meanings.{Meaning}
 use Rattle.lk_wire.specs.Grammar.{Spells}
-use Rattle.lk_entries.specs.Entries.{plain}
 use Rattle.lk_entries.specs.Values.{HeaderValue}
-use Rattle.lk_entries.specs.declared.stored.Stored.{Stored}
-use Rattle.lk_log.specs.Stores.{Holds, KeepsAtLeast}
 use Rattle.lk_history.specs.Datagrams.{NodeMessage, said_by}
 use Rattle.lk_step.specs.Letters.{LetterValue, datagram_of, batch_of}
 use Rattle.lk_step.specs.declared.input.Input.{Input}
@@ -30,7 +27,7 @@ use Rattle.lk_node.specs.Holdings.{Holding}
 use Rattle.lk_node.specs.Keeping.{Stands}
 use Rattle.lk_node.specs.Leavings.{DisksFit, AllCover}
 use Rattle.lk_node.specs.NodeValue.{NodeValue}
-use Rattle.lk_replica.specs.Groups.{GroupValue, Adds, IsCovered, IsGathered, IsRefusedInGroup, Settles, StepSaid, letters_of, GoesThrough, as_sent, with_step, Recalls, GroupStays}
+use Rattle.lk_replica.specs.Groups.{GroupValue, Adds, IsCovered, KeepsGroup, LeavesInGroup, IsGathered, IsSettled, IsRefusedInGroup, StepSaid, letters_of, GoesThrough, as_sent, with_step, gather_calls, Recalls, GroupStays}
 use Rattle.lk_replica.specs.Posts.{AreOf}
 use Rattle.lk_replica.specs.Remembering.{Remembers}
 use Rattle.lk_replica.specs.ReplicaValue.{ReplicaValue}
@@ -39,7 +36,7 @@ use Rattle.lk_replica.specs.Faults.{RefusedAfter}
 use Rattle.lk_replica.specs.Together.{Said, sent_of, parts_of, said_by_steps, GoesAll, GathersAll, IsGatheredFrom, IsTakenTogether, IsNotKept, IsNotSent, IsTogetherRefused}
 use Rattle.lk_replica.specs.declared.taken.Step.{Step}
 use Rattle.lk_replica.proofs.Calling.{refused_on}
-use Rattle.lk_replica.proofs.Grouped.{begun, begin_fits, as_gathered, room_as_sent, settled_fits, settled_covers, settle_leaves, settle_covers}
+use Rattle.lk_replica.proofs.Grouped.{begun, begin_fits, room_as_sent, settled_node_fits, settled_covers}
 
 -- ---- steps
 
@@ -89,7 +86,7 @@ all_sent n (x ∷ xs) = batch_append n x.1 (letters_of xs) ∙ ap (λ (l : List 
 
 module _ (m : Meaning) (IsText : List ℕ → Type 0) where
   gathers_on : (node : NodeValue) (store : StoreValue) (waits : Bool) (done : List Input) (mid : NodeValue) (between : StoreValue) (still : Bool) (steps : List StepSaid) → GathersAll m IsText node store waits done mid between still steps
-      → (i : Input) (new : NodeValue) (later : StoreValue) (one : GroupValue) → IsGathered m IsText mid between (record { notes = []; letters = []; waits = still }) i new later one
+      → (i : Input) (new : NodeValue) (later : StoreValue) (one : GroupValue) → IsGathered m IsText ⊤ mid between (record { notes = []; letters = []; waits = still }) i new later one
       → GathersAll m IsText node store waits (done ++ i ∷ []) new later one.waits (steps ++ (one.notes, one.letters) ∷ [])
   gathers_on node store waits [] mid between still steps g i new later one e = (
     new,
@@ -97,9 +94,9 @@ module _ (m : Meaning) (IsText : List ℕ → Type 0) where
     one,
     [],
     ap (λ (l : List StepSaid). l ++ (one.notes, one.letters) ∷ []) g.3,
-    subst (λ (k : NodeValue). IsGathered m IsText k store (record { notes = []; letters = []; waits = waits }) i new later one) g.0
-        (subst (λ (k : StoreValue). IsGathered m IsText mid k (record { notes = []; letters = []; waits = waits }) i new later one) g.1
-        (subst (λ (w : Bool). IsGathered m IsText mid between (record { notes = []; letters = []; waits = w }) i new later one) g.2 e)),
+    subst (λ (k : NodeValue). IsGathered m IsText ⊤ k store (record { notes = []; letters = []; waits = waits }) i new later one) g.0
+        (subst (λ (k : StoreValue). IsGathered m IsText ⊤ mid k (record { notes = []; letters = []; waits = waits }) i new later one) g.1
+        (subst (λ (w : Bool). IsGathered m IsText ⊤ mid between (record { notes = []; letters = []; waits = w }) i new later one) g.2 e)),
     (refl, refl, refl, refl),
   )
   gathers_on node store waits (x ∷ done) mid between still steps g i new later one e = (
@@ -169,7 +166,7 @@ module _ (m : Meaning) (IsText : List ℕ → Type 0) (begun_as : ReplicaValue) 
     (goes : Adds g new (λ notes letters. (genesis : Genesis) (k : ℕ) → Recalls old.node old.store g.waits genesis k
     → (h : History) (n : ℕ) → NodeFits m h n (Stands m old.node (as_sent g.waits old.store) h.genesis n) (disks (as_sent g.waits old.store)) → InputFits h i
     → (sent : List LetterValue) → AreOf sent letters → Goes m h n (Stands m now.node (as_sent new.waits now.store) h.genesis n) (disks (as_sent new.waits now.store)) notes (batch_of n sent)))
-    (exact : IsGathered m IsText old.node old.store g i now.node now.store new)
+    (exact : IsGathered m IsText ⊤ old.node old.store g i now.node now.store new)
     (notes : step.notes.items ≡ new.notes) (sends : step.sends ≡ length new.letters - length g.letters) where
   abbrev one : GroupValue
   one = with_step exact.waits exact.out (record { notes = []; letters = []; waits = g.waits })
@@ -186,8 +183,8 @@ module _ (m : Meaning) (IsText : List ℕ → Type 0) (begun_as : ReplicaValue) 
   same_notes : goes.notes ≡ one.notes
   same_notes = append_cancel_left g.notes goes.notes one.notes (sym goes.noted ∙ noted_is)
 
-  fresh : IsGathered m IsText old.node old.store (record { notes = []; letters = []; waits = g.waits }) i now.node now.store one
-  fresh = record { mid = exact.mid; between = exact.between; rebases = exact.rebases; waits = exact.waits; out = exact.out; steps = exact.steps; adds = refl }
+  fresh : IsGathered m IsText ⊤ old.node old.store (record { notes = []; letters = []; waits = g.waits }) i now.node now.store one
+  fresh = record { mid = exact.mid; between = exact.between; waits = exact.waits; room = exact.room; out = exact.out; steps = exact.steps; adds = refl }
 
   own_notes : step.notes.items ≡ one.notes
   own_notes = notes ∙ noted_is ∙ ap (λ l. l ++ one.notes) s.no_notes
@@ -206,11 +203,14 @@ module _ (m : Meaning) (IsText : List ℕ → Type 0) (begun_as : ReplicaValue) 
       subst (λ (l : List Note). Goes m h n (Stands m now.node (as_sent new.waits now.store) h.genesis n) (disks (as_sent new.waits now.store)) l (batch_of n sent)) same_notes
       (goes.are genesis k was h n f heard sent (subst (λ (l : List LetterValue). AreOf sent l) (sym same_letters) among))
 
-  module _ (recalls : (genesis : Genesis) (n : ℕ) → Recalls old.node old.store g.waits genesis n → Recalls now.node now.store new.waits genesis n)
-      (said : (genesis : Genesis) (n : ℕ) → Recalls old.node old.store g.waits genesis n → IsCovered m genesis n g old.store → IsCovered m genesis n new now.store)
-      (covers : (genesis : Genesis) (n : ℕ) (x : NodeMessage) → Recalls old.node old.store g.waits genesis n → AllCover m genesis n (disks old.store) x → AllCover m genesis n (disks now.store) x)
-      (stays : (h : History) (n : ℕ) → GroupStays m h n old.node old.store g.waits → InputFits h i → GroupStays m h n now.node now.store new.waits)
-      (room : StaysWithin max_after (disks old.store) (disks now.store)) (calls : (k : ℕ) × Passes old.store.meter now.store.meter k) (alive : now.failed ≡ false) where
+  module _ (keeps : KeepsGroup m (λ h. InputFits h i) old.node old.store g now.node now.store new) (leaves : LeavesInGroup m (λ h. InputFits h i) 132704 old.node old.store g.waits (disks now.store)) (alive : now.failed ≡ false) where
+    -- the calls of the device by which room was made, and of the step
+    abbrev calls : ℕ
+    calls = (exact.room.calls tt).0 + gather_calls exact.waits exact.out
+
+    passes : Passes old.store.meter now.store.meter calls
+    passes = let k = exact.room.calls tt in passes_on k.0 k.2 (gather_calls exact.waits exact.out) (exact.steps.calls tt)
+
     pub one_taken : TakenSoFar m IsText begun_as all now (record new { notes = [] }) (steps ++ step ∷ []) rest
     one_taken = record {
       said = s.said ++ (step.notes.items, one.letters) ∷ [];
@@ -225,10 +225,10 @@ module _ (m : Meaning) (IsText : List ℕ → Type 0) (begun_as : ReplicaValue) 
             (gathers_on m IsText begun_as.node begun_as.store false s.done old.node old.store g.waits s.said s.gathered.gathers i now.node now.store one fresh));
         alive = inr alive;
       };
-      recalls = λ genesis n r. recalls genesis n (s.recalls genesis n r);
-      covered = λ genesis n r x d listed spelled. said genesis n (s.recalls genesis n r) (s.covered genesis n r) x d listed spelled;
-      covers = λ genesis n x r c. covers genesis n x (s.recalls genesis n r) (s.covers genesis n x r c);
-      stays = λ h n f fit. let was = s.stays h n f fit in (stays h n was.0 was.1.0, was.1.1);
+      recalls = λ genesis n r. keeps.recalls genesis n (s.recalls genesis n r);
+      covered = λ genesis n r x d listed spelled. keeps.said genesis n (s.recalls genesis n r) (s.covered genesis n r) x d listed spelled;
+      covers = λ genesis n x r c. leaves.covers genesis n x (s.recalls genesis n r) (s.covers genesis n x r c);
+      stays = λ h n f fit. let was = s.stays h n f fit in (keeps.stays h n was.0 was.1.0, was.1.1);
       goes = λ genesis k r n q more through.
           subst (λ (l : List StepSaid). GoesThrough m n begun_as all q l) (sym (append_assoc s.said ((step.notes.items, one.letters) ∷ []) more))
           (subst (λ (l : List Note). GoesThrough m n begun_as all q (s.said ++ (l, one.letters) ∷ more)) (sym own_notes)
@@ -239,12 +239,12 @@ module _ (m : Meaning) (IsText : List ℕ → Type 0) (begun_as : ReplicaValue) 
             more,
             refl,
             (λ h f heard sent among. link genesis k (s.recalls genesis k r) n h f heard sent among),
-            room_as_sent 132704 g.waits new.waits old.store now.store room,
+            room_as_sent 132704 g.waits new.waits old.store now.store leaves.room,
             through,
           )));
-      room = within_first 132704 (disks begun_as.store) (disks old.store) (disks now.store) s.room room;
-      calls = s.calls + calls.0;
-      passes = passes_on s.calls s.passes calls.0 calls.1;
+      room = within_first 132704 (disks begun_as.store) (disks old.store) (disks now.store) s.room leaves.room;
+      calls = s.calls + calls;
+      passes = passes_on s.calls s.passes calls passes;
     }
 
 -- ---- all are taken
@@ -295,27 +295,18 @@ goes_in_memory m n is r q said goes = subst (λ (d : ReplicaValue → Side → D
 
 -- all are taken, and what waits is synced
 pub goes_to_the_end : (m : Meaning) (IsText : List ℕ → Type 0) (begun_as : ReplicaValue) (all : List Input) (now q : ReplicaValue) (g : GroupValue) (steps : List Step) (rest : List Input) (s : TakenSoFar m IsText begun_as all now g steps rest)
-    → rest ≡ [] → Settles g.waits now.store q.store → q.node ≡ now.node → StaysWithin 0 (disks now.store) (disks q.store)
+    → rest ≡ [] → IsSettled ⊤ now g.waits q → StaysWithin 0 (disks now.store) (disks q.store)
     → (genesis : Genesis) (k : ℕ) → Remembers begun_as.node begun_as.store genesis k → (n : ℕ) → GoesThrough m n begun_as all q s.said
-goes_to_the_end m IsText begun_as all now q g steps rest s none synced node room genesis k r n =
+goes_to_the_end m IsText begun_as all now q g steps rest s none settled room genesis k r n =
     subst (λ (l : List StepSaid). GoesThrough m n begun_as all q l) (append-nil s.said)
     (s.goes genesis k r n q []
     (subst (λ (l : List Input). GoesThrough m n (record { node = now.node; store = as_sent g.waits now.store; failed = false }) l q []) (sym none)
     (refl, (λ h f. ended h f), room_as_sent 132704 g.waits false now.store q.store (within_more 132704 (disks now.store) (disks q.store) room))))
   where
     ended : (h : History) → NodeFits m h n (Stands m now.node (as_sent g.waits now.store) h.genesis n) (disks (as_sent g.waits now.store)) → NodeFits m h n (Stands m q.node q.store h.genesis n) (disks q.store)
-    ended h f = subst (λ (k : NodeValue). NodeFits m h n (Stands m k q.store h.genesis n) (disks q.store)) (sym node)
-        (settled_fits m h n now.node now.store q.store g.waits synced (as_gathered m genesis k now.node now.store g.waits (s.recalls genesis k r) h n f))
+    ended h f = settled_node_fits m ⊤ now g.waits q settled genesis k (s.recalls genesis k r) h n f
 
 -- ---- what a call leaves, where a part of it ended so
-
--- whatever a stop may leave fits, and covers what was covered, after any exit of the sync
-pub ended_leaves : (m : Meaning) (h : History) (n : ℕ) (mid new : ReplicaValue) (waits : Bool) → GroupStays m h n mid.node mid.store waits → ((ks ls : List Stored) → Holds mid.store ks ls → KeepsAtLeast new.store ks ls) → DisksFit m h n (disks new.store)
-ended_leaves m h n mid new waits s any = settle_leaves m h n mid.node mid.store new.store waits s (any s.fits.shown.keeps.entries (plain s.fits.shown.keeps.loose) s.fits.shown.keeps.holds)
-
-pub ended_covers : (m : Meaning) (genesis : Genesis) (n : ℕ) (mid new : ReplicaValue) (waits : Bool) → Recalls mid.node mid.store waits genesis n → ((ks ls : List Stored) → Holds mid.store ks ls → KeepsAtLeast new.store ks ls)
-    → (x : NodeMessage) → AllCover m genesis n (disks mid.store) x → AllCover m genesis n (disks new.store) x
-ended_covers m genesis n mid new waits r any = settle_covers m genesis n mid.node mid.store new.store waits r (any r.keeps.entries (plain r.keeps.loose) r.keeps.holds)
 
 -- the inputs that were gathered are a beginning of what was given
 pub given_begins : (done rest all : List Input) → done ++ rest ≡ all → map heard_by (done ++ rest) ≡ map heard_by all
@@ -341,9 +332,9 @@ refused_in_all m IsText begun_as all now new g steps rest number s why = record 
 
 -- all were taken together
 pub taken_in_all : (m : Meaning) (IsText : List ℕ → Type 0) (begun_as : ReplicaValue) (all : List Input) (now new : ReplicaValue) (g : GroupValue) (steps : List Step) (rest : List Input) (sent : List Datagram) → (s : TakenSoFar m IsText begun_as all now g steps rest) → rest ≡ []
-    → new.node ≡ now.node → Settles g.waits now.store new.store → new.failed ≡ false → sent ≡ batch_of begun_as.node.header.node g.letters
+    → IsSettled ⊤ now g.waits new → new.failed ≡ false → sent ≡ batch_of begun_as.node.header.node g.letters
     → (sent ≡ sent_of (parts_of steps sent)) × IsTakenTogether m IsText begun_as (map heard_by all) new (parts_of steps sent)
-taken_in_all m IsText begun_as all now new g steps rest sent s none node synced alive batch =
+taken_in_all m IsText begun_as all now new g steps rest sent s none settled alive batch =
     let n : ℕ = begun_as.node.header.node in
     let letters : sent ≡ batch_of n (letters_of s.said) = batch ∙ ap (batch_of n) (sym s.letters) in
     let parts : parts_of steps sent ≡ said_by_steps n s.said = ap (parts_of steps) letters ∙ parts_are n steps s.said s.counted in (
@@ -355,8 +346,7 @@ taken_in_all m IsText begun_as all now new g steps rest sent s none node synced 
         waits = g.waits;
         steps = s.said;
         gathered = s.gathered;
-        node = node;
-        synced = synced;
+        settled = settled;
         sends = parts;
         alive = alive;
       },
@@ -364,22 +354,22 @@ taken_in_all m IsText begun_as all now new g steps rest sent s none node synced 
 
 -- and in each history it has gone on by each of them
 pub gone_in_all : (m : Meaning) (IsText : List ℕ → Type 0) (begun_as : ReplicaValue) (all : List Input) (now new : ReplicaValue) (g : GroupValue) (steps : List Step) (rest : List Input) (sent : List Datagram) → (s : TakenSoFar m IsText begun_as all now g steps rest) → rest ≡ []
-    → new.node ≡ now.node → Settles g.waits now.store new.store → StaysWithin 0 (disks now.store) (disks new.store) → sent ≡ batch_of begun_as.node.header.node g.letters
+    → IsSettled ⊤ now g.waits new → StaysWithin 0 (disks now.store) (disks new.store) → sent ≡ batch_of begun_as.node.header.node g.letters
     → (genesis : Genesis) (n : ℕ) → Remembers begun_as.node begun_as.store genesis n
     → GoesAll (λ (r : ReplicaValue) genesis k x. Stands m r.node r.store genesis k x) (λ (r : ReplicaValue). disk_of (device_of r.store)) m n begun_as all new (parts_of steps sent)
-gone_in_all m IsText begun_as all now new g steps rest sent s none node synced room batch genesis n r =
+gone_in_all m IsText begun_as all now new g steps rest sent s none settled room batch genesis n r =
     let own : begun_as.node.header.node ≡ n = ap (λ (w : HeaderValue). w.node) r.whose in
     let letters : sent ≡ batch_of n (letters_of s.said) = batch ∙ ap (λ (k : ℕ). batch_of k g.letters) own ∙ ap (batch_of n) (sym s.letters) in
     let parts : parts_of steps sent ≡ said_by_steps n s.said = ap (parts_of steps) letters ∙ parts_are n steps s.said s.counted in
     subst (λ (l : List Said). GoesAll (λ (r : ReplicaValue) genesis k x. Stands m r.node r.store genesis k x) (λ (r : ReplicaValue). disk_of (device_of r.store)) m n begun_as all new l) (sym parts)
     (goes_in_memory m n all begun_as new (said_by_steps n s.said)
-    (goes_all m n all begun_as new s.said (goes_to_the_end m IsText begun_as all now new g steps rest s none synced node room genesis n r n)))
+    (goes_all m n all begun_as new s.said (goes_to_the_end m IsText begun_as all now new g steps rest s none settled room genesis n r n)))
 
 -- what was sent every image covers
 pub covered_in_all : (m : Meaning) (IsText : List ℕ → Type 0) (begun_as : ReplicaValue) (all : List Input) (now new : ReplicaValue) (g : GroupValue) (steps : List Step) (rest : List Input) (sent : List Datagram) → TakenSoFar m IsText begun_as all now g steps rest
-    → Settles g.waits now.store new.store → sent ≡ batch_of begun_as.node.header.node g.letters → (genesis : Genesis) (n : ℕ) (x : NodeMessage) → Remembers begun_as.node begun_as.store genesis n
+    → IsSettled ⊤ now g.waits new → sent ≡ batch_of begun_as.node.header.node g.letters → (genesis : Genesis) (n : ℕ) (x : NodeMessage) → Remembers begun_as.node begun_as.store genesis n
     → (d : Datagram) → Contains sent d → Spells (said_by genesis n x) d.bytes → AllCover m genesis n (disks new.store) x
-covered_in_all m IsText begun_as all now new g steps rest sent s synced batch genesis n x r d listed spelled =
+covered_in_all m IsText begun_as all now new g steps rest sent s settled batch genesis n x r d listed spelled =
     let own : begun_as.node.header.node ≡ n = ap (λ (w : HeaderValue). w.node) r.whose in
     let letters : sent ≡ batch_of n g.letters = batch ∙ ap (λ (k : ℕ). batch_of k g.letters) own in
-    settled_covers m genesis n now.node now.store new.store g.waits synced (s.recalls genesis n r) x (s.covered genesis n r x d (subst (λ (l : List Datagram). Contains l d) letters listed) spelled)
+    settled_covers m genesis n now.node now.store new.store g.waits settled.settles (s.recalls genesis n r) x (s.covered genesis n r x d (subst (λ (l : List Datagram). Contains l d) letters listed) spelled)

@@ -2,7 +2,8 @@
 use Rattle.std.specs.Prelude.{◌≡◌, ℕ, ◌+◌, ◌<◌, ◌||◌, Bool, true, false, if◌then◌else◌, List, [], ◌∷◌, ◌++◌, Contains}
 use Rattle.std.specs.List.{AllByRecursion}
 use Rattle.lk_types.specs.declared.entry.Entry.{Entry}
-use Rattle.lk_disk.specs.Disk.{flushed}
+use Rattle.lk_disk.specs.Disk.{Disk, flushed}
+use Rattle.lk_disk.specs.declared.device.Side.{Side}
 use Rattle.lk_disk.specs.Meters.{Passes}
 use Rattle.lk_log.specs.Causes.{put_calls, rebase_calls}
 use Rattle.lk_entries.specs.Entries.{plain}
@@ -25,7 +26,7 @@ use Rattle.lk_types.specs.Limits.{max_count}
 use Rattle.lk_replica.specs.Compacting.{IsDue, Rebases, RebasesWhereDue}
 use Rattle.lk_replica.specs.Faults.{failures_by, RefusedAfter, IsNumberOfCalls}
 use Rattle.lk_replica.specs.Posts.{AreOf}
-use Rattle.lk_replica.specs.Rooms.{max_after}
+use Rattle.lk_replica.specs.Rooms.{GrowsByStep, max_after}
 use Rattle.lk_replica.specs.ReplicaValue.{ReplicaValue}
 use Rattle.lk_node.specs.Calls.{InputFits, NodeFits, Goes}
 use Rattle.lk_node.specs.Entries.{Rests}
@@ -115,13 +116,41 @@ pub record Adds (old new : GroupValue) (Are : List Note → List LetterValue →
 abbrev pub IsCovered : Meaning → Genesis → ℕ → GroupValue → StoreValue → Type 0
 IsCovered m genesis n g s = (x : NodeMessage) (d : Datagram) → Contains (batch_of n g.letters) d → Spells (said_by genesis n x) d.bytes → AllCover m genesis n (disks (as_sent g.waits s)) x
 
+-- What a call leaves on the disks in the middle of a group, however it ends: where the history has what the call was given, each image that a stop may leave
+-- fits the history as it was, in which nothing of the group is sent; each covers what every image covered; and neither file is longer than it was, or else than
+-- so many bytes.
+pub record LeavesInGroup (m : Meaning) (Hears : History → Type 0) (most : ℕ) (node : NodeValue) (store : StoreValue) (waits : Bool) (after : Side → Disk) : Type 0 where
+  pub ends : (h : History) (n : ℕ) → GroupStays m h n node store waits → Hears h → DisksFit m h n after
+  pub covers : (genesis : Genesis) (n : ℕ) (x : NodeMessage) → Recalls node store waits genesis n → AllCover m genesis n (disks store) x → AllCover m genesis n after x
+  pub room : StaysWithin most (disks store) after
+
+-- What a step keeps of a group: where nothing of it is sent, the node fits as it did; its store has what its acceptor holds; and once all is synced that waits
+-- for it, whatever the group has said is covered.
+pub record KeepsGroup (m : Meaning) (Hears : History → Type 0) (node : NodeValue) (store : StoreValue) (group : GroupValue) (new : NodeValue) (after : StoreValue) (now : GroupValue) : Type 0 where
+  pub stays : (h : History) (n : ℕ) → GroupStays m h n node store group.waits → Hears h → GroupStays m h n new after now.waits
+  pub recalls : (genesis : Genesis) (n : ℕ) → Recalls node store group.waits genesis n → Recalls new after now.waits genesis n
+  pub said : (genesis : Genesis) (n : ℕ) → Recalls node store group.waits genesis n → IsCovered m genesis n group store → IsCovered m genesis n now after
+
 -- ---- what the steps of a group have done, that and nothing else
 
 -- how many changing calls of the device the sync takes
 abbrev pub settle_calls : Bool → ℕ
 settle_calls waits = if waits then 1 else 0
 
--- and what a step writes: its entries, or a Base, after a sync where something waited for that
+-- how many it takes to make room: those of a rebase, where that is due, after a sync where something waits for that
+pub record CallsOfRoom (node : NodeValue) (store : StoreValue) (waits : Bool) (k : ℕ) : Type 0 where
+  pub due : IsDue node store → k ≡ settle_calls waits + rebase_calls
+  pub rests : (IsDue node store → ⊥) → k ≡ 0
+
+-- Room was made for a step: a rebase was made where that was due, after a sync where something waited for that; after a rebase nothing waits. A device that
+-- counts its calls (`Metered`) has had no others.
+pub record MakesRoom (Metered : Type 0) (node : NodeValue) (store : StoreValue) (waits : Bool) (new : NodeValue) (after : StoreValue) (still : Bool) : Type 0 where
+  pub rebases : RebasesWhereDue node store new after
+  pub synced : IsDue node store → still ≡ false
+  pub rests : (IsDue node store → ⊥) → still ≡ waits
+  pub calls : Metered → (k : ℕ) × CallsOfRoom node store waits k × Passes store.meter after.meter k
+
+-- how many calls a step writes by: those of its entries, or of a Base, after a sync where something waited for that
 abbrev pub gather_calls : Bool → OutboxValue → ℕ
 gather_calls waits out = if out.rebase then settle_calls waits + rebase_calls else put_calls out.entries false
 
@@ -129,27 +158,37 @@ gather_calls waits out = if out.rebase then settle_calls waits + rebase_calls el
 abbrev pub Appends : StoreValue → OutboxValue → StoreValue → Type 0
 Appends old out new = (ks ls : List Stored) → Holds old ks ls → Holds new ks (ls ++ plain out.entries)
 
--- a step was taken, and what its outbox says is written, unsynced, in the calls that this takes of a device that counts them (`Metered`)
+-- a step was taken, and what its outbox says is written, unsynced, by which neither file grows by more than a step; in the calls that this takes of a device
+-- that counts them (`Metered`)
 pub record StepsToFile (m : Meaning) (IsText : List ℕ → Type 0) (Metered : Type 0) (node : NodeValue) (store : StoreValue) (waits : Bool) (i : Input) (out : OutboxValue) (new : NodeValue) (after : StoreValue) : Type 0 where
   pub stepped : NodeValue
   pub steps : Steps m IsText node i stepped out
   pub rebases : out.rebase ≡ true → Rebases stepped store new after
   pub puts : out.rebase ≡ false → (new ≡ stepped) × Appends store out after
+  pub grows : out.rebase ≡ false → GrowsByStep (disks store) (disks after)
   pub calls : Metered → Passes store.meter after.meter (gather_calls waits out)
 
--- one more input of a group was taken: a rebase was made where that was due, a step was taken, and what its outbox says is written, unsynced; its notes and its
--- letters stand behind those of the steps before it, and nothing else was done
-pub record IsGathered (m : Meaning) (IsText : List ℕ → Type 0) (node : NodeValue) (store : StoreValue) (before : GroupValue) (i : Input) (new : NodeValue) (after : StoreValue) (now : GroupValue) : Type 0 where
+-- One more input of a group was taken: room was made for it, a step was taken, and what its outbox says is written, unsynced; its notes and its letters stand
+-- behind those of the steps before it, the group waits for a sync exactly where something that it has written does, and nothing else was done.
+pub record IsGathered (m : Meaning) (IsText : List ℕ → Type 0) (Metered : Type 0) (node : NodeValue) (store : StoreValue) (before : GroupValue) (i : Input) (new : NodeValue) (after : StoreValue) (now : GroupValue) : Type 0 where
   pub mid : NodeValue
   pub between : StoreValue
-  pub rebases : RebasesWhereDue node store mid between
   pub waits : Bool
+  pub room : MakesRoom Metered node store before.waits mid between waits
   pub out : OutboxValue
-  pub steps : StepsToFile m IsText ⊥ mid between waits i out new after
+  pub steps : StepsToFile m IsText Metered mid between waits i out new after
   pub adds : now ≡ with_step waits out before
 
+-- What waited for a sync is synced, in one call, and nothing else was done.
+pub record IsSettled (Metered : Type 0) (old : ReplicaValue) (waits : Bool) (new : ReplicaValue) : Type 0 where
+  pub lived : old.failed ≡ false
+  pub node : new.node ≡ old.node
+  pub settles : Settles waits old.store new.store
+  pub calls : Metered → Passes old.store.meter new.store.meter (settle_calls waits)
+  pub store_alive : old.store.failed ≡ false → new.store.failed ≡ false
+
 -- A call of a group was refused with the fault of this number, as one of `take` is (`IsRefused`), and has ended the replica: nothing of the group is sent.
--- What the files then have `ends` and `covers` say.
+-- What the files then have `disks` says.
 pub record IsRefusedInGroup (Honest Metered : Type 0) (old new : ReplicaValue) (number : ℕ) : Type 0 where
   pub told : IsNumberOfCalls number
   pub no_send : number ≡ 15 → ⊥

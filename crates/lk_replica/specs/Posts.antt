@@ -44,6 +44,11 @@ abbrev pub SendsAs : {T E : Type 0} → Result T E → List LetterValue → (old
 SendsAs (Ok _) letters old new before now = new ≡ old ++ letters
 SendsAs (Err _) letters old new before now = SendsSome letters old new before now
 
+-- whether all of them were sent, by the count of failures: where some were not, that many sends have failed
+abbrev pub TellsSends : Bool → (before now : ℕ) → Type 0
+TellsSends true before now = now ≡ before
+TellsSends false before now = (lost : ℕ) × (lost ≢ 0) × (now ≡ more_by lost before)
+
 -- a refusal of this number has given nothing to the post, but for 15, after which some of the sends have failed
 pub record RefusesSends {P : Type 0} (number : ℕ) (old new : P) (before now : ℕ) : Type 0 where
   pub silent : (number ≡ 15 → ⊥) → new ≡ old

@@ -19,3 +19,7 @@ GrowsByStep old new = (s : Side) → length (contents (new s)) ≤ length (conte
 -- nor has it apart from a Base, which may stand in the place of what the file held
 abbrev pub GrowsFromBase : (Side → Disk) → (Side → Disk) → Type 0
 GrowsFromBase old new = (s : Side) → length (contents (new s)) ≤ max (length (contents (old s))) max_base + max_step
+
+-- so of this many steps
+abbrev pub GrowsBySteps : ℕ → (Side → Disk) → (Side → Disk) → Type 0
+GrowsBySteps steps old new = (s : Side) → length (contents (new s)) ≤ max (length (contents (old s))) max_base + max_step * steps

@@ -1,5 +1,5 @@
 -- What a group of inputs comes to, step by step, where a replica takes them together.
-use Rattle.std.specs.Prelude.{◌≡◌, ◌⊎◌, ℕ, Bool, true, false, List, [], ◌∷◌, ◌++◌, length, map, take, drop, Option, Result, Ok, Err, ⊤}
+use Rattle.std.specs.Prelude.{◌≡◌, ◌⊎◌, ℕ, Bool, true, false, List, [], ◌∷◌, ◌++◌, map, take, drop, Option, Result, Ok, Err, ⊤}
 use Rattle.lk_disk.specs.Disk.{Disk}
 use Rattle.lk_disk.specs.declared.device.Side.{Side}
 use Rattle.lk_log.specs.Rooms.{StaysWithin}
@@ -12,7 +12,7 @@ use Rattle.lk_node.specs.Calls.{heard_by, InputFits, NodeFits, Goes}
 use Rattle.lk_node.specs.Histories.{History, Genesis, Datagram}
 use Rattle.lk_node.specs.Holdings.{Holding}
 use Rattle.lk_node.specs.NodeValue.{NodeValue}
-use Rattle.lk_replica.specs.Groups.{GroupValue, IsGathered, IsRefusedInGroup, Settles, StepSaid}
+use Rattle.lk_replica.specs.Groups.{GroupValue, IsGathered, IsRefusedInGroup, IsSettled, StepSaid}
 use Rattle.lk_replica.specs.ReplicaValue.{ReplicaValue}
 use Rattle.lk_replica.specs.Rooms.{max_after}
 use Rattle.lk_replica.specs.declared.taken.Step.{Step}
@@ -63,7 +63,7 @@ abbrev pub GathersAll : Meaning → (List ℕ → Type 0) → NodeValue → Stor
 GathersAll m IsText node store waits [] new after still steps = (new ≡ node) × (after ≡ store) × (still ≡ waits) × (steps ≡ [])
 GathersAll m IsText node store waits (i ∷ is) new after still steps =
     (mid : NodeValue) × (between : StoreValue) × (one : GroupValue) × (rest : List StepSaid) × (steps ≡ (one.notes, one.letters) ∷ rest)
-    × IsGathered m IsText node store (record { notes = []; letters = []; waits = waits }) i mid between one
+    × IsGathered m IsText ⊤ node store (record { notes = []; letters = []; waits = waits }) i mid between one
     × GathersAll m IsText mid between one.waits is new after still rest
 
 -- these were given to the replica, and it gathered them, after which it was so
@@ -79,8 +79,7 @@ pub record IsTakenTogether (m : Meaning) (IsText : List ℕ → Type 0) (old : R
   pub waits : Bool
   pub steps : List StepSaid
   pub gathered : IsGatheredFrom m IsText old inputs mid waits steps
-  pub node : new.node ≡ mid.node
-  pub synced : Settles waits mid.store new.store
+  pub settled : IsSettled ⊤ mid waits new
   pub sends : said ≡ said_by_steps old.node.header.node steps
   pub alive : new.failed ≡ false
 
@@ -92,8 +91,7 @@ pub record IsNotKept (mid new : ReplicaValue) (number : ℕ) : Type 0 where
 -- memory was refused for what was to be sent, once it was synced
 pub record IsNotSent (mid : ReplicaValue) (waits : Bool) (new : ReplicaValue) (number : ℕ) : Type 0 where
   pub not_sent : number ≡ 15
-  pub node : new.node ≡ mid.node
-  pub synced : Settles waits mid.store new.store
+  pub settled : IsSettled ⊤ mid waits new
 
 -- it gathered the first of these, and then a call was refused so; nothing was sent
 pub record IsTogetherRefused (m : Meaning) (IsText : List ℕ → Type 0) (old : ReplicaValue) (given : List (Option (List ℕ))) (new : ReplicaValue) (number : ℕ) : Type 0 where

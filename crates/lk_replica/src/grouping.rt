@@ -1,6 +1,5 @@
 // Steps of a group: what they tell to write is written unsynced, and synced once before what they say is sent.
-ghost use Rattle.std.specs.Prelude.{◌≡◌, ℕ, ◌-◌, ◌++◌, ◌≤◌, ◌<◌, List, [], length, true, false, Contains, IfOk, IfErr, OnOk, OnErr, IsErrOf, ⊤};
-ghost use Rattle.std.specs.List.{AllByRecursion};
+ghost use Rattle.std.specs.Prelude.{◌≡◌, ℕ, ◌-◌, ◌<◌, List, [], length, true, false, Contains, IfOk, IfErr, OnOk, OnErr, IsErrOf, ⊤};
 ghost use Rattle.lk_types.specs.Limits.{max_base};
 ghost use Rattle.lk_disk.specs.Disk.{contents};
 ghost use Rattle.lk_disk.specs.Meters.{Passes};
@@ -17,12 +16,10 @@ ghost use Rattle.lk_node.specs.Histories.{History, Genesis};
 ghost use Rattle.lk_node.specs.Keeping.{Stands};
 ghost use Rattle.lk_node.specs.Leavings.{DisksFit, AllCover};
 ghost use Rattle.lk_replica.specs.Faults.{RaisesFailures, fault_number};
-ghost use Rattle.lk_replica.specs.Groups.{Adds, IsCovered, StepsToFile, IsGathered, StepSaid, letters_of, GoesThrough, IsRefusedInGroup, settle_calls, as_sent, waits_after, with_step, Settles, Recalls, GroupFits, GroupGoes, GroupStays};
-ghost use Rattle.lk_replica.specs.Posts.{AreOf, CarriesAll, GivesLetters};
-ghost use Rattle.lk_replica.specs.Compacting.{RebasesWhereDue};
-ghost use Rattle.lk_replica.specs.Remembering.{Remembers};
+ghost use Rattle.lk_replica.specs.Groups.{Adds, IsCovered, LeavesInGroup, KeepsGroup, MakesRoom, StepsToFile, IsGathered, IsSettled, IsRefusedInGroup, settle_calls, as_sent, waits_after, with_step, Settles, Recalls, GroupFits, GroupGoes, GroupStays};
+ghost use Rattle.lk_replica.specs.Posts.{AreOf, CarriesAll, TellsSends};
 ghost use Rattle.lk_replica.specs.Rebased.{IsNotWritten, StaysAlive};
-ghost use Rattle.lk_replica.specs.Rooms.{max_after};
+ghost use Rattle.lk_replica.specs.Rooms.{GrowsFromBase, max_after};
 ghost use Rattle.lk_replica.specs.Taking.{IsCutShort};
 
 use crate::compacting::{is_due, write_base};
@@ -83,13 +80,6 @@ impl Group {
         &self.letters
     }
 
-    /// How many letters it has said.
-    pub fn count(&self) -> usize
-        ensures { result ≡ length self.now.letters }
-    {
-        self.letters.len()
-    }
-
     /// Whether something that was written waits for a sync.
     pub fn waits(&self) -> bool
         ensures { result ≡ self.now.waits }
@@ -136,7 +126,8 @@ impl Group {
 
 // Sends the letters in order, and tells whether all were sent.
 fn are_sent<P: Post>(letters: &[Letter], post: &mut P) -> bool
-    ensures { CarriesAll P.Carries post.old letters.now post.new }
+    ensures carries { CarriesAll P.Carries post.old letters.now post.new }
+    ensures tells { TellsSends result (P.failures post.old) (P.failures post.new) }
 {
     match deliver(letters, post) {
         Ok(()) => true,
@@ -191,6 +182,7 @@ fn step_to_file<M: Machine, D: LogDisk + Drop>(
     ensures recalls { D.is_honest → (genesis : Genesis) (n : ℕ) → Recalls node.old store.old waits genesis n → IfOk result (λ o. Recalls node.new store.new (waits_after waits o) genesis n) }
     ensures runs { NothingToRun node.old → OnOk result (NothingToRun node.new) }
     ensures room { D.is_honest → length (contents store.old.live_disk) < 131072 → StaysWithin max_after (disks store.old) (disks store.new) }
+    ensures grows { D.is_honest → GrowsFromBase (disks store.old) (disks store.new) }
     ensures exact { D.is_honest → IfOk result (λ o. StepsToFile M.meaning M.IsText D.is_metered node.old store.old waits input.entry o node.new store.new) }
     ensures alive { IfOk result (λ o. (store.new.failed ≡ false) × (node.new.halted ≡ false)) }
     ensures refused { IfErr result (IsCutShort D.is_honest D.is_metered 1 node.old store.old node.new store.new (KeepsItsFile store.old store.new) ⊤) }
@@ -222,14 +214,12 @@ fn make_room<M: Machine, D: LogDisk + Drop>(
     ensures covers { D.is_honest → (genesis : Genesis) (n : ℕ) (x : NodeMessage) → Recalls node.old store.old waits genesis n → AllCover M.meaning genesis n (disks store.old) x → AllCover M.meaning genesis n (disks store.new) x }
     ensures recalls { D.is_honest → (genesis : Genesis) (n : ℕ) → Recalls node.old store.old waits genesis n → IfOk result (λ w. Recalls node.new store.new w genesis n) }
     ensures room { D.is_honest → StaysWithin max_base (disks store.old) (disks store.new) }
-    ensures exact { D.is_honest → OnOk result (RebasesWhereDue node.old store.old node.new store.new) }
-    ensures calls { D.is_metered → D.is_honest → OnOk result ((k : ℕ) × Passes store.old.meter store.new.meter k) }
+    ensures exact { D.is_honest → IfOk result (MakesRoom D.is_metered node.old store.old waits node.new store.new) }
     ensures alive { OnOk result (StaysAlive node.old store.old node.new store.new) }
     ensures refused { IfErr result (IsCutShort D.is_honest D.is_metered 1 node.old store.old node.new store.new (KeepsItsFile store.old store.new) ⊤) }
     ensures wakes { node.new.halted ≡ node.old.halted }
     // Then the live file has room for a step.
     ensures small { D.is_honest → OnOk result (length (contents store.new.live_disk) < 131072) }
-    ensures runs { NothingToRun node.old → OnOk result (NothingToRun node.new) }
     ensures format { store.new.format ≡ 2 }
     ensures cause { RaisesFailures store.old.failures store.new.failures result }
 {
@@ -252,19 +242,11 @@ fn gather_on<M: Machine, D: LogDisk + Drop>(
     requires { store.old.format ≡ 2 }
     ensures goes { D.is_honest → OnOk result (Adds group.old group.new (λ notes letters. (h : History) (n : ℕ) → GroupFits M.meaning h n node.old store.old group.old.waits → InputFits h input.entry
         → (sent : List LetterValue) → AreOf sent letters → GroupGoes M.meaning h n node.new store.new group.new.waits notes (batch_of n sent))) }
-    ensures ends { D.is_honest → (h : History) (n : ℕ) → GroupStays M.meaning h n node.old store.old group.old.waits → InputFits h input.entry → DisksFit M.meaning h n (disks store.new) }
-    ensures stays { D.is_honest → (h : History) (n : ℕ) → GroupStays M.meaning h n node.old store.old group.old.waits → InputFits h input.entry
-        → OnOk result (GroupStays M.meaning h n node.new store.new group.new.waits) }
-    ensures syncs { D.is_honest → (genesis : Genesis) (n : ℕ) (x : NodeMessage) → Recalls node.old store.old group.old.waits genesis n
-        → OnOk result (Adds group.old group.new (λ notes letters. (d : DatagramValue) → Contains (batch_of n letters) d → Spells (said_by genesis n x) d.bytes → AllCover M.meaning genesis n (disks (as_sent group.new.waits store.new)) x)) }
-    ensures still { D.is_honest → (genesis : Genesis) (n : ℕ) (x : NodeMessage) → Recalls node.old store.old group.old.waits genesis n → AllCover M.meaning genesis n (disks (as_sent group.old.waits store.old)) x
-        → OnOk result (AllCover M.meaning genesis n (disks (as_sent group.new.waits store.new)) x) }
-    ensures covers { D.is_honest → (genesis : Genesis) (n : ℕ) (x : NodeMessage) → Recalls node.old store.old group.old.waits genesis n → AllCover M.meaning genesis n (disks store.old) x → AllCover M.meaning genesis n (disks store.new) x }
-    ensures recalls { D.is_honest → (genesis : Genesis) (n : ℕ) → Recalls node.old store.old group.old.waits genesis n → OnOk result (Recalls node.new store.new group.new.waits genesis n) }
+    ensures disks { D.is_honest → LeavesInGroup M.meaning (λ h. InputFits h input.entry) max_after node.old store.old group.old.waits (disks store.new) }
+    ensures grows { D.is_honest → GrowsFromBase (disks store.old) (disks store.new) }
+    ensures keeps { D.is_honest → OnOk result (KeepsGroup M.meaning (λ h. InputFits h input.entry) node.old store.old group.old node.new store.new group.new) }
     ensures runs { NothingToRun node.old → OnOk result (NothingToRun node.new) }
-    ensures room { D.is_honest → StaysWithin max_after (disks store.old) (disks store.new) }
-    ensures exact { D.is_honest → OnOk result (IsGathered M.meaning M.IsText node.old store.old group.old input.entry node.new store.new group.new) }
-    ensures calls { D.is_metered → D.is_honest → OnOk result ((k : ℕ) × Passes store.old.meter store.new.meter k) }
+    ensures exact { D.is_honest → OnOk result (IsGathered M.meaning M.IsText D.is_metered node.old store.old group.old input.entry node.new store.new group.new) }
     ensures alive { OnOk result ((store.new.failed ≡ false) × (node.new.halted ≡ false)) }
     ensures refused { IfErr result (IsCutShort D.is_honest D.is_metered 2 node.old store.old node.new store.new ⊤ ⊤) }
     ensures format { store.new.format ≡ 2 }
@@ -287,21 +269,14 @@ impl<M: Machine, D: LogDisk + Drop> Replica<M, D> {
             → (h : History) (n : ℕ) → NodeFits M.meaning h n (Stands M.meaning self.old.node (as_sent group.old.waits self.old.store) h.genesis n) (disks (as_sent group.old.waits self.old.store)) → InputFits h input.entry
             → (sent : List LetterValue) → AreOf sent letters
             → Goes M.meaning h n (Stands M.meaning self.new.node (as_sent group.new.waits self.new.store) h.genesis n) (disks (as_sent group.new.waits self.new.store)) notes (batch_of n sent))) }
-        // In a history in which nothing of it is sent, whatever a stop may leave fits, after any exit.
-        ensures ends { D.is_honest → (h : History) (n : ℕ) → GroupStays M.meaning h n self.old.node self.old.store group.old.waits → InputFits h input.entry → DisksFit M.meaning h n (disks self.new.store) }
-        ensures stays { D.is_honest → (h : History) (n : ℕ) → GroupStays M.meaning h n self.old.node self.old.store group.old.waits → InputFits h input.entry
-            → OnOk result (GroupStays M.meaning h n self.new.node self.new.store group.new.waits) }
-        // Once all is synced that waits for that, whatever the group has said is covered.
-        ensures said { D.is_honest → (genesis : Genesis) (n : ℕ) → Recalls self.old.node self.old.store group.old.waits genesis n → IsCovered M.meaning genesis n group.old self.old.store
-            → OnOk result (IsCovered M.meaning genesis n group.new self.new.store) }
-        // After any exit whatever was covered is.
-        ensures covers { D.is_honest → (genesis : Genesis) (n : ℕ) (x : NodeMessage) → Recalls self.old.node self.old.store group.old.waits genesis n → AllCover M.meaning genesis n (disks self.old.store) x → AllCover M.meaning genesis n (disks self.new.store) x }
-        ensures recalls { D.is_honest → (genesis : Genesis) (n : ℕ) → Recalls self.old.node self.old.store group.old.waits genesis n → OnOk result (Recalls self.new.node self.new.store group.new.waits genesis n) }
-        // Neither file has grown above half of what a file may hold, and a step: before each step it is looked whether a rebase is due.
-        ensures room { D.is_honest → StaysWithin max_after (disks self.old.store) (disks self.new.store) }
-        // It has taken a step and written what that told, and nothing else.
-        ensures exact { D.is_honest → OnOk result (IsGathered M.meaning M.IsText self.old.node self.old.store group.old input.entry self.new.node self.new.store group.new) }
-        ensures calls { D.is_metered → D.is_honest → OnOk result ((k : ℕ) × Passes self.old.store.meter self.new.store.meter k) }
+        // What is on the disks after any exit, where nothing of the group is sent. Before each step it is looked whether a rebase is due: so neither file has grown
+        // above half of what a file may hold, and a step, nor by more than a step apart from a Base.
+        ensures disks { D.is_honest → LeavesInGroup M.meaning (λ h. InputFits h input.entry) max_after self.old.node self.old.store group.old.waits (disks self.new.store) }
+        ensures grows { D.is_honest → GrowsFromBase (disks self.old.store) (disks self.new.store) }
+        // The group goes on where nothing of it is sent, and what it has said is covered once all is synced that waits for that.
+        ensures keeps { D.is_honest → OnOk result (KeepsGroup M.meaning (λ h. InputFits h input.entry) self.old.node self.old.store group.old self.new.node self.new.store group.new) }
+        // It has taken a step and written what that told, in the calls that this takes, and nothing else.
+        ensures exact { D.is_honest → OnOk result (IsGathered M.meaning M.IsText D.is_metered self.old.node self.old.store group.old input.entry self.new.node self.new.store group.new) }
         // Nothing but 7, 8, 11 and 14 comes, each for its cause, and each ends it.
         ensures refused { IfErr result (λ e. IsRefusedInGroup D.is_honest D.is_metered self.old self.new (fault_number e)) }
         ensures failed { self.old.failed ≡ true → IsErrOf result ReplicaFault.Failed }
@@ -317,30 +292,6 @@ impl<M: Machine, D: LogDisk + Drop> Replica<M, D> {
         Ok(())
     }
 
-    /// Takes inputs as one group: each as `gather` does, in order, and then `release`. It tells whether all was sent.
-    pub fn take_all<P: Post>(
-        &mut self,
-        inputs: Vec<Input<'_>>,
-        post: &mut P,
-    ) -> Result<bool, ReplicaFault>
-        // Where it goes on, it has gone on by each input in order, as by a call of `take`; the letters of all steps were given to the post, in order, once all is synced.
-        ensures goes { D.is_honest → (genesis : Genesis) (k : ℕ) → Remembers self.old.node self.old.store genesis k
-            → IfOk result (λ all. (said : List StepSaid) × CarriesAll P.Carries post.old (letters_of said) post.new × ((n : ℕ) → GoesThrough M.meaning n self.old inputs.entry.items self.new said)) }
-        // Sync before send: whatever was sent every image covers.
-        ensures syncs { D.is_honest → (genesis : Genesis) (n : ℕ) (x : NodeMessage) → Remembers self.old.node self.old.store genesis n
-            → GivesLetters P.Carries post.old post.new (λ letters. (d : DatagramValue) → Contains (batch_of n letters) d → Spells (said_by genesis n x) d.bytes → AllCover M.meaning genesis n (disks self.new.store) x) }
-        // Whatever a stop may leave fits to each history to which the node fitted, after any exit.
-        ensures ends { D.is_honest → (h : History) (n : ℕ) → NodeFits M.meaning h n (Stands M.meaning self.old.node self.old.store h.genesis n) (disks self.old.store) → AllByRecursion (InputFits h) inputs.entry.items
-            → OnErr result (DisksFit M.meaning h n (disks self.new.store)) }
-    {
-        let mut group = Group::new(self.alloc);
-        'inputs: for input in inputs {
-            self.gather(input, &mut group)?;
-        }
-        let all = self.release(&group, post)?;
-        Ok(all)
-    }
-
     /// Ends a group: syncs once, where a promise or a vote of it waits for that, and then sends what it has said, in order. It tells whether all was sent.
     ///
     /// It refuses with `Device` (7), `NoMemory` (8) and `Failed` (11), and then nothing of the group is sent.
@@ -349,31 +300,24 @@ impl<M: Machine, D: LogDisk + Drop> Replica<M, D> {
         ensures fits { D.is_honest → (genesis : Genesis) (k : ℕ) → Recalls self.old.node self.old.store group.now.waits genesis k
             → (h : History) (n : ℕ) → NodeFits M.meaning h n (Stands M.meaning self.old.node (as_sent group.now.waits self.old.store) h.genesis n) (disks (as_sent group.now.waits self.old.store))
             → IfOk result (λ all. NodeFits M.meaning h n (Stands M.meaning self.new.node self.new.store h.genesis n) (disks self.new.store)) }
-        ensures ends { D.is_honest → (h : History) (n : ℕ) → GroupStays M.meaning h n self.old.node self.old.store group.now.waits → DisksFit M.meaning h n (disks self.new.store) }
+        // What is on the disks after any exit, where nothing of the group is sent: neither file has grown.
+        ensures disks { D.is_honest → LeavesInGroup M.meaning (λ h. ⊤) 0 self.old.node self.old.store group.now.waits (disks self.new.store) }
         // Sync before send: whatever the group has said every image covers.
         ensures syncs { D.is_honest → (genesis : Genesis) (n : ℕ) (x : NodeMessage) → Recalls self.old.node self.old.store group.now.waits genesis n → IsCovered M.meaning genesis n group.now self.old.store
             → IfOk result (λ all. (d : DatagramValue) → Contains (batch_of n group.now.letters) d → Spells (said_by genesis n x) d.bytes → AllCover M.meaning genesis n (disks self.new.store) x) }
-        ensures covers { D.is_honest → (genesis : Genesis) (n : ℕ) (x : NodeMessage) → Recalls self.old.node self.old.store group.now.waits genesis n → AllCover M.meaning genesis n (disks self.old.store) x → AllCover M.meaning genesis n (disks self.new.store) x }
         // The letters were given to the post in order, each once, and nothing else; after a refusal none was.
         ensures gives { IfOk result (λ all. CarriesAll P.Carries post.old group.now.letters post.new) }
+        ensures tells { IfOk result (λ all. TellsSends all (P.failures post.old) (P.failures post.new)) }
         ensures silent { OnErr result (post.new ≡ post.old) }
-        ensures room { D.is_honest → StaysWithin 0 (disks self.old.store) (disks self.new.store) }
-        // It has synced what waited for that, and has done nothing else.
-        ensures exact { D.is_honest → IfOk result (λ all. (self.old.failed ≡ false) × (self.new.node ≡ self.old.node) × Settles group.now.waits self.old.store self.new.store
-            × (self.old.store.failed ≡ false → self.new.store.failed ≡ false)) }
-        ensures calls { D.is_metered → D.is_honest → IfOk result (λ all. Passes self.old.store.meter self.new.store.meter (settle_calls group.now.waits)) }
+        // It has synced once what waited for that, and has done nothing else.
+        ensures exact { D.is_honest → OnOk result (IsSettled D.is_metered self.old group.now.waits self.new) }
         // Nothing but 7, 8 and 11 comes, each for its cause, and each ends it.
         ensures refused { IfErr result (λ e. IsRefusedInGroup D.is_honest D.is_metered self.old self.new (fault_number e)) }
-        ensures alive { IfOk result (λ all. self.new.failed ≡ false) }
+        ensures alive { OnOk result (self.new.failed ≡ false) }
         ensures cause { RaisesFailures self.old.store.failures self.new.store.failures result }
     {
-        if self.failed {
-            return Err(ReplicaFault::Failed);
-        }
-        self.failed = true;
-        settle(&mut self.store, group.waits)?;
-        self.failed = false;
-        let all = are_sent(&group.letters, post);
+        self.end_group(group.waits())?;
+        let all = are_sent(group.letters(), post);
         Ok(all)
     }
 }

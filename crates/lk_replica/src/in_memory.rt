@@ -10,6 +10,7 @@ ghost use Rattle.lk_replica.specs.Together.{ComesToAll};
 
 use crate::collected::{Collected, datagrams};
 use crate::fault::ReplicaFault;
+use crate::grouping::Group;
 use crate::memory_replica::{MemoryReplica, ReviveFault, Revived};
 use crate::replica::Replica;
 use crate::taken::{Taken, TakenAll};
@@ -78,10 +79,10 @@ impl<M: Machine> MemoryReplica for Replica<M, MemoryDisk> {
     fn take_all(&mut self, inputs: Vec<Input<'_>>) -> Result<TakenAll, ReplicaFault> {
         let node = self.number();
         let alloc = self.alloc();
-        let mut group = self.begin_group();
-        let mut steps = self.no_steps();
+        let mut group = Group::new(alloc);
+        let mut steps = Vec::new(alloc);
         'inputs: for input in inputs {
-            let before = group.count();
+            let before = group.letters().len();
             self.gather(input, &mut group)?;
             let step = group.take_step(alloc, before);
             self.keep(&mut steps, step)?;

@@ -1,5 +1,5 @@
 -- What a replica says by what it is given, as one group: all of it is taken, one after another, and synced once, before anything is said.
-use Rattle.std.specs.Prelude.{◌≡◌, ◌≢◌, ◌⊎◌, ℕ, true, false, List, [], ◌∷◌, ◌++◌, map, Option, Contains}
+use Rattle.std.specs.Prelude.{◌≡◌, ◌≢◌, ◌⊎◌, ℕ, true, false, List, [], ◌∷◌, ◌++◌, length, map, Option, Contains}
 use Rattle.std.specs.List.{AllByRecursion}
 use Rattle.lk_disk.specs.Disk.{Disk}
 use Rattle.lk_disk.specs.Meters.{Passes}
@@ -16,32 +16,33 @@ use Rattle.lk_node.specs.Histories.{History, Genesis, Datagram}
 use Rattle.lk_node.specs.Keeping.{Stands}
 use Rattle.lk_node.specs.Leavings.{DisksFit, AllCover}
 use Rattle.lk_node.specs.NodeValue.{NodeValue}
-use Rattle.lk_replica.specs.Groups.{GroupValue, StepSaid, letters_of, IsGathered, GoesThrough, GroupStays, IsCovered, Recalls, Settles, as_sent}
+use Rattle.lk_replica.specs.Groups.{GroupValue, StepSaid, letters_of, IsGathered, GoesThrough, GroupStays, IsCovered, Recalls, Settles, as_sent, settle_calls}
 use Rattle.lk_replica.specs.Remembering.{Remembers}
 use Rattle.lk_replica.specs.ReplicaValue.{ReplicaValue}
-use Rattle.lk_replica.specs.Rooms.{max_after}
+use Rattle.lk_replica.specs.Rooms.{GrowsBySteps, max_after}
 
 -- a group that has taken nothing
 abbrev pub nothing_taken : GroupValue
 nothing_taken = record { notes = []; letters = []; waits = false }
 
--- these inputs were taken into a group one after another, and this is what each step noted and said
-abbrev pub AreGathered : Meaning → (List ℕ → Type 0) → NodeValue → StoreValue → GroupValue → List Input → List StepSaid → NodeValue → StoreValue → GroupValue → Type 0
-AreGathered m IsText node store group [] said new after now = (said ≡ []) × (new ≡ node) × (after ≡ store) × (now ≡ group)
-AreGathered m IsText node store group (i ∷ inputs) said new after now =
-    (mid : NodeValue) × (between : StoreValue) × (gathered : GroupValue) × (taken : IsGathered m IsText node store group i mid between gathered)
-    × (rest : List StepSaid) × (said ≡ (taken.out.notes, taken.out.letters) ∷ rest) × AreGathered m IsText mid between gathered inputs rest new after now
+-- these inputs were taken into a group one after another, and this is what each step noted and said; each made the calls that it takes of a device that
+-- counts them (`Metered`)
+abbrev pub AreGathered : Meaning → (List ℕ → Type 0) → Type 0 → NodeValue → StoreValue → GroupValue → List Input → List StepSaid → NodeValue → StoreValue → GroupValue → Type 0
+AreGathered m IsText Metered node store group [] said new after now = (said ≡ []) × (new ≡ node) × (after ≡ store) × (now ≡ group)
+AreGathered m IsText Metered node store group (i ∷ inputs) said new after now =
+    (mid : NodeValue) × (between : StoreValue) × (gathered : GroupValue) × (taken : IsGathered m IsText Metered node store group i mid between gathered)
+    × (rest : List StepSaid) × (said ≡ (taken.out.notes, taken.out.letters) ∷ rest) × AreGathered m IsText Metered mid between gathered inputs rest new after now
 
--- a replica has taken these inputs as one group, one after another, each with these notes and letters; then it has synced what waited for that, and has done
--- nothing else. It goes on
+-- a replica has taken these inputs as one group, one after another, each with these notes and letters; then it has synced once what waited for that, and has
+-- done nothing else. It goes on
 pub record IsGroupTaken (m : Meaning) (IsText : List ℕ → Type 0) (Metered : Type 0) (old : ReplicaValue) (inputs : List Input) (said : List StepSaid) (new : ReplicaValue) : Type 0 where
   pub node : NodeValue
   pub store : StoreValue
   pub group : GroupValue
-  pub steps : AreGathered m IsText old.node old.store nothing_taken inputs said node store group
+  pub steps : AreGathered m IsText Metered old.node old.store nothing_taken inputs said node store group
   pub same : new.node ≡ node
   pub settles : Settles group.waits store new.store
-  pub calls : Metered → (k : ℕ) × Passes old.store.meter new.store.meter k
+  pub calls : Metered → Passes store.meter new.store.meter (settle_calls group.waits)
   pub alive : new.failed ≡ false
   pub store_alive : inputs ≢ [] → new.store.failed ≡ false
   pub awake : inputs ≢ [] → new.node.halted ≡ false
@@ -64,11 +65,13 @@ pub record IsSilenced (letters : List LetterValue) (new : ReplicaValue) : Type 0
   pub ended : new.failed ≡ true
 
 -- what a group leaves on the disks, however it ends: where the history has all that it was given, each image that a stop may leave fits the history as it was;
--- each covers what every image covered; and neither file is longer than it was, or else than so many bytes
-pub record GroupLeaves (m : Meaning) (Hears : History → Type 0) (most : ℕ) (node : NodeValue) (store : StoreValue) (after : Side → Disk) : Type 0 where
+-- each covers what every image covered; and neither file is longer than it was, or else than so many bytes, nor has it grown by more than so many steps apart
+-- from a Base
+pub record GroupLeaves (m : Meaning) (Hears : History → Type 0) (most steps : ℕ) (node : NodeValue) (store : StoreValue) (after : Side → Disk) : Type 0 where
   pub ends : (h : History) (n : ℕ) → NodeFits m h n (Stands m node store h.genesis n) (disks store) → Hears h → DisksFit m h n after
   pub covers : (genesis : Genesis) (n : ℕ) (x : NodeMessage) → Remembers node store genesis n → AllCover m genesis n (disks store) x → AllCover m genesis n after x
   pub room : StaysWithin most (disks store) after
+  pub grows : GrowsBySteps steps (disks store) after
 
 -- so, or so; and however it ends, whatever a stop may leave of its disks fits, covers what every image covered, and is not long. One that a call has
 -- ended stays as it is
@@ -76,7 +79,7 @@ pub record SaysOf (m : Meaning) (IsText : List ℕ → Type 0) (Metered : Type 0
   pub inputs : List Input
   pub are_given : map heard_by inputs ≡ given
   pub comes : SaysByGroup m IsText Metered old given letters new ⊎ IsSilenced letters new
-  pub leaves : GroupLeaves m (λ h. AllByRecursion (InputFits h) inputs) max_after old.node old.store (disks new.store)
+  pub leaves : GroupLeaves m (λ h. AllByRecursion (InputFits h) inputs) max_after (length inputs) old.node old.store (disks new.store)
   pub once : old.failed ≡ true → new ≡ old
 
 -- ---- in the middle of a group
@@ -88,8 +91,7 @@ pub record GathersOf (m : Meaning) (IsText : List ℕ → Type 0) (Metered : Typ
   pub are_given : map heard_by inputs ≡ given
   pub said : List StepSaid
   pub are_said : group.letters ≡ letters_of said
-  pub steps : AreGathered m IsText start.node start.store nothing_taken inputs said now.node now.store group
-  pub calls : Metered → (k : ℕ) × Passes start.store.meter now.store.meter k
+  pub steps : AreGathered m IsText Metered start.node start.store nothing_taken inputs said now.node now.store group
   pub goes : (genesis : Genesis) (k : ℕ) → Remembers start.node start.store genesis k → (n : ℕ) (more : List Input) (q : ReplicaValue) (rest : List StepSaid)
       → GoesThrough m n (record { node = now.node; store = as_sent group.waits now.store; failed = false }) more q rest → GoesThrough m n start (inputs ++ more) q (said ++ rest)
   pub recalls : (genesis : Genesis) (n : ℕ) → Remembers start.node start.store genesis n → Recalls now.node now.store group.waits genesis n × IsCovered m genesis n group now.store
@@ -97,5 +99,6 @@ pub record GathersOf (m : Meaning) (IsText : List ℕ → Type 0) (Metered : Typ
       → GroupStays m h n now.node now.store group.waits
   pub covers : (genesis : Genesis) (n : ℕ) (x : NodeMessage) → Remembers start.node start.store genesis n → AllCover m genesis n (disks start.store) x → AllCover m genesis n (disks now.store) x
   pub room : StaysWithin max_after (disks start.store) (disks now.store)
+  pub grows : GrowsBySteps (length inputs) (disks start.store) (disks now.store)
   pub up : inputs ≢ [] → (now.store.failed ≡ false) × (now.node.halted ≡ false)
   pub once : start.failed ≡ true → now ≡ start

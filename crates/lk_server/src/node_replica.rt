@@ -1,11 +1,11 @@
 //! A replica as a server runs it.
 
-ghost use Rattle.std.specs.Prelude.{◌≡◌, ℕ, List, [], ◌∷◌, ◌++◌, Option, Bool, true, false, OnOk, OnErr, IfErr};
+ghost use Rattle.std.specs.Prelude.{◌≡◌, ℕ, List, [], ◌∷◌, ◌++◌, Option, Bool, true, false, IfOk, OnOk, OnErr, IfErr};
 ghost use Rattle.lk_step.specs.Letters.{LetterValue};
 ghost use Rattle.lk_node.specs.Calls.{heard_by};
 ghost use Rattle.lk_replica.specs.Faults.{fault_number};
 ghost use Rattle.lk_replica.specs.Groups.{GroupValue};
-ghost use Rattle.lk_replica.specs.Posts.{GivesLetters};
+ghost use Rattle.lk_replica.specs.Posts.{GivesLetters, TellsSends};
 ghost use Rattle.lk_server.specs.Sayings.{GathersOf, SaysOf};
 ghost use Rattle.lk_server.specs.Gatherings.{GathersMore, SaysNoMore};
 ghost use Rattle.lk_server.specs.Sights.{IsSight};
@@ -48,6 +48,7 @@ pub trait NodeReplica: Sized + Drop {
         // After a refusal it says nothing, and gives it nothing.
         ensures silent { OnErr result ((start : Self) (given : List (Option (List ℕ))) → Gathers start given group.now self.old → Says start given [] self.new) }
         ensures unsent { OnErr result (post.new ≡ post.old) }
+        ensures tells { IfOk result (λ all. TellsSends all (P.failures post.old) (P.failures post.new)) }
         ensures alive { OnOk result (failed self.new ≡ false) }
         ensures broken { OnErr result (failed self.new ≡ true) }
         ensures no_send { IfErr result (λ e. fault_number e ≡ 15 → ⊥) };

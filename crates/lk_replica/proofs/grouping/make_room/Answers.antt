@@ -1,11 +1,11 @@
-use Rattle.std.proofs.Common.{◌≡◌, Err, rules, true, false, List, [], ◌++◌, ◌∙◌, refl, sym, ap, subst, arith}
+use Rattle.std.proofs.Common.{◌≡◌, Err, rules, true, false, ◌∙◌, sym, ap, arith}
 use Rattle.lk_entries.specs.Entries.{plain}
 use Rattle.lk_log.specs.StoreValue.{disks}
 use Rattle.lk_state.specs.Meanings.{Meaning}
-use Rattle.lk_replica.proofs.Grouped.{of_store_too, settled_rebases, same_rebases, begin_fits, begun, settled_keeps, settled_fits, settled_covers, settle_leaves, settle_covers, same_recalls, same_group_fits, same_group_stays, same_group_covers}
+use Rattle.lk_replica.proofs.Grouped.{of_store_too, no_room_made, room_made, begin_fits, begun, settled_keeps, settled_fits, settled_covers, settle_leaves, settle_covers, same_recalls, same_group_fits, same_group_stays, same_group_covers}
 use Rattle.lk_log.proofs.Room.{within_first, within_more}
 use Rattle.lk_replica.proofs.Rebasing.{goes_fits, same_room}
-use Rattle.lk_disk.proofs.Devices.{passes_on}
+use Rattle.lk_replica.specs.Compacting.{IsDue}
 use Rattle.lk_replica.proofs.Calling.{err_as, refused_on}
 use Rattle.lk_replica.proofs.Refusals.{store_told, store_only, store_awake}
 use Rattle.lk_replica.proofs.Spared.{spared_all, kept_then}
@@ -146,26 +146,15 @@ returns-clause-room g c honest =
 -- ---- what it has done
 
 pub returns-then-not-due-clause-exact : goal.returns-then-not-due-clause-exact
-returns-then-not-due-clause-exact g c honest = record {
-  due = λ is. absurd (let yes : c.in_ok-due.due ≡ true = (c.in_ok-due.ensures.value honest).1 is in let both : false ≡ true = sym (search rules) ∙ yes in cc both);
-  rests = λ other. (refl, c.is_due.ensures.same honest);
-}
+returns-then-not-due-clause-exact g c honest =
+    let none : IsDue c.args.node.now c.args.store.now → ⊥ = λ is. let yes : c.in_ok-due.due ≡ true = (c.in_ok-due.ensures.value honest).1 is in let both : false ≡ true = sym (search rules) ∙ yes in cc both in
+    no_room_made _ c.args.node.now c.args.store.now c.is_due.new.store c.args.waits none (c.is_due.ensures.same honest) (λ metered. c.in_ok-due.ensures.metered metered)
 
 pub returns-clause-exact : goal.returns-clause-exact
 returns-clause-exact g c honest =
-    let due = (c.in_ok-due.ensures.value honest).0 (search rules) in
-    record {
-      due = λ is. same_rebases g.M.Machine.meaning c.args.node.now c.write_base.new.node c.args.store.now c.is_due.new.store c.write_base.new.store (c.is_due.ensures.same honest)
-          (settled_rebases c.args.node.now c.write_base.new.node c.is_due.new.store c.settle.new.store c.write_base.new.store c.args.waits (c.in_ok-settle.ensures.settles honest) c.settle.ensures.file (c.in_ok-write_base.ensures.done honest).rebases);
-      rests = λ other. absurd (other due);
-    }
-
-pub returns-then-not-due-clause-calls : goal.returns-then-not-due-clause-calls
-returns-then-not-due-clause-calls g c metered honest = (0, c.in_ok-due.ensures.metered metered)
-
-pub returns-clause-calls : goal.returns-clause-calls
-returns-clause-calls g c metered honest =
-    (_, passes_on 0 (c.in_ok-due.ensures.metered metered) _ (passes_on _ (c.in_ok-settle.ensures.metered metered) _ ((c.in_ok-write_base.ensures.done honest).calls metered)))
+    room_made g.M.Machine.meaning _ c.args.node.now c.write_base.new.node c.args.store.now c.is_due.new.store c.settle.new.store c.write_base.new.store c.args.waits
+    ((c.in_ok-due.ensures.value honest).0 (search rules)) (c.is_due.ensures.same honest) (c.in_ok-settle.ensures.settles honest) c.settle.ensures.file (c.in_ok-write_base.ensures.done honest).rebases
+    (λ metered. c.in_ok-due.ensures.metered metered) (λ metered. c.in_ok-settle.ensures.metered metered) (c.in_ok-write_base.ensures.done honest).calls
 
 pub returns-then-not-due-clause-alive : goal.returns-then-not-due-clause-alive
 returns-then-not-due-clause-alive g c = record { store_alive = c.in_ok-due.ensures.alive; further = omega (arith, c.is_due.ensures.file.1); runs = λ none. none }

@@ -1,4 +1,4 @@
-use Rattle.std.proofs.Common.{◌≡◌, ◌≤◌, true, false, List, [], ◌++◌, ◌∙◌, length, refl, sym, ap, subst, arith}
+use Rattle.std.proofs.Common.{◌≡◌, ◌≤◌, true, false, List, ◌++◌, ◌∙◌, length, refl, sym, ap, subst, arith}
 use Rattle.lk_types.specs.declared.entry.Entry.{Entry}
 use Rattle.lk_entries.specs.Entries.{plain}
 use Rattle.lk_log.specs.StoreValue.{disks}
@@ -9,13 +9,14 @@ use Rattle.lk_state.specs.Meanings.{Meaning}
 use Rattle.lk_step.specs.Letters.{batch_of}
 use Rattle.lk_step.specs.Outboxes.{OutboxValue}
 use Rattle.lk_node.specs.NodeValue.{NodeValue}
-use Rattle.lk_replica.specs.Groups.{waits_after, Recalls, GroupGoes, GroupStays}
+use Rattle.lk_replica.specs.Groups.{waits_after, GroupGoes, GroupStays}
 use Rattle.lk_replica.proofs.Behind.{still_keeps, still_remembers, sent_is_covered, stepped_fits}
 use Rattle.lk_replica.proofs.Grouped.{gather_goes, group_leaves, group_stays, gather_recalls, gather_syncs, gather_covers, gather_still_covers, gathered_put, gathered_base, settled_rebases, settled_keeps, settled_fits, settled_covers, settle_leaves, settle_covers, begin_recalls, based_cover, based_goes, based_stays}
 use Rattle.lk_disk.specs.Meters.{start}
 use Rattle.lk_replica.specs.declared.fault.ReplicaFault.TheVariants as fault
 use Rattle.lk_replica.proofs.Calling.{err_as, refused_after, refused_on}
 use Rattle.lk_replica.proofs.Compactions.{put_refused}
+use Rattle.lk_replica.proofs.Growing.{grown_none, grown_base, grown_put, grown_less}
 use Rattle.lk_replica.proofs.Refusals.{store_told, store_only, store_awake}
 use Rattle.lk_replica.proofs.Spared.{spared_all, not_failed_so, kept_then}
 use Rattle.lk_replica.proofs.grouping.step_to_file.Goals as goal
@@ -209,17 +210,49 @@ returns-then-outbox-clause-room g c honest small =
     refused_room (disks c.args.store.now) (disks c.write_base.new.store)
     (within_first 49152 (disks c.args.store.now) (disks c.settle.new.store) (disks c.write_base.new.store) (within_more 49152 (disks c.args.store.now) (disks c.settle.new.store) (c.settle.ensures.room honest)) (c.write_base.ensures.disks honest).room)
 
+-- ---- and growth
+
+pub returns-in_err-outbox-clause-grows : goal.returns-in_err-outbox-clause-grows
+returns-in_err-outbox-clause-grows g c honest = grown_none (disks c.args.store.now) (disks c.args.store.now) (λ s. refl)
+
+pub returns-in_err-put-clause-grows : goal.returns-in_err-put-clause-grows
+returns-in_err-put-clause-grows g c honest =
+    let is : c.deref.result.now ≡ c.in_ok-outbox.outbox.entries = c.deref.ensures.value ∙ ap (λ (o : OutboxValue). o.entries) c.outbox.view_is in
+    let few : length c.in_ok-outbox.outbox.entries ≤ 16 = few_entries _ _ c.args.node.now _ c.step.new.self c.in_ok-outbox.outbox c.in_ok-outbox.ensures.steps in
+    grown_less (disks c.args.store.now) (disks c.put.new.self) (grown_put c.args.store.now c.put.new.self c.put.ensures.file.0 (omega (arith, c.put.ensures.grows honest, few, ap length is)) (c.put.ensures.beside honest).0)
+
+pub returns-clause-grows : goal.returns-clause-grows
+returns-clause-grows g c honest =
+    let is : c.deref.result.now ≡ c.in_ok-outbox.outbox.entries = c.deref.ensures.value ∙ ap (λ (o : OutboxValue). o.entries) c.outbox.view_is in
+    let few : length c.in_ok-outbox.outbox.entries ≤ 16 = few_entries _ _ c.args.node.now _ c.step.new.self c.in_ok-outbox.outbox c.in_ok-outbox.ensures.steps in
+    grown_less (disks c.args.store.now) (disks c.put.new.self) (grown_put c.args.store.now c.put.new.self c.put.ensures.file.0 (omega (arith, c.put.ensures.grows honest, few, ap length is)) (c.put.ensures.beside honest).0)
+
+pub returns-in_err-settle-clause-grows : goal.returns-in_err-settle-clause-grows
+returns-in_err-settle-clause-grows g c honest = grown_base (disks c.args.store.now) (disks c.settle.new.store) (within_more 49152 (disks c.args.store.now) (disks c.settle.new.store) (c.settle.ensures.room honest))
+
+pub returns-in_err-write_base-clause-grows : goal.returns-in_err-write_base-clause-grows
+returns-in_err-write_base-clause-grows g c honest =
+    grown_base (disks c.args.store.now) (disks c.write_base.new.store)
+    (within_first 49152 (disks c.args.store.now) (disks c.settle.new.store) (disks c.write_base.new.store) (within_more 49152 (disks c.args.store.now) (disks c.settle.new.store) (c.settle.ensures.room honest)) (c.write_base.ensures.disks honest).room)
+
+pub returns-then-outbox-clause-grows : goal.returns-then-outbox-clause-grows
+returns-then-outbox-clause-grows g c honest =
+    grown_base (disks c.args.store.now) (disks c.write_base.new.store)
+    (within_first 49152 (disks c.args.store.now) (disks c.settle.new.store) (disks c.write_base.new.store) (within_more 49152 (disks c.args.store.now) (disks c.settle.new.store) (c.settle.ensures.room honest)) (c.write_base.ensures.disks honest).room)
+
 -- ---- what it has done
 
 pub returns-clause-exact : goal.returns-clause-exact
 returns-clause-exact g c honest =
     let is : c.deref.result.now ≡ c.in_ok-outbox.outbox.entries = c.deref.ensures.value ∙ ap (λ (o : OutboxValue). o.entries) c.outbox.view_is in
     let not_so : c.in_ok-outbox.outbox.rebase ≡ false = sym (ap (λ (o : OutboxValue). o.rebase) c.outbox.view_is) ∙ c.if-outbox.false in
+    let few : length c.in_ok-outbox.outbox.entries ≤ 16 = few_entries _ _ c.args.node.now _ c.step.new.self c.in_ok-outbox.outbox c.in_ok-outbox.ensures.steps in
     record {
       stepped = c.step.new.self;
       steps = c.in_ok-outbox.ensures.steps;
       rebases = λ yes. absurd (let both : false ≡ true = sym not_so ∙ yes in cc both);
       puts = λ no. (refl, λ ks ls holds. subst (λ (es : List Entry). Holds c.put.new.self ks (ls ++ plain es)) is (c.in_ok-put.ensures.added honest refl ks ls holds));
+      grows = λ no. grown_put c.args.store.now c.put.new.self c.put.ensures.file.0 (omega (arith, c.put.ensures.grows honest, few, ap length is)) (c.put.ensures.beside honest).0;
       calls = λ metered. gathered_put _ _ c.args.waits c.in_ok-outbox.outbox _ is not_so (c.in_ok-put.ensures.metered metered);
     }
 
@@ -232,6 +265,7 @@ returns-then-outbox-clause-exact g c honest =
       steps = c.in_ok-outbox.ensures.steps;
       rebases = λ yes. settled_rebases c.step.new.self c.write_base.new.node c.args.store.now c.settle.new.store c.write_base.new.store c.args.waits (c.in_ok-settle.ensures.settles honest) c.settle.ensures.file done.rebases;
       puts = λ no. absurd (let both : true ≡ false = sym is ∙ no in cc both);
+      grows = λ no. absurd (let both : true ≡ false = sym is ∙ no in cc both);
       calls = λ metered. gathered_base _ _ _ c.args.waits c.in_ok-outbox.outbox is (c.in_ok-settle.ensures.metered metered) (done.calls metered);
     }
 

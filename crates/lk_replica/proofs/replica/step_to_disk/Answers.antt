@@ -1,4 +1,4 @@
-use Rattle.std.proofs.Common.{◌≡◌, ◌+◌, true, false, List, [], ◌++◌, ◌∙◌, ◌≤◌, length, refl, sym, ap, subst, arith}
+use Rattle.std.proofs.Common.{◌≡◌, true, false, List, [], ◌++◌, ◌∙◌, ◌≤◌, length, refl, sym, ap, subst, arith}
 use Rattle.lk_types.specs.declared.entry.Entry.{Entry}
 use Rattle.lk_entries.specs.Entries.{plain}
 use Rattle.lk_log.specs.StoreValue.{disks}

@@ -1,8 +1,8 @@
-use Rattle.std.proofs.Common.{◌≡◌, ℕ, ◌+◌, ◌-◌, length, ◌∙◌, ◌++◌, ◌∷◌, List, [], Contains, map, refl, ap, sym, subst, inl, inr, rules}
+use Rattle.std.proofs.Common.{◌≡◌, ℕ, Bool, ◌+◌, ◌-◌, length, ◌∙◌, ◌∷◌, List, [], map, refl, ap, sym, subst, inl, inr, rules}
 use Rattle.std.specs.Prelude.{⊤}
 use Rattle.std.proofs.lemmas.List.{nil_from_length}
 use Rattle.std.specs.List.{AllByRecursion}
-use Rattle.lk_log.specs.StoreValue.{StoreValue, disks, device_of}
+use Rattle.lk_log.specs.StoreValue.{disks, device_of}
 use Rattle.lk_log.specs.Rooms.{StaysWithin}
 use Rattle.lk_log.proofs.Room.{within_first, within_still}
 use Rattle.lk_disk.specs.Memory.{disk_of}
@@ -15,14 +15,14 @@ use Rattle.lk_node.specs.Calls.{heard_by, InputFits, NodeFits}
 use Rattle.lk_node.specs.Keeping.{Stands}
 use Rattle.lk_node.specs.Leavings.{DisksFit, AllCover}
 use Rattle.lk_replica.specs.Faults.{fault_number, RefusedAfter, IsNumberOfCalls}
-use Rattle.lk_replica.specs.Groups.{GroupValue, Settles, settle_calls}
+use Rattle.lk_replica.specs.Groups.{GroupValue, IsSettled, LeavesInGroup, gather_calls, settle_calls}
 use Rattle.lk_replica.specs.ReplicaValue.{ReplicaValue}
 use Rattle.lk_replica.specs.Together.{IsTogetherRefused}
 use Rattle.lk_replica.specs.declared.taken.Step.{Step}
 use Rattle.lk_replica.proofs.Calling.{err_as}
 use Rattle.lk_replica.proofs.Going.{remembered}
 use Rattle.lk_replica.proofs.OnDevices.{on_device, off_device}
-use Rattle.lk_replica.proofs.TakenTogether.{TakenSoFar, taken_nothing, one_taken, ended_leaves, ended_covers, refused_further, refused_in_all, taken_in_all, gone_in_all, covered_in_all}
+use Rattle.lk_replica.proofs.TakenTogether.{TakenSoFar, taken_nothing, one_taken, refused_further, refused_in_all, taken_in_all, gone_in_all, covered_in_all}
 use Rattle.lk_replica.proofs.in_memory.ReplicaMemoryDiskMemoryReplica.take_all.Goals as goal
 
 -- a refusal for memory comes after calls that have passed
@@ -34,7 +34,7 @@ not_by_the_device number m n is passes = subst (λ (k : ℕ). RefusedAfter k m n
 pub inputs-init : goal.inputs-init
 inputs-init g c =
     let same : c.into_iter-input-iterator.result.rest.items ≡ c.args.inputs.items = search rules in
-    taken_nothing g.M.Machine.meaning g.M.Machine.IsText c.args.self.now c.args.inputs.items c.into_iter-input-iterator.result.rest.items c.begin_group-group.result c.no_steps-steps.result.items c.begin_group-group.ensures c.no_steps-steps.ensures same
+    taken_nothing g.M.Machine.meaning g.M.Machine.IsText c.args.self.now c.args.inputs.items c.into_iter-input-iterator.result.rest.items c.new-group.result c.new-steps.result.items c.new-group.ensures c.new-steps.ensures.items same
 
 pub inputs-preserved : goal.inputs-preserved
 inputs-preserved g c =
@@ -46,8 +46,8 @@ inputs-preserved g c =
     let rest = c.next.new.self.rest.items in
     let was = subst (λ (l : List Input). TakenSoFar m t own all c.inputs.self c.inputs.group c.inputs.steps.items l) c.in-Some.ensures.steps.0 c.inputs.invariant in
     let one = one_taken m t own all c.inputs.self c.gather.new.self c.inputs.group c.gather.new.group c.inputs.steps.items c.in-Some.input rest c.take_step-step.result was (e.goes tt) (e.exact tt)
-    c.take_step-step.ensures.notes (c.take_step-step.ensures.sends ∙ ap (λ k. length c.gather.new.group.letters - k) c.count-before.ensures)
-    (e.recalls tt) (e.said tt) (e.covers tt) (e.stays tt) (e.room tt) (e.calls tt tt) e.alive.0 in
+    c.take_step-step.ensures.notes (c.take_step-step.ensures.sends ∙ ap (λ (l : List LetterValue). length c.gather.new.group.letters - length l) c.letters-before.ensures)
+    (e.keeps tt) (c.gather.ensures.disks tt) e.alive.0 in
     subst (λ (r : ReplicaValue). TakenSoFar m t own all r c.take_step-step.new.self c.keep.new.steps.items rest) (sym c.in_ok-keep.ensures.same)
     (subst (λ (x : GroupValue). TakenSoFar m t own all c.gather.new.self x c.keep.new.steps.items rest) (sym c.take_step-step.ensures.rest)
     (subst (λ (l : List Step). TakenSoFar m t own all c.gather.new.self (record c.gather.new.group { notes = [] }) l rest) (sym c.in_ok-keep.ensures.kept) one))
@@ -60,7 +60,7 @@ returns-in_err-gather-clause-ends g c h n fits heard =
     let own = c.args.self.now in
     let k = c.inputs.invariant.stays h n (off_device (λ d. NodeFits m h n (Stands m own.node own.store h.genesis n) d) own.store fits) heard in
     let rest : AllByRecursion (InputFits h) (c.in-Some.input ∷ c.next.new.self.rest.items) = subst (λ (l : List Input). AllByRecursion (InputFits h) l) c.in-Some.ensures.steps.0 k.1 in
-    on_device (DisksFit m h n) c.gather.new.self.store (c.gather.ensures.ends tt h n k.0 rest.0)
+    on_device (DisksFit m h n) c.gather.new.self.store ((c.gather.ensures.disks tt).ends h n k.0 rest.0)
 
 pub returns-in_err-gather-clause-covers : goal.returns-in_err-gather-clause-covers
 returns-in_err-gather-clause-covers g c genesis n held x shown every =
@@ -69,14 +69,14 @@ returns-in_err-gather-clause-covers g c genesis n held x shown every =
     let r = remembered m genesis n held own.node own.store shown in
     let s = c.inputs.invariant in
     on_device (λ d. AllCover m genesis n d x) c.gather.new.self.store
-    (c.gather.ensures.covers tt genesis n x (s.recalls genesis n r) (s.covers genesis n x r (off_device (λ d. AllCover m genesis n d x) own.store every)))
+    ((c.gather.ensures.disks tt).covers genesis n x (s.recalls genesis n r) (s.covers genesis n x r (off_device (λ d. AllCover m genesis n d x) own.store every)))
 
 pub returns-in_err-gather-clause-room : goal.returns-in_err-gather-clause-room
 returns-in_err-gather-clause-room g c =
     let own = c.args.self.now in
     on_device (λ d. StaysWithin 132704 (disk_of (device_of own.store)) d) c.gather.new.self.store
     (on_device (λ d. StaysWithin 132704 d (disks c.gather.new.self.store)) own.store
-    (within_first 132704 (disks own.store) (disks c.inputs.self.store) (disks c.gather.new.self.store) c.inputs.invariant.room (c.gather.ensures.room tt)))
+    (within_first 132704 (disks own.store) (disks c.inputs.self.store) (disks c.gather.new.self.store) c.inputs.invariant.room (c.gather.ensures.disks tt).room))
 
 pub returns-in_err-gather-clause-calls_err : goal.returns-in_err-gather-clause-calls_err
 returns-in_err-gather-clause-calls_err g c =
@@ -100,7 +100,7 @@ returns-in_err-keep-clause-ends g c h n fits heard =
     let k = c.inputs.invariant.stays h n (off_device (λ d. NodeFits m h n (Stands m own.node own.store h.genesis n) d) own.store fits) heard in
     let rest : AllByRecursion (InputFits h) (c.in-Some.input ∷ c.next.new.self.rest.items) = subst (λ (l : List Input). AllByRecursion (InputFits h) l) c.in-Some.ensures.steps.0 k.1 in
     on_device (DisksFit m h n) c.keep.new.self.store
-    (subst (λ (r : ReplicaValue). DisksFit m h n (disks r.store)) (sym c.in_err-keep.ensures.refused.ends) (c.gather.ensures.ends tt h n k.0 rest.0))
+    (subst (λ (r : ReplicaValue). DisksFit m h n (disks r.store)) (sym c.in_err-keep.ensures.refused.ends) ((c.gather.ensures.disks tt).ends h n k.0 rest.0))
 
 pub returns-in_err-keep-clause-covers : goal.returns-in_err-keep-clause-covers
 returns-in_err-keep-clause-covers g c genesis n held x shown every =
@@ -110,7 +110,7 @@ returns-in_err-keep-clause-covers g c genesis n held x shown every =
     let s = c.inputs.invariant in
     on_device (λ d. AllCover m genesis n d x) c.keep.new.self.store
     (subst (λ (r : ReplicaValue). AllCover m genesis n (disks r.store) x) (sym c.in_err-keep.ensures.refused.ends)
-    (c.gather.ensures.covers tt genesis n x (s.recalls genesis n r) (s.covers genesis n x r (off_device (λ d. AllCover m genesis n d x) own.store every))))
+    ((c.gather.ensures.disks tt).covers genesis n x (s.recalls genesis n r) (s.covers genesis n x r (off_device (λ d. AllCover m genesis n d x) own.store every))))
 
 pub returns-in_err-keep-clause-room : goal.returns-in_err-keep-clause-room
 returns-in_err-keep-clause-room g c =
@@ -118,17 +118,19 @@ returns-in_err-keep-clause-room g c =
     on_device (λ d. StaysWithin 132704 (disk_of (device_of own.store)) d) c.keep.new.self.store
     (on_device (λ d. StaysWithin 132704 d (disks c.keep.new.self.store)) own.store
     (subst (λ (r : ReplicaValue). StaysWithin 132704 (disks own.store) (disks r.store)) (sym c.in_err-keep.ensures.refused.ends)
-    (within_first 132704 (disks own.store) (disks c.inputs.self.store) (disks c.gather.new.self.store) c.inputs.invariant.room (c.gather.ensures.room tt))))
+    (within_first 132704 (disks own.store) (disks c.inputs.self.store) (disks c.gather.new.self.store) c.inputs.invariant.room (c.gather.ensures.disks tt).room)))
 
 pub returns-in_err-keep-clause-calls_err : goal.returns-in_err-keep-clause-calls_err
 returns-in_err-keep-clause-calls_err g c =
     let own = c.args.self.now in
     let s = c.inputs.invariant in
-    let made = c.in_ok-gather.ensures.calls tt tt in
-    let passes = passes_on s.calls s.passes made.0 made.1 in
+    let exact = c.in_ok-gather.ensures.exact tt in
+    let room = exact.room.calls tt in
+    let made : ℕ = room.0 + gather_calls exact.waits exact.out in
+    let passes = passes_on s.calls s.passes made (passes_on room.0 room.2 (gather_calls exact.waits exact.out) (exact.steps.calls tt)) in
     err_as (λ e. RefusedAfter (fault_number e) own.store.meter c.keep.new.self.store.meter) _ _ c.from_residual-in_err-keep.ensures.1
     (not_by_the_device _ own.store.meter c.keep.new.self.store.meter c.in_err-keep.ensures.refused.no_memory
-    (s.calls + made.0, subst (λ (r : ReplicaValue). Passes own.store.meter r.store.meter (s.calls + made.0)) (sym c.in_err-keep.ensures.refused.ends) passes))
+    (s.calls + made, subst (λ (r : ReplicaValue). Passes own.store.meter r.store.meter (s.calls + made)) (sym c.in_err-keep.ensures.refused.ends) passes))
 
 pub returns-in_err-keep-clause-refused : goal.returns-in_err-keep-clause-refused
 returns-in_err-keep-clause-refused g c =
@@ -140,8 +142,8 @@ returns-in_err-keep-clause-refused g c =
     let rest = c.next.new.self.rest.items in
     let was = subst (λ (l : List Input). TakenSoFar m t own all c.inputs.self c.inputs.group c.inputs.steps.items l) c.in-Some.ensures.steps.0 c.inputs.invariant in
     let one = one_taken m t own all c.inputs.self c.gather.new.self c.inputs.group c.gather.new.group c.inputs.steps.items c.in-Some.input rest c.take_step-step.result was (e.goes tt) (e.exact tt)
-    c.take_step-step.ensures.notes (c.take_step-step.ensures.sends ∙ ap (λ k. length c.gather.new.group.letters - k) c.count-before.ensures)
-    (e.recalls tt) (e.said tt) (e.covers tt) (e.stays tt) (e.room tt) (e.calls tt tt) e.alive.0 in
+    c.take_step-step.ensures.notes (c.take_step-step.ensures.sends ∙ ap (λ (l : List LetterValue). length c.gather.new.group.letters - length l) c.letters-before.ensures)
+    (e.keeps tt) (c.gather.ensures.disks tt) e.alive.0 in
     err_as (λ e. IsNumberOfCalls (fault_number e) × IsTogetherRefused m t own (map heard_by all) c.keep.new.self (fault_number e)) _ _ c.from_residual-in_err-keep.ensures.1
     (inr (inl c.in_err-keep.ensures.refused.no_memory), refused_in_all m t own all c.gather.new.self c.keep.new.self _ _ _ _ one (inr (inl c.in_err-keep.ensures.refused)))
 
@@ -152,7 +154,8 @@ returns-in_err-end_group-clause-ends g c h n fits heard =
     let m = g.M.Machine.meaning in
     let own = c.args.self.now in
     let k = c.inputs.invariant.stays h n (off_device (λ d. NodeFits m h n (Stands m own.node own.store h.genesis n) d) own.store fits) heard in
-    on_device (DisksFit m h n) c.end_group.new.self.store (ended_leaves m h n c.inputs.self c.end_group.new.self c.inputs.group.waits k.0 (c.end_group.ensures.any tt))
+    let ended = subst (λ (w : Bool). LeavesInGroup g.M.Machine.meaning (λ h. ⊤) 0 c.inputs.self.node c.inputs.self.store w (disks c.end_group.new.self.store)) c.waits.ensures (c.end_group.ensures.disks tt) in
+    on_device (DisksFit m h n) c.end_group.new.self.store (ended.ends h n k.0 tt)
 
 pub returns-in_err-end_group-clause-covers : goal.returns-in_err-end_group-clause-covers
 returns-in_err-end_group-clause-covers g c genesis n held x shown every =
@@ -160,15 +163,16 @@ returns-in_err-end_group-clause-covers g c genesis n held x shown every =
     let own = c.args.self.now in
     let r = remembered m genesis n held own.node own.store shown in
     let s = c.inputs.invariant in
+    let ended = subst (λ (w : Bool). LeavesInGroup g.M.Machine.meaning (λ h. ⊤) 0 c.inputs.self.node c.inputs.self.store w (disks c.end_group.new.self.store)) c.waits.ensures (c.end_group.ensures.disks tt) in
     on_device (λ d. AllCover m genesis n d x) c.end_group.new.self.store
-    (ended_covers m genesis n c.inputs.self c.end_group.new.self c.inputs.group.waits (s.recalls genesis n r) (c.end_group.ensures.any tt) x (s.covers genesis n x r (off_device (λ d. AllCover m genesis n d x) own.store every)))
+    (ended.covers genesis n x (s.recalls genesis n r) (s.covers genesis n x r (off_device (λ d. AllCover m genesis n d x) own.store every)))
 
 pub returns-in_err-end_group-clause-room : goal.returns-in_err-end_group-clause-room
 returns-in_err-end_group-clause-room g c =
     let own = c.args.self.now in
     on_device (λ d. StaysWithin 132704 (disk_of (device_of own.store)) d) c.end_group.new.self.store
     (on_device (λ d. StaysWithin 132704 d (disks c.end_group.new.self.store)) own.store
-    (within_still 132704 (disks own.store) (disks c.inputs.self.store) (disks c.end_group.new.self.store) c.inputs.invariant.room (c.end_group.ensures.room tt)))
+    (within_still 132704 (disks own.store) (disks c.inputs.self.store) (disks c.end_group.new.self.store) c.inputs.invariant.room (c.end_group.ensures.disks tt).room))
 
 pub returns-in_err-end_group-clause-calls_err : goal.returns-in_err-end_group-clause-calls_err
 returns-in_err-end_group-clause-calls_err g c =
@@ -190,7 +194,8 @@ returns-in-Err-clause-ends g c h n fits heard =
     let m = g.M.Machine.meaning in
     let own = c.args.self.now in
     let k = c.inputs.invariant.stays h n (off_device (λ d. NodeFits m h n (Stands m own.node own.store h.genesis n) d) own.store fits) heard in
-    on_device (DisksFit m h n) c.end_group.new.self.store (ended_leaves m h n c.inputs.self c.end_group.new.self c.inputs.group.waits k.0 (c.end_group.ensures.any tt))
+    let ended = subst (λ (w : Bool). LeavesInGroup g.M.Machine.meaning (λ h. ⊤) 0 c.inputs.self.node c.inputs.self.store w (disks c.end_group.new.self.store)) c.waits.ensures (c.end_group.ensures.disks tt) in
+    on_device (DisksFit m h n) c.end_group.new.self.store (ended.ends h n k.0 tt)
 
 pub returns-in-Err-clause-covers : goal.returns-in-Err-clause-covers
 returns-in-Err-clause-covers g c genesis n held x shown every =
@@ -198,30 +203,31 @@ returns-in-Err-clause-covers g c genesis n held x shown every =
     let own = c.args.self.now in
     let r = remembered m genesis n held own.node own.store shown in
     let s = c.inputs.invariant in
+    let ended = subst (λ (w : Bool). LeavesInGroup g.M.Machine.meaning (λ h. ⊤) 0 c.inputs.self.node c.inputs.self.store w (disks c.end_group.new.self.store)) c.waits.ensures (c.end_group.ensures.disks tt) in
     on_device (λ d. AllCover m genesis n d x) c.end_group.new.self.store
-    (ended_covers m genesis n c.inputs.self c.end_group.new.self c.inputs.group.waits (s.recalls genesis n r) (c.end_group.ensures.any tt) x (s.covers genesis n x r (off_device (λ d. AllCover m genesis n d x) own.store every)))
+    (ended.covers genesis n x (s.recalls genesis n r) (s.covers genesis n x r (off_device (λ d. AllCover m genesis n d x) own.store every)))
 
 pub returns-in-Err-clause-room : goal.returns-in-Err-clause-room
 returns-in-Err-clause-room g c =
     let own = c.args.self.now in
     on_device (λ d. StaysWithin 132704 (disk_of (device_of own.store)) d) c.end_group.new.self.store
     (on_device (λ d. StaysWithin 132704 d (disks c.end_group.new.self.store)) own.store
-    (within_still 132704 (disks own.store) (disks c.inputs.self.store) (disks c.end_group.new.self.store) c.inputs.invariant.room (c.end_group.ensures.room tt)))
+    (within_still 132704 (disks own.store) (disks c.inputs.self.store) (disks c.end_group.new.self.store) c.inputs.invariant.room (c.end_group.ensures.disks tt).room))
 
 pub returns-in-Err-clause-calls_err : goal.returns-in-Err-clause-calls_err
 returns-in-Err-clause-calls_err g c =
     let s = c.inputs.invariant in
-    (s.calls + settle_calls c.waits.result, passes_on s.calls s.passes (settle_calls c.waits.result) (c.in_ok-end_group.ensures.calls tt))
+    (s.calls + settle_calls c.waits.result, passes_on s.calls s.passes (settle_calls c.waits.result) ((c.in_ok-end_group.ensures.exact tt).calls tt))
 
 pub returns-in-Err-clause-refused : goal.returns-in-Err-clause-refused
 returns-in-Err-clause-refused g c =
     let m = g.M.Machine.meaning in
     let new = c.end_group.new.self in
     let all = c.args.inputs.items in
-    let synced = subst (λ w. Settles w c.inputs.self.store new.store) c.waits.ensures (c.in_ok-end_group.ensures.settles tt) in (
+    let settled = subst (λ (w : Bool). IsSettled ⊤ c.inputs.self w new) c.waits.ensures (c.in_ok-end_group.ensures.exact tt) in (
       inr (inr (inr (inr refl))),
       refused_in_all m g.M.Machine.IsText c.args.self.now all c.inputs.self new _ _ _ _ c.inputs.invariant
-          (inr (inr (record { not_sent = refl; node = c.in_ok-end_group.ensures.node; synced = synced }))),
+          (inr (inr (record { not_sent = refl; settled = settled }))),
     )
 
 -- ---- all is sent
@@ -231,7 +237,8 @@ returns-in-Ok-clause-ends g c h n fits heard =
     let m = g.M.Machine.meaning in
     let own = c.args.self.now in
     let k = c.inputs.invariant.stays h n (off_device (λ d. NodeFits m h n (Stands m own.node own.store h.genesis n) d) own.store fits) heard in
-    on_device (DisksFit m h n) c.end_group.new.self.store (ended_leaves m h n c.inputs.self c.end_group.new.self c.inputs.group.waits k.0 (c.end_group.ensures.any tt))
+    let ended = subst (λ (w : Bool). LeavesInGroup g.M.Machine.meaning (λ h. ⊤) 0 c.inputs.self.node c.inputs.self.store w (disks c.end_group.new.self.store)) c.waits.ensures (c.end_group.ensures.disks tt) in
+    on_device (DisksFit m h n) c.end_group.new.self.store (ended.ends h n k.0 tt)
 
 pub returns-in-Ok-clause-covers : goal.returns-in-Ok-clause-covers
 returns-in-Ok-clause-covers g c genesis n held x shown every =
@@ -239,20 +246,21 @@ returns-in-Ok-clause-covers g c genesis n held x shown every =
     let own = c.args.self.now in
     let r = remembered m genesis n held own.node own.store shown in
     let s = c.inputs.invariant in
+    let ended = subst (λ (w : Bool). LeavesInGroup g.M.Machine.meaning (λ h. ⊤) 0 c.inputs.self.node c.inputs.self.store w (disks c.end_group.new.self.store)) c.waits.ensures (c.end_group.ensures.disks tt) in
     on_device (λ d. AllCover m genesis n d x) c.end_group.new.self.store
-    (ended_covers m genesis n c.inputs.self c.end_group.new.self c.inputs.group.waits (s.recalls genesis n r) (c.end_group.ensures.any tt) x (s.covers genesis n x r (off_device (λ d. AllCover m genesis n d x) own.store every)))
+    (ended.covers genesis n x (s.recalls genesis n r) (s.covers genesis n x r (off_device (λ d. AllCover m genesis n d x) own.store every)))
 
 pub returns-in-Ok-clause-room : goal.returns-in-Ok-clause-room
 returns-in-Ok-clause-room g c =
     let own = c.args.self.now in
     on_device (λ d. StaysWithin 132704 (disk_of (device_of own.store)) d) c.end_group.new.self.store
     (on_device (λ d. StaysWithin 132704 d (disks c.end_group.new.self.store)) own.store
-    (within_still 132704 (disks own.store) (disks c.inputs.self.store) (disks c.end_group.new.self.store) c.inputs.invariant.room (c.end_group.ensures.room tt)))
+    (within_still 132704 (disks own.store) (disks c.inputs.self.store) (disks c.end_group.new.self.store) c.inputs.invariant.room (c.end_group.ensures.disks tt).room))
 
 pub returns-in-Ok-clause-calls : goal.returns-in-Ok-clause-calls
 returns-in-Ok-clause-calls g c =
     let s = c.inputs.invariant in
-    (s.calls + settle_calls c.waits.result, passes_on s.calls s.passes (settle_calls c.waits.result) (c.in_ok-end_group.ensures.calls tt))
+    (s.calls + settle_calls c.waits.result, passes_on s.calls s.passes (settle_calls c.waits.result) ((c.in_ok-end_group.ensures.exact tt).calls tt))
 
 pub returns-in-Ok-clause-syncs : goal.returns-in-Ok-clause-syncs
 returns-in-Ok-clause-syncs g c genesis n held x shown =
@@ -260,10 +268,10 @@ returns-in-Ok-clause-syncs g c genesis n held x shown =
     let own = c.args.self.now in
     let new = c.end_group.new.self in
     let r = remembered m genesis n held own.node own.store shown in
-    let synced = subst (λ w. Settles w c.inputs.self.store new.store) c.waits.ensures (c.in_ok-end_group.ensures.settles tt) in
+    let settled = subst (λ (w : Bool). IsSettled ⊤ c.inputs.self w new) c.waits.ensures (c.in_ok-end_group.ensures.exact tt) in
     let batch : c.in-Ok.sent.items ≡ batch_of own.node.header.node c.inputs.group.letters = c.in-Ok.ensures.ok ∙ (λ i. batch_of (c.number-node.ensures i) (c.into_letters.ensures i)) in
     λ d listed spelled. on_device (λ z. AllCover m genesis n z x) new.store
-    (covered_in_all m g.M.Machine.IsText own c.args.inputs.items c.inputs.self new _ _ _ _ c.inputs.invariant synced batch genesis n x r d listed spelled)
+    (covered_in_all m g.M.Machine.IsText own c.args.inputs.items c.inputs.self new _ _ _ _ c.inputs.invariant settled batch genesis n x r d listed spelled)
 
 pub returns-in-Ok-clause-goes : goal.returns-in-Ok-clause-goes
 returns-in-Ok-clause-goes g c genesis n held shown =
@@ -272,9 +280,9 @@ returns-in-Ok-clause-goes g c genesis n held shown =
     let new = c.end_group.new.self in
     let r = remembered m genesis n held own.node own.store shown in
     let none : c.inputs.input-iterator.rest.items ≡ [] = nil_from_length c.inputs.input-iterator.rest.items (sym c.inputs.input-iterator.rest.ok.0 ∙ c.in-None.ensures.steps.0) in
-    let synced = subst (λ w. Settles w c.inputs.self.store new.store) c.waits.ensures (c.in_ok-end_group.ensures.settles tt) in
+    let settled = subst (λ (w : Bool). IsSettled ⊤ c.inputs.self w new) c.waits.ensures (c.in_ok-end_group.ensures.exact tt) in
     let batch : c.in-Ok.sent.items ≡ batch_of own.node.header.node c.inputs.group.letters = c.in-Ok.ensures.ok ∙ (λ i. batch_of (c.number-node.ensures i) (c.into_letters.ensures i)) in
-    gone_in_all m g.M.Machine.IsText own c.args.inputs.items c.inputs.self new _ _ _ _ c.inputs.invariant none c.in_ok-end_group.ensures.node synced (c.end_group.ensures.room tt) batch genesis n r
+    gone_in_all m g.M.Machine.IsText own c.args.inputs.items c.inputs.self new _ _ _ _ c.inputs.invariant none settled (c.end_group.ensures.disks tt).room batch genesis n r
 
 pub returns-in-Ok-clause-exact : goal.returns-in-Ok-clause-exact
 returns-in-Ok-clause-exact g c =
@@ -282,6 +290,6 @@ returns-in-Ok-clause-exact g c =
     let own = c.args.self.now in
     let new = c.end_group.new.self in
     let none : c.inputs.input-iterator.rest.items ≡ [] = nil_from_length c.inputs.input-iterator.rest.items (sym c.inputs.input-iterator.rest.ok.0 ∙ c.in-None.ensures.steps.0) in
-    let synced = subst (λ w. Settles w c.inputs.self.store new.store) c.waits.ensures (c.in_ok-end_group.ensures.settles tt) in
+    let settled = subst (λ (w : Bool). IsSettled ⊤ c.inputs.self w new) c.waits.ensures (c.in_ok-end_group.ensures.exact tt) in
     let batch : c.in-Ok.sent.items ≡ batch_of own.node.header.node c.inputs.group.letters = c.in-Ok.ensures.ok ∙ (λ i. batch_of (c.number-node.ensures i) (c.into_letters.ensures i)) in
-    taken_in_all m g.M.Machine.IsText own c.args.inputs.items c.inputs.self new _ _ _ _ c.inputs.invariant none c.in_ok-end_group.ensures.node synced c.in_ok-end_group.ensures.alive batch
+    taken_in_all m g.M.Machine.IsText own c.args.inputs.items c.inputs.self new _ _ _ _ c.inputs.invariant none settled c.in_ok-end_group.ensures.alive batch

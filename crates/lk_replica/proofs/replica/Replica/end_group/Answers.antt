@@ -1,11 +1,12 @@
 use Rattle.std.proofs.Common.{◌≡◌, inl, inr, true, false, refl, sym, ap, subst, ◌∙◌, arith}
-use Rattle.std.specs.Prelude.{IfErr}
+use Rattle.std.specs.Prelude.{IfErr, ⊤}
 use Rattle.lk_disk.specs.Meters.{start}
-use Rattle.lk_log.proofs.StoreLaws.{holds_keeps}
+use Rattle.lk_log.specs.StoreValue.{disks}
+use Rattle.lk_log.proofs.Room.{within_same}
 use Rattle.lk_replica.specs.Faults.{fault_number}
-use Rattle.lk_replica.specs.Groups.{IsRefusedInGroup}
+use Rattle.lk_replica.specs.Groups.{IsRefusedInGroup, IsSettled, LeavesInGroup}
 use Rattle.lk_replica.specs.ReplicaValue.{ReplicaValue}
-use Rattle.lk_replica.proofs.Grouped.{group_refused}
+use Rattle.lk_replica.proofs.Grouped.{ended_in_group, group_refused}
 use Rattle.lk_replica.proofs.Refusals.{store_told, store_only, store_awake}
 use Rattle.lk_replica.proofs.Spared.{spared_all}
 use Rattle.lk_replica.proofs.replica.Replica.end_group.Goals as goal
@@ -13,8 +14,34 @@ use Rattle.lk_replica.proofs.replica.Replica.end_group.Goals as goal
 pub invariant_of-self-2 : goal.invariant_of-self-2
 invariant_of-self-2 g c = (λ lives. c.self.invariant.0 c.if-self.false, c.settle.ensures.format)
 
-pub returns-then-self-clause-any : goal.returns-then-self-clause-any
-returns-then-self-clause-any g c honest ks ls holds = holds_keeps c.args.self.now.store ks ls holds
+pub returns-clause-exact : goal.returns-clause-exact
+returns-clause-exact g c honest =
+    let done = c.in_ok-settle.ensures in
+    let metered = g.D.LogDisk.is_metered in
+    subst (λ (r : ReplicaValue). IsSettled metered r c.args.waits (record { node = c.self.inside.node; store = c.settle.new.store; failed = false })) c.self.view_is (record {
+      lived = c.if-self.false;
+      node = refl;
+      settles = done.settles honest;
+      calls = λ metered. done.metered metered;
+      store_alive = λ alive. done.alive alive;
+    })
+
+pub returns-then-self-clause-disks : goal.returns-then-self-clause-disks
+returns-then-self-clause-disks g c honest = record {
+  ends = λ h n s heard. s.left;
+  covers = λ genesis n x r every. every;
+  room = within_same 0 (disks c.args.self.now.store) (disks c.args.self.now.store) (λ s. refl);
+}
+
+pub returns-in_err-settle-clause-disks : goal.returns-in_err-settle-clause-disks
+returns-in_err-settle-clause-disks g c honest =
+    subst (λ (r : ReplicaValue). LeavesInGroup g.M.Machine.meaning (λ h. ⊤) 0 r.node r.store c.args.waits (disks c.settle.new.store)) c.self.view_is
+    (ended_in_group g.M.Machine.meaning (record { node = c.self.inside.node; store = c.self.inside.store; failed = c.self.inside.failed }) c.args.waits c.settle.new.store (c.settle.ensures.any honest) (c.settle.ensures.room honest))
+
+pub returns-clause-disks : goal.returns-clause-disks
+returns-clause-disks g c honest =
+    subst (λ (r : ReplicaValue). LeavesInGroup g.M.Machine.meaning (λ h. ⊤) 0 r.node r.store c.args.waits (disks c.settle.new.store)) c.self.view_is
+    (ended_in_group g.M.Machine.meaning (record { node = c.self.inside.node; store = c.self.inside.store; failed = c.self.inside.failed }) c.args.waits c.settle.new.store (c.settle.ensures.any honest) (c.settle.ensures.room honest))
 
 pub returns-then-self-clause-refused : goal.returns-then-self-clause-refused
 returns-then-self-clause-refused g c = record {

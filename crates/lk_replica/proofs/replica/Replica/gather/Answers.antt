@@ -1,17 +1,17 @@
-use Rattle.std.proofs.Common.{◌≡◌, ℕ, inl, inr, true, false, refl, sym, ap, subst, ◌∙◌, arith}
+use Rattle.std.proofs.Common.{◌≡◌, inl, inr, true, false, refl, sym, ap, subst, ◌∙◌, arith}
 use Rattle.std.specs.Prelude.{IfErr}
-use Rattle.lk_disk.specs.Meters.{Passes, start}
+use Rattle.lk_disk.specs.Meters.{start}
 use Rattle.lk_replica.specs.Faults.{fault_number}
-use Rattle.lk_log.specs.Rooms.{StaysWithin}
 use Rattle.lk_log.specs.StoreValue.{disks}
 use Rattle.lk_log.proofs.Room.{within_same}
 use Rattle.lk_step.specs.Letters.{batch_of}
-use Rattle.lk_node.specs.Calls.{NodeFits}
+use Rattle.lk_node.specs.Calls.{InputFits, NodeFits}
 use Rattle.lk_node.specs.Keeping.{Stands}
-use Rattle.lk_node.specs.Leavings.{AllCover}
-use Rattle.lk_replica.specs.Groups.{IsGathered, IsRefusedInGroup, IsCovered, as_sent, Recalls, GroupStays}
+use Rattle.lk_replica.specs.Groups.{IsGathered, IsRefusedInGroup, KeepsGroup, LeavesInGroup, as_sent, Recalls}
 use Rattle.lk_replica.specs.ReplicaValue.{ReplicaValue}
-use Rattle.lk_replica.proofs.Grouped.{group_refused, as_gathered, goes_as_sent, says_more}
+use Rattle.lk_replica.specs.Rooms.{GrowsFromBase}
+use Rattle.lk_replica.proofs.Growing.{grown_none}
+use Rattle.lk_replica.proofs.Grouped.{group_refused, as_gathered, goes_as_sent}
 use Rattle.lk_replica.proofs.replica.Replica.gather.Goals as goal
 
 pub returns-clause-goes : goal.returns-clause-goes
@@ -31,60 +31,35 @@ returns-clause-goes g c honest =
           (a.are h n (as_gathered m genesis k c.self.inside.node c.self.inside.store w was h n mine) heard sent among);
     }
 
-pub returns-clause-stays : goal.returns-clause-stays
-returns-clause-stays g c honest h n s heard =
-    let m = g.M.Machine.meaning in
-    c.in_ok-gather_on.ensures.stays honest h n (subst (λ (r : ReplicaValue). GroupStays m h n r.node r.store c.args.group.now.waits) (sym c.self.view_is) s) heard
+pub returns-clause-keeps : goal.returns-clause-keeps
+returns-clause-keeps g c honest =
+    subst (λ (k : ReplicaValue). KeepsGroup g.M.Machine.meaning (λ h. InputFits h c.args.input) k.node k.store c.args.group.now c.gather_on.new.node c.gather_on.new.store c.gather_on.new.group) c.self.view_is (c.in_ok-gather_on.ensures.keeps honest)
 
-pub returns-then-self-clause-ends : goal.returns-then-self-clause-ends
-returns-then-self-clause-ends g c honest h n s heard = s.left
+-- ---- what is on the disks
 
-pub returns-in_err-gather_on-clause-ends : goal.returns-in_err-gather_on-clause-ends
-returns-in_err-gather_on-clause-ends g c honest h n s heard =
-    let m = g.M.Machine.meaning in
-    c.gather_on.ensures.ends honest h n (subst (λ (r : ReplicaValue). GroupStays m h n r.node r.store c.args.group.now.waits) (sym c.self.view_is) s) heard
+pub returns-then-self-clause-disks : goal.returns-then-self-clause-disks
+returns-then-self-clause-disks g c honest = record {
+  ends = λ h n s heard. s.left;
+  covers = λ genesis n x r every. every;
+  room = within_same 132704 (disks c.args.self.now.store) (disks c.args.self.now.store) (λ s. refl);
+}
 
-pub returns-clause-ends : goal.returns-clause-ends
-returns-clause-ends g c honest h n s heard =
-    let m = g.M.Machine.meaning in
-    c.gather_on.ensures.ends honest h n (subst (λ (r : ReplicaValue). GroupStays m h n r.node r.store c.args.group.now.waits) (sym c.self.view_is) s) heard
+pub returns-then-self-clause-grows : goal.returns-then-self-clause-grows
+returns-then-self-clause-grows g c honest = grown_none (disks c.args.self.now.store) (disks c.args.self.now.store) (λ s. refl)
 
-pub returns-clause-said : goal.returns-clause-said
-returns-clause-said g c honest genesis n r was =
-    let m = g.M.Machine.meaning in
-    let mine = subst (λ (k : ReplicaValue). Recalls k.node k.store c.args.group.now.waits genesis n) (sym c.self.view_is) r in
-    says_more m genesis n c.args.group.now c.gather_on.new.group c.self.inside.store c.gather_on.new.store
-    (λ x every. c.in_ok-gather_on.ensures.still honest genesis n x mine every)
-    (λ x. c.in_ok-gather_on.ensures.syncs honest genesis n x mine)
-    (subst (λ (k : ReplicaValue). IsCovered m genesis n c.args.group.now k.store) (sym c.self.view_is) was)
+pub returns-in_err-gather_on-clause-disks : goal.returns-in_err-gather_on-clause-disks
+returns-in_err-gather_on-clause-disks g c honest =
+    subst (λ (k : ReplicaValue). LeavesInGroup g.M.Machine.meaning (λ h. InputFits h c.args.input) 132704 k.node k.store c.args.group.now.waits (disks c.gather_on.new.store)) c.self.view_is (c.gather_on.ensures.disks honest)
 
-pub returns-then-self-clause-room : goal.returns-then-self-clause-room
-returns-then-self-clause-room g c honest = within_same 132704 (disks c.args.self.now.store) (disks c.args.self.now.store) (λ s. refl)
+pub returns-in_err-gather_on-clause-grows : goal.returns-in_err-gather_on-clause-grows
+returns-in_err-gather_on-clause-grows g c honest = subst (λ (k : ReplicaValue). GrowsFromBase (disks k.store) (disks c.gather_on.new.store)) c.self.view_is (c.gather_on.ensures.grows honest)
 
-pub returns-in_err-gather_on-clause-room : goal.returns-in_err-gather_on-clause-room
-returns-in_err-gather_on-clause-room g c honest = subst (λ (k : ReplicaValue). StaysWithin 132704 (disks k.store) (disks c.gather_on.new.store)) c.self.view_is (c.gather_on.ensures.room honest)
+pub returns-clause-disks : goal.returns-clause-disks
+returns-clause-disks g c honest =
+    subst (λ (k : ReplicaValue). LeavesInGroup g.M.Machine.meaning (λ h. InputFits h c.args.input) 132704 k.node k.store c.args.group.now.waits (disks c.gather_on.new.store)) c.self.view_is (c.gather_on.ensures.disks honest)
 
-pub returns-clause-room : goal.returns-clause-room
-returns-clause-room g c honest = subst (λ (k : ReplicaValue). StaysWithin 132704 (disks k.store) (disks c.gather_on.new.store)) c.self.view_is (c.gather_on.ensures.room honest)
-
-pub returns-clause-recalls : goal.returns-clause-recalls
-returns-clause-recalls g c honest genesis n r =
-    c.in_ok-gather_on.ensures.recalls honest genesis n (subst (λ (k : ReplicaValue). Recalls k.node k.store c.args.group.now.waits genesis n) (sym c.self.view_is) r)
-
-pub returns-then-self-clause-covers : goal.returns-then-self-clause-covers
-returns-then-self-clause-covers g c honest genesis n x r every = every
-
-pub returns-in_err-gather_on-clause-covers : goal.returns-in_err-gather_on-clause-covers
-returns-in_err-gather_on-clause-covers g c honest genesis n x r every =
-    let m = g.M.Machine.meaning in
-    c.gather_on.ensures.covers honest genesis n x (subst (λ (k : ReplicaValue). Recalls k.node k.store c.args.group.now.waits genesis n) (sym c.self.view_is) r)
-    (subst (λ (k : ReplicaValue). AllCover m genesis n (disks k.store) x) (sym c.self.view_is) every)
-
-pub returns-clause-covers : goal.returns-clause-covers
-returns-clause-covers g c honest genesis n x r every =
-    let m = g.M.Machine.meaning in
-    c.gather_on.ensures.covers honest genesis n x (subst (λ (k : ReplicaValue). Recalls k.node k.store c.args.group.now.waits genesis n) (sym c.self.view_is) r)
-    (subst (λ (k : ReplicaValue). AllCover m genesis n (disks k.store) x) (sym c.self.view_is) every)
+pub returns-clause-grows : goal.returns-clause-grows
+returns-clause-grows g c honest = subst (λ (k : ReplicaValue). GrowsFromBase (disks k.store) (disks c.gather_on.new.store)) c.self.view_is (c.gather_on.ensures.grows honest)
 
 pub invariant_of-self-2 : goal.invariant_of-self-2
 invariant_of-self-2 g c = (λ lives. c.in_ok-gather_on.ensures.runs (c.self.invariant.0 c.if-self.false), c.gather_on.ensures.format)
@@ -93,11 +68,7 @@ invariant_of-self-2 g c = (λ lives. c.in_ok-gather_on.ensures.runs (c.self.inva
 
 pub returns-clause-exact : goal.returns-clause-exact
 returns-clause-exact g c honest =
-    subst (λ (r : ReplicaValue). IsGathered g.M.Machine.meaning g.M.Machine.IsText r.node r.store c.args.group.now c.args.input c.gather_on.new.node c.gather_on.new.store c.gather_on.new.group) c.self.view_is (c.in_ok-gather_on.ensures.exact honest)
-
-pub returns-clause-calls : goal.returns-clause-calls
-returns-clause-calls g c metered honest =
-    subst (λ (r : ReplicaValue). (k : ℕ) × Passes r.store.meter c.gather_on.new.store.meter k) c.self.view_is (c.in_ok-gather_on.ensures.calls metered honest)
+    subst (λ (r : ReplicaValue). IsGathered g.M.Machine.meaning g.M.Machine.IsText g.D.LogDisk.is_metered r.node r.store c.args.group.now c.args.input c.gather_on.new.node c.gather_on.new.store c.gather_on.new.group) c.self.view_is (c.in_ok-gather_on.ensures.exact honest)
 
 pub returns-clause-alive : goal.returns-clause-alive
 returns-clause-alive g c = (refl, c.in_ok-gather_on.ensures.alive.0, c.in_ok-gather_on.ensures.alive.1)

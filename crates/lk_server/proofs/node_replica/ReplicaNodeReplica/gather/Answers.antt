@@ -6,14 +6,14 @@ returns-clause-gathers g c =
     let m = g.M.Machine in
     let d = g.D.LogDisk in
     let e = c.gather.ensures in
-    gathers_of m.meaning m.IsText d.is_honest d.is_metered c.args.self.now c.gather.new.self c.args.group.now c.gather.new.group c.args.input c.gather.result e.goes e.stays e.said e.covers e.recalls e.room e.exact e.calls e.alive e.failed
+    gathers_of m.meaning m.IsText d.is_honest d.is_metered c.args.self.now c.gather.new.self c.args.group.now c.gather.new.group c.args.input c.gather.result e.goes e.keeps e.disks e.grows e.exact e.alive e.failed
 
 pub returns-clause-silent : goal.returns-clause-silent
 returns-clause-silent g c =
     let m = g.M.Machine in
     let d = g.D.LogDisk in
     let e = c.gather.ensures in
-    silent_of m.meaning m.IsText d.is_honest d.is_metered c.args.self.now c.gather.new.self c.args.group.now c.gather.new.group c.args.input c.gather.result e.refused e.ends e.covers e.room
+    silent_of m.meaning m.IsText d.is_honest d.is_metered c.args.self.now c.gather.new.self c.args.group.now c.gather.new.group c.args.input c.gather.result e.refused e.disks e.grows
 
 pub returns-clause-broken : goal.returns-clause-broken
 returns-clause-broken g c =

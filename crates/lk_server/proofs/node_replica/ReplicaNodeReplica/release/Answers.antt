@@ -1,4 +1,4 @@
-use Rattle.lk_server.proofs.Sayings.{released_of, unreleased_of, alive_of, ended_of, sends_all}
+use Rattle.lk_server.proofs.Sayings.{released_of, unreleased_of, ended_of, sends_all}
 use Rattle.lk_server.proofs.node_replica.ReplicaNodeReplica.release.Goals as goal
 
 pub returns-clause-hands : goal.returns-clause-hands
@@ -6,20 +6,17 @@ returns-clause-hands g c =
     let m = g.M.Machine in
     let d = g.D.LogDisk in
     let e = c.release.ensures in
-    released_of m.meaning m.IsText d.is_honest d.is_metered g.P.Post.Carries c.args.self.now c.release.new.self c.args.group.now c.args.post.now c.release.new.post c.release.result e.fits e.ends e.syncs e.covers e.gives e.room e.exact e.calls e.alive
+    released_of m.meaning m.IsText d.is_honest d.is_metered g.P.Post.Carries c.args.self.now c.release.new.self c.args.group.now c.args.post.now c.release.new.post c.release.result e.fits e.disks e.syncs e.gives e.exact e.alive
 
 pub returns-clause-silent : goal.returns-clause-silent
 returns-clause-silent g c =
     let m = g.M.Machine in
     let d = g.D.LogDisk in
     let e = c.release.ensures in
-    unreleased_of m.meaning m.IsText d.is_honest d.is_metered g.P.Post.Carries c.args.self.now c.release.new.self c.args.group.now c.args.post.now c.release.new.post c.release.result e.refused e.ends e.covers e.room
+    unreleased_of m.meaning m.IsText d.is_honest d.is_metered g.P.Post.Carries c.args.self.now c.release.new.self c.args.group.now c.args.post.now c.release.new.post c.release.result e.refused e.disks
 
 pub returns-clause-alive : goal.returns-clause-alive
-returns-clause-alive g c =
-    let m = g.M.Machine in
-    let d = g.D.LogDisk in
-    alive_of m.meaning m.IsText d.is_honest d.is_metered g.P.Post.Carries c.args.self.now c.release.new.self c.args.group.now c.args.post.now c.release.new.post c.release.result c.release.ensures.alive
+returns-clause-alive g c = c.release.ensures.alive
 
 pub returns-clause-broken : goal.returns-clause-broken
 returns-clause-broken g c =
