@@ -29,7 +29,7 @@ use Rattle.lk_sim.specs.declared.seat.Seat.{Seat}
 use Rattle.lk_sim.proofs.Lists.{asked_in-append, asked_among}
 use Rattle.lk_sim.proofs.Growth.{disks_move, still_asked, still_holding, still_bears}
 use Rattle.lk_sim.proofs.Ordering.{still_in_time}
-use Rattle.lk_types.specs.declared.answer.Answer.{Answer}
+use Rattle.lk_sim.specs.Orders.{RestsOn}
 
 -- what was asked last was asked
 pub asked_last : (trace : List Note) (r : RequestValue) → Contains (asked_in (trace ++ note.Asked r ∷ [])) r
@@ -70,9 +70,6 @@ module _ {R : Type 0} (Shows : R → Genesis → ℕ → Holding → Type 0) (di
       room = f.room;
     }
 
-    no_answer : {n client number : ℕ} {a : Answer} → note.Asked r ≡ note.Answered n client number a → ⊥
-    no_answer e = cc e
-
     goes_on : Holds Shows disks m genesis seats (sent ++ more) (trace ++ notes)
     goes_on = record {
       views = w.views;
@@ -93,7 +90,7 @@ module _ {R : Type 0} (Shows : R → Genesis → ℕ → Holding → Type 0) (di
       ];
       messages = λ n x h. w.messages n x (old_sent n x h);
       told = subst (λ l. Tells (sent ++ more) l) (sym (told_in-append trace notes)) (tells_append sent more (told_in trace) [] w.told tells);
-      in_time = still_in_time m genesis sent more trace notes w.in_time (λ n client number a c. absurd (no_answer (only (note.Asked r) (note.Answered n client number a) c)));
+      in_time = still_in_time m genesis sent more trace notes w.in_time (λ x c. subst (λ z. RestsOn m genesis sent trace z) (only (note.Asked r) x c) tt);
     }
 
   -- a request that is injected

@@ -105,7 +105,7 @@ module _ {R : Type 0} (b : Behaviour R) where
   wants_told old new (event.Compact m) k told = told_as new.ended old.ended k.ended told
   wants_told old new (event.Client m r) k told = same_told old new k told
   wants_told old new (event.Deliver i) k told = elim k [ inl same ↦ same_told old new same told | inr h ↦ told_as new.ended old.ended h.4.ended told ]
-  wants_told old new (event.Group m turns) k told = elim k [ inl same ↦ same_told old new same told | inr h ↦ told_as new.ended old.ended h.ended told ]
+  wants_told old new (event.Group m turns) k told = elim k [ inl same ↦ same_told old new same.0 told | inr h ↦ told_as new.ended old.ended h.ended told ]
   wants_told old new (event.Inject m bytes) k told = elim k [ inl same ↦ same_told old new same.0 told | inr h ↦ told_as new.ended old.ended h.ended told ]
   wants_told old new (event.Stop m x y) k told = absurd k
   wants_told old new (event.FailAt m count) k told = absurd k

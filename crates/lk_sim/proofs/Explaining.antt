@@ -20,12 +20,12 @@ use Rattle.lk_node.specs.Holdings.{Holding}
 use Rattle.lk_node.specs.Leavings.{DisksFit}
 use Rattle.lk_sim.specs.Traces.{asked_by, asked_in, happened}
 use Rattle.lk_sim.specs.Explained.{Explains}
-use Rattle.lk_sim.specs.Orders.{InOrder}
+use Rattle.lk_sim.specs.Orders.{InOrder, ToldInTime}
 use Rattle.lk_sim.specs.Seats.{At}
 use Rattle.lk_sim.specs.States.{KeepsPacked, SumsUpChosen}
 use Rattle.lk_sim.specs.Worlds.{Holds}
 use Rattle.lk_sim.specs.declared.seat.Seat.{Seat}
-use Rattle.lk_sim.proofs.Ordering.{in_order}
+use Rattle.lk_sim.proofs.Ordering as ordering
 
 asked_of : (x : Note) (r : RequestValue) → Contains (asked_by x) r → x ≡ note.Asked r
 asked_of (note.Asked q) r c = ap note.Asked (only q r c)
@@ -73,7 +73,10 @@ module _ {R : Type 0} (Shows : R → Genesis → ℕ → Holding → Type 0) (di
   request_asked L l r c = let at = at_place L (Request r) c in chosen_asked (suc at.0) (Request r) (entry_chosen genesis sent L l (suc at.0) (Request r) at.1)
 
   pub ordered : InOrder genesis sent trace
-  ordered = in_order m genesis sent sound trace w.in_time noted_asked
+  ordered = ordering.in_order m genesis sent sound trace w.in_time noted_asked
+
+  pub told_in_time : ToldInTime trace
+  told_in_time = ordering.told_in_time m genesis sent sound trace w.in_time noted_asked
 
   pub explains : Explains m genesis sent trace w.list
   explains = record {

@@ -222,12 +222,24 @@ module _ {R : Type 0} (b : Behaviour R) (old new : Scene R) where
       adds : Adds old new k.notes batch
       adds = record { genesis = k.adds.genesis; sent = k.adds.sent; trace = k.adds.trace }
 
+none_taken : (steps : List Step) (sent : List Datagram) → parts_of steps sent ≡ [] → steps ≡ []
+none_taken [] sent e = refl
+none_taken (s ∷ steps) sent e = absurd (cc e)
+
+none_sent : {R : Type 0} (b : Behaviour R) (stop : Option ℕ) (r q : R) (all batch : List Datagram) → SentUpTo b stop r q all batch → all ≡ [] → batch ≡ []
+none_sent b None r q all batch s none = s.2 ∙ none
+none_sent b (Some bytes) r q all batch s none = s.3 ∙ ap (take s.0) none ∙ nothing s.0
+  where
+    nothing : (k : ℕ) → take k (let none : List Datagram = [] in none) ≡ []
+    nothing zero = refl
+    nothing (suc k) = refl
+
 -- whatever a group came to, a stop leaves of the node's device what it leaves of the one that the call left
 pub group_left : {R : Type 0} (b : Behaviour R) → TrapsAlone b → (r : R) (given : List (Option (List ℕ))) (life : Life R) (t : Seat R) (steps : List Step) (batch : List Datagram) (how : Option End) (stop : Option ℕ)
     → (steps ≡ [] → batch ≡ [] → ⊥) → life ≡ Up r → HasTakenTogether b r given t steps batch how stop ⊎ HasFallenTogether (BreaksTogether b r given) t steps batch how stop → StopsOn b (LeftByGroup b given life) t.life
 group_left b alone r given life t steps batch how stop some up (inl k) = (
   b.memory k.replica,
-  (r, k.replica, Ok (parts_of steps k.all), up, k.takes, refl, tt),
+  (r, k.replica, Ok (parts_of steps k.all), up, k.takes, refl, λ none. some (none_taken steps k.all none) (none_sent b stop k.replica k.after k.all batch k.sends (k.whole ∙ ap sent_of none))),
   ap (λ (z : Life _). stopped_on 0 0 (device_in b z)) k.up ∙ stopped_sent b alone stop k.replica k.after k.all batch k.sends,
 )
 group_left b alone r given life t steps batch how stop some up (inr f) = absurd (some f.no_steps f.fallen.no_batch)

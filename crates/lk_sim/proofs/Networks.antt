@@ -1,22 +1,19 @@
 -- What holds of each world holds of each network of processes.
-use Rattle.std.proofs.Common.{◌≡◌, ℕ, ◌⊎◌, Option, Some, None, List, [], ◌∷◌, ◌++◌, Contains, refl, ap, sym, ◌∙◌, subst, subst₂, inl, inr, append_assoc, append-nil, set, arith}
+use Rattle.std.proofs.Common.{◌≡◌, ℕ, Option, Some, None, List, [], ◌∷◌, ◌++◌, Contains, refl, ap, sym, ◌∙◌, subst, subst₂, inl, inr, append_assoc, append-nil, set, arith}
 use Rattle.lk_disk.specs.Disk.{Disk, kept_by}
-use Rattle.lk_disk.specs.Memory.{Memory, disk_of}
+use Rattle.lk_disk.specs.Memory.{disk_of}
 use Rattle.lk_disk.specs.declared.device.Side.{Side}
 use Rattle.lk_wire.specs.Grammar.{Spells}
-use Rattle.lk_wire.specs.declared.message.Content.TheVariants as content
 use Rattle.lk_state.specs.Meanings.{Meaning}
 use Rattle.lk_history.specs.Datagrams.{said_by}
-use Rattle.lk_history.specs.Nodes.{View}
 use Rattle.lk_history.proofs.Histories.{contains_more}
 use Rattle.lk_step.specs.declared.note.Note.{Note}
-use Rattle.lk_step.specs.declared.note.Note.TheVariants as note
-use Rattle.lk_node.specs.Calls.{Goes, MayGo, NodeFits}
-use Rattle.lk_node.specs.Histories.{History, Genesis, Datagram, RequestValue, IsHeard, IsLawful}
+use Rattle.lk_node.specs.Calls.{Goes, NodeFits}
+use Rattle.lk_node.specs.Histories.{History, Genesis, Datagram, RequestValue, IsHeard}
 use Rattle.lk_node.specs.Holdings.{Holding}
 use Rattle.lk_node.specs.Leavings.{DisksFit}
 use Rattle.lk_sim.specs.Rooms.{AreShort}
-use Rattle.lk_sim.specs.Events.{Turns, Adds}
+use Rattle.lk_sim.specs.Events.{Adds}
 use Rattle.lk_sim.specs.Networks.{MayCome, IsRequestIn, AreAsking, MayHear, TellsOf, Appears, Rises, Rests, GoesOn, Ends, Stops, Steps, StepsAll, nothing}
 use Rattle.lk_sim.specs.Scenes.{Scene}
 use Rattle.lk_sim.specs.Seats.{UpFits, SeatFits, SeatGoes, At}
@@ -27,7 +24,7 @@ use Rattle.lk_sim.specs.declared.seat.Life.{Life}
 use Rattle.lk_sim.specs.declared.seat.Life.TheVariants.{Up, Down}
 use Rattle.lk_sim.proofs.Asking.{asked_last}
 use Rattle.lk_sim.proofs.Ending.{stopped_fit}
-use Rattle.lk_sim.proofs.Explaining.{lawful, explains, agree, states, ordered}
+use Rattle.lk_sim.proofs.Explaining.{lawful, explains, agree, states, ordered, told_in_time}
 use Rattle.lk_sim.proofs.Keeping.{room, covered, kept}
 use Rattle.lk_sim.specs.Promises.{Promises}
 use Rattle.lk_replica.specs.Behaviours.{Behaviour, disks_by}
@@ -202,5 +199,6 @@ promises_of Shows b whole m sums w h = record {
   covered = covered Shows (disks_by b) m w.genesis w.seats w.sent w.trace h;
   kept = λ L i v chosen. kept Shows (disks_by b) m w.genesis w.seats w.sent w.trace h L chosen i v;
   order = ordered Shows (disks_by b) m w.genesis w.seats w.sent w.trace h;
+  told_in_time = told_in_time Shows (disks_by b) m w.genesis w.seats w.sent w.trace h;
   room = room Shows (disks_by b) m w.genesis w.seats w.sent w.trace h;
 }

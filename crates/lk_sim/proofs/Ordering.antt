@@ -22,7 +22,7 @@ use Rattle.lk_step.specs.declared.note.Note.{Note}
 use Rattle.lk_step.specs.declared.note.Note.TheVariants as note
 use Rattle.lk_node.specs.Histories.{Genesis, Datagram, Command, Noop, Request, RequestValue}
 use Rattle.lk_sim.specs.Traces.{asked_in}
-use Rattle.lk_sim.specs.Orders.{IsEffectiveAt, IsEffectiveBefore, InOrder, IsAnsweredBy, InTime}
+use Rattle.lk_sim.specs.Orders.{IsEffectiveAt, IsEffectiveBefore, InOrder, ToldInTime, IsAnsweredBy, RestsOn, InTime}
 use Rattle.lk_sim.proofs.Lists.{asked_among}
 use Rattle.lk_sim.proofs.Bearing.{command_longer}
 
@@ -142,7 +142,7 @@ module _ (m : Meaning) (genesis : Genesis) (sent : List Datagram) (sound : Sound
 
   pub in_order : InOrder genesis sent trace
   in_order front back parted n client number a answered r unasked L i l c =
-      let p = in_time front back parted n client number a answered in
+      let p : IsAnsweredBy m genesis sent front client number a = in_time front back parted (note.Answered n client number a) answered in
       let none : Contains p.under (Request r) → ⊥ = λ has. unasked (noted front r (p.asked r has)) in
       let b = begins p.under L p.chosen l i r c.0 none in
       let k = reply_takes_effect m genesis p.under client number a p.replied in
@@ -154,6 +154,13 @@ module _ (m : Meaning) (genesis : Genesis) (sent : List Datagram) (sound : Sound
         of_number = k.of_number;
         effective = subst (λ z. IsEffectiveAt z k.place k.request) b.1 (effective_longer p.under b.0 k.place k.request k.effective);
       }
+
+  -- what is replied was asked
+  pub told_in_time : ToldInTime trace
+  told_in_time front back parted n client number last told =
+      let p : (a : Answer) × IsAnsweredBy m genesis sent front client last a = in_time front back parted (note.Told n client number last) told in
+      let k = reply_takes_effect m genesis p.1.under client last p.0 p.1.replied in
+      (k.request, k.of_client, k.of_number, noted front k.request (p.1.asked k.request (has_entry p.1.under k.place (Request k.request) k.effective.0)))
 
 -- ---- it stays so
 
@@ -177,21 +184,28 @@ parted_at {X} (x ∷ xs) ys (y ∷ front) back e =
     cons f g = cc (f, g)
 
 module _ (m : Meaning) (genesis : Genesis) (sent more : List Datagram) (trace notes : List Note) (in_time : InTime m genesis sent trace)
-    (fresh : (n client number : ℕ) (a : Answer) → Contains notes (note.Answered n client number a) → IsAnsweredBy m genesis sent trace client number a) where
-  still : (front later : List Note) (client number : ℕ) (a : Answer) → IsAnsweredBy m genesis sent front client number a → IsAnsweredBy m genesis (sent ++ more) (front ++ later) client number a
-  still front later client number a p = record {
+    (fresh : (x : Note) → Contains notes x → RestsOn m genesis sent trace x) where
+  still_answered : (front later : List Note) (client number : ℕ) (a : Answer) → IsAnsweredBy m genesis sent front client number a → IsAnsweredBy m genesis (sent ++ more) (front ++ later) client number a
+  still_answered front later client number a p = record {
     under = p.under;
     chosen = still_chosen genesis sent more p.under p.chosen;
     replied = p.replied;
     asked = λ r c. asked_among front later r (p.asked r c);
   }
 
+  still : (front later : List Note) (x : Note) → RestsOn m genesis sent front x → RestsOn m genesis (sent ++ more) (front ++ later) x
+  still front later (note.Asked r) p = tt
+  still front later (note.Counted node i set v) p = tt
+  still front later (note.Ran node i v) p = tt
+  still front later (note.Answered node client number a) p = still_answered front later client number a p
+  still front later (note.Told node client number last) p = (p.0, still_answered front later client last p.0 p.1)
+
   pub still_in_time : InTime m genesis (sent ++ more) (trace ++ notes)
-  still_in_time front back parted n client number a answered = elim (parted_at trace notes front back parted) [
-    | inl old ↦ subst (λ l. IsAnsweredBy m genesis (sent ++ more) l client number a) (append-nil front) (still front [] client number a (in_time front old.0 old.1 n client number a answered))
-    | inr new ↦ subst (λ l. IsAnsweredBy m genesis (sent ++ more) l client number a) (sym new.1) (still trace new.0 client number a
-        (elim (Contains-append_cases trace new.0 _ (subst (λ l. Contains l (note.Answered n client number a)) new.1 answered)) [
-          | inl before ↦ in_time trace [] (sym (append-nil trace)) n client number a before
-          | inr now ↦ fresh n client number a (subst (λ l. Contains l (note.Answered n client number a)) (sym new.2) (Contains-append_left new.0 back (note.Answered n client number a) now))
+  still_in_time front back parted x c = elim (parted_at trace notes front back parted) [
+    | inl old ↦ subst (λ l. RestsOn m genesis (sent ++ more) l x) (append-nil front) (still front [] x (in_time front old.0 old.1 x c))
+    | inr new ↦ subst (λ l. RestsOn m genesis (sent ++ more) l x) (sym new.1) (still trace new.0 x
+        (elim (Contains-append_cases trace new.0 x (subst (λ l. Contains l x) new.1 c)) [
+          | inl before ↦ in_time trace [] (sym (append-nil trace)) x before
+          | inr now ↦ fresh x (subst (λ l. Contains l x) (sym new.2) (Contains-append_left new.0 back x now))
         ]))
   ]

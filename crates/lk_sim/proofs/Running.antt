@@ -97,7 +97,7 @@ module _ {R : Type 0} (b : Behaviour R) where
   wants_grow old new (event.Compact m) k = ([], k.adds.sent)
   wants_grow old new (event.Client m r) k = nothing_more old new k
   wants_grow old new (event.Deliver i) k = elim k [ inl same ↦ nothing_more old new same | inr h ↦ ([], h.4.adds.sent) ]
-  wants_grow old new (event.Group m turns) k = elim k [ inl same ↦ nothing_more old new same | inr h ↦ ([], h.adds.sent) ]
+  wants_grow old new (event.Group m turns) k = elim k [ inl same ↦ nothing_more old new same.0 | inr h ↦ ([], h.adds.sent) ]
   wants_grow old new (event.Inject m bytes) k = elim k [ inl same ↦ nothing_more old new same.0 | inr h ↦ ([], h.adds.sent) ]
   wants_grow old new (event.Stop m x y) k = absurd k
   wants_grow old new (event.FailAt m count) k = absurd k

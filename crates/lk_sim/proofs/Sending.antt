@@ -37,8 +37,7 @@ use Rattle.lk_sim.proofs.Growth.{disks_move, still_asked, still_holding, still_b
 use Rattle.lk_sim.proofs.Bearing.{begins_all, bears_longer, message_longer, all_borne}
 use Rattle.lk_sim.proofs.Ordering.{still_in_time}
 use Rattle.lk_sim.proofs.Explaining.{request_asked}
-use Rattle.lk_sim.specs.Orders.{IsAnsweredBy}
-use Rattle.lk_types.specs.declared.answer.Answer.{Answer}
+use Rattle.lk_sim.specs.Orders.{RestsOn}
 
 -- one view in the place of a number's
 pub same_view : (n : ℕ) (y v : View) → (t : Bool) → (n == n) ≡ t → cond t y v ≡ y
@@ -208,13 +207,16 @@ module _ {R : Type 0} (Shows : R → Genesis → ℕ → Holding → Type 0) (di
   of_note : (x : Note) → Contains notes x → (K : List Command) × Chosen genesis sent K × BearsOut m (happened genesis sent trace) K x
   of_note x c = elim (Contains-append_cases mine told x c) [ inl own ↦ (let b = (g.noted x own).1 in (b.under, b.chosen, b.bears)) | inr now ↦ of_told x now ]
 
-  -- what is answered now is borne out by what was asked before
-  answered_now : (k client number : ℕ) (a : Answer) → Contains notes (note.Answered k client number a) → IsAnsweredBy m genesis sent trace client number a
-  answered_now k client number a c = elim (Contains-append_cases mine told (note.Answered k client number a) c) [
-    | inl own ↦ absurd (g.noted (note.Answered k client number a) own).0
-    | inr now ↦ (let b = of_told (note.Answered k client number a) now in
-        record { under = b.0; chosen = b.1; replied = b.2; asked = request_asked Shows disks m genesis seats sent trace w b.0 b.1 })
-  ]
+  -- what is borne out rests on what was asked before
+  rests : (x : Note) (L : List Command) → Chosen genesis sent L → BearsOut m (happened genesis sent trace) L x → RestsOn m genesis sent trace x
+  rests (note.Asked r) L l b = tt
+  rests (note.Counted k j set v) L l b = tt
+  rests (note.Ran k j v) L l b = tt
+  rests (note.Answered k client number a) L l b = record { under = L; chosen = l; replied = b; asked = request_asked Shows disks m genesis seats sent trace w L l }
+  rests (note.Told k client number last) L l b = (b.1.0, record { under = L; chosen = l; replied = b.1.1; asked = request_asked Shows disks m genesis seats sent trace w L l })
+
+  rests_now : (x : Note) → Contains notes x → RestsOn m genesis sent trace x
+  rests_now x c = let b = of_note x c in rests x b.0 b.1 b.2
 
   told_now : told_in (trace ++ notes) ≡ told_in trace ++ told
   told_now = told_in-append trace notes ∙ ap (λ l. told_in trace ++ l)
@@ -246,5 +248,5 @@ module _ {R : Type 0} (Shows : R → Genesis → ℕ → Holding → Type 0) (di
           | inr fresh ↦ b.3 fresh.datagram fresh.listed k x fresh.spelled
         ];
         told = subst (λ l. Tells (sent ++ batch) l) (sym told_now) (tells_append sent batch (told_in trace) told w.told tells);
-        in_time = still_in_time m genesis sent batch trace notes w.in_time answered_now;
+        in_time = still_in_time m genesis sent batch trace notes w.in_time rests_now;
       }

@@ -12,7 +12,6 @@ use Rattle.lk_history.specs.Nodes.{fresh}
 use Rattle.lk_history.proofs.Histories.{still_stems}
 use Rattle.lk_history.proofs.Histories.{start_fits}
 use Rattle.lk_step.specs.declared.note.Note.{Note}
-use Rattle.lk_step.specs.declared.note.Note.TheVariants as note
 use Rattle.lk_node.specs.Histories.{History, Genesis, Datagram}
 use Rattle.lk_node.specs.Served.{text}
 use Rattle.lk_node.specs.Holdings.{Holding}
@@ -120,7 +119,7 @@ nothing_holds Shows disks m genesis = record {
   notes = λ x c. absurd (omega (arith, c.1));
   messages = λ n x c. absurd (omega (arith, c.listed.1));
   told = refl;
-  in_time = λ front back parted n client number a c. absurd (nobody front back parted (note.Answered n client number a) c);
+  in_time = λ front back parted x c. absurd (nobody front back parted x c);
 }
   where
     nobody : (front back : List Note) → [] ≡ front ++ back → (x : Note) → Contains front x → ⊥

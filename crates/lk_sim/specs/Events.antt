@@ -1,5 +1,5 @@
 -- What an event does to a world.
-use Rattle.std.specs.Prelude.{◌≡◌, ℕ, ◌+◌, ◌<◌, ◌-◌, ◌⊎◌, ◌&&◌, nat_lt, nat_le, true, false, length, map, take, List, [], ◌∷◌, ◌++◌, Option, Some, None, Result, Ok, Err, IfErr, set, Contains, if◌then◌else◌, Vec, vec_len, vec_capacity}
+use Rattle.std.specs.Prelude.{◌≡◌, ℕ, ◌+◌, ◌<◌, ◌-◌, ◌⊎◌, ◌&&◌, nat_lt, nat_le, true, false, length, map, take, List, [], ◌∷◌, ◌++◌, Option, Some, None, Result, Ok, Err, set, Contains, if◌then◌else◌, Vec, vec_len, vec_capacity}
 use Rattle.std.specs.Global.{Global}
 use Rattle.std.specs.List.{AllByRecursion}
 use Rattle.lk_disk.specs.Memory.{Memory, empty}
@@ -367,10 +367,15 @@ TakesMemory (Err number) left = IsWant number left
 abbrev pub LeftBy : {R : Type 0} → Behaviour R → Option (List ℕ) → Life R → Memory → Type 0
 LeftBy {R = R} b o life left = (r q : R) × (came : Result (List Note × List Datagram) ℕ) × (life ≡ Up r) × b.Takes r o q came × (left ≡ b.memory q) × TakesMemory came left
 
--- a call for a group left this device; where it was refused it was so when out of memory. What its steps came to takes memory
+-- what a group came to takes memory: it was refused when out of memory, or there is what a step noted or sent
+abbrev pub TakesMemoryTogether : Result (List Said) ℕ → Memory → Type 0
+TakesMemoryTogether (Ok said) left = said ≡ [] → ⊥
+TakesMemoryTogether (Err number) left = IsWant number left
+
+-- such a call for a group left this device
 abbrev pub LeftByGroup : {R : Type 0} → Behaviour R → List (Option (List ℕ)) → Life R → Memory → Type 0
 LeftByGroup {R = R} b given life left =
-    (r q : R) × (came : Result (List (List Note × List Datagram)) ℕ) × (life ≡ Up r) × b.TakesAll r given q came × (left ≡ b.memory q) × IfErr came (λ number. IsWant number left)
+    (r q : R) × (came : Result (List Said) ℕ) × (life ≡ Up r) × b.TakesAll r given q came × (left ≡ b.memory q) × TakesMemoryTogether came left
 
 -- this is the device of what a revival came to that takes memory: it was refused when out of memory, or there is something to be noted
 abbrev pub IsOf : {R : Type 0} → Behaviour R → Result (R × List Note) (ℕ × Memory) → Memory → Type 0
@@ -407,13 +412,15 @@ pub record IsHalted {R : Type 0} (Left : Life R → Memory → Type 0) (old new 
 abbrev pub WantsInjection : {R : Type 0} → Behaviour R → Scene R → ℕ → List ℕ → Scene R → Type 0
 WantsInjection b old n bytes new = ((new ≡ old) × ((r : RequestValue) × Asks bytes (Some r))) ⊎ IsHalted (LeftBy b (Some bytes)) old new n
 
--- what refused memory leaves of a group: there was no room for what its node was to be given, before the node stepped; or the node has stopped
+-- what refused memory leaves of a group: there was no room for what its node was to be given, which is something, before the node stepped; or the node
+-- has stopped, and its call takes memory
 abbrev pub WantsGroup : {R : Type 0} → Behaviour R → Scene R → ℕ → List Turn → Scene R → Type 0
-WantsGroup b old n turns new = (new ≡ old) ⊎ IsHalted (LeftByGroup b (map (given_by old.sent) turns)) old new n
+WantsGroup b old n turns new = ((new ≡ old) × (0 < length turns)) ⊎ IsHalted (LeftByGroup b (map (given_by old.sent) turns)) old new n
 
 -- what refused memory leaves of an event: the node that it steps, or revives, has stopped. Where no node was stepping yet nothing has
 -- changed, nor where the node was never started before: it is as never started. A stop, and a trap that is set, take no memory, nor does a
--- call that came to another fault, or that left nothing to be noted or sent. Nothing was noted or sent
+-- call that came to another fault, or that left nothing to be noted or sent; a client's datagram takes some each time, for its bytes. Nothing was noted or
+-- sent
 abbrev pub Wants : {R : Type 0} → Behaviour R → Scene R → Event → Scene R → Type 0
 Wants b old (event.Start n) new = new ≡ old
 Wants b old (event.Restart n) new = IsHalted (LeftByRevival b (header_of old.genesis n)) old new n

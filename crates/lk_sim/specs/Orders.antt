@@ -1,4 +1,4 @@
--- What was answered before a request was asked takes effect before it.
+-- What was answered before a request was asked takes effect before it, and what a client was told of was asked before.
 use Rattle.std.specs.Prelude.{◌≡◌, ℕ, ◌-◌, ◌<◌, List, ◌++◌, take, Some, Contains}
 use Rattle.lk_types.specs.declared.answer.Answer.{Answer}
 use Rattle.lk_members.specs.Effects.{in_effect}
@@ -32,6 +32,13 @@ InOrder genesis sent trace =
     → (r : RequestValue) → (Contains front (note.Asked r) → ⊥)
     → (L : List Command) (i : ℕ) → Chosen genesis sent L → IsEffectiveAt L i r → IsEffectiveBefore L i client number
 
+-- wherever a trace is separated: a greater number of which a client was told in its front was asked in that front
+abbrev pub ToldInTime : List Note → Type 0
+ToldInTime trace =
+    (front back : List Note) → trace ≡ front ++ back
+    → (n client number last : ℕ) → Contains front (note.Told n client number last)
+    → (r : RequestValue) × (r.client ≡ client) × (r.number ≡ last) × Contains front (note.Asked r)
+
 -- ---- why
 
 -- a chosen list bears out the answer, all of whose requests were asked in these notes
@@ -41,8 +48,14 @@ pub record IsAnsweredBy (m : Meaning) (genesis : Genesis) (sent : List Datagram)
   pub replied : reply m genesis under client number ≡ Some a
   pub asked : (r : RequestValue) → Contains under (Request r) → Contains (asked_in front) r
 
--- so is each answer in a front of the trace, by what was asked in that front
+-- the note rests on what was asked in these notes: so does an answer, and word of a greater number, which was answered
+abbrev pub RestsOn : Meaning → Genesis → List Datagram → List Note → Note → Type 0
+RestsOn m genesis sent front (note.Asked r) = Unit {0}
+RestsOn m genesis sent front (note.Counted node i set v) = Unit {0}
+RestsOn m genesis sent front (note.Ran node i v) = Unit {0}
+RestsOn m genesis sent front (note.Answered node client number a) = IsAnsweredBy m genesis sent front client number a
+RestsOn m genesis sent front (note.Told node client number last) = (a : Answer) × IsAnsweredBy m genesis sent front client last a
+
+-- so does each note in a front of the trace, on what was asked in that front
 abbrev pub InTime : Meaning → Genesis → List Datagram → List Note → Type 0
-InTime m genesis sent trace =
-    (front back : List Note) → trace ≡ front ++ back
-    → (n client number : ℕ) (a : Answer) → Contains front (note.Answered n client number a) → IsAnsweredBy m genesis sent front client number a
+InTime m genesis sent trace = (front back : List Note) → trace ≡ front ++ back → (x : Note) → Contains front x → RestsOn m genesis sent front x

@@ -5,7 +5,7 @@ use Rattle.lk_node.specs.Histories.{Command}
 use Rattle.lk_replica.specs.Behaviours.{Behaviour, disks_by}
 use Rattle.lk_sim.specs.Explained.{Explains}
 use Rattle.lk_sim.specs.Kept.{disks_of, CoversAll, IsKeptBy}
-use Rattle.lk_sim.specs.Orders.{InOrder}
+use Rattle.lk_sim.specs.Orders.{InOrder, ToldInTime}
 use Rattle.lk_sim.specs.Rooms.{AreShort}
 use Rattle.lk_sim.specs.Scenes.{Scene}
 use Rattle.lk_sim.specs.Seats.{At}
@@ -30,5 +30,7 @@ pub record Promises {R : Type 0} (b : Behaviour R) (whole : R → WholeValue) (m
   pub kept : (L : List Command) (i : ℕ) (v : Command) → Chosen w.genesis w.sent L → command_at L i ≡ Some v → IsKeptBy (disks_by b) m w.genesis w.seats w.sent L i v
   -- what was answered before a request was asked takes effect before it
   pub order : InOrder w.genesis w.sent w.trace
+  -- a greater number of which a client was told was asked before
+  pub told_in_time : ToldInTime w.trace
   -- neither file of a node is ever longer than 262,144 bytes
   pub room : (k : ℕ) (s : Seat R) → At w.seats k s → AreShort (disks_of (disks_by b) s.life)

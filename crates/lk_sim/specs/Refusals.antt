@@ -1,5 +1,5 @@
 -- Why an event is refused, the smallest number first.
-use Rattle.std.specs.Prelude.{◌≡◌, ℕ, zero, suc, ◌<◌, ◌≤◌, List, length, Option, Some, None, slice_get, Contains}
+use Rattle.std.specs.Prelude.{◌≡◌, ℕ, zero, suc, ◌<◌, ◌≤◌, List, length, Option, Some, None, slice_get}
 use Rattle.std.specs.List.{AllByRecursion}
 use Rattle.lk_history.specs.declared.party.Party.{Party}
 use Rattle.lk_history.specs.declared.party.Party.TheVariants as party

@@ -234,7 +234,8 @@ fn bytes_for_all<R: MemoryReplica>(
     parts: &Parts<R>,
     turns: &[Turn],
 ) -> Result<Vec<Option<Vec<u8>>>, NoMemory>
-    ensures { IfOk result (λ l. map copied l.items ≡ map (given_by parts.now.sent.items) turns.now) }
+    ensures ok { IfOk result (λ l. map copied l.items ≡ map (given_by parts.now.sent.items) turns.now) }
+    ensures memory { OnErr result (0 < length turns.now) }
 {
     let mut all = Vec::new(parts.alloc);
     'turns: for turn in turns {
@@ -245,7 +246,8 @@ fn bytes_for_all<R: MemoryReplica>(
 
 // What a node takes of that.
 fn inputs_of<'a>(alloc: Global, all: &'a [Option<Vec<u8>>]) -> Result<Vec<Input<'a>>, NoMemory>
-    ensures { IfOk result (λ l. map heard_by l.items ≡ map copied all.now) }
+    ensures ok { IfOk result (λ l. map heard_by l.items ≡ map copied all.now) }
+    ensures memory { OnErr result (0 < length all.now) }
 {
     let mut inputs = Vec::new(alloc);
     'all: for bytes in all {

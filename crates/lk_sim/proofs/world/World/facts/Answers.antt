@@ -1,4 +1,4 @@
-use Rattle.lk_sim.proofs.Explaining.{explains, agree, states, ordered}
+use Rattle.lk_sim.proofs.Explaining.{explains, agree, states, ordered, told_in_time}
 use Rattle.lk_sim.proofs.Keeping.{room, covered, kept}
 use Rattle.lk_sim.proofs.world.World.facts.Goals as goal
 
@@ -15,6 +15,7 @@ returns g c =
         covered = covered _ _ _ p.genesis p.seats.items p.sent.items p.trace.items w;
         kept = λ L i v chosen. kept _ _ _ p.genesis p.seats.items p.sent.items p.trace.items w L chosen i v;
         order = ordered _ _ _ p.genesis p.seats.items p.sent.items p.trace.items w;
+        told_in_time = told_in_time _ _ _ p.genesis p.seats.items p.sent.items p.trace.items w;
         room = room _ _ _ p.genesis p.seats.items p.sent.items p.trace.items w;
       });
     }
