@@ -17,6 +17,10 @@ enum Kind {
     Flag,
     /// Words without `--NAME`, one or more, which have to be given.
     Words,
+    /// Words after `--NAME`, one or more, which have to be given.
+    Several,
+    /// Two words after `--NAME`, which may be given.
+    Pair,
 }
 
 /// An argument: how it is given, its name, and its help.
@@ -55,6 +59,18 @@ const SUBCOMMANDS: &[Usage] = &[
         (Kind::Word, "request", "the number of the request, higher each time"),
         (Kind::Words, "op", "acquire NAME, release NAME FENCE, ask NAME, check NAME FENCE, share NAME, break NAME FENCE, join NODE PORT, leave NODE, raise 2 or raw HEX"),
     ]),
+    ("status", "asks nodes at once how the cluster stands, and prints a line for each", &[
+        (Kind::Word, "cluster", "the number of the cluster"),
+        (Kind::Several, "port", "PORT or NODE:PORT of each node that is asked"),
+        (Kind::Given, "address", "the address of the nodes that no hosts name"),
+        (Kind::Given, "hosts", "a file of lines NODE ADDRESS: where each node lives"),
+        (Kind::Given, "client", "the number of the client whose key is given"),
+        (Kind::Given, "client-key", "the file of that client's key"),
+        (Kind::Flag, "json", "prints one object of JSON"),
+        (Kind::Flag, "prometheus", "prints metrics, as node_exporter's textfile collector takes them"),
+        (Kind::Given, "wait", "how long silent nodes are waited for, in milliseconds: 500 by default"),
+        (Kind::Pair, "until", "ready SECONDS: waits so long at most until all nodes have executed what the leader has"),
+    ]),
     ("demo", "shows three nodes and two clients", &[]),
     ("dump", "prints what stands in the store of a folder", &[
         (Kind::Word, "dir", "the folder of a node's files"),
@@ -83,6 +99,8 @@ fn argument<'a>(alloc: Global, kind: Kind, name: &'a str, help: &'a str) -> Arg<
         Kind::Given => word(alloc, name).required(false),
         Kind::Flag => Arg::new(alloc, name).long(name).action(ArgAction::SetTrue),
         Kind::Words => Arg::new(alloc, name).required(true).num_args(1..),
+        Kind::Several => word(alloc, name).action(ArgAction::Append).num_args(1..),
+        Kind::Pair => word(alloc, name).required(false).num_args(2),
     };
     argument.help(help)
 }

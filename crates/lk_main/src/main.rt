@@ -3,6 +3,7 @@
 
 mod commands;
 mod plans;
+mod status_words;
 mod subcommand;
 mod words;
 

@@ -17,7 +17,7 @@ use std::alloc::{AllocError, Global};
 use std::net::IpAddr;
 
 /// The bytes of a word that was named.
-fn word<'a>(matches: &ArgMatches<'a>, name: &str) -> Option<&'a [u8]> {
+pub fn word<'a>(matches: &ArgMatches<'a>, name: &str) -> Option<&'a [u8]> {
     Some(matches.get_str(name)?.as_bytes())
 }
 
@@ -68,7 +68,7 @@ pub fn fuzz_plan(matches: &ArgMatches<'_>) -> Option<(u64, u32)> {
 }
 
 /// The client that a word names.
-fn client_of(word: &[u8]) -> Option<ClientNo> {
+pub fn client_of(word: &[u8]) -> Option<ClientNo> {
     let number = read_number(word, u64::from(MAX_CLIENT))?;
     ClientNo::of(number as u16)
 }

@@ -11,10 +11,11 @@ pub enum Subcommand {
     Dump,
     Inspect,
     ClientKey,
+    Status,
 }
 
 /// All of them, by their names.
-const NAMED: [(&str, Subcommand); 8] = [
+const NAMED: [(&str, Subcommand); 9] = [
     ("sim", Subcommand::Sim),
     ("fuzz", Subcommand::Fuzz),
     ("node", Subcommand::Node),
@@ -23,6 +24,7 @@ const NAMED: [(&str, Subcommand); 8] = [
     ("dump", Subcommand::Dump),
     ("inspect", Subcommand::Inspect),
     ("client-key", Subcommand::ClientKey),
+    ("status", Subcommand::Status),
 ];
 
 impl Subcommand {

@@ -4,6 +4,7 @@ ghost use Rattle.std.specs.Prelude.{◌≤◌};
 
 use crate::commands::program;
 use crate::plans::{ask_away, ask_plan, client_key_plan, fuzz_plan, node_plan};
+use crate::status_words::status_plan;
 use crate::subcommand::Subcommand;
 use clap::error::ErrorKind;
 use clap::{ArgMatches, Error};
@@ -24,6 +25,7 @@ use lk_service::outside::{Away, far_of};
 use lk_service::question::ask;
 use lk_service::resources::{NodePlan, open_resources};
 use lk_service::running::run_node;
+use lk_status::status::status;
 use log::sink::{Console, Discard};
 use log::{Level, Log, Logged};
 use std::alloc::Global;
@@ -129,6 +131,34 @@ fn ask_words<R: Files<File = File> + Net, W: Write, E: Write>(
     }
 }
 
+/// Asks nodes how the cluster stands.
+fn status_words<R: Files<File = File> + Net, W: Write, E: Write>(
+    rt: &R,
+    alloc: Global,
+    matches: &ArgMatches<'_>,
+    out: &mut W,
+    err: &mut E,
+) -> u8
+    ensures { result ≤ 2 }
+{
+    let mut plan = match status_plan(alloc, matches) {
+        Ok(Some(plan)) => plan,
+        Ok(None) => return refuse_words(err),
+        Err(fault) => return fault.tell(err),
+    };
+    let Some(away) = ask_away(matches) else {
+        return refuse_words(err);
+    };
+    plan.inquiry.far = match far_of(rt, alloc, plan.inquiry.cluster, &away, err) {
+        Ok(far) => far,
+        Err(fault) => return fault.tell(err),
+    };
+    match open_socket_at(rt, SocketAddr::from((plan.inquiry.own_address(), 0)), err) {
+        Ok(mut socket) => status(alloc, &mut socket, &plan, out, err),
+        Err(fault) => fault.tell(err),
+    }
+}
+
 /// Prints the key of a client.
 fn client_key_words<R: Files<File = File>, W: Write, E: Write>(
     rt: &R,
@@ -179,6 +209,7 @@ fn run_subcommand<H: Files<File = File> + Net + Eprint, R: BufRead, W: Write, E:
         Subcommand::Ask => ask_words(rt, alloc, matches, out, err),
         Subcommand::Demo => demo::<LockTable, H, W, E>(rt, alloc, out, err),
         Subcommand::Dump => dump(rt, alloc, folder_in(matches), out, err),
+        Subcommand::Status => status_words(rt, alloc, matches, out, err),
         Subcommand::ClientKey => client_key_words(rt, alloc, matches, out, err),
         Subcommand::Inspect => inspect(rt, alloc, folder_in(matches), out, err),
     }

@@ -1,0 +1,40 @@
+-- How long a probe and a report are before zeros stand behind.
+use Rattle.std.proofs.Common.{◌≡◌, ℕ, ◌+◌, ◌*◌, ◌≤◌, List, [], ◌∷◌, ◌++◌, length, refl, arith}
+use Rattle.std.specs.List.{flat_map}
+use Rattle.std.proofs.lemmas.List.{length-append}
+use Rattle.std.proofs.lemmas.List.Concat.{flat_map-cons}
+use Rattle.lk_types.specs.declared.member.Member.{Member}
+use Rattle.lk_fields.specs.Fields.{two, four, eight, member}
+use Rattle.lk_probe.specs.Grammar.{identity, leadership, progress, traffic, members, status, front, probe, report, IsStatus, IsReport}
+use Rattle.lk_probe.specs.declared.status.Identity.{Identity}
+use Rattle.lk_probe.specs.declared.status.Status.{Status}
+use Rattle.lk_probe.specs.declared.probe.Probe.{Probe}
+use Rattle.lk_probe.specs.declared.probe.Report.{Report}
+
+length-two : (n : ℕ) → length (two n) ≡ 2
+unfolding two
+length-two n = refl
+
+length-four : (n : ℕ) → length (four n) ≡ 4
+unfolding four
+length-four n = refl
+
+length-eight : (n : ℕ) → length (eight n) ≡ 8
+unfolding eight
+length-eight n = refl
+
+length-members : (ms : List Member) → length (flat_map member ms) ≡ 6 * length ms
+length-members [] = refl
+length-members (m ∷ ms) = rw (flat_map-cons member m ms) (simp (length-append, length-two, length-four) (omega (arith, length-members ms)))
+
+length-identity : (i : Identity) → length i.genesis ≡ 32 → length (identity i) ≡ 37
+length-identity i e = simp length-append (omega (arith, e))
+
+pub length-probe : (p : Probe) → length (front 9 (probe p)) ≡ 26
+length-probe p = simp (length-append, length-two, length-four, length-eight)
+
+length-status : (s : Status) → IsStatus s → length (status s) ≤ 148
+length-status s f = simp (length-append, length-two, length-four, length-eight) (omega (arith, f.0.0, f.4.1, length-members s.members))
+
+pub length-report : (r : Report) → IsReport r → length (front 10 (report r)) ≤ 174
+length-report r f = simp (length-append, length-two, length-four, length-eight) (omega (arith, f.4.0.0, f.4.4.1, length-members r.status.members))

@@ -1,0 +1,4 @@
+mod Codec
+mod PartLaws
+mod DatagramLaws
+mod Lengths

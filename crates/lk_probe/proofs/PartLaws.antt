@@ -1,0 +1,174 @@
+-- Each part of a probe and of a report reads what its spelling is.
+use Rattle.std.proofs.Common.{◌≡◌, ℕ, suc, ◌^◌, ◌<◌, ◌≤◌, Bool, true, false, cond, ltb, leb, eqb, List, ◌++◌, length, take, drop, Option, Some, None, refl, sym, subst, ◌∙◌, arith, inl, inr}
+use Rattle.std.specs.Prelude.{IfSome}
+use Rattle.std.specs.List.{AllByRecursion}
+use Rattle.std.proofs.lemmas.Bool.{ltb-false, le-ltb}
+use Rattle.std.proofs.lemmas.Bool.Decides.{nat_tests}
+use Rattle.std.proofs.lemmas.List.{take_at, drop_at, take-append-drop, length-append, length-take}
+use Rattle.lk_types.specs.Ranges.{IsNode, IsClient, IsTotal}
+use Rattle.lk_types.specs.BallotValue.{BallotValue}
+use Rattle.lk_types.specs.Ballots.{IsMark}
+use Rattle.lk_types.specs.Rosters.{IsMember, AreMembers, members_rise}
+use Rattle.lk_types.specs.declared.member.Member.{Member}
+use Rattle.lk_fields.specs.Fields.{one, two, four, eight, ballot, member}
+use Rattle.lk_fields.specs.Parser.{read_byte, both, made, tested, counted}
+use Rattle.lk_fields.specs.FieldReading.{is_from_1_to, read_two, read_four, read_eight, read_node, read_total, read_mark, read_member}
+use Rattle.lk_fields.proofs.Spellings.{IsBytes, IsBytes-drop, chosen, some_is, Took, Reads, fitting, both_reads, made_reads, tested_reads, byte_reads, counted_reads, two_reads, four_reads, eight_reads, at_most, is_at_most, ranged_reads, limited_reads, node_reads, total_reads, mark_reads, member_reads}
+use Rattle.lk_probe.specs.Grammar.{or_zero, flag, version, identity, leadership, progress, traffic, members, status, probe, report, IsByte, IsVersion, IsIdentity, IsLeadership, IsProgress, IsTraffic, IsStatus, IsProbe, IsReport}
+use Rattle.lk_probe.specs.Reading.{or_none, optional, read_maybe_node, read_maybe_client, read_flag, read_digest, read_version, read_identity, read_leadership, read_progress, read_traffic, read_members, read_status, read_probe_fields, read_report_fields}
+use Rattle.lk_probe.specs.declared.status.Version.{Version}
+use Rattle.lk_probe.specs.declared.status.Identity.{Identity}
+use Rattle.lk_probe.specs.declared.status.Leadership.{Leadership}
+use Rattle.lk_probe.specs.declared.status.Progress.{Progress}
+use Rattle.lk_probe.specs.declared.status.Traffic.{Traffic}
+use Rattle.lk_probe.specs.declared.status.Status.{Status}
+use Rattle.lk_probe.specs.declared.probe.Probe.{Probe}
+use Rattle.lk_probe.specs.declared.probe.Report.{Report}
+use Rattle.lk_probe.proofs.Codec.{remade_reads}
+
+-- ---- numbers that may not be there
+
+abbrev IsFrom : ℕ → ℕ → Type 0
+IsFrom most n = (1 ≤ n) × (n ≤ most)
+
+or_none-suc : (n : ℕ) → or_none (suc n) ≡ Some (suc n)
+or_none-suc n = let more : eqb (suc n) 0 ≡ false = grind (arith, nat_tests) in rw more refl
+
+none_or : (most n : ℕ) → n ≤ most → (or_zero (or_none n) ≡ n) × IfSome (or_none n) (IsFrom most)
+none_or most ℕ.zero h = (refl, tt)
+none_or most (suc n) h = rw (or_none-suc n) (refl, (omega arith, h))
+
+zero_or : (most : ℕ) (o : Option ℕ) → IfSome o (IsFrom most) → (or_none (or_zero o) ≡ o) × (or_zero o ≤ most)
+zero_or most None h = (refl, omega arith)
+zero_or most (Some ℕ.zero) h = absurd (omega (arith, h))
+zero_or most (Some (suc n)) h = (or_none-suc n, h.1)
+
+optional_reads : (most limit : ℕ) → most < limit → (p : List ℕ → Option (ℕ × List ℕ)) (s : ℕ → List ℕ) → Reads p s (λ n. n < limit)
+    → Reads (optional most p) (λ (o : Option ℕ). s (or_zero o)) (λ (o : Option ℕ). IfSome o (IsFrom most))
+optional_reads most limit lt p s r =
+    remade_reads or_none or_zero (tested (λ n. leb n most) p) s (λ n. n ≤ most) (λ (o : Option ℕ). IfSome o (IsFrom most)) (none_or most) (zero_or most) (limited_reads most limit lt p s r)
+
+maybe_node_reads : Reads read_maybe_node (λ (o : Option ℕ). four (or_zero o)) (λ (o : Option ℕ). IfSome o IsNode)
+unfolding read_maybe_node
+maybe_node_reads = optional_reads 2147483648 (2 ^ 32) (omega arith) read_four four four_reads
+
+maybe_client_reads : Reads read_maybe_client (λ (o : Option ℕ). two (or_zero o)) (λ (o : Option ℕ). IfSome o IsClient)
+unfolding read_maybe_client
+maybe_client_reads = optional_reads 256 (2 ^ 16) (omega arith) read_two two two_reads
+
+-- ---- what holds or not
+
+is_flag : (n : ℕ) → n ≤ 1 → (flag (eqb n 1) ≡ n) × Unit {0}
+is_flag ℕ.zero h = (refl, tt)
+is_flag (suc ℕ.zero) h = (refl, tt)
+is_flag (suc (suc n)) h = absurd (omega (arith, h))
+
+flag_is : (b : Bool) → Unit {0} → (eqb (flag b) 1 ≡ b) × (flag b ≤ 1)
+flag_is true h = (refl, omega arith)
+flag_is false h = (refl, omega arith)
+
+flag_reads : Reads read_flag (λ (b : Bool). one (flag b)) (λ (b : Bool). Unit {0})
+unfolding read_flag
+flag_reads = remade_reads (λ n. eqb n 1) flag (tested (λ n. leb n 1) read_byte) one (λ n. n ≤ 1) (λ (b : Bool). Unit {0}) is_flag flag_is (limited_reads 1 256 (omega arith) read_byte one byte_reads)
+
+-- ---- the digest
+
+digest_takes : (bytes digest rest : List ℕ) → IsBytes bytes → read_digest bytes ≡ Some (digest, rest) → Took (λ (d : List ℕ). d) (λ (d : List ℕ). length d ≡ 32) bytes digest rest
+unfolding read_digest
+digest_takes bytes digest rest h e =
+    elim (chosen (ltb (length bytes) 32) None (Some (take 32 bytes, drop 32 bytes)) (Some (digest, rest)) e) [
+      | inl short ↦ let bad = short.1 in absurd cc
+      | inr long ↦
+          let enough : 32 ≤ length bytes = ltb-false _ _ long.0 in
+          let cut : List ℕ × List ℕ = (take 32 bytes, drop 32 bytes) in
+          subst (λ (z : List ℕ × List ℕ). Took (λ (d : List ℕ). d) (λ (d : List ℕ). length d ≡ 32) bytes z.0 z.1) (some_is cut (digest, rest) long.1)
+          (record { parts = sym (take-append-drop 32 bytes); rest_fits = IsBytes-drop 32 bytes h; fits = omega (arith, length-take 32 bytes) })
+    ]
+
+digest_again : (digest rest : List ℕ) → length digest ≡ 32 → read_digest (digest ++ rest) ≡ Some (digest, rest)
+unfolding read_digest
+digest_again digest rest len =
+    let long : ltb (length (digest ++ rest)) 32 ≡ false = le-ltb _ _ (omega (arith, length-append digest rest)) in
+    rw (long, take_at digest rest 32 len, drop_at digest rest 32 len) refl
+
+digest_reads : Reads read_digest (λ (d : List ℕ). d) (λ (d : List ℕ). length d ≡ 32)
+digest_reads = record { takes = digest_takes; again = digest_again }
+
+-- ---- the parts
+
+version_reads : Reads read_version version IsVersion
+unfolding read_version
+version_reads = fitting read_version version (λ (v : Version). IsByte v.major × (IsByte v.minor × IsByte v.patch)) IsVersion (λ v f. (f.0, f.1.0, f.1.1)) (λ v f. (f.0, (f.1, f.2)))
+    (made_reads (λ (v : ℕ × (ℕ × ℕ)). let x : Version = record { major = v.0; minor = v.1.0; patch = v.1.1 } in x) (λ (v : Version). (v.major, (v.minor, v.patch))) (λ x. refl) (λ y. refl) _ _ _
+    (both_reads read_byte one IsByte _ _ _ byte_reads (both_reads read_byte one IsByte read_byte one IsByte byte_reads byte_reads)))
+
+identity_reads : Reads read_identity identity IsIdentity
+unfolding read_identity
+identity_reads = fitting read_identity identity (λ (i : Identity). (length i.genesis ≡ 32) × (IsVersion i.program × (IsByte i.format × IsByte i.table))) IsIdentity (λ i f. (f.0, f.1.0, f.1.1.0, f.1.1.1)) (λ i f. (f.0, (f.1, (f.2, f.3))))
+    (made_reads (λ (i : List ℕ × (Version × (ℕ × ℕ))). let x : Identity = record { genesis = i.0; program = i.1.0; format = i.1.1.0; table = i.1.1.1 } in x) (λ (i : Identity). (i.genesis, (i.program, (i.format, i.table)))) (λ x. refl) (λ y. refl) _ _ _
+    (both_reads read_digest (λ (d : List ℕ). d) (λ (d : List ℕ). length d ≡ 32) _ _ _ digest_reads
+    (both_reads read_version version IsVersion _ _ _ version_reads (both_reads read_byte one IsByte read_byte one IsByte byte_reads byte_reads))))
+
+leadership_reads : Reads read_leadership leadership IsLeadership
+unfolding read_leadership
+leadership_reads = fitting read_leadership leadership (λ (l : Leadership). Unit {0} × (IfSome l.leader IsNode × ((l.silence < 2 ^ 64) × IsMark l.promised))) IsLeadership (λ l f. (f.1.0, f.1.1.0, f.1.1.1)) (λ l f. (tt, (f.0, (f.1, f.2))))
+    (made_reads (λ (l : Bool × (Option ℕ × (ℕ × BallotValue))). let x : Leadership = record { leads = l.0; leader = l.1.0; silence = l.1.1.0; promised = l.1.1.1 } in x) (λ (l : Leadership). (l.leads, (l.leader, (l.silence, l.promised)))) (λ x. refl) (λ y. refl) _ _ _
+    (both_reads read_flag (λ (b : Bool). one (flag b)) (λ (b : Bool). Unit {0}) _ _ _ flag_reads
+    (both_reads read_maybe_node (λ (o : Option ℕ). four (or_zero o)) (λ (o : Option ℕ). IfSome o IsNode) _ _ _ maybe_node_reads
+    (both_reads read_eight eight (λ n. n < 2 ^ 64) read_mark ballot IsMark eight_reads mark_reads))))
+
+progress_reads : Reads read_progress progress IsProgress
+unfolding read_progress
+progress_reads = fitting read_progress progress (λ (p : Progress). IsTotal p.executed × (IsTotal p.snapshot × IsByte p.pending)) IsProgress (λ p f. (f.0, f.1.0, f.1.1)) (λ p f. (f.0, (f.1, f.2)))
+    (made_reads (λ (p : ℕ × (ℕ × ℕ)). let x : Progress = record { executed = p.0; snapshot = p.1.0; pending = p.1.1 } in x) (λ (p : Progress). (p.executed, (p.snapshot, p.pending))) (λ x. refl) (λ y. refl) _ _ _
+    (both_reads read_total eight IsTotal _ _ _ total_reads (both_reads read_total eight IsTotal read_byte one IsByte total_reads byte_reads)))
+
+traffic_reads : Reads read_traffic traffic IsTraffic
+unfolding read_traffic
+traffic_reads = fitting read_traffic traffic (λ (t : Traffic). (t.waiting < 2 ^ 16) × ((t.unread < 2 ^ 64) × ((t.unsent < 2 ^ 64) × (t.ticks < 2 ^ 64)))) IsTraffic (λ t f. (f.0, f.1.0, f.1.1.0, f.1.1.1)) (λ t f. (f.0, (f.1, (f.2, f.3))))
+    (made_reads (λ (t : ℕ × (ℕ × (ℕ × ℕ))). let x : Traffic = record { waiting = t.0; unread = t.1.0; unsent = t.1.1.0; ticks = t.1.1.1 } in x) (λ (t : Traffic). (t.waiting, (t.unread, (t.unsent, t.ticks)))) (λ x. refl) (λ y. refl) _ _ _
+    (both_reads read_two two (λ n. n < 2 ^ 16) _ _ _ two_reads
+    (both_reads read_eight eight (λ n. n < 2 ^ 64) _ _ _ eight_reads
+    (both_reads read_eight eight (λ n. n < 2 ^ 64) read_eight eight (λ n. n < 2 ^ 64) eight_reads eight_reads))))
+
+abbrev AreAll : List Member → Type 0
+AreAll ms = AreMembers ms × AllByRecursion IsMember ms
+
+members_reads : Reads read_members members AreAll
+unfolding read_members
+members_reads = fitting read_members members (λ (ms : List Member). (((1 ≤ length ms) × (length ms ≤ 7)) × AllByRecursion IsMember ms) × (members_rise 0 ms ≡ true)) AreAll
+    (λ ms f. ((f.0.0.0, f.0.0.1, f.1), f.0.1)) (λ ms f. (((f.0.0, f.0.1), f.1), f.0.2))
+    (tested_reads (members_rise 0) _ members (λ (ms : List Member). ((1 ≤ length ms) × (length ms ≤ 7)) × AllByRecursion IsMember ms)
+    (counted_reads (tested (is_from_1_to 7) read_byte) one (λ n. (1 ≤ n) × (n ≤ 7)) (ranged_reads 7 256 (omega arith) read_byte one byte_reads) read_member member IsMember member_reads))
+
+status_reads : Reads read_status status IsStatus
+unfolding read_status
+status_reads = fitting read_status status (λ (s : Status). IsIdentity s.identity × (IsLeadership s.leadership × (IsProgress s.progress × (IsTraffic s.traffic × AreAll s.members)))) IsStatus
+    (λ s f. (f.0, f.1.0, f.1.1.0, f.1.1.1.0, f.1.1.1.1.0, f.1.1.1.1.1)) (λ s f. (f.0, (f.1, (f.2, (f.3, (f.4, f.5))))))
+    (made_reads (λ (s : Identity × (Leadership × (Progress × (Traffic × List Member)))). let x : Status = record { identity = s.0; leadership = s.1.0; progress = s.1.1.0; traffic = s.1.1.1.0; members = s.1.1.1.1 } in x)
+    (λ (s : Status). (s.identity, (s.leadership, (s.progress, (s.traffic, s.members))))) (λ x. refl) (λ y. refl) _ _ _
+    (both_reads read_identity identity IsIdentity _ _ _ identity_reads
+    (both_reads read_leadership leadership IsLeadership _ _ _ leadership_reads
+    (both_reads read_progress progress IsProgress _ _ _ progress_reads
+    (both_reads read_traffic traffic IsTraffic read_members members AreAll traffic_reads members_reads)))))
+
+-- ---- the fields of both
+
+pub probe_fields_reads : Reads read_probe_fields probe IsProbe
+unfolding read_probe_fields
+probe_fields_reads = fitting read_probe_fields probe (λ (p : Probe). (p.cluster < 2 ^ 64) × (IfSome p.node IsNode × (IfSome p.client IsClient × (p.token < 2 ^ 64)))) IsProbe (λ p f. (f.0, f.1.0, f.1.1.0, f.1.1.1)) (λ p f. (f.0, (f.1, (f.2, f.3))))
+    (made_reads (λ (p : ℕ × (Option ℕ × (Option ℕ × ℕ))). let x : Probe = record { cluster = p.0; node = p.1.0; client = p.1.1.0; token = p.1.1.1 } in x) (λ (p : Probe). (p.cluster, (p.node, (p.client, p.token)))) (λ x. refl) (λ y. refl) _ _ _
+    (both_reads read_eight eight (λ n. n < 2 ^ 64) _ _ _ eight_reads
+    (both_reads read_maybe_node (λ (o : Option ℕ). four (or_zero o)) (λ (o : Option ℕ). IfSome o IsNode) _ _ _ maybe_node_reads
+    (both_reads read_maybe_client (λ (o : Option ℕ). two (or_zero o)) (λ (o : Option ℕ). IfSome o IsClient) read_eight eight (λ n. n < 2 ^ 64) maybe_client_reads eight_reads))))
+
+pub report_fields_reads : Reads read_report_fields report IsReport
+unfolding read_report_fields
+report_fields_reads = fitting read_report_fields report (λ (r : Report). (r.cluster < 2 ^ 64) × (IsNode r.node × (IfSome r.client IsClient × ((r.token < 2 ^ 64) × IsStatus r.status)))) IsReport
+    (λ r f. (f.0, f.1.0, f.1.1.0, f.1.1.1.0, f.1.1.1.1)) (λ r f. (f.0, (f.1, (f.2, (f.3, f.4)))))
+    (made_reads (λ (r : ℕ × (ℕ × (Option ℕ × (ℕ × Status)))). let x : Report = record { cluster = r.0; node = r.1.0; client = r.1.1.0; token = r.1.1.1.0; status = r.1.1.1.1 } in x)
+    (λ (r : Report). (r.cluster, (r.node, (r.client, (r.token, r.status))))) (λ x. refl) (λ y. refl) _ _ _
+    (both_reads read_eight eight (λ n. n < 2 ^ 64) _ _ _ eight_reads
+    (both_reads read_node four IsNode _ _ _ node_reads
+    (both_reads read_maybe_client (λ (o : Option ℕ). two (or_zero o)) (λ (o : Option ℕ). IfSome o IsClient) _ _ _ maybe_client_reads
+    (both_reads read_eight eight (λ n. n < 2 ^ 64) read_status status IsStatus eight_reads status_reads)))))

@@ -1,0 +1,90 @@
+-- Reading each part of a probe and of a report, and both.
+use Rattle.std.specs.Prelude.{ℕ, Bool, true, Option, Some, None, List, [], ◌∷◌, length, take, drop, nat_le, nat_lt, ◌==◌, ◌&&◌, if◌then◌else◌}
+use Rattle.lk_types.specs.Limits.{max_node, max_client, max_members}
+use Rattle.lk_types.specs.Rosters.{members_rise}
+use Rattle.lk_types.specs.declared.member.Member.{Member}
+use Rattle.lk_fields.specs.Parser.{◌>>=◌, read_byte, both, made, tested, counted}
+use Rattle.lk_fields.specs.FieldReading.{is_from_1_to, read_two, read_four, read_eight, read_node, read_total, read_mark, read_member}
+use Rattle.lk_probe.specs.Grammar.{probe_length}
+use Rattle.lk_probe.specs.declared.status.Version.{Version}
+use Rattle.lk_probe.specs.declared.status.Identity.{Identity}
+use Rattle.lk_probe.specs.declared.status.Leadership.{Leadership}
+use Rattle.lk_probe.specs.declared.status.Progress.{Progress}
+use Rattle.lk_probe.specs.declared.status.Traffic.{Traffic}
+use Rattle.lk_probe.specs.declared.status.Status.{Status}
+use Rattle.lk_probe.specs.declared.probe.Probe.{Probe}
+use Rattle.lk_probe.specs.declared.probe.Report.{Report}
+
+-- no number where it is 0
+abbrev pub or_none : ℕ → Option ℕ
+or_none n = if n == 0 then None else Some n
+
+-- a number from 1 to most, or none
+abbrev pub optional : ℕ → (List ℕ → Option (ℕ × List ℕ)) → List ℕ → Option (Option ℕ × List ℕ)
+optional most p = made or_none (tested (λ n. nat_le n most) p)
+
+unfoldable pub read_maybe_node : List ℕ → Option (Option ℕ × List ℕ)
+read_maybe_node = optional max_node read_four
+
+unfoldable pub read_maybe_client : List ℕ → Option (Option ℕ × List ℕ)
+read_maybe_client = optional max_client read_two
+
+unfoldable pub read_flag : List ℕ → Option (Bool × List ℕ)
+read_flag = made (λ n. n == 1) (tested (λ n. nat_le n 1) read_byte)
+
+unfoldable pub read_digest : List ℕ → Option (List ℕ × List ℕ)
+read_digest bytes = if nat_lt (length bytes) 32 then None else Some (take 32 bytes, drop 32 bytes)
+
+unfoldable pub read_version : List ℕ → Option (Version × List ℕ)
+read_version = made (λ v. record { major = v.0; minor = v.1.0; patch = v.1.1 }) (both read_byte (both read_byte read_byte))
+
+unfoldable pub read_identity : List ℕ → Option (Identity × List ℕ)
+read_identity = made (λ i. record { genesis = i.0; program = i.1.0; format = i.1.1.0; table = i.1.1.1 })
+    (both read_digest (both read_version (both read_byte read_byte)))
+
+unfoldable pub read_leadership : List ℕ → Option (Leadership × List ℕ)
+read_leadership = made (λ l. record { leads = l.0; leader = l.1.0; silence = l.1.1.0; promised = l.1.1.1 })
+    (both read_flag (both read_maybe_node (both read_eight read_mark)))
+
+unfoldable pub read_progress : List ℕ → Option (Progress × List ℕ)
+read_progress = made (λ p. record { executed = p.0; snapshot = p.1.0; pending = p.1.1 }) (both read_total (both read_total read_byte))
+
+unfoldable pub read_traffic : List ℕ → Option (Traffic × List ℕ)
+read_traffic = made (λ t. record { waiting = t.0; unread = t.1.0; unsent = t.1.1.0; ticks = t.1.1.1 })
+    (both read_two (both read_eight (both read_eight read_eight)))
+
+unfoldable pub read_members : List ℕ → Option (List Member × List ℕ)
+read_members = tested (members_rise 0) (counted (tested (is_from_1_to max_members) read_byte) read_member)
+
+unfoldable pub read_status : List ℕ → Option (Status × List ℕ)
+read_status = made (λ s. record { identity = s.0; leadership = s.1.0; progress = s.1.1.0; traffic = s.1.1.1.0; members = s.1.1.1.1 })
+    (both read_identity (both read_leadership (both read_progress (both read_traffic read_members))))
+
+unfoldable pub read_probe_fields : List ℕ → Option (Probe × List ℕ)
+read_probe_fields = made (λ p. record { cluster = p.0; node = p.1.0; client = p.1.1.0; token = p.1.1.1 })
+    (both read_eight (both read_maybe_node (both read_maybe_client read_eight)))
+
+unfoldable pub read_report_fields : List ℕ → Option (Report × List ℕ)
+read_report_fields = made (λ r. record { cluster = r.0; node = r.1.0; client = r.1.1.0; token = r.1.1.1.0; status = r.1.1.1.1 })
+    (both read_eight (both read_node (both read_maybe_client (both read_eight read_status))))
+
+-- nothing but zeros
+abbrev pub are_zeros : List ℕ → Bool
+are_zeros [] = true
+are_zeros (b ∷ bytes) = b == 0 && are_zeros bytes
+
+module _ {X : Type 0} where
+  -- after two letters, the version and that number
+  abbrev pub fronted : ℕ → (List ℕ → Option (X × List ℕ)) → List ℕ → Option (X × List ℕ)
+  fronted k p (a ∷ b ∷ c ∷ d ∷ rest) = if a == 76 && b == 80 && c == 1 && d == k then p rest else None
+  fronted k p _ = None
+
+  -- all of the bytes, which have that length and end in zeros
+  abbrev pub filled : (List ℕ → Option (X × List ℕ)) → List ℕ → Option X
+  filled p bytes = if length bytes == probe_length then (p bytes >>= λ a. if are_zeros a.1 then Some a.0 else None) else None
+
+unfoldable pub probe_of : List ℕ → Option Probe
+probe_of = filled (fronted 9 read_probe_fields)
+
+unfoldable pub report_of : List ℕ → Option Report
+report_of = filled (fronted 10 read_report_fields)

@@ -1,0 +1,35 @@
+//! Laws of probes and reports alone.
+
+ghost use Rattle.std.specs.Prelude.{◌≡◌, List, ℕ, length};
+ghost use Rattle.lk_wire.specs.declared.message.Message.{Message};
+ghost use Rattle.lk_wire.specs.Grammar.{Spells};
+ghost use Rattle.lk_seal.specs.Clients.{client_in};
+ghost use Rattle.lk_seal.specs.Seals.{only_request};
+ghost use Rattle.lk_probe.specs.declared.probe.Probe.{Probe};
+ghost use Rattle.lk_probe.specs.declared.probe.Report.{Report};
+ghost use Rattle.lk_probe.specs.Grammar.{SpellsProbe, SpellsReport, or_zero};
+
+/// A spelling has one probe, or one report.
+pub fn one_meaning()
+    ensures probe { (p q : Probe) (bytes : List ℕ) → SpellsProbe p bytes → SpellsProbe q bytes → p ≡ q }
+    ensures report { (r s : Report) (bytes : List ℕ) → SpellsReport r bytes → SpellsReport s bytes → r ≡ s }
+{}
+
+/// A probe is as long as a report.
+pub fn lengths()
+    ensures probe { (p : Probe) (bytes : List ℕ) → SpellsProbe p bytes → length bytes ≡ 174 }
+    ensures report { (r : Report) (bytes : List ℕ) → SpellsReport r bytes → length bytes ≡ 174 }
+{}
+
+/// No datagram of the protocol is a probe or a report, and no probe is a report.
+pub fn apart()
+    ensures probe { (m : Message) (p : Probe) (bytes : List ℕ) → Spells m bytes → SpellsProbe p bytes → ⊥ }
+    ensures report { (m : Message) (r : Report) (bytes : List ℕ) → Spells m bytes → SpellsReport r bytes → ⊥ }
+    ensures both { (p : Probe) (r : Report) (bytes : List ℕ) → SpellsProbe p bytes → SpellsReport r bytes → ⊥ }
+{}
+
+/// A node that hears clients takes a probe out of its frame as it takes a request: by the key of the client that it names.
+pub fn is_heard_as_a_request()
+    ensures kind { (p : Probe) (bytes : List ℕ) → SpellsProbe p bytes → only_request bytes ≡ bytes }
+    ensures client { (p : Probe) (bytes : List ℕ) → SpellsProbe p bytes → client_in bytes ≡ or_zero p.client }
+{}

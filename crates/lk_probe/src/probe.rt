@@ -1,0 +1,127 @@
+ghost use Rattle.std.specs.Prelude.{◌≡◌, ◌↔◌, IsTrue, IfSome, IsSomeAnd};
+ghost use Rattle.lk_types.specs.Ranges.{IsClient};
+ghost use Rattle.lk_probe.specs.Grammar.{IsProbe, IsReport, Answers, SpellsProbe, SpellsReport};
+ghost use Rattle.lk_probe.specs.declared.probe.Probe.{Probe as ProbeValue};
+ghost use Rattle.lk_probe.specs.declared.probe.Report.{Report as ReportValue};
+
+use crate::reading::{read_probe, read_report};
+use crate::status::{LENGTH, Status, node_facts};
+use crate::writing::{write_probe, write_report};
+use lk_types::{ClientNo, NodeNo};
+
+/// A question to a node: what it tells of itself.
+#[derive(Clone, Copy)]
+pub struct Probe {
+    pub cluster: u64,
+    /// The node that asks, if a node does.
+    pub node: Option<NodeNo>,
+    /// The client by whose key it is sealed, if a client asks and has one.
+    pub client: Option<ClientNo>,
+    /// What the report repeats.
+    pub token: u64,
+}
+
+/// What a node answers to a probe.
+#[derive(Drop)]
+pub struct Report {
+    pub cluster: u64,
+    /// The node that answers.
+    pub node: NodeNo,
+    /// The client that the probe names.
+    pub client: Option<ClientNo>,
+    /// The token of the probe.
+    pub token: u64,
+    pub status: Status,
+}
+
+/// A client that is there is in its range. It does nothing.
+fn client_facts(client: Option<ClientNo>)
+    ensures { IfSome client IsClient }
+{
+    if let Some(client) = client {
+        let _ = client.get();
+    }
+}
+
+impl Probe {
+    /// Each part is in its range. It does nothing.
+    pub fn facts(&self)
+        ensures { IsProbe self.now }
+    {
+        let _cluster = self.cluster;
+        node_facts(self.node);
+        client_facts(self.client);
+        let _token = self.token;
+    }
+
+    /// The probe that the bytes spell. It takes no memory.
+    pub fn read(bytes: &[u8]) -> Option<Probe>
+        // What is read is spelled so.
+        ensures found { IfSome result (λ p. SpellsProbe p bytes.now) }
+        // What is spelled so is read.
+        ensures only { (p : ProbeValue) → SpellsProbe p bytes.now → IsSomeAnd result (λ r. r ≡ p) }
+    {
+        read_probe(bytes)
+    }
+
+    /// Its bytes. It takes no memory.
+    pub fn datagram(&self) -> [u8; LENGTH]
+        ensures { SpellsProbe self.now result }
+    {
+        self.facts();
+        write_probe(self)
+    }
+
+    /// The report of a node that tells this of itself.
+    pub fn answer(&self, node: NodeNo, status: Status) -> Report
+        ensures answers { Answers self.now result }
+        ensures node { result.node ≡ node }
+        ensures status { result.status ≡ status }
+    {
+        Report {
+            cluster: self.cluster,
+            node,
+            client: self.client,
+            token: self.token,
+            status,
+        }
+    }
+}
+
+impl Report {
+    /// Each part is in its range. It does nothing.
+    pub fn facts(&self)
+        ensures { IsReport self.now }
+    {
+        let _cluster = self.cluster;
+        let _ = self.node.get();
+        client_facts(self.client);
+        let _token = self.token;
+        self.status.facts();
+    }
+
+    /// The report that the bytes spell. It takes no memory.
+    pub fn read(bytes: &[u8]) -> Option<Report>
+        // What is read is spelled so.
+        ensures found { IfSome result (λ r. SpellsReport r bytes.now) }
+        // What is spelled so is read.
+        ensures only { (r : ReportValue) → SpellsReport r bytes.now → IsSomeAnd result (λ s. s ≡ r) }
+    {
+        read_report(bytes)
+    }
+
+    /// Its bytes. It takes no memory.
+    pub fn datagram(&self) -> [u8; LENGTH]
+        ensures { SpellsReport self.now result }
+    {
+        self.facts();
+        write_report(self)
+    }
+
+    /// Whether it answers that probe.
+    pub fn answers(&self, probe: &Probe) -> bool
+        ensures { IsTrue result ↔ Answers probe.now self.now }
+    {
+        self.cluster == probe.cluster && self.client == probe.client && self.token == probe.token
+    }
+}

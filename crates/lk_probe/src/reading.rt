@@ -1,0 +1,317 @@
+ghost use Rattle.std.specs.Prelude.{◌≡◌, ◌↔◌, ◌≤◌, ℕ, List, length, IsTrue, IfSome, IsSomeAnd};
+ghost use Rattle.lk_types.specs.Limits.{max_members};
+ghost use Rattle.lk_fields.specs.Parser.{Finds, many};
+ghost use Rattle.lk_fields.specs.FieldReading.{read_member};
+ghost use Rattle.lk_probe.specs.Grammar.{SpellsProbe, SpellsReport};
+ghost use Rattle.lk_probe.specs.Reading.{are_zeros, read_maybe_node, read_maybe_client, read_flag, read_digest, read_version, read_identity, read_leadership, read_progress, read_traffic, read_members, read_status, read_probe_fields, read_report_fields, fronted, probe_of, report_of};
+ghost use Rattle.lk_probe.specs.declared.probe.Probe.{Probe as ProbeValue};
+ghost use Rattle.lk_probe.specs.declared.probe.Report.{Report as ReportValue};
+
+use crate::probe::{Probe, Report};
+use crate::status::{DIGEST, Identity, LENGTH, Leadership, Progress, Status, Traffic, Version};
+use arrayvec::ArrayVec;
+use lk_fields::{
+    read_executed, read_mark, read_member, read_node, read_u8, read_u16, read_u32, read_u64,
+};
+use lk_types::limits::MAX_MEMBERS;
+use lk_types::{ClientNo, Member, Members, NodeNo};
+
+/// A node, or none where four zeros stand.
+#[tactic(auto, unfolding(crate::specs::Reading::read_maybe_node))]
+fn read_maybe_node(bytes: &[u8]) -> Option<(Option<NodeNo>, &[u8])>
+    ensures { Finds (λ x. (x.0, x.1.now)) result (read_maybe_node bytes.now) }
+{
+    let (number, rest) = read_u32(bytes)?;
+    if number == 0 {
+        return Some((None, rest));
+    }
+    Some((Some(NodeNo::of(number)?), rest))
+}
+
+/// A client, or none where two zeros stand.
+#[tactic(auto, unfolding(crate::specs::Reading::read_maybe_client))]
+fn read_maybe_client(bytes: &[u8]) -> Option<(Option<ClientNo>, &[u8])>
+    ensures { Finds (λ x. (x.0, x.1.now)) result (read_maybe_client bytes.now) }
+{
+    let (number, rest) = read_u16(bytes)?;
+    if number == 0 {
+        return Some((None, rest));
+    }
+    Some((Some(ClientNo::of(number)?), rest))
+}
+
+#[tactic(auto, unfolding(crate::specs::Reading::read_flag))]
+fn read_flag(bytes: &[u8]) -> Option<(bool, &[u8])>
+    ensures { Finds (λ x. (x.0, x.1.now)) result (read_flag bytes.now) }
+{
+    let (number, rest) = read_u8(bytes)?;
+    if number > 1 {
+        return None;
+    }
+    Some((number == 1, rest))
+}
+
+#[tactic(auto, unfolding(crate::specs::Reading::read_digest))]
+fn read_digest(bytes: &[u8]) -> Option<([u8; DIGEST], &[u8])>
+    ensures { Finds (λ x. (x.0, x.1.now)) result (read_digest bytes.now) }
+{
+    let (digest, rest) = bytes.split_first_chunk::<DIGEST>()?;
+    Some((*digest, rest))
+}
+
+#[tactic(auto, unfolding(crate::specs::Reading::read_version))]
+fn read_version(bytes: &[u8]) -> Option<(Version, &[u8])>
+    ensures { Finds (λ x. (x.0, x.1.now)) result (read_version bytes.now) }
+{
+    let (major, rest) = read_u8(bytes)?;
+    let (minor, rest) = read_u8(rest)?;
+    let (patch, rest) = read_u8(rest)?;
+    let version = Version {
+        major,
+        minor,
+        patch,
+    };
+    Some((version, rest))
+}
+
+#[tactic(auto, unfolding(crate::specs::Reading::read_identity))]
+fn read_identity(bytes: &[u8]) -> Option<(Identity, &[u8])>
+    ensures { Finds (λ x. (x.0, x.1.now)) result (read_identity bytes.now) }
+{
+    let (genesis, rest) = read_digest(bytes)?;
+    let (program, rest) = read_version(rest)?;
+    let (format, rest) = read_u8(rest)?;
+    let (table, rest) = read_u8(rest)?;
+    let identity = Identity {
+        genesis,
+        program,
+        format,
+        table,
+    };
+    Some((identity, rest))
+}
+
+#[tactic(auto, unfolding(crate::specs::Reading::read_leadership))]
+fn read_leadership(bytes: &[u8]) -> Option<(Leadership, &[u8])>
+    ensures { Finds (λ x. (x.0, x.1.now)) result (read_leadership bytes.now) }
+{
+    let (leads, rest) = read_flag(bytes)?;
+    if let Some((leader, rest)) = read_maybe_node(rest)
+        && let Some((silence, rest)) = read_u64(rest)
+        && let Some((promised, rest)) = read_mark(rest)
+    {
+        let leadership = Leadership {
+            leads,
+            leader,
+            silence,
+            promised,
+        };
+        return Some((leadership, rest));
+    }
+    None
+}
+
+#[tactic(auto, unfolding(crate::specs::Reading::read_progress))]
+fn read_progress(bytes: &[u8]) -> Option<(Progress, &[u8])>
+    ensures { Finds (λ x. (x.0, x.1.now)) result (read_progress bytes.now) }
+{
+    if let Some((executed, rest)) = read_executed(bytes)
+        && let Some((snapshot, rest)) = read_executed(rest)
+        && let Some((pending, rest)) = read_u8(rest)
+    {
+        let progress = Progress {
+            executed,
+            snapshot,
+            pending,
+        };
+        return Some((progress, rest));
+    }
+    None
+}
+
+#[tactic(auto, unfolding(crate::specs::Reading::read_traffic))]
+fn read_traffic(bytes: &[u8]) -> Option<(Traffic, &[u8])>
+    ensures { Finds (λ x. (x.0, x.1.now)) result (read_traffic bytes.now) }
+{
+    let (waiting, rest) = read_u16(bytes)?;
+    let (unread, rest) = read_u64(rest)?;
+    let (unsent, rest) = read_u64(rest)?;
+    let (ticks, rest) = read_u64(rest)?;
+    let traffic = Traffic {
+        waiting,
+        unread,
+        unsent,
+        ticks,
+    };
+    Some((traffic, rest))
+}
+
+fn many_members(count: u8, bytes: &[u8]) -> Option<(ArrayVec<Member, MAX_MEMBERS>, &[u8])>
+    requires { count ≤ max_members }
+    ensures read { Finds (λ x. (x.0.items, x.1.now)) result (many read_member count bytes.now) }
+    ensures count { IfSome result (λ x. length x.0.items ≡ count) }
+{
+    let mut members = ArrayVec::new();
+    let mut rest = bytes;
+    for _ in 0..count {
+        let Some((member, after)) = read_member(rest) else {
+            return None;
+        };
+        members.push(member);
+        rest = after;
+    }
+    Some((members, rest))
+}
+
+#[tactic(auto, unfolding(crate::specs::Reading::read_members))]
+fn read_members(bytes: &[u8]) -> Option<(Members, &[u8])>
+    ensures { Finds (λ x. (x.0, x.1.now)) result (read_members bytes.now) }
+{
+    let (count, rest) = read_u8(bytes)?;
+    if count < 1 || usize::from(count) > MAX_MEMBERS {
+        return None;
+    }
+    let Some((members, rest)) = many_members(count, rest) else {
+        return None;
+    };
+    let Some(members) = Members::of(members.as_slice()) else {
+        return None;
+    };
+    Some((members, rest))
+}
+
+#[tactic(auto, unfolding(crate::specs::Reading::read_status))]
+fn read_status(bytes: &[u8]) -> Option<(Status, &[u8])>
+    ensures { Finds (λ x. (x.0, x.1.now)) result (read_status bytes.now) }
+{
+    if let Some((identity, rest)) = read_identity(bytes)
+        && let Some((leadership, rest)) = read_leadership(rest)
+        && let Some((progress, rest)) = read_progress(rest)
+        && let Some((traffic, rest)) = read_traffic(rest)
+        && let Some((members, rest)) = read_members(rest)
+    {
+        let status = Status {
+            identity,
+            leadership,
+            progress,
+            traffic,
+            members,
+        };
+        return Some((status, rest));
+    }
+    None
+}
+
+#[tactic(auto, unfolding(crate::specs::Reading::read_probe_fields))]
+fn read_probe_fields(bytes: &[u8]) -> Option<(Probe, &[u8])>
+    ensures { Finds (λ x. (x.0, x.1.now)) result (read_probe_fields bytes.now) }
+{
+    if let Some((cluster, rest)) = read_u64(bytes)
+        && let Some((node, rest)) = read_maybe_node(rest)
+        && let Some((client, rest)) = read_maybe_client(rest)
+        && let Some((token, rest)) = read_u64(rest)
+    {
+        let probe = Probe {
+            cluster,
+            node,
+            client,
+            token,
+        };
+        return Some((probe, rest));
+    }
+    None
+}
+
+#[tactic(auto, unfolding(crate::specs::Reading::read_report_fields))]
+fn read_report_fields(bytes: &[u8]) -> Option<(Report, &[u8])>
+    ensures { Finds (λ x. (x.0, x.1.now)) result (read_report_fields bytes.now) }
+{
+    if let Some((cluster, rest)) = read_u64(bytes)
+        && let Some((node, rest)) = read_node(rest)
+        && let Some((client, rest)) = read_maybe_client(rest)
+        && let Some((token, rest)) = read_u64(rest)
+        && let Some((status, rest)) = read_status(rest)
+    {
+        let report = Report {
+            cluster,
+            node,
+            client,
+            token,
+            status,
+        };
+        return Some((report, rest));
+    }
+    None
+}
+
+/// Whether nothing but zeros stand there.
+fn are_zeros(bytes: &[u8]) -> bool
+    ensures { result ≡ are_zeros bytes.now }
+{
+    for byte in bytes {
+        if *byte != 0 {
+            return false;
+        }
+    }
+    true
+}
+
+/// The probe that all of the bytes are.
+#[tactic(auto, unfolding(crate::specs::Reading::probe_of))]
+fn probe_of(bytes: &[u8]) -> Option<Probe>
+    ensures { Finds (λ x. x) result (probe_of bytes.now) }
+{
+    if bytes.len() != LENGTH {
+        return None;
+    }
+    match bytes {
+        [b'L', b'P', 1, 9, fields @ ..] => {
+            let Some((probe, rest)) = read_probe_fields(fields) else {
+                return None;
+            };
+            if !are_zeros(rest) {
+                return None;
+            }
+            Some(probe)
+        }
+        _ => None,
+    }
+}
+
+/// The report that all of the bytes are.
+#[tactic(auto, unfolding(crate::specs::Reading::report_of))]
+fn report_of(bytes: &[u8]) -> Option<Report>
+    ensures { Finds (λ x. x) result (report_of bytes.now) }
+{
+    if bytes.len() != LENGTH {
+        return None;
+    }
+    match bytes {
+        [b'L', b'P', 1, 10, fields @ ..] => {
+            let Some((report, rest)) = read_report_fields(fields) else {
+                return None;
+            };
+            if !are_zeros(rest) {
+                return None;
+            }
+            Some(report)
+        }
+        _ => None,
+    }
+}
+
+/// The probe that the bytes spell.
+pub fn read_probe(bytes: &[u8]) -> Option<Probe>
+    ensures found { IfSome result (λ p. SpellsProbe p bytes.now) }
+    ensures only { (p : ProbeValue) → SpellsProbe p bytes.now → IsSomeAnd result (λ r. r ≡ p) }
+{
+    probe_of(bytes)
+}
+
+/// The report that the bytes spell.
+pub fn read_report(bytes: &[u8]) -> Option<Report>
+    ensures found { IfSome result (λ r. SpellsReport r bytes.now) }
+    ensures only { (r : ReportValue) → SpellsReport r bytes.now → IsSomeAnd result (λ s. s ≡ r) }
+{
+    report_of(bytes)
+}

@@ -1,0 +1,159 @@
+ghost use Rattle.std.specs.Prelude.{IfSome};
+ghost use Rattle.lk_types.specs.Ranges.{IsNode};
+ghost use Rattle.lk_probe.specs.Grammar.{IsIdentity, IsLeadership, IsProgress, IsTraffic, IsStatus};
+
+use lk_types::{Ballot, Executed, Members, NodeNo};
+
+/// The bytes of a genesis' digest.
+pub const DIGEST: usize = 32;
+
+/// The bytes of a probe, and of a report.
+pub const LENGTH: usize = 174;
+
+/// The version of a program.
+#[derive(Clone, Copy, PartialEq, Eq)]
+pub struct Version {
+    pub major: u8,
+    pub minor: u8,
+    pub patch: u8,
+}
+
+/// The version of this program.
+pub const PROGRAM: Version = Version {
+    major: 0,
+    minor: 1,
+    patch: 0,
+};
+
+/// Which genesis, program, store and table a node has.
+#[derive(Clone, Copy)]
+pub struct Identity {
+    /// The SHA-256 digest of its genesis.
+    pub genesis: [u8; DIGEST],
+    /// The version of its program.
+    pub program: Version,
+    /// The format of its store.
+    pub format: u8,
+    /// The version of its lock table: 2 once that is raised, and else 1.
+    pub table: u8,
+}
+
+/// Who leads, as far as a node knows.
+#[derive(Clone, Copy)]
+pub struct Leadership {
+    /// Whether it leads.
+    pub leads: bool,
+    /// The node that it takes for the leader.
+    pub leader: Option<NodeNo>,
+    /// How many ticks ago it last heard of a leader, or since its start where it never did.
+    pub silence: u64,
+    /// The ballot that it has promised.
+    pub promised: Ballot,
+}
+
+/// How far a node is.
+#[derive(Clone, Copy)]
+pub struct Progress {
+    /// How many positions it has executed.
+    pub executed: Executed,
+    /// The position of its snapshot.
+    pub snapshot: Executed,
+    /// How many of the next positions have other members than the next one.
+    pub pending: u8,
+}
+
+/// What a node counts.
+#[derive(Clone, Copy)]
+pub struct Traffic {
+    /// The requests that wait to be proposed.
+    pub waiting: u16,
+    /// The datagrams since its start that could not be read.
+    pub unread: u64,
+    /// The sends that failed since its start.
+    pub unsent: u64,
+    /// The ticks since its start.
+    pub ticks: u64,
+}
+
+/// What a node tells of itself.
+#[derive(Drop)]
+pub struct Status {
+    pub identity: Identity,
+    pub leadership: Leadership,
+    pub progress: Progress,
+    pub traffic: Traffic,
+    /// The members of the next position.
+    pub members: Members,
+}
+
+/// A node that is there is in its range. It does nothing.
+pub fn node_facts(node: Option<NodeNo>)
+    ensures { IfSome node IsNode }
+{
+    if let Some(node) = node {
+        let _ = node.get();
+    }
+}
+
+impl Identity {
+    /// Each part is in its range. It does nothing.
+    pub fn facts(&self)
+        ensures { IsIdentity self.now }
+    {
+        let Version {
+            major: _major,
+            minor: _minor,
+            patch: _patch,
+        } = self.program;
+        let _genesis = self.genesis;
+        let _format = self.format;
+        let _table = self.table;
+    }
+}
+
+impl Leadership {
+    /// Each part is in its range. It does nothing.
+    pub fn facts(&self)
+        ensures { IsLeadership self.now }
+    {
+        node_facts(self.leader);
+        let _silence = self.silence;
+        let _ = self.promised.round();
+    }
+}
+
+impl Progress {
+    /// Each part is in its range. It does nothing.
+    pub fn facts(&self)
+        ensures { IsProgress self.now }
+    {
+        let _ = self.executed.get();
+        let _ = self.snapshot.get();
+        let _pending = self.pending;
+    }
+}
+
+impl Traffic {
+    /// Each part is in its range. It does nothing.
+    pub fn facts(&self)
+        ensures { IsTraffic self.now }
+    {
+        let _waiting = self.waiting;
+        let _unread = self.unread;
+        let _unsent = self.unsent;
+        let _ticks = self.ticks;
+    }
+}
+
+impl Status {
+    /// Each part is in its range. It does nothing.
+    pub fn facts(&self)
+        ensures { IsStatus self.now }
+    {
+        self.identity.facts();
+        self.leadership.facts();
+        self.progress.facts();
+        self.traffic.facts();
+        self.members.facts();
+    }
+}

@@ -1,0 +1,233 @@
+ghost use Rattle.std.specs.Prelude.{◌≡◌, ◌≤◌, ◌+◌, ◌*◌, ◌++◌, [], length};
+ghost use Rattle.arrayvec.specs.ArrayVec.{array_vec_len};
+ghost use Rattle.lk_types.specs.Limits.{max_members};
+ghost use Rattle.lk_fields.specs.Fields.{one, two, four, eight, ballot, member};
+ghost use Rattle.lk_probe.specs.Grammar.{probe_length, flag, or_zero, version, identity, leadership, progress, traffic, members, status, front, probe, report, padded, probe_spelling, report_spelling};
+
+use crate::probe::{Probe, Report};
+use crate::status::{Identity, LENGTH, Leadership, Progress, Status, Traffic, Version};
+use arrayvec::ArrayVec;
+use lk_types::{Ballot, ClientNo, Member, NodeNo};
+
+/// What is written of a datagram so far.
+type Bytes = ArrayVec<u8, LENGTH>;
+
+fn put(out: &mut Bytes, bytes: &[u8])
+    requires { array_vec_len out.old + length bytes.now ≤ probe_length }
+    ensures items { out.new.items ≡ out.old.items ++ bytes.now }
+    ensures len { array_vec_len out.new ≡ array_vec_len out.old + length bytes.now }
+{
+    out.try_extend_from_slice(bytes).unwrap();
+}
+
+fn put_u8(out: &mut Bytes, value: u8)
+    requires { array_vec_len out.old + 1 ≤ probe_length }
+    ensures items { out.new.items ≡ out.old.items ++ one value }
+    ensures len { array_vec_len out.new ≡ array_vec_len out.old + 1 }
+{
+    put(out, &[value]);
+}
+
+#[tactic(auto, unfolding(lk_fields::specs::Fields::two))]
+fn put_u16(out: &mut Bytes, value: u16)
+    requires { array_vec_len out.old + 2 ≤ probe_length }
+    ensures items { out.new.items ≡ out.old.items ++ two value }
+    ensures len { array_vec_len out.new ≡ array_vec_len out.old + 2 }
+{
+    put(out, &value.to_be_bytes());
+}
+
+#[tactic(auto, unfolding(lk_fields::specs::Fields::four))]
+fn put_u32(out: &mut Bytes, value: u32)
+    requires { array_vec_len out.old + 4 ≤ probe_length }
+    ensures items { out.new.items ≡ out.old.items ++ four value }
+    ensures len { array_vec_len out.new ≡ array_vec_len out.old + 4 }
+{
+    put(out, &value.to_be_bytes());
+}
+
+#[tactic(auto, unfolding(lk_fields::specs::Fields::eight))]
+fn put_u64(out: &mut Bytes, value: u64)
+    requires { array_vec_len out.old + 8 ≤ probe_length }
+    ensures items { out.new.items ≡ out.old.items ++ eight value }
+    ensures len { array_vec_len out.new ≡ array_vec_len out.old + 8 }
+{
+    put(out, &value.to_be_bytes());
+}
+
+/// A node, or four zeros.
+fn put_maybe_node(out: &mut Bytes, node: Option<NodeNo>)
+    requires { array_vec_len out.old + 4 ≤ probe_length }
+    ensures items { out.new.items ≡ out.old.items ++ four (or_zero node) }
+    ensures len { array_vec_len out.new ≡ array_vec_len out.old + 4 }
+{
+    match node {
+        Some(node) => put_u32(out, node.get()),
+        None => put_u32(out, 0),
+    }
+}
+
+/// A client, or two zeros.
+fn put_maybe_client(out: &mut Bytes, client: Option<ClientNo>)
+    requires { array_vec_len out.old + 2 ≤ probe_length }
+    ensures items { out.new.items ≡ out.old.items ++ two (or_zero client) }
+    ensures len { array_vec_len out.new ≡ array_vec_len out.old + 2 }
+{
+    match client {
+        Some(client) => put_u16(out, client.get()),
+        None => put_u16(out, 0),
+    }
+}
+
+fn put_version(out: &mut Bytes, value: Version)
+    requires { array_vec_len out.old + 3 ≤ probe_length }
+    ensures items { out.new.items ≡ out.old.items ++ version value }
+    ensures len { array_vec_len out.new ≡ array_vec_len out.old + 3 }
+{
+    put_u8(out, value.major);
+    put_u8(out, value.minor);
+    put_u8(out, value.patch);
+}
+
+fn put_identity(out: &mut Bytes, value: &Identity)
+    requires { array_vec_len out.old + 37 ≤ probe_length }
+    ensures items { out.new.items ≡ out.old.items ++ identity value.now }
+    ensures len { array_vec_len out.new ≡ array_vec_len out.old + 37 }
+{
+    put(out, &value.genesis);
+    put_version(out, value.program);
+    put_u8(out, value.format);
+    put_u8(out, value.table);
+}
+
+fn put_mark(out: &mut Bytes, value: Ballot)
+    requires { array_vec_len out.old + 12 ≤ probe_length }
+    ensures items { out.new.items ≡ out.old.items ++ ballot value }
+    ensures len { array_vec_len out.new ≡ array_vec_len out.old + 12 }
+{
+    put_u64(out, value.round());
+    put_u32(out, value.node());
+}
+
+fn put_flag(out: &mut Bytes, value: bool)
+    requires { array_vec_len out.old + 1 ≤ probe_length }
+    ensures items { out.new.items ≡ out.old.items ++ one (flag value) }
+    ensures len { array_vec_len out.new ≡ array_vec_len out.old + 1 }
+{
+    if value {
+        put_u8(out, 1);
+    } else {
+        put_u8(out, 0);
+    }
+}
+
+fn put_leadership(out: &mut Bytes, value: &Leadership)
+    requires { array_vec_len out.old + 25 ≤ probe_length }
+    ensures items { out.new.items ≡ out.old.items ++ leadership value.now }
+    ensures len { array_vec_len out.new ≡ array_vec_len out.old + 25 }
+{
+    put_flag(out, value.leads);
+    put_maybe_node(out, value.leader);
+    put_u64(out, value.silence);
+    put_mark(out, value.promised);
+}
+
+fn put_progress(out: &mut Bytes, value: &Progress)
+    requires { array_vec_len out.old + 17 ≤ probe_length }
+    ensures items { out.new.items ≡ out.old.items ++ progress value.now }
+    ensures len { array_vec_len out.new ≡ array_vec_len out.old + 17 }
+{
+    put_u64(out, value.executed.get());
+    put_u64(out, value.snapshot.get());
+    put_u8(out, value.pending);
+}
+
+fn put_traffic(out: &mut Bytes, value: &Traffic)
+    requires { array_vec_len out.old + 26 ≤ probe_length }
+    ensures items { out.new.items ≡ out.old.items ++ traffic value.now }
+    ensures len { array_vec_len out.new ≡ array_vec_len out.old + 26 }
+{
+    put_u16(out, value.waiting);
+    put_u64(out, value.unread);
+    put_u64(out, value.unsent);
+    put_u64(out, value.ticks);
+}
+
+fn put_member(out: &mut Bytes, value: Member)
+    requires { array_vec_len out.old + 6 ≤ probe_length }
+    ensures items { out.new.items ≡ out.old.items ++ member value }
+    ensures len { array_vec_len out.new ≡ array_vec_len out.old + 6 }
+{
+    put_u32(out, value.node.get());
+    put_u16(out, value.port.get());
+}
+
+fn put_members(out: &mut Bytes, list: &[Member])
+    requires few { length list.now ≤ max_members }
+    requires room { array_vec_len out.old + 43 ≤ probe_length }
+    ensures items { out.new.items ≡ out.old.items ++ members list.now }
+    ensures len { array_vec_len out.new ≡ array_vec_len out.old + 1 + 6 * length list.now }
+{
+    put_u8(out, list.len() as u8);
+    for member in list {
+        put_member(out, *member);
+    }
+}
+
+fn put_status(out: &mut Bytes, value: &Status)
+    requires { array_vec_len out.old + 148 ≤ probe_length }
+    ensures { out.new.items ≡ out.old.items ++ status value.now }
+{
+    value.members.facts();
+    put_identity(out, &value.identity);
+    put_leadership(out, &value.leadership);
+    put_progress(out, &value.progress);
+    put_traffic(out, &value.traffic);
+    put_members(out, value.members.as_slice());
+}
+
+/// The letters and the version, and which of both it is.
+fn begun(kind: u8) -> Bytes
+    ensures items { result.items ≡ front kind [] }
+    ensures len { array_vec_len result ≡ 4 }
+{
+    let mut out = ArrayVec::new();
+    put(&mut out, &[b'L', b'P', 1, kind]);
+    out
+}
+
+/// The same with zeros behind.
+#[tactic(auto, unfolding(crate::specs::Grammar::padded))]
+fn filled(written: &Bytes) -> [u8; LENGTH]
+    ensures { result ≡ padded written.now.items }
+{
+    let written = written.as_slice();
+    let mut bytes = [0; LENGTH];
+    bytes[..written.len()].copy_from_slice(written);
+    bytes
+}
+
+/// The bytes of a probe.
+pub fn write_probe(value: &Probe) -> [u8; LENGTH]
+    ensures { result ≡ probe_spelling value.now }
+{
+    let mut out = begun(9);
+    put_u64(&mut out, value.cluster);
+    put_maybe_node(&mut out, value.node);
+    put_maybe_client(&mut out, value.client);
+    put_u64(&mut out, value.token);
+    filled(&out)
+}
+
+/// The bytes of a report.
+pub fn write_report(value: &Report) -> [u8; LENGTH]
+    ensures { result ≡ report_spelling value.now }
+{
+    let mut out = begun(10);
+    put_u64(&mut out, value.cluster);
+    put_u32(&mut out, value.node.get());
+    put_maybe_client(&mut out, value.client);
+    put_u64(&mut out, value.token);
+    put_status(&mut out, &value.status);
+    filled(&out)
+}

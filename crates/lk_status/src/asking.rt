@@ -1,0 +1,91 @@
+use crate::target::{Inquiry, report_with};
+use lk_probe::Report;
+use lk_server::ear::Ear;
+use lk_server::fault::ServiceFault;
+use lk_server::socket::Datagrams;
+use std::alloc::Global;
+
+/// The receives of a round.
+const RECEIVES: u32 = 10_000;
+
+/// Sends a probe to each target that has not reported, the first with that token and each other with the next. What
+/// could not be sent is lost.
+fn send_probes<S: Datagrams>(
+    alloc: Global,
+    socket: &mut S,
+    inquiry: &Inquiry,
+    first: u64,
+    reports: &[Report],
+) -> Result<(), ServiceFault> {
+    let mut frame = Vec::new(alloc);
+    let mut token = first;
+    for target in inquiry.targets.as_slice() {
+        if report_with(reports, token).is_none() {
+            let probe = inquiry.probe(token).datagram();
+            let seals = &inquiry.far.seals;
+            let framed = seals.frame_of(inquiry.client_number(), &probe, &mut frame)?;
+            let _ = socket.send_to(inquiry.place_of(target), framed);
+        }
+        token = token.wrapping_add(1);
+    }
+    Ok(())
+}
+
+/// The report that these bytes are, if it answers a probe of the round that no other has answered.
+fn report_in(inquiry: &Inquiry, first: u64, reports: &[Report], bytes: &[u8]) -> Option<Report> {
+    let seals = &inquiry.far.seals;
+    let Some(report) = Report::read(seals.heard(inquiry.client_number(), bytes)) else {
+        return None;
+    };
+    let place = report.token.wrapping_sub(first);
+    let is_of_round = place < inquiry.targets.len() as u64;
+    let is_new = report_with(reports, report.token).is_none();
+    if !is_of_round || !is_new || !report.answers(&inquiry.probe(report.token)) {
+        return None;
+    }
+    Some(report)
+}
+
+/// Hears what comes next, and keeps it if it is a report of the round. Whether anything came.
+fn hear<S: Datagrams>(
+    socket: &mut S,
+    ear: &mut Ear,
+    inquiry: &Inquiry,
+    first: u64,
+    reports: &mut Vec<Report>,
+) -> Result<bool, ServiceFault> {
+    ear.receive(socket);
+    let Some((bytes, _)) = ear.heard() else {
+        return Ok(false);
+    };
+    if let Some(report) = report_in(inquiry, first, reports, bytes) {
+        reports.push(report)?;
+    }
+    Ok(true)
+}
+
+/// Asks all targets, and hears what they report: until each has, or nothing came as often as the inquiry has patience.
+/// Whoever is silent is asked again whenever nothing came. How often that was is added to `idle`.
+pub fn ask_all<S: Datagrams>(
+    alloc: Global,
+    socket: &mut S,
+    inquiry: &Inquiry,
+    first: u64,
+    idle: &mut u32,
+) -> Result<Vec<Report>, ServiceFault> {
+    let mut reports = Vec::new(alloc);
+    let mut ear = Ear::new();
+    let mut silences = 0u32;
+    send_probes(alloc, socket, inquiry, first, &reports)?;
+    'receives: for _ in 0..RECEIVES {
+        if reports.len() >= inquiry.targets.len() || silences >= inquiry.patience {
+            break;
+        }
+        if !hear(socket, &mut ear, inquiry, first, &mut reports)? {
+            silences = silences.saturating_add(1);
+            send_probes(alloc, socket, inquiry, first, &reports)?;
+        }
+    }
+    *idle = idle.saturating_add(silences);
+    Ok(reports)
+}

@@ -1,0 +1,170 @@
+//! `locks status`.
+
+ghost use Rattle.std.specs.Prelude.{◌≡◌, ◌≤◌, ◌↔◌, IfOk, IsTrue};
+ghost use Rattle.lk_status.specs.Verdicts.{IsServed};
+
+use crate::asking::ask_all;
+use crate::json::write_json;
+use crate::lines::write_lines;
+use crate::prometheus::write_metrics;
+use crate::target::Inquiry;
+use crate::verdict::{is_ready, is_served, leader_in};
+use crate::why::write_why;
+use lk_probe::Report;
+use lk_server::ear::Ear;
+use lk_server::fault::ServiceFault;
+use lk_server::socket::Datagrams;
+use std::alloc::Global;
+use std::io;
+use std::io::Write;
+
+/// The receives of 100 ms in a second.
+const A_SECOND: u32 = 10;
+
+/// The tokens of a round: more than targets.
+const TOKENS: u64 = 256;
+
+/// How the reports are printed.
+#[derive(Clone, Copy)]
+pub enum Form {
+    Lines,
+    Json,
+    Prometheus,
+}
+
+/// What is asked, how it is printed, and how many seconds are waited until all are ready, 0 where that is not asked for.
+#[derive(Drop)]
+pub struct Plan {
+    pub inquiry: Inquiry,
+    pub form: Form,
+    pub seconds: u32,
+}
+
+/// A round of reports, the token of its first target, and whether it shows what was waited for.
+#[derive(Drop)]
+struct Round {
+    first: u64,
+    reports: Vec<Report>,
+    is_ready: bool,
+}
+
+/// Prints the reports of a round. Whether they show that the cluster is served.
+fn print<W: Write>(plan: &Plan, first: u64, reports: &[Report], out: &mut W) -> io::Result<bool>
+    ensures served { IfOk result (λ is. IsTrue is ↔ IsServed reports.now) }
+{
+    match plan.form {
+        Form::Lines => {
+            write_lines(&plan.inquiry, first, reports, out)?;
+            write_why(reports, out)?;
+        }
+        Form::Json => write_json(&plan.inquiry, first, reports, out)?,
+        Form::Prometheus => write_metrics(&plan.inquiry, first, reports, out)?,
+    }
+    out.flush()?;
+    Ok(is_served(reports))
+}
+
+/// Waits 100 ms, unless something comes.
+fn pause<S: Datagrams>(socket: &mut S, idle: &mut u32) {
+    let mut ear = Ear::new();
+    ear.receive(socket);
+    *idle = idle.saturating_add(1);
+}
+
+/// How many positions the leader has executed, where one reports.
+fn goal_in(reports: &[Report]) -> Option<u64> {
+    let leader = leader_in(reports)?;
+    Some(leader.status.progress.executed.get())
+}
+
+/// Whether all that were asked report, and have executed what is the goal.
+fn is_at(goal: Option<u64>, inquiry: &Inquiry, reports: &[Report]) -> bool {
+    match goal {
+        Some(executed) => is_ready(inquiry.targets.len(), executed, reports),
+        None => false,
+    }
+}
+
+/// Asks again and again until all targets report that they have executed what the leader had when it was first heard of, or
+/// until so many receives brought nothing. The last round.
+fn wait_until_ready<S: Datagrams>(
+    alloc: Global,
+    socket: &mut S,
+    inquiry: &Inquiry,
+    most: u32,
+) -> Result<Round, ServiceFault> {
+    let (mut idle, mut goal) = (0, None);
+    let mut round = ask_once(alloc, socket, inquiry, 0, &mut idle)?;
+    'rounds: for number in 1..=u64::from(most) {
+        goal = goal.or(goal_in(&round.reports));
+        round.is_ready = is_at(goal, inquiry, &round.reports);
+        if round.is_ready || idle >= most {
+            break;
+        }
+        pause(socket, &mut idle);
+        round = ask_once(alloc, socket, inquiry, number * TOKENS, &mut idle)?;
+    }
+    Ok(round)
+}
+
+/// A round.
+fn ask_once<S: Datagrams>(
+    alloc: Global,
+    socket: &mut S,
+    inquiry: &Inquiry,
+    first: u64,
+    idle: &mut u32,
+) -> Result<Round, ServiceFault> {
+    Ok(Round {
+        first,
+        reports: ask_all(alloc, socket, inquiry, first, idle)?,
+        is_ready: false,
+    })
+}
+
+/// Asks as the plan says.
+fn round_of<S: Datagrams>(
+    alloc: Global,
+    socket: &mut S,
+    plan: &Plan,
+) -> Result<Round, ServiceFault> {
+    if plan.seconds > 0 {
+        let most = plan.seconds.saturating_mul(A_SECOND);
+        return wait_until_ready(alloc, socket, &plan.inquiry, most);
+    }
+    let mut round = ask_once(alloc, socket, &plan.inquiry, 0, &mut 0)?;
+    round.is_ready = true;
+    Ok(round)
+}
+
+/// Asks, and prints what is reported. Whether the cluster is served, and ready where that was waited for.
+fn ask_and_print<S: Datagrams, W: Write>(
+    alloc: Global,
+    socket: &mut S,
+    plan: &Plan,
+    out: &mut W,
+) -> Result<bool, ServiceFault> {
+    let round = round_of(alloc, socket, plan)?;
+    match print(plan, round.first, &round.reports, out) {
+        Ok(is_served) => Ok(is_served && round.is_ready),
+        Err(_) => Err(ServiceFault::Write),
+    }
+}
+
+/// Asks all targets what they tell of themselves, and prints that. The status is 0 where the cluster is served, and ready
+/// where that was waited for; else, and where a fault is told on standard error, it is 1.
+pub fn status<S: Datagrams, W: Write, E: Write>(
+    alloc: Global,
+    socket: &mut S,
+    plan: &Plan,
+    out: &mut W,
+    err: &mut E,
+) -> u8
+    ensures { result ≤ 1 }
+{
+    match ask_and_print(alloc, socket, plan, out) {
+        Ok(true) => 0,
+        Ok(false) => 1,
+        Err(fault) => fault.tell(err),
+    }
+}

@@ -1,0 +1,81 @@
+//! Which nodes are asked, and by whose key.
+
+use lk_probe::{Probe, Report};
+use lk_service::far::Far;
+use lk_types::{ClientNo, NodeNo, Port};
+use std::net::{IpAddr, Ipv4Addr, Ipv6Addr, SocketAddr};
+
+/// The most places that are asked at once.
+pub const MAX_TARGETS: usize = 64;
+
+/// A place that is asked: a port, and the node that lives there where hosts say at which address.
+#[derive(Clone, Copy)]
+pub struct Target {
+    pub node: Option<NodeNo>,
+    pub port: Port,
+}
+
+/// What is asked: which cluster, by the key of which client, and at which places.
+#[derive(Drop)]
+pub struct Inquiry {
+    pub cluster: u64,
+    pub client: Option<ClientNo>,
+    pub far: Far,
+    /// At most `MAX_TARGETS`.
+    pub targets: Vec<Target>,
+    /// The receives of 100 ms that may bring nothing until a round ends.
+    pub patience: u32,
+}
+
+impl Inquiry {
+    /// The client that its frames name, 0 where it has no key.
+    pub fn client_number(&self) -> u16 {
+        match self.client {
+            Some(client) => client.get(),
+            None => 0,
+        }
+    }
+
+    /// The address of a target.
+    pub fn place_of(&self, target: &Target) -> SocketAddr {
+        let known = match target.node {
+            Some(node) => self.far.hosts.address(node),
+            None => None,
+        };
+        SocketAddr::from((known.unwrap_or(self.far.address), target.port.get()))
+    }
+
+    /// The address from which it is asked: any of this machine in the family of the targets, or loopback where they all are there.
+    pub fn own_address(&self) -> IpAddr {
+        for target in self.targets.as_slice() {
+            let address = self.place_of(target).ip();
+            if !address.is_ipv4() {
+                return IpAddr::V6(Ipv6Addr::UNSPECIFIED);
+            }
+            if !address.is_loopback() {
+                return IpAddr::V4(Ipv4Addr::UNSPECIFIED);
+            }
+        }
+        IpAddr::V4(Ipv4Addr::LOCALHOST)
+    }
+
+    /// The probe that carries that token.
+    pub fn probe(&self, token: u64) -> Probe {
+        Probe {
+            cluster: self.cluster,
+            node: None,
+            client: self.client,
+            token,
+        }
+    }
+}
+
+/// The report with that token.
+pub fn report_with<'a>(reports: &'a [Report], token: u64) -> Option<&'a Report> {
+    for report in reports {
+        if report.token == token {
+            return Some(report);
+        }
+    }
+    None
+}
