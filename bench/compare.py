@@ -155,18 +155,21 @@ def programs(args):
     return {"locks": str(args.program), **({"locks before": str(args.before)} if args.before else {})}
 
 
-def cluster_of(program, alpha, is_sealed=False):
+def cluster_of(program, alpha, options=(), is_sealed=False):
     """What makes a cluster of locks."""
-    return lambda folder, before=(): Locks(folder, before, program=program, alpha=alpha, is_sealed=is_sealed)
+    of = {"program": program, "alpha": alpha, "options": options, "is_sealed": is_sealed}
+    return lambda folder, before=(): Locks(folder, before, **of)
 
 
 def clusters_of(args):
-    """The clusters of locks: of each program with each alpha, and with keys too."""
-    for alpha in args.alpha:
-        for name, program in programs(args).items():
-            yield Variant(f"{name}, alpha {alpha}", cluster_of(program, alpha), alpha == max(args.alpha))
-            if args.sealed:
-                yield Variant(f"{name}, alpha {alpha}, sealed", cluster_of(program, alpha, is_sealed=True), is_long=False)
+    """The clusters of locks, and with keys too. An older program is not asked to tick by the clock."""
+    for alpha, (name, program) in ((alpha, it) for alpha in args.alpha for it in programs(args).items()):
+        for ticks in args.ticks if name == "locks" else ["datagrams"]:
+            word, options = ("", ()) if ticks == "datagrams" else (f", {ticks}", ("--ticks", ticks))
+            is_long = alpha == max(args.alpha) and ticks == args.ticks[0]
+            yield Variant(f"{name}, alpha {alpha}{word}", cluster_of(program, alpha, options), is_long)
+        if args.sealed:
+            yield Variant(f"{name}, alpha {alpha}, sealed", cluster_of(program, alpha, is_sealed=True), is_long=False)
 
 
 def variants_of(args):
@@ -254,6 +257,7 @@ def arguments():
     made.add_argument("--clients", type=numbers, default=[1, 2, 4, 8, 16, 32, 64], help="1,2,4,8,16,32,64 if not given")
     made.add_argument("--alpha", type=numbers, default=[8], help="of the clusters of locks, as 2,8,16; 8 if not given")
     made.add_argument("--sealed", action="store_true", help="the clusters of locks with keys too, beside those without")
+    made.add_argument("--ticks", type=words_of(["datagrams", "clock"]), default=["datagrams"], help="of the clusters of locks, as datagrams,clock; datagrams if not given")
     made.add_argument("--rounds", type=int, default=3, help="3 if not given")
     made.add_argument("--seconds", type=float, default=3, help="how long each load lasts, 3 if not given")
     made.add_argument("--warm", type=float, default=10, help="how long each system is loaded before, 10 if not given")

@@ -143,9 +143,9 @@ class Locks(System):
 
     kind, cluster = "locks", 5
 
-    def __init__(self, folder, before=(), *, program, alpha, is_sealed=False):
+    def __init__(self, folder, before=(), *, program, alpha, options=(), is_sealed=False):
         super().__init__(folder, before)
-        self.program, self.alpha, self.is_sealed = program, alpha, is_sealed
+        self.program, self.alpha, self.options, self.is_sealed = program, alpha, options, is_sealed
         if is_sealed:
             self.write_keys()
 
@@ -166,7 +166,7 @@ class Locks(System):
         genesis = f"{self.cluster},{self.alpha}," + ",".join(f"{it}:{port}" for it, port in self.ports.items())
         place = ["--number", str(node), "--port", str(self.ports[node]), "--dir", str(self.folder / str(node))]
         keys = ["--key", self.key("nodes"), "--client-key", self.key("master")] if self.is_sealed else []
-        return [self.program, "node", "--genesis", genesis, *place, *keys]
+        return [self.program, "node", "--genesis", genesis, *place, *keys, *self.options]
 
     def load_words(self, *words):
         return super().load_words(*words) + (["--keys", str(self.folder / "keys")] if self.is_sealed else [])

@@ -34,10 +34,12 @@ def free_ports(count):
 
 
 class Cluster:
-    """Processes of `locks node`, numbered from 1, whose stores stand in folders below the one that is given."""
+    """Processes of `locks node`, numbered from 1, whose stores stand in folders below the one that is given.
 
-    def __init__(self, program, folder, nodes=3, alpha=8, cluster=5):
-        self.program, self.folder, self.cluster = program, folder, cluster
+    All get the same further options. With `logs`, what node N tells on standard error goes to the file N.log there."""
+
+    def __init__(self, program, folder, nodes=3, alpha=8, cluster=5, options=(), logs=False):
+        self.program, self.folder, self.cluster, self.options, self.logs = program, folder, cluster, options, logs
         self.ports = dict(enumerate(free_ports(nodes), 1))
         self.genesis = f"{cluster},{alpha}," + ",".join(f"{node}:{port}" for node, port in self.ports.items())
         self.processes = {}
@@ -55,8 +57,13 @@ class Cluster:
         """Starts a node, on what its folder holds."""
         folder = os.path.join(self.folder, str(node))
         os.makedirs(folder, exist_ok=True)
-        words = ["--genesis", self.genesis, "--number", str(node), "--port", str(self.ports[node]), "--dir", folder]
-        self.processes[node] = subprocess.Popen([self.program, "node", *words], stdin=subprocess.DEVNULL)
+        words = ["--genesis", self.genesis, "--number", str(node), "--port", str(self.ports[node]), "--dir", folder, *self.options]
+        with open(self.log(node), "ab") if self.logs else contextlib.nullcontext() as told:
+            self.processes[node] = subprocess.Popen([self.program, "node", *words], stdin=subprocess.DEVNULL, stderr=told)
+
+    def log(self, node):
+        """The file of what a node tells on standard error."""
+        return os.path.join(self.folder, f"{node}.log")
 
     def kill(self, node):
         """Kills a node: it has no time to do anything more."""

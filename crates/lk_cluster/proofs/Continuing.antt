@@ -1,5 +1,5 @@
 -- A turn of a server continues its cluster.
-use Rattle.std.proofs.Common.{◌≡◌, ℕ, zero, suc, true, false, Option, List, [], ◌∷◌, ◌++◌, take, set, refl, ap, sym, ◌∙◌, subst, inl, inr, append_assoc, append-nil, arith}
+use Rattle.std.proofs.Common.{◌≡◌, ℕ, zero, suc, true, false, Option, List, [], ◌∷◌, ◌++◌, ◌⊎◌, set, refl, ap, sym, ◌∙◌, subst, inl, inr, append_assoc, append-nil, arith}
 use Rattle.std.proofs.lemmas.List.{map-append}
 use Rattle.std.specs.declared.net.socket_addr.SocketAddr.{SocketAddr}
 use Rattle.lk_disk.specs.Disk.{Disk}
@@ -10,15 +10,15 @@ use Rattle.lk_step.specs.Letters.{LetterValue, batch_of, datagram_of}
 use Rattle.lk_step.specs.declared.note.Note.{Note}
 use Rattle.lk_node.specs.Histories.{Genesis, Datagram}
 use Rattle.lk_replica.specs.ReplicaValue.{ReplicaValue}
-use Rattle.lk_server.specs.Servers.{ServerValue, Turn, LastTurn, given_in, datagrams_in}
+use Rattle.lk_server.specs.Servers.{ServerValue, Turn, LastTurn, IsIdle}
 use Rattle.lk_service.specs.Chains.{Chain}
-use Rattle.lk_service.specs.Turns.{TakesTurn as ServerTurn}
+use Rattle.lk_service.specs.Turns.{TakesTurn as ServerTurn, TellsFailure, letters_in}
 use Rattle.lk_sim.specs.Networks.{Rests, RestsBy, nothing}
 use Rattle.lk_sim.specs.Seats.{At}
 use Rattle.lk_sim.specs.declared.seat.Life.{Life}
 use Rattle.lk_sim.specs.declared.seat.Life.TheVariants.{Up, Down}
 use Rattle.lk_sim.proofs.Networks.{at_set_here, set_twice}
-use Rattle.lk_cluster.specs.Clusters.{Node, Cluster, Network, Says, steps_of, IsBegun, server_disks, Starts, TakesTurn, EndsByTurn, Happens, HappenAll, IsReachable}
+use Rattle.lk_cluster.specs.Clusters.{Node, Cluster, Network, Says, steps_of, IsBegun, server_disks, Starts, TakesTurn, Idles, EndsByTurn, Happens, HappenAll, IsReachable}
 use Rattle.lk_cluster.specs.Continuing.{node_of, HasNode, Continues, letters_of, MayAllCome}
 use Rattle.lk_cluster.proofs.Keeping.{IsSound, Unforged, turn_takes, ended_may, with_replica, reachable_sound}
 use Rattle.lk_cluster.proofs.Saying.{turn_so}
@@ -90,21 +90,45 @@ module _ (May : Network) (Metered tells : Type 0) where
       } in
       continues_with genesis old place n (Down left) [] [] (goes_on genesis old new all (inr (inr (inl stays))))
 
+  -- an idle turn
+  pub idle_comes : (genesis : Genesis) (old : Cluster) → IsReachable May Metered tells genesis old → (place n : ℕ) (server after : ServerValue ReplicaValue) → HasNode old place n (Up server)
+      → (frames : List (SocketAddr × List ℕ)) → IsIdle tells frames server after → IsReachable May Metered tells genesis (continued old place n (Up after) [] [])
+  idle_comes genesis old all place n server after at frames idle =
+      let new = continued old place n (Up after) [] [] in
+      let idles : Idles tells old new = record {
+        node = node_of n (Up server);
+        next = node_of n (Up after);
+        turns = record { place = place; at = at; number = refl; seats = refl };
+        server = server;
+        was = refl;
+        after = after;
+        up = refl;
+        frames = frames;
+        idle = idle;
+        adds = record { genesis = refl; sent = refl; trace = refl };
+      } in
+      goes_on genesis old new all (inr (inr (inr (inr (inl idles)))))
+
+  pub idle_continues : (genesis : Genesis) (old : Cluster) → IsReachable May Metered tells genesis old → (place n : ℕ) (server after : ServerValue ReplicaValue) → HasNode old place n (Up server)
+      → (frames : List (SocketAddr × List ℕ)) → IsIdle tells frames server after → Continues May Metered tells genesis old place n (Up after) []
+  idle_continues genesis old all place n server after at frames idle =
+      continues_with genesis old place n (Up after) [] [] (idle_comes genesis old all place n server after at frames idle)
+
   module _ (unforged : Unforged May) where
     -- a turn has a trace
     turn_trace : (old : Cluster) (w : IsSound old) (place n : ℕ) (server after : ServerValue ReplicaValue) → HasNode old place n (Up server) → (came : List (SocketAddr × List ℕ)) → May old.genesis old.sent server came
-        → (turn : Turn (Says Metered) tells came server after) → Traced old.genesis n (given_in server.received (datagrams_in (take 64 server.own) came)) (steps_of Metered turn.hands_on.says.comes)
+        → (turn : Turn (Says Metered) tells came server after) → Traced old.genesis n turn.given (steps_of Metered turn.hands_on.says.comes)
     turn_trace old w place n server after at came may turn =
         let node = node_of n (Up server) in
-        let may_all = turn_takes May Metered tells unforged old old w n 64 server came (w.own place node at server refl) may in
-        trace_group old.genesis n old.seats place node at after Metered (given_in server.received (datagrams_in (take 64 server.own) came)) server.replica turn.hands_on.letters after.replica old.sent old.trace may_all
+        let may_all = turn_takes May Metered tells unforged old old w n 64 server came turn.given turn.may (w.own place node at server refl) may in
+        trace_group old.genesis n old.seats place node at after Metered turn.given server.replica turn.hands_on.letters after.replica old.sent old.trace may_all
         (with_replica old w place node at server after refl) turn.hands_on.says
 
     last_trace : (old : Cluster) (w : IsSound old) (place n : ℕ) (server after : ServerValue ReplicaValue) → HasNode old place n (Up server) → (came : List (SocketAddr × List ℕ)) → May old.genesis old.sent server came
         → (turn : LastTurn (Says Metered) tells came server after) → Traced old.genesis n turn.given (steps_of Metered turn.hands_on.says.comes)
     last_trace old w place n server after at came may turn =
         let node = node_of n (Up server) in
-        let may_all = ended_may old.genesis old.sent turn.given (given_in server.received (datagrams_in (take turn.count server.own) came)) turn.front (turn_takes May Metered tells unforged old old w n turn.count server came (w.own place node at server refl) may) in
+        let may_all = ended_may old.genesis old.sent turn.given turn.first.whole turn.first.front (turn_takes May Metered tells unforged old old w n turn.count server came turn.first.whole turn.first.may (w.own place node at server refl) may) in
         trace_group old.genesis n old.seats place node at after Metered turn.given server.replica turn.hands_on.letters after.replica old.sent old.trace may_all
         (with_replica old w place node at server after refl) turn.hands_on.says
 
@@ -171,7 +195,7 @@ module _ (May : Network) (Metered tells : Type 0) where
           joins = traced.1;
           adds = record { genesis = refl; sent = refl; trace = refl };
         } in
-        continues_with genesis old place n (Down left) turn.hands_on.letters traced.0 (goes_on genesis old new all (inr (inr (inr (inr (inl ends))))))
+        continues_with genesis old place n (Down left) turn.hands_on.letters traced.0 (goes_on genesis old new all (inr (inr (inr (inr (inr (inl ends)))))))
 
     -- what was continued and then continued again
     pub twice : (genesis : Genesis) (old : Cluster) (place n : ℕ) (life last : Life (ServerValue ReplicaValue)) (first rest : List LetterValue) (trace : List Note)
@@ -208,6 +232,14 @@ module _ (May : Network) (Metered tells : Type 0) where
 
     -- turns, one after another, of a replica that says so
     module _ (S : ReplicaValue → List (Option (List ℕ)) → List LetterValue → ReplicaValue → Type 0) (so : (old : ReplicaValue) (given : List (Option (List ℕ))) (letters : List LetterValue) (new : ReplicaValue) → S old given letters new → Says Metered old given letters new) where
+      -- one of them, or an idle one
+      taken_comes : (genesis : Genesis) (old : Cluster) → IsReachable May Metered tells genesis old → (place n : ℕ) (first next : ServerValue ReplicaValue) → HasNode old place n (Up first) → (came frames : List (SocketAddr × List ℕ))
+          → May old.genesis old.sent first came → (turn : Turn S tells came first next ⊎ IsIdle tells frames first next) → TellsFailure next
+          → (trace : List Note) × IsReachable May Metered tells genesis (continued old place n (Up next) (letters_in S tells turn) trace)
+      taken_comes genesis old all place n first next at came frames may (inl turn) failure =
+          turn_comes genesis old all place n first next at came may (turn_so S (Says Metered) so tells came first next turn) (sym failure ∙ turn.alive)
+      taken_comes genesis old all place n first next at came frames may (inr idle) failure = ([], idle_comes genesis old all place n first next at frames idle)
+
       pub turns_continue : (genesis : Genesis) (old : Cluster) → IsReachable May Metered tells genesis old → (place n : ℕ) (first : ServerValue ReplicaValue) (states : List (ServerValue ReplicaValue)) (last : ServerValue ReplicaValue)
           → HasNode old place n (Up first) → (turns : Chain (ServerTurn S tells) first states last) → MayAllCome S tells May old.genesis n old.sent first states last turns
           → Continues May Metered tells genesis old place n (Up last) (letters_of S tells first states last turns)
@@ -215,8 +247,7 @@ module _ (May : Network) (Metered tells : Type 0) where
           let here : HasNode old place n (Up last) = subst (λ (s : ServerValue ReplicaValue). HasNode old place n (Up s)) (sym turns) at in
           record { cluster = old; reachable = all; began = refl; seats = same_again old.seats place (node_of n (Up last)) here; sent = sym (append-nil old.sent) }
       turns_continue genesis old all place n first (next ∷ states) last at turns may =
-          let turn : Turn (Says Metered) tells turns.0.came first next = turn_so S (Says Metered) so tells turns.0.came first next turns.0.turn in
-          let alive : next.replica.failed ≡ false = sym turns.0.failure ∙ turn.alive in
-          let t = turn_comes genesis old all place n first next at turns.0.came may.0 turn alive in
-          twice genesis old place n (Up next) (Up last) turns.0.turn.hands_on.letters (letters_of S tells next states last turns.1) t.0
-          (turns_continue genesis (continued old place n (Up next) turns.0.turn.hands_on.letters t.0) t.1 place n next states last (at_set_here old.seats place (node_of n (Up next)) at.0) turns.1 may.1)
+          let said = letters_in S tells turns.0.turn in
+          let t = taken_comes genesis old all place n first next at turns.0.came turns.0.frames may.0 turns.0.turn turns.0.failure in
+          twice genesis old place n (Up next) (Up last) said (letters_of S tells next states last turns.1) t.0
+          (turns_continue genesis (continued old place n (Up next) said t.0) t.1 place n next states last (at_set_here old.seats place (node_of n (Up next)) at.0) turns.1 may.1)

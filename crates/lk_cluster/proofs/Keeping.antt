@@ -1,5 +1,5 @@
 -- What happens to a cluster keeps all that holds of it.
-use Rattle.std.proofs.Common.{◌≡◌, ℕ, ◌⊎◌, ◌==◌, ◌%◌, true, false, Bool, Option, Some, None, List, [], ◌∷◌, ◌++◌, take, drop, set, zero, suc, Contains, refl, ap, sym, ◌∙◌, subst, subst₂, inl, inr, append-nil, arith}
+use Rattle.std.proofs.Common.{◌≡◌, ℕ, ◌⊎◌, true, false, Bool, Option, Some, None, List, [], ◌∷◌, ◌++◌, take, drop, set, zero, suc, Contains, refl, ap, sym, ◌∙◌, subst, subst₂, inl, inr, append-nil, arith}
 use Rattle.std.specs.Prelude.{map}
 use Rattle.std.specs.List.{AllByRecursion}
 use Rattle.std.proofs.lemmas.Bool.{cases_Bool}
@@ -18,7 +18,10 @@ use Rattle.lk_replica.specs.Posts.{CarriesAll}
 use Rattle.lk_replica.specs.ReplicaValue.{ReplicaValue}
 use Rattle.lk_server.specs.Addresses.{AddressBook}
 use Rattle.lk_server.specs.Posts.{Tray, Becomes}
-use Rattle.lk_server.specs.Servers.{ServerValue, HandsOn, one_more, inputs, all_inputs, given_in, datagrams_in, IsFront, tray_at}
+use Rattle.lk_server.specs.Paces.{ticks_after, MayFollow}
+use Rattle.lk_server.specs.Servers.{ServerValue, HandsOn, Given, one_more, inputs, all_inputs, datagrams_in, IsFront, tray_at}
+use Rattle.lk_server.specs.declared.pace.Pace.{Pace}
+use Rattle.lk_server.specs.declared.pace.Pace.TheVariants.{Datagrams, Clock}
 use Rattle.lk_sim.specs.Events.{Turns, Adds}
 use Rattle.lk_sim.specs.Networks.{MayCome, Steps, Appears, Rests, Stops, nothing}
 use Rattle.lk_sim.specs.Rooms.{AreShort}
@@ -27,7 +30,7 @@ use Rattle.lk_sim.specs.Traces.{happened}
 use Rattle.lk_sim.specs.Worlds.{Holds}
 use Rattle.lk_sim.specs.declared.seat.Life.TheVariants.{Up, Down}
 use Rattle.lk_sim.proofs.Networks.{step_holds, at_set, at_set_here, at_push, nothing_holds, set_twice, went_down}
-use Rattle.lk_cluster.specs.Clusters.{Node, Cluster, Network, ForgesNothing, ServerStands, server_disks, Says, Starts, TakesTurn, EndsByTurn, Happens, HappenAll, IsReachable}
+use Rattle.lk_cluster.specs.Clusters.{Node, Cluster, Network, ForgesNothing, ServerStands, server_disks, Says, Starts, TakesTurn, Idles, EndsByTurn, Happens, HappenAll, IsReachable}
 use Rattle.lk_cluster.proofs.Groups.{AllMay, group_leaves}
 use Rattle.lk_cluster.proofs.Mapped.{device_disks}
 
@@ -106,21 +109,29 @@ module _ (genesis : Genesis) (sent : List Datagram) where
   append_may [] rest may more = more
   append_may (o ∷ first) rest may more = (may.0, append_may first rest may.1 more)
 
-  inputs_may : (number : ℕ) (bytes : List ℕ) → MayCome genesis sent (Some bytes) → AllMay genesis sent (inputs number bytes)
-  inputs_may number bytes may = elim (cases_Bool (number % 64 == 0)) [ inl e ↦ rw e (may, (tt, tt)) | inr e ↦ rw e (may, tt) ]
+  inputs_may : (pace : Pace) (number : ℕ) (bytes : List ℕ) → MayCome genesis sent (Some bytes) → AllMay genesis sent (inputs pace number bytes)
+  inputs_may pace number bytes may = elim (cases_Bool (ticks_after pace number)) [ inl e ↦ rw e (may, (tt, tt)) | inr e ↦ rw e (may, tt) ]
 
   -- these may
   abbrev AreFree : List (List ℕ) → Type 0
   AreFree datagrams = AllByRecursion (λ (bytes : List ℕ). MayCome genesis sent (Some bytes)) datagrams
 
-  all_inputs_may : (received : ℕ) (datagrams : List (List ℕ)) → AreFree datagrams → AllMay genesis sent (all_inputs received datagrams)
-  all_inputs_may received [] may = tt
-  all_inputs_may received (bytes ∷ more) may =
-      append_may (inputs (one_more received) bytes) (all_inputs (one_more received) more) (inputs_may (one_more received) bytes may.0) (all_inputs_may (one_more received) more may.1)
+  all_inputs_may : (pace : Pace) (received : ℕ) (datagrams : List (List ℕ)) → AreFree datagrams → AllMay genesis sent (all_inputs pace received datagrams)
+  all_inputs_may pace received [] may = tt
+  all_inputs_may pace received (bytes ∷ more) may =
+      append_may (inputs pace (one_more received) bytes) (all_inputs pace (one_more received) more) (inputs_may pace (one_more received) bytes may.0) (all_inputs_may pace (one_more received) more may.1)
 
-  turn_may : (received : ℕ) (datagrams : List (List ℕ)) → AreFree datagrams → AllMay genesis sent (given_in received datagrams)
-  turn_may received [] may = (tt, tt)
-  turn_may received (bytes ∷ more) may = all_inputs_may received (bytes ∷ more) may
+  -- a tick may always come
+  ticks_may : (pace : Pace) (ticks : List (Option (List ℕ))) → MayFollow pace ticks → AllMay genesis sent ticks
+  ticks_may Datagrams ticks none = subst (λ (l : List (Option (List ℕ))). AllMay genesis sent l) (sym none) tt
+  ticks_may Clock ticks (inl none) = subst (λ (l : List (Option (List ℕ))). AllMay genesis sent l) (sym none) tt
+  ticks_may Clock ticks (inr one) = subst (λ (l : List (Option (List ℕ))). AllMay genesis sent l) (sym one) (tt, tt)
+
+  turn_may : (pace : Pace) (received : ℕ) (datagrams : List (List ℕ)) (given : List (Option (List ℕ))) → Given pace received datagrams given → AreFree datagrams → AllMay genesis sent given
+  turn_may pace received [] given is may = subst (λ (l : List (Option (List ℕ))). AllMay genesis sent l) (sym is) (tt, tt)
+  turn_may pace received (bytes ∷ more) given is may =
+      subst (λ (l : List (Option (List ℕ))). AllMay genesis sent l) (sym is.2)
+      (append_may (all_inputs pace received (bytes ∷ more)) is.0 (all_inputs_may pace received (bytes ∷ more) may) (ticks_may pace is.0 is.1))
 
   came_may : (came : List (SocketAddr × List ℕ)) → AllByRecursion (λ (c : SocketAddr × List ℕ). MayCome genesis sent (Some c.1)) came → AreFree (map (λ (c : SocketAddr × List ℕ). c.1) came)
   came_may [] may = tt
@@ -135,9 +146,9 @@ module _ (genesis : Genesis) (sent : List Datagram) where
   front_may [] rest may = tt
   front_may (o ∷ given) rest may = (may.0, front_may given rest may.1)
 
-  pub given_may : (count received : ℕ) (own : List LetterValue) (came : List (SocketAddr × List ℕ)) → ((l : LetterValue) → Contains own l → MayCome genesis sent (Some l.bytes))
-      → AllByRecursion (λ (c : SocketAddr × List ℕ). MayCome genesis sent (Some c.1)) came → AllMay genesis sent (given_in received (datagrams_in (take count own) came))
-  given_may count received own came mine may = turn_may received (datagrams_in (take count own) came) (datagrams_may (take count own) came (λ l c. mine l (in_front count own l c)) may)
+  pub given_may : (pace : Pace) (count received : ℕ) (own : List LetterValue) (came : List (SocketAddr × List ℕ)) (given : List (Option (List ℕ))) → Given pace received (datagrams_in (take count own) came) given → ((l : LetterValue) → Contains own l → MayCome genesis sent (Some l.bytes))
+      → AllByRecursion (λ (c : SocketAddr × List ℕ). MayCome genesis sent (Some c.1)) came → AllMay genesis sent given
+  given_may pace count received own came given is mine may = turn_may pace received (datagrams_in (take count own) came) given is (datagrams_may (take count own) came (λ l c. mine l (in_front count own l c)) may)
 
   pub ended_may : (given whole : List (Option (List ℕ))) → IsFront given whole → AllMay genesis sent whole → AllMay genesis sent given
   ended_may given whole front may = front_may given front.0 (subst (λ (g : List (Option (List ℕ))). AllMay genesis sent g) front.1 may)
@@ -223,18 +234,18 @@ module _ (May : Network) (Metered tells : Type 0) (unforged : Unforged May) wher
         (subst₂ (λ x y. Holds ServerStands server_disks table_meaning old.genesis seats x y) (sym a.sent) (sym a.trace) h))
 
     -- what a server takes in a turn of what waits and comes
-    pub turn_takes : (n count : ℕ) (server : ServerValue ReplicaValue) (came : List (SocketAddr × List ℕ)) → IsKept old.sent n server → May old.genesis old.sent server came
-        → AllMay old.genesis old.sent (given_in server.received (datagrams_in (take count server.own) came))
-    turn_takes n count server came kept may = given_may old.genesis old.sent count server.received server.own came (own_may old w n server kept) (unforged old w server came may)
+    pub turn_takes : (n count : ℕ) (server : ServerValue ReplicaValue) (came : List (SocketAddr × List ℕ)) (given : List (Option (List ℕ))) → Given server.pace server.received (datagrams_in (take count server.own) came) given
+        → IsKept old.sent n server → May old.genesis old.sent server came → AllMay old.genesis old.sent given
+    turn_takes n count server came given is kept may =
+        given_may old.genesis old.sent server.pace count server.received server.own came given is (own_may old w n server kept) (unforged old w server came may)
 
     takes_turn : TakesTurn May Metered tells old new → IsSound new
     takes_turn a =
         let n : ℕ = a.node.number in
         let kept = w.own a.turns.place a.node a.turns.at a.server a.was in
-        let given = given_in a.server.received (datagrams_in (take 64 a.server.own) a.came) in
         let letters : List LetterValue = a.turn.hands_on.letters in
-        let left = group_leaves old.genesis n old.seats a.turns.place a.node a.turns.at a.after Metered given a.server.replica letters a.after.replica a.turn.hands_on.says a.trace old.sent old.trace
-        (turn_takes n 64 a.server a.came kept a.may) (with_replica old w a.turns.place a.node a.turns.at a.server a.after a.was) a.joins in
+        let left = group_leaves old.genesis n old.seats a.turns.place a.node a.turns.at a.after Metered a.turn.given a.server.replica letters a.after.replica a.turn.hands_on.says a.trace old.sent old.trace
+        (turn_takes n 64 a.server a.came a.turn.given a.turn.may kept a.may) (with_replica old w a.turns.place a.node a.turns.at a.server a.after a.was) a.joins in
         record {
           holds = moved (set old.seats a.turns.place a.next) a.trace (batch_of n letters) a.turns.seats a.adds
               (subst (λ (z : Node). Holds ServerStands server_disks table_meaning old.genesis (set old.seats a.turns.place z) (old.sent ++ batch_of n letters) (old.trace ++ a.trace))
@@ -242,7 +253,27 @@ module _ (May : Network) (Metered tells : Type 0) (unforged : Unforged May) wher
           own = own_moved a.node a.next a.turns (batch_of n letters) a.adds.sent (λ q up.
               subst (λ (z : ServerValue ReplicaValue). IsKept new.sent a.next.number z) (same_up a.after q (sym a.up ∙ up))
               (subst₂ (λ (l : List Datagram) (k : ℕ). IsKept l k a.after) (sym a.adds.sent) (sym a.turns.number)
-              (after_turn tells (Says Metered) given 64 old.sent n a.server a.after kept a.turn.hands_on a.alive)));
+              (after_turn tells (Says Metered) a.turn.given 64 old.sent n a.server a.after kept a.turn.hands_on a.alive)));
+        }
+
+    -- an idle turn
+    idles : Idles tells old new → IsSound new
+    idles a =
+        let as_was : {X : Type 0} (f : ServerValue ReplicaValue → X) → f (record a.after { coming = a.server.coming }) ≡ f a.server = λ f. ap f a.idle.same in
+        let mine : record a.after { replica = a.server.replica } ≡ a.after = λ i. record a.after { replica = sym (as_was (λ s. s.replica)) i } in
+        let kept = w.own a.turns.place a.node a.turns.at a.server a.was in
+        let still : IsKept (old.sent ++ []) a.node.number a.after = record {
+          alive = ap (λ (r : ReplicaValue). r.failed) (as_was (λ s. s.replica)) ∙ kept.alive;
+          own = λ l c. Contains-append_left old.sent [] (datagram_of a.node.number l) (kept.own l (subst (λ (ls : List LetterValue). Contains ls l) (as_was (λ s. s.own)) c));
+        } in
+        record {
+          holds = moved (set old.seats a.turns.place a.next) [] [] a.turns.seats a.adds
+              (subst₂ (λ (x : List Datagram) (y : List Note). Holds ServerStands server_disks table_meaning old.genesis (set old.seats a.turns.place a.next) x y) (sym (append-nil old.sent)) (sym (append-nil old.trace))
+              (subst (λ (z : Node). Holds ServerStands server_disks table_meaning old.genesis (set old.seats a.turns.place z) old.sent old.trace)
+              (λ i. record { number = sym a.turns.number i; life = (ap Up mine ∙ sym a.up) i }) (with_replica old w a.turns.place a.node a.turns.at a.server a.after a.was)));
+          own = own_moved a.node a.next a.turns [] a.adds.sent (λ q up.
+              subst (λ (z : ServerValue ReplicaValue). IsKept new.sent a.next.number z) (same_up a.after q (sym a.up ∙ up))
+              (subst₂ (λ (l : List Datagram) (k : ℕ). IsKept l k a.after) (sym a.adds.sent) (sym a.turns.number) still));
         }
 
     -- other devices with the same disks
@@ -254,7 +285,7 @@ module _ (May : Network) (Metered tells : Type 0) (unforged : Unforged May) wher
         let n : ℕ = a.node.number in
         let kept = w.own a.turns.place a.node a.turns.at a.server a.was in
         let batch : List Datagram = batch_of n a.turn.hands_on.letters in
-        let may = ended_may old.genesis old.sent a.turn.given (given_in a.server.received (datagrams_in (take a.turn.count a.server.own) a.came)) a.turn.front (turn_takes n a.turn.count a.server a.came kept a.may) in
+        let may = ended_may old.genesis old.sent a.turn.given a.turn.first.whole a.turn.first.front (turn_takes n a.turn.count a.server a.came a.turn.first.whole a.turn.first.may kept a.may) in
         let device : Memory = device_of a.after.replica.store in
         let seat : Node = record { number = n; life = Down device } in
         let next : Node = record { number = n; life = Down a.left } in
@@ -287,8 +318,9 @@ module _ (May : Network) (Metered tells : Type 0) (unforged : Unforged May) wher
     happens (inr (inl a)) = starts a
     happens (inr (inr (inl a))) = rests a
     happens (inr (inr (inr (inl a)))) = takes_turn a
-    happens (inr (inr (inr (inr (inl a))))) = ends_by_turn a
-    happens (inr (inr (inr (inr (inr a))))) = stops a
+    happens (inr (inr (inr (inr (inl a))))) = idles a
+    happens (inr (inr (inr (inr (inr (inl a)))))) = ends_by_turn a
+    happens (inr (inr (inr (inr (inr (inr a)))))) = stops a
 
   all_happen : (first last : Cluster) (clusters : List Cluster) → IsSound first → HappenAll May Metered tells first clusters last → IsSound last
   all_happen first last [] w all = subst IsSound (sym all) w

@@ -1,11 +1,11 @@
 -- What a server says on an honest device.
-use Rattle.std.proofs.Common.{ℕ, List, Option, Result, Ok, Err}
+use Rattle.std.proofs.Common.{ℕ, List, Option, Result, Ok, Err, inl, inr}
 use Rattle.std.specs.Prelude.{OnOk, OnErr}
 use Rattle.std.specs.declared.net.socket_addr.SocketAddr.{SocketAddr}
 use Rattle.lk_step.specs.Letters.{LetterValue}
 use Rattle.lk_seal.specs.declared.seals.Seals.{Seals}
 use Rattle.lk_server.specs.Posts.{all_taken_as}
-use Rattle.lk_server.specs.Servers.{ServerValue, HandsOn, Turn, LastTurn}
+use Rattle.lk_server.specs.Servers.{ServerValue, HandsOn, Turn, LastTurn, TakesTurn}
 
 module _ {R : Type 0} (S T : R → List (Option (List ℕ)) → List LetterValue → R → Type 0) (so : (old : R) (given : List (Option (List ℕ))) (letters : List LetterValue) (new : R) → S old given letters new → T old given letters new) where
   abbrev pub hands_so : (tells : Type 0) (given : List (Option (List ℕ))) (own : List LetterValue) (old new : ServerValue R) → HandsOn S tells given own old new → HandsOn T tells given own old new
@@ -13,39 +13,38 @@ module _ {R : Type 0} (S T : R → List (Option (List ℕ)) → List LetterValue
 
   abbrev pub turn_so : (tells : Type 0) (came : List (SocketAddr × List ℕ)) (old new : ServerValue R) → Turn S tells came old new → Turn T tells came old new
   turn_so tells came old new t = record {
-    alone = t.alone;
-    few = t.few;
-    comes = t.comes;
-    hands_on = hands_so tells _ _ old new t.hands_on;
+    takes = t.takes;
+    given = t.given;
+    may = t.may;
+    hands_on = hands_so tells t.given _ old new t.hands_on;
     counted = t.counted;
     heard = t.heard;
-    cluster = t.cluster;
-    node = t.node;
+    same = t.same;
     alive = t.alive;
   }
 
+  pub taken_so : (tells : Type 0) (frames : List (SocketAddr × List ℕ)) (old new : ServerValue R) → TakesTurn S tells frames old new → TakesTurn T tells frames old new
+  taken_so tells frames old new (inl t) = inl (turn_so tells (all_taken_as old.addresses.seals frames) old new t)
+  taken_so tells frames old new (inr idle) = inr idle
+
   abbrev pub last_so : (tells : Type 0) (came : List (SocketAddr × List ℕ)) (old new : ServerValue R) → LastTurn S tells came old new → LastTurn T tells came old new
   last_so tells came old new t = record {
-    alone = t.alone;
-    few = t.few;
-    comes = t.comes;
+    takes = t.takes;
     count = t.count;
-    at_most = t.at_most;
-    some = t.some;
+    letters = t.letters;
     given = t.given;
-    front = t.front;
+    first = t.first;
     hands_on = hands_so tells t.given _ old new t.hands_on;
     silent = t.silent;
     heard = t.heard;
-    cluster = t.cluster;
-    node = t.node;
+    same = t.same;
     ended = t.ended;
   }
 
-  pub on_ok_so : {A E : Type 0} (r : Result A E) (tells : Type 0) (seals : Seals) (old new : ServerValue R) → OnOk r ((frames : List (SocketAddr × List ℕ)) × Turn S tells (all_taken_as seals frames) old new)
-      → OnOk r ((frames : List (SocketAddr × List ℕ)) × Turn T tells (all_taken_as seals frames) old new)
-  on_ok_so (Ok x) tells seals old new t = (t.0, turn_so tells (all_taken_as seals t.0) old new t.1)
-  on_ok_so (Err e) tells seals old new t = tt
+  pub on_ok_so : {A E : Type 0} (r : Result A E) (tells : Type 0) (old new : ServerValue R) → OnOk r ((frames : List (SocketAddr × List ℕ)) × TakesTurn S tells frames old new)
+      → OnOk r ((frames : List (SocketAddr × List ℕ)) × TakesTurn T tells frames old new)
+  on_ok_so (Ok x) tells old new t = (t.0, taken_so tells t.0 old new t.1)
+  on_ok_so (Err e) tells old new t = tt
 
   pub on_err_so : {A E : Type 0} (r : Result A E) (tells : Type 0) (seals : Seals) (old new : ServerValue R) → OnErr r ((frames : List (SocketAddr × List ℕ)) × LastTurn S tells (all_taken_as seals frames) old new)
       → OnErr r ((frames : List (SocketAddr × List ℕ)) × LastTurn T tells (all_taken_as seals frames) old new)

@@ -17,7 +17,7 @@ use Rattle.lk_server.specs.Posts.{all_taken_as}
 use Rattle.lk_server.specs.Premises.{IsToldByANode}
 use Rattle.lk_server.specs.Servers.{ServerValue}
 use Rattle.lk_service.specs.Chains.{Chain}
-use Rattle.lk_service.specs.Turns.{TakesTurn as ServerTurn}
+use Rattle.lk_service.specs.Turns.{TakesTurn as ServerTurn, letters_in}
 use Rattle.lk_sim.specs.Networks.{MayCome, nothing}
 use Rattle.lk_cluster.specs.Clusters.{Cluster, Network, ForgesNothing, TakesTurn, EndsByTurn, Happens, HappenAll, IsReachable}
 use Rattle.lk_cluster.specs.Continuing.{MayAllCome}
@@ -69,7 +69,7 @@ module _ (S : ReplicaValue → List (Option (List ℕ)) → List LetterValue →
     all_sealed sent first [] last turns same only = tt
     all_sealed sent first (next ∷ states) last turns same only = (
       frames_sealed s key genesis sent first same turns.0.frames turns.0.came turns.0.opened only.0,
-      all_sealed (sent ++ batch_of n turns.0.turn.hands_on.letters) next states last turns.1 (turns.0.outside.1 ∙ same) only.1,
+      all_sealed (sent ++ batch_of n (letters_in S tells turns.0.turn)) next states last turns.1 (turns.0.outside.1 ∙ same) only.1,
     )
 
 -- ---- what comes about where nothing is forged
@@ -118,8 +118,9 @@ module _ (May : Network) (Metered tells : Type 0) (unforged : Unforged May) wher
   so_happens old new w (inr (inl a)) = inr (inl a)
   so_happens old new w (inr (inr (inl a))) = inr (inr (inl a))
   so_happens old new w (inr (inr (inr (inl a)))) = inr (inr (inr (inl (takes_turn old new w a))))
-  so_happens old new w (inr (inr (inr (inr (inl a))))) = inr (inr (inr (inr (inl (ends_by_turn old new w a)))))
-  so_happens old new w (inr (inr (inr (inr (inr a))))) = inr (inr (inr (inr (inr a))))
+  so_happens old new w (inr (inr (inr (inr (inl a))))) = inr (inr (inr (inr (inl a))))
+  so_happens old new w (inr (inr (inr (inr (inr (inl a)))))) = inr (inr (inr (inr (inr (inl (ends_by_turn old new w a))))))
+  so_happens old new w (inr (inr (inr (inr (inr (inr a)))))) = inr (inr (inr (inr (inr (inr a)))))
 
   so_happen : (first last : Cluster) (clusters : List Cluster) → IsSound first → HappenAll May Metered tells first clusters last → HappenAll ForgesNothing Metered tells first clusters last
   so_happen first last [] w all = all

@@ -2,7 +2,7 @@
 -- another, in any order.
 use Rattle.std.proofs.Common.{inl, inr}
 use Rattle.std.specs.Prelude.{◌≡◌, ◌⊎◌, ℕ, true, false, Option, Some, None, List, [], ◌∷◌, ◌++◌}
-use Rattle.std.specs.Prelude.{map, take, drop}
+use Rattle.std.specs.Prelude.{map, drop}
 use Rattle.std.specs.List.{AllByRecursion}
 use Rattle.std.specs.declared.net.socket_addr.SocketAddr.{SocketAddr}
 use Rattle.lk_types.specs.declared.genesis.Genesis.{Genesis}
@@ -20,7 +20,7 @@ use Rattle.lk_node.specs.Keeping.{Stands}
 use Rattle.lk_replica.specs.Groups.{StepSaid}
 use Rattle.lk_replica.specs.ReplicaValue.{ReplicaValue}
 use Rattle.lk_server.specs.Sayings.{SaysByGroup, IsSilenced, SaysOf}
-use Rattle.lk_server.specs.Servers.{ServerValue, Turn, LastTurn, given_in, datagrams_in}
+use Rattle.lk_server.specs.Servers.{ServerValue, Turn, LastTurn, IsIdle}
 use Rattle.lk_sim.specs.Events.{Turns, Adds}
 use Rattle.lk_sim.specs.Networks.{MayCome, AreAsking, TellsOf, RisesBy, Appears, Rises, Rests, Stops, nothing}
 use Rattle.lk_sim.specs.Scenes.{Scene}
@@ -113,6 +113,19 @@ pub record Starts (old new : Cluster) : Type 0 where
   pub own : rises.replica.own ≡ []
   pub alive : rises.replica.replica.failed ≡ false
 
+-- a node that is up takes an idle turn: its replica is given nothing, and only what is to come to its socket may be another. `tells` says that the sockets tell that
+pub record Idles (tells : Type 0) (old new : Cluster) : Type 0 where
+  pub node : Node
+  pub next : Node
+  pub turns : Turns old.seats new.seats node next
+  pub server : ServerValue ReplicaValue
+  pub was : node.life ≡ Up server
+  pub after : ServerValue ReplicaValue
+  pub up : next.life ≡ Up after
+  pub frames : List (SocketAddr × List ℕ)
+  pub idle : IsIdle tells frames server after
+  pub adds : Adds old new [] []
+
 -- `May` says what the network may bring, `Metered` that the devices count their calls, and `tells` that the sockets tell what they send
 module _ (May : Network) (Metered tells : Type 0) where
   -- a node that is up takes a turn, in which datagrams may come or nothing: what it is given by that its replica takes as one group, and the letters of that
@@ -130,7 +143,7 @@ module _ (May : Network) (Metered tells : Type 0) where
     pub turn : Turn (Says Metered) tells came server after
     pub alive : after.replica.failed ≡ false
     pub trace : List Note
-    pub joins : Joins node.number (given_in server.received (datagrams_in (take 64 server.own) came)) (steps_of Metered turn.hands_on.says.comes) trace
+    pub joins : Joins node.number turn.given (steps_of Metered turn.hands_on.says.comes) trace
     pub adds : Adds old new trace (batch_of node.number turn.hands_on.letters)
 
   -- a turn ends it, and it is down on the disks that its replica has left
@@ -152,11 +165,11 @@ module _ (May : Network) (Metered tells : Type 0) where
     pub joins : Joins node.number turn.given (steps_of Metered turn.hands_on.says.comes) trace
     pub adds : Adds old new trace (batch_of node.number turn.hands_on.letters)
 
-  -- a node appears, with empty disks; it starts, or does not; it takes a turn, or ends by one; or it stops, up or down, and its disks have what a
+  -- a node appears, with empty disks; it starts, or does not; it takes a turn, or an idle one, or ends by one; or it stops, up or down, and its disks have what a
   -- stop may leave
   abbrev pub Happens : Cluster → Cluster → Type 0
   Happens old new =
-      Appears old new ⊎ Starts old new ⊎ Rests table_meaning old new ⊎ TakesTurn old new ⊎ EndsByTurn old new ⊎ Stops server_disks old new
+      Appears old new ⊎ Starts old new ⊎ Rests table_meaning old new ⊎ TakesTurn old new ⊎ Idles tells old new ⊎ EndsByTurn old new ⊎ Stops server_disks old new
 
   -- one after another, up to this
   abbrev pub HappenAll : Cluster → List Cluster → Cluster → Type 0

@@ -5,7 +5,7 @@ use Rattle.lk_node.specs.Histories.{Datagram}
 use Rattle.lk_replica.specs.ReplicaValue.{ReplicaValue}
 use Rattle.lk_server.specs.Servers.{ServerValue}
 use Rattle.lk_service.specs.Chains.{Chain}
-use Rattle.lk_service.specs.Turns.{TakesTurn as ServerTurn}
+use Rattle.lk_service.specs.Turns.{TakesTurn as ServerTurn, letters_in}
 use Rattle.lk_sim.specs.Seats.{At}
 use Rattle.lk_sim.specs.declared.seat.Life.{Life}
 use Rattle.lk_step.specs.Letters.{LetterValue, batch_of}
@@ -35,10 +35,10 @@ module _ (Says : ReplicaValue → List (Option (List ℕ)) → List LetterValue 
   -- the letters that it gave to be sent in these turns, in order
   abbrev pub letters_of : (first : ServerValue ReplicaValue) (states : List (ServerValue ReplicaValue)) (last : ServerValue ReplicaValue) → Chain (ServerTurn Says tells) first states last → List LetterValue
   letters_of first [] last turns = []
-  letters_of first (next ∷ states) last turns = turns.0.turn.hands_on.letters ++ letters_of next states last turns.1
+  letters_of first (next ∷ states) last turns = letters_in Says tells turns.0.turn ++ letters_of next states last turns.1
 
   -- in each of these turns the network may bring what came, where the letters of the turns before it were given to be sent
   abbrev pub MayAllCome : Network → Genesis → ℕ → List Datagram → (first : ServerValue ReplicaValue) (states : List (ServerValue ReplicaValue)) (last : ServerValue ReplicaValue) → Chain (ServerTurn Says tells) first states last → Type 0
   MayAllCome May genesis n sent first [] last turns = Unit {0}
   MayAllCome May genesis n sent first (next ∷ states) last turns =
-      May genesis sent first turns.0.came × MayAllCome May genesis n (sent ++ batch_of n turns.0.turn.hands_on.letters) next states last turns.1
+      May genesis sent first turns.0.came × MayAllCome May genesis n (sent ++ batch_of n (letters_in Says tells turns.0.turn)) next states last turns.1

@@ -11,7 +11,7 @@ use Rattle.lk_seal.specs.declared.seals.Seals.{Seals}
 use Rattle.lk_server.specs.Posts.{all_taken_as}
 use Rattle.lk_server.specs.Servers.{ServerValue}
 use Rattle.lk_service.specs.Chains.{Chain}
-use Rattle.lk_service.specs.Turns.{TakesTurn as ServerTurn}
+use Rattle.lk_service.specs.Turns.{TakesTurn as ServerTurn, letters_in}
 
 -- a node of the cluster has given a datagram of these bytes to be sent
 abbrev pub WasGiven : List Datagram → List ℕ → Type 0
@@ -40,4 +40,4 @@ module _ (Says : ReplicaValue → List (Option (List ℕ)) → List LetterValue 
   abbrev pub OnlyNodesSealAll : List Datagram → (first : ServerValue ReplicaValue) (states : List (ServerValue ReplicaValue)) (last : ServerValue ReplicaValue) → Chain (ServerTurn Says tells) first states last → Type 0
   OnlyNodesSealAll sent first [] last turns = Unit {0}
   OnlyNodesSealAll sent first (next ∷ states) last turns =
-      OnlyNodesSealWhatComes sent s turns.0.frames × OnlyNodesSealAll (sent ++ batch_of n turns.0.turn.hands_on.letters) next states last turns.1
+      OnlyNodesSealWhatComes sent s turns.0.frames × OnlyNodesSealAll (sent ++ batch_of n (letters_in Says tells turns.0.turn)) next states last turns.1

@@ -15,7 +15,7 @@ ghost use Rattle.lk_seal.specs.Seals.{key_list, heard};
 ghost use Rattle.lk_seal.specs.declared.seals.Seals.{Seals};
 ghost use Rattle.lk_replica.specs.ReplicaValue.{ReplicaValue};
 ghost use Rattle.lk_server.specs.Posts.{all_taken_as};
-ghost use Rattle.lk_server.specs.Servers.{ServerValue, Turn, LastTurn};
+ghost use Rattle.lk_server.specs.Servers.{ServerValue, Turn, LastTurn, IsIdle};
 ghost use Rattle.lk_server.specs.declared.fault.ServiceFault.{ServiceFault};
 ghost use Rattle.lk_service.specs.Chains.{Repeats};
 ghost use Rattle.lk_service.specs.Revivals.{IsBegun as IsTakenUp, IsRefusedWith};
@@ -105,7 +105,7 @@ pub fn a_turn_continues_a_cluster<D: LogDisk, S: Datagrams>()
         → Continues ForgesNothing D.is_metered S.is_telling genesis cluster place n (Up after) turn.hands_on.letters }
 {}
 
-/// A turn of a server that has the key of the nodes continues its cluster whatever frames came in it. `turning::turn` ensures such a turn.
+/// A turn of a server that has the key of the nodes continues its cluster whatever frames came in it. `turning::turn` ensures such a turn, or an idle one.
 pub fn a_sealed_turn_continues_a_cluster<D: LogDisk, S: Datagrams>()
     ensures { (genesis : GenesisValue) (cluster : Cluster) → IsReachable IsSealed D.is_metered S.is_telling genesis cluster
         → (place n : ℕ) (server after : ServerValue ReplicaValue) → HasNode cluster place n (Up server)
@@ -115,6 +115,14 @@ pub fn a_sealed_turn_continues_a_cluster<D: LogDisk, S: Datagrams>()
 {
     is_told_by_a_node();
 }
+
+/// An idle turn of a server continues its cluster, and gives nothing to be sent.
+pub fn an_idle_turn_continues_a_cluster<D: LogDisk, S: Datagrams>()
+    ensures { (genesis : GenesisValue) (cluster : Cluster) → IsReachable ForgesNothing D.is_metered S.is_telling genesis cluster
+        → (place n : ℕ) (server after : ServerValue ReplicaValue) → HasNode cluster place n (Up server)
+        → (frames : List (SocketAddr × List ℕ)) → IsIdle S.is_telling frames server after
+        → Continues ForgesNothing D.is_metered S.is_telling genesis cluster place n (Up after) [] }
+{}
 
 /// A turn that ends a server continues its cluster: the node is down then, on the disks that its replica has left.
 pub fn a_last_turn_continues_a_cluster<D: LogDisk, S: Datagrams>()

@@ -17,10 +17,12 @@ use lk_service::running::run_node;
 use log::Log;
 use std::alloc::Global;
 use std::io::Write;
+use std::time::Clock;
 
 /// Runs a node of the lock table on any honest device and any socket. Whatever becomes of it, the reachable cluster in which it was down on what the
 /// device had goes on by it.
-pub fn run<D: LogDisk + FailureCause + Drop, S: Datagrams + Drop, L: Log, E: Write>(
+pub fn run<D: LogDisk + FailureCause + Drop, S: Datagrams + Drop, C: Clock, L: Log, E: Write>(
+    clock: &C,
     alloc: Global,
     plan: &NodePlan<'_>,
     resources: Resources<D, S>,
@@ -37,5 +39,5 @@ pub fn run<D: LogDisk + FailureCause + Drop, S: Datagrams + Drop, L: Log, E: Wri
         ⊎ EndsIn D.is_metered S.is_telling D.is_honest ⟦<Replica<LockTable, D> as NodeReplica>⟧.Says genesis cluster place n (D.disk resources.device) resources.outside.seals (2 ^ 48) }
     ensures status { result ≤ 1 }
 {
-    run_node::<LockTable, D, S, L, E>(alloc, plan, resources, log, err)
+    run_node::<LockTable, D, S, C, L, E>(clock, alloc, plan, resources, log, err)
 }

@@ -5,7 +5,7 @@ ghost use Rattle.lk_types.specs.declared.genesis.Genesis.{Genesis as GenesisValu
 ghost use Rattle.lk_node.specs.Leavings.{header_of};
 ghost use Rattle.lk_cluster.specs.Clusters.{IsBegun, Says};
 ghost use Rattle.lk_server.specs.Posts.{all_taken_as};
-ghost use Rattle.lk_server.specs.Servers.{Turn, LastTurn};
+ghost use Rattle.lk_server.specs.Servers.{TakesTurn, LastTurn};
 
 use lk_disk::LogDisk;
 use lk_entries::Header;
@@ -13,24 +13,27 @@ use lk_locks::LockTable;
 use lk_replica::{Replica, ReviveFault};
 use lk_server::ear::Ear;
 use lk_server::fault::ServiceFault;
+use lk_server::metronome::Metronome;
 use lk_server::server::{Server, node_turn};
 use lk_server::socket::Datagrams;
 use lk_service::resources::Resources;
 use lk_service::running::revive;
 use log::Log;
 use std::alloc::Global;
+use std::time::Clock;
 
 /// One turn of a server of the lock table, on any honest device and any socket. It takes what came, out of its frames where the nodes have a key.
-pub fn turn<D: LogDisk + Drop, S: Datagrams + Drop, L: Log>(
+pub fn turn<D: LogDisk + Drop, S: Datagrams + Drop, C: Clock, L: Log>(
     server: &mut Server<Replica<LockTable, D>, S>,
     ear: &mut Ear,
+    metronome: &mut Metronome<C>,
     log: &L,
 ) -> Result<(), ServiceFault>
-    ensures turn { D.is_honest → OnOk result ((frames : List (Address × List ℕ)) × Turn (Says D.is_metered) S.is_telling (all_taken_as server.old.addresses.seals frames) server.old server.new) }
+    ensures turn { D.is_honest → OnOk result ((frames : List (Address × List ℕ)) × TakesTurn (Says D.is_metered) S.is_telling frames server.old server.new) }
     ensures ends { D.is_honest → OnErr result ((frames : List (Address × List ℕ)) × LastTurn (Says D.is_metered) S.is_telling (all_taken_as server.old.addresses.seals frames) server.old server.new) }
     ensures failed { server.new.failed ≡ server.new.replica.failed }
 {
-    let taken = node_turn(server, ear, log);
+    let taken = node_turn(server, ear, metronome, log);
     let _ = server.replica();
     taken
 }

@@ -46,6 +46,7 @@ const SUBCOMMANDS: &[Usage] = &[
         (Kind::Given, "bind", "the address at which the node listens"),
         (Kind::Given, "key", "the file of the key that the nodes share"),
         (Kind::Given, "client-key", "the file of the master of which the clients' keys are made"),
+        (Kind::Given, "ticks", "what brings ticks: datagrams, or clock (each 100 ms, and always where there is a key)"),
         (Kind::Flag, "log", "tells on standard error what is counted and run"),
         (Kind::Flag, "verbose", "tells on standard error what --log does, and what else happens to the node"),
     ]),

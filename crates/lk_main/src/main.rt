@@ -13,6 +13,7 @@ use std::io::{BufReader, BufWriter, Write};
 use std::net::Net;
 use std::process::ExitCode;
 use std::rt::Env;
+use std::time::Clock;
 use std::{env, io};
 use words::{run_words, tell_start};
 
@@ -28,7 +29,7 @@ fn texts_of<'a>(alloc: Global, words: &'a [String]) -> io::Result<Vec<&'a str>> 
 }
 
 /// Runs a command line on the program's streams.
-fn run_texts<'a, R: Input + Print + Eprint + Files<File = File> + Net, E: Write>(
+fn run_texts<'a, R: Input + Print + Eprint + Files<File = File> + Net + Clock, E: Write>(
     rt: &R,
     alloc: Global,
     texts: &'a [&'a str],
@@ -41,7 +42,7 @@ fn run_texts<'a, R: Input + Print + Eprint + Files<File = File> + Net, E: Write>
 
 /// Runs the command line that the program was given, on its streams. It fails where nothing could be run: memory was
 /// refused, or a word is no text.
-fn run<R: Env + Input + Print + Eprint + Files<File = File> + Net + Alloc<A = Global>, E: Write>(
+fn run<R: Env + Input + Print + Eprint + Files<File = File> + Net + Clock + Alloc<A = Global>, E: Write>(
     rt: &R,
     err: &mut E,
 ) -> io::Result<u8> {

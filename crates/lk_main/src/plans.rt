@@ -3,6 +3,7 @@
 use clap::ArgMatches;
 use lk_entries::Header;
 use lk_fuzz::fuzzing::MAX_EVENTS;
+use lk_server::pace::Pace;
 use lk_service::command_words::operation_of;
 use lk_service::far::Far;
 use lk_service::outside::Away;
@@ -47,6 +48,18 @@ pub fn ask_away<'a>(matches: &ArgMatches<'a>) -> Option<Away<'a>> {
     away_in(matches, "address")
 }
 
+/// What the ticks of a node go by: where the nodes have a key it is the clock, and nothing else may be asked for.
+fn pace_in(matches: &ArgMatches<'_>) -> Option<Pace> {
+    let has_key = matches.get_str("key").is_some();
+    match matches.get_str("ticks") {
+        None if has_key => Some(Pace::Clock),
+        None => Some(Pace::Datagrams),
+        Some("clock") => Some(Pace::Clock),
+        Some("datagrams") if !has_key => Some(Pace::Datagrams),
+        Some(_) => None,
+    }
+}
+
 /// The node that `locks node` is to run.
 pub fn node_plan<'a>(matches: &ArgMatches<'a>) -> Option<NodePlan<'a>> {
     let genesis = read_genesis(word(matches, "genesis")?)?;
@@ -55,6 +68,7 @@ pub fn node_plan<'a>(matches: &ArgMatches<'a>) -> Option<NodePlan<'a>> {
     Some(NodePlan {
         header: Header::new(node, genesis),
         port,
+        pace: pace_in(matches)?,
         folder: matches.get_str("dir")?,
         away: away_in(matches, "bind")?,
     })

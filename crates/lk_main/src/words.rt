@@ -33,6 +33,7 @@ use std::fs::{File, Files};
 use std::io;
 use std::io::{BufRead, Write};
 use std::net::{IpAddr, Ipv4Addr, Ipv6Addr, Net, SocketAddr};
+use std::time::Clock;
 
 /// The nodes of world mode.
 type Nodes = Replica<LockTable, MemoryDisk>;
@@ -59,7 +60,7 @@ fn folder_in<'a>(matches: &ArgMatches<'a>) -> &'a str {
 }
 
 /// Runs a node on the files of its folder and a socket of the system.
-fn run_plan<R: Files<File = File> + Net, L: Log, E: Write>(
+fn run_plan<R: Files<File = File> + Net + Clock, L: Log, E: Write>(
     rt: &R,
     alloc: Global,
     plan: &NodePlan<'_>,
@@ -69,15 +70,15 @@ fn run_plan<R: Files<File = File> + Net, L: Log, E: Write>(
     ensures { result ≤ 2 }
 {
     match open_resources(rt, alloc, plan, err) {
-        Ok((resources, _lock)) => run_node::<LockTable, _, _, _, _>(
-            alloc, plan, resources, log, err,
+        Ok((resources, _lock)) => run_node::<LockTable, _, _, _, _, _>(
+            rt, alloc, plan, resources, log, err,
         ),
         Err(fault) => fault.tell(err),
     }
 }
 
 /// Runs a node.
-fn run_node_words<R: Files<File = File> + Net + Eprint, E: Write>(
+fn run_node_words<R: Files<File = File> + Net + Clock + Eprint, E: Write>(
     rt: &R,
     alloc: Global,
     matches: &ArgMatches<'_>,
@@ -191,7 +192,7 @@ fn fuzz_words<W: Write, E: Write>(
 }
 
 /// Runs a subcommand, given its words.
-fn run_subcommand<H: Files<File = File> + Net + Eprint, R: BufRead, W: Write, E: Write>(
+fn run_subcommand<H: Files<File = File> + Net + Clock + Eprint, R: BufRead, W: Write, E: Write>(
     rt: &H,
     alloc: Global,
     subcommand: Subcommand,
@@ -216,7 +217,7 @@ fn run_subcommand<H: Files<File = File> + Net + Eprint, R: BufRead, W: Write, E:
 }
 
 /// Runs the subcommand that was named.
-fn run_matches<H: Files<File = File> + Net + Eprint, R: BufRead, W: Write, E: Write>(
+fn run_matches<H: Files<File = File> + Net + Clock + Eprint, R: BufRead, W: Write, E: Write>(
     rt: &H,
     alloc: Global,
     matches: &ArgMatches<'_>,
@@ -258,7 +259,7 @@ fn refuse<W: Write, E: Write>(error: &Error, out: &mut W, err: &mut E) -> u8
 
 /// Reads the command line, whose first word is the program's name, and runs it. The status is 0, 1 where a fault was told
 /// in the last line of standard error, where nothing answered and where no store stands, or 2 where the line is none.
-pub fn run_words<'a, H: Files<File = File> + Net + Eprint, R: BufRead, W: Write, E: Write>(
+pub fn run_words<'a, H: Files<File = File> + Net + Clock + Eprint, R: BufRead, W: Write, E: Write>(
     rt: &H,
     alloc: Global,
     words: &'a [&'a str],

@@ -1,5 +1,5 @@
 -- What a server has taken into a group, one datagram after another.
-use Rattle.std.proofs.Common.{◌≡◌, ◌≢◌, ℕ, zero, suc, ◌+◌, ◌≤◌, ◌%◌, ◌==◌, true, false, List, [], ◌∷◌, ◌++◌, length, map, take, drop, Option, Some, None, refl, sym, ap, ◌∙◌, subst, subst₂, append_assoc, append-nil, length-append, inl, inr, arith}
+use Rattle.std.proofs.Common.{◌≡◌, ◌≢◌, ℕ, zero, suc, ◌+◌, ◌≤◌, true, false, List, [], ◌∷◌, ◌++◌, length, map, take, drop, Option, Some, None, refl, sym, ap, ◌∙◌, subst, subst₂, append_assoc, append-nil, length-append, inl, inr, arith}
 use Rattle.std.proofs.lemmas.Bool.{cases_Bool}
 use Rattle.std.proofs.lemmas.List.{map-append, take_all}
 use Rattle.std.specs.declared.net.socket_addr.SocketAddr.{SocketAddr}
@@ -11,29 +11,31 @@ use Rattle.lk_server.specs.Addresses.{AddressBook, IsSameOutside}
 use Rattle.lk_server.specs.Gatherings.{Sayings, Gatherings, GathersMore, SaysNoMore, TakesAll, EndsWithin, TakesOwn, EndsOwn, TakesHeard, EndsHeard, TakesSocket, EndsSocket}
 use Rattle.lk_server.specs.Hearing.{listed}
 use Rattle.lk_server.specs.Posts.{Hears, HearsAll, taken_as, all_taken_as}
+use Rattle.lk_server.specs.Paces.{ticks_after}
+use Rattle.lk_server.specs.declared.pace.Pace.{Pace}
 use Rattle.lk_server.specs.Servers.{ServerValue, one_more, inputs, all_inputs, counted, datagrams_in}
 
 -- ---- lists
 
-pub all_more : (received : ℕ) (xs ys : List (List ℕ)) → all_inputs received (xs ++ ys) ≡ all_inputs received xs ++ all_inputs (counted received xs) ys
-all_more received [] ys = refl
-all_more received (x ∷ xs) ys =
-    ap (λ (l : List (Option (List ℕ))). inputs (one_more received) x ++ l) (all_more (one_more received) xs ys)
-    ∙ sym (append_assoc (inputs (one_more received) x) (all_inputs (one_more received) xs) (all_inputs (counted (one_more received) xs) ys))
+pub all_more : (pace : Pace) (received : ℕ) (xs ys : List (List ℕ)) → all_inputs pace received (xs ++ ys) ≡ all_inputs pace received xs ++ all_inputs pace (counted received xs) ys
+all_more pace received [] ys = refl
+all_more pace received (x ∷ xs) ys =
+    ap (λ (l : List (Option (List ℕ))). inputs pace (one_more received) x ++ l) (all_more pace (one_more received) xs ys)
+    ∙ sym (append_assoc (inputs pace (one_more received) x) (all_inputs pace (one_more received) xs) (all_inputs pace (counted (one_more received) xs) ys))
 
 pub counted_more : (received : ℕ) (xs ys : List (List ℕ)) → counted received (xs ++ ys) ≡ counted (counted received xs) ys
 counted_more received [] ys = refl
 counted_more received (x ∷ xs) ys = counted_more (one_more received) xs ys
 
-alone : (n : ℕ) (bytes : List ℕ) → (n % 64 == 0) ≡ false → inputs n bytes ++ [] ≡ Some bytes ∷ []
-alone n bytes e = rw e refl
+alone : (pace : Pace) (n : ℕ) (bytes : List ℕ) → ticks_after pace n ≡ false → inputs pace n bytes ++ [] ≡ Some bytes ∷ []
+alone pace n bytes e = rw e refl
 
-with_tick : (n : ℕ) (bytes : List ℕ) → (n % 64 == 0) ≡ true → inputs n bytes ++ [] ≡ Some bytes ∷ None ∷ []
-with_tick n bytes e = rw e refl
+with_tick : (pace : Pace) (n : ℕ) (bytes : List ℕ) → ticks_after pace n ≡ true → inputs pace n bytes ++ [] ≡ Some bytes ∷ None ∷ []
+with_tick pace n bytes e = rw e refl
 
 -- the first of what is given at a datagram is its bytes
-bytes_first : (n : ℕ) (bytes : List ℕ) → (rest : List (Option (List ℕ))) × (inputs n bytes ++ [] ≡ (Some bytes ∷ []) ++ rest)
-bytes_first n bytes = elim (cases_Bool (n % 64 == 0)) [ inl e ↦ (None ∷ [], with_tick n bytes e) | inr e ↦ ([], alone n bytes e) ]
+bytes_first : (pace : Pace) (n : ℕ) (bytes : List ℕ) → (rest : List (Option (List ℕ))) × (inputs pace n bytes ++ [] ≡ (Some bytes ∷ []) ++ rest)
+bytes_first pace n bytes = elim (cases_Bool (ticks_after pace n)) [ inl e ↦ (None ∷ [], with_tick pace n bytes e) | inr e ↦ ([], alone pace n bytes e) ]
 
 pub taken_more : (s : Seals) (xs ys : List (SocketAddr × List ℕ)) → all_taken_as s (xs ++ ys) ≡ all_taken_as s xs ++ all_taken_as s ys
 taken_more s [] ys = refl
@@ -126,6 +128,15 @@ none_came {R} tells e old mid new is comes none others same = (
   ap (λ (s : ServerValue R). record s { coming = old.coming }) (same ∙ others),
 )
 
+-- what is given by a server that was the same
+inputs_from : {R : Type 0} (old begun : ServerValue R) (xs : List (List ℕ)) → begun.pace ≡ old.pace → begun.received ≡ old.received → all_inputs begun.pace begun.received xs ≡ all_inputs old.pace old.received xs
+inputs_from old begun xs pace received = λ i. all_inputs (pace i) (received i) xs
+
+-- what is given after some datagrams
+later : {R : Type 0} (old mid : ServerValue R) (xs ys : List (List ℕ)) → mid.pace ≡ old.pace → mid.received ≡ counted old.received xs
+    → all_inputs old.pace old.received xs ++ all_inputs mid.pace mid.received ys ≡ all_inputs old.pace old.received (xs ++ ys)
+later old mid xs ys pace count = (λ i. all_inputs old.pace old.received xs ++ all_inputs (pace i) (count i) ys) ∙ sym (all_more old.pace old.received xs ys)
+
 -- ---- what goes on
 
 module _ {R : Type 0} (G : Gatherings R) where
@@ -140,23 +151,28 @@ module _ {R : Type 0} (G : Gatherings R) where
         subst (λ (l : List (Option (List ℕ))). G first l now new.replica) (sym (append-nil given))
         (subst₂ (λ (x : GroupValue) (s : ServerValue R). G first given x s.replica) (sym is) (sym same) was);
     counted = ap (λ (s : ServerValue R). s.received) same;
+    pace = ap (λ (s : ServerValue R). s.pace) same;
   }
 
   -- a datagram
   pub takes_one : (bytes : List ℕ) (group now : GroupValue) (old new : ServerValue R) → GathersMore G (Some bytes ∷ []) group now old.replica new.replica
-      → new.received ≡ one_more old.received → (new.received % 64 == 0) ≡ false → TakesAll G (bytes ∷ []) group now old new
-  takes_one bytes group now old new gathers count is = record {
-    gathers = subst (λ (l : List (Option (List ℕ))). GathersMore G l group now old.replica new.replica) (sym (alone (one_more old.received) bytes (subst (λ (n : ℕ). (n % 64 == 0) ≡ false) count is))) gathers;
+      → new.received ≡ one_more old.received → new.pace ≡ old.pace → ticks_after new.pace new.received ≡ false → TakesAll G (bytes ∷ []) group now old new
+  takes_one bytes group now old new gathers count pace is = record {
+    gathers = subst (λ (l : List (Option (List ℕ))). GathersMore G l group now old.replica new.replica)
+        (sym (alone old.pace (one_more old.received) bytes (subst₂ (λ (p : Pace) (n : ℕ). ticks_after p n ≡ false) pace count is))) gathers;
     counted = count;
+    pace = pace;
   }
 
   -- and a tick after it
   pub takes_tick : (bytes : List ℕ) (group one now : GroupValue) (old new : ServerValue R) (mid : R) → GathersMore G (Some bytes ∷ []) group one old.replica mid → GathersMore G (None ∷ []) one now mid new.replica
-      → new.received ≡ one_more old.received → (new.received % 64 == 0) ≡ true → TakesAll G (bytes ∷ []) group now old new
-  takes_tick bytes group one now old new mid gathers ticks count is = record {
-    gathers = subst (λ (l : List (Option (List ℕ))). GathersMore G l group now old.replica new.replica) (sym (with_tick (one_more old.received) bytes (subst (λ (n : ℕ). (n % 64 == 0) ≡ true) count is)))
+      → new.received ≡ one_more old.received → new.pace ≡ old.pace → ticks_after new.pace new.received ≡ true → TakesAll G (bytes ∷ []) group now old new
+  takes_tick bytes group one now old new mid gathers ticks count pace is = record {
+    gathers = subst (λ (l : List (Option (List ℕ))). GathersMore G l group now old.replica new.replica)
+        (sym (with_tick old.pace (one_more old.received) bytes (subst₂ (λ (p : Pace) (n : ℕ). ticks_after p n ≡ true) pace count is)))
         (λ first given was. subst (λ (l : List (Option (List ℕ))). G first l now new.replica) (append_assoc given (Some bytes ∷ []) (None ∷ [])) (ticks first (given ++ Some bytes ∷ []) (gathers first given was)));
     counted = count;
+    pace = pace;
   }
 
   -- datagrams, and more
@@ -164,17 +180,20 @@ module _ {R : Type 0} (G : Gatherings R) where
   takes_more xs ys group one now old mid new a b = record {
     gathers = λ first given was.
         subst (λ (l : List (Option (List ℕ))). G first l now new.replica)
-        (append_assoc given (all_inputs old.received xs) (all_inputs mid.received ys)
-        ∙ ap (λ (l : List (Option (List ℕ))). given ++ l) (ap (λ (n : ℕ). all_inputs old.received xs ++ all_inputs n ys) a.counted ∙ sym (all_more old.received xs ys)))
-        (b.gathers first (given ++ all_inputs old.received xs) (a.gathers first given was));
+        (append_assoc given (all_inputs old.pace old.received xs) (all_inputs mid.pace mid.received ys)
+        ∙ ap (λ (l : List (Option (List ℕ))). given ++ l) (later old mid xs ys a.pace a.counted))
+        (b.gathers first (given ++ all_inputs old.pace old.received xs) (a.gathers first given was));
     counted = b.counted ∙ ap (λ (n : ℕ). counted n ys) a.counted ∙ sym (counted_more old.received xs ys);
+    pace = b.pace ∙ a.pace;
   }
 
   -- of a server that was the same
-  pub takes_from : (xs : List (List ℕ)) (group now : GroupValue) (old begun new : ServerValue R) → begun.replica ≡ old.replica → begun.received ≡ old.received → TakesAll G xs group now begun new → TakesAll G xs group now old new
-  takes_from xs group now old begun new replica received t = record {
-    gathers = subst₂ (λ (r : R) (n : ℕ). GathersMore G (all_inputs n xs) group now r new.replica) replica received t.gathers;
+  pub takes_from : (xs : List (List ℕ)) (group now : GroupValue) (old begun new : ServerValue R) → begun.replica ≡ old.replica → begun.received ≡ old.received → begun.pace ≡ old.pace → TakesAll G xs group now begun new
+      → TakesAll G xs group now old new
+  takes_from xs group now old begun new replica received pace t = record {
+    gathers = subst₂ (λ (r : R) (l : List (Option (List ℕ))). GathersMore G l group now r new.replica) replica (inputs_from old begun xs pace received) t.gathers;
     counted = t.counted ∙ ap (λ (n : ℕ). counted n xs) received;
+    pace = t.pace ∙ pace;
   }
 
   pub socket_more : (tells : Type 0) (xs ys : List (SocketAddr × List ℕ)) (group one now : GroupValue) (old mid new : ServerValue R) → mid.cluster ≡ old.cluster
@@ -200,10 +219,10 @@ module _ {R : Type 0} (G : Gatherings R) where
 
   -- a frame of which this was taken
   pub heard_one : (frame x : SocketAddr × List ℕ) (group now : GroupValue) (old mid new : ServerValue R) → taken_of old.addresses.seals frame ≡ x
-      → Hears old.cluster x.1 x.0 old.addresses mid.addresses → IsSameOutside old.addresses mid.addresses → new.addresses ≡ mid.addresses → mid.replica ≡ old.replica → mid.received ≡ old.received
+      → Hears old.cluster x.1 x.0 old.addresses mid.addresses → IsSameOutside old.addresses mid.addresses → new.addresses ≡ mid.addresses → mid.replica ≡ old.replica → mid.received ≡ old.received → mid.pace ≡ old.pace
       → TakesAll G (x.1 ∷ []) group now mid new → TakesHeard G (frame ∷ []) group now old new
-  heard_one frame x group now old mid new is hears outside book replica received takes = record {
-    takes = subst (λ (c : SocketAddr × List ℕ). TakesAll G (c.1 ∷ []) group now old new) (sym is) (takes_from (x.1 ∷ []) group now old mid new replica received takes);
+  heard_one frame x group now old mid new is hears outside book replica received pace takes = record {
+    takes = subst (λ (c : SocketAddr × List ℕ). TakesAll G (c.1 ∷ []) group now old new) (sym is) (takes_from (x.1 ∷ []) group now old mid new replica received pace takes);
     heard = subst (λ (c : SocketAddr × List ℕ). HearsAll old.cluster (c ∷ []) old.addresses new.addresses) (sym is) (mid.addresses, hears, book);
     outside = subst (λ (b : AddressBook). IsSameOutside old.addresses b) (sym book) outside;
   }
@@ -215,7 +234,7 @@ module _ {R : Type 0} (G : Gatherings R) where
   socket_one tells e frame group now old mid new is comes others coming heard =
       let h = subst (λ (s : ServerValue R). TakesHeard G (frame ∷ []) group now s new) others heard in
       record {
-        takes = record { takes = record { gathers = h.takes.gathers; counted = h.takes.counted }; heard = h.heard; outside = h.outside };
+        takes = record { takes = record { gathers = h.takes.gathers; counted = h.takes.counted; pace = h.takes.pace }; heard = h.heard; outside = h.outside };
         comes = λ t.
             comes t ∙ ap (λ (o : Option (SocketAddr × List ℕ)). all_taken_as old.addresses.seals (listed o) ++ mid.coming) is
             ∙ ap (λ (l : List (SocketAddr × List ℕ)). all_taken_as old.addresses.seals (frame ∷ []) ++ l) (sym coming);
@@ -240,8 +259,9 @@ module _ {R : Type 0} (G : Gatherings R) where
       record {
         takes = record {
           takes = record {
-            gathers = subst₂ (λ (x : GroupValue) (r : R). GathersMore G (all_inputs old.received (datagrams_in [] (all_taken_as old.addresses.seals xs))) group x old.replica r) (sym is) (sym (ap (λ (s : ServerValue R). s.replica) same)) a.takes.takes.gathers;
+            gathers = subst₂ (λ (x : GroupValue) (r : R). GathersMore G (all_inputs old.pace old.received (datagrams_in [] (all_taken_as old.addresses.seals xs))) group x old.replica r) (sym is) (sym (ap (λ (s : ServerValue R). s.replica) same)) a.takes.takes.gathers;
             counted = ap (λ (s : ServerValue R). s.received) same ∙ a.takes.takes.counted;
+            pace = ap (λ (s : ServerValue R). s.pace) same ∙ a.takes.takes.pace;
           };
           heard = subst (λ (b : AddressBook). HearsAll old.cluster (all_taken_as old.addresses.seals xs) old.addresses b) (sym book) a.takes.heard;
           outside = subst (λ (b : AddressBook). IsSameOutside old.addresses b) (sym book) a.takes.outside;
@@ -281,42 +301,43 @@ module _ {R : Type 0} (S : Sayings R) (G : Gatherings R) where
 
   -- a datagram has ended it, whether a tick was to follow or not
   pub ends_one : (bytes : List ℕ) (group : GroupValue) (old new : ServerValue R) → SaysNoMore S G (Some bytes ∷ []) group old.replica new.replica → EndsWithin S G (bytes ∷ []) group old new
-  ends_one bytes group old new silent = record { given = Some bytes ∷ []; front = bytes_first (one_more old.received) bytes; silent = silent }
+  ends_one bytes group old new silent = record { given = Some bytes ∷ []; front = bytes_first old.pace (one_more old.received) bytes; silent = silent }
 
   -- the tick after it
-  pub ends_tick : (bytes : List ℕ) (group one : GroupValue) (old new : ServerValue R) (mid : R) (received : ℕ) → GathersMore G (Some bytes ∷ []) group one old.replica mid → SaysNoMore S G (None ∷ []) one mid new.replica
-      → received ≡ one_more old.received → (received % 64 == 0) ≡ true → EndsWithin S G (bytes ∷ []) group old new
-  ends_tick bytes group one old new mid received gathers silent count is = record {
+  pub ends_tick : (bytes : List ℕ) (group one : GroupValue) (old new : ServerValue R) (mid : R) (received : ℕ) (pace : Pace) → GathersMore G (Some bytes ∷ []) group one old.replica mid → SaysNoMore S G (None ∷ []) one mid new.replica
+      → received ≡ one_more old.received → pace ≡ old.pace → ticks_after pace received ≡ true → EndsWithin S G (bytes ∷ []) group old new
+  ends_tick bytes group one old new mid received pace gathers silent count same is = record {
     given = Some bytes ∷ None ∷ [];
-    front = ([], with_tick (one_more old.received) bytes (subst (λ (n : ℕ). (n % 64 == 0) ≡ true) count is));
+    front = ([], with_tick old.pace (one_more old.received) bytes (subst₂ (λ (p : Pace) (n : ℕ). ticks_after p n ≡ true) same count is));
     silent = λ first given was. subst (λ (l : List (Option (List ℕ))). S first l [] new.replica) (append_assoc given (Some bytes ∷ []) (None ∷ [])) (silent first (given ++ Some bytes ∷ []) (gathers first given was));
   }
 
   pub ends_more : (xs ys : List (List ℕ)) (group one : GroupValue) (old mid new : ServerValue R) → TakesAll G xs group one old mid → EndsWithin S G ys one mid new → EndsWithin S G (xs ++ ys) group old new
   ends_more xs ys group one old mid new a e = record {
-    given = all_inputs old.received xs ++ e.given;
+    given = all_inputs old.pace old.received xs ++ e.given;
     front = (
       e.front.0,
-      all_more old.received xs ys ∙ ap (λ (n : ℕ). all_inputs old.received xs ++ all_inputs n ys) (sym a.counted) ∙ ap (λ (l : List (Option (List ℕ))). all_inputs old.received xs ++ l) e.front.1
-          ∙ sym (append_assoc (all_inputs old.received xs) e.given e.front.0),
+      sym (later old mid xs ys a.pace a.counted) ∙ ap (λ (l : List (Option (List ℕ))). all_inputs old.pace old.received xs ++ l) e.front.1
+          ∙ sym (append_assoc (all_inputs old.pace old.received xs) e.given e.front.0),
     );
     silent = λ first given was.
-        subst (λ (l : List (Option (List ℕ))). S first l [] new.replica) (append_assoc given (all_inputs old.received xs) e.given)
-        (e.silent first (given ++ all_inputs old.received xs) (a.gathers first given was));
+        subst (λ (l : List (Option (List ℕ))). S first l [] new.replica) (append_assoc given (all_inputs old.pace old.received xs) e.given)
+        (e.silent first (given ++ all_inputs old.pace old.received xs) (a.gathers first given was));
   }
 
-  pub ends_from : (xs : List (List ℕ)) (group : GroupValue) (old begun new : ServerValue R) → begun.replica ≡ old.replica → begun.received ≡ old.received → EndsWithin S G xs group begun new → EndsWithin S G xs group old new
-  ends_from xs group old begun new replica received e = record {
+  pub ends_from : (xs : List (List ℕ)) (group : GroupValue) (old begun new : ServerValue R) → begun.replica ≡ old.replica → begun.received ≡ old.received → begun.pace ≡ old.pace → EndsWithin S G xs group begun new
+      → EndsWithin S G xs group old new
+  ends_from xs group old begun new replica received pace e = record {
     given = e.given;
-    front = (e.front.0, ap (λ (n : ℕ). all_inputs n xs) (sym received) ∙ e.front.1);
+    front = (e.front.0, sym (inputs_from old begun xs pace received) ∙ e.front.1);
     silent = subst (λ (r : R). SaysNoMore S G e.given group r new.replica) replica e.silent;
   }
 
   pub ends_heard : (frame x : SocketAddr × List ℕ) (group : GroupValue) (old mid new : ServerValue R) → taken_of old.addresses.seals frame ≡ x
-      → Hears old.cluster x.1 x.0 old.addresses mid.addresses → IsSameOutside old.addresses mid.addresses → new.addresses ≡ mid.addresses → mid.replica ≡ old.replica → mid.received ≡ old.received
+      → Hears old.cluster x.1 x.0 old.addresses mid.addresses → IsSameOutside old.addresses mid.addresses → new.addresses ≡ mid.addresses → mid.replica ≡ old.replica → mid.received ≡ old.received → mid.pace ≡ old.pace
       → EndsWithin S G (x.1 ∷ []) group mid new → EndsHeard S G (frame ∷ []) group old new
-  ends_heard frame x group old mid new is hears outside book replica received ends = record {
-    ends = subst (λ (c : SocketAddr × List ℕ). EndsWithin S G (c.1 ∷ []) group old new) (sym is) (ends_from (x.1 ∷ []) group old mid new replica received ends);
+  ends_heard frame x group old mid new is hears outside book replica received pace ends = record {
+    ends = subst (λ (c : SocketAddr × List ℕ). EndsWithin S G (c.1 ∷ []) group old new) (sym is) (ends_from (x.1 ∷ []) group old mid new replica received pace ends);
     heard = subst (λ (c : SocketAddr × List ℕ). HearsAll old.cluster (c ∷ []) old.addresses new.addresses) (sym is) (mid.addresses, hears, book);
     outside = subst (λ (b : AddressBook). IsSameOutside old.addresses b) (sym book) outside;
   }

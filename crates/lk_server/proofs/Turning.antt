@@ -1,19 +1,22 @@
 -- A turn, by what was taken in it.
-use Rattle.std.proofs.Common.{◌≡◌, ◌≢◌, ℕ, suc, ◌≤◌, true, false, List, [], ◌∷◌, length, map, take, drop, Option, None, inl, inr, refl, ap, sym, ◌∙◌, subst, subst₂, append-nil, arith}
-use Rattle.std.specs.Prelude.{Result, Ok, Err, OnOk, OnErr}
+use Rattle.std.proofs.Common.{◌≡◌, ◌≢◌, ◌++◌, ℕ, zero, suc, ◌≤◌, true, false, List, [], ◌∷◌, length, map, take, drop, Option, None, inl, inr, refl, ap, sym, ◌∙◌, subst, subst₂, append-nil, append_assoc, arith}
+use Rattle.std.proofs.lemmas.Bool.{cases_Bool}
+use Rattle.std.specs.Prelude.{Result, Ok, Err, OnOk, OnErr, Bool, not}
 use Rattle.std.specs.declared.net.socket_addr.SocketAddr.{SocketAddr}
 use Rattle.lk_step.specs.Letters.{LetterValue}
 use Rattle.lk_replica.specs.Groups.{GroupValue}
-use Rattle.lk_replica.specs.Posts.{CarriesAll}
 use Rattle.lk_replica.specs.declared.fault.ReplicaFault.{ReplicaFault}
 use Rattle.lk_replica.specs.declared.fault.ReplicaFault.TheVariants as fault
 use Rattle.lk_replica.specs.Faults.{fault_number}
-use Rattle.lk_server.specs.Addresses.{AddressBook}
+use Rattle.lk_server.specs.Addresses.{AddressBook, IsSameOutside}
 use Rattle.lk_server.specs.Faults.{replica_fault}
 use Rattle.lk_server.specs.declared.fault.ServiceFault.TheVariants.{Send}
-use Rattle.lk_server.specs.Gatherings.{Sayings, Gatherings, GathersMore, SaysNoMore, FindsNone, TakesAll, EndsWithin, TakesOwn, EndsOwn, TakesSocket, EndsSocket, TakesGroup, EndsGroup, HandsOnAll, SaysNothing}
-use Rattle.lk_server.specs.Posts.{Tray, Becomes, HearsAll, all_taken_as}
-use Rattle.lk_server.specs.Servers.{ServerValue, HandsOn, HandsNothing, Turn, LastTurn, all_inputs, counted, given_in, datagrams_in, tray_at}
+use Rattle.lk_server.specs.Gatherings.{Sayings, Gatherings, GathersMore, SaysNoMore, FindsNone, TakesAll, EndsWithin, TakesOwn, EndsOwn, TakesSocket, EndsSocket, TakesWaiting, TakesGroup, EndsGroup, HandsOnAll, SaysNothing}
+use Rattle.lk_server.specs.Paces.{MayFollow}
+use Rattle.lk_server.specs.Posts.{HearsAll, all_taken_as}
+use Rattle.lk_server.specs.Servers.{ServerValue, HandsOn, HandsNothing, IsSameServer, Turn, LastTurn, IsIdle, Given, GivenFirst, TakesFirst, all_inputs, counted, datagrams_in}
+use Rattle.lk_server.specs.declared.pace.Pace.{Pace}
+use Rattle.lk_server.specs.declared.pace.Pace.TheVariants.{Datagrams, Clock}
 use Rattle.lk_server.proofs.Gatherings.{takes_more, ends_more, long_as, taken_of}
 
 -- a fault that tells of no lost letter is told as none
@@ -26,26 +29,66 @@ not_send fault.Failed other is = cc is
 not_send fault.Halted other is = cc is
 not_send (fault.Send notes) other is = other refl
 
--- where something was taken, that is given
-given_some : (received : ℕ) (ds : List (List ℕ)) → ds ≢ [] → all_inputs received ds ≡ given_in received ds
-given_some received [] some = absurd (some refl)
-given_some received (d ∷ ds) some = refl
+-- where a tick is due as something comes, ticks go by the clock
+clock_of : (pace : Pace) (came due : Bool) → (pace ≡ Datagrams → due ≡ not came) → due ≡ came → pace ≡ Clock
+clock_of Datagrams true due so same = absurd (let both : false ≡ true = sym (so refl) ∙ same in cc both)
+clock_of Datagrams false due so same = absurd (let both : true ≡ false = sym (so refl) ∙ same in cc both)
+clock_of Clock came due so same = refl
+
+-- no tick may follow, however they go
+no_tick : (pace : Pace) → MayFollow pace []
+no_tick Datagrams = refl
+no_tick Clock = inl refl
+
+-- by the clock one may
+one_tick : (pace : Pace) → pace ≡ Clock → MayFollow pace (None ∷ [])
+one_tick pace is = subst (λ (p : Pace). MayFollow p (None ∷ [])) (sym is) (inr refl)
+
+-- where something was taken, that may be given, and then ticks that may follow
+given_then : (pace : Pace) (received : ℕ) (ds : List (List ℕ)) (ticks : List (Option (List ℕ))) → MayFollow pace ticks → ds ≢ [] → Given pace received ds (all_inputs pace received ds ++ ticks)
+given_then pace received [] ticks may some = absurd (some refl)
+given_then pace received (d ∷ ds) ticks may some = (ticks, may, refl)
+
+given_some : (pace : Pace) (received : ℕ) (ds : List (List ℕ)) → ds ≢ [] → Given pace received ds (all_inputs pace received ds)
+given_some pace received ds some =
+    subst (λ (g : List (Option (List ℕ))). Given pace received ds g) (append-nil (all_inputs pace received ds)) (given_then pace received ds [] (no_tick pace) some)
+
+-- all of what may be given is a beginning of it
+given_all : (pace : Pace) (received : ℕ) (ds : List (List ℕ)) (given : List (Option (List ℕ))) → Given pace received ds given → GivenFirst pace received ds given
+given_all pace received ds given may = record { whole = given; may = may; front = ([], sym (append-nil given)) }
+
+-- where nothing is taken a tick may be given
+given_none : (pace : Pace) (received : ℕ) (ds : List (List ℕ)) → ds ≡ [] → Given pace received ds (None ∷ [])
+given_none pace received ds none = subst (λ (l : List (List ℕ)). Given pace received l (None ∷ [])) (sym none) refl
 
 -- what comes after a first one is something
 pub some_datagrams : (own : List LetterValue) (c : SocketAddr × List ℕ) (came : List (SocketAddr × List ℕ)) → own ≡ [] → datagrams_in own (c ∷ came) ≢ []
 some_datagrams own c came none is =
     let both : c.1 ∷ map (λ (x : SocketAddr × List ℕ). x.1) came ≡ [] = sym (ap (λ (o : List LetterValue). datagrams_in o (c ∷ came)) none) ∙ is in cc both
 
+-- of no letters none are taken
+take_none : (n : ℕ) (own : List LetterValue) → own ≡ [] → take n own ≡ []
+take_none zero [] none = refl
+take_none (suc n) [] none = refl
+take_none n (l ∷ own) none = absurd (cc none)
+
+-- it is the same server of which nothing else has changed
+pub same_by : {R : Type 0} (old new : ServerValue R)
+    → new ≡ record old { replica = new.replica; failed = new.failed; received = new.received; own = new.own; addresses = new.addresses; coming = new.coming } → IsSameServer old new
+same_by old new others = record {
+  cluster = ap (λ (s : ServerValue _). s.cluster) others;
+  node = ap (λ (s : ServerValue _). s.node) others;
+  pace = ap (λ (s : ServerValue _). s.pace) others;
+}
+
 module _ {R : Type 0} (S : Sayings R) (G : Gatherings R) (tells : Type 0) where
   -- ---- what is taken
 
   -- frames of the socket, where no letter of the node to itself waits
   pub socket_group : (frame : SocketAddr × List ℕ) (frames : List (SocketAddr × List ℕ)) (group now : GroupValue) (old new : ServerValue R) → old.own ≡ [] → new.own ≡ old.own → length frames ≤ 63
-      → TakesSocket G tells (frame ∷ frames) group now old new → TakesGroup G tells (frame ∷ frames) group now old new
+      → TakesSocket G tells (frame ∷ frames) group now old new → TakesWaiting G tells (frame ∷ frames) group now old new
   socket_group frame frames group now old new none own few t = record {
-    alone = inl none;
-    few = omega (arith, few, long_as old.addresses.seals frames);
-    comes = λ telling empty. (new.coming, t.comes telling);
+    first = record { alone = inl none; few = omega (arith, few, long_as old.addresses.seals frames); comes = λ telling empty. (new.coming, t.comes telling) };
     takes = subst (λ (o : List LetterValue). TakesAll G (datagrams_in (take 64 o) (all_taken_as old.addresses.seals (frame ∷ frames))) group now old new) (sym none) t.takes.takes;
     some = some_datagrams (take 64 old.own) (taken_of old.addresses.seals frame) (all_taken_as old.addresses.seals frames) (ap (λ (o : List LetterValue). take 64 o) none);
     left = own ∙ none ∙ sym (ap (λ (o : List LetterValue). drop 64 o) none);
@@ -55,27 +98,33 @@ module _ {R : Type 0} (S : Sayings R) (G : Gatherings R) (tells : Type 0) where
 
   pub socket_ends : (frame : SocketAddr × List ℕ) (frames : List (SocketAddr × List ℕ)) (group : GroupValue) (old new : ServerValue R) → old.own ≡ [] → new.own ≡ old.own → length frames ≤ 63
       → EndsSocket S G tells (frame ∷ frames) group old new → EndsGroup S G tells (frame ∷ frames) group old new
-  socket_ends frame frames group old new none own few t = record {
-    alone = inl none;
-    few = omega (arith, few, long_as old.addresses.seals frames);
-    comes = λ telling empty. (new.coming, t.comes telling);
-    count = 0;
-    at_most = omega arith;
-    some_own = λ is. none;
-    ends = subst (λ (o : List LetterValue). EndsWithin S G (datagrams_in (take 0 o) (all_taken_as old.addresses.seals (frame ∷ frames))) group old new) (sym none) t.ends.ends;
-    some = some_datagrams (take 0 old.own) (taken_of old.addresses.seals frame) (all_taken_as old.addresses.seals frames) (ap (λ (o : List LetterValue). take 0 o) none);
-    left = own ∙ none ∙ sym (ap (λ (o : List LetterValue). drop 0 o) none);
-    heard = t.ends.heard;
-    outside = t.ends.outside;
-  }
+  socket_ends frame frames group old new none own few t =
+      let e = subst (λ (o : List LetterValue). EndsWithin S G (datagrams_in (take 0 o) (all_taken_as old.addresses.seals (frame ∷ frames))) group old new) (sym none) t.ends.ends in
+      record {
+        takes = record { alone = inl none; few = omega (arith, few, long_as old.addresses.seals frames); comes = λ telling empty. (new.coming, t.comes telling) };
+        count = 0;
+        letters = record { at_most = omega arith; some = λ is. none };
+        given = e.given;
+        first = record {
+          whole = all_inputs old.pace old.received (datagrams_in (take 0 old.own) (all_taken_as old.addresses.seals (frame ∷ frames)));
+          may = given_some old.pace old.received (datagrams_in (take 0 old.own) (all_taken_as old.addresses.seals (frame ∷ frames)))
+              (some_datagrams (take 0 old.own) (taken_of old.addresses.seals frame) (all_taken_as old.addresses.seals frames) (ap (λ (o : List LetterValue). take 0 o) none));
+          front = e.front;
+        };
+        silent = e.silent;
+        left = own ∙ none ∙ sym (ap (λ (o : List LetterValue). drop 0 o) none);
+        heard = t.ends.heard;
+        outside = t.ends.outside;
+      }
 
   -- letters of the node to itself: a first one, and further ones
+  own_first : (l : LetterValue) (rest : List LetterValue) (old : ServerValue R) → old.own ≡ l ∷ rest → TakesFirst tells [] old
+  own_first l rest old own = record { alone = inr refl; few = omega arith; comes = λ telling empty. absurd (let both : l ∷ rest ≡ [] = sym own ∙ empty in cc both) }
+
   pub own_group : (l : LetterValue) (group one now : GroupValue) (old mid new : ServerValue R) → old.own ≡ l ∷ mid.own → new.addresses ≡ old.addresses
-      → TakesAll G (l.bytes ∷ []) group one old mid → TakesOwn G 63 one now mid new → TakesGroup G tells [] group now old new
+      → TakesAll G (l.bytes ∷ []) group one old mid → TakesOwn G 63 one now mid new → TakesWaiting G tells [] group now old new
   own_group l group one now old mid new own book first further = record {
-    alone = inr refl;
-    few = omega arith;
-    comes = λ telling empty. absurd (let both : l ∷ mid.own ≡ [] = sym own ∙ empty in cc both);
+    first = own_first l mid.own old own;
     takes = subst (λ (o : List LetterValue). TakesAll G (datagrams_in (take 64 o) []) group now old new) (sym own)
         (takes_more G (l.bytes ∷ []) (datagrams_in (take 63 mid.own) []) group one now old mid new first further.takes);
     some = λ is. let both : l.bytes ∷ datagrams_in (take 63 mid.own) [] ≡ [] = sym (ap (λ (o : List LetterValue). datagrams_in (take 64 o) []) own) ∙ is in cc both;
@@ -84,22 +133,33 @@ module _ {R : Type 0} (S : Sayings R) (G : Gatherings R) (tells : Type 0) where
     outside = (ap (λ (b : AddressBook). b.hosts) book, ap (λ (b : AddressBook). b.seals) book);
   }
 
-  -- the first has ended it
+  -- so many of them have ended it
+  own_ends_at : (count : ℕ) (l : LetterValue) (rest : List LetterValue) (group : GroupValue) (old new : ServerValue R) → old.own ≡ l ∷ rest → new.addresses ≡ old.addresses → suc count ≤ 64
+      → EndsWithin S G (datagrams_in (take (suc count) (l ∷ rest)) []) group old new → new.own ≡ drop (suc count) (l ∷ rest) → EndsGroup S G tells [] group old new
+  own_ends_at count l rest group old new own book few ends left =
+      let e = subst (λ (o : List LetterValue). EndsWithin S G (datagrams_in (take (suc count) o) []) group old new) (sym own) ends in
+      record {
+        takes = own_first l rest old own;
+        count = suc count;
+        letters = record { at_most = few; some = λ is. absurd (omega (arith, is)) };
+        given = e.given;
+        first = record {
+          whole = all_inputs old.pace old.received (datagrams_in (take (suc count) old.own) []);
+          may = given_some old.pace old.received (datagrams_in (take (suc count) old.own) [])
+              (λ is. let both : l.bytes ∷ datagrams_in (take count rest) [] ≡ [] = sym (ap (λ (o : List LetterValue). datagrams_in (take (suc count) o) []) own) ∙ is in cc both);
+          front = e.front;
+        };
+        silent = e.silent;
+        left = left ∙ sym (ap (λ (o : List LetterValue). drop (suc count) o) own);
+        heard = book;
+        outside = (ap (λ (b : AddressBook). b.hosts) book, ap (λ (b : AddressBook). b.seals) book);
+      }
+
+  -- the first has
   pub own_ends_first : (l : LetterValue) (group : GroupValue) (old new : ServerValue R) → old.own ≡ l ∷ new.own → new.addresses ≡ old.addresses
       → EndsWithin S G (l.bytes ∷ []) group old new → EndsGroup S G tells [] group old new
-  own_ends_first l group old new own book ends = record {
-    alone = inr refl;
-    few = omega arith;
-    comes = λ telling empty. absurd (let both : l ∷ new.own ≡ [] = sym own ∙ empty in cc both);
-    count = 1;
-    at_most = omega arith;
-    some_own = λ is. absurd (omega (arith, is));
-    ends = subst (λ (o : List LetterValue). EndsWithin S G (datagrams_in (take 1 o) []) group old new) (sym own) (subst (λ (o : List LetterValue). EndsWithin S G (datagrams_in (l ∷ o) []) group old new) (sym (none new.own)) ends);
-    some = λ is. let both : l.bytes ∷ datagrams_in (take 0 new.own) [] ≡ [] = sym (ap (λ (o : List LetterValue). datagrams_in (take 1 o) []) own) ∙ is in cc both;
-    left = sym (all new.own) ∙ sym (ap (λ (o : List LetterValue). drop 1 o) own);
-    heard = book;
-    outside = (ap (λ (b : AddressBook). b.hosts) book, ap (λ (b : AddressBook). b.seals) book);
-  }
+  own_ends_first l group old new own book ends =
+      own_ends_at 0 l new.own group old new own book (omega arith) (subst (λ (o : List LetterValue). EndsWithin S G (datagrams_in (l ∷ o) []) group old new) (sym (none new.own)) ends) (sym (all new.own))
     where
       none : (o : List LetterValue) → take 0 o ≡ []
       none [] = refl
@@ -112,20 +172,156 @@ module _ {R : Type 0} (S : Sayings R) (G : Gatherings R) (tells : Type 0) where
   -- a further one has
   pub own_ends : (l : LetterValue) (group one : GroupValue) (old mid new : ServerValue R) → old.own ≡ l ∷ mid.own → new.addresses ≡ old.addresses
       → TakesAll G (l.bytes ∷ []) group one old mid → EndsOwn S G 63 one mid new → EndsGroup S G tells [] group old new
-  own_ends l group one old mid new own book first further = record {
-    alone = inr refl;
-    few = omega arith;
-    comes = λ telling empty. absurd (let both : l ∷ mid.own ≡ [] = sym own ∙ empty in cc both);
-    count = suc further.count;
-    at_most = omega (arith, further.at_most);
-    some_own = λ is. absurd (omega (arith, is));
-    ends = subst (λ (o : List LetterValue). EndsWithin S G (datagrams_in (take (suc further.count) o) []) group old new) (sym own)
-        (ends_more S G (l.bytes ∷ []) (datagrams_in (take further.count mid.own) []) group one old mid new first further.ends);
-    some = λ is. let both : l.bytes ∷ datagrams_in (take further.count mid.own) [] ≡ [] = sym (ap (λ (o : List LetterValue). datagrams_in (take (suc further.count) o) []) own) ∙ is in cc both;
-    left = further.left ∙ sym (ap (λ (o : List LetterValue). drop (suc further.count) o) own);
-    heard = book;
-    outside = (ap (λ (b : AddressBook). b.hosts) book, ap (λ (b : AddressBook). b.seals) book);
-  }
+  own_ends l group one old mid new own book first further =
+      own_ends_at further.count l mid.own group old new own book (omega (arith, further.at_most))
+      (ends_more S G (l.bytes ∷ []) (datagrams_in (take further.count mid.own) []) group one old mid new first further.ends) further.left
+
+  -- ---- the tick of a turn
+
+  -- none is due: what waits is all
+  pub without_tick : (frames : List (SocketAddr × List ℕ)) (group now : GroupValue) (old new : ServerValue R) → TakesWaiting G tells frames group now old new → TakesGroup G tells frames group now old new
+  without_tick frames group now old new t =
+      let ds = datagrams_in (take 64 old.own) (all_taken_as old.addresses.seals frames) in
+      record {
+        first = t.first;
+        given = all_inputs old.pace old.received ds;
+        may = given_some old.pace old.received ds t.some;
+        gathers = t.takes.gathers;
+        counted = t.takes.counted;
+        left = t.left;
+        heard = t.heard;
+        outside = t.outside;
+      }
+
+  -- one is, behind what waits
+  module _ (frames : List (SocketAddr × List ℕ)) (group one : GroupValue) (old mid new : ServerValue R) (clock : old.pace ≡ Clock) (t : TakesWaiting G tells frames group one old mid)
+      (same : new ≡ record mid { replica = new.replica; failed = new.failed }) where
+    abbrev waited : List (List ℕ)
+    waited = datagrams_in (take 64 old.own) (all_taken_as old.addresses.seals frames)
+
+    abbrev ticked : List (Option (List ℕ))
+    ticked = all_inputs old.pace old.received waited ++ None ∷ []
+
+    may_tick : Given old.pace old.received waited ticked
+    may_tick = given_then old.pace old.received waited (None ∷ []) (one_tick old.pace clock) t.some
+
+    tick_left : new.own ≡ drop 64 old.own
+    tick_left = ap (λ (s : ServerValue R). s.own) same ∙ t.left
+
+    tick_heard : HearsAll old.cluster (all_taken_as old.addresses.seals frames) old.addresses new.addresses
+    tick_heard = subst (λ (b : AddressBook). HearsAll old.cluster (all_taken_as old.addresses.seals frames) old.addresses b) (sym (ap (λ (s : ServerValue R). s.addresses) same)) t.heard
+
+    tick_outside : IsSameOutside old.addresses new.addresses
+    tick_outside = subst (λ (b : AddressBook). IsSameOutside old.addresses b) (sym (ap (λ (s : ServerValue R). s.addresses) same)) t.outside
+
+    pub tick_behind : (now : GroupValue) → GathersMore G (None ∷ []) one now mid.replica new.replica → TakesGroup G tells frames group now old new
+    tick_behind now ticks = record {
+      first = t.first;
+      given = ticked;
+      may = may_tick;
+      gathers = λ first given was.
+          subst (λ (l : List (Option (List ℕ))). G first l now new.replica) (append_assoc given (all_inputs old.pace old.received waited) (None ∷ []))
+          (ticks first (given ++ all_inputs old.pace old.received waited) (t.takes.gathers first given was));
+      counted = ap (λ (s : ServerValue R). s.received) same ∙ t.takes.counted;
+      left = tick_left;
+      heard = tick_heard;
+      outside = tick_outside;
+    }
+
+    -- it has ended it
+    pub tick_ends_behind : SaysNoMore S G (None ∷ []) one mid.replica new.replica → EndsGroup S G tells frames group old new
+    tick_ends_behind silent = record {
+      takes = t.first;
+      count = 64;
+      letters = record { at_most = omega arith; some = λ is. absurd (omega (arith, is)) };
+      given = ticked;
+      first = given_all old.pace old.received waited ticked may_tick;
+      silent = λ first given was.
+          subst (λ (l : List (Option (List ℕ))). S first l [] new.replica) (append_assoc given (all_inputs old.pace old.received waited) (None ∷ []))
+          (silent first (given ++ all_inputs old.pace old.received waited) (t.takes.gathers first given was));
+      left = tick_left;
+      heard = tick_heard;
+      outside = tick_outside;
+    }
+
+  -- it is alone
+  module _ (group one : GroupValue) (old mid new : ServerValue R) (found : FindsNone tells old mid) (begun : one ≡ group) (same : new ≡ record mid { replica = new.replica; failed = new.failed }) where
+    mine : mid.replica ≡ old.replica
+    mine = ap (λ (s : ServerValue R). s.replica) found.same
+
+    own_is : (n : ℕ) → take n old.own ≡ []
+    own_is n = take_none n old.own found.own
+
+    no_datagrams : (n : ℕ) → datagrams_in (take n old.own) [] ≡ []
+    no_datagrams n = ap (λ (o : List LetterValue). datagrams_in o []) (own_is n)
+
+    alone_first : TakesFirst tells [] old
+    alone_first = record { alone = inr refl; few = omega arith; comes = λ telling empty. found.none telling }
+
+    alone_book : new.addresses ≡ old.addresses
+    alone_book = ap (λ (s : ServerValue R). s.addresses) same ∙ ap (λ (s : ServerValue R). s.addresses) found.same
+
+    alone_outside : IsSameOutside old.addresses new.addresses
+    alone_outside = (ap (λ (b : AddressBook). b.hosts) alone_book, ap (λ (b : AddressBook). b.seals) alone_book)
+
+    alone_own : new.own ≡ []
+    alone_own = ap (λ (s : ServerValue R). s.own) same ∙ ap (λ (s : ServerValue R). s.own) found.same ∙ found.own
+
+    pub tick_alone : (now : GroupValue) → GathersMore G (None ∷ []) one now mid.replica new.replica → TakesGroup G tells [] group now old new
+    tick_alone now ticks = record {
+      first = alone_first;
+      given = None ∷ [];
+      may = given_none old.pace old.received (datagrams_in (take 64 old.own) []) (no_datagrams 64);
+      gathers = subst₂ (λ (x : GroupValue) (r : R). GathersMore G (None ∷ []) x now r new.replica) begun mine ticks;
+      counted = ap (λ (s : ServerValue R). s.received) same ∙ ap (λ (s : ServerValue R). s.received) found.same ∙ sym (ap (λ (ds : List (List ℕ)). counted old.received ds) (no_datagrams 64));
+      left = alone_own ∙ sym (ap (λ (o : List LetterValue). drop 64 o) found.own);
+      heard = alone_book;
+      outside = alone_outside;
+    }
+
+    pub tick_ends_alone : SaysNoMore S G (None ∷ []) one mid.replica new.replica → EndsGroup S G tells [] group old new
+    tick_ends_alone silent = record {
+      takes = alone_first;
+      count = 64;
+      letters = record { at_most = omega arith; some = λ is. absurd (omega (arith, is)) };
+      given = None ∷ [];
+      first = given_all old.pace old.received (datagrams_in (take 64 old.own) []) (None ∷ []) (given_none old.pace old.received (datagrams_in (take 64 old.own) []) (no_datagrams 64));
+      silent = subst₂ (λ (x : GroupValue) (r : R). SaysNoMore S G (None ∷ []) x r new.replica) begun mine silent;
+      left = alone_own ∙ sym (ap (λ (o : List LetterValue). drop 64 o) found.own);
+      heard = alone_book;
+      outside = alone_outside;
+    }
+
+  module _ (came due : Bool) (group one : GroupValue) (old mid : ServerValue R) (taken : came ≡ true → (frames : List (SocketAddr × List ℕ)) × TakesWaiting G tells frames group one old mid)
+      (none : came ≡ false → FindsNone tells old mid × (one ≡ group)) (pace : mid.pace ≡ old.pace) (by_datagrams : mid.pace ≡ Datagrams → due ≡ not came) where
+    -- no tick is due
+    pub untimely_takes : came ≡ true → (frames : List (SocketAddr × List ℕ)) × TakesGroup G tells frames group one old mid
+    untimely_takes is = ((taken is).0, without_tick (taken is).0 group one old mid (taken is).1)
+
+    pub untimely_rests : due ≡ false → came ≡ false → (frames : List (SocketAddr × List ℕ)) × IsIdle tells frames old mid
+    untimely_rests not_due is =
+        let found = (none is).0 in
+        ([], record { own = found.own; none = refl; clock = λ empty. sym pace ∙ clock_of mid.pace came due by_datagrams (not_due ∙ sym is); comes = found.still; same = found.same })
+
+    -- one is
+    module _ (new : ServerValue R) (same : new ≡ record mid { replica = new.replica; failed = new.failed }) (is_due : due ≡ true) where
+      pub timely_takes : (now : GroupValue) → GathersMore G (None ∷ []) one now mid.replica new.replica → (frames : List (SocketAddr × List ℕ)) × TakesGroup G tells frames group now old new
+      timely_takes now ticks = elim (cases_Bool came) [
+        | inl is ↦ (
+          (taken is).0,
+          tick_behind (taken is).0 group one old mid new (sym pace ∙ clock_of mid.pace came due by_datagrams (is_due ∙ sym is)) (taken is).1 same now ticks,
+        )
+        | inr is ↦ ([], tick_alone group one old mid new (none is).0 (none is).1 same now ticks)
+      ]
+
+      pub timely_ends : SaysNoMore S G (None ∷ []) one mid.replica new.replica → (frames : List (SocketAddr × List ℕ)) × EndsGroup S G tells frames group old new
+      timely_ends silent = elim (cases_Bool came) [
+        | inl is ↦ (
+          (taken is).0,
+          tick_ends_behind (taken is).0 group one old mid new (sym pace ∙ clock_of mid.pace came due by_datagrams (is_due ∙ sym is)) (taken is).1 same silent,
+        )
+        | inr is ↦ ([], tick_ends_alone group one old mid new (none is).0 (none is).1 same silent)
+      ]
 
   -- ---- what is handed on
 
@@ -140,69 +336,59 @@ module _ {R : Type 0} (S : Sayings R) (G : Gatherings R) (tells : Type 0) where
 
   -- ---- a turn
 
+  -- it is the same server, a step further
+  same_further : (old mid new : ServerValue R) → mid.cluster ≡ old.cluster → mid.node ≡ old.node → mid.pace ≡ old.pace → IsSameServer mid new → IsSameServer old new
+  same_further old mid new cluster node pace same = record { cluster = same.cluster ∙ cluster; node = same.node ∙ node; pace = same.pace ∙ pace }
+
   pub turn_of : (frames : List (SocketAddr × List ℕ)) (group now : GroupValue) (old mid new : ServerValue R) → G old.replica [] group old.replica → TakesGroup G tells frames group now old mid → HandsOnAll S G tells now mid new
-      → mid.sent ≡ old.sent → mid.socket_failures ≡ old.socket_failures → mid.cluster ≡ old.cluster → mid.node ≡ old.node
-      → new.addresses ≡ mid.addresses → new.received ≡ mid.received → new.cluster ≡ mid.cluster → new.node ≡ mid.node → new.failed ≡ false → Turn S tells (all_taken_as old.addresses.seals frames) old new
-  turn_of frames group now old mid new begins t hands sent failures cluster node book received cluster_too node_too lives =
-      let ds = datagrams_in (take 64 old.own) (all_taken_as old.addresses.seals frames) in
-      record {
-        alone = t.alone;
-        few = t.few;
-        comes = t.comes;
-        hands_on = subst₂ (λ (given : List (Option (List ℕ))) (own : List LetterValue). HandsOn S tells given own old new) (given_some old.received ds t.some) t.left
-            (hands old (all_inputs old.received ds) (t.takes.gathers old.replica [] begins) (sym sent) (sym failures));
-        counted = received ∙ t.takes.counted;
-        heard = subst (λ (b : AddressBook). HearsAll old.cluster (all_taken_as old.addresses.seals frames) old.addresses b) (sym book) t.heard;
-        cluster = cluster_too ∙ cluster;
-        node = node_too ∙ node;
-        alive = lives;
-      }
+      → mid.sent ≡ old.sent → mid.socket_failures ≡ old.socket_failures → IsSameServer old mid
+      → new.addresses ≡ mid.addresses → new.received ≡ mid.received → IsSameServer mid new → new.failed ≡ false → Turn S tells (all_taken_as old.addresses.seals frames) old new
+  turn_of frames group now old mid new begins t hands sent failures first book received then lives = record {
+    takes = t.first;
+    given = t.given;
+    may = t.may;
+    hands_on = subst (λ (own : List LetterValue). HandsOn S tells t.given own old new) t.left (hands old t.given (t.gathers old.replica [] begins) (sym sent) (sym failures));
+    counted = received ∙ t.counted;
+    heard = subst (λ (b : AddressBook). HearsAll old.cluster (all_taken_as old.addresses.seals frames) old.addresses b) (sym book) t.heard;
+    same = same_further old mid new first.cluster first.node first.pace then;
+    alive = lives;
+  }
 
   -- the end of the group has ended it
   pub last_of : (frames : List (SocketAddr × List ℕ)) (group now : GroupValue) (old mid new : ServerValue R) → G old.replica [] group old.replica → TakesGroup G tells frames group now old mid → SaysNothing S G now mid new
-      → mid.sent ≡ old.sent → mid.socket_failures ≡ old.socket_failures → mid.cluster ≡ old.cluster → mid.node ≡ old.node
-      → new.addresses ≡ mid.addresses → new.cluster ≡ mid.cluster → new.node ≡ mid.node → new.failed ≡ true → LastTurn S tells (all_taken_as old.addresses.seals frames) old new
-  last_of frames group now old mid new begins t none sent failures cluster node book cluster_too node_too ended =
-      let ds = datagrams_in (take 64 old.own) (all_taken_as old.addresses.seals frames) in
-      record {
-        alone = t.alone;
-        few = t.few;
-        comes = t.comes;
-        count = 64;
-        at_most = omega arith;
-        some = λ is. absurd (omega (arith, is));
-        given = all_inputs old.received ds;
-        front = ([], sym (given_some old.received ds t.some) ∙ sym (append-nil (all_inputs old.received ds)));
-        hands_on = hands_none (all_inputs old.received ds) (drop 64 old.own) old new (record {
-          says = none.silent old.replica (all_inputs old.received ds) (t.takes.gathers old.replica [] begins);
-          own = none.own ∙ t.left;
-          sent = none.sent ∙ sent;
-          failures = none.failures ∙ failures;
-        });
-        silent = refl;
-        heard = subst (λ (b : AddressBook). HearsAll old.cluster (all_taken_as old.addresses.seals frames) old.addresses b) (sym book) t.heard;
-        cluster = cluster_too ∙ cluster;
-        node = node_too ∙ node;
-        ended = ended;
-      }
+      → mid.sent ≡ old.sent → mid.socket_failures ≡ old.socket_failures → IsSameServer old mid
+      → new.addresses ≡ mid.addresses → IsSameServer mid new → new.failed ≡ true → LastTurn S tells (all_taken_as old.addresses.seals frames) old new
+  last_of frames group now old mid new begins t none sent failures first book then ended = record {
+    takes = t.first;
+    count = 64;
+    letters = record { at_most = omega arith; some = λ is. absurd (omega (arith, is)) };
+    given = t.given;
+    first = given_all old.pace old.received (datagrams_in (take 64 old.own) (all_taken_as old.addresses.seals frames)) t.given t.may;
+    hands_on = hands_none t.given (drop 64 old.own) old new (record {
+      says = none.silent old.replica t.given (t.gathers old.replica [] begins);
+      own = none.own ∙ t.left;
+      sent = none.sent ∙ sent;
+      failures = none.failures ∙ failures;
+    });
+    silent = refl;
+    heard = subst (λ (b : AddressBook). HearsAll old.cluster (all_taken_as old.addresses.seals frames) old.addresses b) (sym book) t.heard;
+    same = same_further old mid new first.cluster first.node first.pace then;
+    ended = ended;
+  }
 
   -- one of its inputs has
   pub last_within : (frames : List (SocketAddr × List ℕ)) (group : GroupValue) (old new : ServerValue R) → G old.replica [] group old.replica → EndsGroup S G tells frames group old new
-      → new.sent ≡ old.sent → new.socket_failures ≡ old.socket_failures → new.cluster ≡ old.cluster → new.node ≡ old.node → new.failed ≡ true → LastTurn S tells (all_taken_as old.addresses.seals frames) old new
-  last_within frames group old new begins e sent failures cluster node ended = record {
-    alone = e.alone;
-    few = e.few;
-    comes = e.comes;
+      → new.sent ≡ old.sent → new.socket_failures ≡ old.socket_failures → IsSameServer old new → new.failed ≡ true → LastTurn S tells (all_taken_as old.addresses.seals frames) old new
+  last_within frames group old new begins e sent failures same ended = record {
+    takes = e.takes;
     count = e.count;
-    at_most = e.at_most;
-    some = e.some_own;
-    given = e.ends.given;
-    front = (e.ends.front.0, sym (given_some old.received (datagrams_in (take e.count old.own) (all_taken_as old.addresses.seals frames)) e.some) ∙ e.ends.front.1);
-    hands_on = hands_none e.ends.given (drop e.count old.own) old new (record { says = e.ends.silent old.replica [] begins; own = e.left; sent = sent; failures = failures });
+    letters = e.letters;
+    given = e.given;
+    first = e.first;
+    hands_on = hands_none e.given (drop e.count old.own) old new (record { says = e.silent old.replica [] begins; own = e.left; sent = sent; failures = failures });
     silent = refl;
     heard = e.heard;
-    cluster = cluster;
-    node = node;
+    same = same;
     ended = ended;
   }
 
@@ -228,79 +414,3 @@ module _ {R : Type 0} (S : Sayings R) (G : Gatherings R) (tells : Type 0) where
   pub tick_silent : (group : GroupValue) (old new : ServerValue R) → G old.replica [] group old.replica → SaysNoMore S G (None ∷ []) group old.replica new.replica
       → new.own ≡ old.own → new.sent ≡ old.sent → new.socket_failures ≡ old.socket_failures → HandsNothing S (None ∷ []) old.own old new
   tick_silent group old new begins silent own sent failures = record { says = silent old.replica [] begins; own = own; sent = sent; failures = failures }
-
-  -- where nothing came, a turn is a tick
-  module _ (old mid new : ServerValue R) (found : FindsNone tells old mid) where
-    same_as : mid.own ≡ old.own
-    same_as = ap (λ (s : ServerValue R). s.own) found.2
-
-    abbrev OfTick : (given : List (Option (List ℕ))) (own : List LetterValue) → Type 0
-    OfTick given own = HandsOn S tells given own old new
-
-    -- it was given a tick, as a turn in which nothing comes is
-    hands_idle : HandsOn S tells (None ∷ []) mid.own mid new → HandsOn S tells (None ∷ []) mid.own old new
-    hands_idle h =
-        let same = found.2 in
-        record {
-          letters = h.letters;
-          says = subst (λ (r : R). S r (None ∷ []) h.letters new.replica) (ap (λ (s : ServerValue R). s.replica) same) h.says;
-          kept = h.kept;
-          carried = subst (λ (t : Tray). CarriesAll (Becomes tells new.node new.addresses) t h.letters (tray_at new.own new))
-              (λ i. record { own = mid.own; sent = ap (λ (s : ServerValue R). s.sent) same i; failures = ap (λ (s : ServerValue R). s.socket_failures) same i }) h.carried;
-        }
-
-    own_of : mid.own ≡ drop 64 old.own
-    own_of = same_as ∙ found.0 ∙ sym (ap (λ (o : List LetterValue). drop 64 o) found.0)
-
-    given_of : None ∷ [] ≡ given_in old.received (datagrams_in (take 64 old.own) [])
-    given_of = sym (ap (λ (o : List LetterValue). given_in old.received (datagrams_in (take 64 o) [])) found.0)
-
-    idle_turn : HandsOn S tells (None ∷ []) mid.own mid new → new.addresses ≡ mid.addresses → new.received ≡ mid.received → new.cluster ≡ mid.cluster → new.node ≡ mid.node → new.failed ≡ false → Turn S tells [] old new
-    idle_turn h book received cluster node lives =
-        let same = found.2 in
-        record {
-          alone = inr refl;
-          few = omega arith;
-          comes = λ telling empty. found.1 telling;
-          hands_on = subst₂ OfTick given_of own_of (hands_idle h);
-          counted = received ∙ ap (λ (s : ServerValue R). s.received) same ∙ sym (ap (λ (o : List LetterValue). counted old.received (datagrams_in (take 64 o) [])) found.0);
-          heard = book ∙ ap (λ (s : ServerValue R). s.addresses) same;
-          cluster = cluster ∙ ap (λ (s : ServerValue R). s.cluster) same;
-          node = node ∙ ap (λ (s : ServerValue R). s.node) same;
-          alive = lives;
-        }
-
-    idle_last : HandsNothing S (None ∷ []) mid.own mid new → new.addresses ≡ mid.addresses → new.cluster ≡ mid.cluster → new.node ≡ mid.node → new.failed ≡ true → LastTurn S tells [] old new
-    idle_last h book cluster node ended =
-        let same = found.2 in
-        record {
-          alone = inr refl;
-          few = omega arith;
-          comes = λ telling empty. found.1 telling;
-          count = 0;
-          at_most = omega arith;
-          some = λ is. found.0;
-          given = None ∷ [];
-          front = ([], ap (λ (o : List LetterValue). given_in old.received (datagrams_in (take 0 o) [])) found.0);
-          hands_on = hands_none (None ∷ []) (drop 0 old.own) old new (record {
-            says = subst (λ (r : R). S r (None ∷ []) [] new.replica) (ap (λ (s : ServerValue R). s.replica) same) h.says;
-            own = h.own ∙ same_as ∙ found.0 ∙ sym (ap (λ (o : List LetterValue). drop 0 o) found.0);
-            sent = h.sent ∙ ap (λ (s : ServerValue R). s.sent) same;
-            failures = h.failures ∙ ap (λ (s : ServerValue R). s.socket_failures) same;
-          });
-          silent = refl;
-          heard = book ∙ ap (λ (s : ServerValue R). s.addresses) same;
-          cluster = cluster ∙ ap (λ (s : ServerValue R). s.cluster) same;
-          node = node ∙ ap (λ (s : ServerValue R). s.node) same;
-          ended = ended;
-        }
-
-    pub idle_of : {T E : Type 0} (r : Result T E) → OnOk r (HandsOn S tells (None ∷ []) mid.own mid new) → new.addresses ≡ mid.addresses → new.received ≡ mid.received → new.cluster ≡ mid.cluster → new.node ≡ mid.node
-        → OnOk r (new.failed ≡ false) → OnOk r ((frames : List (SocketAddr × List ℕ)) × Turn S tells (all_taken_as old.addresses.seals frames) old new)
-    idle_of (Ok x) h book received cluster node lives = ([], idle_turn h book received cluster node lives)
-    idle_of (Err e) h book received cluster node lives = tt
-
-    pub idle_ends : {T E : Type 0} (r : Result T E) → OnErr r (HandsNothing S (None ∷ []) mid.own mid new) → new.addresses ≡ mid.addresses → new.cluster ≡ mid.cluster → new.node ≡ mid.node
-        → OnErr r (new.failed ≡ true) → OnErr r ((frames : List (SocketAddr × List ℕ)) × LastTurn S tells (all_taken_as old.addresses.seals frames) old new)
-    idle_ends (Ok x) h book cluster node ended = tt
-    idle_ends (Err e) h book cluster node ended = ([], idle_last h book cluster node ended)

@@ -1,11 +1,11 @@
 -- A server in the middle of a turn: what its replica has taken into the group, of which nothing is synced or sent yet.
-use Rattle.std.specs.Prelude.{◌≡◌, ◌≢◌, ◌⊎◌, ◌≤◌, ℕ, List, [], ◌++◌, length, take, drop, Option}
+use Rattle.std.specs.Prelude.{◌≡◌, ◌≢◌, ◌≤◌, ℕ, List, [], ◌++◌, take, drop, Option}
 use Rattle.std.specs.declared.net.socket_addr.SocketAddr.{SocketAddr}
 use Rattle.lk_step.specs.Letters.{LetterValue}
 use Rattle.lk_replica.specs.Groups.{GroupValue}
 use Rattle.lk_server.specs.Addresses.{IsSameOutside}
 use Rattle.lk_server.specs.Posts.{HearsAll, all_taken_as}
-use Rattle.lk_server.specs.Servers.{ServerValue, all_inputs, counted, datagrams_in, IsFront, ComesOf, HandsOn}
+use Rattle.lk_server.specs.Servers.{ServerValue, all_inputs, counted, datagrams_in, Given, GivenFirst, IsFront, TakesFirst, TakesLetters, HandsOn}
 
 -- how a replica says: what becomes of it by a group, and the letters of that
 abbrev pub Sayings : Type 0 → Type 1
@@ -16,18 +16,22 @@ abbrev pub Gatherings : Type 0 → Type 1
 Gatherings R = R → List (Option (List ℕ)) → GroupValue → R → Type 0
 
 -- no letter of the node to itself waited, nothing was to come to the socket, if that tells, and nothing is changed
-abbrev pub FindsNone : {R : Type 0} → Type 0 → ServerValue R → ServerValue R → Type 0
-FindsNone tells old new = (old.own ≡ []) × (tells → old.coming ≡ []) × (record new { coming = old.coming } ≡ old)
+pub record FindsNone {R : Type 0} (tells : Type 0) (old new : ServerValue R) : Type 0 where
+  pub own : old.own ≡ []
+  pub none : tells → old.coming ≡ []
+  pub still : tells → new.coming ≡ old.coming
+  pub same : record new { coming = old.coming } ≡ old
 
 module _ {R : Type 0} (Gathers : Gatherings R) where
   -- whatever the replica was given in this group, it was then given this too, and nothing is synced or sent for that
   abbrev pub GathersMore : List (Option (List ℕ)) → GroupValue → GroupValue → R → R → Type 0
   GathersMore more group now old new = (start : R) (given : List (Option (List ℕ))) → Gathers start given group old → Gathers start (given ++ more) now new
 
-  -- these datagrams were taken into the group one after another, each counted, and a tick after every 64th
+  -- these datagrams were taken into the group one after another, each counted, and where ticks go by datagrams a tick after every 64th
   pub record TakesAll (datagrams : List (List ℕ)) (group now : GroupValue) (old new : ServerValue R) : Type 0 where
-    pub gathers : GathersMore (all_inputs old.received datagrams) group now old.replica new.replica
+    pub gathers : GathersMore (all_inputs old.pace old.received datagrams) group now old.replica new.replica
     pub counted : new.received ≡ counted old.received datagrams
+    pub pace : new.pace ≡ old.pace
 
   -- of the letters of the node to itself the first, so many at most
   pub record TakesOwn (most : ℕ) (group now : GroupValue) (old new : ServerValue R) : Type 0 where
@@ -45,13 +49,22 @@ module _ {R : Type 0} (Gathers : Gatherings R) where
     pub takes : TakesHeard frames group now old new
     pub comes : tells → old.coming ≡ all_taken_as old.addresses.seals frames ++ new.coming
 
-  -- what is taken in a turn: letters of the node to itself, or these frames of the socket
-  pub record TakesGroup (tells : Type 0) (frames : List (SocketAddr × List ℕ)) (group now : GroupValue) (old new : ServerValue R) : Type 0 where
-    pub alone : (old.own ≡ []) ⊎ (all_taken_as old.addresses.seals frames ≡ [])
-    pub few : length (all_taken_as old.addresses.seals frames) ≤ 64
-    pub comes : tells → old.own ≡ [] → ComesOf (all_taken_as old.addresses.seals frames) old.coming
+  -- what waits is taken: letters of the node to itself, or these frames of the socket
+  pub record TakesWaiting (tells : Type 0) (frames : List (SocketAddr × List ℕ)) (group now : GroupValue) (old new : ServerValue R) : Type 0 where
+    pub first : TakesFirst tells (all_taken_as old.addresses.seals frames) old
     pub takes : TakesAll (datagrams_in (take 64 old.own) (all_taken_as old.addresses.seals frames)) group now old new
     pub some : datagrams_in (take 64 old.own) (all_taken_as old.addresses.seals frames) ≢ []
+    pub left : new.own ≡ drop 64 old.own
+    pub heard : HearsAll old.cluster (all_taken_as old.addresses.seals frames) old.addresses new.addresses
+    pub outside : IsSameOutside old.addresses new.addresses
+
+  -- what is taken in a turn: what waits, and a tick where one is due
+  pub record TakesGroup (tells : Type 0) (frames : List (SocketAddr × List ℕ)) (group now : GroupValue) (old new : ServerValue R) : Type 0 where
+    pub first : TakesFirst tells (all_taken_as old.addresses.seals frames) old
+    pub given : List (Option (List ℕ))
+    pub may : Given old.pace old.received (datagrams_in (take 64 old.own) (all_taken_as old.addresses.seals frames)) given
+    pub gathers : GathersMore given group now old.replica new.replica
+    pub counted : new.received ≡ counted old.received (datagrams_in (take 64 old.own) (all_taken_as old.addresses.seals frames))
     pub left : new.own ≡ drop 64 old.own
     pub heard : HearsAll old.cluster (all_taken_as old.addresses.seals frames) old.addresses new.addresses
     pub outside : IsSameOutside old.addresses new.addresses
@@ -64,7 +77,7 @@ module _ {R : Type 0} (Says : Sayings R) (Gathers : Gatherings R) where
   -- a beginning of what it is given at these datagrams has ended it
   pub record EndsWithin (datagrams : List (List ℕ)) (group : GroupValue) (old new : ServerValue R) : Type 0 where
     pub given : List (Option (List ℕ))
-    pub front : IsFront given (all_inputs old.received datagrams)
+    pub front : IsFront given (all_inputs old.pace old.received datagrams)
     pub silent : SaysNoMore given group old.replica new.replica
 
   -- at the first letters of the node to itself: so many were taken
@@ -88,14 +101,12 @@ module _ {R : Type 0} (Says : Sayings R) (Gathers : Gatherings R) where
 
   -- at what is taken in a turn
   pub record EndsGroup (tells : Type 0) (frames : List (SocketAddr × List ℕ)) (group : GroupValue) (old new : ServerValue R) : Type 0 where
-    pub alone : (old.own ≡ []) ⊎ (all_taken_as old.addresses.seals frames ≡ [])
-    pub few : length (all_taken_as old.addresses.seals frames) ≤ 64
-    pub comes : tells → old.own ≡ [] → ComesOf (all_taken_as old.addresses.seals frames) old.coming
+    pub takes : TakesFirst tells (all_taken_as old.addresses.seals frames) old
     pub count : ℕ
-    pub at_most : count ≤ 64
-    pub some_own : count ≡ 0 → old.own ≡ []
-    pub ends : EndsWithin (datagrams_in (take count old.own) (all_taken_as old.addresses.seals frames)) group old new
-    pub some : datagrams_in (take count old.own) (all_taken_as old.addresses.seals frames) ≢ []
+    pub letters : TakesLetters count old.own
+    pub given : List (Option (List ℕ))
+    pub first : GivenFirst old.pace old.received (datagrams_in (take count old.own) (all_taken_as old.addresses.seals frames)) given
+    pub silent : SaysNoMore given group old.replica new.replica
     pub left : new.own ≡ drop count old.own
     pub heard : HearsAll old.cluster (all_taken_as old.addresses.seals frames) old.addresses new.addresses
     pub outside : IsSameOutside old.addresses new.addresses

@@ -1,6 +1,7 @@
 pub mod Faults
 pub mod Addresses
 pub mod Hosts
+pub mod Paces
 pub mod Posts
 pub mod Servers
 pub mod Gatherings

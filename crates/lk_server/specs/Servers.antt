@@ -1,17 +1,21 @@
 -- What a server gives to its replica, and what becomes of what that says.
-use Rattle.std.specs.Prelude.{◌≡◌, ◌⊎◌, ◌≤◌, Bool, true, false, ◌==◌, ◌+◌, ◌%◌, ◌^◌, ℕ, List, [], ◌∷◌, ◌++◌, length, map, take, drop, Option, Some, None, if◌then◌else◌}
+use Rattle.std.specs.Prelude.{◌≡◌, ◌⊎◌, ◌≤◌, Bool, true, false, ◌+◌, ◌%◌, ◌^◌, ℕ, List, [], ◌∷◌, ◌++◌, length, map, take, drop, Option, Some, None, if◌then◌else◌}
 use Rattle.std.specs.declared.net.socket_addr.SocketAddr.{SocketAddr}
 use Rattle.lk_step.specs.Letters.{LetterValue}
 use Rattle.lk_replica.specs.Posts.{CarriesAll}
 use Rattle.lk_server.specs.Addresses.{AddressBook}
-use Rattle.lk_server.specs.Posts.{HearsAll, Tray, Becomes}
+use Rattle.lk_server.specs.Paces.{ticks_after, MayFollow}
+use Rattle.lk_server.specs.Posts.{HearsAll, Tray, Becomes, all_taken_as}
+use Rattle.lk_server.specs.declared.pace.Pace.{Pace}
+use Rattle.lk_server.specs.declared.pace.Pace.TheVariants.{Clock}
 
--- the number of its cluster and that of its node, its replica, the letters of the node to itself that it has not taken yet, from where
+-- the number of its cluster and that of its node, what its ticks go by, its replica, the letters of the node to itself that it has not taken yet, from where
 -- others wrote, how many datagrams came, whether a call has ended the replica, what its socket has sent, how often a send of that has
 -- failed, and what comes to it, in order, as it is taken
 pub record ServerValue (R : Type 0) : Type 0 where
   pub cluster : ℕ
   pub node : ℕ
+  pub pace : Pace
   pub replica : R
   pub own : List LetterValue
   pub addresses : AddressBook
@@ -38,24 +42,24 @@ pub record ServesOn {R : Type 0} (datagrams : List (SocketAddr × List ℕ)) (co
 abbrev pub one_more : ℕ → ℕ
 one_more received = (received + 1) % 2 ^ 64
 
--- what a replica is given at the datagram of that number: its bytes, and a tick after every 64th
-abbrev pub inputs : ℕ → List ℕ → List (Option (List ℕ))
-inputs number bytes = if number % 64 == 0 then Some bytes ∷ None ∷ [] else Some bytes ∷ []
+-- what a replica is given at the datagram of that number: its bytes, and a tick where one follows it
+abbrev pub inputs : Pace → ℕ → List ℕ → List (Option (List ℕ))
+inputs pace number bytes = if ticks_after pace number then Some bytes ∷ None ∷ [] else Some bytes ∷ []
 
 -- so at these datagrams, one after another, where so many have come before them
-abbrev pub all_inputs : ℕ → List (List ℕ) → List (Option (List ℕ))
-all_inputs received [] = []
-all_inputs received (bytes ∷ more) = inputs (one_more received) bytes ++ all_inputs (one_more received) more
+abbrev pub all_inputs : Pace → ℕ → List (List ℕ) → List (Option (List ℕ))
+all_inputs pace received [] = []
+all_inputs pace received (bytes ∷ more) = inputs pace (one_more received) bytes ++ all_inputs pace (one_more received) more
 
 -- how many have come then
 abbrev pub counted : ℕ → List (List ℕ) → ℕ
 counted received [] = received
 counted received (bytes ∷ more) = counted (one_more received) more
 
--- what it is given in a turn: these datagrams, or a tick where there are none
-abbrev pub given_in : ℕ → List (List ℕ) → List (Option (List ℕ))
-given_in received [] = None ∷ []
-given_in received (bytes ∷ more) = all_inputs received (bytes ∷ more)
+-- a replica may be given this in a turn: these datagrams, one after another, and ticks as they may follow; where there are none a tick
+abbrev pub Given : Pace → ℕ → List (List ℕ) → List (Option (List ℕ)) → Type 0
+Given pace received [] given = given ≡ None ∷ []
+Given pace received (bytes ∷ more) given = (ticks : List (Option (List ℕ))) × MayFollow pace ticks × (given ≡ all_inputs pace received (bytes ∷ more) ++ ticks)
 
 -- the datagrams that are taken in a turn: letters of the node to itself, and what came to the socket
 abbrev pub datagrams_in : List LetterValue → List (SocketAddr × List ℕ) → List (List ℕ)
@@ -64,6 +68,12 @@ datagrams_in own came = map (λ (l : LetterValue). l.bytes) own ++ map (λ (c : 
 -- it is a beginning of the other list
 abbrev pub IsFront : {X : Type 0} → List X → List X → Type 0
 IsFront {X} front whole = (rest : List X) × (whole ≡ front ++ rest)
+
+-- a beginning of what a replica may be given in a turn
+pub record GivenFirst (pace : Pace) (received : ℕ) (datagrams : List (List ℕ)) (given : List (Option (List ℕ))) : Type 0 where
+  pub whole : List (Option (List ℕ))
+  pub may : Given pace received datagrams whole
+  pub front : IsFront given whole
 
 -- just these came of what was to come, in order; and where none did, nothing was
 abbrev pub ComesOf : List (SocketAddr × List ℕ) → List (SocketAddr × List ℕ) → Type 0
@@ -98,33 +108,59 @@ pub record HandsNothing {R : Type 0} (Says : R → List (Option (List ℕ)) → 
 
 -- ---- a turn. `came` is what came to the socket in it and was taken, each from where and which bytes, in order
 
--- Where letters of the node to itself wait, it takes the first 64 of them, in order, and nothing of the socket; else what came, and where nothing did a tick.
--- Its replica was given just that as one group, whoever sent what came was heard, and it goes on
-pub record Turn {R : Type 0} (Says : R → List (Option (List ℕ)) → List LetterValue → R → Type 0) (tells : Type 0) (came : List (SocketAddr × List ℕ)) (old new : ServerValue R) : Type 0 where
+-- what may be taken of the socket: nothing where letters of the node to itself wait, at most 64 datagrams, and the first of what is to come if the socket
+-- tells that
+pub record TakesFirst {R : Type 0} (tells : Type 0) (came : List (SocketAddr × List ℕ)) (old : ServerValue R) : Type 0 where
   pub alone : (old.own ≡ []) ⊎ (came ≡ [])
   pub few : length came ≤ 64
   pub comes : tells → old.own ≡ [] → ComesOf came old.coming
-  pub hands_on : HandsOn Says tells (given_in old.received (datagrams_in (take 64 old.own) came)) (drop 64 old.own) old new
-  pub counted : new.received ≡ counted old.received (datagrams_in (take 64 old.own) came)
-  pub heard : HearsAll old.cluster came old.addresses new.addresses
+
+-- so many letters of the node to itself are taken: at most 64, and at least one where some wait
+pub record TakesLetters (count : ℕ) (own : List LetterValue) : Type 0 where
+  pub at_most : count ≤ 64
+  pub some : count ≡ 0 → own ≡ []
+
+-- it is the server of the same node, and its ticks go by the same
+pub record IsSameServer {R : Type 0} (old new : ServerValue R) : Type 0 where
   pub cluster : new.cluster ≡ old.cluster
   pub node : new.node ≡ old.node
+  pub pace : new.pace ≡ old.pace
+
+-- Where letters of the node to itself wait, it takes the first 64 of them, in order, and nothing of the socket; else what came. Its replica was given just that
+-- as one group, and a tick where one was due; whoever sent what came was heard, and it goes on
+pub record Turn {R : Type 0} (Says : R → List (Option (List ℕ)) → List LetterValue → R → Type 0) (tells : Type 0) (came : List (SocketAddr × List ℕ)) (old new : ServerValue R) : Type 0 where
+  pub takes : TakesFirst tells came old
+  pub given : List (Option (List ℕ))
+  pub may : Given old.pace old.received (datagrams_in (take 64 old.own) came) given
+  pub hands_on : HandsOn Says tells given (drop 64 old.own) old new
+  pub counted : new.received ≡ counted old.received (datagrams_in (take 64 old.own) came)
+  pub heard : HearsAll old.cluster came old.addresses new.addresses
+  pub same : IsSameServer old new
   pub alive : new.failed ≡ false
 
 -- A turn has ended the replica, by a beginning of what it was to be given, or by the sync after all of it: of the letters of the node to itself so many were taken,
 -- and of what came the last is what has ended it; nothing of the group is said
 pub record LastTurn {R : Type 0} (Says : R → List (Option (List ℕ)) → List LetterValue → R → Type 0) (tells : Type 0) (came : List (SocketAddr × List ℕ)) (old new : ServerValue R) : Type 0 where
-  pub alone : (old.own ≡ []) ⊎ (came ≡ [])
-  pub few : length came ≤ 64
-  pub comes : tells → old.own ≡ [] → ComesOf came old.coming
+  pub takes : TakesFirst tells came old
   pub count : ℕ
-  pub at_most : count ≤ 64
-  pub some : count ≡ 0 → old.own ≡ []
+  pub letters : TakesLetters count old.own
   pub given : List (Option (List ℕ))
-  pub front : IsFront given (given_in old.received (datagrams_in (take count old.own) came))
+  pub first : GivenFirst old.pace old.received (datagrams_in (take count old.own) came) given
   pub hands_on : HandsOn Says tells given (drop count old.own) old new
   pub silent : hands_on.letters ≡ []
   pub heard : HearsAll old.cluster came old.addresses new.addresses
-  pub cluster : new.cluster ≡ old.cluster
-  pub node : new.node ≡ old.node
+  pub same : IsSameServer old new
   pub ended : new.failed ≡ true
+
+-- An idle turn: no letter of the node to itself waited, these frames came, and none of them says anything to the replica. It was given nothing, nothing was sent,
+-- and nothing is changed but what is to come. By datagrams a turn in which no frame comes is never idle: it is a tick
+pub record IsIdle {R : Type 0} (tells : Type 0) (frames : List (SocketAddr × List ℕ)) (old new : ServerValue R) : Type 0 where
+  pub own : old.own ≡ []
+  pub none : all_taken_as old.addresses.seals frames ≡ []
+  pub clock : frames ≡ [] → old.pace ≡ Clock
+  pub comes : tells → new.coming ≡ old.coming
+  pub same : record new { coming = old.coming } ≡ old
+
+-- a turn in which these frames came: its replica was given what was taken of them, or what waited, or a tick; or the turn is idle
+abbrev pub TakesTurn : {R : Type 0} (Says : R → List (Option (List ℕ)) → List LetterValue → R → Type 0) (tells : Type 0) → List (SocketAddr × List ℕ) → ServerValue R → ServerValue R → Type 0
+TakesTurn Says tells frames old new = Turn Says tells (all_taken_as old.addresses.seals frames) old new ⊎ IsIdle tells frames old new

@@ -5,13 +5,15 @@ ghost use Rattle.std.specs.declared.net.socket_addr.SocketAddr.{SocketAddr as Ad
 ghost use Rattle.lk_step.specs.Letters.{LetterValue};
 ghost use Rattle.lk_node.specs.Calls.{heard_by};
 ghost use Rattle.lk_server.specs.Addresses.{IsSameOutside};
-ghost use Rattle.lk_server.specs.Gatherings.{GathersMore, SaysNoMore, FindsNone, TakesAll, EndsWithin, TakesOwn, EndsOwn, TakesHeard, EndsHeard, TakesSocket, EndsSocket, TakesGroup, EndsGroup};
+ghost use Rattle.lk_server.specs.Gatherings.{GathersMore, SaysNoMore, FindsNone, TakesAll, EndsWithin, TakesOwn, EndsOwn, TakesHeard, EndsHeard, TakesSocket, EndsSocket, TakesWaiting, TakesGroup, EndsGroup};
 ghost use Rattle.lk_server.specs.Hearing.{listed};
 ghost use Rattle.lk_server.specs.Posts.{Hears, all_taken_as};
+ghost use Rattle.lk_server.specs.Servers.{IsIdle};
 
 use crate::came::Came;
 use crate::ear::Ear;
 use crate::fault::ServiceFault;
+use crate::metronome::Metronome;
 use crate::node_replica::NodeReplica;
 use crate::server::Server;
 use crate::socket::Datagrams;
@@ -20,9 +22,7 @@ use lk_replica::Group;
 use lk_step::{Input, Letter};
 use log::Log;
 use std::net::SocketAddr;
-
-/// So many datagrams bring a tick, however fast they come.
-const DATAGRAMS_PER_TICK: u64 = 64;
+use std::time::{Clock, Duration};
 
 /// So many datagrams are in a group at most, behind its first.
 const FURTHER: u64 = 63;
@@ -35,6 +35,13 @@ impl<R: NodeReplica, S: Datagrams + Drop> Server<R, S> {
         ensures others { self.new ≡ record self.old { own = self.new.own } }
     {
         self.post.next_own()
+    }
+
+    // From now on the ear waits so long at most for the next datagram.
+    fn wait_for(&mut self, time: Duration)
+        ensures { self.new ≡ self.old }
+    {
+        self.post.wait_for(time);
     }
 
     // The ear hears the next datagram of the socket, if one comes.
@@ -107,7 +114,7 @@ impl<R: NodeReplica, S: Datagrams + Drop> Server<R, S> {
         self.gather(Input::Tick, &Came::Tick, group, log)
     }
 
-    // Its replica takes a datagram into the group, and after every 64th a tick.
+    // Its replica takes a datagram into the group, and a tick where one follows it.
     fn gather_counted<L: Log>(
         &mut self,
         bytes: &[u8],
@@ -123,7 +130,7 @@ impl<R: NodeReplica, S: Datagrams + Drop> Server<R, S> {
     {
         self.received = self.received.wrapping_add(1);
         self.gather(Input::Datagram(bytes), came, group, log)?;
-        if self.received % DATAGRAMS_PER_TICK == 0 {
+        if self.pace.ticks_after(self.received) {
             self.gather_tick(group, log)?;
         }
         Ok(())
@@ -252,7 +259,7 @@ impl<R: NodeReplica, S: Datagrams + Drop> Server<R, S> {
         log: &L,
     ) -> Result<bool, ServiceFault>
         requires { self.old.own ≡ [] }
-        ensures takes { IfOk result (λ came. came ≡ true → (frames : List (Address × List ℕ)) × TakesGroup R.Gathers S.is_telling frames group.old group.new self.old self.new) }
+        ensures takes { IfOk result (λ came. came ≡ true → (frames : List (Address × List ℕ)) × TakesWaiting R.Gathers S.is_telling frames group.old group.new self.old self.new) }
         ensures none { IfOk result (λ came. came ≡ false → FindsNone S.is_telling self.old self.new × (group.new ≡ group.old)) }
         ensures ends { OnErr result ((frames : List (Address × List ℕ)) × EndsGroup R.Says R.Gathers S.is_telling frames group.old self.old self.new) }
         ensures others { self.new ≡ record self.old { replica = self.new.replica; failed = self.new.failed; received = self.new.received; addresses = self.new.addresses; coming = self.new.coming } }
@@ -274,7 +281,7 @@ impl<R: NodeReplica, S: Datagrams + Drop> Server<R, S> {
         group: &mut Group,
         log: &L,
     ) -> Result<bool, ServiceFault>
-        ensures takes { IfOk result (λ came. came ≡ true → (frames : List (Address × List ℕ)) × TakesGroup R.Gathers S.is_telling frames group.old group.new self.old self.new) }
+        ensures takes { IfOk result (λ came. came ≡ true → (frames : List (Address × List ℕ)) × TakesWaiting R.Gathers S.is_telling frames group.old group.new self.old self.new) }
         ensures none { IfOk result (λ came. came ≡ false → FindsNone S.is_telling self.old self.new × (group.new ≡ group.old)) }
         ensures ends { OnErr result ((frames : List (Address × List ℕ)) × EndsGroup R.Says R.Gathers S.is_telling frames group.old self.old self.new) }
         ensures others { self.new ≡ record self.old { replica = self.new.replica; failed = self.new.failed; received = self.new.received; own = self.new.own; addresses = self.new.addresses; coming = self.new.coming } }
@@ -285,6 +292,30 @@ impl<R: NodeReplica, S: Datagrams + Drop> Server<R, S> {
             return self.gather_socket(ear, group, log);
         }
         self.gather_letters(group, log)?;
+        Ok(true)
+    }
+
+    // The group takes what waits, and behind it a tick where one is due. Whether it took anything.
+    pub(crate) fn gather_turn<C: Clock, L: Log>(
+        &mut self,
+        ear: &mut Ear,
+        metronome: &mut Metronome<C>,
+        group: &mut Group,
+        log: &L,
+    ) -> Result<bool, ServiceFault>
+        ensures takes { IfOk result (λ some. some ≡ true → (frames : List (Address × List ℕ)) × TakesGroup R.Gathers S.is_telling frames group.old group.new self.old self.new) }
+        ensures idle { IfOk result (λ some. some ≡ false → (frames : List (Address × List ℕ)) × IsIdle S.is_telling frames self.old self.new) }
+        ensures ends { OnErr result ((frames : List (Address × List ℕ)) × EndsGroup R.Says R.Gathers S.is_telling frames group.old self.old self.new) }
+        ensures others { self.new ≡ record self.old { replica = self.new.replica; failed = self.new.failed; received = self.new.received; own = self.new.own; addresses = self.new.addresses; coming = self.new.coming } }
+        ensures passes { IfErr result (λ f. f ≡ ServiceFault.Send → ⊥) }
+        ensures broken { OnErr result (self.new.failed ≡ true) }
+    {
+        self.wait_for(metronome.left());
+        let came = self.gather_all(ear, group, log)?;
+        if !self.pace.is_due(came, metronome) {
+            return Ok(came);
+        }
+        self.gather_tick(group, log)?;
         Ok(true)
     }
 }

@@ -9,6 +9,7 @@ use lk_types::NoMemory;
 use std::alloc::Global;
 use std::collections::VecDeque;
 use std::net::SocketAddr;
+use std::time::Duration;
 use std::{io, mem};
 
 /// A datagram of a socket in memory: from where it came, or to where it went.
@@ -104,6 +105,8 @@ impl Datagrams for MemorySocket {
             }
         }
     }
+
+    fn wait_for(&mut self, _time: Duration) {}
 
     fn receive(&mut self, buffer: &mut [u8]) -> Option<(usize, SocketAddr)> {
         let Some(told) = self.coming.pop_front() else {

@@ -21,6 +21,7 @@ use std::collections::VecDeque;
 use std::io;
 use std::marker::Model;
 use std::net::SocketAddr;
+use std::time::Duration;
 
 /// Where a datagram has its kind, and the kind of a Want.
 const KIND: usize = 3;
@@ -138,6 +139,13 @@ impl<S: Datagrams + Drop> SocketPost<S> {
         ensures others { self.new ≡ record self.old { own = self.new.own } }
     {
         self.own.pop_front()
+    }
+
+    /// From now on the ear waits so long at most for the next datagram.
+    pub fn wait_for(&mut self, time: Duration)
+        ensures { self.new ≡ self.old }
+    {
+        self.socket.wait_for(time);
     }
 
     /// The ear hears the next datagram of the socket, if one comes.

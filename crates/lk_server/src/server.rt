@@ -7,13 +7,15 @@ ghost use Rattle.lk_replica.specs.Faults.{fault_number};
 ghost use Rattle.lk_server.specs.Addresses.{client_at, node_at, IsSameOutside};
 ghost use Rattle.lk_server.specs.Gatherings.{FindsNone, HandsOnAll, SaysNothing};
 ghost use Rattle.lk_server.specs.Posts.{all_taken_as};
-ghost use Rattle.lk_server.specs.Servers.{HandsOn, HandsNothing, LastTurn, Runs, ServesOn, Turn};
+ghost use Rattle.lk_server.specs.Servers.{HandsOn, HandsNothing, IsSameServer, LastTurn, Runs, ServesOn, TakesTurn, Turn};
 
 use crate::ear::Ear;
 use crate::fault::ServiceFault;
+use crate::metronome::Metronome;
 use crate::node_replica::NodeReplica;
 use crate::notes::log_notes;
 use crate::outside::Outside;
+use crate::pace::Pace;
 use crate::post::SocketPost;
 use crate::socket::Datagrams;
 use crate::strangers::Strangers;
@@ -23,12 +25,14 @@ use lk_types::NodeNo;
 use log::Log;
 use std::alloc::Global;
 use std::marker::Model;
+use std::time::Clock;
 
 /// A replica, and the post with the socket on which it serves.
 #[derive(Drop)]
 pub struct Server<R: NodeReplica, S: Datagrams + Drop> {
     pub(crate) alloc: Global,
     pub(crate) cluster: u64,
+    pub(crate) pace: Pace,
     pub(crate) replica: R,
     // what the node wrote to itself and has not taken yet is kept there
     pub(crate) post: SocketPost<S>,
@@ -43,7 +47,7 @@ impl<R: NodeReplica, S: Datagrams + Drop> Model for Server<R, S> {
 
     ghost Value = { ServerValue R };
 
-    ghost view = { λ s. record { cluster = s.cluster; node = s.post.node; replica = s.replica; own = s.post.own; addresses = s.post.addresses; received = s.received; failed = R.failed s.replica; sent = s.post.sent; socket_failures = s.post.socket_failures; coming = s.post.coming } };
+    ghost view = { λ s. record { cluster = s.cluster; node = s.post.node; pace = s.pace; replica = s.replica; own = s.post.own; addresses = s.post.addresses; received = s.received; failed = R.failed s.replica; sent = s.post.sent; socket_failures = s.post.socket_failures; coming = s.post.coming } };
 }
 
 impl<R: NodeReplica, S: Datagrams + Drop> Server<R, S> {
@@ -52,12 +56,14 @@ impl<R: NodeReplica, S: Datagrams + Drop> Server<R, S> {
         alloc: Global,
         cluster: u64,
         node: NodeNo,
+        pace: Pace,
         outside: Outside,
         replica: R,
         socket: S,
     ) -> Server<R, S>
         ensures cluster { result.cluster ≡ cluster }
         ensures node { result.node ≡ node }
+        ensures pace { result.pace ≡ pace }
         ensures replica { Runs replica (R.failed replica) result }
         ensures own { result.own ≡ [] }
         ensures clients { (c : ℕ) → IsClient c → client_at result.addresses c ≡ None }
@@ -70,6 +76,7 @@ impl<R: NodeReplica, S: Datagrams + Drop> Server<R, S> {
         Server {
             alloc,
             cluster,
+            pace,
             replica,
             post: SocketPost::new(alloc, node, outside, socket),
             received: 0,
@@ -98,6 +105,7 @@ impl<R: NodeReplica, S: Datagrams + Drop> Server<R, S> {
         let Server {
             alloc: _,
             cluster: _,
+            pace: _,
             replica,
             post: _,
             received: _,
@@ -118,8 +126,7 @@ impl<R: NodeReplica, S: Datagrams + Drop> Server<R, S> {
         ensures gives { OnOk result (HandsOnAll R.Says R.Gathers S.is_telling group.now self.old self.new) }
         ensures silent { OnErr result (SaysNothing R.Says R.Gathers group.now self.old self.new) }
         ensures addresses { self.new.addresses ≡ self.old.addresses }
-        ensures cluster { self.new.cluster ≡ self.old.cluster }
-        ensures node { self.new.node ≡ self.old.node }
+        ensures same { IsSameServer self.old self.new }
         ensures received { self.new.received ≡ self.old.received }
         ensures alive { OnOk result (self.new.failed ≡ false) }
         ensures broken { OnErr result (self.new.failed ≡ true) }
@@ -138,8 +145,7 @@ impl<R: NodeReplica, S: Datagrams + Drop> Server<R, S> {
         // After a refusal nothing of it is sent.
         ensures silent { OnErr result (SaysNothing R.Says R.Gathers group.now self.old self.new) }
         ensures addresses { self.new.addresses ≡ self.old.addresses }
-        ensures cluster { self.new.cluster ≡ self.old.cluster }
-        ensures node { self.new.node ≡ self.old.node }
+        ensures same { IsSameServer self.old self.new }
         ensures received { self.new.received ≡ self.old.received }
         ensures passes { IfErr result (λ f. f ≡ ServiceFault.Send → ⊥) }
         ensures alive { OnOk result (self.new.failed ≡ false) }
@@ -160,8 +166,7 @@ impl<R: NodeReplica, S: Datagrams + Drop> Server<R, S> {
         ensures hands_on { OnOk result (HandsOn R.Says S.is_telling (None ∷ []) self.old.own self.old self.new) }
         ensures ends { OnErr result (HandsNothing R.Says (None ∷ []) self.old.own self.old self.new) }
         ensures addresses { self.new.addresses ≡ self.old.addresses }
-        ensures cluster { self.new.cluster ≡ self.old.cluster }
-        ensures node { self.new.node ≡ self.old.node }
+        ensures same { IsSameServer self.old self.new }
         ensures received { self.new.received ≡ self.old.received }
         ensures passes { IfErr result (λ f. f ≡ ServiceFault.Send → ⊥) }
         ensures alive { OnOk result (self.new.failed ≡ false) }
@@ -191,24 +196,26 @@ impl<R: NodeReplica, S: Datagrams + Drop> Server<R, S> {
     }
 }
 
-/// One turn of a server: it takes a group of what waits, or a tick where nothing does.
-pub fn node_turn<R: NodeReplica, S: Datagrams + Drop, L: Log>(
+/// One turn of a server: it takes a group of what waits, and a tick where one is due.
+pub fn node_turn<R: NodeReplica, S: Datagrams + Drop, C: Clock, L: Log>(
     server: &mut Server<R, S>,
     ear: &mut Ear,
+    metronome: &mut Metronome<C>,
     log: &L,
 ) -> Result<(), ServiceFault>
     // Where the node wrote to itself it takes the first 64 letters of that, once and in order, and nothing of the socket. Else it takes what came, each whole and
-    // out of its frame, from where it came, and a tick where nothing did. Its replica was given just that, as one group. The letters that it said were each sent
-    // where they go, kept for the node itself, or lost by a send that failed, in order, and nothing else was sent.
-    ensures turn { OnOk result ((frames : List (Address × List ℕ)) × Turn R.Says S.is_telling (all_taken_as server.old.addresses.seals frames) server.old server.new) }
+    // out of its frame, from where it came. Its replica was given just that, as one group, and a tick where one was due. The letters that it said were each sent
+    // where they go, kept for the node itself, or lost by a send that failed, in order, and nothing else was sent. A turn in which it was given nothing is idle.
+    ensures turn { OnOk result ((frames : List (Address × List ℕ)) × TakesTurn R.Says S.is_telling frames server.old server.new) }
     // After a refusal nothing of the group is sent.
     ensures ends { OnErr result ((frames : List (Address × List ℕ)) × LastTurn R.Says S.is_telling (all_taken_as server.old.addresses.seals frames) server.old server.new) }
     // Where nodes live, and the keys, stay what they were.
     ensures outside { IsSameOutside server.old.addresses server.new.addresses }
     ensures passes { IfErr result (λ f. f ≡ ServiceFault.Send → ⊥) }
 {
-    if server.serve_next(ear, log)? {
+    let mut group = server.begin();
+    if !server.gather_turn(ear, metronome, &mut group, log)? {
         return Ok(());
     }
-    server.tick(log)
+    server.release(&group, log)
 }

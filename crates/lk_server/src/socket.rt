@@ -11,7 +11,7 @@ use std::io;
 use std::net::{Ipv4Addr, Net, SocketAddr, UdpSocket};
 use std::time::Duration;
 
-/// How long a receive waits at most, in milliseconds.
+/// How long a receive waits at most if it is not told otherwise, in milliseconds.
 const WAIT: u64 = 100;
 
 /// The address of a port of 127.0.0.1.
@@ -41,8 +41,14 @@ pub trait Datagrams {
         ensures err { is_telling → OnErr result (sent self.new ≡ sent self.old) }
         ensures cause { is_telling → HasCause (failures self.old) (failures self.new) result };
 
+    /// From now on a receive waits so long at most; until this is called it is 100 ms.
+    fn wait_for(&mut self, time: Duration)
+        ensures unchanged { sent self.new ≡ sent self.old }
+        ensures spares { failures self.new ≡ failures self.old }
+        ensures still { coming self.new ≡ coming self.old };
+
     /// Puts the next datagram into the buffer, and tells its length and from where it came. What does not fit is lost.
-    /// `None` where none came within 100 ms, or the receive failed.
+    /// `None` where none came in time, or the receive failed.
     fn receive(&mut self, buffer: &mut [u8]) -> Option<(usize, SocketAddr)>
         // There is room for the frame of the longest datagram, and a byte more.
         requires room { 8229 ≤ length buffer.old }
@@ -76,6 +82,9 @@ pub struct LocalSocket {
     waits: bool,
     // they never do
     never_waits: bool,
+    // how long they are to wait, and how long the system has them wait
+    wait: Duration,
+    timeout: Duration,
     // why the last send that failed did
     cause: Option<io::Error>,
 }
@@ -89,11 +98,14 @@ impl LocalSocket {
     /// The socket of an address. It refuses with the system's own error.
     pub fn open_at<R: Net>(rt: &R, place: SocketAddr) -> io::Result<LocalSocket> {
         let socket = UdpSocket::bind(rt, place)?;
-        socket.set_read_timeout(Some(Duration::from_millis(WAIT)))?;
+        let wait = Duration::from_millis(WAIT);
+        socket.set_read_timeout(Some(wait))?;
         Ok(LocalSocket {
             socket,
             waits: true,
             never_waits: false,
+            wait,
+            timeout: wait,
             cause: None,
         })
     }
@@ -124,6 +136,29 @@ impl LocalSocket {
         self.waits = waits;
         true
     }
+
+    // Has its receives wait as long as they are to, by a call of the system only where that changes.
+    fn times_out(&mut self) {
+        if self.timeout != self.wait && self.socket.set_read_timeout(Some(self.wait)).is_ok() {
+            self.timeout = self.wait;
+        }
+    }
+
+    // Whether it may wait for what has not come yet.
+    fn may_wait(&self) -> bool {
+        !self.never_waits && !self.wait.is_zero()
+    }
+
+    // Receives what waits there, or what comes in time.
+    fn receive_in_time(&mut self, buffer: &mut [u8]) -> Option<(usize, SocketAddr)>
+        ensures within { IfSome result (λ r. r.0 ≤ length buffer.new) }
+    {
+        self.times_out();
+        if !self.waits_as(true) {
+            return None;
+        }
+        self.socket.recv_from(buffer).ok()
+    }
 }
 
 impl Datagrams for LocalSocket {
@@ -145,11 +180,19 @@ impl Datagrams for LocalSocket {
         }
     }
 
+    fn wait_for(&mut self, time: Duration) {
+        self.wait = time;
+    }
+
+    // A socket that was busy is tried first: as long as it stays so, no call switches it.
     fn receive(&mut self, buffer: &mut [u8]) -> Option<(usize, SocketAddr)> {
-        if !self.never_waits {
-            let _ = self.waits_as(true);
+        if self.waits {
+            return self.receive_in_time(buffer);
         }
-        self.socket.recv_from(buffer).ok()
+        match self.socket.recv_from(buffer).ok() {
+            None if self.may_wait() => self.receive_in_time(buffer),
+            came => came,
+        }
     }
 
     fn receive_waiting(&mut self, buffer: &mut [u8]) -> Option<(usize, SocketAddr)> {

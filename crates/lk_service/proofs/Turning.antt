@@ -12,7 +12,7 @@ use Rattle.lk_replica.specs.Revivals.{IsRefusedFor}
 use Rattle.lk_server.specs.Addresses.{IsSameOutside}
 use Rattle.lk_server.specs.Posts.{all_taken_as}
 use Rattle.lk_server.specs.Sayings.{SaysOf}
-use Rattle.lk_server.specs.Servers.{ServerValue, Turn, LastTurn}
+use Rattle.lk_server.specs.Servers.{ServerValue, TakesTurn as ServerTurn, LastTurn}
 use Rattle.lk_service.specs.Chains.{Repeats}
 use Rattle.lk_service.specs.Revivals.{StaysDown}
 use Rattle.lk_service.specs.Turns.{TakesTurn, BreaksOff, TellsFailure}
@@ -29,7 +29,7 @@ on_err (Err e) p = p
 
 module _ {Says : ReplicaValue → List (Option (List ℕ)) → List LetterValue → ReplicaValue → Type 0} {tells : Type 0} {count : ℕ} {first last new : ServerValue ReplicaValue} (frames : List (SocketAddr × List ℕ)) where
   -- one more turn was taken
-  pub turns_more : Repeats (TakesTurn Says tells) count first last → Turn Says tells (all_taken_as last.addresses.seals frames) last new → IsSameOutside last.addresses new.addresses → TellsFailure new → Repeats (TakesTurn Says tells) (count + 1) first new
+  pub turns_more : Repeats (TakesTurn Says tells) count first last → ServerTurn Says tells frames last new → IsSameOutside last.addresses new.addresses → TellsFailure new → Repeats (TakesTurn Says tells) (count + 1) first new
   turns_more so_far turn outside failure = repeats_more so_far (record { frames = frames; came = all_taken_as last.addresses.seals frames; opened = refl; turn = turn; outside = outside; failure = failure })
 
   -- one ended the replica

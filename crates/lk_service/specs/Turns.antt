@@ -1,5 +1,6 @@
 -- The turns of a server, one after another.
-use Rattle.std.specs.Prelude.{◌≡◌, ◌<◌, ℕ, List, Option}
+use Rattle.std.proofs.Common.{inl, inr}
+use Rattle.std.specs.Prelude.{◌≡◌, ◌⊎◌, ◌<◌, ℕ, List, [], Option}
 use Rattle.std.specs.declared.net.socket_addr.SocketAddr.{SocketAddr}
 use Rattle.lk_entries.specs.Values.{HeaderValue}
 use Rattle.lk_step.specs.Letters.{LetterValue}
@@ -7,7 +8,7 @@ use Rattle.lk_replica.specs.ReplicaValue.{ReplicaValue}
 use Rattle.lk_seal.specs.declared.seals.Seals.{Seals}
 use Rattle.lk_server.specs.Addresses.{IsSameOutside}
 use Rattle.lk_server.specs.Posts.{all_taken_as}
-use Rattle.lk_server.specs.Servers.{ServerValue, Turn, LastTurn}
+use Rattle.lk_server.specs.Servers.{ServerValue, Turn, LastTurn, IsIdle}
 use Rattle.lk_service.specs.Chains.{Repeats}
 use Rattle.lk_service.specs.Digests.{genesis_digest}
 
@@ -18,12 +19,12 @@ TellsFailure s = s.failed ≡ s.replica.failed
 -- `Says` is what a replica says by what it is given, and `tells` that the socket tells what it sends and what comes to it
 module _ (Says : ReplicaValue → List (Option (List ℕ)) → List LetterValue → ReplicaValue → Type 0) (tells : Type 0) where
   -- a turn: the replica was given the first letters of the node to itself as one group, or where none waited what was taken of what came, out of its frames where
-  -- the nodes have a key, or where nothing did a tick, and goes on. Where nodes live, and the keys, are the same
+  -- the nodes have a key, and a tick where one was due, and goes on; or it is idle, and given nothing. Where nodes live, and the keys, are the same
   pub record TakesTurn (old new : ServerValue ReplicaValue) : Type 0 where
     pub frames : List (SocketAddr × List ℕ)
     pub came : List (SocketAddr × List ℕ)
     pub opened : came ≡ all_taken_as old.addresses.seals frames
-    pub turn : Turn Says tells came old new
+    pub turn : Turn Says tells came old new ⊎ IsIdle tells frames old new
     pub outside : IsSameOutside old.addresses new.addresses
     pub failure : TellsFailure new
 
@@ -35,6 +36,11 @@ module _ (Says : ReplicaValue → List (Option (List ℕ)) → List LetterValue 
     pub turn : LastTurn Says tells came old new
     pub outside : IsSameOutside old.addresses new.addresses
     pub failure : TellsFailure new
+
+  -- the letters that it gave to be sent in a turn; none in an idle one
+  abbrev pub letters_in : {came frames : List (SocketAddr × List ℕ)} {old new : ServerValue ReplicaValue} → Turn Says tells came old new ⊎ IsIdle tells frames old new → List LetterValue
+  letters_in (inl turn) = turn.hands_on.letters
+  letters_in (inr idle) = []
 
   -- fewer turns than so many were taken, and then one that ended the replica
   pub record BreaksOff (most : ℕ) (old new : ServerValue ReplicaValue) : Type 0 where

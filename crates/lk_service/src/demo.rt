@@ -13,6 +13,7 @@ use lk_replica::Replica;
 use lk_server::ear::Ear;
 use lk_server::fault::ServiceFault;
 use lk_server::outside::Outside;
+use lk_server::pace::Pace;
 use lk_server::server::Server;
 use lk_server::socket::{Datagrams, LocalSocket, local};
 use lk_state::Machine;
@@ -99,6 +100,7 @@ fn start<M: Machine, S: Datagrams + Drop>(
         device: MemoryDisk::new(alloc),
         socket,
         outside: Outside::local(genesis.cluster, node),
+        pace: Pace::Datagrams,
     };
     revive::<M, _, _, _>(alloc, &header, resources, &Discard).map_err(
         |refused| ServiceFault::of_replica(&refused.fault),

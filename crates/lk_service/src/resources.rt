@@ -1,17 +1,19 @@
 //! What a node runs on.
 
-ghost use Rattle.std.specs.Prelude.{IfOk};
+ghost use Rattle.std.specs.Prelude.{◌≡◌, ◌≢◌, [], IfOk};
 ghost use Rattle.lk_members.specs.Ports.{port_in};
+ghost use Rattle.lk_seal.specs.Seals.{key_list};
 ghost use Rattle.lk_service.specs.Turns.{AreSealsOf};
-ghost use Rattle.std.specs.Prelude.{◌≡◌};
 
 use crate::causes::open_socket_at;
 use crate::folder::{FolderLock, open_device};
 use crate::outside::{Away, outside_of};
 use lk_disk::{FileDisk, SystemFile};
 use lk_entries::Header;
+use lk_seal::{Keys, Seals};
 use lk_server::fault::ServiceFault;
 use lk_server::outside::Outside;
+use lk_server::pace::Pace;
 use lk_server::socket::LocalSocket;
 use lk_types::{Member, NodeNo, Port};
 use std::alloc::Global;
@@ -19,21 +21,23 @@ use std::fs::{File, Files};
 use std::io::Write;
 use std::net::Net;
 
-/// Which node is run, at which port, in which folder its files are, and which files tell of the machines outside.
+/// Which node is run, at which port, what its ticks go by, in which folder its files are, and which files tell of the machines outside.
 #[derive(Drop)]
 pub struct NodePlan<'a> {
     pub header: Header,
     pub port: Port,
+    pub pace: Pace,
     pub folder: &'a str,
     pub away: Away<'a>,
 }
 
-/// What a node runs on: the device of its store, its socket, and what it knows of the machines outside.
+/// What a node runs on: the device of its store, its socket, what it knows of the machines outside, and what its ticks go by.
 #[derive(Drop)]
 pub struct Resources<D: Drop, S: Drop> {
     pub device: D,
     pub socket: S,
     pub outside: Outside,
+    pub pace: Pace,
 }
 
 /// The files of a folder as a device.
@@ -70,6 +74,18 @@ fn warn_of_port<E: Write>(plan: &NodePlan<'_>, err: &mut E) {
     }
 }
 
+/// What the ticks of a node go by that has these seals: with a key of the nodes by the clock, so that a stranger's payloads neither
+/// bring nor prevent them.
+fn pace_with(seals: &Seals, asked: Pace) -> Pace
+    ensures key { key_list seals.now.nodes ≢ [] → result ≡ Pace.Clock }
+    ensures none { key_list seals.now.nodes ≡ [] → result ≡ asked }
+{
+    match &seals.nodes {
+        Keys::NoKey => asked,
+        _ => Pace::Clock,
+    }
+}
+
 /// Opens what the node of a plan runs on: its files, which are made where they are missing, and its socket. The folder is locked as long as
 /// the second value lives. It refuses with `CannotOpen`, and a line tells why; also where another process serves from the folder.
 pub fn open_resources<R: Files<File = File> + Net, E: Write>(
@@ -80,16 +96,20 @@ pub fn open_resources<R: Files<File = File> + Net, E: Write>(
 ) -> Result<(Resources<FolderDisk, LocalSocket>, FolderLock), ServiceFault>
     // The keys are for the node of the plan, in its cluster.
     ensures seals { IfOk result (λ r. AreSealsOf plan.now.header r.0.outside.seals) }
+    // Where the nodes have a key, ticks go by the clock.
+    ensures pace { IfOk result (λ r. key_list r.0.outside.seals.nodes ≢ [] → r.0.pace ≡ Pace.Clock) }
 {
     warn_of_port(plan, err);
     let (outside, place) = outside_of(rt, alloc, &plan.header, plan.port, &plan.away, err)?;
     let socket = open_socket_at(rt, place, err)?;
     let lock = FolderLock::take(rt, alloc, plan.folder, err)?;
     let device = open_device(rt, alloc, plan.folder, err)?;
+    let pace = pace_with(&outside.seals, plan.pace);
     let resources = Resources {
         device,
         socket,
         outside,
+        pace,
     };
     Ok((resources, lock))
 }

@@ -8,7 +8,7 @@ ghost use Rattle.lk_replica.specs.Revivals.{MayGoOn};
 ghost use Rattle.lk_server.specs.Addresses.{IsSameOutside};
 ghost use Rattle.lk_server.specs.Faults.{replica_fault};
 ghost use Rattle.lk_server.specs.Posts.{all_taken_as};
-ghost use Rattle.lk_server.specs.Servers.{ServerValue, ServesOn, Turn, LastTurn};
+ghost use Rattle.lk_server.specs.Servers.{ServerValue, ServesOn, TakesTurn as ServerTurn, LastTurn};
 ghost use Rattle.lk_service.specs.Chains.{Repeats};
 ghost use Rattle.lk_service.specs.Revivals.{ComesUp, IsBegun, IsNotTakenUp, IsRefusedWith};
 ghost use Rattle.lk_service.specs.Turns.{TakesTurn, BreaksOff, AreSealsOf, Serves, EndsEarly, TellsFailure};
@@ -21,6 +21,7 @@ use lk_log::look;
 use lk_replica::{Replica, ReviveFault};
 use lk_server::ear::Ear;
 use lk_server::fault::ServiceFault;
+use lk_server::metronome::Metronome;
 use lk_server::node_replica::NodeReplica;
 use lk_server::notes::log_notes;
 use lk_server::server::{Server, node_turn};
@@ -30,6 +31,7 @@ use lk_state::Machine;
 use log::Log;
 use std::alloc::Global;
 use std::io::Write;
+use std::time::Clock;
 
 /// The turns of a node until it ends.
 const TURNS: u64 = 1 << 48;
@@ -70,6 +72,7 @@ pub fn revive<M: Machine, D: LogDisk + Drop, S: Datagrams + Drop, L: Log>(
     ensures begun { IfOk result (IsBegun M.meaning D.is_honest (D.disk resources.device) header.now) }
     ensures hosts { IfOk result (λ s. s.addresses.hosts ≡ resources.outside.hosts) }
     ensures seals { IfOk result (λ s. s.addresses.seals ≡ resources.outside.seals) }
+    ensures pace { IfOk result (λ s. s.pace ≡ resources.pace) }
     ensures socket { IfOk result (ServesOn (S.sent resources.socket) (S.failures resources.socket) (all_taken_as resources.outside.seals (S.coming resources.socket))) }
     // It is refused with 7 to 11, each with its cause, and what the device then has fits as what it had.
     ensures refused { IfErr result (λ e. IsNotTakenUp M.meaning M.IsText D.is_honest (D.disk resources.device) header.now (fault_number e.fault) (D.disk e.device)) }
@@ -78,10 +81,11 @@ pub fn revive<M: Machine, D: LogDisk + Drop, S: Datagrams + Drop, L: Log>(
         device,
         socket,
         outside,
+        pace,
     } = resources;
     let replica = take_up::<M, D, L>(alloc, header, device, log)?;
     let cluster = header.genesis().cluster;
-    Ok(Server::new(alloc, cluster, header.node(), outside, replica, socket))
+    Ok(Server::new(alloc, cluster, header.node(), pace, outside, replica, socket))
 }
 
 /// The same. Where the device failed a line tells why.
@@ -106,23 +110,31 @@ fn revive_plan<M: Machine, D: LogDisk + FailureCause + Drop, S: Datagrams + Drop
 }
 
 /// Takes one turn. Where the device failed a line tells why.
-fn take_turn<M: Machine, D: LogDisk + FailureCause + Drop, S: Datagrams + Drop, L: Log, E: Write>(
+fn take_turn<
+    M: Machine,
+    D: LogDisk + FailureCause + Drop,
+    S: Datagrams + Drop,
+    C: Clock,
+    L: Log,
+    E: Write,
+>(
     server: &mut NodeServer<M, D, S>,
     ear: &mut Ear,
+    metronome: &mut Metronome<C>,
     folder: &str,
     log: &L,
     err: &mut E,
 ) -> Result<(), ServiceFault>
-    // Its replica was given as one group just what it wrote to itself, or what was taken of what came. Of the letters that it said it keeps none but those of the
-    // node to itself, after the ones that wait.
-    ensures turn { OnOk result ((frames : List (Address × List ℕ)) × Turn ⟦<Replica<M, D> as NodeReplica>⟧.Says S.is_telling (all_taken_as server.old.addresses.seals frames) server.old server.new) }
+    // Its replica was given as one group just what it wrote to itself, or what was taken of what came, and a tick where one was due. Of the letters that it said it
+    // keeps none but those of the node to itself, after the ones that wait.
+    ensures turn { OnOk result ((frames : List (Address × List ℕ)) × ServerTurn ⟦<Replica<M, D> as NodeReplica>⟧.Says S.is_telling frames server.old server.new) }
     ensures ends { OnErr result ((frames : List (Address × List ℕ)) × LastTurn ⟦<Replica<M, D> as NodeReplica>⟧.Says S.is_telling (all_taken_as server.old.addresses.seals frames) server.old server.new) }
     // Where nodes live, and the keys, stay what they were.
     ensures outside { IsSameOutside server.old.addresses server.new.addresses }
     ensures failure { TellsFailure server.new }
     ensures passes { IfErr result (λ f. f ≡ ServiceFault.Send → ⊥) }
 {
-    let taken = node_turn(server, ear, log);
+    let taken = node_turn(server, ear, metronome, log);
     let device = server.replica().device();
     match taken {
         Ok(()) => Ok(()),
@@ -131,7 +143,15 @@ fn take_turn<M: Machine, D: LogDisk + FailureCause + Drop, S: Datagrams + Drop, 
 }
 
 /// Takes 2^48 turns. Where the device failed a line tells why.
-fn take_turns<M: Machine, D: LogDisk + FailureCause + Drop, S: Datagrams + Drop, L: Log, E: Write>(
+fn take_turns<
+    M: Machine,
+    D: LogDisk + FailureCause + Drop,
+    S: Datagrams + Drop,
+    C: Clock,
+    L: Log,
+    E: Write,
+>(
+    clock: &C,
     server: &mut NodeServer<M, D, S>,
     folder: &str,
     log: &L,
@@ -144,14 +164,23 @@ fn take_turns<M: Machine, D: LogDisk + FailureCause + Drop, S: Datagrams + Drop,
     ensures passes { IfErr result (λ f. f ≡ ServiceFault.Send → ⊥) }
 {
     let mut ear = Ear::new();
+    let mut metronome = Metronome::new(clock);
     'turns: for _ in 0..TURNS {
-        take_turn::<M, D, S, L, E>(server, &mut ear, folder, log, err)?;
+        take_turn::<M, D, S, &C, L, E>(server, &mut ear, &mut metronome, folder, log, err)?;
     }
     Ok(())
 }
 
 /// Takes 2^48 turns with a server that ends then. That it serves, and at which port, is logged.
-fn serve_turns<M: Machine, D: LogDisk + FailureCause + Drop, S: Datagrams + Drop, L: Log, E: Write>(
+fn serve_turns<
+    M: Machine,
+    D: LogDisk + FailureCause + Drop,
+    S: Datagrams + Drop,
+    C: Clock,
+    L: Log,
+    E: Write,
+>(
+    clock: &C,
     server: NodeServer<M, D, S>,
     plan: &NodePlan<'_>,
     log: &L,
@@ -162,11 +191,19 @@ fn serve_turns<M: Machine, D: LogDisk + FailureCause + Drop, S: Datagrams + Drop
 {
     let mut server = server;
     log_port(log, plan.port);
-    take_turns(&mut server, plan.folder, log, err)
+    take_turns(clock, &mut server, plan.folder, log, err)
 }
 
 /// Takes up the server of a node, and takes 2^48 turns with it.
-fn serve<M: Machine, D: LogDisk + FailureCause + Drop, S: Datagrams + Drop, L: Log, E: Write>(
+fn serve<
+    M: Machine,
+    D: LogDisk + FailureCause + Drop,
+    S: Datagrams + Drop,
+    C: Clock,
+    L: Log,
+    E: Write,
+>(
+    clock: &C,
     alloc: Global,
     plan: &NodePlan<'_>,
     resources: Resources<D, S>,
@@ -179,7 +216,7 @@ fn serve<M: Machine, D: LogDisk + FailureCause + Drop, S: Datagrams + Drop, L: L
         ⊎ EndsEarly (IsBegun M.meaning D.is_honest (D.disk resources.device) plan.now.header) plan.now.header resources.outside.seals ⟦<Replica<M, D> as NodeReplica>⟧.Says S.is_telling (2 ^ 48)) }
 {
     let server = revive_plan::<M, D, S, L, E>(alloc, plan, resources, log, err)?;
-    serve_turns(server, plan, log, err)
+    serve_turns(clock, server, plan, log, err)
 }
 
 /// Runs a node on these resources. The status is 0 after 2^48 turns, and 1 where a fault is told on standard error.
@@ -187,9 +224,17 @@ pub fn run_node<
     M: Machine,
     D: LogDisk + FailureCause + Drop,
     S: Datagrams + Drop,
+    C: Clock,
     L: Log,
     E: Write,
->(alloc: Global, plan: &NodePlan<'_>, resources: Resources<D, S>, log: &L, err: &mut E) -> u8
+>(
+    clock: &C,
+    alloc: Global,
+    plan: &NodePlan<'_>,
+    resources: Resources<D, S>,
+    log: &L,
+    err: &mut E,
+) -> u8
     requires { AreSealsOf plan.now.header resources.outside.seals }
     ensures status { result ≤ 1 }
     // At status 0 the server of the plan's node, on a replica that came up by what the device had, has taken so many turns.
@@ -198,7 +243,7 @@ pub fn run_node<
     ensures broken { result ≡ 1 → ((f : ServiceFault) × IsRefusedWith M.meaning M.IsText D.is_honest (D.disk resources.device) plan.now.header f)
         ⊎ EndsEarly (IsBegun M.meaning D.is_honest (D.disk resources.device) plan.now.header) plan.now.header resources.outside.seals ⟦<Replica<M, D> as NodeReplica>⟧.Says S.is_telling (2 ^ 48) }
 {
-    match serve::<M, D, S, L, E>(alloc, plan, resources, log, err) {
+    match serve::<M, D, S, C, L, E>(clock, alloc, plan, resources, log, err) {
         Ok(()) => 0,
         Err(fault) => fault.tell(err),
     }

@@ -1,5 +1,6 @@
 //! Three servers of the lock table in one process, on disks and sockets in memory, and what they tell to clients.
 
+use crate::clocks::Stopped;
 use crate::digits::bytes_of;
 use crate::node_turns::{Locks, header};
 use lk_disk::MemoryDisk;
@@ -7,8 +8,10 @@ use lk_locks::LockTable;
 use lk_replica::ReviveFault;
 use lk_server::ear::Ear;
 use lk_server::memory_socket::{MemorySocket, Told};
+use lk_server::metronome::Metronome;
 use lk_server::node_replica::NodeReplica;
 use lk_server::outside::Outside;
+use lk_server::pace::Pace;
 use lk_server::server::{Server, node_turn};
 use lk_server::socket::{Datagrams, local};
 use lk_service::resources::Resources;
@@ -38,6 +41,7 @@ fn begun(alloc: Global, node: u32, port: u16) -> Result<LockServer, Fail> {
         device: MemoryDisk::new(alloc),
         socket: MemorySocket::new(alloc, port),
         outside: Outside::local(header.genesis().cluster, header.node()),
+        pace: Pace::Datagrams,
     };
     match revive::<LockTable, _, _, _>(alloc, &header, resources, &Discard) {
         Ok(server) => Ok(server),
@@ -90,7 +94,7 @@ impl Cluster {
         let Some(server) = self.servers.get_mut(place) else {
             return Ok(());
         };
-        node_turn(server, &mut self.ear, &Discard)?;
+        node_turn(server, &mut self.ear, &mut Metronome::new(Stopped), &Discard)?;
         let port = server.socket_mut().port().unwrap_or(0);
         for sent in server.socket_mut().take_sent() {
             self.carry(local(port), sent)?;

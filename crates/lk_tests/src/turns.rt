@@ -1,12 +1,15 @@
 //! What a turn logs, and a demonstration that nobody answers.
 ghost use Rattle.std.specs.Prelude.{◌≡◌, [], ⊤};
 
+use crate::clocks::Stopped;
 use lk_locks::LockTable;
 use lk_replica::{Group, Post, ReplicaFault};
 use lk_server::ear::Ear;
 use lk_server::memory_socket::MemorySocket;
+use lk_server::metronome::Metronome;
 use lk_server::node_replica::NodeReplica;
 use lk_server::outside::Outside;
+use lk_server::pace::Pace;
 use lk_server::server::{Server, node_turn};
 use lk_server::sight::Sight;
 use lk_service::demo::{Sockets, play};
@@ -121,14 +124,16 @@ fn server(
     };
     let node = NodeNo::of(1).ok_or("node")?;
     let socket = MemorySocket::new(alloc, 7001);
-    Ok(Server::new(alloc, 5, node, Outside::local(5, node), told, socket))
+    let outside = Outside::local(5, node);
+    Ok(Server::new(alloc, 5, node, Pace::Datagrams, outside, told, socket))
 }
 
 // What a turn logs whose replica ends so, and is seen so before and after it.
 fn logged(alloc: Global, end: End, before: Seen, after: Seen) -> Result<Vec<u8>, Fail> {
     let memory = Memory::new(alloc);
     let mut server = server(alloc, end, before, after)?;
-    let _ = node_turn(&mut server, &mut Ear::new(), &memory);
+    let mut metronome = Metronome::new(Stopped);
+    let _ = node_turn(&mut server, &mut Ear::new(), &mut metronome, &memory);
     let mut text = Vec::new(alloc);
     for line in memory.into_lines().as_slice() {
         text.extend_from_slice(line.as_bytes())?;

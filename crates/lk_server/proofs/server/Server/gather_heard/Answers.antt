@@ -11,7 +11,7 @@ returns-clause-takes g c = λ yes.
       frame.0,
       frame.1,
       heard_one g.R.NodeReplica.Gathers frame.0 (c.in-Some.from, c.in-Some.bytes.now) c.args.group.now c.gather_counted.new.group c.args.self.now c.hear-came.new.self c.gather_counted.new.self frame.2
-          (search rules) (search rules) (search rules) (search rules) (search rules) c.in_ok-gather_counted.ensures.takes,
+          (search rules) (search rules) (search rules) (search rules) (search rules) (search rules) c.in_ok-gather_counted.ensures.takes,
     )
 
 pub returns-in_err-gather_counted-clause-ends : goal.returns-in_err-gather_counted-clause-ends
@@ -22,5 +22,5 @@ returns-in_err-gather_counted-clause-ends g c =
       frame.0,
       frame.1,
       ends_heard g.R.NodeReplica.Says g.R.NodeReplica.Gathers frame.0 (c.in-Some.from, c.in-Some.bytes.now) c.args.group.now c.args.self.now c.hear-came.new.self c.gather_counted.new.self frame.2
-          (search rules) (search rules) (search rules) (search rules) (search rules) c.in_err-gather_counted.ensures.ends,
+          (search rules) (search rules) (search rules) (search rules) (search rules) (search rules) c.in_err-gather_counted.ensures.ends,
     )

@@ -1,4 +1,4 @@
-use Rattle.std.proofs.Common.{◌∙◌, [], ◌∷◌, ap, arith}
+use Rattle.std.proofs.Common.{◌∙◌, [], ◌∷◌, ap, sym, arith}
 use Rattle.lk_server.specs.Servers.{ServerValue}
 use Rattle.lk_server.proofs.Carrying.{on_err}
 use Rattle.lk_server.proofs.Gatherings.{socket_more, ends_further}
@@ -8,7 +8,7 @@ use Rattle.lk_server.proofs.server.Server.gather_socket.Goals as goal
 pub returns-then-not-branch-clause-none : goal.returns-then-not-branch-clause-none
 returns-then-not-branch-clause-none g c = λ no.
     let n = c.in_ok-gather_first.ensures.none (cc c.if-not-branch.true) in
-    ((c.requires, λ t. (n.0 t).0, n.1), n.2)
+    (record { own = c.requires; none = λ t. (n.0 t).0; still = λ t. (n.0 t).1 ∙ sym (n.0 t).0; same = n.1 }, n.2)
 
 pub returns-clause-takes : goal.returns-clause-takes
 returns-clause-takes g c = λ yes.

@@ -10,11 +10,15 @@ returns-clause-addresses g c =
     let begun : c.begin.new.self.addresses ≡ c.args.self.now.addresses = search rules in
     (same_post g.S.Datagrams.is_telling c.release-released.result _ c.begin.new.self c.release-released.new.post e.hands e.unsent).1 ∙ begun
 
-pub returns-clause-node : goal.returns-clause-node
-returns-clause-node g c =
+pub returns-clause-same : goal.returns-clause-same
+returns-clause-same g c =
     let e = c.release-released.ensures in
     let begun : c.begin.new.self.node ≡ c.args.self.now.node = search rules in
-    (same_post g.S.Datagrams.is_telling c.release-released.result _ c.begin.new.self c.release-released.new.post e.hands e.unsent).0 ∙ begun
+    record {
+      cluster = search rules;
+      node = (same_post g.S.Datagrams.is_telling c.release-released.result _ c.begin.new.self c.release-released.new.post e.hands e.unsent).0 ∙ begun;
+      pace = search rules;
+    }
 
 pub returns-clause-gives : goal.returns-clause-gives
 returns-clause-gives g c =

@@ -1,32 +1,34 @@
 use Rattle.std.proofs.Common.{ap}
 use Rattle.lk_server.specs.Servers.{ServerValue}
 use Rattle.lk_server.proofs.Carrying.{on_err}
-use Rattle.lk_server.proofs.Turning.{turn_of, last_of, last_within}
+use Rattle.lk_server.proofs.Turning.{same_by, without_tick, turn_of, last_of, last_within}
 use Rattle.lk_server.proofs.server.Server.serve_next.Goals as goal
 
 pub returns-clause-turn : goal.returns-clause-turn
 returns-clause-turn g c = λ yes.
     let r = g.R.NodeReplica in
+    let tells = g.S.Datagrams.is_telling in
     let o = c.gather_all.ensures.others in
     let t = c.in_ok-gather_all.ensures.takes (cc c.if-not-branch.false) in
     let e = c.release.ensures in (
       t.0,
-      turn_of r.Says r.Gathers g.S.Datagrams.is_telling t.0 c.begin-group.result c.gather_all.new.group c.args.self.now c.gather_all.new.self c.release.new.self c.begin-group.ensures t.1 c.in_ok-release.ensures.gives
-          (ap (λ (s : ServerValue _). s.sent) o) (ap (λ (s : ServerValue _). s.socket_failures) o) (ap (λ (s : ServerValue _). s.cluster) o) (ap (λ (s : ServerValue _). s.node) o)
-          e.addresses e.received e.cluster e.node c.in_ok-release.ensures.alive,
+      turn_of r.Says r.Gathers tells t.0 c.begin-group.result c.gather_all.new.group c.args.self.now c.gather_all.new.self c.release.new.self c.begin-group.ensures
+          (without_tick r.Says r.Gathers tells t.0 c.begin-group.result c.gather_all.new.group c.args.self.now c.gather_all.new.self t.1) c.in_ok-release.ensures.gives
+          (ap (λ (s : ServerValue _). s.sent) o) (ap (λ (s : ServerValue _). s.socket_failures) o) (same_by c.args.self.now c.gather_all.new.self o) e.addresses e.received e.same c.in_ok-release.ensures.alive,
     )
 
 pub returns-in_err-release-clause-ends : goal.returns-in_err-release-clause-ends
 returns-in_err-release-clause-ends g c =
     let r = g.R.NodeReplica in
+    let tells = g.S.Datagrams.is_telling in
     let o = c.gather_all.ensures.others in
     let t = c.in_ok-gather_all.ensures.takes (cc c.if-not-branch.false) in
     let e = c.release.ensures in
     on_err c.from_residual-in_err-release.result (
       t.0,
-      last_of r.Says r.Gathers g.S.Datagrams.is_telling t.0 c.begin-group.result c.gather_all.new.group c.args.self.now c.gather_all.new.self c.release.new.self c.begin-group.ensures t.1 c.in_err-release.ensures.silent
-          (ap (λ (s : ServerValue _). s.sent) o) (ap (λ (s : ServerValue _). s.socket_failures) o) (ap (λ (s : ServerValue _). s.cluster) o) (ap (λ (s : ServerValue _). s.node) o)
-          e.addresses e.cluster e.node c.in_err-release.ensures.broken,
+      last_of r.Says r.Gathers tells t.0 c.begin-group.result c.gather_all.new.group c.args.self.now c.gather_all.new.self c.release.new.self c.begin-group.ensures
+          (without_tick r.Says r.Gathers tells t.0 c.begin-group.result c.gather_all.new.group c.args.self.now c.gather_all.new.self t.1) c.in_err-release.ensures.silent
+          (ap (λ (s : ServerValue _). s.sent) o) (ap (λ (s : ServerValue _). s.socket_failures) o) (same_by c.args.self.now c.gather_all.new.self o) e.addresses e.same c.in_err-release.ensures.broken,
     )
 
 pub returns-in_err-gather_all-clause-ends : goal.returns-in_err-gather_all-clause-ends
@@ -37,5 +39,5 @@ returns-in_err-gather_all-clause-ends g c =
     on_err c.from_residual.result (
       e.0,
       last_within r.Says r.Gathers g.S.Datagrams.is_telling e.0 c.begin-group.result c.args.self.now c.gather_all.new.self c.begin-group.ensures e.1
-          (ap (λ (s : ServerValue _). s.sent) o) (ap (λ (s : ServerValue _). s.socket_failures) o) (ap (λ (s : ServerValue _). s.cluster) o) (ap (λ (s : ServerValue _). s.node) o) c.in_err-gather_all.ensures.broken,
+          (ap (λ (s : ServerValue _). s.sent) o) (ap (λ (s : ServerValue _). s.socket_failures) o) (same_by c.args.self.now c.gather_all.new.self o) c.in_err-gather_all.ensures.broken,
     )

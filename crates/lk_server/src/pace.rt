@@ -1,0 +1,45 @@
+//! What the ticks of a server go by.
+
+ghost use Rattle.std.specs.Prelude.{◌≡◌, not};
+ghost use Rattle.lk_server.specs.Paces.{ticks_after};
+
+use crate::metronome::Metronome;
+use std::time::Clock;
+
+/// So many datagrams bring a tick, however fast they come, where ticks go by them.
+const DATAGRAMS_PER_TICK: u64 = 64;
+
+/// What the ticks of a server go by.
+#[derive(Clone, Copy, Debug, PartialEq, Eq)]
+pub enum Pace {
+    /// Datagrams: a tick after every 64th, and after each 100 ms in which none came.
+    Datagrams,
+    /// The clock: a tick each 100 ms, whatever comes.
+    Clock,
+}
+
+impl Pace {
+    /// Whether a tick follows the datagram of that number at once.
+    pub(crate) fn ticks_after(self, number: u64) -> bool
+        ensures { result ≡ ticks_after self number }
+    {
+        match self {
+            Pace::Datagrams => number % DATAGRAMS_PER_TICK == 0,
+            Pace::Clock => false,
+        }
+    }
+
+    /// Whether a tick is due in a turn in which something came or did not. The next one is then 100 ms away.
+    pub(crate) fn is_due<C: Clock>(self, came: bool, metronome: &mut Metronome<C>) -> bool
+        // By datagrams it is due where nothing came.
+        ensures datagrams { self ≡ Pace.Datagrams → result ≡ not came }
+    {
+        match self {
+            Pace::Datagrams => {
+                metronome.rest();
+                !came
+            }
+            Pace::Clock => metronome.has_passed(),
+        }
+    }
+}
