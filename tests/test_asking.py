@@ -134,7 +134,31 @@ class AskingTest(unittest.TestCase):
                 data, client = self.first.recvfrom(9000)
                 self.assertEqual(data.hex(), bytes_of("4c4b0109 0000000000000005 00000000 0007 0000000000000001", op).hex())
                 self.first.sendto(bytes_of(GRANTED), client)
+                out, err = process.communicate(timeout=60)
+                self.assertEqual(out, "granted 1\n")
+                self.assertEqual(err.startswith("warning: "), words.startswith(("acquire A", "acquire 1")), err)
+
+    def among(self):
+        """The program, which asks both ports in turn."""
+        ports = [word for it in (self.first, self.second) for word in ("--port", str(it.getsockname()[1]))]
+        words = ["--cluster", "5", *ports, "--client", "7", "--request", "1", "acquire", "db"]
+        return subprocess.Popen([PROGRAM, "ask", *words], stdout=subprocess.PIPE, stderr=subprocess.PIPE, text=True)
+
+    def test_the_next_port_is_asked_where_nothing_comes(self):
+        for answers in (1, 0):
+            with self.subTest(answers=answers), self.among() as process:
+                data, client = self.first.recvfrom(9000)
+                self.assertEqual(self.second.recvfrom(9000), (data, client))
+                self.assertEqual(data.hex(), bytes_of(ASKED).hex())
+                (self.first, self.second)[answers].sendto(bytes_of(GRANTED), client)
                 self.assertEqual(process.communicate(timeout=60), ("granted 1\n", ""))
+                self.assertEqual((self.came(self.first), self.came(self.second)), (0, 0))
+
+    def test_each_port_is_asked_three_times(self):
+        with self.among() as process:
+            self.assertEqual(process.communicate(timeout=60), ("no answer\n", ""))
+            self.assertEqual(process.returncode, 1)
+        self.assertEqual((self.came(self.first), self.came(self.second)), (3, 3))
 
     def test_an_elsewhere_is_followed(self):
         self.assertEqual(self.asks([self.elsewhere(), GRANTED]), ((0, "granted 1\n"), (1, 1)))

@@ -101,7 +101,7 @@ class StateTest(unittest.TestCase):
             with open(os.path.join(self.folder, name), "wb") as file:
                 file.write(data)
         told = subprocess.run([PROGRAM, "inspect", "--dir", self.folder], capture_output=True, text=True)
-        return told.returncode, told.stderr
+        return told.returncode, "".join(told.stderr.splitlines(keepends=True)[-1:])
 
     def test_states_have_these_bytes(self):
         for text in STATES:

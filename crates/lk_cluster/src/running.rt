@@ -7,6 +7,7 @@ ghost use Rattle.lk_cluster.specs.Clusters.{Cluster, IsReachable, ForgesNothing}
 ghost use Rattle.lk_cluster.specs.Running.{IsDownOn, ServesIn, EndsIn, RestsIn};
 
 use lk_disk::LogDisk;
+use lk_events::line::Observer;
 use lk_locks::LockTable;
 use lk_replica::Replica;
 use lk_server::node_replica::NodeReplica;
@@ -21,12 +22,20 @@ use std::time::Clock;
 
 /// Runs a node of the lock table on any honest device and any socket. Whatever becomes of it, the reachable cluster in which it was down on what the
 /// device had goes on by it.
-pub fn run<D: LogDisk + FailureCause + Drop, S: Datagrams + Drop, C: Clock, L: Log, E: Write>(
+pub fn run<
+    D: LogDisk + FailureCause + Drop,
+    S: Datagrams + Drop,
+    C: Clock,
+    L: Log,
+    O: Observer,
+    E: Write,
+>(
     clock: &C,
     alloc: Global,
     plan: &NodePlan<'_>,
     resources: Resources<D, S>,
     log: &L,
+    observer: &mut O,
     err: &mut E,
 ) -> u8
     requires { AreSealsOf plan.now.header resources.outside.seals }
@@ -39,5 +48,5 @@ pub fn run<D: LogDisk + FailureCause + Drop, S: Datagrams + Drop, C: Clock, L: L
         ⊎ EndsIn D.is_metered S.is_telling D.is_honest ⟦<Replica<LockTable, D> as NodeReplica>⟧.Says genesis cluster place n (D.disk resources.device) resources.outside.seals (2 ^ 48) }
     ensures status { result ≤ 1 }
 {
-    run_node::<LockTable, D, S, C, L, E>(clock, alloc, plan, resources, log, err)
+    run_node::<LockTable, D, S, C, L, O, E>(clock, alloc, plan, resources, log, observer, err)
 }

@@ -8,8 +8,8 @@ use crate::lines::write_inspection;
 use lk_disk::LogDisk;
 use lk_log::look;
 use lk_server::fault::ServiceFault;
-use lk_service::causes::tell_device;
 use lk_service::folder::look_at_device;
+use lk_service::refusals::tell_refusal;
 use std::alloc::Global;
 use std::fs::Files;
 use std::io;
@@ -49,7 +49,7 @@ fn inspection_in<R: Files, E: Write>(
     let mut device = look_at_device(rt, alloc, folder, err)?;
     match inspect_device(alloc, &mut device) {
         Ok(found) => Ok(found),
-        Err(fault) => Err(tell_device(fault, &device, folder, err)),
+        Err(fault) => Err(tell_refusal(alloc, fault, &mut device, folder, err)),
     }
 }
 

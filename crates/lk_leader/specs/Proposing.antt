@@ -24,6 +24,20 @@ pub record IsNext (roster : RosterValue) (ps : List ProposalValue) (i : ℕ) : T
 abbrev pub AreMembersAt : RosterValue → ℕ → List Member → Type 0
 AreMembersAt roster i set = (roster.executed < i) × (slice_get roster.sets (i - (roster.executed + 1)) ≡ Some set)
 
+-- a majority of the members of the position promised the term from there or before it on
+pub record IsPromisedAt (t : TermValue) (roster : RosterValue) (i : ℕ) : Type 0 where
+  pub set : List Member
+  pub members : AreMembersAt roster i set
+  pub promised : IsMajority (promisers set i t.reports) set
+
+-- so those of the next position, where there is one
+abbrev pub IsElected : TermValue → RosterValue → Type 0
+IsElected t roster = (roster.executed < 281474976710656) × IsPromisedAt t roster (roster.executed + 1)
+
+-- the leader has a term, which is elected
+abbrev pub Leads : LeaderValue → RosterValue → Type 0
+Leads l roster = (t : TermValue) × (l.term ≡ Some t) × IsElected t roster
+
 -- the term proposes the command at the position
 pub record Proposes (t : TermValue) (waiting : List RequestValue) (roster : RosterValue) (i : ℕ) (v : Command) : Type 0 where
   pub next : IsNext roster t.proposals i

@@ -1,10 +1,10 @@
-ghost use Rattle.std.specs.Prelude.{◌≡◌, ◌↔◌, ℕ, Option, Some, None, List, [], IsTrue, true, false, OnOk, OnErr, Ok, IsSome, IfSome, MatchOption};
+ghost use Rattle.std.specs.Prelude.{◌≡◌, ◌↔◌, ℕ, Option, Some, None, List, [], IsTrue, true, false, OnOk, OnErr, Ok, length, IsSome, IfSome, MatchOption};
 ghost use Rattle.std.specs.Option.{option_copied, option_map};
 ghost use Rattle.lk_types.specs.Ballots.{IsBelow};
 ghost use Rattle.lk_types.specs.declared.member.Member.{Member as MemberValue};
 ghost use Rattle.lk_leader.specs.Waits.{asked, waiting_of, number_up_to, left_by};
 ghost use Rattle.lk_leader.specs.Terms.{LeaderValue, TermValue, ProposalValue, Command as CommandValue, idle, begun, with_term, with_report, with_proposals, is_promiser, IsFirstOf};
-ghost use Rattle.lk_leader.specs.Proposing.{LeaderProposes, proposed};
+ghost use Rattle.lk_leader.specs.Proposing.{Leads, LeaderProposes, proposed};
 ghost use Rattle.lk_leader.specs.Acceptances.{IsVoteFor, heard_at, GainsMajority, IsOpen};
 
 use crate::report::Report;
@@ -197,12 +197,29 @@ impl Leader {
         self.waiting.ran(client, number)
     }
 
+    /// How many requests wait to be proposed.
+    pub fn waiting(&self) -> usize
+        ensures { result ≡ length self.now.waiting }
+    {
+        self.waiting.len()
+    }
+
     /// The term's ballot.
     pub fn ballot(&self) -> Option<RealBallot>
         ensures { result ≡ option_map (λ t. t.ballot) self.now.term }
     {
         let term = self.term.as_ref()?;
         Some(term.ballot())
+    }
+
+    /// Whether it has a term, which a majority of the members of the next position has promised.
+    pub fn is_elected(&self, roster: &Roster) -> bool
+        ensures { IsTrue result ↔ Leads self.now roster.now }
+    {
+        match &self.term {
+            Some(term) => term.is_elected(roster),
+            None => false,
+        }
     }
 
     /// Whether the term keeps a promise of the node.

@@ -3,7 +3,7 @@ ghost use Rattle.std.specs.Option.{option_copied};
 ghost use Rattle.std.specs.List.{list_any};
 ghost use Rattle.lk_leader.specs.Terms.{begun, with_report, with_proposals, proposal_at, ProposalValue, is_promiser, BallotValue, Command as CommandValue};
 ghost use Rattle.lk_leader.specs.Values.{IsBest, told_at, reports_at, is_reached, is_changing_at, IsLeadersValue};
-ghost use Rattle.lk_leader.specs.Proposing.{promisers as those_who_promised, IsNext, Proposes, proposed};
+ghost use Rattle.lk_leader.specs.Proposing.{promisers as those_who_promised, IsPromisedAt, IsElected, IsNext, Proposes, proposed};
 ghost use Rattle.lk_leader.specs.Acceptances.{heard_at, GainsMajority};
 ghost use Rattle.lk_members.specs.Majorities.{IsMajority};
 
@@ -101,6 +101,26 @@ impl Term {
         ensures { IsTrue result ↔ IsMajority (those_who_promised set.now position self.now.reports) set.now }
     {
         is_majority(set, promisers(&self.reports, position, set).as_slice())
+    }
+
+    /// Whether a majority of the members of the position has promised from there or before it on.
+    fn is_promised_at(&self, position: Position, roster: &Roster) -> bool
+        ensures { IsTrue result ↔ IsPromisedAt self.now roster.now position }
+    {
+        match roster.members_at(position) {
+            Some(set) => self.is_promised(position, set),
+            None => false,
+        }
+    }
+
+    /// Whether a majority of the members of the next position has promised from there on.
+    pub(crate) fn is_elected(&self, roster: &Roster) -> bool
+        ensures { IsTrue result ↔ IsElected self.now roster.now }
+    {
+        match Position::of(roster.executed().get() + 1) {
+            Some(next) => self.is_promised_at(next, roster),
+            None => false,
+        }
     }
 
     /// The highest vote that a member's promise tells of the position.

@@ -97,7 +97,7 @@ impl Waiting {
     }
 
     /// How many requests wait.
-    fn len(&self) -> usize
+    pub(crate) fn len(&self) -> usize
         ensures { result ≡ length self.now }
     {
         self.requests.len()

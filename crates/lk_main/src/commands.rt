@@ -13,12 +13,14 @@ enum Kind {
     Word,
     /// A word after `--NAME`, which may be given.
     Given,
+    /// A word after `--NAME`, which has to be given, once or more.
+    Several,
     /// `--NAME` alone, which may be given.
     Flag,
     /// Words without `--NAME`, one or more, which have to be given.
     Words,
     /// Words after `--NAME`, one or more, which have to be given.
-    Several,
+    Many,
     /// Two words after `--NAME`, which may be given.
     Pair,
 }
@@ -47,12 +49,13 @@ const SUBCOMMANDS: &[Usage] = &[
         (Kind::Given, "key", "the file of the key that the nodes share"),
         (Kind::Given, "client-key", "the file of the master of which the clients' keys are made"),
         (Kind::Given, "ticks", "what brings ticks: datagrams, or clock (each 100 ms, and always where there is a key)"),
+        (Kind::Flag, "events", "tells on standard error, with the time, what an operator wants to know of the node"),
         (Kind::Flag, "log", "tells on standard error what is counted and run"),
         (Kind::Flag, "verbose", "tells on standard error what --log does, and what else happens to the node"),
     ]),
     ("ask", "asks a node once, and prints what it is answered", &[
         (Kind::Word, "cluster", "the number of the cluster"),
-        (Kind::Word, "port", "the port of a node"),
+        (Kind::Several, "port", "the port of a node; with several, the next one is asked where nothing comes"),
         (Kind::Given, "address", "the address of that node"),
         (Kind::Given, "hosts", "a file of lines NODE ADDRESS: where each node lives"),
         (Kind::Given, "client-key", "the file of the client's key"),
@@ -62,7 +65,7 @@ const SUBCOMMANDS: &[Usage] = &[
     ]),
     ("status", "asks nodes at once how the cluster stands, and prints a line for each", &[
         (Kind::Word, "cluster", "the number of the cluster"),
-        (Kind::Several, "port", "PORT or NODE:PORT of each node that is asked"),
+        (Kind::Many, "port", "PORT or NODE:PORT of each node that is asked"),
         (Kind::Given, "address", "the address of the nodes that no hosts name"),
         (Kind::Given, "hosts", "a file of lines NODE ADDRESS: where each node lives"),
         (Kind::Given, "client", "the number of the client whose key is given"),
@@ -98,9 +101,10 @@ fn argument<'a>(alloc: Global, kind: Kind, name: &'a str, help: &'a str) -> Arg<
     let argument = match kind {
         Kind::Word => word(alloc, name),
         Kind::Given => word(alloc, name).required(false),
+        Kind::Several => word(alloc, name).action(ArgAction::Append),
         Kind::Flag => Arg::new(alloc, name).long(name).action(ArgAction::SetTrue),
         Kind::Words => Arg::new(alloc, name).required(true).num_args(1..),
-        Kind::Several => word(alloc, name).action(ArgAction::Append).num_args(1..),
+        Kind::Many => word(alloc, name).action(ArgAction::Append).num_args(1..),
         Kind::Pair => word(alloc, name).required(false).num_args(2),
     };
     argument.help(help)

@@ -2,9 +2,11 @@
 #![tactic(auto)]
 
 mod commands;
+mod misread;
 mod plans;
 mod status_words;
 mod subcommand;
+mod wants;
 mod words;
 
 use std::alloc::Global;
@@ -42,10 +44,10 @@ fn run_texts<'a, R: Input + Print + Eprint + Files<File = File> + Net + Clock, E
 
 /// Runs the command line that the program was given, on its streams. It fails where nothing could be run: memory was
 /// refused, or a word is no text.
-fn run<R: Env + Input + Print + Eprint + Files<File = File> + Net + Clock + Alloc<A = Global>, E: Write>(
-    rt: &R,
-    err: &mut E,
-) -> io::Result<u8> {
+fn run<
+    R: Env + Input + Print + Eprint + Files<File = File> + Net + Clock + Alloc<A = Global>,
+    E: Write,
+>(rt: &R, err: &mut E) -> io::Result<u8> {
     let alloc = rt.alloc();
     let words: Vec<String> = env::args(rt)?.collect(alloc)?;
     let texts = texts_of(alloc, &words)?;

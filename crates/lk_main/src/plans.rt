@@ -1,5 +1,7 @@
 //! What the words of a subcommand ask for, where they are understood.
 
+use crate::misread::{Misread, misread, misread_genesis, misread_word};
+use crate::wants::misread_operation;
 use clap::ArgMatches;
 use lk_entries::Header;
 use lk_fuzz::fuzzing::MAX_EVENTS;
@@ -10,96 +12,152 @@ use lk_service::outside::Away;
 use lk_service::question::Question;
 use lk_service::resources::NodePlan;
 use lk_types::limits::{MAX_CLIENT, MAX_COUNT};
-use lk_types::{ClientNo, NodeNo, Op, Port, Request, RequestNumber};
+use lk_types::{ClientNo, Genesis, NodeNo, Op, Port, Request, RequestNumber};
 use lk_words::genesis::read_genesis;
 use lk_words::number::read_number;
 use lk_words::operation::{node_of, port_of};
 use std::alloc::{AllocError, Global};
 use std::net::IpAddr;
 
-/// The bytes of a word that was named.
-pub fn word<'a>(matches: &ArgMatches<'a>, name: &str) -> Option<&'a [u8]> {
-    Some(matches.get_str(name)?.as_bytes())
+/// A word that was named.
+fn word<'a>(matches: &ArgMatches<'a>, name: &str) -> &'a str {
+    matches.get_str(name).unwrap_or("")
+}
+
+/// The number that a word tells, up to the greatest.
+pub fn number_in<'a>(
+    matches: &ArgMatches<'a>,
+    name: &'a str,
+    greatest: u64,
+) -> Result<u64, Misread<'a>> {
+    match read_number(word(matches, name).as_bytes(), greatest) {
+        Some(number) => Ok(number),
+        None => Err(misread(matches, name)),
+    }
+}
+
+/// The address that a word tells, if one was given.
+fn address_in<'a>(matches: &ArgMatches<'a>, name: &'a str) -> Result<Option<IpAddr>, Misread<'a>> {
+    let Some(word) = matches.get_str(name) else {
+        return Ok(None);
+    };
+    match IpAddr::parse_ascii(word.as_bytes()) {
+        Ok(address) => Ok(Some(address)),
+        Err(_) => Err(misread(matches, name)),
+    }
 }
 
 /// What a command line says of the machines outside.
-fn away_in<'a>(matches: &ArgMatches<'a>, name: &str) -> Option<Away<'a>> {
-    let bind = match word(matches, name) {
-        None => None,
-        Some(word) => match IpAddr::parse_ascii(word) {
-            Ok(address) => Some(address),
-            Err(_) => return None,
-        },
-    };
-    Some(Away {
+fn away_in<'a>(
+    matches: &ArgMatches<'a>,
+    name: &'a str,
+    key: Option<&'a str>,
+) -> Result<Away<'a>, Misread<'a>> {
+    Ok(Away {
         hosts: matches.get_str("hosts"),
-        bind,
-        key: if name == "bind" {
-            matches.get_str("key")
-        } else {
-            None
-        },
+        bind: address_in(matches, name)?,
+        key,
         client_key: matches.get_str("client-key"),
     })
 }
 
 /// What the command line of a client says of the machines outside.
-pub fn ask_away<'a>(matches: &ArgMatches<'a>) -> Option<Away<'a>> {
-    away_in(matches, "address")
+pub fn ask_away<'a>(matches: &ArgMatches<'a>) -> Result<Away<'a>, Misread<'a>> {
+    away_in(matches, "address", None)
+}
+
+/// The genesis.
+fn genesis_in<'a>(matches: &ArgMatches<'a>) -> Result<Genesis, Misread<'a>> {
+    let text = word(matches, "genesis");
+    match read_genesis(text.as_bytes()) {
+        Some(genesis) => Ok(genesis),
+        None => Err(misread_genesis(text)),
+    }
+}
+
+/// The number of the node.
+fn node_in<'a>(matches: &ArgMatches<'a>) -> Result<NodeNo, Misread<'a>> {
+    match node_of(word(matches, "number").as_bytes()) {
+        Some(node) => Ok(node),
+        None => Err(misread(matches, "number")),
+    }
+}
+
+/// The port that a word tells.
+pub fn read_port<'a>(word: &'a str) -> Result<Port, Misread<'a>> {
+    match port_of(word.as_bytes()) {
+        Some(port) => Ok(port),
+        None => Err(misread_word("port", word)),
+    }
+}
+
+/// The port, the first where there are several.
+fn port_in<'a>(matches: &ArgMatches<'a>) -> Result<Port, Misread<'a>> {
+    read_port(word(matches, "port"))
 }
 
 /// What the ticks of a node go by: where the nodes have a key it is the clock, and nothing else may be asked for.
-fn pace_in(matches: &ArgMatches<'_>) -> Option<Pace> {
+fn pace_in<'a>(matches: &ArgMatches<'a>) -> Result<Pace, Misread<'a>> {
     let has_key = matches.get_str("key").is_some();
     match matches.get_str("ticks") {
-        None if has_key => Some(Pace::Clock),
-        None => Some(Pace::Datagrams),
-        Some("clock") => Some(Pace::Clock),
-        Some("datagrams") if !has_key => Some(Pace::Datagrams),
-        Some(_) => None,
+        None if has_key => Ok(Pace::Clock),
+        None => Ok(Pace::Datagrams),
+        Some("clock") => Ok(Pace::Clock),
+        Some("datagrams") if !has_key => Ok(Pace::Datagrams),
+        Some(_) => Err(misread(matches, "ticks")),
     }
 }
 
 /// The node that `locks node` is to run.
-pub fn node_plan<'a>(matches: &ArgMatches<'a>) -> Option<NodePlan<'a>> {
-    let genesis = read_genesis(word(matches, "genesis")?)?;
-    let node: NodeNo = node_of(word(matches, "number")?)?;
-    let port: Port = port_of(word(matches, "port")?)?;
-    Some(NodePlan {
+pub fn node_plan<'a>(matches: &ArgMatches<'a>) -> Result<NodePlan<'a>, Misread<'a>> {
+    let genesis = genesis_in(matches)?;
+    let node = node_in(matches)?;
+    Ok(NodePlan {
         header: Header::new(node, genesis),
-        port,
+        port: port_in(matches)?,
         pace: pace_in(matches)?,
-        folder: matches.get_str("dir")?,
-        away: away_in(matches, "bind")?,
+        folder: word(matches, "dir"),
+        away: away_in(matches, "bind", matches.get_str("key"))?,
     })
 }
 
 /// The number that a schedule begins at, and how many events it has.
-pub fn fuzz_plan(matches: &ArgMatches<'_>) -> Option<(u64, u32)> {
-    let start = read_number(word(matches, "start")?, u64::MAX)?;
-    let events = read_number(word(matches, "events")?, MAX_EVENTS)?;
-    Some((start, events as u32))
+pub fn fuzz_plan<'a>(matches: &ArgMatches<'a>) -> Result<(u64, u32), Misread<'a>> {
+    let start = number_in(matches, "start", u64::MAX)?;
+    let events = number_in(matches, "events", MAX_EVENTS)?;
+    Ok((start, events as u32))
 }
 
-/// The client that a word names.
-pub fn client_of(word: &[u8]) -> Option<ClientNo> {
-    let number = read_number(word, u64::from(MAX_CLIENT))?;
-    ClientNo::of(number as u16)
+/// The client.
+pub fn client_in<'a>(matches: &ArgMatches<'a>) -> Result<ClientNo, Misread<'a>> {
+    let number = number_in(matches, "client", u64::from(MAX_CLIENT))?;
+    match ClientNo::of(number as u16) {
+        Some(client) => Ok(client),
+        None => Err(misread(matches, "client")),
+    }
 }
 
 /// The file of the masters, and the client whose key `locks client-key` is to print.
-pub fn client_key_plan<'a>(matches: &ArgMatches<'a>) -> Option<(&'a str, ClientNo)> {
-    let client = client_of(word(matches, "client")?)?;
-    Some((matches.get_str("master")?, client))
+pub fn client_key_plan<'a>(matches: &ArgMatches<'a>) -> Result<(&'a str, ClientNo), Misread<'a>> {
+    Ok((word(matches, "master"), client_in(matches)?))
+}
+
+/// The number of the request.
+fn request_in<'a>(matches: &ArgMatches<'a>) -> Result<RequestNumber, Misread<'a>> {
+    let number = number_in(matches, "request", MAX_COUNT)?;
+    match RequestNumber::of(number) {
+        Some(number) => Ok(number),
+        None => Err(misread(matches, "request")),
+    }
 }
 
 /// The question of an operation that `locks ask` is to put.
-fn question_of(matches: &ArgMatches<'_>, op: Op) -> Option<Question> {
-    let cluster = read_number(word(matches, "cluster")?, u64::MAX)?;
-    let port = port_of(word(matches, "port")?)?;
-    let client = client_of(word(matches, "client")?)?;
-    let number = RequestNumber::of(read_number(word(matches, "request")?, MAX_COUNT)?)?;
-    Some(Question {
+fn question_of<'a>(matches: &ArgMatches<'a>, op: Op) -> Result<Question, Misread<'a>> {
+    let cluster = number_in(matches, "cluster", u64::MAX)?;
+    let port = port_in(matches)?;
+    let client = client_in(matches)?;
+    let number = request_in(matches)?;
+    Ok(Question {
         cluster,
         port,
         request: Request { client, number, op },
@@ -108,10 +166,48 @@ fn question_of(matches: &ArgMatches<'_>, op: Op) -> Option<Question> {
 }
 
 /// What `locks ask` is to ask. It refuses where memory was refused.
-pub fn ask_plan(alloc: Global, matches: &ArgMatches<'_>) -> Result<Option<Question>, AllocError> {
+pub fn ask_plan<'a>(
+    alloc: Global,
+    matches: &ArgMatches<'a>,
+) -> Result<Result<Question, Misread<'a>>, AllocError> {
     let words = matches.get_strs("op").unwrap_or(&[]);
     match operation_of(alloc, words)? {
         Some(op) => Ok(question_of(matches, op)),
-        None => Ok(None),
+        None => Ok(Err(misread_operation(words))),
     }
+}
+
+/// How often each port is asked, where there are several.
+const ROUNDS: u32 = 3;
+
+/// Adds the ports of these words to those that are asked in turn.
+fn add_ports<'a>(
+    words: &[&'a str],
+    turns: &mut Vec<Port>,
+) -> Result<Result<(), Misread<'a>>, AllocError> {
+    for word in words {
+        match read_port(word) {
+            Ok(port) => turns.push(port)?,
+            Err(misread) => return Ok(Err(misread)),
+        }
+    }
+    Ok(Ok(()))
+}
+
+/// The ports that `locks ask` asks in turn, three times each; none where one alone is named.
+pub fn turns_of<'a>(
+    alloc: Global,
+    matches: &ArgMatches<'a>,
+) -> Result<Result<Vec<Port>, Misread<'a>>, AllocError> {
+    let words = matches.get_strs("port").unwrap_or(&[]);
+    let mut turns = Vec::new(alloc);
+    if words.len() < 2 {
+        return Ok(Ok(turns));
+    }
+    for _ in 0..ROUNDS {
+        if let Err(misread) = add_ports(words, &mut turns)? {
+            return Ok(Err(misread));
+        }
+    }
+    Ok(Ok(turns))
 }

@@ -1,8 +1,8 @@
 //! What the words of `locks status` ask for.
 
-use crate::plans::{client_of, word};
+use crate::misread::{Misread, misread, misread_word};
+use crate::plans::{client_in, number_in};
 use clap::ArgMatches;
-use lk_server::fault::ServiceFault;
 use lk_service::far::Far;
 use lk_status::status::{Form, Plan};
 use lk_status::target::{Inquiry, MAX_TARGETS, Target};
@@ -10,7 +10,7 @@ use lk_types::ClientNo;
 use lk_words::member::member_of;
 use lk_words::number::read_number;
 use lk_words::operation::port_of;
-use std::alloc::Global;
+use std::alloc::{AllocError, Global};
 
 /// The milliseconds of a receive, and the most that are waited in all.
 const A_RECEIVE: u64 = 100;
@@ -38,89 +38,84 @@ fn target_of(word: &[u8]) -> Option<Target> {
 }
 
 /// The places that are asked.
-fn targets_in(
+fn targets_in<'a>(
     alloc: Global,
-    matches: &ArgMatches<'_>,
-) -> Result<Option<Vec<Target>>, ServiceFault> {
+    matches: &ArgMatches<'a>,
+) -> Result<Result<Vec<Target>, Misread<'a>>, AllocError> {
     let words = matches.get_strs("port").unwrap_or(&[]);
-    if words.len() > MAX_TARGETS {
-        return Ok(None);
-    }
     let mut targets = Vec::new(alloc);
     for word in words {
         match target_of(word.as_bytes()) {
-            Some(target) => targets.push(target)?,
-            None => return Ok(None),
+            Some(target) if targets.len() < MAX_TARGETS => targets.push(target)?,
+            _ => return Ok(Err(misread_word("port", word))),
         }
     }
-    Ok(Some(targets))
+    Ok(Ok(targets))
 }
 
 /// How many receives may bring nothing.
-fn patience_in(matches: &ArgMatches<'_>) -> Option<u32> {
-    match word(matches, "wait") {
-        Some(word) => {
-            let wait = read_number(word, MOST_WAIT)?;
-            Some(wait.div_ceil(A_RECEIVE).max(1) as u32)
+fn patience_in<'a>(matches: &ArgMatches<'a>) -> Result<u32, Misread<'a>> {
+    if matches.get_str("wait").is_none() {
+        return Ok(PATIENCE);
+    }
+    let wait = number_in(matches, "wait", MOST_WAIT)?;
+    Ok(wait.div_ceil(A_RECEIVE).max(1) as u32)
+}
+
+/// The seconds in the words after `--until`: `ready SECONDS`.
+fn seconds_of(words: &[&str]) -> Option<u32> {
+    match words {
+        ["ready", seconds] => {
+            let seconds = read_number(seconds.as_bytes(), MOST_SECONDS)?;
+            (seconds > 0).then_some(seconds as u32)
         }
-        None => Some(PATIENCE),
+        _ => None,
     }
 }
 
 /// The seconds until all are ready, 0 where that is not waited for.
-fn seconds_in(matches: &ArgMatches<'_>) -> Option<u32> {
-    match matches.get_strs("until") {
-        Some(words) if words.len() == 2 && words[0] == "ready" => {
-            let seconds = read_number(words[1].as_bytes(), MOST_SECONDS)?;
-            (seconds > 0).then_some(seconds as u32)
-        }
-        Some(_) => None,
-        None => Some(0),
+fn seconds_in<'a>(matches: &ArgMatches<'a>) -> Result<u32, Misread<'a>> {
+    let Some(words) = matches.get_strs("until") else {
+        return Ok(0);
+    };
+    match seconds_of(words) {
+        Some(seconds) => Ok(seconds),
+        None => Err(misread_word("until", words.last().copied().unwrap_or(""))),
     }
 }
 
 /// How the reports are printed.
-fn form_in(matches: &ArgMatches<'_>) -> Option<Form> {
+fn form_in<'a>(matches: &ArgMatches<'a>) -> Result<Form, Misread<'a>> {
     match (matches.get_flag("json"), matches.get_flag("prometheus")) {
-        (false, false) => Some(Form::Lines),
-        (true, false) => Some(Form::Json),
-        (false, true) => Some(Form::Prometheus),
-        (true, true) => None,
+        (false, false) => Ok(Form::Lines),
+        (true, false) => Ok(Form::Json),
+        (false, true) => Ok(Form::Prometheus),
+        (true, true) => Err(misread_word("prometheus", "--json")),
     }
 }
 
-/// Whether the client is told whose key is given, and is one.
-fn is_client(matches: &ArgMatches<'_>) -> bool {
-    match word(matches, "client") {
-        Some(word) => client_of(word).is_some(),
-        None => matches.get_str("client-key").is_none(),
-    }
-}
-
-/// The client whose key is given.
-fn client_in(matches: &ArgMatches<'_>) -> Option<ClientNo> {
-    match word(matches, "client") {
-        Some(word) => client_of(word),
-        None => None,
+/// The client whose key is given, which has to be named then.
+fn asker_in<'a>(matches: &ArgMatches<'a>) -> Result<Option<ClientNo>, Misread<'a>> {
+    match (matches.get_str("client"), matches.get_str("client-key")) {
+        (None, None) => Ok(None),
+        (Some(_), _) => Ok(Some(client_in(matches)?)),
+        (None, Some(_)) => Err(misread(matches, "client")),
     }
 }
 
 /// What `locks status` is to ask of these places.
-fn plan_of(matches: &ArgMatches<'_>, targets: Vec<Target>) -> Option<Plan> {
-    let cluster = read_number(word(matches, "cluster")?, u64::MAX)?;
+fn plan_of<'a>(matches: &ArgMatches<'a>, targets: Vec<Target>) -> Result<Plan, Misread<'a>> {
+    let cluster = number_in(matches, "cluster", u64::MAX)?;
     let (patience, seconds) = (patience_in(matches)?, seconds_in(matches)?);
-    let form = form_in(matches)?;
-    if !is_client(matches) {
-        return None;
-    }
+    let (form, client) = (form_in(matches)?, asker_in(matches)?);
     let inquiry = Inquiry {
         cluster,
-        client: client_in(matches),
+        client,
         far: Far::local(cluster),
         targets,
         patience,
     };
-    Some(Plan {
+    Ok(Plan {
         inquiry,
         form,
         seconds,
@@ -128,9 +123,12 @@ fn plan_of(matches: &ArgMatches<'_>, targets: Vec<Target>) -> Option<Plan> {
 }
 
 /// What `locks status` is to ask. It refuses where memory was refused.
-pub fn status_plan(alloc: Global, matches: &ArgMatches<'_>) -> Result<Option<Plan>, ServiceFault> {
+pub fn status_plan<'a>(
+    alloc: Global,
+    matches: &ArgMatches<'a>,
+) -> Result<Result<Plan, Misread<'a>>, AllocError> {
     match targets_in(alloc, matches)? {
-        Some(targets) => Ok(plan_of(matches, targets)),
-        None => Ok(None),
+        Ok(targets) => Ok(plan_of(matches, targets)),
+        Err(misread) => Ok(Err(misread)),
     }
 }

@@ -3,12 +3,15 @@
 ghost use Rattle.std.specs.Prelude.{◌≤◌};
 
 use crate::commands::program;
-use crate::plans::{ask_away, ask_plan, client_key_plan, fuzz_plan, node_plan};
+use crate::misread::Misread;
+use crate::plans::{ask_away, ask_plan, client_key_plan, fuzz_plan, node_plan, turns_of};
 use crate::status_words::status_plan;
 use crate::subcommand::Subcommand;
+use crate::wants::warn_of_name;
 use clap::error::ErrorKind;
 use clap::{ArgMatches, Error};
 use lk_disk::MemoryDisk;
+use lk_events::line::{Events, Observer, Unobserved};
 use lk_fuzz::fuzzing::run_fuzz;
 use lk_inspect::inspect::inspect;
 use lk_locks::LockTable;
@@ -38,10 +41,11 @@ use std::time::Clock;
 /// The nodes of world mode.
 type Nodes = Replica<LockTable, MemoryDisk>;
 
-/// Tells that words of a subcommand are not understood. The status is 2.
-fn refuse_words<E: Write>(err: &mut E) -> u8
+/// Tells which word of a subcommand is not understood, and what is wrong with it. The status is 2.
+fn refuse_words<E: Write>(misread: &Misread<'_>, err: &mut E) -> u8
     ensures { result ≤ 2 }
 {
+    let _ = writeln!(err, "{misread}");
     let _ = writeln!(err, "error: the words are not understood");
     2
 }
@@ -60,25 +64,45 @@ fn folder_in<'a>(matches: &ArgMatches<'a>) -> &'a str {
 }
 
 /// Runs a node on the files of its folder and a socket of the system.
-fn run_plan<R: Files<File = File> + Net + Clock, L: Log, E: Write>(
+fn run_plan<R: Files<File = File> + Net + Clock, L: Log, O: Observer, E: Write>(
     rt: &R,
     alloc: Global,
     plan: &NodePlan<'_>,
     log: &L,
+    observer: &mut O,
     err: &mut E,
 ) -> u8
     ensures { result ≤ 2 }
 {
     match open_resources(rt, alloc, plan, err) {
-        Ok((resources, _lock)) => run_node::<LockTable, _, _, _, _, _>(
-            rt, alloc, plan, resources, log, err,
+        Ok((resources, _lock)) => run_node::<LockTable, _, _, _, _, _, _>(
+            rt, alloc, plan, resources, log, observer, err,
         ),
         Err(fault) => fault.tell(err),
     }
 }
 
+/// The same, and tells its events where that is asked for.
+fn run_observed<R: Files<File = File> + Net + Eprint + Clock, L: Log, E: Write>(
+    rt: &R,
+    alloc: Global,
+    plan: &NodePlan<'_>,
+    tells_events: bool,
+    log: &L,
+    err: &mut E,
+) -> u8
+    ensures { result ≤ 2 }
+{
+    if !tells_events {
+        return run_plan(rt, alloc, plan, log, &mut Unobserved, err);
+    }
+    let told = Logged::new(rt, Level::Info, Console(rt));
+    let mut events = Events::new(rt, told, plan.header.node());
+    run_plan(rt, alloc, plan, log, &mut events, err)
+}
+
 /// Runs a node.
-fn run_node_words<R: Files<File = File> + Net + Clock + Eprint, E: Write>(
+fn run_node_words<R: Files<File = File> + Net + Eprint + Clock, E: Write>(
     rt: &R,
     alloc: Global,
     matches: &ArgMatches<'_>,
@@ -86,12 +110,17 @@ fn run_node_words<R: Files<File = File> + Net + Clock + Eprint, E: Write>(
 ) -> u8
     ensures { result ≤ 2 }
 {
-    let Some(plan) = node_plan(matches) else {
-        return refuse_words(err);
+    let plan = match node_plan(matches) {
+        Ok(plan) => plan,
+        Err(misread) => return refuse_words(&misread, err),
     };
+    let events = matches.get_flag("events");
     match level_of(matches) {
-        None => run_plan(rt, alloc, &plan, &Discard, err),
-        Some(level) => run_plan(rt, alloc, &plan, &Logged::new(rt, level, Console(rt)), err),
+        None => run_observed(rt, alloc, &plan, events, &Discard, err),
+        Some(level) => {
+            let log = Logged::new(rt, level, Console(rt));
+            run_observed(rt, alloc, &plan, events, &log, err)
+        }
     }
 }
 
@@ -115,19 +144,26 @@ fn ask_words<R: Files<File = File> + Net, W: Write, E: Write>(
     ensures { result ≤ 2 }
 {
     let mut question = match ask_plan(alloc, matches) {
-        Ok(Some(question)) => question,
-        Ok(None) => return refuse_words(err),
+        Ok(Ok(question)) => question,
+        Ok(Err(misread)) => return refuse_words(&misread, err),
         Err(_) => return ServiceFault::NoMemory.tell(err),
     };
-    let Some(away) = ask_away(matches) else {
-        return refuse_words(err);
+    let turns = match turns_of(alloc, matches) {
+        Ok(Ok(turns)) => turns,
+        Ok(Err(misread)) => return refuse_words(&misread, err),
+        Err(_) => return ServiceFault::NoMemory.tell(err),
     };
+    let away = match ask_away(matches) {
+        Ok(away) => away,
+        Err(misread) => return refuse_words(&misread, err),
+    };
+    warn_of_name(matches.get_strs("op").unwrap_or(&[]), err);
     question.far = match far_of(rt, alloc, question.cluster, &away, err) {
         Ok(far) => far,
         Err(fault) => return fault.tell(err),
     };
     match open_socket_at(rt, SocketAddr::from((own_address(&away), 0)), err) {
-        Ok(mut socket) => ask(alloc, &mut socket, &question, out, err),
+        Ok(mut socket) => ask(alloc, &mut socket, &question, &turns, out, err),
         Err(fault) => fault.tell(err),
     }
 }
@@ -143,12 +179,13 @@ fn status_words<R: Files<File = File> + Net, W: Write, E: Write>(
     ensures { result ≤ 2 }
 {
     let mut plan = match status_plan(alloc, matches) {
-        Ok(Some(plan)) => plan,
-        Ok(None) => return refuse_words(err),
-        Err(fault) => return fault.tell(err),
+        Ok(Ok(plan)) => plan,
+        Ok(Err(misread)) => return refuse_words(&misread, err),
+        Err(_) => return ServiceFault::NoMemory.tell(err),
     };
-    let Some(away) = ask_away(matches) else {
-        return refuse_words(err);
+    let away = match ask_away(matches) {
+        Ok(away) => away,
+        Err(misread) => return refuse_words(&misread, err),
     };
     plan.inquiry.far = match far_of(rt, alloc, plan.inquiry.cluster, &away, err) {
         Ok(far) => far,
@@ -171,8 +208,8 @@ fn client_key_words<R: Files<File = File>, W: Write, E: Write>(
     ensures { result ≤ 2 }
 {
     match client_key_plan(matches) {
-        Some((master, client)) => client_key(rt, alloc, master, client, out, err),
-        None => refuse_words(err),
+        Ok((master, client)) => client_key(rt, alloc, master, client, out, err),
+        Err(misread) => refuse_words(&misread, err),
     }
 }
 
@@ -186,13 +223,13 @@ fn fuzz_words<W: Write, E: Write>(
     ensures { result ≤ 2 }
 {
     match fuzz_plan(matches) {
-        Some((start, events)) => run_fuzz::<Nodes, W, E>(alloc, start, events, out, err),
-        None => refuse_words(err),
+        Ok((start, events)) => run_fuzz::<Nodes, W, E>(alloc, start, events, out, err),
+        Err(misread) => refuse_words(&misread, err),
     }
 }
 
 /// Runs a subcommand, given its words.
-fn run_subcommand<H: Files<File = File> + Net + Clock + Eprint, R: BufRead, W: Write, E: Write>(
+fn run_subcommand<H: Files<File = File> + Net + Eprint + Clock, R: BufRead, W: Write, E: Write>(
     rt: &H,
     alloc: Global,
     subcommand: Subcommand,
@@ -217,7 +254,7 @@ fn run_subcommand<H: Files<File = File> + Net + Clock + Eprint, R: BufRead, W: W
 }
 
 /// Runs the subcommand that was named.
-fn run_matches<H: Files<File = File> + Net + Clock + Eprint, R: BufRead, W: Write, E: Write>(
+fn run_matches<H: Files<File = File> + Net + Eprint + Clock, R: BufRead, W: Write, E: Write>(
     rt: &H,
     alloc: Global,
     matches: &ArgMatches<'_>,
@@ -259,7 +296,7 @@ fn refuse<W: Write, E: Write>(error: &Error, out: &mut W, err: &mut E) -> u8
 
 /// Reads the command line, whose first word is the program's name, and runs it. The status is 0, 1 where a fault was told
 /// in the last line of standard error, where nothing answered and where no store stands, or 2 where the line is none.
-pub fn run_words<'a, H: Files<File = File> + Net + Clock + Eprint, R: BufRead, W: Write, E: Write>(
+pub fn run_words<'a, H: Files<File = File> + Net + Eprint + Clock, R: BufRead, W: Write, E: Write>(
     rt: &H,
     alloc: Global,
     words: &'a [&'a str],

@@ -85,7 +85,7 @@ impl<M: Machine> Node<M> {
     }
 
     /// The roster that stands once all executed commands are run.
-    pub(crate) fn roster(&self) -> &Roster
+    pub fn roster(&self) -> &Roster
         ensures { result.now ≡ self.now.learner.whole.roster }
     {
         self.learner.whole().roster()

@@ -1,6 +1,7 @@
 // What a node shows of itself to whoever runs it.
-ghost use Rattle.std.specs.Prelude.{◌≡◌};
+ghost use Rattle.std.specs.Prelude.{◌≡◌, ◌↔◌, IsTrue, length};
 ghost use Rattle.std.specs.Option.{option_map};
+ghost use Rattle.lk_leader.specs.Proposing.{Leads};
 
 use crate::node::Node;
 use lk_state::Machine;
@@ -35,10 +36,31 @@ impl<M: Machine> Node<M> {
         self.leader.ballot()
     }
 
+    /// Whether it leads: a majority of the members of the next position has promised its term.
+    pub fn leads(&self) -> bool
+        ensures { IsTrue result ↔ Leads self.now.leader self.now.learner.whole.roster }
+    {
+        self.leader.is_elected(self.roster())
+    }
+
     /// The node that it takes for the leader.
     pub fn known(&self) -> Option<NodeNo>
         ensures { result ≡ self.now.known }
     {
         self.known
+    }
+
+    /// How many ticks have passed since it heard of a leader: 28 at most, where the count stays.
+    pub fn ticks(&self) -> u8
+        ensures { result ≡ self.now.ticks }
+    {
+        self.ticks.get()
+    }
+
+    /// How many requests wait to be proposed.
+    pub fn waiting(&self) -> usize
+        ensures { result ≡ length self.now.leader.waiting }
+    {
+        self.leader.waiting()
     }
 }

@@ -125,6 +125,13 @@ impl<M: Machine, D: LogDisk + Drop> Replica<M, D> {
         self.store.generation()
     }
 
+    /// The format of its store, 1 or 2.
+    pub fn format(&self) -> u8
+        ensures { result ≡ self.now.store.format }
+    {
+        self.store.format()
+    }
+
     /// The device.
     pub fn device(&self) -> &D
         ensures disks { (s : Side) → D.disk result.now s ≡ disks self.now.store s }

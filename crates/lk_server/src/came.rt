@@ -53,6 +53,14 @@ impl Came {
         }
     }
 
+    /// The node that said it, if one did.
+    pub fn node(&self) -> Option<NodeNo> {
+        match self {
+            Came::Want(node) | Came::Said(_, node) => Some(*node),
+            Came::Tick | Came::Bad | Came::Foreign | Came::Request(_) => None,
+        }
+    }
+
     /// What a node says.
     pub fn said(node: NodeNo, message: &NodeMessageRef<'_>) -> Came {
         match message {

@@ -91,7 +91,9 @@ impl<R: NodeReplica, S: Datagrams + Drop> Server<R, S> {
         let before = self.replica.sight();
         let said = group.letters().len();
         let gathered = self.replica.gather(input, group);
-        log_changes(log, came, &before, &self.replica.sight());
+        let after = self.replica.sight();
+        self.happened.note(came, &before, &after);
+        log_changes(log, came, &before, &after);
         log_served(log, came, group.letters().len().saturating_sub(said));
         match gathered {
             Ok(()) => Ok(()),

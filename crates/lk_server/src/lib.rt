@@ -7,6 +7,7 @@ pub mod came;
 pub mod ear;
 pub mod fault;
 mod gathering;
+pub mod happened;
 mod hearing;
 pub mod hosts;
 pub mod laws;

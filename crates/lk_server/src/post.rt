@@ -2,7 +2,7 @@
 
 ghost use Rattle.std.specs.Prelude.{◌≡◌, ◌≢◌, ◌↔◌, ◌++◌, ◌∷◌, ℕ, [], Some, None, true, false, is_ok, OnOk, OnErr, IfOk, IsErr, IfSome, IsNone};
 ghost use Rattle.lk_types.specs.Ranges.{IsClient};
-ghost use Rattle.lk_disk.specs.Disk.{HasCause};
+ghost use Rattle.lk_disk.specs.Disk.{HasCause, one_more};
 ghost use Rattle.lk_server.specs.Addresses.{client_at, node_at, IsSameOutside};
 ghost use Rattle.lk_server.specs.Hearing.{listed};
 ghost use Rattle.lk_server.specs.Posts.{IsRoute, IsBoundFor, Becomes, Hears, tray_of, taken_as, all_taken_as, frame_of, keys_for};
@@ -47,6 +47,8 @@ pub struct SocketPost<S: Datagrams + Drop> {
     failures: u64,
     // the last node to which a Want was sent in it
     wanted: Option<NodeNo>,
+    // the last node to which a send failed in it
+    unsent: Option<NodeNo>,
 }
 
 /// What became of the letters of a group, for the log.
@@ -56,6 +58,17 @@ pub struct Carried {
     pub lost: u64,
     /// The last node to which a Want was sent.
     pub wanted: Option<NodeNo>,
+    /// The last node to which a send failed.
+    pub unsent: Option<NodeNo>,
+}
+
+impl Carried {
+    /// Nothing was sent.
+    pub const NOTHING: Carried = Carried {
+        lost: 0,
+        wanted: None,
+        unsent: None,
+    };
 }
 
 impl<S: Datagrams + Drop> Model for SocketPost<S> {
@@ -119,6 +132,7 @@ impl<S: Datagrams + Drop> SocketPost<S> {
             own: VecDeque::new(alloc),
             failures: 0,
             wanted: None,
+            unsent: None,
         }
     }
 
@@ -193,6 +207,7 @@ impl<S: Datagrams + Drop> SocketPost<S> {
     {
         self.failures = 0;
         self.wanted = None;
+        self.unsent = None;
     }
 
     /// What became of what it was given in this group.
@@ -202,6 +217,7 @@ impl<S: Datagrams + Drop> SocketPost<S> {
         Carried {
             lost: self.failures,
             wanted: self.wanted,
+            unsent: self.unsent,
         }
     }
 
@@ -212,6 +228,16 @@ impl<S: Datagrams + Drop> SocketPost<S> {
         match to {
             To::Node(node, _) if bytes.get(KIND) == Some(&WANT) => self.wanted = Some(*node),
             _ => {}
+        }
+    }
+
+    // Counts one that could not be sent.
+    fn lose(&mut self, to: &To)
+        ensures { self.new ≡ record self.old { failures = one_more self.old.failures } }
+    {
+        self.failures = self.failures.saturating_add(1);
+        if let To::Node(node, _) = to {
+            self.unsent = Some(*node);
         }
     }
 
@@ -257,7 +283,7 @@ impl<S: Datagrams + Drop> SocketPost<S> {
                 Ok(())
             }
             Err(SendFault) => {
-                self.failures = self.failures.saturating_add(1);
+                self.lose(&to);
                 Err(SendFault)
             }
         }

@@ -11,6 +11,7 @@ ghost use Rattle.lk_server.specs.Servers.{HandsOn, HandsNothing, IsSameServer, L
 
 use crate::ear::Ear;
 use crate::fault::ServiceFault;
+use crate::happened::Happened;
 use crate::metronome::Metronome;
 use crate::node_replica::NodeReplica;
 use crate::notes::log_notes;
@@ -40,6 +41,8 @@ pub struct Server<R: NodeReplica, S: Datagrams + Drop> {
     pub(crate) received: u64,
     // those of them that say nothing to it
     pub(crate) strangers: Strangers,
+    // what has happened since that was asked
+    pub(crate) happened: Happened,
 }
 
 impl<R: NodeReplica, S: Datagrams + Drop> Model for Server<R, S> {
@@ -81,6 +84,7 @@ impl<R: NodeReplica, S: Datagrams + Drop> Server<R, S> {
             post: SocketPost::new(alloc, node, outside, socket),
             received: 0,
             strangers: Strangers::new(),
+            happened: Happened::NOTHING,
         }
     }
 
@@ -98,6 +102,15 @@ impl<R: NodeReplica, S: Datagrams + Drop> Server<R, S> {
         self.post.socket_mut()
     }
 
+    /// What has happened since this was asked.
+    pub fn take_happened(&mut self) -> Happened
+        ensures { self.new ≡ self.old }
+    {
+        let happened = self.happened;
+        self.happened = Happened::NOTHING;
+        happened
+    }
+
     /// The replica, as the server leaves it.
     pub fn into_replica(self) -> R
         ensures { result ≡ self.replica }
@@ -110,6 +123,7 @@ impl<R: NodeReplica, S: Datagrams + Drop> Server<R, S> {
             post: _,
             received: _,
             strangers: _,
+            happened: _,
         } = self;
         replica
     }
@@ -134,7 +148,8 @@ impl<R: NodeReplica, S: Datagrams + Drop> Server<R, S> {
     {
         self.post.begin();
         let released = self.replica.release(group, &mut self.post);
-        log_carried(log, &self.post.carried(), self.post.cause());
+        self.happened.carried = self.post.carried();
+        log_carried(log, &self.happened.carried, self.post.cause());
         released
     }
 

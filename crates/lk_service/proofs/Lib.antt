@@ -2,4 +2,5 @@ mod Chaining
 mod Receiving
 mod Replying
 mod Sending
+mod Trying
 mod Turning

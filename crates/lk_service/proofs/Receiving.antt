@@ -3,7 +3,7 @@ use Rattle.std.proofs.Common.{◌≡◌, ◌+◌, ◌<◌, List, ℕ, true, fals
 use Rattle.std.specs.Prelude.{is_some}
 use Rattle.std.specs.declared.net.socket_addr.SocketAddr.{SocketAddr}
 use Rattle.lk_service.specs.Chains.{Repeats}
-use Rattle.lk_service.specs.Questions.{Asker, Receives, Waits}
+use Rattle.lk_service.specs.Questions.{Asker, Receives, WaitsFor}
 use Rattle.lk_service.specs.declared.question.Question.{Question}
 use Rattle.lk_service.specs.declared.reply.Reply.{Reply}
 use Rattle.lk_service.proofs.Chaining.{repeats_more, repeats_as}
@@ -21,11 +21,11 @@ module _ {S : Type 0} {sent : S → List (SocketAddr × List ℕ)} {failures : S
   receives_more (Some reply) none same passed more = absurd (cc none)
 
   -- one that told something
-  pub receives_told : {said : List ℕ} {count : ℕ} {old mid new : Asker S} (told : Option Reply) → is_some told ≡ true → said ≡ bytes → count < 50
-      → Repeats (Receives sent failures next q bytes None) count old mid → Receives sent failures next q said told mid new → Waits sent failures next q bytes told old new
+  pub receives_told : {said : List ℕ} {most count : ℕ} {old mid new : Asker S} (told : Option Reply) → is_some told ≡ true → said ≡ bytes → count < most
+      → Repeats (Receives sent failures next q bytes None) count old mid → Receives sent failures next q said told mid new → WaitsFor sent failures next q most bytes told old new
   receives_told None some same fewer passed more = absurd (cc some)
   receives_told {count = count} {mid = mid} (Some reply) some same fewer passed more = (count, fewer, mid, passed, by_bytes same more)
 
   -- all of them told nothing
-  pub receives_none : {count : ℕ} {old new : Asker S} → count ≡ 50 → Repeats (Receives sent failures next q bytes None) count old new → Waits sent failures next q bytes None old new
+  pub receives_none : {most count : ℕ} {old new : Asker S} → count ≡ most → Repeats (Receives sent failures next q bytes None) count old new → WaitsFor sent failures next q most bytes None old new
   receives_none all passed = repeats_as {R = Receives sent failures next q bytes None} all passed

@@ -1,6 +1,6 @@
 -- What a client asks, what it hears, and what it sends by that.
 use Rattle.std.specs.Net.Socket.{socket_ip, socket_port}
-use Rattle.std.specs.Prelude.{◌≡◌, ◌⊎◌, ◌+◌, ◌<◌, ℕ, nat_lt, Bool, true, false, Option, Some, None, List, [], ◌∷◌, ◌++◌, length, if◌then◌else◌}
+use Rattle.std.specs.Prelude.{◌≡◌, ◌⊎◌, ◌+◌, ◌<◌, ℕ, nat_lt, Bool, true, false, Option, Some, None, List, [], ◌∷◌, ◌++◌, length, take, slice_get, if◌then◌else◌}
 use Rattle.std.specs.declared.net.ip_addr.IpAddr.{IpAddr}
 use Rattle.std.specs.declared.net.socket_addr.SocketAddr.{SocketAddr}
 use Rattle.lk_types.specs.declared.member.Member.{Member}
@@ -109,11 +109,14 @@ module _ {S : Type 0} (sent : S → List (SocketAddr × List ℕ)) (failures : S
     pub follows : new.followed ≡ old.followed + length (followed_to q.far heard old.followed)
     pub sends : SendsEach (followed_to q.far heard old.followed) bytes (sent old.socket) (failures old.socket) (sent new.socket) (failures new.socket)
 
-  -- it was told this after fewer than 50 receives that told nothing, or 50 have told nothing
+  -- it was told this after fewer than so many receives that told nothing, or so many have told nothing
+  abbrev pub WaitsFor : ℕ → List ℕ → Option ReplyValue → Asker S → Asker S → Type 0
+  WaitsFor most bytes None old new = Repeats (Receives bytes None) most old new
+  WaitsFor most bytes (Some reply) old new =
+      (count : ℕ) × (count < most) × (last : Asker S) × Repeats (Receives bytes None) count old last × Receives bytes (Some reply) last new
+
   abbrev pub Waits : List ℕ → Option ReplyValue → Asker S → Asker S → Type 0
-  Waits bytes None old new = Repeats (Receives bytes None) 50 old new
-  Waits bytes (Some reply) old new =
-      (count : ℕ) × (count < 50) × (last : Asker S) × Repeats (Receives bytes None) count old last × Receives bytes (Some reply) last new
+  Waits = WaitsFor 50
 
   -- the bytes of the question went to its first place, and then it waited
   pub record Exchanges (told : Option ReplyValue) (old new : S) : Type 0 where
@@ -124,7 +127,39 @@ module _ {S : Type 0} (sent : S → List (SocketAddr × List ℕ)) (failures : S
     pub followed : ℕ
     pub waits : Waits bytes told (record { socket = begun; followed = 0 }) (record { socket = new; followed = followed })
 
+  -- ---- several ports
+
+  -- the bytes went to the port of the question's address, and then it waited for 5 receives
+  pub record Tries (port : ℕ) (bytes : List ℕ) (told : Option ReplyValue) (old new : Asker S) : Type 0 where
+    pub begun : S
+    pub asks : SendsOnce (q.far.address, port) bytes (sent old.socket) (failures old.socket) (sent begun) (failures begun)
+    pub waits : WaitsFor 5 bytes told (record { socket = begun; followed = old.followed }) new
+
+  -- so with each of these ports in turn, and none told anything
+  abbrev pub TriesInVain : List ℕ → List ℕ → Asker S → Asker S → Type 0
+  TriesInVain [] bytes old new = new ≡ old
+  TriesInVain (port ∷ ports) bytes old new = (mid : Asker S) × Tries port bytes None old mid × TriesInVain ports bytes mid new
+
+  -- so with all of them, or with each in turn until it was told this
+  abbrev pub TriesUntil : List ℕ → List ℕ → Option ReplyValue → Asker S → Asker S → Type 0
+  TriesUntil ports bytes None old new = TriesInVain ports bytes old new
+  TriesUntil ports bytes (Some reply) old new =
+      (count : ℕ) × (port : ℕ) × (slice_get ports count ≡ Some port) × (last : Asker S) × TriesInVain (take count ports) bytes old last
+      × Tries port bytes (Some reply) last new
+
+  -- the bytes of the question went to these ports, one after another, until it was told something
+  pub record ExchangesInTurn (turns : List ℕ) (told : Option ReplyValue) (old new : S) : Type 0 where
+    pub bytes : List ℕ
+    pub spelled : IsAsked q bytes
+    pub followed : ℕ
+    pub tries : TriesUntil turns bytes told (record { socket = old; followed = 0 }) (record { socket = new; followed = followed })
+
+  -- so to the question's own port alone where there are no others
+  abbrev pub Asks : List ℕ → Option ReplyValue → S → S → Type 0
+  Asks [] told old new = Exchanges told old new
+  Asks (port ∷ ports) told old new = ExchangesInTurn (port ∷ ports) told old new
+
   -- it has asked, and was told what becomes of the request, or has waited in vain
-  abbrev pub Comes : Bool → S → S → Type 0
-  Comes true old new = (reply : ReplyValue) × Exchanges (Some reply) old new
-  Comes false old new = Exchanges None old new
+  abbrev pub Comes : List ℕ → Bool → S → S → Type 0
+  Comes turns true old new = (reply : ReplyValue) × Asks turns (Some reply) old new
+  Comes turns false old new = Asks turns None old new

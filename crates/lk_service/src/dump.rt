@@ -3,8 +3,8 @@
 ghost use Rattle.std.specs.Prelude.{◌≡◌, ◌≤◌};
 ghost use Rattle.lk_disk.specs.declared.device.Side.{Side};
 
-use crate::causes::tell_device;
 use crate::folder::look_at_device;
+use crate::refusals::tell_refusal;
 use lk_disk::LogDisk;
 use lk_log::{LiveFile, look};
 use lk_server::fault::ServiceFault;
@@ -80,7 +80,7 @@ fn dump_folder<R: Files, W: Write, E: Write>(
     let mut device = look_at_device(rt, alloc, folder, err)?;
     match dump_device(alloc, &mut device, out) {
         Ok(is_store) => Ok(is_store),
-        Err(fault) => Err(tell_device(fault, &device, folder, err)),
+        Err(fault) => Err(tell_refusal(alloc, fault, &mut device, folder, err)),
     }
 }
 

@@ -3,7 +3,7 @@
 ghost use Rattle.std.specs.Prelude.{◌≡◌, ◌≤◌, ◌⊎◌, ◌↔◌, ◌∷◌, ℕ, true, List, Some, IfOk, OnOk, IfErr, OnErr, IfSome, IsSomeAnd, length};
 ghost use Rattle.lk_wire.specs.Grammar.{Spells};
 ghost use Rattle.lk_server.specs.Hearing.{next_of};
-ghost use Rattle.lk_service.specs.Questions.{asking, first_place, IsAsked, Place, Hears, SendsOnce, SendsEach, Receives, Exchanges, Comes, IsTold};
+ghost use Rattle.lk_service.specs.Questions.{asking, first_place, IsAsked, Place, Hears, SendsOnce, SendsEach, Receives, Exchanges, Tries, ExchangesInTurn, Asks, Comes, IsTold};
 ghost use Rattle.lk_service.specs.declared.reply.Reply.{Reply as ReplyValue};
 
 use crate::far::Far;
@@ -21,6 +21,8 @@ use std::net::{IpAddr, SocketAddr};
 
 /// The receives of 100 ms until nothing is waited for any more.
 const RECEIVES: u32 = 50;
+/// So many of them for each port, where there are several.
+const EACH: u32 = 5;
 /// The Elsewhere that are followed.
 const FOLLOWED: u32 = 20;
 
@@ -164,6 +166,75 @@ pub fn exchange<S: Datagrams>(
     Ok(None)
 }
 
+/// Sends the request to a port, and gives what it is replied within 5 receives, or `None`.
+fn ask_port<S: Datagrams>(
+    ear: &mut Ear,
+    socket: &mut S,
+    question: &Question,
+    port: Port,
+    bytes: &[u8],
+    followed: &mut u32,
+) -> Option<Reply>
+    requires { followed.old ≤ 20 }
+    // The bytes go to the port, and of what comes next it hears at most 5, until it is told something.
+    ensures tries { S.is_telling → Tries S.sent S.failures (next_of S.coming) question.now port bytes.now result
+        (record { socket = socket.old; followed = followed.old }) (record { socket = socket.new; followed = followed.new }) }
+    ensures told { IfSome result IsTold }
+    ensures most { followed.new ≤ 20 }
+{
+    send(socket, question.far.address, port, bytes);
+    'receives: for _ in 0..EACH {
+        let reply = take_next(ear, socket, question, bytes, followed);
+        if reply.is_some() {
+            return reply;
+        }
+    }
+    None
+}
+
+/// Sends the request to these ports of its address in turn, to the next where 5 receives bring no reply, and gives what it is
+/// replied, or `None` where none of them brings a reply. The first 20 Elsewhere are followed. What could not be sent is lost.
+pub fn exchange_in_turn<S: Datagrams>(
+    alloc: Global,
+    socket: &mut S,
+    question: &Question,
+    turns: &[Port],
+) -> Result<Option<Reply>, ServiceFault>
+    // The bytes of the question go to each port in turn until it is told something, and further only to the members of Elsewhere that it hears.
+    ensures tries { S.is_telling → IfOk result (λ told. ExchangesInTurn S.sent S.failures (next_of S.coming) question.now turns.now told socket.old socket.new) }
+    ensures told { IfOk result (λ reply. IfSome reply IsTold) }
+    ensures unchanged { OnErr result (socket.new ≡ socket.old) }
+    ensures only { IfErr result (λ f. f ≡ ServiceFault.NoMemory) }
+{
+    let bytes = asked(alloc, question)?;
+    let (mut ear, mut followed) = (Ear::new(), 0);
+    'ports: for port in turns {
+        let reply = ask_port(&mut ear, socket, question, *port, &bytes, &mut followed);
+        if reply.is_some() {
+            return Ok(reply);
+        }
+    }
+    Ok(None)
+}
+
+/// Asks the question's port, or these ports in turn where there are some.
+fn exchange_any<S: Datagrams>(
+    alloc: Global,
+    socket: &mut S,
+    question: &Question,
+    turns: &[Port],
+) -> Result<Option<Reply>, ServiceFault>
+    ensures asks { S.is_telling → IfOk result (λ told. Asks S.sent S.failures (next_of S.coming) question.now turns.now told socket.old socket.new) }
+    ensures told { IfOk result (λ reply. IfSome reply IsTold) }
+    ensures unchanged { OnErr result (socket.new ≡ socket.old) }
+    ensures only { IfErr result (λ f. f ≡ ServiceFault.NoMemory) }
+{
+    match turns {
+        [] => exchange(alloc, socket, question),
+        turns => exchange_in_turn(alloc, socket, question, turns),
+    }
+}
+
 /// Writes an answer's text or `passed LAST` in a line. Whether the reply is one of these.
 fn write_told<W: Write>(reply: &Reply, out: &mut W) -> io::Result<bool>
     ensures told { IfOk result (λ is_told. is_told ≡ true ↔ IsTold reply.now) }
@@ -197,33 +268,35 @@ fn ask_and_write<S: Datagrams, W: Write>(
     alloc: Global,
     socket: &mut S,
     question: &Question,
+    turns: &[Port],
     out: &mut W,
 ) -> Result<bool, ServiceFault>
     // It is told exactly where the exchange came to a reply.
-    ensures told { S.is_telling → IfOk result (λ is_told. Comes S.sent S.failures (next_of S.coming) question.now is_told socket.old socket.new) }
+    ensures told { S.is_telling → IfOk result (λ is_told. Comes S.sent S.failures (next_of S.coming) question.now turns.now is_told socket.old socket.new) }
     ensures only { IfErr result (λ f. (f ≡ ServiceFault.NoMemory) ⊎ (f ≡ ServiceFault.Write)) }
 {
-    let reply = exchange(alloc, socket, question)?;
+    let reply = exchange_any(alloc, socket, question, turns)?;
     match (write_reply(reply, out), out.flush()) {
         (Ok(is_told), Ok(())) => Ok(is_told),
         _ => Err(ServiceFault::Write),
     }
 }
 
-/// Asks, and prints what is replied. The status is 0; 1 where nothing was, which is printed as `no answer`, and where a
+/// Asks the question's port, or these ports in turn where there are some, and prints what is replied. The status is 0; 1 where nothing was, which is printed as `no answer`, and where a
 /// fault is told on standard error.
 pub fn ask<S: Datagrams, W: Write, E: Write>(
     alloc: Global,
     socket: &mut S,
     question: &Question,
+    turns: &[Port],
     out: &mut W,
     err: &mut E,
 ) -> u8
     ensures status { result ≤ 1 }
     // Status 0 only where it has asked, and was told what becomes of the request.
-    ensures asked { S.is_telling → result ≡ 0 → (reply : ReplyValue) × Exchanges S.sent S.failures (next_of S.coming) question.now (Some reply) socket.old socket.new }
+    ensures asked { S.is_telling → result ≡ 0 → (reply : ReplyValue) × Asks S.sent S.failures (next_of S.coming) question.now turns.now (Some reply) socket.old socket.new }
 {
-    match ask_and_write(alloc, socket, question, out) {
+    match ask_and_write(alloc, socket, question, turns, out) {
         Ok(true) => 0,
         Ok(false) => 1,
         Err(fault) => fault.tell(err),

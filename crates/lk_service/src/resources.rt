@@ -86,6 +86,38 @@ fn pace_with(seals: &Seals, asked: Pace) -> Pace
     }
 }
 
+/// A further member at the port of this one.
+fn sharer(members: &[Member], member: Member) -> Option<Member> {
+    members
+        .iter()
+        .find(|other| member.node < other.node && other.port == member.port)
+        .copied()
+}
+
+/// The first two members at one port.
+fn at_one_port(members: &[Member]) -> Option<(Member, Member)> {
+    for member in members {
+        if let Some(other) = sharer(members, *member) {
+            return Some((*member, other));
+        }
+    }
+    None
+}
+
+/// Warns where the genesis names two members at one port of this machine.
+fn warn_of_members<E: Write>(plan: &NodePlan<'_>, err: &mut E) {
+    if plan.away.hosts.is_some() {
+        return;
+    }
+    if let Some((one, other)) = at_one_port(plan.header.genesis().members.as_slice()) {
+        let (one, other, port) = (one.node.get(), other.node.get(), one.port.get());
+        let _ = writeln!(
+            err,
+            "warning: the genesis names nodes {one} and {other} at one port, {port}"
+        );
+    }
+}
+
 /// Opens what the node of a plan runs on: its files, which are made where they are missing, and its socket. The folder is locked as long as
 /// the second value lives. It refuses with `CannotOpen`, and a line tells why; also where another process serves from the folder.
 pub fn open_resources<R: Files<File = File> + Net, E: Write>(
@@ -99,6 +131,7 @@ pub fn open_resources<R: Files<File = File> + Net, E: Write>(
     // Where the nodes have a key, ticks go by the clock.
     ensures pace { IfOk result (λ r. key_list r.0.outside.seals.nodes ≢ [] → r.0.pace ≡ Pace.Clock) }
 {
+    warn_of_members(plan, err);
     warn_of_port(plan, err);
     let (outside, place) = outside_of(rt, alloc, &plan.header, plan.port, &plan.away, err)?;
     let socket = open_socket_at(rt, place, err)?;

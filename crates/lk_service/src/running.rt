@@ -14,9 +14,12 @@ ghost use Rattle.lk_service.specs.Revivals.{ComesUp, IsBegun, IsNotTakenUp, IsRe
 ghost use Rattle.lk_service.specs.Turns.{TakesTurn, BreaksOff, AreSealsOf, Serves, EndsEarly, TellsFailure};
 
 use crate::causes::{FailureCause, tell_device};
+use crate::observing::{observe_start, observe_turn};
+use crate::refusals::tell_refusal;
 use crate::resources::{NodePlan, Resources};
 use lk_disk::LogDisk;
 use lk_entries::Header;
+use lk_events::line::Observer;
 use lk_log::look;
 use lk_replica::{Replica, ReviveFault};
 use lk_server::ear::Ear;
@@ -88,7 +91,7 @@ pub fn revive<M: Machine, D: LogDisk + Drop, S: Datagrams + Drop, L: Log>(
     Ok(Server::new(alloc, cluster, header.node(), pace, outside, replica, socket))
 }
 
-/// The same. Where the device failed a line tells why.
+/// The same. Where it is refused, lines tell what was found.
 fn revive_plan<M: Machine, D: LogDisk + FailureCause + Drop, S: Datagrams + Drop, L: Log, E: Write>(
     alloc: Global,
     plan: &NodePlan<'_>,
@@ -103,19 +106,22 @@ fn revive_plan<M: Machine, D: LogDisk + FailureCause + Drop, S: Datagrams + Drop
     match revive::<M, D, S, L>(alloc, &plan.header, resources, log) {
         Ok(server) => Ok(server),
         Err(refused) => {
-            let fault = ServiceFault::of_replica(&refused.fault);
-            Err(tell_device(fault, &refused.device, plan.folder, err))
+            let ReviveFault { fault, device } = refused;
+            let mut device = device;
+            let told = ServiceFault::of_replica(&fault);
+            Err(tell_refusal(alloc, told, &mut device, plan.folder, err))
         }
     }
 }
 
-/// Takes one turn. Where the device failed a line tells why.
+/// Takes one turn, of which an observer is told. Where the device failed a line tells why.
 fn take_turn<
     M: Machine,
     D: LogDisk + FailureCause + Drop,
     S: Datagrams + Drop,
     C: Clock,
     L: Log,
+    O: Observer,
     E: Write,
 >(
     server: &mut NodeServer<M, D, S>,
@@ -123,6 +129,7 @@ fn take_turn<
     metronome: &mut Metronome<C>,
     folder: &str,
     log: &L,
+    observer: &mut O,
     err: &mut E,
 ) -> Result<(), ServiceFault>
     // Its replica was given as one group just what it wrote to itself, or what was taken of what came, and a tick where one was due. Of the letters that it said it
@@ -135,6 +142,7 @@ fn take_turn<
     ensures passes { IfErr result (λ f. f ≡ ServiceFault.Send → ⊥) }
 {
     let taken = node_turn(server, ear, metronome, log);
+    observe_turn(server, observer);
     let device = server.replica().device();
     match taken {
         Ok(()) => Ok(()),
@@ -142,19 +150,21 @@ fn take_turn<
     }
 }
 
-/// Takes 2^48 turns. Where the device failed a line tells why.
+/// Takes 2^48 turns, of which an observer is told. Where the device failed a line tells why.
 fn take_turns<
     M: Machine,
     D: LogDisk + FailureCause + Drop,
     S: Datagrams + Drop,
     C: Clock,
     L: Log,
+    O: Observer,
     E: Write,
 >(
     clock: &C,
     server: &mut NodeServer<M, D, S>,
     folder: &str,
     log: &L,
+    observer: &mut O,
     err: &mut E,
 ) -> Result<(), ServiceFault>
     // At Ok just so many turns were taken, one after another.
@@ -166,24 +176,28 @@ fn take_turns<
     let mut ear = Ear::new();
     let mut metronome = Metronome::new(clock);
     'turns: for _ in 0..TURNS {
-        take_turn::<M, D, S, &C, L, E>(server, &mut ear, &mut metronome, folder, log, err)?;
+        take_turn::<M, D, S, &C, L, O, E>(
+            server, &mut ear, &mut metronome, folder, log, observer, err,
+        )?;
     }
     Ok(())
 }
 
-/// Takes 2^48 turns with a server that ends then. That it serves, and at which port, is logged.
+/// Takes 2^48 turns with a server that ends then. That it serves, and at which port, is logged, and an observer is told of it.
 fn serve_turns<
     M: Machine,
     D: LogDisk + FailureCause + Drop,
     S: Datagrams + Drop,
     C: Clock,
     L: Log,
+    O: Observer,
     E: Write,
 >(
     clock: &C,
     server: NodeServer<M, D, S>,
     plan: &NodePlan<'_>,
     log: &L,
+    observer: &mut O,
     err: &mut E,
 ) -> Result<(), ServiceFault>
     ensures ok { OnOk result ((ended : ServerValue ReplicaValue) × Repeats (TakesTurn ⟦<Replica<M, D> as NodeReplica>⟧.Says S.is_telling) (2 ^ 48) server ended) }
@@ -191,7 +205,8 @@ fn serve_turns<
 {
     let mut server = server;
     log_port(log, plan.port);
-    take_turns(clock, &mut server, plan.folder, log, err)
+    observe_start(server.replica(), observer);
+    take_turns(clock, &mut server, plan.folder, log, observer, err)
 }
 
 /// Takes up the server of a node, and takes 2^48 turns with it.
@@ -201,6 +216,7 @@ fn serve<
     S: Datagrams + Drop,
     C: Clock,
     L: Log,
+    O: Observer,
     E: Write,
 >(
     clock: &C,
@@ -208,6 +224,7 @@ fn serve<
     plan: &NodePlan<'_>,
     resources: Resources<D, S>,
     log: &L,
+    observer: &mut O,
     err: &mut E,
 ) -> Result<(), ServiceFault>
     requires { AreSealsOf plan.now.header resources.outside.seals }
@@ -216,16 +233,17 @@ fn serve<
         ⊎ EndsEarly (IsBegun M.meaning D.is_honest (D.disk resources.device) plan.now.header) plan.now.header resources.outside.seals ⟦<Replica<M, D> as NodeReplica>⟧.Says S.is_telling (2 ^ 48)) }
 {
     let server = revive_plan::<M, D, S, L, E>(alloc, plan, resources, log, err)?;
-    serve_turns(clock, server, plan, log, err)
+    serve_turns(clock, server, plan, log, observer, err)
 }
 
-/// Runs a node on these resources. The status is 0 after 2^48 turns, and 1 where a fault is told on standard error.
+/// Runs a node on these resources, and tells an observer what happens to it. The status is 0 after 2^48 turns, and 1 where a fault is told on standard error.
 pub fn run_node<
     M: Machine,
     D: LogDisk + FailureCause + Drop,
     S: Datagrams + Drop,
     C: Clock,
     L: Log,
+    O: Observer,
     E: Write,
 >(
     clock: &C,
@@ -233,6 +251,7 @@ pub fn run_node<
     plan: &NodePlan<'_>,
     resources: Resources<D, S>,
     log: &L,
+    observer: &mut O,
     err: &mut E,
 ) -> u8
     requires { AreSealsOf plan.now.header resources.outside.seals }
@@ -243,7 +262,7 @@ pub fn run_node<
     ensures broken { result ≡ 1 → ((f : ServiceFault) × IsRefusedWith M.meaning M.IsText D.is_honest (D.disk resources.device) plan.now.header f)
         ⊎ EndsEarly (IsBegun M.meaning D.is_honest (D.disk resources.device) plan.now.header) plan.now.header resources.outside.seals ⟦<Replica<M, D> as NodeReplica>⟧.Says S.is_telling (2 ^ 48) }
 {
-    match serve::<M, D, S, C, L, E>(clock, alloc, plan, resources, log, err) {
+    match serve::<M, D, S, C, L, O, E>(clock, alloc, plan, resources, log, observer, err) {
         Ok(()) => 0,
         Err(fault) => fault.tell(err),
     }

@@ -1,0 +1,5 @@
+use Rattle.lk_events.proofs.Putting.{puts_both}
+use Rattle.lk_events.proofs.story.Story.put_leads.Goals as goal
+
+pub returns : goal.returns
+returns c = puts_both c.put_news.ensures (puts_both c.put_news-2.ensures c.put_news-3.ensures)

@@ -1,0 +1,25 @@
+-- The kinds of events.
+use Rattle.std.specs.Prelude.{ℕ}
+use Rattle.lk_events.specs.declared.event.Event.{Event}
+use Rattle.lk_events.specs.declared.event.Event.TheVariants.{Begun, Found, Leads, Ended, Follows, Leaderless, Joined, Left, Wrote, Installed, Unsent, Behind, CaughtUp, OtherGenesis}
+
+-- so many kinds of events there are
+abbrev pub kinds : ℕ
+kinds = 14
+
+-- the kind of an event, below that number
+abbrev pub kind_of : Event → ℕ
+kind_of Begun = 0
+kind_of (Found executed) = 1
+kind_of (Leads ballot) = 2
+kind_of (Ended ballot why) = 3
+kind_of (Follows node) = 4
+kind_of (Leaderless seconds) = 5
+kind_of (Joined node members) = 6
+kind_of (Left node members) = 7
+kind_of (Wrote position) = 8
+kind_of (Installed position node) = 9
+kind_of (Unsent node) = 10
+kind_of (Behind node) = 11
+kind_of (CaughtUp executed) = 12
+kind_of (OtherGenesis node) = 13

@@ -1,0 +1,6 @@
+pub mod Kinds
+pub mod News
+pub mod Quiets
+pub mod Slots
+pub mod Views
+pub mod Watches

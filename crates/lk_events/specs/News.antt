@@ -1,0 +1,42 @@
+-- What is news of a node, by what was told of it and what is seen of it.
+use Rattle.std.specs.Prelude.{◌≡◌, ◌≢◌, ◌<◌, ◌==◌, ℕ, Bool, true, false, List, Option, Some, None}
+use Rattle.std.specs.List.{list_any, list_all}
+use Rattle.lk_types.specs.declared.member.Member.{Member}
+use Rattle.lk_events.specs.Views.{why_of}
+use Rattle.lk_events.specs.declared.event.Event.{Event}
+use Rattle.lk_events.specs.declared.event.Event.TheVariants.{Begun, Found, Leads, Ended, Follows, Leaderless, Joined, Left, Wrote, Installed, Unsent, Behind, CaughtUp, OtherGenesis}
+use Rattle.lk_events.specs.declared.story.Story.{Story}
+use Rattle.lk_events.specs.declared.view.View.{View}
+
+abbrev pub is_one_of : ℕ → List Member → Bool
+is_one_of node members = list_any (λ m. m.node == node) members
+
+-- each of these members is one of the others
+abbrev pub has_all : List Member → List Member → Bool
+has_all others members = list_all (λ m. is_one_of m.node others) members
+
+-- the newer one, where there is one
+abbrev pub newer : Option ℕ → Option ℕ → Option ℕ
+newer None old = old
+newer (Some node) old = Some node
+
+-- what is seen differs so from what was told, or the turn has brought it
+abbrev pub IsNews : Story → View → Event → Type 0
+IsNews story view (Leads ballot) = (view.leads ≡ Some ballot) × (story.leads ≢ Some ballot)
+IsNews story view (Ended ballot why) = (story.leads ≡ Some ballot) × (view.leads ≢ Some ballot) × (why ≡ why_of view ballot)
+IsNews story view (Follows node) = (view.follows ≡ Some node) × (story.follows ≢ Some node)
+IsNews story view (Joined node members) = (members ≡ view.members) × (is_one_of node view.members ≡ true) × (is_one_of node story.members ≡ false)
+IsNews story view (Left node members) = (members ≡ view.members) × (is_one_of node story.members ≡ true) × (is_one_of node view.members ≡ false)
+IsNews story view (Wrote position) = (position ≡ view.snapshot) × (story.snapshot < position) × (view.installed ≡ None)
+IsNews story view (Installed position node) = view.installed ≡ Some (position, node)
+IsNews story view (Unsent node) = view.unsent ≡ Some node
+IsNews story view Begun = ⊥
+IsNews story view (Found executed) = ⊥
+IsNews story view (Leaderless seconds) = ⊥
+IsNews story view (Behind node) = ⊥
+IsNews story view (CaughtUp executed) = ⊥
+IsNews story view (OtherGenesis node) = ⊥
+
+-- what is told once that is seen
+abbrev pub told_with : View → Story → Story
+told_with view story = record { leads = view.leads; follows = newer view.follows story.follows; members = view.members; snapshot = view.snapshot }

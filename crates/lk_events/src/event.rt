@@ -1,0 +1,169 @@
+//! What may happen to a node that an operator wants to know of.
+
+ghost use Rattle.std.specs.Prelude.{◌≡◌, ◌<◌};
+ghost use Rattle.lk_events.specs.Kinds.{kind_of, kinds};
+
+use lk_types::{Executed, Members, NodeNo, RealBallot};
+use std::fmt;
+
+/// How many kinds of events there are.
+pub const KINDS: usize = 14;
+
+/// Why a node leads no more.
+#[derive(Clone, Copy, Debug)]
+pub enum Why {
+    /// It has promised a greater ballot, which this node began.
+    Promised(NodeNo),
+    /// It is no member of the next position.
+    NoMember,
+    /// It was told of a greater ballot.
+    Told,
+}
+
+/// What has happened to a node.
+#[derive(Debug, Drop)]
+pub enum Event {
+    /// It came up with a store in which nothing stands.
+    Begun,
+    /// It came up with the store that it had, by which it has executed so many positions.
+    Found(Executed),
+    /// A majority has promised its ballot.
+    Leads(RealBallot),
+    /// It led in this ballot, and leads in it no more.
+    Ended(RealBallot, Why),
+    /// It hears that this node leads.
+    Follows(NodeNo),
+    /// For so many seconds it has neither led nor heard of a leader.
+    Leaderless(u64),
+    /// This node is a member of the next position, whose members these are.
+    Joined(NodeNo, Members),
+    /// This node is a member no more.
+    Left(NodeNo, Members),
+    /// It wrote a snapshot of so many positions.
+    Wrote(Executed),
+    /// It installed a snapshot of so many positions, whose last part this node sent.
+    Installed(Executed, NodeNo),
+    /// A datagram to this node could not be sent.
+    Unsent(NodeNo),
+    /// For a second it has asked this node for what it has missed.
+    Behind(NodeNo),
+    /// It has asked nobody for a second.
+    CaughtUp(Executed),
+    /// This node was started with another genesis.
+    OtherGenesis(NodeNo),
+}
+
+impl Event {
+    /// The number of its kind.
+    pub fn kind(&self) -> usize
+        ensures kind { result ≡ kind_of self.now }
+        ensures few { result < kinds }
+    {
+        match self {
+            Event::Begun => 0,
+            Event::Found(_) => 1,
+            Event::Leads(_) => 2,
+            Event::Ended(_, _) => 3,
+            Event::Follows(_) => 4,
+            Event::Leaderless(_) => 5,
+            Event::Joined(_, _) => 6,
+            Event::Left(_, _) => 7,
+            Event::Wrote(_) => 8,
+            Event::Installed(_, _) => 9,
+            Event::Unsent(_) => 10,
+            Event::Behind(_) => 11,
+            Event::CaughtUp(_) => 12,
+            Event::OtherGenesis(_) => 13,
+        }
+    }
+
+    /// Whether somebody has to look at it.
+    pub fn is_warning(&self) -> bool {
+        matches!(
+            self,
+            Event::Leaderless(_) | Event::Unsent(_) | Event::OtherGenesis(_)
+        )
+    }
+}
+
+impl fmt::Display for Why {
+    fn fmt<W: fmt::Write>(&self, f: &mut fmt::Formatter<W>) -> fmt::Result {
+        match self {
+            Why::Promised(node) => write!(f, "node {} began a greater ballot", node.get()),
+            Why::NoMember => f.write_str("it is not a member"),
+            Why::Told => f.write_str("there is a greater ballot"),
+        }
+    }
+}
+
+/// Writes the members.
+fn write_members<W: fmt::Write>(members: &Members, f: &mut fmt::Formatter<W>) -> fmt::Result {
+    f.write_str(", members")?;
+    for member in members.as_slice() {
+        write!(f, " {}:{}", member.node.get(), member.port.get())?;
+    }
+    Ok(())
+}
+
+/// Writes who joined or left, and the members.
+fn write_change<W: fmt::Write>(
+    node: NodeNo,
+    change: &str,
+    members: &Members,
+    f: &mut fmt::Formatter<W>,
+) -> fmt::Result {
+    write!(f, "node {} {change}", node.get())?;
+    write_members(members, f)
+}
+
+/// Writes who leads.
+fn write_lead<W: fmt::Write>(
+    ballot: RealBallot,
+    why: Option<Why>,
+    f: &mut fmt::Formatter<W>,
+) -> fmt::Result {
+    let ballot = ballot.get();
+    let (round, node) = (ballot.round(), ballot.node());
+    match why {
+        None => write!(f, "leads in ballot {round}.{node}"),
+        Some(why) => write!(f, "no longer leads in ballot {round}.{node}: {why}"),
+    }
+}
+
+/// Writes which snapshot was installed.
+fn write_installed<W: fmt::Write>(
+    position: Executed,
+    node: NodeNo,
+    f: &mut fmt::Formatter<W>,
+) -> fmt::Result {
+    let (position, node) = (position.get(), node.get());
+    write!(
+        f,
+        "installed a snapshot of node {node}, {position} positions"
+    )
+}
+
+impl fmt::Display for Event {
+    fn fmt<W: fmt::Write>(&self, f: &mut fmt::Formatter<W>) -> fmt::Result {
+        match self {
+            Event::Begun => f.write_str("began with an empty store"),
+            Event::Found(executed) => write!(
+                f,
+                "found its store, {} positions executed",
+                executed.get()
+            ),
+            Event::Leads(ballot) => write_lead(*ballot, None, f),
+            Event::Ended(ballot, why) => write_lead(*ballot, Some(*why), f),
+            Event::Follows(node) => write!(f, "follows node {}", node.get()),
+            Event::Leaderless(seconds) => write!(f, "has heard of no leader for {seconds} s"),
+            Event::Joined(node, members) => write_change(*node, "joined", members, f),
+            Event::Left(node, members) => write_change(*node, "left", members, f),
+            Event::Wrote(position) => write!(f, "wrote a snapshot, {} positions", position.get()),
+            Event::Installed(position, node) => write_installed(*position, *node, f),
+            Event::Unsent(node) => write!(f, "could not send to node {}", node.get()),
+            Event::Behind(node) => write!(f, "is behind, asks node {}", node.get()),
+            Event::CaughtUp(executed) => write!(f, "has caught up, {} positions", executed.get()),
+            Event::OtherGenesis(node) => write!(f, "hears node {} of another genesis", node.get()),
+        }
+    }
+}

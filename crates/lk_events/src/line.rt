@@ -1,0 +1,134 @@
+//! The lines of the events of a node, as a log has them.
+
+use crate::event::{Event, KINDS};
+use crate::slot::Line;
+use crate::view::View;
+use crate::watch::Watch;
+use jiff::Timestamp;
+use lk_types::NodeNo;
+use log::{Log, info, warn};
+use std::fmt;
+use std::time::{Clock, SystemTime};
+
+/// Who is told what is seen of a node, turn by turn.
+pub trait Observer {
+    /// Whether it is told anything.
+    fn is_on(&self) -> bool;
+
+    /// The node has come up, with an empty store or with one in which something stands.
+    fn begin(&mut self, is_empty: bool, view: View);
+
+    /// A turn has passed.
+    fn turn(&mut self, view: View);
+}
+
+/// Nobody is told anything.
+#[derive(Clone, Copy)]
+pub struct Unobserved;
+
+impl Observer for Unobserved {
+    fn is_on(&self) -> bool {
+        false
+    }
+
+    fn begin(&mut self, _is_empty: bool, _view: View) {}
+
+    fn turn(&mut self, _view: View) {}
+}
+
+/// A log that is told the events of a node.
+#[derive(Drop)]
+pub struct Events<C: Clock + Drop, L: Log + Drop> {
+    clock: C,
+    log: L,
+    node: NodeNo,
+    watch: Option<Watch>,
+}
+
+impl fmt::Display for Line {
+    fn fmt<W: fmt::Write>(&self, f: &mut fmt::Formatter<W>) -> fmt::Result {
+        write!(f, "{}", self.event)?;
+        if self.others > 0 {
+            write!(f, " .. and {} more", self.others)?;
+        }
+        Ok(())
+    }
+}
+
+impl<C: Clock + Drop, L: Log + Drop> Events<C, L> {
+    /// The events of that node, which a log is told with the time of a clock.
+    pub fn new(clock: C, log: L, node: NodeNo) -> Events<C, L> {
+        Events {
+            clock,
+            log,
+            node,
+            watch: None,
+        }
+    }
+
+    /// The milliseconds since 1970, 0 where the clock fails.
+    fn now(&self) -> u64 {
+        let Ok(now) = SystemTime::now(&self.clock) else {
+            return 0;
+        };
+        match now.duration_since(SystemTime::UNIX_EPOCH) {
+            Ok(since) => u64::try_from(since.as_millis()).unwrap_or(0),
+            Err(_) => 0,
+        }
+    }
+
+    /// Logs a line, with its time.
+    fn tell(&self, line: &Line) {
+        let node = self.node.get();
+        let time = i64::try_from(line.time).unwrap_or(0);
+        let Ok(time) = Timestamp::from_millisecond(time) else {
+            return;
+        };
+        if line.event.is_warning() {
+            warn!(self.log; target: "locks", "{time:.3} node {node} {line}");
+        } else {
+            info!(self.log; target: "locks", "{time:.3} node {node} {line}");
+        }
+    }
+
+    /// Logs what waits, where it may be told.
+    fn tell_due(&self, watch: &mut Watch, now: u64) {
+        for kind in 0..KINDS {
+            if let Some(line) = watch.take(kind, now) {
+                self.tell(&line);
+            }
+        }
+    }
+}
+
+impl<C: Clock + Drop, L: Log + Drop> Observer for Events<C, L> {
+    fn is_on(&self) -> bool {
+        true
+    }
+
+    fn begin(&mut self, is_empty: bool, view: View) {
+        let now = self.now();
+        let executed = view.executed;
+        let mut watch = Watch::new(view);
+        watch.put(
+            now,
+            if is_empty {
+                Event::Begun
+            } else {
+                Event::Found(executed)
+            },
+        );
+        self.tell_due(&mut watch, now);
+        self.watch = Some(watch);
+    }
+
+    fn turn(&mut self, view: View) {
+        let now = self.now();
+        let Some(mut watch) = self.watch.take() else {
+            return;
+        };
+        watch.turn(now, view);
+        self.tell_due(&mut watch, now);
+        self.watch = Some(watch);
+    }
+}

@@ -1,0 +1,122 @@
+//! What is told as time passes: that there is no leader, and that a node is behind. Times are milliseconds since 1970.
+
+ghost use Rattle.std.specs.Prelude.{◌≡◌, true, false, IfSome, IsSome};
+ghost use Rattle.lk_events.specs.Quiets.{IsQuietNews, IsBehind, HasRested, IsLagNews};
+ghost use Rattle.lk_events.specs.declared.event.Event.TheVariants.{Leaderless, Behind, CaughtUp};
+
+use crate::event::Event;
+use lk_types::{Executed, NodeNo};
+
+/// The milliseconds of a second.
+const SECOND: u64 = 1000;
+
+/// The seconds without a leader that are told first: an election takes less.
+const FIRST: u64 = 2;
+
+/// How long a node has had no leader.
+#[derive(Clone, Copy)]
+pub struct Quiet {
+    /// Since when.
+    pub since: Option<u64>,
+    /// How many seconds were told, 0 where none were.
+    pub told: u64,
+}
+
+/// How long a node has asked for what it has missed.
+#[derive(Clone, Copy)]
+pub struct Lag {
+    /// When it first asked, and when it asked last.
+    pub asked: Option<(u64, u64)>,
+    /// Whether it was told to be behind.
+    pub told: bool,
+}
+
+impl Quiet {
+    /// It has a leader.
+    pub const NONE: Quiet = Quiet {
+        since: None,
+        told: 0,
+    };
+
+    /// It has none now. After two seconds that is news, and again each time that they have doubled.
+    fn last(&mut self, now: u64) -> Option<Event>
+        ensures some { IfSome result (IsQuietNews self.old now) }
+        ensures told { IfSome result (λ e. e ≡ Leaderless self.new.told) }
+    {
+        let Some(since) = self.since else {
+            self.since = Some(now);
+            return None;
+        };
+        let seconds = now.saturating_sub(since) / SECOND;
+        if seconds < FIRST || seconds / 2 < self.told {
+            return None;
+        }
+        self.told = seconds;
+        Some(Event::Leaderless(seconds))
+    }
+
+    /// A turn has passed.
+    pub fn turn(&mut self, now: u64, has_leader: bool) -> Option<Event>
+        ensures { IfSome result (λ e. (has_leader ≡ false) × IsQuietNews self.old now e) }
+    {
+        if has_leader {
+            *self = Quiet::NONE;
+            return None;
+        }
+        self.last(now)
+    }
+}
+
+impl Lag {
+    /// It has asked for nothing.
+    pub const NONE: Lag = Lag {
+        asked: None,
+        told: false,
+    };
+
+    /// It has asked that node. Where it has done so for a second it is behind.
+    fn ask(&mut self, now: u64, node: NodeNo) -> Option<Event>
+        ensures some { IfSome result (λ e. (e ≡ Behind node) × IsBehind self.old now) }
+        ensures told { IsSome result → self.new.told ≡ true }
+    {
+        let Some((first, _)) = self.asked else {
+            self.asked = Some((now, now));
+            return None;
+        };
+        self.asked = Some((first, now));
+        if self.told || now.saturating_sub(first) < SECOND {
+            return None;
+        }
+        self.told = true;
+        Some(Event::Behind(node))
+    }
+
+    /// It has asked nobody. Where it has done so for a second it is not behind any more.
+    fn rest(&mut self, now: u64, executed: Executed) -> Option<Event>
+        ensures some { IfSome result (λ e. (e ≡ CaughtUp executed) × HasRested self.old now) }
+        ensures told { IsSome result → self.new.told ≡ false }
+    {
+        let Some((_, last)) = self.asked else {
+            return None;
+        };
+        if now >= last && now - last < SECOND {
+            return None;
+        }
+        let was_told = self.told;
+        *self = Lag::NONE;
+        if !was_told {
+            return None;
+        }
+        Some(Event::CaughtUp(executed))
+    }
+
+    /// A turn has passed, in which it asked that node, or nobody.
+    pub fn turn(&mut self, now: u64, wanted: Option<NodeNo>, executed: Executed) -> Option<Event>
+        ensures { IfSome result (IsLagNews self.old now wanted executed) }
+    {
+        match wanted {
+            Some(node) => self.ask(now, node),
+            None => self.rest(now, executed),
+        }
+    }
+}

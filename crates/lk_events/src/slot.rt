@@ -1,0 +1,79 @@
+//! Events of one kind, of which a line a second is told.
+
+ghost use Rattle.std.specs.Prelude.{◌≡◌, Some, None, IfSome, IsSome, IsNone};
+ghost use Rattle.lk_events.specs.Slots.{having_put, having_told, is_due, IsLineOf, Waits};
+
+use crate::event::Event;
+
+/// The milliseconds between two lines of one kind.
+const APART: u64 = 1000;
+
+/// An event that is told, when it happened, and how many others of its kind happened since the last one that was.
+#[derive(Drop)]
+pub struct Line {
+    pub time: u64,
+    pub event: Event,
+    pub others: u64,
+}
+
+/// What waits to be told of one kind. Times are milliseconds since 1970.
+#[derive(Drop)]
+pub struct Slot {
+    /// The newest event, and when it happened.
+    pub newest: Option<(u64, Event)>,
+    /// How many others it has taken the place of.
+    pub others: u64,
+    /// When a line was told.
+    pub told: Option<u64>,
+}
+
+impl Slot {
+    /// Nothing has happened.
+    pub const EMPTY: Slot = Slot {
+        newest: None,
+        others: 0,
+        told: None,
+    };
+
+    /// One event more. It takes the place of one that waits.
+    pub fn put(&mut self, now: u64, event: Event)
+        ensures { self.new ≡ having_put now event self.old }
+    {
+        if self.newest.is_some() {
+            self.others = self.others.saturating_add(1);
+        }
+        self.newest = Some((now, event));
+    }
+
+    /// Whether a line may be told: none was, a second has passed since, or the clock was set back.
+    fn is_due(&self, now: u64) -> bool
+        ensures { result ≡ is_due self.now.told now }
+    {
+        match self.told {
+            None => true,
+            Some(told) => now < told || now - told >= APART,
+        }
+    }
+
+    /// Takes out what waits, where it may be told.
+    pub fn take(&mut self, now: u64) -> Option<Line>
+        ensures line { IfSome result (λ line. IsLineOf self.old now line) }
+        ensures told { IsSome result → self.new ≡ having_told now }
+        ensures none { IsNone result → (self.new ≡ self.old) × (Waits self.old now) }
+    {
+        if !self.is_due(now) {
+            return None;
+        }
+        let Some((time, event)) = self.newest.take() else {
+            return None;
+        };
+        let others = self.others;
+        self.others = 0;
+        self.told = Some(now);
+        Some(Line {
+            time,
+            event,
+            others,
+        })
+    }
+}

@@ -1,0 +1,66 @@
+//! What waits to be told of a node, kind by kind.
+
+ghost use Rattle.std.specs.Prelude.{◌≡◌, None, IfSome};
+ghost use Rattle.lk_events.specs.Watches.{Puts, TakesOut};
+
+use crate::event::{Event, KINDS};
+use crate::slot::{Line, Slot};
+
+/// What waits of each kind of events. Times are milliseconds since 1970.
+#[derive(Drop)]
+pub struct Slots {
+    pub all: [Slot; KINDS],
+}
+
+impl Slots {
+    /// Nothing waits of any kind.
+    pub fn new() -> Slots {
+        Slots {
+            all: [
+                Slot::EMPTY,
+                Slot::EMPTY,
+                Slot::EMPTY,
+                Slot::EMPTY,
+                Slot::EMPTY,
+                Slot::EMPTY,
+                Slot::EMPTY,
+                Slot::EMPTY,
+                Slot::EMPTY,
+                Slot::EMPTY,
+                Slot::EMPTY,
+                Slot::EMPTY,
+                Slot::EMPTY,
+                Slot::EMPTY,
+            ],
+        }
+    }
+
+    /// This has happened.
+    pub fn put(&mut self, now: u64, event: Event)
+        ensures { Puts now event self.old.all self.new.all }
+    {
+        let kind = event.kind();
+        self.all[kind].put(now, event);
+    }
+
+    /// This has happened, if anything has.
+    pub fn put_some(&mut self, now: u64, event: Option<Event>) {
+        if let Some(event) = event {
+            self.put(now, event);
+        }
+    }
+
+    /// Takes out what waits of that kind, where it may be told.
+    pub fn take(&mut self, kind: usize, now: u64) -> Option<Line>
+        ensures line { IfSome result (λ line. TakesOut kind now line self.old.all self.new.all) }
+        ensures none { result ≡ None → self.new ≡ self.old }
+    {
+        if kind >= KINDS {
+            return None;
+        }
+        let Some(line) = self.all[kind].take(now) else {
+            return None;
+        };
+        Some(line)
+    }
+}

@@ -1,0 +1,47 @@
+//! What is seen of a node after a turn.
+
+ghost use Rattle.std.specs.Prelude.{◌≡◌};
+ghost use Rattle.lk_events.specs.Views.{why_of};
+
+use crate::event::Why;
+use lk_types::{Ballot, Executed, Members, NodeNo, RealBallot};
+
+/// What is seen of a node after a turn, and what became of what it sent in it.
+#[derive(Drop)]
+pub struct View {
+    /// The ballot in which it leads, where it does.
+    pub leads: Option<RealBallot>,
+    /// The other node that it hears to lead.
+    pub follows: Option<NodeNo>,
+    /// The ballot that it has promised.
+    pub promised: Ballot,
+    /// How many positions it has executed.
+    pub executed: Executed,
+    /// The position of its snapshot.
+    pub snapshot: Executed,
+    /// The snapshot that it installed in the turn, and the node that sent the last part of it.
+    pub installed: Option<(Executed, NodeNo)>,
+    /// The members of the next position.
+    pub members: Members,
+    /// Whether the node is one of them.
+    pub is_member: bool,
+    /// The last node that it asked for what it has missed.
+    pub wanted: Option<NodeNo>,
+    /// The last node to which a send failed.
+    pub unsent: Option<NodeNo>,
+}
+
+impl View {
+    /// Why the node does not lead in this ballot any more.
+    pub fn why(&self, ballot: RealBallot) -> Why
+        ensures { result ≡ why_of self.now ballot }
+    {
+        if !self.is_member {
+            return Why::NoMember;
+        }
+        match NodeNo::of(self.promised.node()) {
+            Some(node) if ballot.get().is_below(self.promised) => Why::Promised(node),
+            _ => Why::Told,
+        }
+    }
+}

@@ -1,0 +1,65 @@
+//! What is told of a node, from turn to turn.
+
+ghost use Rattle.std.specs.Prelude.{◌≡◌, None, IfSome};
+ghost use Rattle.lk_events.specs.News.{told_with};
+ghost use Rattle.lk_events.specs.Watches.{TakesOut};
+
+use crate::event::Event;
+use crate::quiet::{Lag, Quiet};
+use crate::slot::Line;
+use crate::slots::Slots;
+use crate::story::Story;
+use crate::view::View;
+
+/// What was told of a node, and what waits to be told. Times are milliseconds since 1970.
+#[derive(Drop)]
+pub struct Watch {
+    pub story: Story,
+    pub quiet: Quiet,
+    pub lag: Lag,
+    pub slots: Slots,
+}
+
+impl Watch {
+    /// Nothing but this was seen of the node, and nothing waits.
+    pub fn new(view: View) -> Watch {
+        Watch {
+            story: Story::of(view),
+            quiet: Quiet::NONE,
+            lag: Lag::NONE,
+            slots: Slots::new(),
+        }
+    }
+
+    /// This has happened.
+    pub fn put(&mut self, now: u64, event: Event) {
+        self.slots.put(now, event);
+    }
+
+    // What is news by the time that has passed.
+    fn put_times(&mut self, now: u64, view: &View)
+        ensures { self.new.story ≡ self.old.story }
+    {
+        let has_leader = view.leads.is_some() || view.follows.is_some();
+        let leaderless = self.quiet.turn(now, has_leader);
+        self.slots.put_some(now, leaderless);
+        let lag = self.lag.turn(now, view.wanted, view.executed);
+        self.slots.put_some(now, lag);
+    }
+
+    /// A turn has passed, after which this is seen.
+    pub fn turn(&mut self, now: u64, view: View)
+        ensures { self.new.story ≡ told_with view self.old.story }
+    {
+        self.put_times(now, &view);
+        self.story.turn(now, view, &mut self.slots);
+    }
+
+    /// Takes out what waits of that kind, where it may be told.
+    pub fn take(&mut self, kind: usize, now: u64) -> Option<Line>
+        ensures line { IfSome result (λ line. TakesOut kind now line self.old.slots.all self.new.slots.all) }
+        ensures none { result ≡ None → self.new ≡ self.old }
+    {
+        self.slots.take(kind, now)
+    }
+}

@@ -1,0 +1,33 @@
+//! What has happened to a node in a turn, for whoever is told its events.
+
+use crate::came::Came;
+use crate::post::Carried;
+use crate::sight::Sight;
+use lk_types::{Executed, NodeNo};
+
+/// What has happened to a node in a turn, beside what is seen of it then.
+#[derive(Clone, Copy)]
+pub struct Happened {
+    /// The snapshot that it installed last, and the node that sent the last part of it.
+    pub installed: Option<(Executed, NodeNo)>,
+    /// What became of what it sent.
+    pub carried: Carried,
+}
+
+impl Happened {
+    /// Nothing has.
+    pub const NOTHING: Happened = Happened {
+        installed: None,
+        carried: Carried::NOTHING,
+    };
+
+    /// Notes what has changed by what came.
+    pub fn note(&mut self, came: &Came, before: &Sight, after: &Sight) {
+        match came.node() {
+            Some(node) if after.snapshot.get() > before.executed.get() => {
+                self.installed = Some((after.snapshot, node));
+            }
+            _ => {}
+        }
+    }
+}

@@ -1,0 +1,32 @@
+-- The ports of a client that asks several, one after another.
+use Rattle.std.proofs.Common.{◌≡◌, ◌++◌, List, ℕ, true, false, Option, Some, None, [], ◌∷◌, take, refl, subst}
+use Rattle.std.specs.Prelude.{is_some, slice_get}
+use Rattle.std.specs.declared.net.socket_addr.SocketAddr.{SocketAddr}
+use Rattle.lk_service.specs.Questions.{Asker, Tries, TriesInVain, TriesUntil}
+use Rattle.lk_service.specs.declared.question.Question.{Question}
+use Rattle.lk_service.specs.declared.reply.Reply.{Reply}
+
+module _ {S : Type 0} {sent : S → List (SocketAddr × List ℕ)} {failures : S → ℕ} {next : S → Option (SocketAddr × List ℕ)} {q : Question} {bytes : List ℕ} where
+  -- a port that is asked by equal bytes
+  by_bytes : {said : List ℕ} {port : ℕ} {told : Option Reply} {old new : Asker S} → said ≡ bytes → Tries sent failures next q port said told old new
+      → Tries sent failures next q port bytes told old new
+  by_bytes {port = port} {told = told} {old = old} {new = new} same = subst (λ (b : List ℕ). Tries sent failures next q port b told old new) same
+
+  -- one port more is added at the end
+  vain_more : (ports : List ℕ) (port : ℕ) (old mid new : Asker S) → TriesInVain sent failures next q ports bytes old mid → Tries sent failures next q port bytes None mid new
+      → TriesInVain sent failures next q (ports ++ port ∷ []) bytes old new
+  vain_more [] port old mid new passed more = (new, subst (λ (s : Asker S). Tries sent failures next q port bytes None s new) passed more, refl)
+  vain_more (first ∷ ports) port old mid new passed more = (passed.0, passed.1, vain_more ports port passed.0 mid new passed.2 more)
+
+  -- one more that told nothing
+  pub tries_more : {said ports further : List ℕ} {port : ℕ} {old mid new : Asker S} (told : Option Reply) → is_some told ≡ false → said ≡ bytes → further ≡ ports ++ port ∷ []
+      → TriesInVain sent failures next q ports bytes old mid → Tries sent failures next q port said told mid new → TriesInVain sent failures next q further bytes old new
+  tries_more {ports = ports} {port = port} {old = old} {mid = mid} {new = new} None none same is passed more =
+      subst (λ (ps : List ℕ). TriesInVain sent failures next q ps bytes old new) (cc is) (vain_more ports port old mid new passed (by_bytes same more))
+  tries_more (Some reply) none same is passed more = absurd (cc none)
+
+  -- one that told something
+  pub tries_told : {said ports : List ℕ} {count port : ℕ} {old mid new : Asker S} (told : Option Reply) → is_some told ≡ true → said ≡ bytes → slice_get ports count ≡ Some port
+      → TriesInVain sent failures next q (take count ports) bytes old mid → Tries sent failures next q port said told mid new → TriesUntil sent failures next q ports bytes told old new
+  tries_told None some same at passed more = absurd (cc some)
+  tries_told {count = count} {port = port} {mid = mid} (Some reply) some same at passed more = (count, port, at, mid, passed, by_bytes same more)

@@ -1,0 +1,81 @@
+//! What an operator is told of a node, turn by turn.
+
+ghost use Rattle.std.specs.Prelude.{◌≡◌};
+
+use lk_disk::LogDisk;
+use lk_events::line::Observer;
+use lk_events::view::View;
+use lk_node::Node;
+use lk_replica::Replica;
+use lk_server::happened::Happened;
+use lk_server::server::Server;
+use lk_server::socket::Datagrams;
+use lk_state::Machine;
+use lk_types::{Members, NodeNo};
+
+/// The ticks within which a leader is heard again: from the next on a node waits for none.
+const HEARD: u8 = 4;
+
+/// The node that a node hears to lead.
+fn follows<M: Machine>(node: &Node<M>) -> Option<NodeNo> {
+    let known = node.known()?;
+    let is_heard = node.term().is_none() && node.ticks() < HEARD;
+    (is_heard && known != node.header().node()).then_some(known)
+}
+
+/// The members of the next position.
+fn members<M: Machine>(node: &Node<M>) -> &Members {
+    let roster = node.roster();
+    match roster.window().get(0) {
+        Some(members) => members,
+        None => roster.newest(),
+    }
+}
+
+/// What is seen of a node after what has happened to it.
+fn view_of<M: Machine>(node: &Node<M>, happened: &Happened) -> View {
+    let own = node.header().node();
+    let members = members(node).copy();
+    let is_member = members.as_slice().iter().any(|member| member.node == own);
+    View {
+        leads: if node.leads() { node.term() } else { None },
+        follows: follows(node),
+        promised: node.promised(),
+        executed: node.executed(),
+        snapshot: node.snapshot_position(),
+        installed: happened.installed,
+        is_member,
+        members,
+        wanted: happened.carried.wanted,
+        unsent: happened.carried.unsent,
+    }
+}
+
+/// Whether a node that has come up remembers nothing.
+fn is_empty<M: Machine>(node: &Node<M>) -> bool {
+    node.executed().get() == 0 && node.promised().round() == 0
+}
+
+/// Tells that a node has come up.
+pub fn observe_start<M: Machine, D: LogDisk + Drop, O: Observer>(
+    replica: &Replica<M, D>,
+    observer: &mut O,
+) {
+    if observer.is_on() {
+        let node = replica.node();
+        observer.begin(is_empty(node), view_of(node, &Happened::NOTHING));
+    }
+}
+
+/// Tells that a server has taken a turn.
+pub fn observe_turn<M: Machine, D: LogDisk + Drop, S: Datagrams + Drop, O: Observer>(
+    server: &mut Server<Replica<M, D>, S>,
+    observer: &mut O,
+)
+    ensures { server.new ≡ server.old }
+{
+    if observer.is_on() {
+        let happened = server.take_happened();
+        observer.turn(view_of(server.replica().node(), &happened));
+    }
+}

@@ -1,0 +1,127 @@
+"""What a node tells an operator with --events: each event, its time, and how many lines."""
+import contextlib
+import datetime
+import os
+import re
+import signal
+import subprocess
+import tempfile
+import time
+import unittest
+
+from harness.cluster import Cluster, free_ports
+
+PROGRAM = os.environ.get("LOCKS_PROGRAM")
+
+LINE = re.compile(r"\[(INFO |WARN ) locks\] (\d{4}-\d\d-\d\dT\d\d:\d\d:\d\d\.\d{3}Z) node (\d+) (.*)")
+
+
+class Told(Cluster):
+    """A cluster whose nodes tell their events into a file each, beside their folders."""
+
+    def start(self, node):
+        folder = os.path.join(self.folder, str(node))
+        os.makedirs(folder, exist_ok=True)
+        words = ["--genesis", self.genesis, "--number", str(node), "--port", str(self.ports[node]), "--dir", folder, "--events"]
+        with open(f"{folder}.events", "a") as told:
+            self.processes[node] = subprocess.Popen([self.program, "node", *words], stdin=subprocess.DEVNULL, stderr=told)
+
+    def events(self, node):
+        """What a node has told: level, time and text of each line."""
+        with open(os.path.join(self.folder, f"{node}.events")) as told:
+            lines = told.read().splitlines()
+        found = [LINE.fullmatch(line) for line in lines]
+        assert all(found), lines
+        assert all(it[3] == str(node) for it in found), lines
+        return [(it[1].strip(), datetime.datetime.fromisoformat(it[2].replace("Z", "+00:00")), it[4]) for it in found]
+
+    def waits(self, node, pattern, seconds=20.0):
+        """Waits until a node has told that, and gives the match."""
+        end = time.monotonic() + seconds
+        while time.monotonic() < end:
+            for _, _, text in self.events(node):
+                if it := re.fullmatch(pattern, text):
+                    return it
+            time.sleep(0.05)
+        raise AssertionError(f"node {node} never told {pattern}: {self.events(node)}")
+
+
+@unittest.skipUnless(PROGRAM, "LOCKS_PROGRAM does not tell the program")
+class EventsTest(unittest.TestCase):
+    def setUp(self):
+        self.cluster = Told(PROGRAM, self.enterContext(tempfile.TemporaryDirectory()), alpha=2)
+
+    def leader(self):
+        """The node that has told last that it leads, and its ballot."""
+        end = time.monotonic() + 20.0
+        while time.monotonic() < end:
+            for node in self.cluster.processes:
+                leads = [text for _, _, text in self.cluster.events(node) if "leads in ballot" in text]
+                if leads and leads[-1].startswith("leads"):
+                    return node, leads[-1].split()[-1]
+            time.sleep(0.05)
+        raise AssertionError("nobody leads")
+
+    def asks(self, *words, first=1):
+        """The answer to an operation, which all ports are asked in turn."""
+        ports = [word for port in self.cluster.ports.values() for word in ("--port", str(port))]
+        place = ["--cluster", "5", *ports, "--client", "7", "--request", str(first)]
+        return subprocess.run([PROGRAM, "ask", *place, *words], stdin=subprocess.DEVNULL, stdout=subprocess.PIPE, text=True).stdout
+
+    def test_a_leader_that_pauses_is_followed_by_another(self):
+        with self.cluster as cluster:
+            old, ballot = self.leader()
+            others = [node for node in (1, 2, 3) if node != old]
+            for node in others:
+                cluster.waits(node, f"follows node {old}")
+            cluster.processes[old].send_signal(signal.SIGSTOP)
+            end = time.monotonic() + 20.0
+            taken = None
+            while taken is None and time.monotonic() < end:
+                for node in others:
+                    if any(text.startswith("leads in ballot") for _, _, text in cluster.events(node)):
+                        taken = node
+                time.sleep(0.05)
+            self.assertIsNotNone(taken)
+            cluster.processes[old].send_signal(signal.SIGCONT)
+            cluster.waits(old, f"no longer leads in ballot {re.escape(ballot)}: (node {taken} began|there is) a greater ballot")
+            cluster.waits(old, f"follows node {taken}")
+
+    def test_one_of_three_hears_of_no_leader(self):
+        cluster = self.cluster
+        with contextlib.ExitStack() as stack:
+            stack.callback(cluster.__exit__)
+            cluster.start(1)
+            cluster.waits(1, "began with an empty store")
+            cluster.waits(1, "has heard of no leader for 2 s")
+            cluster.waits(1, "has heard of no leader for 4 s")
+            self.assertFalse([text for _, _, text in cluster.events(1) if "leads in" in text])
+            self.assertEqual({level for level, _, text in cluster.events(1) if "no leader" in text}, {"WARN"})
+
+    def test_members_stores_and_snapshots_are_told(self):
+        with self.cluster as cluster:
+            self.leader()
+            for number in range(1, 301):
+                self.assertIn(self.asks("ask", "db", first=number).split()[0], ("free",))
+            for node in (1, 2, 3):
+                cluster.waits(node, r"wrote a snapshot, \d+ positions")
+            self.assertEqual(self.asks("join", "4", str(self.add(4)), first=400), "joined\n")
+            cluster.start(4)
+            members = " ".join(f"{node}:{port}" for node, port in cluster.ports.items())
+            cluster.waits(1, f"node 4 joined, members {members}")
+            cluster.waits(4, r"installed a snapshot of node [123], \d+ positions")
+            self.assertEqual(self.asks("leave", "4", first=401), "left\n")
+            cluster.waits(1, "node 4 left, members .*")
+            cluster.kill(4)
+            cluster.kill(1)
+            cluster.start(1)
+            cluster.waits(1, r"found its store, \d+ positions executed")
+
+    def add(self, node):
+        """A port for one node more."""
+        [self.cluster.ports[node]] = free_ports(1)
+        return self.cluster.ports[node]
+
+
+if __name__ == "__main__":
+    unittest.main()
