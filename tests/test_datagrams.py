@@ -9,7 +9,7 @@ HERE = os.path.dirname(os.path.abspath(__file__))
 from harness.by_bytes import Node, bytes_of
 
 PROGRAM = os.environ.get("LOCKS_PROGRAM")
-TABLE = os.path.join(HERE, "..", "crates", "lk_tests", "src", "wire.rt")
+TABLE = os.path.join(HERE, "..", "tools", "callers", "datagrams.txt")
 
 # Node 1 asks node 2 for a promise, and gets it.
 PREPARE = "4c4b0101 0000000000000005 00000001 0000000000000003 00000001 0000000000000001"

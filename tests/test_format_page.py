@@ -10,7 +10,7 @@ from harness.by_bytes import Node, bytes_of
 
 HERE = os.path.dirname(os.path.abspath(__file__))
 PAGE = os.path.join(HERE, "..", "docs", "FORMATS.md")
-TABLE = os.path.join(HERE, "..", "crates", "lk_tests", "src", "wire.rt")
+TABLE = os.path.join(HERE, "..", "tools", "callers", "datagrams.txt")
 PROGRAM = os.environ.get("LOCKS_PROGRAM")
 KEY = "11" * 32
 PORTS = [7001, 7002, 7003]  # of the page: the genesis is under the tag

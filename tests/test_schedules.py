@@ -11,11 +11,21 @@ PROGRAM = os.environ.get("LOCKS_PROGRAM")
 EVENTS = 2000
 
 
-def ended(start):
+def ended(start, *more):
     """The status of a schedule, and what it printed."""
-    words = ["fuzz", "--start", str(start), "--events", str(EVENTS)]
+    words = ["fuzz", "--start", str(start), "--events", str(EVENTS), *more]
     ran = subprocess.run([PROGRAM, *words], stdin=subprocess.DEVNULL, capture_output=True, text=True, timeout=60)
     return ran.returncode, ran.stdout, ran.stderr
+
+
+def replayed(start):
+    """What a schedule with groups prints, and the same of a run of its script: how many events, and the greatest position."""
+    script = ended(start, "--groups", "--script")[1]
+    ran = subprocess.run([PROGRAM, "sim"], input=script, capture_output=True, text=True, timeout=60)
+    done = re.search(r"done (\d+)\n\Z", ran.stdout)
+    positions = [int(position) for position in re.findall(r"(?m)^ran \d+ (\d+) ", ran.stdout)]
+    told = f"done {int(done[1]) - 3} positions {max(positions, default=0)}\n" if done else ran.stdout[-200:]
+    return ended(start, "--groups")[1], told
 
 
 @unittest.skipUnless(PROGRAM, "LOCKS_PROGRAM does not tell the program")
@@ -26,6 +36,12 @@ class ScheduleTest(unittest.TestCase):
                 with self.subTest(start=start):
                     self.assertRegex(out, re.compile(rf"\Adone {EVENTS} positions [0-9]+\n\Z"))
                     self.assertEqual((status, err), (0, ""))
+
+    def test_twenty_scripts_of_schedules_come_to_the_same(self):
+        with concurrent.futures.ThreadPoolExecutor(os.cpu_count()) as pool:
+            for start, (printed, told) in enumerate(pool.map(replayed, range(1, 21)), 1):
+                with self.subTest(start=start):
+                    self.assertEqual(printed, told)
 
 
 if __name__ == "__main__":

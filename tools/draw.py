@@ -24,8 +24,8 @@ STYLE = svg.style("""\
 .promise{fill:#f6ad55} .vote{fill:#b794f4} .promise.again{stroke:#f6ad55} .vote.again{stroke:#b794f4} .unsynced{stroke:#aab6c2} .counted,.ran{fill:#68d391} .answered{stroke:#68d391} .edge{stroke:#cbd5de}""")
 
 
-def printed(program, lines):
-    run = subprocess.run([*program, "sim"], input="\n".join(lines) + "\n", capture_output=True, text=True)
+def printed(program, lines, *words):
+    run = subprocess.run([*program, "sim", *words], input="\n".join(lines) + "\n", capture_output=True, text=True)
     return run.stdout.splitlines(), run.returncode
 
 

@@ -3,8 +3,9 @@
 
 The page asks no network. It shows the script, what each event does in words and as a picture, what each node then holds
 and what of it is synced, the datagrams under way, and the list. All of it was printed by `locks sim`, in a run of the
-script or in one of its first lines and a few more; a click on a node or a datagram shows such runs. PAGE.html#17 opens
-the page after event 17. The first line of the script is event 0."""
+script or in one of its first lines and a few more. A click on a node shows what `locks inspect` would print of its disks
+and what a restart would execute; a click on a datagram, what would come of it now. PAGE.html#17 opens the page after
+event 17. The first line of the script is event 0."""
 import html
 import json
 import pathlib
@@ -51,7 +52,7 @@ def states_of(story, texts):
         if id(state) not in places:
             places[id(state)] = len(states)
             runs = [{**run, "prints": texts.number(run["prints"])} for run in state["runs"]]
-            states.append({**state, "runs": runs})
+            states.append({**state, "inspect": texts.number(state["inspect"]), "runs": runs})
     return states, [{node: places[id(state)] for node, state in after.items()} for after in story.states]
 
 

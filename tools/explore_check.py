@@ -32,6 +32,10 @@ FACTS = (
     ("tour_5_members", 17, 1, {"members": ["n1", "n2", "n3"]}),
     ("tour_5_members", 26, 1, {"members": ["n1", "n3"], "executed": 3}),
     ("tour_6_sync", 8, 1, {"life": "down by fault 7, device", "votes": [0]}),
+    ("tour_7_snapshot", 8, 1, {"inspect": [
+        "disk a 160 of 190 bytes synced", "disk b 0 of 0 bytes synced", "executed 1", "members 1:7001", "names 1 of 512",
+        "clients 1 of 256", "held db 7 1",
+    ]}),
     ("tour_7_snapshot", 10, 1, {"life": "stopped by its trap", "executed": 1, "kept": [1]}),
     ("tour_7_snapshot", 14, 1, {"life": "up", "executed": 1, "kept": []}),
     ("tour_9_newcomer", 16, 2, {"executed": 0, "members": []}),
@@ -43,6 +47,10 @@ FACTS = (
     ("tour_10_group", 19, 3, {"executed": 2, "votes": []}),
     ("two_changes", 18, 1, {"executed": 0, "votes": [1]}),
     ("two_changes", 22, 1, {"executed": 2, "members": ["n1", "n2", "n3", "n4"]}),
+    ("two_changes", 22, 1, {"inspect": [
+        "disk a 267 of 298 bytes synced", "disk b 0 of 0 bytes synced", "executed 2",
+        "members 1:7001 2:7002 3:7003 4:7004", "members from 4 1:7001 2:7002 4:7004", "names 0 of 512", "clients 2 of 256",
+    ]}),
     ("two_changes", 32, 1, {"life": "stopped by its trap", "executed": 2, "kept": [1, 2]}),
     ("two_changes", 40, 4, {"executed": 0, "votes": [2, 3]}),
     ("two_changes", 50, 2, {"executed": 3, "members": ["n1", "n2", "n4"]}),
@@ -102,8 +110,8 @@ def wrong_file(script, text):
 def holds(shown, event, node, keys):
     """What a node holds under these keys after an event."""
     state = shown["states"][shown["after"][event][str(node)]]
-    votes = [vote["proposal"] for vote in state["votes"]]
-    return {key: votes if key == "votes" else state[key] for key in keys}
+    told = {"votes": [vote["proposal"] for vote in state["votes"]], "inspect": shown["texts"][state["inspect"]]}
+    return {key: told.get(key, state[key]) for key in keys}
 
 
 def wrong_facts(script, text):
@@ -141,12 +149,22 @@ def by_enter(page, selector):
     page.press("Enter")
 
 
-def wrong_details(page):
+def wrong_inspect(page, event, shown):
+    """What is wrong with how the details of the first node tell its disks, if anything."""
+    state = min(shown["after"][event].items(), key=lambda it: int(it[0]))[1]
+    expected = "\n".join(shown["texts"][shown["states"][state]["inspect"]])
+    told = page.value("document.getElementById('inspect').textContent")
+    return None if told == expected else f"event {event} tells {told!r} of the disks and not {expected!r}"
+
+
+def wrong_details(page, event, shown):
     """What is wrong with what a node and a datagram open by a click and by Enter, if anything."""
     for selector, how in itertools.product((".node > button", "#way button"), (browser.Page.click, by_enter)):
         how(page, selector)
         if not page.value(OPENED):
             return f"{selector} opens nothing by {how.__name__}"
+        if selector.startswith(".node") and (wrong := wrong_inspect(page, event, shown)):
+            return wrong
         page.press("Escape")
         if page.value("document.getElementById('details').open"):
             return f"Escape does not close what {selector} opens"
@@ -161,7 +179,7 @@ def wrong_in_browser(page, path, shots):
         page.appear(width, height, scheme)
         first = next(place for place, event in enumerate(shown["events"]) if event["if"])  # with a datagram under way
         page.open(path, f"#{first}")
-        wrong = wrong_step(page, first, shown) or wrong_details(page) or wrong_walk(page, shown)
+        wrong = wrong_step(page, first, shown) or wrong_details(page, first, shown) or wrong_walk(page, shown)
         if shots:
             page.shoot(shots / f"{path.stem}_{width}_{scheme}.png", whole=True)
         if wrong:

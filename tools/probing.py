@@ -1,9 +1,10 @@
 #!/usr/bin/env python3
 """Runs the first lines of a script of world mode and a few lines more, and reads what the program prints.
 
-`locks sim` prints what happens and not what a node holds. So tools/story.py asks: each question is a run of the script
-up to an event and of a few more lines, and their output is the answer."""
+`locks sim` prints what happens and, with `--state`, what the disks of nodes come to. What else a node holds tools/story.py
+asks: each question is a run of the script up to an event and of a few more lines, and their output is the answer."""
 import functools
+import itertools
 import re
 
 from draw import printed
@@ -53,12 +54,19 @@ class Runs:
     def __init__(self, program, lines):
         self.program, self.lines = program, lines
         self.printed = functools.lru_cache(None)(lambda lines: printed(program, lines)[0])
+        self.states = functools.lru_cache(None)(lambda count: printed(program, lines[:count], "--state")[0])
 
     def after(self, count, more):
         """What the lines more print, after this many lines of the script."""
         first = tuple(self.lines[:count])
         before, output = without_end(self.printed(first)), without_end(self.printed((*first, *more)))
         return output[len(before):]
+
+    def inspected(self, count, node):
+        """What `locks sim --state` prints of a node's disks after this many lines of the script."""
+        states = self.states(count)
+        at = next(place for place, line in enumerate(states) if re.fullmatch(rf"node {node} \w+", line))
+        return list(itertools.takewhile(lambda line: not re.match("node |datagrams ", line), states[at + 1:]))
 
     def led_on(self, count, more, nodes, is_wanted=lambda *_: True, is_done=lambda output: False):
         """Goes on by delivering once what is sent to these nodes and wanted, until nothing more is sent or it is done.

@@ -183,6 +183,7 @@ class Story:
             "promised": self.promised(event, node, loses),
             "votes": self.latest(self.votes(event, node, loses), self.reached[node], [it for it, _ in kept]),
             "asked": self.asked(event, node),
+            "inspect": self.runs.inspected(event + 1, node),
             "runs": [{"more": more, "prints": self.runs.after(event + 1, more)} for more in (keeps, loses)],
         }
 

@@ -351,7 +351,10 @@ function showNode(node) {
     const how = ["The script up to ", link(at), ", then ", more.join(", "), ":"];
     return [el("h3", {}, title), note(how), el("pre", {}, lines(data.texts[prints]))];
   });
-  openDetails(`Node ${node} after #${at}, ${state.life}`, held(state), runs);
+  const how = ["What ", el("code", {}, "locks sim --state"), " prints of its disks after ", link(state.at), ":"];
+  const disks = [el("h3", {}, "Its disks, as inspect reads them"), note(how)];
+  const told = el("pre", { id: "inspect" }, lines(data.texts[state.inspect]));
+  openDetails(`Node ${node} after #${at}, ${state.life}`, held(state), disks, told, runs);
 }
 
 function showSent(place) {

@@ -22,6 +22,8 @@ ghost use Rattle.lk_service.specs.Revivals.{IsBegun as IsTakenUp, IsRefusedWith}
 ghost use Rattle.lk_service.specs.Turns.{EndsEarly, Serves, TakesTurn};
 ghost use Rattle.lk_sim.specs.Networks.{MayCome};
 ghost use Rattle.lk_sim.specs.declared.seat.Life.TheVariants.{Up, Down};
+ghost use Rattle.lk_promise.specs.Converging.{Converges};
+ghost use Rattle.lk_promise.specs.ExactlyOnce.{AreServedOnce};
 ghost use Rattle.lk_promise.specs.Linear.{IsLinearizable};
 ghost use Rattle.lk_promise.specs.Promise.{KeepsPromise};
 ghost use Rattle.lk_cluster.specs.Clusters.{Node, Cluster, IsReachable, ForgesNothing, IsBegun, Says, scene_of, server_disks};
@@ -31,7 +33,9 @@ ghost use Rattle.lk_cluster.specs.Sealing.{IsSealed, OnlyNodesSeal, OnlyNodesSea
 
 use lk_disk::LogDisk;
 use lk_locks::LockTable;
-use lk_promise::laws::worlds_are_linearizable;
+use lk_promise::laws::{
+    nodes_converge, operations_take_effect_exactly_once, worlds_are_linearizable,
+};
 use lk_replica::Replica;
 use lk_server::laws::is_told_by_a_node;
 use lk_server::node_replica::NodeReplica;
@@ -50,6 +54,22 @@ pub fn a_cluster_is_linearizable<D: LogDisk, S: Datagrams>()
 {
     a_cluster_keeps_the_promise::<D, S>();
     worlds_are_linearizable();
+}
+
+/// Each operation of a client that follows the rule takes effect exactly once in such a cluster, in the client's order.
+pub fn a_cluster_serves_exactly_once<D: LogDisk, S: Datagrams>()
+    ensures { (genesis : GenesisValue) (cluster : Cluster) → IsReachable ForgesNothing D.is_metered S.is_telling genesis cluster → AreServedOnce cluster.genesis cluster.sent cluster.trace }
+{
+    a_cluster_keeps_the_promise::<D, S>();
+    operations_take_effect_exactly_once();
+}
+
+/// Nodes of such a cluster that have executed as many commands keep the same, to the byte.
+pub fn a_cluster_converges<D: LogDisk, S: Datagrams>()
+    ensures { (genesis : GenesisValue) (cluster : Cluster) → IsReachable ForgesNothing D.is_metered S.is_telling genesis cluster → Converges (scene_of cluster) }
+{
+    a_cluster_keeps_the_promise::<D, S>();
+    nodes_converge();
 }
 
 /// Under a key that only the nodes of a cluster have, what a node takes of a frame is not forged: whatever it says for a node of the cluster, that

@@ -1,2 +1,3 @@
 mod Furthest
+mod Adding
 mod Happening

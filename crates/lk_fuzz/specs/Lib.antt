@@ -1,3 +1,4 @@
 pub mod Drawn
 pub mod Schedules
+pub mod Transcripts
 pub mod Lines

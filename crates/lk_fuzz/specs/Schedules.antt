@@ -1,5 +1,5 @@
 -- Random schedules: what happens in their worlds.
-use Rattle.std.specs.Prelude.{◌≡◌, ℕ, zero, suc, ◌⊎◌, ⊤, [], ◌∷◌, length}
+use Rattle.std.specs.Prelude.{◌≡◌, ℕ, zero, suc, Bool, ◌⊎◌, ⊤, [], ◌∷◌, length}
 use Rattle.lk_node.specs.Histories.{Genesis}
 use Rattle.lk_replica.specs.Behaviours.{Behaviour}
 use Rattle.lk_sim.specs.Events.{Does}
@@ -10,6 +10,7 @@ use Rattle.lk_sim.specs.declared.event.Event.TheVariants.{Start, Restart, Tick}
 use Rattle.lk_sim.specs.declared.refused.Refused.{Refused}
 use Rattle.lk_sim.specs.declared.refused.Refused.TheVariants.{NotUp, WorldFull, WorldMemory}
 use Rattle.lk_fuzz.specs.Drawn.{IsDrawn}
+use Rattle.lk_fuzz.specs.declared.plan.Plan.{Plan}
 
 -- cluster 5, alpha 2, and nodes 1, 2 and 3 at the ports 7001 to 7003
 pub record IsOfThree (g : Genesis) : Type 0 where
@@ -51,16 +52,16 @@ pub record Starts {R : Type 0} (b : Behaviour R) (old new : Scene R) : Type 0 wh
   pub third : Does b two (Start 3) new
 
 -- an event that is drawn happens
-abbrev pub Next : {R : Type 0} → Behaviour R → Scene R → Scene R → Type 0
-Next b old new = (e : Event) × IsDrawn (length old.sent) e × Happens b old e new
+abbrev pub Next : {R : Type 0} → Behaviour R → Bool → Scene R → Scene R → Type 0
+Next b groups old new = (e : Event) × IsDrawn groups (length old.sent) e × Happens b old e new
 
 -- so many of them happen, one after another
-abbrev pub Draws : {R : Type 0} → Behaviour R → ℕ → Scene R → Scene R → Type 0
-Draws b zero old new = new ≡ old
-Draws {R = R} b (suc n) old new = (mid : Scene R) × Draws b n old mid × Next b mid new
+abbrev pub Draws : {R : Type 0} → Behaviour R → Bool → ℕ → Scene R → Scene R → Type 0
+Draws b groups zero old new = new ≡ old
+Draws {R = R} b groups (suc n) old new = (mid : Scene R) × Draws b groups n old mid × Next b groups mid new
 
 -- the three nodes are started, and then so many drawn events happen
-pub record Fuzzes {R : Type 0} (b : Behaviour R) (count : ℕ) (old new : Scene R) : Type 0 where
+pub record Fuzzes {R : Type 0} (b : Behaviour R) (plan : Plan) (old new : Scene R) : Type 0 where
   pub started : Scene R
   pub starts : Starts b old started
-  pub draws : Draws b count started new
+  pub draws : Draws b plan.groups plan.count started new

@@ -6,6 +6,7 @@ pub enum EventKind {
     Compact,
     Client,
     Deliver,
+    Group,
     Inject,
     Stop,
     FailAt,

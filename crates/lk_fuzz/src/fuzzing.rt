@@ -7,9 +7,12 @@ ghost use Rattle.lk_script.specs.Worlds.{refused_line};
 ghost use Rattle.lk_sim.specs.Events.{Does};
 ghost use Rattle.lk_sim.specs.declared.event.Event.TheVariants.{Start};
 ghost use Rattle.lk_fuzz.specs.Schedules.{IsOfThree, IsNew, IsPassedBy, PassesBy, Happens, Starts, Next, Fuzzes};
-ghost use Rattle.lk_fuzz.specs.Lines.{ran_at, IsFurthest, done_line, Reports};
+ghost use Rattle.lk_fuzz.specs.Transcripts.{AddsSome};
+ghost use Rattle.lk_fuzz.specs.Lines.{ran_at, IsFurthest, done_line, Reports, world_line, IsScript};
 
+use crate::plan::Plan;
 use crate::schedule::Schedule;
+use crate::transcript::Transcript;
 use lk_replica::MemoryReplica;
 use lk_script::ending::end;
 use lk_script::fault::ScriptFault;
@@ -22,6 +25,9 @@ use std::io::Write;
 
 /// The most events of a run.
 pub const MAX_EVENTS: u64 = 20_000;
+
+/// The line of a script that begins the world.
+const WORLD_LINE: &[u8] = b"genesis 5 2 1:7001 2:7002 3:7003\n";
 
 // The member of that number.
 fn member(number: u16) -> Member
@@ -42,12 +48,17 @@ fn genesis() -> Genesis
 }
 
 // Some time passes at node 1, or it comes up again where it is down.
-fn pass_by<R: MemoryReplica>(world: &mut World<R>) -> Result<(), Refused>
-    ensures { OnOk result (PassesBy R.behaves world.old world.new) }
+fn pass_by<R: MemoryReplica>(
+    alloc: Global,
+    world: &mut World<R>,
+    transcript: &mut Transcript,
+) -> Result<(), Refused>
+    ensures passes { OnOk result (PassesBy R.behaves world.old world.new) }
+    ensures adds { OnOk result (AddsSome R.behaves world.old transcript.old world.new transcript.new) }
 {
     let first = NodeNo::of(1).unwrap();
-    match world.apply(Event::Tick(first)) {
-        Err(Refused::NotUp) => world.apply(Event::Restart(first)),
+    match transcript.apply(alloc, world, Event::Tick(first)) {
+        Err(Refused::NotUp) => transcript.apply(alloc, world, Event::Restart(first)),
         done => done,
     }
 }
@@ -61,31 +72,48 @@ fn is_passed_by(refused: Refused) -> bool
 
 // A drawn event happens. Where it is refused for another reason than room and memory, a tick of node 1 happens in its place, or a
 // restart where that node is down.
-fn happen<R: MemoryReplica>(world: &mut World<R>, event: Event) -> Result<(), Refused>
-    ensures { OnOk result (Happens R.behaves world.old event world.new) }
+fn happen<R: MemoryReplica>(
+    alloc: Global,
+    world: &mut World<R>,
+    event: Event,
+    transcript: &mut Transcript,
+) -> Result<(), Refused>
+    ensures happens { OnOk result (Happens R.behaves world.old event world.new) }
+    ensures adds { OnOk result (AddsSome R.behaves world.old transcript.old world.new transcript.new) }
 {
-    match world.apply(event) {
-        Err(refused) if is_passed_by(refused) => pass_by(world),
+    match transcript.apply(alloc, world, event) {
+        Err(refused) if is_passed_by(refused) => pass_by(alloc, world, transcript),
         done => done,
     }
 }
 
 // The node of that number is started.
-fn start_one<R: MemoryReplica>(world: &mut World<R>, number: u32) -> Result<(), Refused>
+fn start_one<R: MemoryReplica>(
+    alloc: Global,
+    world: &mut World<R>,
+    number: u32,
+    transcript: &mut Transcript,
+) -> Result<(), Refused>
     requires { (1 ≤ number) × (number ≤ 3) }
-    ensures { OnOk result (Does R.behaves world.old (Start number) world.new) }
+    ensures starts { OnOk result (Does R.behaves world.old (Start number) world.new) }
+    ensures adds { OnOk result (AddsSome R.behaves world.old transcript.old world.new transcript.new) }
 {
     let node = NodeNo::of(number).unwrap();
-    world.apply(Event::Start(node))
+    transcript.apply(alloc, world, Event::Start(node))
 }
 
 // The three nodes are started.
-fn start<R: MemoryReplica>(world: &mut World<R>) -> Result<(), Refused>
-    ensures { OnOk result (Starts R.behaves world.old world.new) }
+fn start<R: MemoryReplica>(
+    alloc: Global,
+    world: &mut World<R>,
+    transcript: &mut Transcript,
+) -> Result<(), Refused>
+    ensures starts { OnOk result (Starts R.behaves world.old world.new) }
+    ensures adds { OnOk result (AddsSome R.behaves world.old transcript.old world.new transcript.new) }
 {
-    start_one(world, 1)?;
-    start_one(world, 2)?;
-    start_one(world, 3)?;
+    start_one(alloc, world, 1, transcript)?;
+    start_one(alloc, world, 2, transcript)?;
+    start_one(alloc, world, 3, transcript)?;
     Ok(())
 }
 
@@ -93,12 +121,15 @@ fn start<R: MemoryReplica>(world: &mut World<R>) -> Result<(), Refused>
 fn step<R: MemoryReplica>(
     alloc: Global,
     world: &mut World<R>,
+    groups: bool,
     schedule: &mut Schedule,
+    transcript: &mut Transcript,
 ) -> Result<(), Refused>
-    ensures { OnOk result (Next R.behaves world.old world.new) }
+    ensures next { OnOk result (Next R.behaves groups world.old world.new) }
+    ensures adds { OnOk result (AddsSome R.behaves world.old transcript.old world.new transcript.new) }
 {
-    let event = schedule.next_event(alloc, world.datagrams())?;
-    happen(world, event)
+    let event = schedule.next_event(alloc, groups, world.datagrams())?;
+    happen(alloc, world, event, transcript)
 }
 
 /// A world of three nodes in which nothing has happened: cluster 5, alpha 2, and nodes 1, 2 and 3 at the ports 7001 to 7003.
@@ -108,20 +139,22 @@ pub fn world_of_three<R: MemoryReplica>(alloc: Global) -> World<R>
     World::new(alloc, genesis())
 }
 
-/// The three nodes are started, and then so many events happen that are drawn from the number `start`, or those up to the first
-/// that is refused. An event that is refused by 16 to 20 becomes a tick of node 1, or its restart where it is down.
+/// The three nodes are started, and then as many events happen as the plan says, drawn from its number, or those up to the first
+/// that is refused. An event that is refused by 16 to 20 becomes a tick of node 1, or its restart where it is down. The transcript
+/// takes what happens.
 pub fn run_schedule<R: MemoryReplica>(
     alloc: Global,
     world: &mut World<R>,
-    start_at: u64,
-    count: u32,
+    plan: Plan,
+    transcript: &mut Transcript,
 ) -> Result<(), Refused>
-    ensures { OnOk result (Fuzzes R.behaves count world.old world.new) }
+    ensures fuzzes { OnOk result (Fuzzes R.behaves plan world.old world.new) }
+    ensures adds { OnOk result (AddsSome R.behaves world.old transcript.old world.new transcript.new) }
 {
-    start(world)?;
-    let mut schedule = Schedule::of(start_at);
-    'events: for _ in 0..count {
-        step(alloc, world, &mut schedule)?;
+    start(alloc, world, transcript)?;
+    let mut schedule = Schedule::of(plan.start);
+    'events: for _ in 0..plan.count {
+        step(alloc, world, plan.groups, &mut schedule, transcript)?;
     }
     Ok(())
 }
@@ -212,33 +245,70 @@ fn write_refusal<W: Write>(alloc: Global, refused: Refused, out: &mut W) -> Resu
 // Runs a schedule, and writes its line.
 fn write_run<R: MemoryReplica, W: Write>(
     alloc: Global,
-    start_at: u64,
-    count: u32,
+    plan: Plan,
     out: &mut W,
 ) -> Result<(), ScriptFault>
-    ensures { OnOk result ((text : List ℕ) × Reports R.behaves count text × Appends (W.contents out.old) (W.contents out.new) text) }
+    ensures { OnOk result ((text : List ℕ) × Reports R.behaves plan text × Appends (W.contents out.old) (W.contents out.new) text) }
 {
     let mut world = world_of_three::<R>(alloc);
-    match run_schedule(alloc, &mut world, start_at, count) {
-        Ok(()) => write_done(alloc, count, world.trace(), out),
+    match run_schedule(alloc, &mut world, plan, &mut Transcript::new(alloc, false)) {
+        Ok(()) => write_done(alloc, plan.count, world.trace(), out),
         Err(refused) => write_refusal(alloc, refused, out),
     }
 }
 
-/// Runs so many events that are drawn from the number `start_at`, in a new world of three nodes, and writes
-/// `done N positions P`, P being the greatest position that a node has executed, or the refusal that ended the run. The status is
-/// 0, or 1 where an event was refused, or a fault was told on standard error.
+// Writes a script of events.
+fn write_lines<W: Write>(lines: &[u8], out: &mut W) -> Result<(), ScriptFault>
+    ensures ok { OnOk result (Appends (W.contents out.old) (W.contents out.new) (world_line ++ lines.now)) }
+{
+    write_text(WORLD_LINE, out)?;
+    write_text(lines, out)
+}
+
+// Runs a schedule, and writes a script of it.
+fn write_script<R: MemoryReplica, W: Write>(
+    alloc: Global,
+    plan: Plan,
+    out: &mut W,
+) -> Result<(), ScriptFault>
+    ensures { OnOk result ((text : List ℕ) × IsScript R.behaves plan text × Appends (W.contents out.old) (W.contents out.new) text) }
+{
+    let mut world = world_of_three::<R>(alloc);
+    let mut transcript = Transcript::new(alloc, true);
+    match run_schedule(alloc, &mut world, plan, &mut transcript) {
+        Ok(()) => write_lines(&transcript.text, out),
+        Err(refused) => write_refusal(alloc, refused, out),
+    }
+}
+
+/// Runs the plan in a new world of three nodes, and writes `done N positions P`, P being the greatest position that a node has
+/// executed, or the refusal that ended the run. The status is 0, or 1 where an event was refused, or a fault was told on standard
+/// error.
 pub fn run_fuzz<R: MemoryReplica, W: Write, E: Write>(
     alloc: Global,
-    start_at: u64,
-    count: u32,
+    plan: Plan,
     out: &mut W,
     err: &mut E,
 ) -> u8
-    ensures ok { result ≡ 0 → (text : List ℕ) × Reports R.behaves count text × Appends (W.contents out.old) (W.contents out.new) text }
+    ensures ok { result ≡ 0 → (text : List ℕ) × Reports R.behaves plan text × Appends (W.contents out.old) (W.contents out.new) text }
     ensures quiet { result ≡ 0 → err.new ≡ err.old }
     ensures status { (result ≡ 0) ⊎ (result ≡ 1) }
 {
-    let wrote = write_run::<R, W>(alloc, start_at, count, out);
+    let wrote = write_run::<R, W>(alloc, plan, out);
+    end(wrote, out, err)
+}
+
+/// The same, but what is written is a script of what happens, for `locks sim`.
+pub fn print_script<R: MemoryReplica, W: Write, E: Write>(
+    alloc: Global,
+    plan: Plan,
+    out: &mut W,
+    err: &mut E,
+) -> u8
+    ensures ok { result ≡ 0 → (text : List ℕ) × IsScript R.behaves plan text × Appends (W.contents out.old) (W.contents out.new) text }
+    ensures quiet { result ≡ 0 → err.new ≡ err.old }
+    ensures status { (result ≡ 0) ⊎ (result ≡ 1) }
+{
+    let wrote = write_script::<R, W>(alloc, plan, out);
     end(wrote, out, err)
 }

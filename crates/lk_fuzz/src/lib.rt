@@ -4,5 +4,7 @@
 mod draws;
 mod event_kind;
 pub mod fuzzing;
+pub mod plan;
 mod request;
 mod schedule;
+pub mod transcript;

@@ -1,1 +1,2 @@
 pub mod Inspections
+pub mod WorldStates

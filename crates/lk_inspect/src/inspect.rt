@@ -16,7 +16,7 @@ use std::io;
 use std::io::Write;
 
 /// Writes what a store comes to, or `no store`. Whether there is one.
-fn write_found<W: Write>(found: Option<&Inspection>, out: &mut W) -> io::Result<bool> {
+pub fn write_found<W: Write>(found: Option<&Inspection>, out: &mut W) -> io::Result<bool> {
     match found {
         Some(inspection) => write_inspection(inspection, out)?,
         None => out.write_all(b"no store\n")?,

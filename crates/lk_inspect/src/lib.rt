@@ -5,3 +5,4 @@ pub mod inspect;
 pub mod inspection;
 mod lines;
 mod state;
+pub mod world_state;

@@ -34,10 +34,14 @@ type Usage<'a> = (&'a str, &'a str, &'a [Row<'a>]);
 /// The subcommands.
 #[rattlefmt::skip]
 const SUBCOMMANDS: &[Usage] = &[
-    ("sim", "runs a script from standard input", &[]),
+    ("sim", "runs a script from standard input", &[
+        (Kind::Flag, "state", "prints after the last line what the disks of each node hold, as inspect does, and what of them is synced"),
+    ]),
     ("fuzz", "runs random events in a world of three nodes", &[
         (Kind::Word, "start", "the number that the events are drawn from"),
         (Kind::Word, "events", "how many events, 0 to 20000"),
+        (Kind::Flag, "groups", "nodes also take several datagrams as one group"),
+        (Kind::Flag, "script", "prints a script of what happens, for sim"),
     ]),
     ("node", "runs a node on the files of a folder and a port of 127.0.0.1", &[
         (Kind::Word, "genesis", "CLUSTER,ALPHA,NODE:PORT,.."),

@@ -5,6 +5,7 @@ use crate::wants::misread_operation;
 use clap::ArgMatches;
 use lk_entries::Header;
 use lk_fuzz::fuzzing::MAX_EVENTS;
+use lk_fuzz::plan::Plan;
 use lk_server::pace::Pace;
 use lk_service::command_words::operation_of;
 use lk_service::far::Far;
@@ -121,11 +122,15 @@ pub fn node_plan<'a>(matches: &ArgMatches<'a>) -> Result<NodePlan<'a>, Misread<'
     })
 }
 
-/// The number that a schedule begins at, and how many events it has.
-pub fn fuzz_plan<'a>(matches: &ArgMatches<'a>) -> Result<(u64, u32), Misread<'a>> {
+/// The schedule that `locks fuzz` is to run.
+pub fn fuzz_plan<'a>(matches: &ArgMatches<'a>) -> Result<Plan, Misread<'a>> {
     let start = number_in(matches, "start", u64::MAX)?;
     let events = number_in(matches, "events", MAX_EVENTS)?;
-    Ok((start, events as u32))
+    Ok(Plan {
+        start,
+        count: events as u32,
+        groups: matches.get_flag("groups"),
+    })
 }
 
 /// The client.

@@ -12,8 +12,9 @@ use clap::error::ErrorKind;
 use clap::{ArgMatches, Error};
 use lk_disk::MemoryDisk;
 use lk_events::line::{Events, Observer, Unobserved};
-use lk_fuzz::fuzzing::run_fuzz;
+use lk_fuzz::fuzzing::{print_script, run_fuzz};
 use lk_inspect::inspect::inspect;
+use lk_inspect::world_state::run_to_state;
 use lk_locks::LockTable;
 use lk_replica::Replica;
 use lk_script::ending::{end, tell};
@@ -213,6 +214,22 @@ fn client_key_words<R: Files<File = File>, W: Write, E: Write>(
     }
 }
 
+/// Runs a script.
+fn sim_words<R: BufRead, W: Write, E: Write>(
+    alloc: Global,
+    matches: &ArgMatches<'_>,
+    reader: &mut R,
+    out: &mut W,
+    err: &mut E,
+) -> u8
+    ensures { result ≤ 2 }
+{
+    if matches.get_flag("state") {
+        return run_to_state::<Nodes, R, W, E>(alloc, reader, out, err);
+    }
+    run_to_end::<Nodes, R, W, E>(alloc, reader, out, err)
+}
+
 /// Runs a random schedule.
 fn fuzz_words<W: Write, E: Write>(
     alloc: Global,
@@ -222,10 +239,14 @@ fn fuzz_words<W: Write, E: Write>(
 ) -> u8
     ensures { result ≤ 2 }
 {
-    match fuzz_plan(matches) {
-        Ok((start, events)) => run_fuzz::<Nodes, W, E>(alloc, start, events, out, err),
-        Err(misread) => refuse_words(&misread, err),
+    let plan = match fuzz_plan(matches) {
+        Ok(plan) => plan,
+        Err(misread) => return refuse_words(&misread, err),
+    };
+    if matches.get_flag("script") {
+        return print_script::<Nodes, W, E>(alloc, plan, out, err);
     }
+    run_fuzz::<Nodes, W, E>(alloc, plan, out, err)
 }
 
 /// Runs a subcommand, given its words.
@@ -241,7 +262,7 @@ fn run_subcommand<H: Files<File = File> + Net + Eprint + Clock, R: BufRead, W: W
     ensures { result ≤ 2 }
 {
     match subcommand {
-        Subcommand::Sim => run_to_end::<Nodes, R, W, E>(alloc, reader, out, err),
+        Subcommand::Sim => sim_words(alloc, matches, reader, out, err),
         Subcommand::Fuzz => fuzz_words(alloc, matches, out, err),
         Subcommand::Node => run_node_words(rt, alloc, matches, err),
         Subcommand::Ask => ask_words(rt, alloc, matches, out, err),

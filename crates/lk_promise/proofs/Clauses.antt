@@ -40,7 +40,8 @@ use Rattle.lk_promise.proofs.Keeping.{has_snapshots, compacted, kept, covered, s
 use Rattle.lk_promise.proofs.Telling.{told}
 use Rattle.lk_promise.specs.Promise as promise
 use Rattle.lk_promise.specs.Plain.{at, TakesEffectAt}
-use Rattle.lk_promise.specs.Promise.{IsChosen, IsExplained, IsOrdered, HaveExecuted, HaveSnapshots, Compacts, IsDone, IsRefused, IsRun, KeepsPromise}
+use Rattle.lk_promise.specs.Events.{Compacts, IsDone, IsRefused, IsRun}
+use Rattle.lk_promise.specs.Promise.{IsChosen, IsExplained, IsOrdered, HaveExecuted, HaveSnapshots, KeepsPromise}
 use Rattle.lk_promise.proofs.Effects.{leaves}
 use Rattle.lk_promise.proofs.Quorums.{agreed, at_is, members_are, has_sent, is_chosen, chosen_is}
 use Rattle.lk_promise.proofs.Explaining.{stands_at, all_fit, answered}
@@ -58,8 +59,6 @@ module _ (genesis : Genesis) (sent : List Datagram) (trace : List Note) where
         counted_once = λ n k i set other v w c d. x.counted_twice n k i set other v w c d;
         answered = λ n client number a c. answered genesis L client number a fit (x.answered n client number a c);
         told = λ n client number last c. let t = x.told n client number last c in (t.0, (t.1.0, answered genesis L client last t.1.0 fit t.1.1));
-        answers = λ n a s. answered genesis L a.client a.number a.answer fit (x.answers n a (has_sent genesis sent n (message.Answer a) s));
-        passes = λ n p s. let t = x.passes n p (has_sent genesis sent n (message.Passed p) s) in (t.0, answered genesis L p.client p.last t.0 fit t.1);
         decided = λ n k d v w s e f.
             let next : k + 1 ≡ suc k = omega arith in
             x.decided n k d v w (has_sent genesis sent n (message.Decided d) s) (sym (ap (at d.commands) next ∙ at_is d.commands (suc k)) ∙ e) (sym (at_is L (d.first + k)) ∙ f);
@@ -116,6 +115,7 @@ promised w p = record {
   executed = executed w.genesis w.seats w.sent p.states;
   told = told w.sent w.trace p.told;
   order = ordered w.genesis w.sent w.trace p.order;
+  told_in_time = p.told_in_time;
   kept = kept w.genesis w.seats w.sent p.kept;
   covered = covered w.genesis w.seats w.sent p.covered;
   snapshots = snapshots w.genesis w.seats w.sent p.states;
@@ -144,10 +144,10 @@ if_err P Q (Ok x) f p = tt
 if_err P Q (Err e) f p = f e p
 
 pub done : (old new : Scene ReplicaValue) (e : Event) → Does locks_behave old e new → IsDone old e new
-done = is_done locks_behave (λ r. refl)
+done = is_done locks_behave (λ r. refl) (λ t r. refl) (λ r o q came k. k) (λ r given q came k. k)
 
 pub not_done : (old new : Scene ReplicaValue) (e : Event) (r : Refused) → doing.IsRefused locks_behave old e r new → IsRefused old e r new
-not_done = refused locks_behave (λ r. refl)
+not_done = refused locks_behave (λ r. refl) (λ t r. refl) (λ r o q came k. k) (λ r given q came k. k)
 
 pub ran : (old : Scene ReplicaValue) (events : List Event) (how : RunEnd) (new : Scene ReplicaValue) → Runs locks_behave old events how new → IsRun old events how new
-ran = runs locks_behave (λ r. refl)
+ran = runs locks_behave (λ r. refl) (λ t r. refl) (λ r o q came k. k) (λ r given q came k. k)

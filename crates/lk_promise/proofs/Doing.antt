@@ -1,7 +1,11 @@
 -- What events do, in the words of the promise.
-use Rattle.std.proofs.Common.{◌≡◌, ℕ, zero, suc, ◌⊎◌, List, [], ◌∷◌, ◌++◌, map, take, set, slice_get, Option, Some, None, refl, sym, ap, ◌∙◌, inl, inr, append-nil, arith}
+use Rattle.std.proofs.Common.{◌≡◌, ℕ, zero, suc, ◌⊎◌, List, [], ◌∷◌, ◌++◌, map, take, set, slice_get, Option, Some, None, Result, refl, sym, ap, ◌∙◌, inl, inr, append-nil, arith}
 use Rattle.std.proofs.lemmas.List.Elements.{filter_map-append}
 use Rattle.lk_disk.specs.Memory.{Memory, empty}
+use Rattle.lk_disk.specs.declared.trap.Trap.{Trap}
+use Rattle.lk_locks.specs.Meaning.{table_meaning}
+use Rattle.lk_locks.specs.Packed.{IsTableText}
+use Rattle.lk_replica.specs.Taking.{ComesTo}
 use Rattle.lk_wire.specs.declared.message.Content.{Content}
 use Rattle.lk_wire.specs.declared.message.Content.TheVariants as content
 use Rattle.lk_wire.specs.declared.message.NodeMessage.TheVariants as message
@@ -14,7 +18,7 @@ use Rattle.lk_node.specs.Served.{IsOfNode}
 use Rattle.lk_replica.specs.Behaviours.{Behaviour}
 use Rattle.lk_replica.specs.ReplicaValue.{ReplicaValue}
 use Rattle.lk_sim.specs.Events.{Turns, AreOwn, AreAllOwn, Adds, IsGiven, IsGivenTogether, ComesUp, IsCompacted, Brings, Does, IsHalted, LeftBy, LeftByGroup, LeftByRevival, LeftByPacking, Wants, IsRefused}
-use Rattle.lk_replica.specs.Together.{Said, sent_of}
+use Rattle.lk_replica.specs.Together.{Said, sent_of, ComesToAll}
 use Rattle.lk_sim.specs.Groups.{AreNotesOf, cut_short, left_over, given_by}
 use Rattle.lk_sim.specs.Heard.{Asks}
 use Rattle.lk_sim.specs.Refusals.{datagram_at}
@@ -32,8 +36,10 @@ use Rattle.lk_sim.specs.declared.seat.Life.{Life}
 use Rattle.lk_sim.specs.declared.seat.Life.TheVariants.{Up, Down}
 use Rattle.lk_log.specs.StoreValue.{device_of}
 use Rattle.std.proofs.lemmas.Option.{slice_get-get_or}
-use Rattle.lk_promise.specs.Promise as promise
-use Rattle.lk_promise.specs.Promise.{asked_of, requests, AreAskedIn, AreAskedBy, IsFor, ChangesOnly, FallsDown, SendsAsAsked, IsStopped, StopsAsAsked, IsSilent}
+use Rattle.lk_promise.proofs.Falling.{leaves_down}
+use Rattle.lk_promise.proofs.Refusing.{has_cause, leaves_up, takes_as_told}
+use Rattle.lk_promise.specs.Events as promise
+use Rattle.lk_promise.specs.Events.{asked_of, requests, AreAskedIn, AreAskedBy, IsFor, ChangesOnly, FallsDown, SendsAsAsked, IsStopped, StopsAsAsked, IsSilent}
 
 -- ---- notes that ask nothing
 
@@ -257,7 +263,7 @@ module _ (b : Behaviour ReplicaValue) where
   wants_add old new (event.Compact n) k = k.adds
   wants_add old new (event.Client n r) k = same_adds old new k
   wants_add old new (event.Deliver i) k = elim k [ inl same ↦ same_adds old new same | inr h ↦ h.4.adds ]
-  wants_add old new (event.Group n turns) k = elim k [ inl same ↦ same_adds old new same | inr h ↦ h.adds ]
+  wants_add old new (event.Group n turns) k = elim k [ inl same ↦ same_adds old new same.0 | inr h ↦ h.adds ]
   wants_add old new (event.Inject n bytes) k = elim k [ inl same ↦ same_adds old new same.0 | inr h ↦ h.adds ]
   wants_add old new (event.Stop n x y) k = absurd k
   wants_add old new (event.FailAt n count) k = absurd k
@@ -289,7 +295,7 @@ module _ (b : Behaviour ReplicaValue) where
     | inr h ↦ inr (h.0, bound old.sent i h.1 h.0 h.2 h.3, halted_falls (LeftBy b (Some h.1.bytes)) old new h.0 h.4)
   ]
   wants_falls old new (event.Group n turns) k = elim k [
-    | inl same ↦ inl (same_seats old new same)
+    | inl same ↦ inl (same_seats old new same.0)
     | inr h ↦ inr (n, refl, halted_falls (LeftByGroup b (map (given_by old.sent) turns.items)) old new n h)
   ]
   wants_falls old new (event.Inject n bytes) k = elim k [
@@ -307,6 +313,7 @@ module _ (b : Behaviour ReplicaValue) where
   is_refused old new e r k =
       let adds = refused_adds old new e r k in
       record {
+        cause = has_cause old b new e r k;
         unchanged = λ other. elim k [ inl same ↦ same.1 | inr wants ↦ absurd (other wants.0) ];
         only = refused_falls old new e r k;
         nothing_sent = adds.sent ∙ append-nil old.sent;
@@ -316,7 +323,9 @@ module _ (b : Behaviour ReplicaValue) where
 
 -- ---- a stop
 
-module _ (b : Behaviour ReplicaValue) (memory_is : (r : ReplicaValue) → b.memory r ≡ device_of r.store) where
+module _ (b : Behaviour ReplicaValue) (memory_is : (r : ReplicaValue) → b.memory r ≡ device_of r.store) (node_stays : (t : Trap) (r : ReplicaValue) → (b.with_trap t r).node ≡ r.node)
+    (contract : (r : ReplicaValue) (o : Option (List ℕ)) (q : ReplicaValue) (came : Result (List Note × List Datagram) ℕ) → b.Takes r o q came → ComesTo table_meaning IsTableText r o q came)
+    (contract_of_all : (r : ReplicaValue) (given : List (Option (List ℕ))) (q : ReplicaValue) (came : Result (List Said) ℕ) → b.TakesAll r given q came → ComesToAll table_meaning IsTableText r given q came) where
   stopped : (old new : Scene ReplicaValue) (n x y : ℕ) → GoesDown b old new n x y → IsStopped old new n x y
   stopped old new n x y k =
       let device = stopped_on x y (device_of k.replica.store) in
@@ -363,7 +372,7 @@ module _ (b : Behaviour ReplicaValue) (memory_is : (r : ReplicaValue) → b.memo
   silent old new (event.Arm n count bytes) k = adds_nothing old new k.adds
 
   pub is_done : (old new : Scene ReplicaValue) (e : Event) → Does b old e new → promise.IsDone old e new
-  is_done old new e d = record { asked = brings_asks b old new e d.1; only = brings_only b old new e d.1; sends = brings_sends b old new e d.1; stops = stops old new e d.1; silent = silent old new e d.1; grows = done_grows b old new e d }
+  is_done old new e d = record { asked = brings_asks b old new e d.1; only = brings_only b old new e d.1; sends = brings_sends b old new e d.1; stops = stops old new e d.1; silent = silent old new e d.1; up = leaves_up old b new e d.1; down = leaves_down old new b e d.1; takes = takes_as_told b node_stays contract contract_of_all old new e d.0 d.1; grows = done_grows b old new e d }
 
   pub refused : (old new : Scene ReplicaValue) (e : Event) (r : Refused) → IsRefused b old e r new → promise.IsRefused old e r new
   refused old new e r k = is_refused b old new e r k

@@ -21,7 +21,8 @@ use Rattle.lk_locks.specs.Packed.{table_text}
 use Rattle.lk_locks.proofs.Tables.{text_of-text}
 use Rattle.lk_node.specs.Served.{text, BearsOutPart}
 use Rattle.lk_replica.specs.ReplicaValue.{ReplicaValue}
-use Rattle.lk_promise.specs.Plain.{Kept, IsKeptOf, IsSnapshot}
+use Rattle.lk_promise.specs.Disks.{IsSnapshot}
+use Rattle.lk_promise.specs.Plain.{Kept, IsKeptOf}
 use Rattle.lk_promise.specs.Promise.{HasExecuted, IsPart}
 use Rattle.lk_promise.proofs.Effects.{leaves}
 use Rattle.lk_promise.proofs.Rising.{Rise, sessions_rise}

@@ -1,5 +1,5 @@
 -- The fences at which a name is granted rise along a list.
-use Rattle.std.proofs.Common.{◌≡◌, ℕ, zero, suc, ◌+◌, ◌-◌, ◌<◌, ◌≤◌, ◌⊎◌, Bool, true, false, cond, ltb, leb, eqb, nat_le, not, ◌&&◌, List, [], ◌∷◌, ◌++◌, length, take, drop, fold, filter, slice_get, Option, Some, None, Contains, refl, ap, sym, ◌∙◌, subst, subst₂, inl, inr, arith}
+use Rattle.std.proofs.Common.{◌≡◌, ℕ, zero, suc, ◌+◌, ◌-◌, ◌<◌, ◌≤◌, ◌⊎◌, Bool, true, false, cond, ltb, leb, eqb, not, ◌&&◌, List, [], ◌∷◌, ◌++◌, length, take, drop, fold, filter, slice_get, Option, Some, None, Contains, refl, ap, sym, ◌∙◌, subst, inl, inr, arith}
 use Rattle.std.specs.List.{list_any}
 use Rattle.std.specs.FinMap as map
 use Rattle.std.specs.Cmp.{eq_by_cmp_equiv}
@@ -15,10 +15,8 @@ use Rattle.lk_types.specs.declared.command.Command.{Command}
 use Rattle.lk_types.specs.declared.command.Command.TheVariants.{Noop, Request}
 use Rattle.lk_types.specs.declared.command.Op.{Op}
 use Rattle.lk_types.specs.declared.command.Op.TheVariants.{Table, Join, Leave, Raise}
-use Rattle.lk_types.specs.declared.command.Request.{Request as Asking}
 use Rattle.lk_types.specs.declared.genesis.Genesis.{Genesis}
-use Rattle.lk_history.specs.Chosen.{command_at}
-use Rattle.lk_history.proofs.Histories.{cons_cases, contains_more}
+use Rattle.lk_history.proofs.Histories.{cons_cases}
 use Rattle.lk_locks.specs.Bodies.{body_of}
 use Rattle.lk_locks.specs.declared.body.Body.{Body}
 use Rattle.lk_locks.specs.declared.body.Body.TheVariants.{Acquire, Release, Ask, Check, Share, Break}
@@ -29,8 +27,9 @@ use Rattle.lk_history.specs.Datagrams.{Datagram}
 use Rattle.lk_step.specs.declared.note.Note.{Note}
 use Rattle.lk_promise.specs.Promise.{IsExplained}
 use Rattle.lk_promise.specs.Guarded.{Write, accepted, IsUnder, IsGuarded, AreListed}
-use Rattle.lk_promise.specs.Plain.{Locks, State, hold, give_again, give_first, acquire_known, acquire, and_one, share_known, share, is_one_of, is_held_by, is_free, is_held_at, release, without, break_lock, first, told_of, asks, use_locks, begin, serve, join, leave, raise, takes_effect, effect, used, after_one, after, at, IsAnswered, TakesEffectAt}
+use Rattle.lk_promise.specs.Plain.{Locks, State, hold, give_again, give_first, acquire_known, acquire, and_one, share_known, share, is_held_by, is_free, is_held_at, release, without, break_lock, first, told_of, asks, use_locks, begin, serve, join, leave, raise, takes_effect, after_one, after, at}
 use Rattle.lk_promise.proofs.Locking.{join_agrees, leave_agrees}
+use Rattle.lk_promise.proofs.Placing.{IsPlaced, placed}
 use Rattle.lk_promise.proofs.Quorums.{at_is}
 
 abbrev fence_of : Option Lock → ℕ
@@ -375,40 +374,24 @@ acquired client Raise s fence g = absurd (elim (cases_Bool s.raised) [
   | inr e ↦ (let d : Raised ≡ Granted fence = rw e at g in cc d)
 ])
 
-get_middle : {X : Type 0} (xs : List X) (x : X) (ys : List X) → slice_get (xs ++ x ∷ ys) (length xs) ≡ Some x
-get_middle [] x ys = refl
-get_middle (y ∷ xs) x ys = get_middle xs x ys
-
-take_front : {X : Type 0} (xs ys : List X) → take (length xs) (xs ++ ys) ≡ xs
-take_front [] ys = none ys
-  where
-    none : {X : Type 0} (ys : List X) → take 0 ys ≡ []
-    none [] = refl
-    none (y ∷ ys) = refl
-take_front (x ∷ xs) ys = ap (λ l. x ∷ l) (take_front xs ys)
-
-listed : (genesis : Genesis) (L : List Command) (client number fence : ℕ) → IsAnswered genesis L client number (Granted fence) → (name : List ℕ) × (i : ℕ) × IsUnder genesis L name (record { client = client; number = number; fence = fence }) i
-listed genesis L client number fence a =
-    let place : ℕ = length a.before in
-    let next : place + 1 ≡ suc place = omega arith in
-    let less : (place + 1) - 1 ≡ place = omega arith in
-    let front : take ((place + 1) - 1) L ≡ a.before = ap (λ (n : ℕ). take n L) less ∙ ap (λ (l : List Command). take place l) a.stands ∙ take_front a.before (Request a.request ∷ a.later) in
-    let stands : at L (place + 1) ≡ Some (Request a.request) = ap (λ (n : ℕ). at L n) next ∙ at_is L (suc place) ∙ ap (λ (l : List Command). slice_get l place) a.stands ∙ get_middle a.before (Request a.request) a.later in
-    let served : (serve a.request.client a.request.op (after genesis a.before)).0 ≡ Granted fence = ap (λ (c : ℕ). (serve c a.request.op (after genesis a.before)).0) a.of_client ∙ a.answered in
-    let k = acquired a.request.client a.request.op (after genesis a.before) fence served in (
+listed : (genesis : Genesis) (L : List Command) (client number fence : ℕ) → IsPlaced genesis L client number (Granted fence) → (name : List ℕ) × (i : ℕ) × IsUnder genesis L name (record { client = client; number = number; fence = fence }) i
+listed genesis L client number fence p =
+    let before : State = after genesis (take (p.position - 1) L) in
+    let served : (serve p.request.client p.request.op before).0 ≡ Granted fence = ap (λ (c : ℕ). (serve c p.request.op before).0) p.of_client ∙ p.answered in
+    let k = acquired p.request.client p.request.op before fence served in (
       k.name,
-      place + 1,
+      p.position,
       record {
-        request = a.request;
-        takes = (stands, subst (λ (l : List Command). takes_effect (after genesis l) a.request ≡ true) (sym front) a.takes);
-        of_client = a.of_client;
-        of_number = a.of_number;
+        request = p.request;
+        takes = p.takes;
+        of_client = p.of_client;
+        of_number = p.of_number;
         body = k.body;
         asks = k.is;
         acquires = k.acquires;
-        granted = subst (λ (l : List Command). (serve a.request.client a.request.op (after genesis l)).0 ≡ Granted fence) (sym front) served;
+        granted = served;
       },
     )
 
 pub are_listed : (genesis : Genesis) (sent : List Datagram) (trace : List Note) → IsExplained genesis sent trace → AreListed genesis sent trace
-are_listed genesis sent trace e = (e.0, e.1, λ node client number fence c. listed genesis e.0 client number fence (e.2.answered node client number (Granted fence) c))
+are_listed genesis sent trace e = (e.0, e.1, λ node client number fence c. listed genesis e.0 client number fence (placed genesis e.0 client number (Granted fence) (e.2.answered node client number (Granted fence) c)))

@@ -27,7 +27,7 @@ use Rattle.lk_sim.specs.declared.seat.Seat.{Seat}
 use Rattle.lk_sim.specs.declared.seat.Life.{Life}
 use Rattle.lk_sim.specs.declared.seat.Life.TheVariants.{Up, Down}
 use Rattle.lk_promise.specs.Promise as promise
-use Rattle.lk_promise.specs.Plain.{IsSnapshot}
+use Rattle.lk_promise.specs.Disks.{IsSnapshot}
 use Rattle.lk_promise.specs.Promise.{device_in, IsShort, MayRemainOf, Remembers, EachImage, HasSnapshot, IsCovered, IsRemembered, Says, Begins}
 use Rattle.lk_promise.proofs.Executing.{is_snapshot}
 use Rattle.lk_promise.proofs.Explaining.{all_fit}

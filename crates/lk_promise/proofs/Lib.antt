@@ -6,9 +6,16 @@ mod Rising
 mod Executing
 mod Telling
 mod Keeping
+mod Refusing
+mod Falling
 mod Doing
 mod Fixed
 mod Once
+mod Placing
 pub mod Clauses
 mod Linear
 mod Guarded
+mod ExactlyOnce
+mod Converging
+mod Restarting
+mod Replying

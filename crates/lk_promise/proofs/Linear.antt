@@ -1,9 +1,9 @@
 -- The entries of a chosen list that take effect are a legal sequential history.
-use Rattle.std.proofs.Common.{◌≡◌, ℕ, zero, suc, ◌+◌, ◌-◌, ◌<◌, ◌≤◌, Bool, true, false, cond, nat_le, List, [], ◌∷◌, ◌++◌, length, take, drop, fold, filter, not, slice_get, eqb, Option, Some, None, Contains, IsTrue, refl, ap, sym, ◌∙◌, subst, subst₂, inl, inr, append_assoc, append-nil, arith}
+use Rattle.std.proofs.Common.{◌≡◌, ℕ, zero, suc, ◌+◌, ◌-◌, ◌<◌, ◌≤◌, Bool, true, false, cond, nat_le, List, [], ◌∷◌, ◌++◌, length, take, fold, filter, not, slice_get, eqb, Some, Contains, refl, ap, sym, ◌∙◌, subst, inl, inr, append_assoc, arith}
 use Rattle.std.specs.List.{list_any}
 use Rattle.std.proofs.lemmas.Bool.{cases_Bool}
 use Rattle.std.proofs.lemmas.List.{length-append}
-use Rattle.std.proofs.lemmas.List.Elements.{Contains-append_left, Contains-append_right}
+use Rattle.std.proofs.lemmas.List.Elements.{Contains-append_right}
 use Rattle.lk_types.specs.declared.answer.Answer.{Answer}
 use Rattle.lk_types.specs.declared.command.Command.{Command}
 use Rattle.lk_types.specs.declared.command.Command.TheVariants.{Noop, Request}
@@ -12,14 +12,14 @@ use Rattle.lk_types.specs.declared.command.Op.TheVariants.{Table, Join, Leave, R
 use Rattle.lk_types.specs.declared.command.Request.{Request as Asking}
 use Rattle.lk_types.specs.declared.genesis.Genesis.{Genesis}
 use Rattle.lk_history.specs.Datagrams.{Datagram}
-use Rattle.lk_history.specs.Chosen.{command_at}
-use Rattle.lk_history.proofs.Histories.{cons_cases, contains_more}
+use Rattle.lk_history.proofs.Histories.{cons_cases}
 use Rattle.lk_step.specs.declared.note.Note.{Note}
 use Rattle.lk_step.specs.declared.note.Note.TheVariants as note
-use Rattle.lk_promise.specs.Linear.{Object, object, state_of, alone, Sequence, IsLegal, Linearizes, IsLinearizable}
-use Rattle.lk_promise.specs.Plain.{State, begin, serve, takes_effect, effect, used, after_one, after, at, IsAnswered, TakesEffectAt}
+use Rattle.lk_promise.specs.Linear.{Object, object, alone, Sequence, IsLegal, Linearizes, IsLinearizable}
+use Rattle.lk_promise.specs.Plain.{State, begin, serve, takes_effect, used, after_one, after, at, IsAnswered, TakesEffectAt}
 use Rattle.lk_promise.specs.Promise.{IsChosen, Explains, IsExplained, IsOrdered}
 use Rattle.lk_promise.proofs.Once.{once}
+use Rattle.lk_promise.proofs.Placing.{get_middle, take_front}
 use Rattle.lk_promise.proofs.Quorums.{at_is}
 
 -- ---- the object by itself answers as the state does
@@ -120,18 +120,6 @@ split s (Noop ∷ L) front x back e = one_more s Noop L front x (split (after_on
 split s (Request r ∷ L) front x back e = split_by (takes_effect s r) s r L front x back refl e (λ f d. split (after_one s (Request r)) L f x back d)
 
 -- ---- lists
-
-get_middle : {X : Type 0} (xs : List X) (x : X) (ys : List X) → slice_get (xs ++ x ∷ ys) (length xs) ≡ Some x
-get_middle [] x ys = refl
-get_middle (y ∷ xs) x ys = get_middle xs x ys
-
-take_front : {X : Type 0} (xs ys : List X) → take (length xs) (xs ++ ys) ≡ xs
-take_front [] ys = none ys
-  where
-    none : {X : Type 0} (ys : List X) → take 0 ys ≡ []
-    none [] = refl
-    none (y ∷ ys) = refl
-take_front (x ∷ xs) ys = ap (λ l. x ∷ l) (take_front xs ys)
 
 get_front : {X : Type 0} (xs ys : List X) (k : ℕ) (x : X) → slice_get (xs ++ ys) k ≡ Some x → k < length xs → slice_get xs k ≡ Some x
 get_front [] ys k x e lt = absurd (omega (arith, lt))

@@ -13,7 +13,7 @@ use Rattle.lk_history.proofs.Histories.{cons_cases, contains_more, filter_from, 
 use Rattle.lk_promise.specs.Promise as promise
 use Rattle.lk_promise.specs.Plain as plainly
 use Rattle.lk_promise.specs.Plain.{after, at}
-use Rattle.lk_promise.specs.Promise.{Says, IsAcceptedBy, IsChosen, Begins}
+use Rattle.lk_promise.specs.Chosen.{Says, IsAcceptedBy, IsChosen, Begins}
 use Rattle.lk_promise.proofs.Effects.{leaves}
 
 -- ---- positions

@@ -1,4 +1,11 @@
 pub mod Plain
+pub mod Chosen
+pub mod Disks
 pub mod Promise
+pub mod Events
 pub mod Linear
 pub mod Guarded
+pub mod ExactlyOnce
+pub mod Converging
+pub mod Restarting
+pub mod Replies

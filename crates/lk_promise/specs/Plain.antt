@@ -1,7 +1,7 @@
 -- What a list of commands leaves: the plain lock table and the members, which requests take effect, and what they are answered; and what a
 -- node keeps of a list that it has executed.
 use Rattle.std.specs.Prelude.{◌≡◌, ℕ, zero, suc, ◌+◌, ◌-◌, ◌<◌, ◌≤◌, max, Bool, true, false, not, ◌&&◌, ◌==◌, nat_lt, nat_le, if◌then◌else◌, Option, Some, None, List, [], ◌∷◌, ◌++◌, length, take, fold, filter, slice_get, Contains, IsTrue}
-use Rattle.std.specs.List.{list_any, flat_map}
+use Rattle.std.specs.List.{list_any}
 use Rattle.std.specs.Ordering.{nat_cmp}
 use Rattle.std.specs.Cmp.Lexicographic.{slice_cmp}
 use Rattle.std.specs.FinMap as map
@@ -14,7 +14,6 @@ use Rattle.lk_types.specs.declared.command.Op.TheVariants.{Table, Join, Leave, R
 use Rattle.lk_types.specs.declared.command.Request.{Request as Asking}
 use Rattle.lk_types.specs.declared.genesis.Genesis.{Genesis}
 use Rattle.lk_types.specs.declared.member.Member.{Member}
-use Rattle.lk_fields.specs.Fields as field
 use Rattle.lk_state.specs.declared.session.Session.{Session}
 use Rattle.lk_locks.specs.Bodies.{body_of}
 use Rattle.lk_locks.specs.Packed.{table_text}
@@ -304,20 +303,3 @@ pub record IsKeptOf (genesis : Genesis) (L : List Command) (kept : Kept) : Type 
   pub rise : (k : ℕ) (s t : Session) → slice_get kept.sessions k ≡ Some s → slice_get kept.sessions (k + 1) ≡ Some t → s.client < t.client
   -- the plain table
   pub locks : kept.locks ≡ table_text (table (after genesis L))
-
--- its bytes, by the fields that datagrams have too: numbers of one byte, two, four and eight, the greater bytes first
-abbrev pub members_text : List Member → List ℕ
-members_text set = field.one (length set) ++ flat_map field.member set
-
-abbrev pub session_text : Session → List ℕ
-session_text s = field.two s.client ++ (field.eight s.number ++ field.answer s.answer)
-
-abbrev pub kept_text : Kept → List ℕ
-kept_text kept =
-    ((field.eight kept.executed ++ ((field.one (length kept.coming) ++ flat_map members_text kept.coming) ++ (field.four kept.greatest ++ field.eight kept.changed)))
-    ++ (field.two (length kept.sessions) ++ flat_map session_text kept.sessions))
-    ++ kept.locks
-
--- the bytes are a snapshot of the list: what is kept of it
-abbrev pub IsSnapshot : Genesis → List Command → List ℕ → Type 0
-IsSnapshot genesis L bytes = (kept : Kept) × IsKeptOf genesis L kept × (bytes ≡ kept_text kept)

@@ -1,13 +1,20 @@
 //! Laws of the definitions alone.
 ghost use Rattle.std.specs.Prelude.{ℕ, List};
+ghost use Rattle.lk_disk.specs.Memory.{Memory};
+ghost use Rattle.lk_entries.specs.Values.{HeaderValue};
+ghost use Rattle.lk_step.specs.declared.note.Note.{Note};
 ghost use Rattle.lk_types.specs.declared.command.Command.{Command};
 ghost use Rattle.lk_types.specs.declared.genesis.Genesis.{Genesis};
 ghost use Rattle.lk_replica.specs.ReplicaValue.{ReplicaValue};
 ghost use Rattle.lk_sim.specs.Scenes.{Scene};
+ghost use Rattle.lk_promise.specs.Converging.{Converges};
+ghost use Rattle.lk_promise.specs.ExactlyOnce.{AreServedOnce};
 ghost use Rattle.lk_promise.specs.Guarded.{AreListed, IsGuarded, Write};
 ghost use Rattle.lk_promise.specs.Linear.{IsLinearizable};
 ghost use Rattle.lk_promise.specs.Plain.{HasFixedMembers, TakesEffectOnce};
-ghost use Rattle.lk_promise.specs.Promise.{KeepsPromise};
+ghost use Rattle.lk_promise.specs.Promise.{Explains, KeepsPromise};
+ghost use Rattle.lk_promise.specs.Replies.{ExplainsReplies};
+ghost use Rattle.lk_promise.specs.Restarting.{ComesUp, IsIdempotent, ReadsFormatTwo};
 
 /// A list in which nobody asks to join or to leave names the members of the genesis at each position.
 pub fn members_stay_fixed()
@@ -34,4 +41,26 @@ pub fn fences_guard_resources()
 /// Of a world that keeps the promise each grant that a client was told stands in one chosen list, for a name that its request acquires.
 pub fn grants_are_listed()
     ensures { (world : Scene ReplicaValue) → KeepsPromise world → AreListed world.genesis world.sent world.trace }
+{}
+
+/// A list that explains what was noted in a world that keeps the promise explains each datagram to a client.
+pub fn replies_are_explained()
+    ensures { (world : Scene ReplicaValue) (L : List Command) → KeepsPromise world → Explains world.genesis world.sent world.trace L → ExplainsReplies world.genesis world.sent L }
+{}
+
+/// Exactly once: of a world that keeps the promise, each operation of a client that follows the rule takes effect at one position where it was answered,
+/// in the order in which the client asked, and before it is answered the client is not told Passed.
+pub fn operations_take_effect_exactly_once()
+    ensures { (world : Scene ReplicaValue) → KeepsPromise world → AreServedOnce world.genesis world.sent world.trace }
+{}
+
+/// Convergence: in a world that keeps the promise nodes that have executed as many commands keep the same, to the byte, and so do snapshots.
+pub fn nodes_converge()
+    ensures { (world : Scene ReplicaValue) → KeepsPromise world → Converges world }
+{}
+
+/// Restarts are idempotent: however often a node is stopped and started again, and whatever its disks keep of what was not synced, it is the same node and
+/// notes the same; and it comes up again, but for memory or a call of the device that failed.
+pub fn restarts_are_idempotent()
+    ensures { (header : HeaderValue) (device : Memory) (replica : ReplicaValue) (notes : List Note) → ReadsFormatTwo device → ComesUp header device replica notes → IsIdempotent header replica notes }
 {}

@@ -4,4 +4,4 @@
 pub mod laws;
 mod world;
 
-pub use world::{Replicas, apply, run};
+pub use world::{Replicas, apply, begin, run};

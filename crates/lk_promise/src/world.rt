@@ -1,14 +1,24 @@
 // A world of replicas of the lock table.
-ghost use Rattle.lk_promise.specs.Promise.{Compacts, IsDone, IsRefused, IsRun, KeepsPromise};
-ghost use Rattle.std.specs.Prelude.{OnOk, IfErr};
+ghost use Rattle.lk_promise.specs.Events.{Compacts, IsDone, IsRefused, IsRun, nothing};
+ghost use Rattle.lk_promise.specs.Promise.{KeepsPromise};
+ghost use Rattle.std.specs.Prelude.{◌≡◌, OnOk, IfErr};
 
 use lk_disk::MemoryDisk;
 use lk_locks::LockTable;
 use lk_replica::Replica;
 use lk_sim::{Event, Refused, RunEnd, World};
+use lk_types::Genesis;
+use std::alloc::Global;
 
 /// Replicas of the lock table, on disks in memory.
 pub type Replicas = Replica<LockTable, MemoryDisk>;
+
+/// A world in which nothing has happened.
+pub fn begin(alloc: Global, genesis: Genesis) -> World<Replicas>
+    ensures begins { result ≡ nothing genesis }
+{
+    World::new(alloc, genesis)
+}
 
 /// One event happens, and the promise holds, whether it is done or refused.
 pub fn apply(world: &mut World<Replicas>, event: Event) -> Result<(), Refused>

@@ -16,7 +16,7 @@ use Rattle.lk_script.specs.Worlds.{events_of, Follows, refused_line}
 use Rattle.lk_script.specs.Scripts.{Script, begun, table, world, IsFirstLine, IsUnderstood, Takes, Refuses, Stop, at_end, at_line, at_refusal, Runs, last_line}
 use Rattle.lk_script.specs.Scripts.Takes.{prints, happens}
 use Rattle.lk_script.specs.Scripts.Runs.{ends, skips, takes, stops, refuses}
-use Rattle.lk_script.specs.Endings.{PrintsAll, BreaksOff, EndsBy}
+use Rattle.lk_script.specs.Endings.{SetsUp, BreaksOff, EndsBy}
 use Rattle.lk_script.specs.Faults.{fault_of_line}
 use Rattle.lk_script.specs.declared.order.Order.{Order}
 use Rattle.lk_script.specs.declared.fault.ScriptFault.{ScriptFault}
@@ -172,16 +172,19 @@ taken b input before written written' left left' server server' number line text
 
 -- the input is at its end, and what stands last was written
 pub ended : {R : Type 0} (b : Behaviour R) (input : List ℕ) (before written written' left : Option (List ℕ)) (server : Mode R) (number : ℕ) → (so_far : SoFar b input before written left server number) → so_far.rest ≡ []
-    → ((s : Script R) → Fits s server → Appends written written' (last_line s)) → (text : List ℕ) × PrintsAll b input text × Appends before written' text
+    → ((s : Script R) → Fits s server → Appends written written' (last_line s)) → (text : List ℕ) × SetsUp b input text server × Appends before written' text
 ended b input before written written' left server number s none wrote = (
   s.text ++ last_line s.state,
-  record {
-    state = s.state;
-    printed = s.text;
-    runs = subst (λ (t : List ℕ). Runs b begun 1 (lines_of input) t (at_end s.state)) (append-nil s.text)
-        (subst (λ (ls : List (List ℕ)). Runs b begun 1 ls (s.text ++ []) (at_end s.state)) (sym (s.lines ∙ ap (λ (t : List ℕ). s.front ++ lines_of t) none)) (s.on [] [] (at_end s.state) (ends s.state number)));
-    text_is = refl;
-  },
+  (
+    record {
+      state = s.state;
+      printed = s.text;
+      runs = subst (λ (t : List ℕ). Runs b begun 1 (lines_of input) t (at_end s.state)) (append-nil s.text)
+          (subst (λ (ls : List (List ℕ)). Runs b begun 1 ls (s.text ++ []) (at_end s.state)) (sym (s.lines ∙ ap (λ (t : List ℕ). s.front ++ lines_of t) none)) (s.on [] [] (at_end s.state) (ends s.state number)));
+      text_is = refl;
+    },
+    s.fits,
+  ),
   Appends-more before written written' s.text (last_line s.state) s.appended (wrote s.state s.fits),
 )
 
@@ -238,7 +241,7 @@ at_rest : (left : Option (List ℕ)) (rest : List ℕ) (P : List ℕ → Type 0)
 at_rest left rest P e h = subst (λ (o : Option (List ℕ)). IfSome o P) e h
 
 pub known_ended : {R : Type 0} (b : Behaviour R) → (o before written written' left : Option (List ℕ)) (server : Mode R) (number : ℕ) → Known b before written left server number o → IfSome left (λ (t : List ℕ). t ≡ [])
-    → ((s : Script R) → Fits s server → Appends written written' (last_line s)) → IfSome o (λ (input : List ℕ). (text : List ℕ) × PrintsAll b input text × Appends before written' text)
+    → ((s : Script R) → Fits s server → Appends written written' (last_line s)) → IfSome o (λ (input : List ℕ). (text : List ℕ) × SetsUp b input text server × Appends before written' text)
 known_ended b None before written written' left server number s h wrote = tt
 known_ended b (Some input) before written written' left server number s h wrote = ended b input before written written' left server number s (at_rest left s.rest (λ (t : List ℕ). t ≡ []) s.left_is h) wrote
 

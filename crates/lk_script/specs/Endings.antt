@@ -4,8 +4,10 @@ use Rattle.lk_replica.specs.Behaviours.{Behaviour}
 use Rattle.lk_script.specs.Lines.{lines_of, TakesWithinLine}
 use Rattle.lk_script.specs.Scripts.{Script, begun, Runs, at_end, at_line, at_refusal, last_line}
 use Rattle.lk_sim.specs.declared.refused.Refused.{Refused}
+use Rattle.lk_script.specs.TableServers.{Fits}
 use Rattle.lk_script.specs.declared.fault.ScriptFault.{ScriptFault}
 use Rattle.lk_script.specs.declared.fault.ScriptFault.TheVariants.{Read, Write, ScriptMemory, BadLine, Ended}
+use Rattle.lk_script.specs.declared.mode.Mode.{Mode}
 
 -- the script's lines print the text, to the last of them, and what stands after it
 pub record PrintsAll {R : Type 0} (b : Behaviour R) (script text : List ℕ) : Type 0 where
@@ -13,6 +15,10 @@ pub record PrintsAll {R : Type 0} (b : Behaviour R) (script text : List ℕ) : T
   pub printed : List ℕ
   pub runs : Runs b begun 1 (lines_of script) printed (at_end state)
   pub text_is : text ≡ printed ++ last_line state
+
+-- and the program then keeps what they have set up
+abbrev pub SetsUp : {R : Type 0} → Behaviour R → List ℕ → List ℕ → Mode R → Type 0
+SetsUp b script text mode = (all : PrintsAll b script text) × Fits all.state mode
 
 -- the lines in front of the line of that number print the text, and that line is the first that is not understood
 abbrev pub EndsAtLine : {R : Type 0} → Behaviour R → ℕ → List ℕ → List ℕ → Type 0

@@ -3,6 +3,7 @@ pub mod HexLines
 pub mod Replies
 pub mod TableMode
 pub mod WorldLines
+pub mod EventLines
 pub mod GenesisLines
 pub mod Worlds
 pub mod Scripts

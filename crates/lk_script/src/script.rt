@@ -7,7 +7,7 @@ ghost use Rattle.lk_sim.specs.declared.refused.Refused.{Refused as RefusedValue}
 ghost use Rattle.lk_script.specs.TableMode.{IsTableLine};
 ghost use Rattle.lk_script.specs.Worlds.{new_world, done_line};
 ghost use Rattle.lk_script.specs.Scripts.{Script, begun, table, world, IsFirstLine, IsUnderstood, Takes, Refuses, last_line};
-ghost use Rattle.lk_script.specs.Endings.{PrintsAll, EndsBy};
+ghost use Rattle.lk_script.specs.Endings.{PrintsAll, SetsUp, EndsBy};
 ghost use Rattle.lk_script.specs.TableServers.{Fits, done_in};
 
 use crate::buffers::Buffers;
@@ -165,15 +165,15 @@ fn write_line<W: Write>(
     }
 }
 
-/// Runs the script that the reader gives, line by line, and writes what each line prints.
+/// Runs the script that the reader gives, line by line, and writes what each line prints. Gives what it has set up.
 ///
 /// In world mode the replicas are of the type `M`.
 pub fn run_script<M: MemoryReplica, R: BufRead, W: Write>(
     alloc: Global,
     reader: &mut R,
     writer: &mut W,
-) -> Result<(), ScriptFault>
-    ensures ok { result ≡ Ok tt → IfSome (R.remaining reader.old) (λ script. (text : List ℕ) × PrintsAll M.behaves script text × Appends (W.contents writer.old) (W.contents writer.new) text) }
+) -> Result<Mode<M>, ScriptFault>
+    ensures ok { IfOk result (λ mode. IfSome (R.remaining reader.old) (λ script. (text : List ℕ) × SetsUp M.behaves script text mode × Appends (W.contents writer.old) (W.contents writer.new) text)) }
     ensures err { IfErr result (λ fault. fault ≢ ScriptFault.Write → IfSome (R.remaining reader.old) (λ script. (text : List ℕ) × EndsBy M.behaves fault script text (R.remaining reader.new) × Appends (W.contents writer.old) (W.contents writer.new) text)) }
 {
     let mut line = Vec::new(alloc);
@@ -181,7 +181,8 @@ pub fn run_script<M: MemoryReplica, R: BufRead, W: Write>(
     let mut mode = Mode::<M>::Begun;
     for number in 1..u32::MAX {
         if !next_line(reader, &mut line)? {
-            return write_last(alloc, &mode, writer);
+            write_last(alloc, &mode, writer)?;
+            return Ok(mode);
         }
         if !line.is_empty() {
             match take_line(alloc, &mut mode, &line, &mut buffers) {
@@ -206,6 +207,6 @@ pub fn run_to_end<M: MemoryReplica, R: BufRead, W: Write, E: Write>(
     ensures quiet { result ≡ 0 → err.new ≡ err.old }
     ensures status { (result ≡ 0) ⊎ (result ≡ 1) }
 {
-    let ran = run_script::<M, R, W>(alloc, reader, out);
+    let ran = run_script::<M, R, W>(alloc, reader, out).map(|_| ());
     end(ran, out, err)
 }

@@ -43,6 +43,14 @@ impl<R: MemoryReplica> WorldRun<R> {
         self.done
     }
 
+    /// The world.
+    pub fn into_world(self) -> World<R>
+        ensures { result ≡ self.world }
+    {
+        let WorldRun { world, done: _ } = self;
+        world
+    }
+
     /// One event happens, and what it prints is added to the text. It may be refused.
     fn happen(&mut self, event: Event, text: &mut Vec<u8>) -> Result<Option<Refused>, NoMemory>
         requires { self.old.done < 2 * max_count }

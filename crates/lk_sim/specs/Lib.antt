@@ -15,4 +15,5 @@ pub mod Packed
 pub mod Worlds
 pub mod Promises
 pub mod Runs
+pub mod Left
 pub mod Networks

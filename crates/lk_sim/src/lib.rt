@@ -10,6 +10,7 @@ mod giving;
 mod group;
 mod happening;
 pub mod laws;
+mod left;
 mod lives;
 mod packing;
 mod parts;
@@ -20,5 +21,6 @@ mod world;
 
 pub use end::{End, RunEnd};
 pub use event::{Event, Turn};
+pub use left::LeftNode;
 pub use refused::Refused;
 pub use world::World;

@@ -3,12 +3,13 @@ use crate::end::{End, RunEnd};
 use crate::event::Event;
 use crate::finding::find;
 use crate::happening::{happen, happen_all};
+use crate::left::{LeftNode, all_left};
 use crate::parts::Parts;
 use crate::refused::Refused;
 use crate::seat::lengths;
 use lk_replica::{Datagram, MemoryReplica};
 use lk_step::Note;
-use lk_types::{Genesis, NodeNo};
+use lk_types::{Genesis, NoMemory, NodeNo};
 use std::alloc::Global;
 use std::marker::Model;
 
@@ -32,12 +33,13 @@ impl<R: MemoryReplica> Model for World<R> {
 }
 
 impl<R: MemoryReplica> World<R> {
-    ghost use Rattle.std.specs.Prelude.{◌≡◌, ℕ, [], length, None, IfSome, OnOk, IfErr};
+    ghost use Rattle.std.specs.Prelude.{◌≡◌, ℕ, [], length, map, None, IfSome, IfOk, OnOk, IfErr};
     ghost use Rattle.lk_replica.specs.Behaviours.{disks_by};
     ghost use Rattle.lk_sim.specs.Events.{Does, IsRefused, IsToldEnd, Grows};
     ghost use Rattle.lk_disk.specs.Disk.{contents};
     ghost use Rattle.lk_disk.specs.declared.device.Side.TheVariants.{A, B};
     ghost use Rattle.lk_sim.specs.Kept.{disks_of};
+    ghost use Rattle.lk_sim.specs.Left.{left_of};
     ghost use Rattle.lk_sim.specs.Packed.{LeavesPacked};
     ghost use Rattle.lk_sim.specs.Promises.{Promises};
     ghost use Rattle.lk_sim.specs.Runs.{Runs};
@@ -118,6 +120,22 @@ impl<R: MemoryReplica> World<R> {
     {
         let i = find(&self.parts.seats, node)?;
         Some(lengths(&self.parts.seats[i]))
+    }
+
+    /// The nodes that were ever started, in the order of their starts, as the world leaves them. Memory may be refused.
+    pub fn into_nodes(self) -> Result<Vec<LeftNode>, NoMemory>
+        ensures { IfOk result (λ nodes. nodes.items ≡ map (left_of R.behaves) self.seats) }
+    {
+        let World { parts } = self;
+        let Parts {
+            alloc,
+            genesis: _,
+            seats,
+            sent: _,
+            trace: _,
+            ended: _,
+        } = parts;
+        all_left(alloc, seats)
     }
 
     /// What is promised of every world holds of this one. It does nothing.

@@ -20,5 +20,3 @@ mod node_turns;
 mod parts;
 #[cfg(test)]
 mod turns;
-#[cfg(test)]
-mod wire;

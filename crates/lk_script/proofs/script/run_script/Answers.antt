@@ -2,7 +2,6 @@ use Rattle.std.proofs.Common.{rules, arith, inl, refl, subst, ℕ, List}
 use Rattle.std.proofs.lemmas.List.{nil_from_length}
 use Rattle.std.proofs.lemmas.Result.{err_from_is_err_and}
 use Rattle.lk_script.proofs.LineLemmas.{took_nothing}
-use Rattle.lk_script.proofs.PrintLemmas.{done_tells, refused_tells}
 use Rattle.lk_script.proofs.ScriptLemmas.{known_starts, known_ended, known_last, known_line, known_broke, known_failed, known_skipped, known_taken}
 use Rattle.lk_script.specs.Scripts.{Script, Takes, Refuses}
 use Rattle.lk_script.specs.TableServers.{Fits}
@@ -19,13 +18,15 @@ returns-in_err-next_line-clause-err g c =
     (g.R.Read.remaining c.loop-number.reader) (g.R.Read.remaining c.next_line.new.reader) c.loop-number.mode c.loop-number.number c.next_line.ensures.within c.loop-number.invariant.1)
 
 pub returns-then-not-branch-clause-ok : goal.returns-then-not-branch-clause-ok
-returns-then-not-branch-clause-ok g c = λ done. known_ended g.M.MemoryReplica.behaves (g.R.Read.remaining c.args.reader.now) (g.W.Write.contents c.args.writer.now) (g.W.Write.contents c.loop-number.writer) (g.W.Write.contents c.write_last.new.writer)
-    (g.R.Read.remaining c.loop-number.reader) c.loop-number.mode c.loop-number.number c.loop-number.invariant.1 (c.in_ok-next_line.ensures.end (search rules)) (done_tells c.write_last.result _ tt c.write_last.ensures.ok done)
+returns-then-not-branch-clause-ok g c = known_ended g.M.MemoryReplica.behaves (g.R.Read.remaining c.args.reader.now) (g.W.Write.contents c.args.writer.now) (g.W.Write.contents c.loop-number.writer) (g.W.Write.contents c.write_last.new.writer)
+    (g.R.Read.remaining c.loop-number.reader) c.loop-number.mode c.loop-number.number c.loop-number.invariant.1 (c.in_ok-next_line.ensures.end (search rules)) c.in_ok-write_last.ensures.ok
 
-pub returns-then-not-branch-clause-err : goal.returns-then-not-branch-clause-err
-returns-then-not-branch-clause-err g c = refused_tells c.write_last.result _ _ c.write_last.ensures.err (λ fault why not_write.
-    known_last fault g.M.MemoryReplica.behaves (g.R.Read.remaining c.args.reader.now) (g.W.Write.contents c.args.writer.now) (g.W.Write.contents c.loop-number.writer) (g.W.Write.contents c.write_last.new.writer)
-    (g.R.Read.remaining c.loop-number.reader) (g.R.Read.remaining c.next_line.new.reader) c.loop-number.mode c.loop-number.number why not_write c.next_line.ensures.within c.loop-number.invariant.1)
+pub returns-in_err-write_last-clause-err : goal.returns-in_err-write_last-clause-err
+returns-in_err-write_last-clause-err g c =
+    let p = err_from_is_err_and c.from_residual-in_err-write_last.result c.from_residual-in_err-write_last.ensures.1 in
+    rw (p.1, p.2) (λ not_write.
+    known_last c.in_err-write_last.field-0.0 g.M.MemoryReplica.behaves (g.R.Read.remaining c.args.reader.now) (g.W.Write.contents c.args.writer.now) (g.W.Write.contents c.loop-number.writer) (g.W.Write.contents c.write_last.new.writer)
+    (g.R.Read.remaining c.loop-number.reader) (g.R.Read.remaining c.next_line.new.reader) c.loop-number.mode c.loop-number.number c.in_err-write_last.ensures.err not_write c.next_line.ensures.within c.loop-number.invariant.1)
 
 pub returns-in_err-write_line-in-Ok-clause-err : goal.returns-in_err-write_line-in-Ok-clause-err
 returns-in_err-write_line-in-Ok-clause-err g c =

@@ -1,0 +1,47 @@
+-- The line of world mode that asks for an event.
+use Rattle.std.specs.Prelude.{ℕ, List, [], ◌∷◌, ◌++◌, codes}
+use Rattle.std.specs.Fmt.{decimal}
+use Rattle.hex.specs.Hex.{encode_lower}
+use Rattle.lk_types.specs.declared.command.Op.{Op}
+use Rattle.lk_types.specs.declared.command.Op.TheVariants.{Table, Join, Leave, Raise}
+use Rattle.lk_sim.specs.declared.event.Event.{Event}
+use Rattle.lk_sim.specs.declared.event.Event.TheVariants as event
+use Rattle.lk_sim.specs.declared.event.Turn.{Turn}
+use Rattle.lk_sim.specs.declared.event.Turn.TheVariants as turn
+
+-- numbers, each after a space
+abbrev pub then_numbers : List ℕ → List ℕ
+then_numbers [] = []
+then_numbers (n ∷ more) = 32 ∷ (decimal n ++ then_numbers more)
+
+-- an operation, in words: a body of the machine in hex
+abbrev pub op_words : Op → List ℕ
+op_words (Table body) = codes "raw " ++ encode_lower body
+op_words (Join node port) = codes "join" ++ then_numbers (node ∷ port ∷ [])
+op_words (Leave node) = codes "leave" ++ then_numbers (node ∷ [])
+op_words Raise = codes "raise" ++ then_numbers (2 ∷ [])
+
+-- the parts of a group, each after a space
+abbrev pub then_turns : List Turn → List ℕ
+then_turns [] = []
+then_turns (turn.Tick ∷ turns) = codes " t" ++ then_turns turns
+then_turns (turn.Deliver k ∷ turns) = then_numbers (k ∷ []) ++ then_turns turns
+
+-- the line of an event
+abbrev pub line_of : Event → List ℕ
+line_of (event.Start n) = codes "start" ++ then_numbers (n ∷ [])
+line_of (event.Restart n) = codes "restart" ++ then_numbers (n ∷ [])
+line_of (event.Tick n) = codes "tick" ++ then_numbers (n ∷ [])
+line_of (event.Compact n) = codes "compact" ++ then_numbers (n ∷ [])
+line_of (event.Client n r) = (codes "client" ++ then_numbers (n ∷ r.client ∷ r.number ∷ [])) ++ 32 ∷ op_words r.op
+line_of (event.Deliver k) = codes "deliver" ++ then_numbers (k ∷ [])
+line_of (event.Group n turns) = (codes "group" ++ then_numbers (n ∷ [])) ++ then_turns turns.items
+line_of (event.Inject n bytes) = (codes "inject" ++ then_numbers (n ∷ [])) ++ 32 ∷ encode_lower bytes.items
+line_of (event.Stop n x y) = codes "stop" ++ then_numbers (n ∷ x ∷ y ∷ [])
+line_of (event.FailAt n count) = codes "fail" ++ then_numbers (n ∷ count ∷ [])
+line_of (event.Arm n count bytes) = codes "arm" ++ then_numbers (n ∷ count ∷ bytes ∷ [])
+
+-- the lines of events, one after another
+abbrev pub lines_for : List Event → List ℕ
+lines_for [] = []
+lines_for (e ∷ events) = line_of e ++ 10 ∷ lines_for events
