@@ -5,8 +5,8 @@ Usage: bench/flood.py [--datagrams N] [--rate R] [--seconds S] [--dir FOLDER] [-
 
 Three nodes run as processes on loopback; what the others send to node 1 comes to it over a relay, which keeps some of it. A client acquires
 and releases a name, first for S seconds (5 if not given) by itself, and then for as long as five senders send N datagrams (1,000,000
-if not given) to node 1, R a second in all (100,000 if not given). A fifth each are bytes of chance, what was said to node 1 before, the
-same cut, the same with bytes after it, and the same of another cluster.
+if not given) to node 1, R a second in all (100,000 if not given). A sixth each are bytes of chance, what was said to node 1 before, the
+same cut, the same with bytes after it, the same of another cluster, and probes, some of which read and some not.
 
 It tells how many datagrams the node took and how many its socket dropped, how many pairs the client did a second and how long the
 slowest took, without the flood and with it, and how the memory of node 1 grew. The status is 1 where a node stopped, a request stayed
@@ -69,9 +69,16 @@ class Flooded(Cluster):
         return sum(int(row[-1]) for row in rows if row[1].endswith(f":{self.flooded:04X}"))
 
 
+def probe(cluster, draw):
+    """A probe of that cluster, or its beginning with bytes of chance behind it."""
+    whole = b"LP\x01\x09" + cluster + bytes(6) + draw.randbytes(8) + bytes(148)
+    at = draw.choice((len(whole), draw.randrange(2, len(whole))))
+    return whole[:at] + draw.randbytes(draw.randrange(200) if at < len(whole) else 0)
+
+
 def bad(said, draw):
     """A datagram to be sent, of one that was said."""
-    case = draw.randrange(5)
+    case = draw.randrange(6)
     if case == 0:
         return draw.randbytes(draw.randrange(200))
     if case == 1:
@@ -80,6 +87,8 @@ def bad(said, draw):
         return said + draw.randbytes(draw.choice((1, 2, 8, 9_000)))
     if case == 3:
         return said[:4] + draw.randbytes(8) + said[12:]
+    if case == 4:
+        return probe(said[4:12], draw)
     return said
 
 

@@ -1,5 +1,5 @@
 -- A turn of a server continues its cluster.
-use Rattle.std.proofs.Common.{◌≡◌, ℕ, zero, suc, true, false, Option, List, [], ◌∷◌, ◌++◌, ◌⊎◌, set, refl, ap, sym, ◌∙◌, subst, inl, inr, append_assoc, append-nil, arith}
+use Rattle.std.proofs.Common.{◌≡◌, ℕ, zero, suc, true, false, Option, Some, None, List, [], ◌∷◌, ◌++◌, ◌⊎◌, set, refl, ap, sym, ◌∙◌, subst, inl, inr, append_assoc, append-nil, arith}
 use Rattle.std.proofs.lemmas.List.{map-append}
 use Rattle.std.specs.declared.net.socket_addr.SocketAddr.{SocketAddr}
 use Rattle.lk_disk.specs.Disk.{Disk}
@@ -10,7 +10,9 @@ use Rattle.lk_step.specs.Letters.{LetterValue, batch_of, datagram_of}
 use Rattle.lk_step.specs.declared.note.Note.{Note}
 use Rattle.lk_node.specs.Histories.{Genesis, Datagram}
 use Rattle.lk_replica.specs.ReplicaValue.{ReplicaValue}
+use Rattle.lk_server.specs.Probes.{IsShown, AnswersKept}
 use Rattle.lk_server.specs.Servers.{ServerValue, Turn, LastTurn, IsIdle}
+use Rattle.lk_server.specs.declared.asked.Asked.{Asked}
 use Rattle.lk_service.specs.Chains.{Chain}
 use Rattle.lk_service.specs.Turns.{TakesTurn as ServerTurn, TellsFailure, letters_in}
 use Rattle.lk_sim.specs.Networks.{Rests, RestsBy, nothing}
@@ -90,10 +92,11 @@ module _ (May : Network) (Metered tells : Type 0) where
       } in
       continues_with genesis old place n (Down left) [] [] (goes_on genesis old new all (inr (inr (inl stays))))
 
-  -- an idle turn
-  pub idle_comes : (genesis : Genesis) (old : Cluster) → IsReachable May Metered tells genesis old → (place n : ℕ) (server after : ServerValue ReplicaValue) → HasNode old place n (Up server)
-      → (frames : List (SocketAddr × List ℕ)) → IsIdle tells frames server after → IsReachable May Metered tells genesis (continued old place n (Up after) [] [])
-  idle_comes genesis old all place n server after at frames idle =
+  -- an idle turn, or the answer to a probe
+  rest_comes : (genesis : Genesis) (old : Cluster) → IsReachable May Metered tells genesis old → (place n : ℕ) (server after : ServerValue ReplicaValue) → HasNode old place n (Up server)
+      → ((frames : List (SocketAddr × List ℕ)) × IsIdle tells frames server after) ⊎ ((asked : Option Asked) × AnswersKept IsShown tells asked server after)
+      → IsReachable May Metered tells genesis (continued old place n (Up after) [] [])
+  rest_comes genesis old all place n server after at idle =
       let new = continued old place n (Up after) [] [] in
       let idles : Idles tells old new = record {
         node = node_of n (Up server);
@@ -103,11 +106,14 @@ module _ (May : Network) (Metered tells : Type 0) where
         was = refl;
         after = after;
         up = refl;
-        frames = frames;
         idle = idle;
         adds = record { genesis = refl; sent = refl; trace = refl };
       } in
       goes_on genesis old new all (inr (inr (inr (inr (inl idles)))))
+
+  pub idle_comes : (genesis : Genesis) (old : Cluster) → IsReachable May Metered tells genesis old → (place n : ℕ) (server after : ServerValue ReplicaValue) → HasNode old place n (Up server)
+      → (frames : List (SocketAddr × List ℕ)) → IsIdle tells frames server after → IsReachable May Metered tells genesis (continued old place n (Up after) [] [])
+  idle_comes genesis old all place n server after at frames idle = rest_comes genesis old all place n server after at (inl (frames, idle))
 
   pub idle_continues : (genesis : Genesis) (old : Cluster) → IsReachable May Metered tells genesis old → (place n : ℕ) (server after : ServerValue ReplicaValue) → HasNode old place n (Up server)
       → (frames : List (SocketAddr × List ℕ)) → IsIdle tells frames server after → Continues May Metered tells genesis old place n (Up after) []
@@ -232,6 +238,13 @@ module _ (May : Network) (Metered tells : Type 0) where
 
     -- turns, one after another, of a replica that says so
     module _ (S : ReplicaValue → List (Option (List ℕ)) → List LetterValue → ReplicaValue → Type 0) (so : (old : ReplicaValue) (given : List (Option (List ℕ))) (letters : List LetterValue) (new : ReplicaValue) → S old given letters new → Says Metered old given letters new) where
+      -- whether a call has ended the replica is told in front of the answer as behind it
+      mid_failure : (mid next : ServerValue ReplicaValue) (asked : Option Asked) → AnswersKept IsShown tells asked mid next → TellsFailure next → TellsFailure mid
+      mid_failure mid next None same failure = subst TellsFailure same failure
+      mid_failure mid next (Some asked) one failure =
+          let as_was : next ≡ record mid { sent = next.sent; socket_failures = next.socket_failures; coming = next.coming } = one.same in
+          sym (ap (λ (s : ServerValue ReplicaValue). s.failed) as_was) ∙ failure ∙ ap (λ (s : ServerValue ReplicaValue). s.replica.failed) as_was
+
       -- one of them, or an idle one
       taken_comes : (genesis : Genesis) (old : Cluster) → IsReachable May Metered tells genesis old → (place n : ℕ) (first next : ServerValue ReplicaValue) → HasNode old place n (Up first) → (came frames : List (SocketAddr × List ℕ))
           → May old.genesis old.sent first came → (turn : Turn S tells came first next ⊎ IsIdle tells frames first next) → TellsFailure next
@@ -248,6 +261,13 @@ module _ (May : Network) (Metered tells : Type 0) where
           record { cluster = old; reachable = all; began = refl; seats = same_again old.seats place (node_of n (Up last)) here; sent = sym (append-nil old.sent) }
       turns_continue genesis old all place n first (next ∷ states) last at turns may =
           let said = letters_in S tells turns.0.turn in
-          let t = taken_comes genesis old all place n first next at turns.0.came turns.0.frames may.0 turns.0.turn turns.0.failure in
-          twice genesis old place n (Up next) (Up last) said (letters_of S tells next states last turns.1) t.0
-          (turns_continue genesis (continued old place n (Up next) said t.0) t.1 place n next states last (at_set_here old.seats place (node_of n (Up next)) at.0) turns.1 may.1)
+          let mid = turns.0.mid in
+          let rest = letters_of S tells next states last turns.1 in
+          let t = taken_comes genesis old all place n first mid at turns.0.came turns.0.frames may.0 turns.0.turn (mid_failure mid next turns.0.asked turns.0.answers turns.0.failure) in
+          let turned = continued old place n (Up mid) said t.0 in
+          let there : HasNode turned place n (Up mid) = at_set_here old.seats place (node_of n (Up mid)) at.0 in
+          let answered = rest_comes genesis turned t.1 place n mid next there (inr (turns.0.asked, turns.0.answers)) in
+          twice genesis old place n (Up mid) (Up last) said rest t.0
+          (twice genesis turned place n (Up next) (Up last) [] rest []
+          (turns_continue genesis (continued turned place n (Up next) [] []) answered place n next states last (at_set_here turned.seats place (node_of n (Up next)) there.0) turns.1
+          (subst (λ (l : List Datagram). MayAllCome S tells May old.genesis n l next states last turns.1) (sym (append-nil (old.sent ++ batch_of n said))) may.1)))

@@ -19,7 +19,9 @@ use Rattle.lk_replica.specs.ReplicaValue.{ReplicaValue}
 use Rattle.lk_server.specs.Addresses.{AddressBook}
 use Rattle.lk_server.specs.Posts.{Tray, Becomes}
 use Rattle.lk_server.specs.Paces.{ticks_after, MayFollow}
-use Rattle.lk_server.specs.Servers.{ServerValue, HandsOn, Given, one_more, inputs, all_inputs, datagrams_in, IsFront, tray_at}
+use Rattle.lk_server.specs.Probes.{IsShown, AnswersKept}
+use Rattle.lk_server.specs.declared.asked.Asked.{Asked}
+use Rattle.lk_server.specs.Servers.{ServerValue, HandsOn, Given, IsIdle, one_more, inputs, all_inputs, datagrams_in, IsFront, tray_at}
 use Rattle.lk_server.specs.declared.pace.Pace.{Pace}
 use Rattle.lk_server.specs.declared.pace.Pace.TheVariants.{Datagrams, Clock}
 use Rattle.lk_sim.specs.Events.{Turns, Adds}
@@ -187,6 +189,20 @@ module _ (old : Cluster) (w : IsSound old) where
         room = λ d is. absurd (cc is);
       })
 
+-- a server as another one, but for what has come to its socket and was sent by it
+abbrev at_rest : ServerValue ReplicaValue → ServerValue ReplicaValue → ServerValue ReplicaValue
+at_rest server after = record after { coming = server.coming; sent = server.sent; socket_failures = server.socket_failures }
+
+-- by an idle turn and by the answer to a probe nothing else changes
+at_rest_by : {tells : Type 0} (server after : ServerValue ReplicaValue)
+    → ((frames : List (SocketAddr × List ℕ)) × IsIdle tells frames server after) ⊎ ((asked : Option Asked) × AnswersKept IsShown tells asked server after) → at_rest server after ≡ server
+at_rest_by server after (inl i) = ap (λ (s : ServerValue ReplicaValue). record s { sent = server.sent; socket_failures = server.socket_failures }) i.1.same
+at_rest_by server after (inr a) = ap (λ (s : ServerValue ReplicaValue). at_rest server s) (answered_as a.0 a.1)
+  where
+    answered_as : (asked : Option Asked) → AnswersKept IsShown _ asked server after → after ≡ record server { sent = after.sent; socket_failures = after.socket_failures; coming = after.coming }
+    answered_as None same = same ∙ ap (λ (s : ServerValue ReplicaValue). record server { sent = s.sent; socket_failures = s.socket_failures; coming = s.coming }) (sym same)
+    answered_as (Some asked) one = one.same
+
 module _ (May : Network) (Metered tells : Type 0) (unforged : Unforged May) where
   module _ (old new : Cluster) (w : IsSound old) where
     by_step : Steps ServerStands server_disks table_meaning old new → Holds ServerStands server_disks table_meaning new.genesis new.seats new.sent new.trace
@@ -256,10 +272,10 @@ module _ (May : Network) (Metered tells : Type 0) (unforged : Unforged May) wher
               (after_turn tells (Says Metered) a.turn.given 64 old.sent n a.server a.after kept a.turn.hands_on a.alive)));
         }
 
-    -- an idle turn
+    -- an idle turn, or the answer to a probe
     idles : Idles tells old new → IsSound new
     idles a =
-        let as_was : {X : Type 0} (f : ServerValue ReplicaValue → X) → f (record a.after { coming = a.server.coming }) ≡ f a.server = λ f. ap f a.idle.same in
+        let as_was : {X : Type 0} (f : ServerValue ReplicaValue → X) → f (at_rest a.server a.after) ≡ f a.server = λ f. ap f (at_rest_by a.server a.after a.idle) in
         let mine : record a.after { replica = a.server.replica } ≡ a.after = λ i. record a.after { replica = sym (as_was (λ s. s.replica)) i } in
         let kept = w.own a.turns.place a.node a.turns.at a.server a.was in
         let still : IsKept (old.sent ++ []) a.node.number a.after = record {

@@ -63,7 +63,7 @@ fn away_in<'a>(
 }
 
 /// What the command line of a client says of the machines outside.
-pub fn ask_away<'a>(matches: &ArgMatches<'a>) -> Result<Away<'a>, Misread<'a>> {
+fn ask_away<'a>(matches: &ArgMatches<'a>) -> Result<Away<'a>, Misread<'a>> {
     away_in(matches, "address", None)
 }
 
@@ -170,18 +170,6 @@ fn question_of<'a>(matches: &ArgMatches<'a>, op: Op) -> Result<Question, Misread
     })
 }
 
-/// What `locks ask` is to ask. It refuses where memory was refused.
-pub fn ask_plan<'a>(
-    alloc: Global,
-    matches: &ArgMatches<'a>,
-) -> Result<Result<Question, Misread<'a>>, AllocError> {
-    let words = matches.get_strs("op").unwrap_or(&[]);
-    match operation_of(alloc, words)? {
-        Some(op) => Ok(question_of(matches, op)),
-        None => Ok(Err(misread_operation(words))),
-    }
-}
-
 /// How often each port is asked, where there are several.
 const ROUNDS: u32 = 3;
 
@@ -200,7 +188,7 @@ fn add_ports<'a>(
 }
 
 /// The ports that `locks ask` asks in turn, three times each; none where one alone is named.
-pub fn turns_of<'a>(
+fn turns_of<'a>(
     alloc: Global,
     matches: &ArgMatches<'a>,
 ) -> Result<Result<Vec<Port>, Misread<'a>>, AllocError> {
@@ -215,4 +203,42 @@ pub fn turns_of<'a>(
         }
     }
     Ok(Ok(turns))
+}
+
+/// What `locks ask` is to ask, the ports that it asks in turn, and what it is told of the machines outside.
+#[derive(Drop)]
+pub struct AskPlan<'a> {
+    pub question: Question,
+    pub turns: Vec<Port>,
+    pub away: Away<'a>,
+}
+
+/// What `locks ask` is to do, given its operation and the ports that it asks in turn.
+fn ask_plan_of<'a>(
+    matches: &ArgMatches<'a>,
+    op: Op,
+    turns: Vec<Port>,
+) -> Result<AskPlan<'a>, Misread<'a>> {
+    let away = ask_away(matches)?;
+    let question = question_of(matches, op)?;
+    Ok(AskPlan {
+        question,
+        turns,
+        away,
+    })
+}
+
+/// What `locks ask` is to do. It refuses where memory was refused.
+pub fn ask_plan<'a>(
+    alloc: Global,
+    matches: &ArgMatches<'a>,
+) -> Result<Result<AskPlan<'a>, Misread<'a>>, AllocError> {
+    let words = matches.get_strs("op").unwrap_or(&[]);
+    let Some(op) = operation_of(alloc, words)? else {
+        return Ok(Err(misread_operation(words)));
+    };
+    match turns_of(alloc, matches)? {
+        Ok(turns) => Ok(ask_plan_of(matches, op, turns)),
+        Err(misread) => Ok(Err(misread)),
+    }
 }

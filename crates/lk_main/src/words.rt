@@ -4,7 +4,7 @@ ghost use Rattle.std.specs.Prelude.{◌≤◌};
 
 use crate::commands::program;
 use crate::misread::Misread;
-use crate::plans::{ask_away, ask_plan, client_key_plan, fuzz_plan, node_plan, turns_of};
+use crate::plans::{AskPlan, ask_away, ask_plan, client_key_plan, fuzz_plan, node_plan};
 use crate::status_words::status_plan;
 use crate::subcommand::Subcommand;
 use crate::wants::warn_of_name;
@@ -134,6 +134,31 @@ fn own_address(away: &Away<'_>) -> IpAddr {
     }
 }
 
+/// Asks as planned.
+fn run_ask<R: Files<File = File> + Net, W: Write, E: Write>(
+    rt: &R,
+    alloc: Global,
+    plan: AskPlan<'_>,
+    out: &mut W,
+    err: &mut E,
+) -> u8
+    ensures { result ≤ 2 }
+{
+    let AskPlan {
+        mut question,
+        turns,
+        away,
+    } = plan;
+    question.far = match far_of(rt, alloc, question.cluster, &away, err) {
+        Ok(far) => far,
+        Err(fault) => return fault.tell(err),
+    };
+    match open_socket_at(rt, SocketAddr::from((own_address(&away), 0)), err) {
+        Ok(mut socket) => ask(alloc, &mut socket, &question, &turns, out, err),
+        Err(fault) => fault.tell(err),
+    }
+}
+
 /// Asks a node once.
 fn ask_words<R: Files<File = File> + Net, W: Write, E: Write>(
     rt: &R,
@@ -144,29 +169,13 @@ fn ask_words<R: Files<File = File> + Net, W: Write, E: Write>(
 ) -> u8
     ensures { result ≤ 2 }
 {
-    let mut question = match ask_plan(alloc, matches) {
-        Ok(Ok(question)) => question,
+    let plan = match ask_plan(alloc, matches) {
+        Ok(Ok(plan)) => plan,
         Ok(Err(misread)) => return refuse_words(&misread, err),
         Err(_) => return ServiceFault::NoMemory.tell(err),
-    };
-    let turns = match turns_of(alloc, matches) {
-        Ok(Ok(turns)) => turns,
-        Ok(Err(misread)) => return refuse_words(&misread, err),
-        Err(_) => return ServiceFault::NoMemory.tell(err),
-    };
-    let away = match ask_away(matches) {
-        Ok(away) => away,
-        Err(misread) => return refuse_words(&misread, err),
     };
     warn_of_name(matches.get_strs("op").unwrap_or(&[]), err);
-    question.far = match far_of(rt, alloc, question.cluster, &away, err) {
-        Ok(far) => far,
-        Err(fault) => return fault.tell(err),
-    };
-    match open_socket_at(rt, SocketAddr::from((own_address(&away), 0)), err) {
-        Ok(mut socket) => ask(alloc, &mut socket, &question, &turns, out, err),
-        Err(fault) => fault.tell(err),
-    }
+    run_ask(rt, alloc, plan, out, err)
 }
 
 /// Asks nodes how the cluster stands.

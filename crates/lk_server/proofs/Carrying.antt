@@ -33,6 +33,14 @@ pub if_ok_weaker : {T E : Type 0} {P Q : T → Type 0} (r : Result T E) → ((x 
 if_ok_weaker (Ok x) f p = f x p
 if_ok_weaker (Err e) f p = tt
 
+-- what would make it true is not so
+pub apart_by : {P : Type 0} {b : Bool} → b ≡ false → (P → b ≡ true) → P → ⊥
+apart_by isnt gives p = let both : false ≡ true = sym isnt ∙ gives p in cc both
+
+pub if_ok_both : {T E : Type 0} {P Q W : T → Type 0} (r : Result T E) → ((x : T) → P x → Q x → W x) → IfOk r P → IfOk r Q → IfOk r W
+if_ok_both (Ok x) f p q = f x p q
+if_ok_both (Err e) f p q = tt
+
 -- of a post nothing else changes
 pub same_node : (tells : Type 0) (old new : PostValue) (letters : List LetterValue) → CarriesAll (CarriesLetter tells) old letters new → new.node ≡ old.node
 same_node tells old new [] all = ap (λ (p : PostValue). p.node) all

@@ -8,9 +8,11 @@ use Rattle.lk_seal.specs.Seals.{heard}
 use Rattle.lk_seal.specs.declared.seals.Seals.{Seals}
 use Rattle.lk_replica.specs.Groups.{GroupValue}
 use Rattle.lk_server.specs.Addresses.{AddressBook, IsSameOutside}
-use Rattle.lk_server.specs.Gatherings.{Sayings, Gatherings, GathersMore, SaysNoMore, TakesAll, EndsWithin, TakesOwn, EndsOwn, TakesHeard, EndsHeard, TakesSocket, EndsSocket}
+use Rattle.lk_server.specs.Gatherings.{Sayings, Gatherings, GathersMore, SaysNoMore, TakesAll, EndsWithin, TakesOwn, EndsOwn, TakesHeard, EndsHeard, TakesSocket, EndsSocket, Finds}
+use Rattle.lk_server.specs.declared.found.Found.{Found}
+use Rattle.lk_server.specs.declared.found.Found.TheVariants.{Nothing, Beside, Something}
 use Rattle.lk_server.specs.Hearing.{listed}
-use Rattle.lk_server.specs.Posts.{Hears, HearsAll, taken_as, all_taken_as}
+use Rattle.lk_server.specs.Posts.{Hears, HearsAll, is_beside, opened_as, unless_beside, all_taken_as}
 use Rattle.lk_server.specs.Paces.{ticks_after}
 use Rattle.lk_server.specs.declared.pace.Pace.{Pace}
 use Rattle.lk_server.specs.Servers.{ServerValue, one_more, inputs, all_inputs, counted, datagrams_in}
@@ -37,13 +39,39 @@ with_tick pace n bytes e = rw e refl
 bytes_first : (pace : Pace) (n : ℕ) (bytes : List ℕ) → (rest : List (Option (List ℕ))) × (inputs pace n bytes ++ [] ≡ (Some bytes ∷ []) ++ rest)
 bytes_first pace n bytes = elim (cases_Bool (ticks_after pace n)) [ inl e ↦ (None ∷ [], with_tick pace n bytes e) | inr e ↦ ([], alone pace n bytes e) ]
 
+-- what was taken of a frame
+abbrev pub taken_of : Seals → SocketAddr × List ℕ → SocketAddr × List ℕ
+taken_of s d = (d.0, heard s d.1)
+
 pub taken_more : (s : Seals) (xs ys : List (SocketAddr × List ℕ)) → all_taken_as s (xs ++ ys) ≡ all_taken_as s xs ++ all_taken_as s ys
 taken_more s [] ys = refl
-taken_more s (x ∷ xs) ys = ap (λ (l : List (SocketAddr × List ℕ)). (x.0, heard s x.1) ∷ l) (taken_more s xs ys)
+taken_more s (x ∷ xs) ys =
+    ap (λ (l : List (SocketAddr × List ℕ)). unless_beside (opened_as s x) ++ l) (taken_more s xs ys)
+    ∙ sym (append_assoc (unless_beside (opened_as s x)) (all_taken_as s xs) (all_taken_as s ys))
 
-pub long_as : (s : Seals) (xs : List (SocketAddr × List ℕ)) → length (all_taken_as s xs) ≡ length xs
-long_as s [] = refl
-long_as s (x ∷ xs) = ap suc (long_as s xs)
+-- no more is taken than came
+one_at_most : (d : SocketAddr × List ℕ) → length (unless_beside d) ≤ 1
+one_at_most d = elim (cases_Bool (is_beside d.1)) [ inl e ↦ rw e (omega arith) | inr e ↦ rw e (omega arith) ]
+
+pub long_as : (s : Seals) (xs : List (SocketAddr × List ℕ)) → length (all_taken_as s xs) ≤ length xs
+long_as s [] = omega arith
+long_as s (x ∷ xs) = omega (arith, length-append (unless_beside (opened_as s x)) (all_taken_as s xs), one_at_most (opened_as s x), long_as s xs)
+
+kept_whole : (x : SocketAddr × List ℕ) → is_beside x.1 ≡ false → unless_beside x ≡ x ∷ []
+kept_whole x e = rw e refl
+
+set_aside : (x : SocketAddr × List ℕ) → is_beside x.1 ≡ true → unless_beside x ≡ []
+set_aside x e = rw e refl
+
+-- what is taken of a frame alone
+pub taken_one : (s : Seals) (d x : SocketAddr × List ℕ) → taken_of s d ≡ x → is_beside x.1 ≡ false → all_taken_as s (d ∷ []) ≡ x ∷ []
+taken_one s d x is apart = ap (λ (c : SocketAddr × List ℕ). unless_beside c ++ []) is ∙ ap (λ (l : List (SocketAddr × List ℕ)). l ++ []) (kept_whole x apart)
+
+pub taken_none : (s : Seals) (d : SocketAddr × List ℕ) → is_beside (heard s d.1) ≡ true → all_taken_as s (d ∷ []) ≡ []
+taken_none s d is = ap (λ (l : List (SocketAddr × List ℕ)). l ++ []) (set_aside (opened_as s d) is)
+
+pub taken_first : (s : Seals) (d : SocketAddr × List ℕ) (more : List (SocketAddr × List ℕ)) → is_beside (heard s d.1) ≡ false → all_taken_as s (d ∷ more) ≡ opened_as s d ∷ all_taken_as s more
+taken_first s d more is = ap (λ (l : List (SocketAddr × List ℕ)). l ++ all_taken_as s more) (kept_whole (opened_as s d) is)
 
 abbrev bytes_of : LetterValue → List ℕ
 bytes_of l = l.bytes
@@ -107,18 +135,6 @@ hears_more cluster (x ∷ xs) ys old mid new a b = (a.0, a.1, hears_more cluster
 pub same_outside : (old mid new : AddressBook) → IsSameOutside old mid → IsSameOutside mid new → IsSameOutside old new
 same_outside old mid new a b = (b.0 ∙ a.0, b.1 ∙ a.1)
 
--- what was taken of a frame
-abbrev pub taken_of : Seals → SocketAddr × List ℕ → SocketAddr × List ℕ
-taken_of s d = (d.0, heard s d.1)
-
-abbrev unsome : {X : Type 0} → Option X → X → X
-unsome None x = x
-unsome (Some y) x = y
-
--- the frame of which that was taken
-pub frame_of_taken : (s : Seals) (e : Option (SocketAddr × List ℕ)) (x : SocketAddr × List ℕ) → taken_as s e ≡ Some x → (frame : SocketAddr × List ℕ) × (e ≡ Some frame) × (taken_of s frame ≡ x)
-frame_of_taken s None x is = absurd (cc is)
-frame_of_taken s (Some d) x is = (d, refl, ap (λ (o : Option (SocketAddr × List ℕ)). unsome o x) is)
 
 -- no frame came
 pub none_came : {R : Type 0} (tells : Type 0) (e : Option (SocketAddr × List ℕ)) (old mid new : ServerValue R) → e ≡ None → (tells → old.coming ≡ all_taken_as old.addresses.seals (listed e) ++ mid.coming)
@@ -136,6 +152,39 @@ inputs_from old begun xs pace received = λ i. all_inputs (pace i) (received i) 
 later : {R : Type 0} (old mid : ServerValue R) (xs ys : List (List ℕ)) → mid.pace ≡ old.pace → mid.received ≡ counted old.received xs
     → all_inputs old.pace old.received xs ++ all_inputs mid.pace mid.received ys ≡ all_inputs old.pace old.received (xs ++ ys)
 later old mid xs ys pace count = (λ i. all_inputs old.pace old.received xs ++ all_inputs (pace i) (count i) ys) ∙ sym (all_more old.pace old.received xs ys)
+
+-- what was taken of a frame stood beside the protocol no more when only what was to come has changed
+pub apart_as : {R : Type 0} (old mid : ServerValue R) (frame : SocketAddr × List ℕ) → mid ≡ record old { coming = mid.coming } → is_beside (heard mid.addresses.seals frame.1) ≡ false
+    → is_beside (heard old.addresses.seals frame.1) ≡ false
+apart_as {R} old mid frame others apart = subst (λ (s : Seals). is_beside (heard s frame.1) ≡ false) (ap (λ (s : ServerValue R). s.addresses.seals) others) apart
+
+-- what was found at the socket, where a replica is given nothing of it
+pub finds : {R : Type 0} (tells : Type 0) (found : Found) (e : Option (SocketAddr × List ℕ)) (group now : GroupValue) (old mid new : ServerValue R)
+    → (tells → old.coming ≡ all_taken_as old.addresses.seals (listed e) ++ mid.coming) → (tells → e ≡ None → old.coming ≡ []) → mid ≡ record old { coming = mid.coming }
+    → (found ≡ Nothing → (e ≡ None) × (new ≡ mid) × (now ≡ group))
+    → (found ≡ Beside → (frame : SocketAddr × List ℕ) × (e ≡ Some frame) × (is_beside (heard mid.addresses.seals frame.1) ≡ true) × (new ≡ mid) × (now ≡ group))
+    → (found ≡ Something → ⊥) → (frames : List (SocketAddr × List ℕ)) × Finds tells found frames old new × (now ≡ group)
+finds tells Nothing e group now old mid new comes none others nothing beside apart =
+    let n = nothing refl in
+    let so = none_came tells e old mid new n.0 comes none others n.1 in
+    ([], record { some = λ is. absurd (cc is); beside = refl; none = λ t empty. (so.0 t).0; still = λ t. (so.0 t).1 ∙ sym (so.0 t).0; same = so.1 }, n.2)
+finds {R} tells Beside e group now old mid new comes none others nothing beside apart =
+    let b = beside refl in
+    let is : is_beside (heard old.addresses.seals b.0.1) ≡ true = subst (λ (s : Seals). is_beside (heard s b.0.1) ≡ true) (ap (λ (s : ServerValue R). s.addresses.seals) others) b.2 in
+    let gone = taken_none old.addresses.seals b.0 is in (
+      b.0 ∷ [],
+      record {
+        some = λ same empty. cc empty;
+        beside = gone;
+        none = λ t empty. absurd (cc empty);
+        still = λ t.
+            ap (λ (s : ServerValue R). s.coming) b.3
+            ∙ sym (comes t ∙ ap (λ (o : Option (SocketAddr × List ℕ)). all_taken_as old.addresses.seals (listed o) ++ mid.coming) b.1 ∙ ap (λ (l : List (SocketAddr × List ℕ)). l ++ mid.coming) gone);
+        same = ap (λ (s : ServerValue R). record s { coming = old.coming }) (b.3 ∙ others);
+      },
+      b.4,
+    )
+finds tells Something e group now old mid new comes none others nothing beside apart = absurd (apart refl)
 
 -- ---- what goes on
 
@@ -218,14 +267,36 @@ module _ {R : Type 0} (G : Gatherings R) where
       }
 
   -- a frame of which this was taken
-  pub heard_one : (frame x : SocketAddr × List ℕ) (group now : GroupValue) (old mid new : ServerValue R) → taken_of old.addresses.seals frame ≡ x
+  pub heard_one : (frame x : SocketAddr × List ℕ) (group now : GroupValue) (old mid new : ServerValue R) → taken_of old.addresses.seals frame ≡ x → is_beside x.1 ≡ false
       → Hears old.cluster x.1 x.0 old.addresses mid.addresses → IsSameOutside old.addresses mid.addresses → new.addresses ≡ mid.addresses → mid.replica ≡ old.replica → mid.received ≡ old.received → mid.pace ≡ old.pace
       → TakesAll G (x.1 ∷ []) group now mid new → TakesHeard G (frame ∷ []) group now old new
-  heard_one frame x group now old mid new is hears outside book replica received pace takes = record {
-    takes = subst (λ (c : SocketAddr × List ℕ). TakesAll G (c.1 ∷ []) group now old new) (sym is) (takes_from (x.1 ∷ []) group now old mid new replica received pace takes);
-    heard = subst (λ (c : SocketAddr × List ℕ). HearsAll old.cluster (c ∷ []) old.addresses new.addresses) (sym is) (mid.addresses, hears, book);
+  heard_one frame x group now old mid new is apart hears outside book replica received pace takes = record {
+    takes = subst (λ (cs : List (SocketAddr × List ℕ)). TakesAll G (datagrams_in [] cs) group now old new) (sym (taken_one old.addresses.seals frame x is apart))
+        (takes_from (x.1 ∷ []) group now old mid new replica received pace takes);
+    heard = subst (λ (cs : List (SocketAddr × List ℕ)). HearsAll old.cluster cs old.addresses new.addresses) (sym (taken_one old.addresses.seals frame x is apart)) (mid.addresses, hears, book);
     outside = subst (λ (b : AddressBook). IsSameOutside old.addresses b) (sym book) outside;
   }
+
+  -- nothing is taken of a frame that stands beside the protocol
+  pub socket_beside : (tells : Type 0) (e : Option (SocketAddr × List ℕ)) (frame : SocketAddr × List ℕ) (group now : GroupValue) (old mid new : ServerValue R) → e ≡ Some frame
+      → (tells → old.coming ≡ all_taken_as old.addresses.seals (listed e) ++ mid.coming) → mid ≡ record old { coming = mid.coming } → is_beside (heard mid.addresses.seals frame.1) ≡ true
+      → new ≡ mid → now ≡ group → TakesSocket G tells (frame ∷ []) group now old new
+  socket_beside tells e frame group now old mid new is comes others beside same still =
+      let as_was : new ≡ record old { coming = mid.coming } = same ∙ others in
+      let aside : is_beside (heard old.addresses.seals frame.1) ≡ true = subst (λ (s : Seals). is_beside (heard s frame.1) ≡ true) (ap (λ (s : ServerValue R). s.addresses.seals) others) beside in
+      let gone = taken_none old.addresses.seals frame aside in
+      let book : new.addresses ≡ old.addresses = ap (λ (s : ServerValue R). s.addresses) as_was in
+      record {
+        takes = record {
+          takes = subst (λ (cs : List (SocketAddr × List ℕ)). TakesAll G (datagrams_in [] cs) group now old new) (sym gone)
+              (takes_from [] group now old mid new (ap (λ (s : ServerValue R). s.replica) others) (ap (λ (s : ServerValue R). s.received) others) (ap (λ (s : ServerValue R). s.pace) others) (takes_nothing group now mid new still same));
+          heard = subst (λ (cs : List (SocketAddr × List ℕ)). HearsAll old.cluster cs old.addresses new.addresses) (sym gone) book;
+          outside = (ap (λ (b : AddressBook). b.hosts) book, ap (λ (b : AddressBook). b.seals) book);
+        };
+        comes = λ t.
+            comes t ∙ ap (λ (o : Option (SocketAddr × List ℕ)). all_taken_as old.addresses.seals (listed o) ++ mid.coming) is
+            ∙ ap (λ (l : List (SocketAddr × List ℕ)). all_taken_as old.addresses.seals (frame ∷ []) ++ l) (sym (ap (λ (s : ServerValue R). s.coming) same));
+      }
 
   -- it came from the socket
   pub socket_one : (tells : Type 0) (e : Option (SocketAddr × List ℕ)) (frame : SocketAddr × List ℕ) (group now : GroupValue) (old mid new : ServerValue R) → e ≡ Some frame
@@ -333,12 +404,13 @@ module _ {R : Type 0} (S : Sayings R) (G : Gatherings R) where
     silent = subst (λ (r : R). SaysNoMore S G e.given group r new.replica) replica e.silent;
   }
 
-  pub ends_heard : (frame x : SocketAddr × List ℕ) (group : GroupValue) (old mid new : ServerValue R) → taken_of old.addresses.seals frame ≡ x
+  pub ends_heard : (frame x : SocketAddr × List ℕ) (group : GroupValue) (old mid new : ServerValue R) → taken_of old.addresses.seals frame ≡ x → is_beside x.1 ≡ false
       → Hears old.cluster x.1 x.0 old.addresses mid.addresses → IsSameOutside old.addresses mid.addresses → new.addresses ≡ mid.addresses → mid.replica ≡ old.replica → mid.received ≡ old.received → mid.pace ≡ old.pace
       → EndsWithin S G (x.1 ∷ []) group mid new → EndsHeard S G (frame ∷ []) group old new
-  ends_heard frame x group old mid new is hears outside book replica received pace ends = record {
-    ends = subst (λ (c : SocketAddr × List ℕ). EndsWithin S G (c.1 ∷ []) group old new) (sym is) (ends_from (x.1 ∷ []) group old mid new replica received pace ends);
-    heard = subst (λ (c : SocketAddr × List ℕ). HearsAll old.cluster (c ∷ []) old.addresses new.addresses) (sym is) (mid.addresses, hears, book);
+  ends_heard frame x group old mid new is apart hears outside book replica received pace ends = record {
+    ends = subst (λ (cs : List (SocketAddr × List ℕ)). EndsWithin S G (datagrams_in [] cs) group old new) (sym (taken_one old.addresses.seals frame x is apart))
+        (ends_from (x.1 ∷ []) group old mid new replica received pace ends);
+    heard = subst (λ (cs : List (SocketAddr × List ℕ)). HearsAll old.cluster cs old.addresses new.addresses) (sym (taken_one old.addresses.seals frame x is apart)) (mid.addresses, hears, book);
     outside = subst (λ (b : AddressBook). IsSameOutside old.addresses b) (sym book) outside;
   }
 

@@ -1,7 +1,6 @@
 -- A turn, by what was taken in it.
-use Rattle.std.proofs.Common.{◌≡◌, ◌≢◌, ◌++◌, ℕ, zero, suc, ◌≤◌, true, false, List, [], ◌∷◌, length, map, take, drop, Option, None, inl, inr, refl, ap, sym, ◌∙◌, subst, subst₂, append-nil, append_assoc, arith}
-use Rattle.std.proofs.lemmas.Bool.{cases_Bool}
-use Rattle.std.specs.Prelude.{Result, Ok, Err, OnOk, OnErr, Bool, not}
+use Rattle.std.proofs.Common.{◌≡◌, ◌≢◌, ◌++◌, ℕ, zero, suc, ◌≤◌, Bool, true, false, List, [], ◌∷◌, length, map, take, drop, Option, None, inl, inr, refl, ap, sym, ◌∙◌, subst, subst₂, append-nil, append_assoc, arith}
+use Rattle.std.specs.Prelude.{Result, Ok, Err, OnOk, OnErr}
 use Rattle.std.specs.declared.net.socket_addr.SocketAddr.{SocketAddr}
 use Rattle.lk_step.specs.Letters.{LetterValue}
 use Rattle.lk_replica.specs.Groups.{GroupValue}
@@ -11,13 +10,17 @@ use Rattle.lk_replica.specs.Faults.{fault_number}
 use Rattle.lk_server.specs.Addresses.{AddressBook, IsSameOutside}
 use Rattle.lk_server.specs.Faults.{replica_fault}
 use Rattle.lk_server.specs.declared.fault.ServiceFault.TheVariants.{Send}
-use Rattle.lk_server.specs.Gatherings.{Sayings, Gatherings, GathersMore, SaysNoMore, FindsNone, TakesAll, EndsWithin, TakesOwn, EndsOwn, TakesSocket, EndsSocket, TakesWaiting, TakesGroup, EndsGroup, HandsOnAll, SaysNothing}
+use Rattle.lk_server.specs.Gatherings.{Sayings, Gatherings, GathersMore, SaysNoMore, Finds, TakesAll, EndsWithin, TakesOwn, EndsOwn, TakesSocket, EndsSocket, TakesWaiting, TakesGroup, EndsGroup, HandsOnAll, SaysNothing}
 use Rattle.lk_server.specs.Paces.{MayFollow}
-use Rattle.lk_server.specs.Posts.{HearsAll, all_taken_as}
-use Rattle.lk_server.specs.Servers.{ServerValue, HandsOn, HandsNothing, IsSameServer, Turn, LastTurn, IsIdle, Given, GivenFirst, TakesFirst, all_inputs, counted, datagrams_in}
+use Rattle.lk_seal.specs.Seals.{heard}
+use Rattle.lk_seal.specs.declared.seals.Seals.{Seals}
+use Rattle.lk_server.specs.Posts.{HearsAll, is_beside, all_taken_as}
+use Rattle.lk_server.specs.Servers.{ServerValue, HandsOn, HandsNothing, HasWaited, IsSameServer, Turn, LastTurn, IsIdle, Given, GivenFirst, TakesFirst, all_inputs, counted, datagrams_in}
+use Rattle.lk_server.specs.declared.found.Found.{Found}
+use Rattle.lk_server.specs.declared.found.Found.TheVariants.{Nothing, Beside, Something}
 use Rattle.lk_server.specs.declared.pace.Pace.{Pace}
 use Rattle.lk_server.specs.declared.pace.Pace.TheVariants.{Datagrams, Clock}
-use Rattle.lk_server.proofs.Gatherings.{takes_more, ends_more, long_as, taken_of}
+use Rattle.lk_server.proofs.Gatherings.{takes_more, ends_more, long_as, taken_first}
 
 -- a fault that tells of no lost letter is told as none
 pub not_send : (e : ReplicaFault) → (fault_number e ≡ 15 → ⊥) → replica_fault e ≡ Send → ⊥
@@ -28,12 +31,6 @@ not_send fault.WrongStore other is = cc is
 not_send fault.Failed other is = cc is
 not_send fault.Halted other is = cc is
 not_send (fault.Send notes) other is = other refl
-
--- where a tick is due as something comes, ticks go by the clock
-clock_of : (pace : Pace) (came due : Bool) → (pace ≡ Datagrams → due ≡ not came) → due ≡ came → pace ≡ Clock
-clock_of Datagrams true due so same = absurd (let both : false ≡ true = sym (so refl) ∙ same in cc both)
-clock_of Datagrams false due so same = absurd (let both : true ≡ false = sym (so refl) ∙ same in cc both)
-clock_of Clock came due so same = refl
 
 -- no tick may follow, however they go
 no_tick : (pace : Pace) → MayFollow pace []
@@ -62,9 +59,11 @@ given_none : (pace : Pace) (received : ℕ) (ds : List (List ℕ)) → ds ≡ []
 given_none pace received ds none = subst (λ (l : List (List ℕ)). Given pace received l (None ∷ [])) (sym none) refl
 
 -- what comes after a first one is something
-pub some_datagrams : (own : List LetterValue) (c : SocketAddr × List ℕ) (came : List (SocketAddr × List ℕ)) → own ≡ [] → datagrams_in own (c ∷ came) ≢ []
-some_datagrams own c came none is =
-    let both : c.1 ∷ map (λ (x : SocketAddr × List ℕ). x.1) came ≡ [] = sym (ap (λ (o : List LetterValue). datagrams_in o (c ∷ came)) none) ∙ is in cc both
+pub some_datagrams : (s : Seals) (own : List LetterValue) (d : SocketAddr × List ℕ) (more : List (SocketAddr × List ℕ)) → own ≡ [] → is_beside (heard s d.1) ≡ false → datagrams_in own (all_taken_as s (d ∷ more)) ≢ []
+some_datagrams s own d more none apart is =
+    let both : heard s d.1 ∷ map (λ (x : SocketAddr × List ℕ). x.1) (all_taken_as s more) ≡ [] =
+        sym (ap (λ (o : List LetterValue). datagrams_in o (all_taken_as s (d ∷ more))) none ∙ ap (λ (cs : List (SocketAddr × List ℕ)). datagrams_in [] cs) (taken_first s d more apart)) ∙ is in
+    cc both
 
 -- of no letters none are taken
 take_none : (n : ℕ) (own : List LetterValue) → own ≡ [] → take n own ≡ []
@@ -86,29 +85,31 @@ module _ {R : Type 0} (S : Sayings R) (G : Gatherings R) (tells : Type 0) where
 
   -- frames of the socket, where no letter of the node to itself waits
   pub socket_group : (frame : SocketAddr × List ℕ) (frames : List (SocketAddr × List ℕ)) (group now : GroupValue) (old new : ServerValue R) → old.own ≡ [] → new.own ≡ old.own → length frames ≤ 63
-      → TakesSocket G tells (frame ∷ frames) group now old new → TakesWaiting G tells (frame ∷ frames) group now old new
-  socket_group frame frames group now old new none own few t = record {
-    first = record { alone = inl none; few = omega (arith, few, long_as old.addresses.seals frames); comes = λ telling empty. (new.coming, t.comes telling) };
+      → is_beside (heard old.addresses.seals frame.1) ≡ false → TakesSocket G tells (frame ∷ frames) group now old new → TakesWaiting G tells (frame ∷ frames) group now old new
+  socket_group frame frames group now old new none own few apart t = record {
+    waited = λ telling empty is. absurd (cc is);
+    first = record { alone = inl none; few = omega (arith, few, long_as old.addresses.seals (frame ∷ frames)); comes = λ telling empty. (new.coming, t.comes telling) };
     takes = subst (λ (o : List LetterValue). TakesAll G (datagrams_in (take 64 o) (all_taken_as old.addresses.seals (frame ∷ frames))) group now old new) (sym none) t.takes.takes;
-    some = some_datagrams (take 64 old.own) (taken_of old.addresses.seals frame) (all_taken_as old.addresses.seals frames) (ap (λ (o : List LetterValue). take 64 o) none);
+    some = some_datagrams old.addresses.seals (take 64 old.own) frame frames (ap (λ (o : List LetterValue). take 64 o) none) apart;
     left = own ∙ none ∙ sym (ap (λ (o : List LetterValue). drop 64 o) none);
     heard = t.takes.heard;
     outside = t.takes.outside;
   }
 
   pub socket_ends : (frame : SocketAddr × List ℕ) (frames : List (SocketAddr × List ℕ)) (group : GroupValue) (old new : ServerValue R) → old.own ≡ [] → new.own ≡ old.own → length frames ≤ 63
-      → EndsSocket S G tells (frame ∷ frames) group old new → EndsGroup S G tells (frame ∷ frames) group old new
-  socket_ends frame frames group old new none own few t =
+      → is_beside (heard old.addresses.seals frame.1) ≡ false → EndsSocket S G tells (frame ∷ frames) group old new → EndsGroup S G tells (frame ∷ frames) group old new
+  socket_ends frame frames group old new none own few apart t =
       let e = subst (λ (o : List LetterValue). EndsWithin S G (datagrams_in (take 0 o) (all_taken_as old.addresses.seals (frame ∷ frames))) group old new) (sym none) t.ends.ends in
       record {
-        takes = record { alone = inl none; few = omega (arith, few, long_as old.addresses.seals frames); comes = λ telling empty. (new.coming, t.comes telling) };
+        waited = λ telling empty is. absurd (cc is);
+        takes = record { alone = inl none; few = omega (arith, few, long_as old.addresses.seals (frame ∷ frames)); comes = λ telling empty. (new.coming, t.comes telling) };
         count = 0;
         letters = record { at_most = omega arith; some = λ is. none };
         given = e.given;
         first = record {
           whole = all_inputs old.pace old.received (datagrams_in (take 0 old.own) (all_taken_as old.addresses.seals (frame ∷ frames)));
           may = given_some old.pace old.received (datagrams_in (take 0 old.own) (all_taken_as old.addresses.seals (frame ∷ frames)))
-              (some_datagrams (take 0 old.own) (taken_of old.addresses.seals frame) (all_taken_as old.addresses.seals frames) (ap (λ (o : List LetterValue). take 0 o) none));
+              (some_datagrams old.addresses.seals (take 0 old.own) frame frames (ap (λ (o : List LetterValue). take 0 o) none) apart);
           front = e.front;
         };
         silent = e.silent;
@@ -121,9 +122,13 @@ module _ {R : Type 0} (S : Sayings R) (G : Gatherings R) (tells : Type 0) where
   own_first : (l : LetterValue) (rest : List LetterValue) (old : ServerValue R) → old.own ≡ l ∷ rest → TakesFirst tells [] old
   own_first l rest old own = record { alone = inr refl; few = omega arith; comes = λ telling empty. absurd (let both : l ∷ rest ≡ [] = sym own ∙ empty in cc both) }
 
+  own_waited : (l : LetterValue) (rest : List LetterValue) (old : ServerValue R) → old.own ≡ l ∷ rest → HasWaited tells [] old
+  own_waited l rest old own = λ telling empty is. absurd (let both : l ∷ rest ≡ [] = sym own ∙ empty in cc both)
+
   pub own_group : (l : LetterValue) (group one now : GroupValue) (old mid new : ServerValue R) → old.own ≡ l ∷ mid.own → new.addresses ≡ old.addresses
       → TakesAll G (l.bytes ∷ []) group one old mid → TakesOwn G 63 one now mid new → TakesWaiting G tells [] group now old new
   own_group l group one now old mid new own book first further = record {
+    waited = own_waited l mid.own old own;
     first = own_first l mid.own old own;
     takes = subst (λ (o : List LetterValue). TakesAll G (datagrams_in (take 64 o) []) group now old new) (sym own)
         (takes_more G (l.bytes ∷ []) (datagrams_in (take 63 mid.own) []) group one now old mid new first further.takes);
@@ -139,6 +144,7 @@ module _ {R : Type 0} (S : Sayings R) (G : Gatherings R) (tells : Type 0) where
   own_ends_at count l rest group old new own book few ends left =
       let e = subst (λ (o : List LetterValue). EndsWithin S G (datagrams_in (take (suc count) o) []) group old new) (sym own) ends in
       record {
+        waited = own_waited l rest old own;
         takes = own_first l rest old own;
         count = suc count;
         letters = record { at_most = few; some = λ is. absurd (omega (arith, is)) };
@@ -183,6 +189,7 @@ module _ {R : Type 0} (S : Sayings R) (G : Gatherings R) (tells : Type 0) where
   without_tick frames group now old new t =
       let ds = datagrams_in (take 64 old.own) (all_taken_as old.addresses.seals frames) in
       record {
+        waited = t.waited;
         first = t.first;
         given = all_inputs old.pace old.received ds;
         may = given_some old.pace old.received ds t.some;
@@ -216,6 +223,7 @@ module _ {R : Type 0} (S : Sayings R) (G : Gatherings R) (tells : Type 0) where
 
     pub tick_behind : (now : GroupValue) → GathersMore G (None ∷ []) one now mid.replica new.replica → TakesGroup G tells frames group now old new
     tick_behind now ticks = record {
+      waited = t.waited;
       first = t.first;
       given = ticked;
       may = may_tick;
@@ -231,6 +239,7 @@ module _ {R : Type 0} (S : Sayings R) (G : Gatherings R) (tells : Type 0) where
     -- it has ended it
     pub tick_ends_behind : SaysNoMore S G (None ∷ []) one mid.replica new.replica → EndsGroup S G tells frames group old new
     tick_ends_behind silent = record {
+      waited = t.waited;
       takes = t.first;
       count = 64;
       letters = record { at_most = omega arith; some = λ is. absurd (omega (arith, is)) };
@@ -244,84 +253,108 @@ module _ {R : Type 0} (S : Sayings R) (G : Gatherings R) (tells : Type 0) where
       outside = tick_outside;
     }
 
-  -- it is alone
-  module _ (group one : GroupValue) (old mid new : ServerValue R) (found : FindsNone tells old mid) (begun : one ≡ group) (same : new ≡ record mid { replica = new.replica; failed = new.failed }) where
+  -- it is alone: a replica is given nothing of what came in these frames
+  module _ (found : Found) (frames : List (SocketAddr × List ℕ)) (group one : GroupValue) (old mid new : ServerValue R) (own : old.own ≡ []) (f : Finds tells found frames old mid) (begun : one ≡ group)
+      (same : new ≡ record mid { replica = new.replica; failed = new.failed }) where
     mine : mid.replica ≡ old.replica
-    mine = ap (λ (s : ServerValue R). s.replica) found.same
+    mine = ap (λ (s : ServerValue R). s.replica) f.same
 
     own_is : (n : ℕ) → take n old.own ≡ []
-    own_is n = take_none n old.own found.own
+    own_is n = take_none n old.own own
 
-    no_datagrams : (n : ℕ) → datagrams_in (take n old.own) [] ≡ []
-    no_datagrams n = ap (λ (o : List LetterValue). datagrams_in o []) (own_is n)
+    no_datagrams : (n : ℕ) → datagrams_in (take n old.own) (all_taken_as old.addresses.seals frames) ≡ []
+    no_datagrams n = ap (λ (cs : List (SocketAddr × List ℕ)). datagrams_in (take n old.own) cs) f.beside ∙ ap (λ (o : List LetterValue). datagrams_in o []) (own_is n)
 
-    alone_first : TakesFirst tells [] old
-    alone_first = record { alone = inr refl; few = omega arith; comes = λ telling empty. found.none telling }
+    alone_first : TakesFirst tells (all_taken_as old.addresses.seals frames) old
+    alone_first = subst (λ (cs : List (SocketAddr × List ℕ)). TakesFirst tells cs old) (sym f.beside) (record { alone = inr refl; few = omega arith; comes = λ telling empty. (old.coming, refl) })
+
+    alone_waited : HasWaited tells frames old
+    alone_waited = λ telling empty is. f.none telling is
 
     alone_book : new.addresses ≡ old.addresses
-    alone_book = ap (λ (s : ServerValue R). s.addresses) same ∙ ap (λ (s : ServerValue R). s.addresses) found.same
+    alone_book = ap (λ (s : ServerValue R). s.addresses) same ∙ ap (λ (s : ServerValue R). s.addresses) f.same
+
+    alone_heard : HearsAll old.cluster (all_taken_as old.addresses.seals frames) old.addresses new.addresses
+    alone_heard = subst (λ (cs : List (SocketAddr × List ℕ)). HearsAll old.cluster cs old.addresses new.addresses) (sym f.beside) alone_book
 
     alone_outside : IsSameOutside old.addresses new.addresses
     alone_outside = (ap (λ (b : AddressBook). b.hosts) alone_book, ap (λ (b : AddressBook). b.seals) alone_book)
 
     alone_own : new.own ≡ []
-    alone_own = ap (λ (s : ServerValue R). s.own) same ∙ ap (λ (s : ServerValue R). s.own) found.same ∙ found.own
+    alone_own = ap (λ (s : ServerValue R). s.own) same ∙ ap (λ (s : ServerValue R). s.own) f.same ∙ own
 
-    pub tick_alone : (now : GroupValue) → GathersMore G (None ∷ []) one now mid.replica new.replica → TakesGroup G tells [] group now old new
+    pub tick_alone : (now : GroupValue) → GathersMore G (None ∷ []) one now mid.replica new.replica → TakesGroup G tells frames group now old new
     tick_alone now ticks = record {
+      waited = alone_waited;
       first = alone_first;
       given = None ∷ [];
-      may = given_none old.pace old.received (datagrams_in (take 64 old.own) []) (no_datagrams 64);
+      may = given_none old.pace old.received (datagrams_in (take 64 old.own) (all_taken_as old.addresses.seals frames)) (no_datagrams 64);
       gathers = subst₂ (λ (x : GroupValue) (r : R). GathersMore G (None ∷ []) x now r new.replica) begun mine ticks;
-      counted = ap (λ (s : ServerValue R). s.received) same ∙ ap (λ (s : ServerValue R). s.received) found.same ∙ sym (ap (λ (ds : List (List ℕ)). counted old.received ds) (no_datagrams 64));
-      left = alone_own ∙ sym (ap (λ (o : List LetterValue). drop 64 o) found.own);
-      heard = alone_book;
+      counted = ap (λ (s : ServerValue R). s.received) same ∙ ap (λ (s : ServerValue R). s.received) f.same ∙ sym (ap (λ (ds : List (List ℕ)). counted old.received ds) (no_datagrams 64));
+      left = alone_own ∙ sym (ap (λ (o : List LetterValue). drop 64 o) own);
+      heard = alone_heard;
       outside = alone_outside;
     }
 
-    pub tick_ends_alone : SaysNoMore S G (None ∷ []) one mid.replica new.replica → EndsGroup S G tells [] group old new
+    pub tick_ends_alone : SaysNoMore S G (None ∷ []) one mid.replica new.replica → EndsGroup S G tells frames group old new
     tick_ends_alone silent = record {
+      waited = alone_waited;
       takes = alone_first;
       count = 64;
       letters = record { at_most = omega arith; some = λ is. absurd (omega (arith, is)) };
       given = None ∷ [];
-      first = given_all old.pace old.received (datagrams_in (take 64 old.own) []) (None ∷ []) (given_none old.pace old.received (datagrams_in (take 64 old.own) []) (no_datagrams 64));
+      first = given_all old.pace old.received (datagrams_in (take 64 old.own) (all_taken_as old.addresses.seals frames)) (None ∷ [])
+          (given_none old.pace old.received (datagrams_in (take 64 old.own) (all_taken_as old.addresses.seals frames)) (no_datagrams 64));
       silent = subst₂ (λ (x : GroupValue) (r : R). SaysNoMore S G (None ∷ []) x r new.replica) begun mine silent;
-      left = alone_own ∙ sym (ap (λ (o : List LetterValue). drop 64 o) found.own);
-      heard = alone_book;
+      left = alone_own ∙ sym (ap (λ (o : List LetterValue). drop 64 o) own);
+      heard = alone_heard;
       outside = alone_outside;
     }
 
-  module _ (came due : Bool) (group one : GroupValue) (old mid : ServerValue R) (taken : came ≡ true → (frames : List (SocketAddr × List ℕ)) × TakesWaiting G tells frames group one old mid)
-      (none : came ≡ false → FindsNone tells old mid × (one ≡ group)) (pace : mid.pace ≡ old.pace) (by_datagrams : mid.pace ≡ Datagrams → due ≡ not came) where
-    -- no tick is due
-    pub untimely_takes : came ≡ true → (frames : List (SocketAddr × List ℕ)) × TakesGroup G tells frames group one old mid
-    untimely_takes is = ((taken is).0, without_tick (taken is).0 group one old mid (taken is).1)
+  -- no tick is due, and nothing waits that a replica is given
+  by_clock : (pace : Pace) (found : Found) (frames : List (SocketAddr × List ℕ)) (due : Bool) → due ≡ false → (pace ≡ Datagrams → found ≡ Nothing → due ≡ true) → (found ≡ Beside → frames ≢ []) → (found ≡ Something → ⊥)
+      → frames ≡ [] → pace ≡ Clock
+  by_clock Clock found frames due isnt nothing some apart empty = refl
+  by_clock Datagrams Nothing frames due isnt nothing some apart empty = absurd (cc (isnt, nothing refl refl))
+  by_clock Datagrams Beside frames due isnt nothing some apart empty = absurd (some refl empty)
+  by_clock Datagrams Something frames due isnt nothing some apart empty = absurd (apart refl)
 
-    pub untimely_rests : due ≡ false → came ≡ false → (frames : List (SocketAddr × List ℕ)) × IsIdle tells frames old mid
-    untimely_rests not_due is =
-        let found = (none is).0 in
-        ([], record { own = found.own; none = refl; clock = λ empty. sym pace ∙ clock_of mid.pace came due by_datagrams (not_due ∙ sym is); comes = found.still; same = found.same })
+  -- a tick is due behind what waits by the clock alone
+  clock_of : (pace : Pace) (due : Bool) → due ≡ true → (pace ≡ Datagrams → due ≡ false) → pace ≡ Clock
+  clock_of Clock due is_so given = refl
+  clock_of Datagrams due is_so given = absurd (cc (is_so, given refl))
 
-    -- one is
-    module _ (new : ServerValue R) (same : new ≡ record mid { replica = new.replica; failed = new.failed }) (is_due : due ≡ true) where
-      pub timely_takes : (now : GroupValue) → GathersMore G (None ∷ []) one now mid.replica new.replica → (frames : List (SocketAddr × List ℕ)) × TakesGroup G tells frames group now old new
-      timely_takes now ticks = elim (cases_Bool came) [
-        | inl is ↦ (
-          (taken is).0,
-          tick_behind (taken is).0 group one old mid new (sym pace ∙ clock_of mid.pace came due by_datagrams (is_due ∙ sym is)) (taken is).1 same now ticks,
-        )
-        | inr is ↦ ([], tick_alone group one old mid new (none is).0 (none is).1 same now ticks)
-      ]
+  -- this was found, and nothing of it was taken
+  abbrev pub HasFound : Found → GroupValue → GroupValue → ServerValue R → ServerValue R → Type 0
+  HasFound found group one old mid = (old.own ≡ []) × (frames : List (SocketAddr × List ℕ)) × Finds tells found frames old mid × (one ≡ group)
 
-      pub timely_ends : SaysNoMore S G (None ∷ []) one mid.replica new.replica → (frames : List (SocketAddr × List ℕ)) × EndsGroup S G tells frames group old new
-      timely_ends silent = elim (cases_Bool came) [
-        | inl is ↦ (
-          (taken is).0,
-          tick_ends_behind (taken is).0 group one old mid new (sym pace ∙ clock_of mid.pace came due by_datagrams (is_due ∙ sym is)) (taken is).1 same silent,
-        )
-        | inr is ↦ ([], tick_ends_alone group one old mid new (none is).0 (none is).1 same silent)
-      ]
+  -- no tick is due
+  pub untimely_takes : (group one : GroupValue) (old mid : ServerValue R) → (frames : List (SocketAddr × List ℕ)) × TakesWaiting G tells frames group one old mid → (frames : List (SocketAddr × List ℕ)) × TakesGroup G tells frames group one old mid
+  untimely_takes group one old mid t = (t.0, without_tick t.0 group one old mid t.1)
+
+  pub untimely_rests : (found : Found) (due : Bool) (group one : GroupValue) (old mid : ServerValue R) → mid.pace ≡ old.pace → due ≡ false → (mid.pace ≡ Datagrams → found ≡ Nothing → due ≡ true) → (found ≡ Something → ⊥)
+      → HasFound found group one old mid → (frames : List (SocketAddr × List ℕ)) × HasWaited tells frames old × IsIdle tells frames old mid
+  untimely_rests found due group one old mid pace isnt nothing apart n = (
+    n.1,
+    λ telling empty is. n.2.none telling is,
+    record { own = n.0; none = n.2.beside; clock = λ empty. sym pace ∙ by_clock mid.pace found n.1 due isnt nothing n.2.some apart empty; comes = n.2.still; same = n.2.same },
+  )
+
+  -- one is
+  module _ (due : Bool) (group one : GroupValue) (old mid new : ServerValue R) (pace : mid.pace ≡ old.pace) (is_so : due ≡ true) (same : new ≡ record mid { replica = new.replica; failed = new.failed }) where
+    pub tick_turn : (found : Found) (now : GroupValue) → (found ≡ Something → (frames : List (SocketAddr × List ℕ)) × TakesWaiting G tells frames group one old mid) → ((found ≡ Something → ⊥) → HasFound found group one old mid)
+        → (mid.pace ≡ Datagrams → found ≡ Something → due ≡ false) → GathersMore G (None ∷ []) one now mid.replica new.replica → (frames : List (SocketAddr × List ℕ)) × TakesGroup G tells frames group now old new
+    tick_turn Something now takes none given ticks =
+        let t = takes refl in (t.0, tick_behind t.0 group one old mid new (sym pace ∙ clock_of mid.pace due is_so (λ is. given is refl)) t.1 same now ticks)
+    tick_turn Nothing now takes none given ticks = let n = none (λ is. cc is) in (n.1, tick_alone Nothing n.1 group one old mid new n.0 n.2 n.3 same now ticks)
+    tick_turn Beside now takes none given ticks = let n = none (λ is. cc is) in (n.1, tick_alone Beside n.1 group one old mid new n.0 n.2 n.3 same now ticks)
+
+    pub tick_turn_ends : (found : Found) → (found ≡ Something → (frames : List (SocketAddr × List ℕ)) × TakesWaiting G tells frames group one old mid) → ((found ≡ Something → ⊥) → HasFound found group one old mid)
+        → (mid.pace ≡ Datagrams → found ≡ Something → due ≡ false) → SaysNoMore S G (None ∷ []) one mid.replica new.replica → (frames : List (SocketAddr × List ℕ)) × EndsGroup S G tells frames group old new
+    tick_turn_ends Something takes none given silent =
+        let t = takes refl in (t.0, tick_ends_behind t.0 group one old mid new (sym pace ∙ clock_of mid.pace due is_so (λ is. given is refl)) t.1 same silent)
+    tick_turn_ends Nothing takes none given silent = let n = none (λ is. cc is) in (n.1, tick_ends_alone Nothing n.1 group one old mid new n.0 n.2 n.3 same silent)
+    tick_turn_ends Beside takes none given silent = let n = none (λ is. cc is) in (n.1, tick_ends_alone Beside n.1 group one old mid new n.0 n.2 n.3 same silent)
 
   -- ---- what is handed on
 

@@ -3,9 +3,11 @@ use Rattle.std.specs.Prelude.{◌≡◌, ◌≢◌, ◌≤◌, ℕ, List, [], �
 use Rattle.std.specs.declared.net.socket_addr.SocketAddr.{SocketAddr}
 use Rattle.lk_step.specs.Letters.{LetterValue}
 use Rattle.lk_replica.specs.Groups.{GroupValue}
+use Rattle.lk_server.specs.declared.found.Found.{Found}
+use Rattle.lk_server.specs.declared.found.Found.TheVariants.{Beside}
 use Rattle.lk_server.specs.Addresses.{IsSameOutside}
 use Rattle.lk_server.specs.Posts.{HearsAll, all_taken_as}
-use Rattle.lk_server.specs.Servers.{ServerValue, all_inputs, counted, datagrams_in, Given, GivenFirst, IsFront, TakesFirst, TakesLetters, HandsOn}
+use Rattle.lk_server.specs.Servers.{ServerValue, all_inputs, counted, datagrams_in, Given, GivenFirst, HasWaited, IsFront, TakesFirst, TakesLetters, HandsOn}
 
 -- how a replica says: what becomes of it by a group, and the letters of that
 abbrev pub Sayings : Type 0 → Type 1
@@ -15,10 +17,12 @@ Sayings R = R → List (Option (List ℕ)) → List LetterValue → R → Type 0
 abbrev pub Gatherings : Type 0 → Type 1
 Gatherings R = R → List (Option (List ℕ)) → GroupValue → R → Type 0
 
--- no letter of the node to itself waited, nothing was to come to the socket, if that tells, and nothing is changed
-pub record FindsNone {R : Type 0} (tells : Type 0) (old new : ServerValue R) : Type 0 where
-  pub own : old.own ≡ []
-  pub none : tells → old.coming ≡ []
+-- this was found at the socket: these frames came, and a replica is given nothing of them; where none came, nothing was to come, if the socket tells that; and
+-- nothing is changed
+pub record Finds {R : Type 0} (tells : Type 0) (found : Found) (frames : List (SocketAddr × List ℕ)) (old new : ServerValue R) : Type 0 where
+  pub some : found ≡ Beside → frames ≢ []
+  pub beside : all_taken_as old.addresses.seals frames ≡ []
+  pub none : tells → frames ≡ [] → old.coming ≡ []
   pub still : tells → new.coming ≡ old.coming
   pub same : record new { coming = old.coming } ≡ old
 
@@ -51,6 +55,7 @@ module _ {R : Type 0} (Gathers : Gatherings R) where
 
   -- what waits is taken: letters of the node to itself, or these frames of the socket
   pub record TakesWaiting (tells : Type 0) (frames : List (SocketAddr × List ℕ)) (group now : GroupValue) (old new : ServerValue R) : Type 0 where
+    pub waited : HasWaited tells frames old
     pub first : TakesFirst tells (all_taken_as old.addresses.seals frames) old
     pub takes : TakesAll (datagrams_in (take 64 old.own) (all_taken_as old.addresses.seals frames)) group now old new
     pub some : datagrams_in (take 64 old.own) (all_taken_as old.addresses.seals frames) ≢ []
@@ -60,6 +65,7 @@ module _ {R : Type 0} (Gathers : Gatherings R) where
 
   -- what is taken in a turn: what waits, and a tick where one is due
   pub record TakesGroup (tells : Type 0) (frames : List (SocketAddr × List ℕ)) (group now : GroupValue) (old new : ServerValue R) : Type 0 where
+    pub waited : HasWaited tells frames old
     pub first : TakesFirst tells (all_taken_as old.addresses.seals frames) old
     pub given : List (Option (List ℕ))
     pub may : Given old.pace old.received (datagrams_in (take 64 old.own) (all_taken_as old.addresses.seals frames)) given
@@ -101,6 +107,7 @@ module _ {R : Type 0} (Says : Sayings R) (Gathers : Gatherings R) where
 
   -- at what is taken in a turn
   pub record EndsGroup (tells : Type 0) (frames : List (SocketAddr × List ℕ)) (group : GroupValue) (old new : ServerValue R) : Type 0 where
+    pub waited : HasWaited tells frames old
     pub takes : TakesFirst tells (all_taken_as old.addresses.seals frames) old
     pub count : ℕ
     pub letters : TakesLetters count old.own

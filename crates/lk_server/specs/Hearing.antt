@@ -1,6 +1,17 @@
 -- What a place for datagrams has heard.
 use Rattle.std.specs.Prelude.{ℕ, List, [], ◌∷◌, take, Option, Some, None}
 use Rattle.std.specs.declared.net.socket_addr.SocketAddr.{SocketAddr}
+use Rattle.lk_server.specs.declared.asked.Asked.{Asked}
+
+-- the datagram that came last: from where, and its bytes; and the probe that is kept, if one is
+pub record EarValue : Type 0 where
+  pub last : Option (SocketAddr × List ℕ)
+  pub asked : Option Asked
+
+-- the first of two probes, if there is one
+abbrev pub first_asked : Option Asked → Option Asked → Option Asked
+first_asked None next = next
+first_asked (Some a) next = Some a
 
 -- the datagram that came last, of that length and from there: from where it came, and its own bytes
 abbrev pub heard_in : List ℕ → Option (ℕ × SocketAddr) → Option (SocketAddr × List ℕ)

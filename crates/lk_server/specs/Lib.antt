@@ -5,6 +5,7 @@ pub mod Paces
 pub mod Posts
 pub mod Servers
 pub mod Gatherings
+pub mod Probes
 pub mod Sights
 pub mod Sayings
 pub mod Hearing

@@ -1,5 +1,5 @@
 -- Where a letter goes and as what, and what a contract sees of a post that has a socket.
-use Rattle.std.specs.Prelude.{◌≡◌, ◌≢◌, ◌⊎◌, ◌==◌, ℕ, Bool, true, false, List, [], ◌∷◌, ◌++◌, Option, Some, None, MatchBool, MatchOption, IsSomeAnd}
+use Rattle.std.specs.Prelude.{◌≡◌, ◌≢◌, ◌⊎◌, ◌==◌, ℕ, Bool, true, false, if◌then◌else◌, List, [], ◌∷◌, ◌++◌, Option, Some, None, MatchBool, MatchOption, IsSomeAnd}
 use Rattle.std.specs.Net.Socket.{socket_ip, socket_port}
 use Rattle.std.specs.declared.net.socket_addr.SocketAddr.{SocketAddr}
 use Rattle.lk_types.specs.Ranges.{IsClient}
@@ -56,15 +56,23 @@ abbrev pub keys_for : Seals → To → List (List ℕ)
 keys_for s (Client c) = client_keys c (key_list s.clients)
 keys_for s (Node n port) = key_list s.nodes
 
--- what came, as it is taken: out of its frame
-abbrev pub taken_as : Seals → Option (SocketAddr × List ℕ) → Option (SocketAddr × List ℕ)
-taken_as s None = None
-taken_as s (Some d) = Some (d.0, heard s d.1)
+-- it begins as a probe or a report does, by the letters LP: it stands beside the protocol
+abbrev pub is_beside : List ℕ → Bool
+is_beside (l ∷ p ∷ rest) = if l == 76 then p == 80 else false
+is_beside _ = false
 
--- so of each of these
+-- what came, out of its frame
+abbrev pub opened_as : Seals → SocketAddr × List ℕ → SocketAddr × List ℕ
+opened_as s d = (d.0, heard s d.1)
+
+-- what came, as a replica is given it: nothing where it stands beside the protocol
+abbrev pub unless_beside : SocketAddr × List ℕ → List (SocketAddr × List ℕ)
+unless_beside d = if is_beside d.1 then [] else d ∷ []
+
+-- so of each of these, out of its frame
 abbrev pub all_taken_as : Seals → List (SocketAddr × List ℕ) → List (SocketAddr × List ℕ)
 all_taken_as s [] = []
-all_taken_as s (d ∷ came) = (d.0, heard s d.1) ∷ all_taken_as s came
+all_taken_as s (d ∷ came) = unless_beside (opened_as s d) ++ all_taken_as s came
 
 -- what goes there; nothing where there is no address
 abbrev pub carried : Option SocketAddr → List ℕ → List (SocketAddr × List ℕ)

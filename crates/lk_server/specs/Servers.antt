@@ -75,11 +75,6 @@ pub record GivenFirst (pace : Pace) (received : ℕ) (datagrams : List (List ℕ
   pub may : Given pace received datagrams whole
   pub front : IsFront given whole
 
--- just these came of what was to come, in order; and where none did, nothing was
-abbrev pub ComesOf : List (SocketAddr × List ℕ) → List (SocketAddr × List ℕ) → Type 0
-ComesOf [] coming = coming ≡ []
-ComesOf (c ∷ came) coming = IsFront (c ∷ came) coming
-
 -- ---- what becomes of what it says
 
 -- more letters stand behind these
@@ -113,7 +108,7 @@ pub record HandsNothing {R : Type 0} (Says : R → List (Option (List ℕ)) → 
 pub record TakesFirst {R : Type 0} (tells : Type 0) (came : List (SocketAddr × List ℕ)) (old : ServerValue R) : Type 0 where
   pub alone : (old.own ≡ []) ⊎ (came ≡ [])
   pub few : length came ≤ 64
-  pub comes : tells → old.own ≡ [] → ComesOf came old.coming
+  pub comes : tells → old.own ≡ [] → IsFront came old.coming
 
 -- so many letters of the node to itself are taken: at most 64, and at least one where some wait
 pub record TakesLetters (count : ℕ) (own : List LetterValue) : Type 0 where
@@ -160,6 +155,10 @@ pub record IsIdle {R : Type 0} (tells : Type 0) (frames : List (SocketAddr × Li
   pub clock : frames ≡ [] → old.pace ≡ Clock
   pub comes : tells → new.coming ≡ old.coming
   pub same : record new { coming = old.coming } ≡ old
+
+-- where the server looked at the socket and no frame came, nothing was to come, if the socket tells that
+abbrev pub HasWaited : {R : Type 0} → Type 0 → List (SocketAddr × List ℕ) → ServerValue R → Type 0
+HasWaited tells frames old = tells → old.own ≡ [] → frames ≡ [] → old.coming ≡ []
 
 -- a turn in which these frames came: its replica was given what was taken of them, or what waited, or a tick; or the turn is idle
 abbrev pub TakesTurn : {R : Type 0} (Says : R → List (Option (List ℕ)) → List LetterValue → R → Type 0) (tells : Type 0) → List (SocketAddr × List ℕ) → ServerValue R → ServerValue R → Type 0

@@ -1,18 +1,22 @@
 //! What a server takes in one group, in the middle of which nothing is sent.
 
-ghost use Rattle.std.specs.Prelude.{◌≡◌, ◌≤◌, ◌++◌, ℕ, List, ◌∷◌, [], length, Some, None, true, false, OnOk, OnErr, IfOk, IfErr, IfSome, IsNone};
+ghost use Rattle.std.specs.Prelude.{◌≡◌, ◌≢◌, ◌≤◌, ◌++◌, ℕ, List, ◌∷◌, [], length, Some, None, true, false, OnOk, OnErr, IfOk, IfErr, IfSome, IsNone};
 ghost use Rattle.std.specs.declared.net.socket_addr.SocketAddr.{SocketAddr as Address};
 ghost use Rattle.lk_step.specs.Letters.{LetterValue};
 ghost use Rattle.lk_node.specs.Calls.{heard_by};
 ghost use Rattle.lk_server.specs.Addresses.{IsSameOutside};
-ghost use Rattle.lk_server.specs.Gatherings.{GathersMore, SaysNoMore, FindsNone, TakesAll, EndsWithin, TakesOwn, EndsOwn, TakesHeard, EndsHeard, TakesSocket, EndsSocket, TakesWaiting, TakesGroup, EndsGroup};
+ghost use Rattle.lk_server.specs.Gatherings.{GathersMore, SaysNoMore, Finds, TakesAll, EndsWithin, TakesOwn, EndsOwn, TakesHeard, EndsHeard, TakesSocket, EndsSocket, TakesWaiting, TakesGroup, EndsGroup};
 ghost use Rattle.lk_server.specs.Hearing.{listed};
-ghost use Rattle.lk_server.specs.Posts.{Hears, all_taken_as};
-ghost use Rattle.lk_server.specs.Servers.{IsIdle};
+ghost use Rattle.lk_server.specs.Posts.{Hears, all_taken_as, is_beside};
+ghost use Rattle.lk_seal.specs.Seals.{heard};
+ghost use Rattle.lk_server.specs.Probes.{Keeps};
+ghost use Rattle.lk_server.specs.Servers.{HasWaited, IsIdle};
 
+use crate::asked::is_beside;
 use crate::came::Came;
 use crate::ear::Ear;
 use crate::fault::ServiceFault;
+use crate::found::Found;
 use crate::metronome::Metronome;
 use crate::node_replica::NodeReplica;
 use crate::server::Server;
@@ -46,8 +50,8 @@ impl<R: NodeReplica, S: Datagrams + Drop> Server<R, S> {
 
     // The ear hears the next datagram of the socket, if one comes.
     fn listen(&mut self, ear: &mut Ear)
-        ensures comes { S.is_telling → self.old.coming ≡ all_taken_as self.old.addresses.seals (listed ear.new) ++ self.new.coming }
-        ensures none { S.is_telling → ear.new ≡ None → self.old.coming ≡ [] }
+        ensures comes { S.is_telling → self.old.coming ≡ all_taken_as self.old.addresses.seals (listed ear.new.last) ++ self.new.coming }
+        ensures none { S.is_telling → ear.new.last ≡ None → self.old.coming ≡ [] }
         ensures others { self.new ≡ record self.old { coming = self.new.coming } }
     {
         self.post.listen(ear);
@@ -55,8 +59,8 @@ impl<R: NodeReplica, S: Datagrams + Drop> Server<R, S> {
 
     // The same of one that waits there already.
     fn listen_waiting(&mut self, ear: &mut Ear)
-        ensures comes { S.is_telling → self.old.coming ≡ all_taken_as self.old.addresses.seals (listed ear.new) ++ self.new.coming }
-        ensures none { S.is_telling → ear.new ≡ None → self.old.coming ≡ [] }
+        ensures comes { S.is_telling → self.old.coming ≡ all_taken_as self.old.addresses.seals (listed ear.new.last) ++ self.new.coming }
+        ensures none { S.is_telling → ear.new.last ≡ None → self.old.coming ≡ [] }
         ensures others { self.new ≡ record self.old { coming = self.new.coming } }
     {
         self.post.listen_waiting(ear);
@@ -113,6 +117,7 @@ impl<R: NodeReplica, S: Datagrams + Drop> Server<R, S> {
         ensures passes { IfErr result (λ f. f ≡ ServiceFault.Send → ⊥) }
         ensures broken { OnErr result (self.new.failed ≡ true) }
     {
+        self.ticks = self.ticks.saturating_add(1);
         self.gather(Input::Tick, &Came::Tick, group, log)
     }
 
@@ -171,38 +176,48 @@ impl<R: NodeReplica, S: Datagrams + Drop> Server<R, S> {
         Ok(())
     }
 
-    // The group takes what the ear has heard, out of its frame. Whether it has heard something.
+    // The group takes what the ear has heard, out of its frame. What stands beside the protocol it is not given: of that the first probe is kept. What was found.
     fn gather_heard<L: Log>(
         &mut self,
-        ear: &Ear,
+        ear: &mut Ear,
         group: &mut Group,
         log: &L,
-    ) -> Result<bool, ServiceFault>
-        ensures takes { IfOk result (λ came. came ≡ true → (frame : Address × List ℕ) × (ear.now ≡ Some frame) × TakesHeard R.Gathers (frame ∷ []) group.old group.new self.old self.new) }
-        ensures none { IfOk result (λ came. came ≡ false → (ear.now ≡ None) × (self.new ≡ self.old) × (group.new ≡ group.old)) }
-        ensures ends { OnErr result ((frame : Address × List ℕ) × (ear.now ≡ Some frame) × EndsHeard R.Says R.Gathers (frame ∷ []) group.old self.old self.new) }
+    ) -> Result<Found, ServiceFault>
+        ensures takes { IfOk result (λ found. found ≡ Found.Something → (frame : Address × List ℕ) × (ear.old.last ≡ Some frame) × (is_beside (heard self.old.addresses.seals frame.1) ≡ false) × TakesHeard R.Gathers (frame ∷ []) group.old group.new self.old self.new) }
+        ensures beside { IfOk result (λ found. found ≡ Found.Beside → (frame : Address × List ℕ) × (ear.old.last ≡ Some frame) × (is_beside (heard self.old.addresses.seals frame.1) ≡ true) × (self.new ≡ self.old) × (group.new ≡ group.old)) }
+        ensures none { IfOk result (λ found. found ≡ Found.Nothing → (ear.old.last ≡ None) × (self.new ≡ self.old) × (group.new ≡ group.old)) }
+        ensures ends { OnErr result ((frame : Address × List ℕ) × (ear.old.last ≡ Some frame) × (is_beside (heard self.old.addresses.seals frame.1) ≡ false) × EndsHeard R.Says R.Gathers (frame ∷ []) group.old self.old self.new) }
+        ensures kept { IfOk result (λ found. found ≡ Found.Beside → Keeps self.old.addresses.seals ear.old ear.new) }
+        ensures rest { IfOk result (λ found. (found ≡ Found.Beside → ⊥) → ear.new ≡ ear.old) }
+        ensures spares { OnErr result (ear.new ≡ ear.old) }
         ensures others { self.new ≡ record self.old { replica = self.new.replica; failed = self.new.failed; received = self.new.received; addresses = self.new.addresses } }
         ensures passes { IfErr result (λ f. f ≡ ServiceFault.Send → ⊥) }
         ensures broken { OnErr result (self.new.failed ≡ true) }
     {
-        let Some((bytes, from)) = self.post.heard(ear) else {
-            return Ok(false);
+        let Some((frame, from)) = ear.heard() else {
+            return Ok(Found::Nothing);
         };
-        let came = self.hear(bytes, from, log);
-        self.gather_counted(bytes, &came, group, log)?;
-        Ok(true)
+        let datagram = self.post.open(frame);
+        if is_beside(datagram) {
+            let asked = self.post.asked(from, frame, datagram);
+            ear.keep(asked);
+            return Ok(Found::Beside);
+        }
+        let came = self.hear(datagram, from, log);
+        self.gather_counted(datagram, &came, group, log)?;
+        Ok(Found::Something)
     }
 
-    // The group takes the next datagram of the socket, if one comes. Whether one did.
+    // The group takes the next datagram of the socket, if one comes. What was found.
     fn gather_first<L: Log>(
         &mut self,
         ear: &mut Ear,
         group: &mut Group,
         log: &L,
-    ) -> Result<bool, ServiceFault>
-        ensures takes { IfOk result (λ came. came ≡ true → (frame : Address × List ℕ) × TakesSocket R.Gathers S.is_telling (frame ∷ []) group.old group.new self.old self.new) }
-        ensures none { IfOk result (λ came. came ≡ false → (S.is_telling → (self.old.coming ≡ []) × (self.new.coming ≡ [])) × (record self.new { coming = self.old.coming } ≡ self.old) × (group.new ≡ group.old)) }
-        ensures ends { OnErr result ((frame : Address × List ℕ) × EndsSocket R.Says R.Gathers S.is_telling (frame ∷ []) group.old self.old self.new) }
+    ) -> Result<Found, ServiceFault>
+        ensures takes { IfOk result (λ found. found ≡ Found.Something → (frame : Address × List ℕ) × (is_beside (heard self.old.addresses.seals frame.1) ≡ false) × TakesSocket R.Gathers S.is_telling (frame ∷ []) group.old group.new self.old self.new) }
+        ensures none { IfOk result (λ found. (found ≡ Found.Something → ⊥) → (frames : List (Address × List ℕ)) × Finds S.is_telling found frames self.old self.new × (group.new ≡ group.old)) }
+        ensures ends { OnErr result ((frame : Address × List ℕ) × (is_beside (heard self.old.addresses.seals frame.1) ≡ false) × EndsSocket R.Says R.Gathers S.is_telling (frame ∷ []) group.old self.old self.new) }
         ensures others { self.new ≡ record self.old { replica = self.new.replica; failed = self.new.failed; received = self.new.received; addresses = self.new.addresses; coming = self.new.coming } }
         ensures passes { IfErr result (λ f. f ≡ ServiceFault.Send → ⊥) }
         ensures broken { OnErr result (self.new.failed ≡ true) }
@@ -211,7 +226,7 @@ impl<R: NodeReplica, S: Datagrams + Drop> Server<R, S> {
         self.gather_heard(ear, group, log)
     }
 
-    // The group takes the next datagram of the socket that waits there already, if one does, and if the group has something to send. Whether it took one.
+    // The group takes the next datagram of the socket that waits there already, if one does, and if the group has something to send. Whether one came.
     fn gather_waiting<L: Log>(
         &mut self,
         ear: &mut Ear,
@@ -229,7 +244,11 @@ impl<R: NodeReplica, S: Datagrams + Drop> Server<R, S> {
             return Ok(false);
         }
         self.listen_waiting(ear);
-        self.gather_heard(ear, group, log)
+        match self.gather_heard(ear, group, log)? {
+            Found::Nothing => Ok(false),
+            Found::Beside => Ok(true),
+            Found::Something => Ok(true),
+        }
     }
 
     // The group takes further datagrams of the socket, in order and at most 63: those that wait there already, as long as it has something to send.
@@ -253,38 +272,39 @@ impl<R: NodeReplica, S: Datagrams + Drop> Server<R, S> {
         Ok(())
     }
 
-    // The group takes what comes to the socket: the next datagram, and those that wait behind it. Whether one came.
+    // The group takes what comes to the socket: the next datagram, and those that wait behind it. What was found.
     fn gather_socket<L: Log>(
         &mut self,
         ear: &mut Ear,
         group: &mut Group,
         log: &L,
-    ) -> Result<bool, ServiceFault>
+    ) -> Result<Found, ServiceFault>
         requires { self.old.own ≡ [] }
-        ensures takes { IfOk result (λ came. came ≡ true → (frames : List (Address × List ℕ)) × TakesWaiting R.Gathers S.is_telling frames group.old group.new self.old self.new) }
-        ensures none { IfOk result (λ came. came ≡ false → FindsNone S.is_telling self.old self.new × (group.new ≡ group.old)) }
+        ensures takes { IfOk result (λ found. found ≡ Found.Something → (frames : List (Address × List ℕ)) × TakesWaiting R.Gathers S.is_telling frames group.old group.new self.old self.new) }
+        ensures none { IfOk result (λ found. (found ≡ Found.Something → ⊥) → (self.old.own ≡ []) × (frames : List (Address × List ℕ)) × Finds S.is_telling found frames self.old self.new × (group.new ≡ group.old)) }
         ensures ends { OnErr result ((frames : List (Address × List ℕ)) × EndsGroup R.Says R.Gathers S.is_telling frames group.old self.old self.new) }
         ensures others { self.new ≡ record self.old { replica = self.new.replica; failed = self.new.failed; received = self.new.received; addresses = self.new.addresses; coming = self.new.coming } }
         ensures passes { IfErr result (λ f. f ≡ ServiceFault.Send → ⊥) }
         ensures broken { OnErr result (self.new.failed ≡ true) }
     {
-        if !self.gather_first(ear, group, log)? {
-            return Ok(false);
+        let found = self.gather_first(ear, group, log)?;
+        if !found.is_something() {
+            return Ok(found);
         }
         self.gather_further(ear, group, log)?;
-        Ok(true)
+        Ok(Found::Something)
     }
 
     // The group takes what waits: the letters of the node to itself, the first 64 of them, and where there is none what comes to the socket.
-    // Whether there was anything. A letter that the group says is sent at its end, so it waits for another group.
+    // What was found. A letter that the group says is sent at its end, so it waits for another group.
     pub(crate) fn gather_all<L: Log>(
         &mut self,
         ear: &mut Ear,
         group: &mut Group,
         log: &L,
-    ) -> Result<bool, ServiceFault>
-        ensures takes { IfOk result (λ came. came ≡ true → (frames : List (Address × List ℕ)) × TakesWaiting R.Gathers S.is_telling frames group.old group.new self.old self.new) }
-        ensures none { IfOk result (λ came. came ≡ false → FindsNone S.is_telling self.old self.new × (group.new ≡ group.old)) }
+    ) -> Result<Found, ServiceFault>
+        ensures takes { IfOk result (λ found. found ≡ Found.Something → (frames : List (Address × List ℕ)) × TakesWaiting R.Gathers S.is_telling frames group.old group.new self.old self.new) }
+        ensures none { IfOk result (λ found. (found ≡ Found.Something → ⊥) → (self.old.own ≡ []) × (frames : List (Address × List ℕ)) × Finds S.is_telling found frames self.old self.new × (group.new ≡ group.old)) }
         ensures ends { OnErr result ((frames : List (Address × List ℕ)) × EndsGroup R.Says R.Gathers S.is_telling frames group.old self.old self.new) }
         ensures others { self.new ≡ record self.old { replica = self.new.replica; failed = self.new.failed; received = self.new.received; own = self.new.own; addresses = self.new.addresses; coming = self.new.coming } }
         ensures passes { IfErr result (λ f. f ≡ ServiceFault.Send → ⊥) }
@@ -294,7 +314,7 @@ impl<R: NodeReplica, S: Datagrams + Drop> Server<R, S> {
             return self.gather_socket(ear, group, log);
         }
         self.gather_letters(group, log)?;
-        Ok(true)
+        Ok(Found::Something)
     }
 
     // The group takes what waits, and behind it a tick where one is due. Whether it took anything.
@@ -306,16 +326,16 @@ impl<R: NodeReplica, S: Datagrams + Drop> Server<R, S> {
         log: &L,
     ) -> Result<bool, ServiceFault>
         ensures takes { IfOk result (λ some. some ≡ true → (frames : List (Address × List ℕ)) × TakesGroup R.Gathers S.is_telling frames group.old group.new self.old self.new) }
-        ensures idle { IfOk result (λ some. some ≡ false → (frames : List (Address × List ℕ)) × IsIdle S.is_telling frames self.old self.new) }
+        ensures idle { IfOk result (λ some. some ≡ false → (frames : List (Address × List ℕ)) × HasWaited S.is_telling frames self.old × IsIdle S.is_telling frames self.old self.new) }
         ensures ends { OnErr result ((frames : List (Address × List ℕ)) × EndsGroup R.Says R.Gathers S.is_telling frames group.old self.old self.new) }
         ensures others { self.new ≡ record self.old { replica = self.new.replica; failed = self.new.failed; received = self.new.received; own = self.new.own; addresses = self.new.addresses; coming = self.new.coming } }
         ensures passes { IfErr result (λ f. f ≡ ServiceFault.Send → ⊥) }
         ensures broken { OnErr result (self.new.failed ≡ true) }
     {
         self.wait_for(metronome.left());
-        let came = self.gather_all(ear, group, log)?;
-        if !self.pace.is_due(came, metronome) {
-            return Ok(came);
+        let found = self.gather_all(ear, group, log)?;
+        if !self.pace.is_due(found, metronome) {
+            return Ok(found.is_something());
         }
         self.gather_tick(group, log)?;
         Ok(true)

@@ -3,9 +3,11 @@
 #![tactic(auto)]
 
 pub mod addresses;
+pub mod asked;
 pub mod came;
 pub mod ear;
 pub mod fault;
+pub mod found;
 mod gathering;
 pub mod happened;
 mod hearing;
@@ -18,7 +20,9 @@ pub mod notes;
 pub mod outside;
 pub mod pace;
 pub mod post;
+mod probing;
 pub mod server;
+pub mod shown;
 pub mod sight;
 pub mod socket;
 pub mod strangers;

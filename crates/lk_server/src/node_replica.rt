@@ -8,8 +8,11 @@ ghost use Rattle.lk_replica.specs.Groups.{GroupValue};
 ghost use Rattle.lk_replica.specs.Posts.{GivesLetters, TellsSends};
 ghost use Rattle.lk_server.specs.Sayings.{GathersOf, SaysOf};
 ghost use Rattle.lk_server.specs.Gatherings.{GathersMore, SaysNoMore};
+ghost use Rattle.lk_server.specs.Probes.{IsShown};
 ghost use Rattle.lk_server.specs.Sights.{IsSight};
+ghost use Rattle.lk_server.specs.declared.shown.Shown.{Shown as ShownValue};
 
+use crate::shown::Shown;
 use crate::sight::Sight;
 use lk_disk::LogDisk;
 use lk_replica::{Group, Post, Replica, ReplicaFault};
@@ -28,6 +31,9 @@ pub trait NodeReplica: Sized + Drop {
 
     /// It is in the middle of a group: as it was when the group began, what it was given since, what the group has come to, and as it is.
     ghost Gathers: { Self → List (Option (List ℕ)) → GroupValue → Self → Type 0 };
+
+    /// What it shows of itself to whoever probes its node.
+    ghost Shows: { Self → ShownValue → Type 0 };
 
     /// A group begins.
     fn begin(&self, alloc: Global) -> Group
@@ -55,6 +61,10 @@ pub trait NodeReplica: Sized + Drop {
 
     /// What is seen of it from outside.
     fn sight(&self) -> Sight;
+
+    /// What it shows of itself to whoever probes its node.
+    fn show(&self) -> Shown
+        ensures { Shows self.now result };
 }
 
 impl<M: Machine, D: LogDisk + Drop> NodeReplica for Replica<M, D> {
@@ -63,6 +73,8 @@ impl<M: Machine, D: LogDisk + Drop> NodeReplica for Replica<M, D> {
     ghost Says = { λ old given letters new. D.is_honest → SaysOf M.meaning M.IsText D.is_metered old given letters new };
 
     ghost Gathers = { λ start given group now. D.is_honest → GathersOf M.meaning M.IsText D.is_metered start given group now };
+
+    ghost Shows = { IsShown };
 
     fn begin(&self, alloc: Global) -> Group {
         Group::new(alloc)
@@ -88,5 +100,9 @@ impl<M: Machine, D: LogDisk + Drop> NodeReplica for Replica<M, D> {
             term: node.term(),
             known: node.known(),
         }
+    }
+
+    fn show(&self) -> Shown {
+        Shown::of(self)
     }
 }

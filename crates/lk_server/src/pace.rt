@@ -1,8 +1,9 @@
 //! What the ticks of a server go by.
 
-ghost use Rattle.std.specs.Prelude.{◌≡◌, not};
+ghost use Rattle.std.specs.Prelude.{◌≡◌, true, false};
 ghost use Rattle.lk_server.specs.Paces.{ticks_after};
 
+use crate::found::Found;
 use crate::metronome::Metronome;
 use std::time::Clock;
 
@@ -29,17 +30,22 @@ impl Pace {
         }
     }
 
-    /// Whether a tick is due in a turn in which something came or did not. The next one is then 100 ms away.
-    pub(crate) fn is_due<C: Clock>(self, came: bool, metronome: &mut Metronome<C>) -> bool
-        // By datagrams it is due where nothing came.
-        ensures datagrams { self ≡ Pace.Datagrams → result ≡ not came }
+    /// Whether a tick is due in a turn in which this was found. The next one is then 100 ms away.
+    pub(crate) fn is_due<C: Clock>(self, found: Found, metronome: &mut Metronome<C>) -> bool
+        // By datagrams it is due where nothing came, and not where its replica was given something.
+        ensures none { self ≡ Pace.Datagrams → found ≡ Found.Nothing → result ≡ true }
+        ensures given { self ≡ Pace.Datagrams → found ≡ Found.Something → result ≡ false }
     {
-        match self {
-            Pace::Datagrams => {
+        match (self, found) {
+            (Pace::Datagrams, Found::Nothing) => {
                 metronome.rest();
-                !came
+                true
             }
-            Pace::Clock => metronome.has_passed(),
+            (Pace::Datagrams, Found::Something) => {
+                metronome.rest();
+                false
+            }
+            _ => metronome.has_passed(),
         }
     }
 }

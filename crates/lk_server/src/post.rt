@@ -5,15 +5,18 @@ ghost use Rattle.lk_types.specs.Ranges.{IsClient};
 ghost use Rattle.lk_disk.specs.Disk.{HasCause, one_more};
 ghost use Rattle.lk_server.specs.Addresses.{client_at, node_at, IsSameOutside};
 ghost use Rattle.lk_server.specs.Hearing.{listed};
-ghost use Rattle.lk_server.specs.Posts.{IsRoute, IsBoundFor, Becomes, Hears, tray_of, taken_as, all_taken_as, frame_of, keys_for};
+ghost use Rattle.lk_seal.specs.Seals.{heard};
+ghost use Rattle.lk_server.specs.Posts.{IsRoute, IsBoundFor, Becomes, Hears, tray_of, all_taken_as, frame_of, keys_for};
+ghost use Rattle.lk_server.specs.Probes.{IsKeptOf, Replies, asker, frame_for, keys_to};
 
 use crate::addresses::Addresses;
+use crate::asked::Asked;
 use crate::came::Came;
 use crate::ear::Ear;
 use crate::outside::Outside;
 use crate::socket::Datagrams;
 use lk_replica::{Post, SendFault};
-use lk_seal::Seals;
+use lk_seal::{DIGEST, Seals};
 use lk_step::{Letter, To};
 use lk_types::{NoMemory, NodeNo};
 use std::alloc::{AllocError, Global};
@@ -109,6 +112,22 @@ fn framed<'a>(
     }
 }
 
+/// The same of a report, for whoever asks.
+fn framed_for<'a>(
+    seals: &Seals,
+    asker: &Option<To>,
+    report: &'a [u8],
+    frame: &'a mut Vec<u8>,
+) -> Result<&'a [u8], AllocError>
+    ensures ok { IfOk result (λ f. f.now ≡ frame_for seals.now asker.now report.now) }
+    ensures refused { IsErr result → keys_to seals.now asker.now ≢ [] }
+{
+    match asker {
+        Some(to) => framed(seals, to, report, frame),
+        None => Ok(report),
+    }
+}
+
 impl<S: Datagrams + Drop> SocketPost<S> {
     /// The post of a node that has a socket, to which nobody has written.
     pub fn new(alloc: Global, node: NodeNo, outside: Outside, socket: S) -> SocketPost<S>
@@ -164,8 +183,8 @@ impl<S: Datagrams + Drop> SocketPost<S> {
 
     /// The ear hears the next datagram of the socket, if one comes.
     pub fn listen(&mut self, ear: &mut Ear)
-        ensures comes { S.is_telling → self.old.coming ≡ all_taken_as self.old.addresses.seals (listed ear.new) ++ self.new.coming }
-        ensures none { S.is_telling → ear.new ≡ None → self.old.coming ≡ [] }
+        ensures comes { S.is_telling → self.old.coming ≡ all_taken_as self.old.addresses.seals (listed ear.new.last) ++ self.new.coming }
+        ensures none { S.is_telling → ear.new.last ≡ None → self.old.coming ≡ [] }
         ensures others { self.new ≡ record self.old { coming = self.new.coming } }
     {
         ear.receive(&mut self.socket);
@@ -173,22 +192,40 @@ impl<S: Datagrams + Drop> SocketPost<S> {
 
     /// The ear hears the next datagram of the socket that waits there already.
     pub fn listen_waiting(&mut self, ear: &mut Ear)
-        ensures comes { S.is_telling → self.old.coming ≡ all_taken_as self.old.addresses.seals (listed ear.new) ++ self.new.coming }
-        ensures none { S.is_telling → ear.new ≡ None → self.old.coming ≡ [] }
+        ensures comes { S.is_telling → self.old.coming ≡ all_taken_as self.old.addresses.seals (listed ear.new.last) ++ self.new.coming }
+        ensures none { S.is_telling → ear.new.last ≡ None → self.old.coming ≡ [] }
         ensures others { self.new ≡ record self.old { coming = self.new.coming } }
     {
         ear.receive_waiting(&mut self.socket);
     }
 
-    /// What is taken of that, out of its frame, and from where it came.
-    pub fn heard<'a>(&self, ear: &'a Ear) -> Option<(&'a [u8], SocketAddr)>
-        ensures some { IfSome result (λ r. taken_as self.now.addresses.seals ear.now ≡ Some (r.1, r.0.now)) }
-        ensures none { IsNone result → ear.now ≡ None }
+    /// What is taken of a frame.
+    pub fn open<'a>(&self, frame: &'a [u8]) -> &'a [u8]
+        ensures { result.now ≡ heard self.now.addresses.seals frame.now }
     {
-        let Some((frame, from)) = ear.heard() else {
-            return None;
-        };
-        Some((self.addresses.seals().heard(frame), from))
+        self.addresses.seals().heard(frame)
+    }
+
+    /// The probe to answer that came from there by this frame, of which the datagram was taken.
+    pub fn asked(&self, from: SocketAddr, frame: &[u8], datagram: &[u8]) -> Option<Asked>
+        requires { datagram.now ≡ heard self.now.addresses.seals frame.now }
+        ensures { IsKeptOf self.now.addresses.seals (from, frame.now) result }
+    {
+        Asked::by(self.addresses.seals(), from, frame, datagram)
+    }
+
+    /// The digest of the genesis.
+    pub fn genesis(&self) -> [u8; DIGEST]
+        ensures { result ≡ self.now.addresses.seals.genesis }
+    {
+        self.addresses.seals().genesis
+    }
+
+    /// The node whose post it is.
+    pub fn node(&self) -> NodeNo
+        ensures { result ≡ self.now.node }
+    {
+        self.node
     }
 
     /// The socket.
@@ -287,6 +324,22 @@ impl<S: Datagrams + Drop> SocketPost<S> {
                 Err(SendFault)
             }
         }
+    }
+
+    /// Sends a report to where its probe came from, by the seal for whoever asks.
+    pub fn reply(&mut self, asked: &Asked, report: &[u8]) -> Result<(), SendFault>
+        ensures replies { Replies S.is_telling self.old.addresses.seals asked.now report.now (tray_of self.old) (tray_of self.new) }
+        ensures others { self.new ≡ record self.old { sent = self.new.sent; socket_failures = self.new.socket_failures; coming = self.new.coming } }
+    {
+        let Ok(framed) = framed_for(
+            self.addresses.seals(),
+            &asked.asker(),
+            report,
+            &mut self.frame,
+        ) else {
+            return Err(SendFault);
+        };
+        self.socket.send_to(asked.from, framed)
     }
 }
 

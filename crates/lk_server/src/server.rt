@@ -5,12 +5,13 @@ ghost use Rattle.std.specs.declared.net.socket_addr.SocketAddr.{SocketAddr as Ad
 ghost use Rattle.lk_types.specs.Ranges.{IsClient};
 ghost use Rattle.lk_replica.specs.Faults.{fault_number};
 ghost use Rattle.lk_server.specs.Addresses.{client_at, node_at, IsSameOutside};
-ghost use Rattle.lk_server.specs.Gatherings.{FindsNone, HandsOnAll, SaysNothing};
+ghost use Rattle.lk_server.specs.Gatherings.{Finds, HandsOnAll, SaysNothing};
 ghost use Rattle.lk_server.specs.Posts.{all_taken_as};
-ghost use Rattle.lk_server.specs.Servers.{HandsOn, HandsNothing, IsSameServer, LastTurn, Runs, ServesOn, TakesTurn, Turn};
+ghost use Rattle.lk_server.specs.Servers.{HandsOn, HandsNothing, HasWaited, IsSameServer, LastTurn, Runs, ServesOn, TakesTurn, Turn};
 
 use crate::ear::Ear;
 use crate::fault::ServiceFault;
+use crate::found::Found;
 use crate::happened::Happened;
 use crate::metronome::Metronome;
 use crate::node_replica::NodeReplica;
@@ -43,6 +44,9 @@ pub struct Server<R: NodeReplica, S: Datagrams + Drop> {
     pub(crate) strangers: Strangers,
     // what has happened since that was asked
     pub(crate) happened: Happened,
+    // the ticks that its replica was given, and the sends that failed, since its start
+    pub(crate) ticks: u64,
+    pub(crate) unsent: u64,
 }
 
 impl<R: NodeReplica, S: Datagrams + Drop> Model for Server<R, S> {
@@ -85,6 +89,8 @@ impl<R: NodeReplica, S: Datagrams + Drop> Server<R, S> {
             received: 0,
             strangers: Strangers::new(),
             happened: Happened::NOTHING,
+            ticks: 0,
+            unsent: 0,
         }
     }
 
@@ -124,6 +130,8 @@ impl<R: NodeReplica, S: Datagrams + Drop> Server<R, S> {
             received: _,
             strangers: _,
             happened: _,
+            ticks: _,
+            unsent: _,
         } = self;
         replica
     }
@@ -135,7 +143,7 @@ impl<R: NodeReplica, S: Datagrams + Drop> Server<R, S> {
         self.replica.begin(self.alloc)
     }
 
-    // Ends a group: what its replica says by it is sent or kept, and what became of that is logged.
+    // Ends a group: what its replica says by it is sent or kept, what became of that is logged, and sends that failed are counted.
     fn hand_over<L: Log>(&mut self, group: &Group, log: &L) -> Result<bool, ReplicaFault>
         ensures gives { OnOk result (HandsOnAll R.Says R.Gathers S.is_telling group.now self.old self.new) }
         ensures silent { OnErr result (SaysNothing R.Says R.Gathers group.now self.old self.new) }
@@ -149,6 +157,7 @@ impl<R: NodeReplica, S: Datagrams + Drop> Server<R, S> {
         self.post.begin();
         let released = self.replica.release(group, &mut self.post);
         self.happened.carried = self.post.carried();
+        self.unsent = self.unsent.saturating_add(self.happened.carried.lost);
         log_carried(log, &self.happened.carried, self.post.cause());
         released
     }
@@ -197,13 +206,14 @@ impl<R: NodeReplica, S: Datagrams + Drop> Server<R, S> {
     pub fn serve_next<L: Log>(&mut self, ear: &mut Ear, log: &L) -> Result<bool, ServiceFault>
         ensures turn { IfOk result (λ came. came ≡ true → (frames : List (Address × List ℕ)) × Turn R.Says S.is_telling (all_taken_as self.old.addresses.seals frames) self.old self.new) }
         ensures ends { OnErr result ((frames : List (Address × List ℕ)) × LastTurn R.Says S.is_telling (all_taken_as self.old.addresses.seals frames) self.old self.new) }
-        ensures none { IfOk result (λ came. came ≡ false → FindsNone S.is_telling self.old self.new) }
+        ensures none { IfOk result (λ came. came ≡ false → (self.old.own ≡ []) × (found : Found) × (frames : List (Address × List ℕ)) × Finds S.is_telling found frames self.old self.new) }
         // Where nodes live, and the keys, stay what they were.
         ensures outside { IsSameOutside self.old.addresses self.new.addresses }
         ensures passes { IfErr result (λ f. f ≡ ServiceFault.Send → ⊥) }
     {
         let mut group = self.begin();
-        if !self.gather_all(ear, &mut group, log)? {
+        let found = self.gather_all(ear, &mut group, log)?;
+        if !found.is_something() {
             return Ok(false);
         }
         self.release(&group, log)?;
@@ -221,9 +231,9 @@ pub fn node_turn<R: NodeReplica, S: Datagrams + Drop, C: Clock, L: Log>(
     // Where the node wrote to itself it takes the first 64 letters of that, once and in order, and nothing of the socket. Else it takes what came, each whole and
     // out of its frame, from where it came. Its replica was given just that, as one group, and a tick where one was due. The letters that it said were each sent
     // where they go, kept for the node itself, or lost by a send that failed, in order, and nothing else was sent. A turn in which it was given nothing is idle.
-    ensures turn { OnOk result ((frames : List (Address × List ℕ)) × TakesTurn R.Says S.is_telling frames server.old server.new) }
+    ensures turn { OnOk result ((frames : List (Address × List ℕ)) × HasWaited S.is_telling frames server.old × TakesTurn R.Says S.is_telling frames server.old server.new) }
     // After a refusal nothing of the group is sent.
-    ensures ends { OnErr result ((frames : List (Address × List ℕ)) × LastTurn R.Says S.is_telling (all_taken_as server.old.addresses.seals frames) server.old server.new) }
+    ensures ends { OnErr result ((frames : List (Address × List ℕ)) × HasWaited S.is_telling frames server.old × LastTurn R.Says S.is_telling (all_taken_as server.old.addresses.seals frames) server.old server.new) }
     // Where nodes live, and the keys, stay what they were.
     ensures outside { IsSameOutside server.old.addresses server.new.addresses }
     ensures passes { IfErr result (λ f. f ≡ ServiceFault.Send → ⊥) }

@@ -23,6 +23,11 @@ impl Strangers {
         Strangers { bad: 0, foreign: 0 }
     }
 
+    /// How many datagrams came that do not read.
+    pub fn unread(&self) -> u64 {
+        self.bad
+    }
+
     /// Counts what came, if it is one of them. Each count that is a power of two is logged at level debug.
     pub fn count<L: Log>(&mut self, came: &Came, log: &L) {
         match came {

@@ -1,5 +1,5 @@
 -- The turns of a server, one after another, and one more.
-use Rattle.std.proofs.Common.{◌≡◌, ◌+◌, ◌<◌, ℕ, List, Option, Result, Ok, Err, refl, subst, sym}
+use Rattle.std.proofs.Common.{◌≡◌, ◌+◌, ◌<◌, ℕ, List, Option, Result, Ok, Err, refl, ap, subst, sym}
 use Rattle.std.specs.declared.net.socket_addr.SocketAddr.{SocketAddr}
 use Rattle.std.specs.Prelude.{OnErr, IfErr, IsErrAnd}
 use Rattle.lk_disk.specs.Disk.{Disk}
@@ -9,14 +9,15 @@ use Rattle.lk_state.specs.Meanings.{Meaning}
 use Rattle.lk_step.specs.Letters.{LetterValue}
 use Rattle.lk_replica.specs.ReplicaValue.{ReplicaValue}
 use Rattle.lk_replica.specs.Revivals.{IsRefusedFor}
-use Rattle.lk_server.specs.Addresses.{IsSameOutside}
+use Rattle.lk_server.specs.Addresses.{AddressBook, IsSameOutside}
 use Rattle.lk_server.specs.Posts.{all_taken_as}
 use Rattle.lk_server.specs.Sayings.{SaysOf}
-use Rattle.lk_server.specs.Servers.{ServerValue, TakesTurn as ServerTurn, LastTurn}
+use Rattle.lk_server.specs.Probes.{IsShown, AnswersKept}
+use Rattle.lk_server.specs.Servers.{ServerValue, HasWaited, TakesTurn as ServerTurn, LastTurn}
+use Rattle.lk_server.specs.declared.asked.Asked.{Asked}
 use Rattle.lk_service.specs.Chains.{Repeats}
 use Rattle.lk_service.specs.Revivals.{StaysDown}
 use Rattle.lk_service.specs.Turns.{TakesTurn, BreaksOff, TellsFailure}
-use Rattle.lk_service.proofs.Chaining.{repeats_more}
 
 -- what a replica on a device says, where that is honest
 abbrev pub SaysOn : Type 0 → Type 0 → Meaning → (List ℕ → Type 0) → ReplicaValue → List (Option (List ℕ)) → List LetterValue → ReplicaValue → Type 0
@@ -28,14 +29,33 @@ on_err (Ok x) p = tt
 on_err (Err e) p = p
 
 module _ {Says : ReplicaValue → List (Option (List ℕ)) → List LetterValue → ReplicaValue → Type 0} {tells : Type 0} {count : ℕ} {first last new : ServerValue ReplicaValue} (frames : List (SocketAddr × List ℕ)) where
-  -- one more turn was taken
-  pub turns_more : Repeats (TakesTurn Says tells) count first last → ServerTurn Says tells frames last new → IsSameOutside last.addresses new.addresses → TellsFailure new → Repeats (TakesTurn Says tells) (count + 1) first new
-  turns_more so_far turn outside failure = repeats_more so_far (record { frames = frames; came = all_taken_as last.addresses.seals frames; opened = refl; turn = turn; outside = outside; failure = failure })
-
   -- one ended the replica
-  pub turns_end : (most : ℕ) → count < most → Repeats (TakesTurn Says tells) count first last → LastTurn Says tells (all_taken_as last.addresses.seals frames) last new → IsSameOutside last.addresses new.addresses → TellsFailure new → BreaksOff Says tells most first new
-  turns_end most fewer so_far turn outside failure =
-      record { count = count; fewer = fewer; last = last; turns = so_far; ends = record { frames = frames; came = all_taken_as last.addresses.seals frames; opened = refl; turn = turn; outside = outside; failure = failure } }
+  pub turns_end : (most : ℕ) → count < most → Repeats (TakesTurn Says tells) count first last → HasWaited tells frames last → LastTurn Says tells (all_taken_as last.addresses.seals frames) last new → IsSameOutside last.addresses new.addresses → TellsFailure new
+      → BreaksOff Says tells most first new
+  turns_end most fewer so_far waited turn outside failure = record {
+    count = count;
+    fewer = fewer;
+    last = last;
+    turns = so_far;
+    ends = record { frames = frames; came = all_taken_as last.addresses.seals frames; opened = refl; waited = waited; turn = turn; outside = outside; failure = failure };
+  }
+
+-- a turn, and behind it the answer to a probe that was kept
+pub turn_taken : {Says : ReplicaValue → List (Option (List ℕ)) → List LetterValue → ReplicaValue → Type 0} {tells : Type 0} (frames : List (SocketAddr × List ℕ)) (asked : Option Asked) (old mid new : ServerValue ReplicaValue)
+    → HasWaited tells frames old → ServerTurn Says tells frames old mid → AnswersKept IsShown tells asked mid new → new ≡ record mid { sent = new.sent; socket_failures = new.socket_failures; coming = new.coming }
+    → IsSameOutside old.addresses mid.addresses → TellsFailure new → TakesTurn Says tells old new
+turn_taken frames asked old mid new waited turn answers others outside failure = record {
+  frames = frames;
+  came = all_taken_as old.addresses.seals frames;
+  opened = refl;
+  waited = waited;
+  mid = mid;
+  turn = turn;
+  asked = asked;
+  answers = answers;
+  outside = subst (λ (b : AddressBook). IsSameOutside old.addresses b) (sym (ap (λ (s : ServerValue ReplicaValue). s.addresses) others)) outside;
+  failure = failure;
+}
 
 -- what follows of what stands after a refusal
 pub on_err_weaker : {T E P Q : Type 0} (r : Result T E) → (P → Q) → OnErr r P → OnErr r Q

@@ -8,7 +8,9 @@ use Rattle.lk_replica.specs.ReplicaValue.{ReplicaValue}
 use Rattle.lk_seal.specs.declared.seals.Seals.{Seals}
 use Rattle.lk_server.specs.Addresses.{IsSameOutside}
 use Rattle.lk_server.specs.Posts.{all_taken_as}
-use Rattle.lk_server.specs.Servers.{ServerValue, Turn, LastTurn, IsIdle}
+use Rattle.lk_server.specs.Probes.{IsShown, AnswersKept}
+use Rattle.lk_server.specs.Servers.{ServerValue, HasWaited, Turn, LastTurn, IsIdle}
+use Rattle.lk_server.specs.declared.asked.Asked.{Asked}
 use Rattle.lk_service.specs.Chains.{Repeats}
 use Rattle.lk_service.specs.Digests.{genesis_digest}
 
@@ -19,12 +21,17 @@ TellsFailure s = s.failed ≡ s.replica.failed
 -- `Says` is what a replica says by what it is given, and `tells` that the socket tells what it sends and what comes to it
 module _ (Says : ReplicaValue → List (Option (List ℕ)) → List LetterValue → ReplicaValue → Type 0) (tells : Type 0) where
   -- a turn: the replica was given the first letters of the node to itself as one group, or where none waited what was taken of what came, out of its frames where
-  -- the nodes have a key, and a tick where one was due, and goes on; or it is idle, and given nothing. Where nodes live, and the keys, are the same
+  -- the nodes have a key, and a tick where one was due, and goes on; or it is idle, and given nothing. Behind that a probe that was kept is answered. Where nodes
+  -- live, and the keys, are the same
   pub record TakesTurn (old new : ServerValue ReplicaValue) : Type 0 where
     pub frames : List (SocketAddr × List ℕ)
     pub came : List (SocketAddr × List ℕ)
     pub opened : came ≡ all_taken_as old.addresses.seals frames
-    pub turn : Turn Says tells came old new ⊎ IsIdle tells frames old new
+    pub waited : HasWaited tells frames old
+    pub mid : ServerValue ReplicaValue
+    pub turn : Turn Says tells came old mid ⊎ IsIdle tells frames old mid
+    pub asked : Option Asked
+    pub answers : AnswersKept IsShown tells asked mid new
     pub outside : IsSameOutside old.addresses new.addresses
     pub failure : TellsFailure new
 
@@ -33,6 +40,7 @@ module _ (Says : ReplicaValue → List (Option (List ℕ)) → List LetterValue 
     pub frames : List (SocketAddr × List ℕ)
     pub came : List (SocketAddr × List ℕ)
     pub opened : came ≡ all_taken_as old.addresses.seals frames
+    pub waited : HasWaited tells frames old
     pub turn : LastTurn Says tells came old new
     pub outside : IsSameOutside old.addresses new.addresses
     pub failure : TellsFailure new

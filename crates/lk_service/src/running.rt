@@ -8,7 +8,7 @@ ghost use Rattle.lk_replica.specs.Revivals.{MayGoOn};
 ghost use Rattle.lk_server.specs.Addresses.{IsSameOutside};
 ghost use Rattle.lk_server.specs.Faults.{replica_fault};
 ghost use Rattle.lk_server.specs.Posts.{all_taken_as};
-ghost use Rattle.lk_server.specs.Servers.{ServerValue, ServesOn, TakesTurn as ServerTurn, LastTurn};
+ghost use Rattle.lk_server.specs.Servers.{ServerValue, HasWaited, ServesOn, LastTurn};
 ghost use Rattle.lk_service.specs.Chains.{Repeats};
 ghost use Rattle.lk_service.specs.Revivals.{ComesUp, IsBegun, IsNotTakenUp, IsRefusedWith};
 ghost use Rattle.lk_service.specs.Turns.{TakesTurn, BreaksOff, AreSealsOf, Serves, EndsEarly, TellsFailure};
@@ -133,9 +133,9 @@ fn take_turn<
     err: &mut E,
 ) -> Result<(), ServiceFault>
     // Its replica was given as one group just what it wrote to itself, or what was taken of what came, and a tick where one was due. Of the letters that it said it
-    // keeps none but those of the node to itself, after the ones that wait.
-    ensures turn { OnOk result ((frames : List (Address × List ℕ)) × ServerTurn ⟦<Replica<M, D> as NodeReplica>⟧.Says S.is_telling frames server.old server.new) }
-    ensures ends { OnErr result ((frames : List (Address × List ℕ)) × LastTurn ⟦<Replica<M, D> as NodeReplica>⟧.Says S.is_telling (all_taken_as server.old.addresses.seals frames) server.old server.new) }
+    // keeps none but those of the node to itself, after the ones that wait. Behind that a probe that was kept is answered.
+    ensures turn { OnOk result (TakesTurn ⟦<Replica<M, D> as NodeReplica>⟧.Says S.is_telling server.old server.new) }
+    ensures ends { OnErr result ((frames : List (Address × List ℕ)) × HasWaited S.is_telling frames server.old × LastTurn ⟦<Replica<M, D> as NodeReplica>⟧.Says S.is_telling (all_taken_as server.old.addresses.seals frames) server.old server.new) }
     // Where nodes live, and the keys, stay what they were.
     ensures outside { IsSameOutside server.old.addresses server.new.addresses }
     ensures failure { TellsFailure server.new }
@@ -143,10 +143,13 @@ fn take_turn<
 {
     let taken = node_turn(server, ear, metronome, log);
     observe_turn(server, observer);
-    let device = server.replica().device();
     match taken {
-        Ok(()) => Ok(()),
-        Err(fault) => Err(tell_device(fault, device, folder, err)),
+        Ok(()) => {
+            server.answer(ear);
+            let _ = server.replica();
+            Ok(())
+        }
+        Err(fault) => Err(tell_device(fault, server.replica().device(), folder, err)),
     }
 }
 

@@ -7,7 +7,7 @@ use Rattle.lk_server.proofs.server.node_turn.Goals as goal
 pub returns-then-not-branch-clause-turn : goal.returns-then-not-branch-clause-turn
 returns-then-not-branch-clause-turn g c =
     let idle = c.in_ok-gather_turn.ensures.idle (cc c.if-not-branch.true) in
-    (idle.0, inr idle.1)
+    (idle.0, idle.1, inr idle.2)
 
 pub returns-clause-turn : goal.returns-clause-turn
 returns-clause-turn g c =
@@ -17,6 +17,7 @@ returns-clause-turn g c =
     let e = c.release.ensures in
     both_on_ok c.release.result (λ gives alive. (
       t.0,
+      t.1.waited,
       inl (turn_of r.Says r.Gathers g.S.Datagrams.is_telling t.0 c.begin-group.result c.gather_turn.new.group c.args.server.now c.gather_turn.new.self c.release.new.self c.begin-group.ensures t.1 gives
           (ap (λ (s : ServerValue _). s.sent) o) (ap (λ (s : ServerValue _). s.socket_failures) o) (same_by c.args.server.now c.gather_turn.new.self o) e.addresses e.received e.same alive),
     )) e.gives e.alive
@@ -29,6 +30,7 @@ returns-clause-ends g c =
     let e = c.release.ensures in
     both_on_err c.release.result (λ silent broken. (
       t.0,
+      t.1.waited,
       last_of r.Says r.Gathers g.S.Datagrams.is_telling t.0 c.begin-group.result c.gather_turn.new.group c.args.server.now c.gather_turn.new.self c.release.new.self c.begin-group.ensures t.1 silent
           (ap (λ (s : ServerValue _). s.sent) o) (ap (λ (s : ServerValue _). s.socket_failures) o) (same_by c.args.server.now c.gather_turn.new.self o) e.addresses e.same broken,
     )) e.silent e.broken
@@ -40,6 +42,7 @@ returns-in_err-gather_turn-clause-ends g c =
     let e = c.in_err-gather_turn.ensures.ends in
     on_err c.from_residual.result (
       e.0,
+      e.1.waited,
       last_within r.Says r.Gathers g.S.Datagrams.is_telling e.0 c.begin-group.result c.args.server.now c.gather_turn.new.self c.begin-group.ensures e.1
           (ap (λ (s : ServerValue _). s.sent) o) (ap (λ (s : ServerValue _). s.socket_failures) o) (same_by c.args.server.now c.gather_turn.new.self o) c.in_err-gather_turn.ensures.broken,
     )

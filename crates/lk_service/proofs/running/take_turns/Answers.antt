@@ -1,12 +1,11 @@
 use Rattle.std.proofs.Common.{◌≡◌, arith}
-use Rattle.lk_service.proofs.Chaining.{repeats_as}
-use Rattle.lk_service.proofs.Turning.{on_err, turns_more, turns_end}
+use Rattle.lk_service.proofs.Chaining.{repeats_as, repeats_more}
+use Rattle.lk_service.proofs.Turning.{on_err, turns_end}
 use Rattle.lk_service.proofs.running.take_turns.Goals as goal
 
 pub turns-preserved : goal.turns-preserved
 turns-preserved g c =
-    let taken = c.in_ok-take_turn.ensures in
-    turns_more taken.turn.0 c.turns.invariant taken.turn.1 taken.outside taken.failure
+    repeats_more c.turns.invariant c.in_ok-take_turn.ensures.turn
 
 pub returns-clause-ok : goal.returns-clause-ok
 returns-clause-ok g c =
@@ -16,4 +15,4 @@ returns-clause-ok g c =
 pub returns-in_err-take_turn-clause-err : goal.returns-in_err-take_turn-clause-err
 returns-in_err-take_turn-clause-err g c =
     let ended = c.in_err-take_turn.ensures in
-    on_err c.from_residual.result (turns_end ended.ends.0 281474976710656 c.turns-test.true c.turns.invariant ended.ends.1 ended.outside ended.failure)
+    on_err c.from_residual.result (turns_end ended.ends.0 281474976710656 c.turns-test.true c.turns.invariant ended.ends.1 ended.ends.2 ended.outside ended.failure)

@@ -2,7 +2,8 @@ use Rattle.std.proofs.Common.{◌≡◌, ◌∙◌, ℕ, true, false, List, [], 
 use Rattle.std.specs.Prelude.{IfOk, OnErr}
 use Rattle.std.specs.declared.net.socket_addr.SocketAddr.{SocketAddr}
 use Rattle.lk_replica.specs.Groups.{GroupValue}
-use Rattle.lk_server.specs.Gatherings.{FindsNone, TakesWaiting, EndsGroup}
+use Rattle.lk_server.specs.Gatherings.{Finds, TakesWaiting, EndsGroup}
+use Rattle.lk_server.specs.declared.found.Found.TheVariants.{Something}
 use Rattle.lk_server.specs.Servers.{ServerValue}
 use Rattle.lk_server.proofs.Carrying.{on_err}
 use Rattle.lk_server.proofs.Turning.{own_group, own_ends_first, own_ends}
@@ -11,13 +12,13 @@ use Rattle.lk_server.proofs.server.Server.gather_all.Goals as goal
 pub returns-then-not-branch-clause-takes : goal.returns-then-not-branch-clause-takes
 returns-then-not-branch-clause-takes g c =
     let n = c.in_ok-gather_letter.ensures.none (cc c.if-not-branch.true) in
-    subst₂ (λ (x : GroupValue) (s : ServerValue _). IfOk c.gather_socket.result (λ came. came ≡ true → (frames : List (SocketAddr × List ℕ)) × TakesWaiting g.R.NodeReplica.Gathers g.S.Datagrams.is_telling frames x c.gather_socket.new.group s c.gather_socket.new.self))
+    subst₂ (λ (x : GroupValue) (s : ServerValue _). IfOk c.gather_socket.result (λ found. found ≡ Something → (frames : List (SocketAddr × List ℕ)) × TakesWaiting g.R.NodeReplica.Gathers g.S.Datagrams.is_telling frames x c.gather_socket.new.group s c.gather_socket.new.self))
     n.2 n.1 c.gather_socket.ensures.takes
 
 pub returns-then-not-branch-clause-none : goal.returns-then-not-branch-clause-none
 returns-then-not-branch-clause-none g c =
     let n = c.in_ok-gather_letter.ensures.none (cc c.if-not-branch.true) in
-    subst₂ (λ (x : GroupValue) (s : ServerValue _). IfOk c.gather_socket.result (λ came. came ≡ false → FindsNone g.S.Datagrams.is_telling s c.gather_socket.new.self × (c.gather_socket.new.group ≡ x)))
+    subst₂ (λ (x : GroupValue) (s : ServerValue _). IfOk c.gather_socket.result (λ found. (found ≡ Something → ⊥) → (s.own ≡ []) × (frames : List (SocketAddr × List ℕ)) × Finds g.S.Datagrams.is_telling found frames s c.gather_socket.new.self × (c.gather_socket.new.group ≡ x)))
     n.2 n.1 c.gather_socket.ensures.none
 
 pub returns-then-not-branch-clause-ends : goal.returns-then-not-branch-clause-ends

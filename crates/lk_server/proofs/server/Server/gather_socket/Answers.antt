@@ -1,49 +1,50 @@
-use Rattle.std.proofs.Common.{◌∙◌, [], ◌∷◌, ap, sym, arith}
+use Rattle.std.proofs.Common.{◌≡◌, ◌∙◌, true, false, [], ◌∷◌, ap, sym, arith}
 use Rattle.lk_server.specs.Servers.{ServerValue}
 use Rattle.lk_server.proofs.Carrying.{on_err}
 use Rattle.lk_server.proofs.Gatherings.{socket_more, ends_further}
 use Rattle.lk_server.proofs.Turning.{socket_group, socket_ends}
 use Rattle.lk_server.proofs.server.Server.gather_socket.Goals as goal
 
-pub returns-then-not-branch-clause-none : goal.returns-then-not-branch-clause-none
-returns-then-not-branch-clause-none g c = λ no.
-    let n = c.in_ok-gather_first.ensures.none (cc c.if-not-branch.true) in
-    (record { own = c.requires; none = λ t. (n.0 t).0; still = λ t. (n.0 t).1 ∙ sym (n.0 t).0; same = n.1 }, n.2)
+pub returns-then-not-is_something-clause-takes : goal.returns-then-not-is_something-clause-takes
+returns-then-not-is_something-clause-takes g c = λ is. absurd (let both : false ≡ true = sym (cc c.if-not-is_something.true) ∙ c.is_something.ensures.1 is in cc both)
+
+pub returns-then-not-is_something-clause-none : goal.returns-then-not-is_something-clause-none
+returns-then-not-is_something-clause-none g c = λ apart. let n = c.in_ok-found.ensures.none apart in (c.requires, n.0, n.1, n.2)
 
 pub returns-clause-takes : goal.returns-clause-takes
 returns-clause-takes g c = λ yes.
     let r = g.R.NodeReplica in
     let tells = g.S.Datagrams.is_telling in
-    let first = c.in_ok-gather_first.ensures.takes (cc c.if-not-branch.false) in
+    let first = c.in_ok-found.ensures.takes (c.is_something.ensures.0 (cc c.if-not-is_something.false)) in
     let more = c.in_ok-gather_further.ensures.takes in
     let one = c.gather_first.ensures.others in
     let two = c.gather_further.ensures.others in (
       first.0 ∷ more.0,
       socket_group r.Says r.Gathers tells first.0 more.0 c.args.group.now c.gather_further.new.group c.args.self.now c.gather_further.new.self c.requires
-          (ap (λ (s : ServerValue _). s.own) two ∙ ap (λ (s : ServerValue _). s.own) one) more.1
-          (socket_more r.Gathers tells (first.0 ∷ []) more.0 c.args.group.now c.gather_first.new.group c.gather_further.new.group c.args.self.now c.gather_first.new.self c.gather_further.new.self (ap (λ (s : ServerValue _). s.cluster) one) first.1 more.2),
+          (ap (λ (s : ServerValue _). s.own) two ∙ ap (λ (s : ServerValue _). s.own) one) more.1 first.1
+          (socket_more r.Gathers tells (first.0 ∷ []) more.0 c.args.group.now c.gather_first.new.group c.gather_further.new.group c.args.self.now c.gather_first.new.self c.gather_further.new.self (ap (λ (s : ServerValue _). s.cluster) one) first.2 more.2),
     )
 
-pub returns-in_err-gather_first-clause-ends : goal.returns-in_err-gather_first-clause-ends
-returns-in_err-gather_first-clause-ends g c =
+pub returns-in_err-found-clause-ends : goal.returns-in_err-found-clause-ends
+returns-in_err-found-clause-ends g c =
     let r = g.R.NodeReplica in
-    let e = c.in_err-gather_first.ensures.ends in
+    let e = c.in_err-found.ensures.ends in
     on_err c.from_residual.result (
       e.0 ∷ [],
-      socket_ends r.Says r.Gathers g.S.Datagrams.is_telling e.0 [] c.args.group.now c.args.self.now c.gather_first.new.self c.requires (ap (λ (s : ServerValue _). s.own) c.gather_first.ensures.others) (omega arith) e.1,
+      socket_ends r.Says r.Gathers g.S.Datagrams.is_telling e.0 [] c.args.group.now c.args.self.now c.gather_first.new.self c.requires (ap (λ (s : ServerValue _). s.own) c.gather_first.ensures.others) (omega arith) e.1 e.2,
     )
 
 pub returns-in_err-gather_further-clause-ends : goal.returns-in_err-gather_further-clause-ends
 returns-in_err-gather_further-clause-ends g c =
     let r = g.R.NodeReplica in
     let tells = g.S.Datagrams.is_telling in
-    let first = c.in_ok-gather_first.ensures.takes (cc c.if-not-branch.false) in
+    let first = c.in_ok-found.ensures.takes (c.is_something.ensures.0 (cc c.if-not-is_something.false)) in
     let e = c.in_err-gather_further.ensures.ends in
     let one = c.gather_first.ensures.others in
     let two = c.gather_further.ensures.others in
     on_err c.from_residual-in_err-gather_further.result (
       first.0 ∷ e.0,
       socket_ends r.Says r.Gathers tells first.0 e.0 c.args.group.now c.args.self.now c.gather_further.new.self c.requires
-          (ap (λ (s : ServerValue _). s.own) two ∙ ap (λ (s : ServerValue _). s.own) one) e.1
-          (ends_further r.Says r.Gathers tells (first.0 ∷ []) e.0 c.args.group.now c.gather_first.new.group c.args.self.now c.gather_first.new.self c.gather_further.new.self (ap (λ (s : ServerValue _). s.cluster) one) first.1 e.2),
+          (ap (λ (s : ServerValue _). s.own) two ∙ ap (λ (s : ServerValue _). s.own) one) e.1 first.1
+          (ends_further r.Says r.Gathers tells (first.0 ∷ []) e.0 c.args.group.now c.gather_first.new.group c.args.self.now c.gather_first.new.self c.gather_further.new.self (ap (λ (s : ServerValue _). s.cluster) one) first.2 e.2),
     )

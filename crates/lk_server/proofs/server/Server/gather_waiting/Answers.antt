@@ -1,35 +1,39 @@
-use Rattle.std.proofs.Common.{ap, sym, ◌∙◌}
+use Rattle.std.proofs.Common.{rules, ap, sym, ◌∙◌}
 use Rattle.lk_server.specs.Servers.{ServerValue}
-use Rattle.lk_server.proofs.Carrying.{if_ok_weaker, if_err_on}
-use Rattle.lk_server.proofs.Gatherings.{socket_one, ends_socket, none_came}
+use Rattle.lk_server.proofs.Carrying.{on_err}
+use Rattle.lk_server.proofs.Gatherings.{socket_one, socket_beside, ends_socket, none_came}
 use Rattle.lk_server.proofs.server.Server.gather_waiting.Goals as goal
 
-pub returns-clause-takes : goal.returns-clause-takes
-returns-clause-takes g c =
-    let h = c.gather_heard.ensures in
+pub returns-in-Something-clause-takes : goal.returns-in-Something-clause-takes
+returns-in-Something-clause-takes g c = λ came.
     let l = c.listen_waiting.ensures in
-    if_ok_weaker c.gather_heard.result (λ came takes yes.
-    let t = takes yes in (
+    let t = c.in_ok-gather_heard.ensures.takes (search rules) in (
       t.0,
-      socket_one g.R.NodeReplica.Gathers g.S.Datagrams.is_telling c.listen_waiting.new.ear t.0 c.args.group.now c.gather_heard.new.group c.args.self.now c.listen_waiting.new.self c.gather_heard.new.self t.1 l.comes l.others
-          (ap (λ (s : ServerValue _). s.coming) h.others) t.2,
-    )) h.takes
+      socket_one g.R.NodeReplica.Gathers g.S.Datagrams.is_telling c.listen_waiting.new.ear.last t.0 c.args.group.now c.gather_heard.new.group c.args.self.now c.listen_waiting.new.self c.gather_heard.new.self t.1 l.comes l.others
+          (ap (λ (s : ServerValue _). s.coming) c.gather_heard.ensures.others) t.3,
+    )
 
-pub returns-clause-none : goal.returns-clause-none
-returns-clause-none g c =
-    let h = c.gather_heard.ensures in
+pub returns-in-Beside-clause-takes : goal.returns-in-Beside-clause-takes
+returns-in-Beside-clause-takes g c = λ came.
     let l = c.listen_waiting.ensures in
-    if_ok_weaker c.gather_heard.result (λ came none no.
-    let n = none no in
-    let so = none_came g.S.Datagrams.is_telling c.listen_waiting.new.ear c.args.self.now c.listen_waiting.new.self c.gather_heard.new.self n.0 l.comes l.none l.others n.1 in
-    (λ t. (so.0 t).1 ∙ sym (so.0 t).0, so.1, n.2)) h.none
+    let b = c.in_ok-gather_heard.ensures.beside (search rules) in (
+      b.0,
+      socket_beside g.R.NodeReplica.Gathers g.S.Datagrams.is_telling c.listen_waiting.new.ear.last b.0 c.args.group.now c.gather_heard.new.group c.args.self.now c.listen_waiting.new.self c.gather_heard.new.self b.1 l.comes l.others b.2 b.3 b.4,
+    )
 
-pub returns-clause-ends : goal.returns-clause-ends
-returns-clause-ends g c =
-    let h = c.gather_heard.ensures in
+pub returns-in-Nothing-clause-none : goal.returns-in-Nothing-clause-none
+returns-in-Nothing-clause-none g c = λ came.
     let l = c.listen_waiting.ensures in
-    if_err_on c.gather_heard.result (λ e. (
+    let n = c.in_ok-gather_heard.ensures.none (search rules) in
+    let so = none_came g.S.Datagrams.is_telling c.listen_waiting.new.ear.last c.args.self.now c.listen_waiting.new.self c.gather_heard.new.self n.0 l.comes l.none l.others n.1 in
+    (λ t. (so.0 t).1 ∙ sym (so.0 t).0, so.1, n.2)
+
+pub returns-in_err-gather_heard-clause-ends : goal.returns-in_err-gather_heard-clause-ends
+returns-in_err-gather_heard-clause-ends g c =
+    let l = c.listen_waiting.ensures in
+    let e = c.in_err-gather_heard.ensures.ends in
+    on_err c.from_residual.result (
       e.0,
-      ends_socket g.R.NodeReplica.Says g.R.NodeReplica.Gathers g.S.Datagrams.is_telling c.listen_waiting.new.ear e.0 c.args.group.now c.args.self.now c.listen_waiting.new.self c.gather_heard.new.self e.1 l.comes l.others
-          (ap (λ (s : ServerValue _). s.coming) h.others) e.2,
-    )) h.ends
+      ends_socket g.R.NodeReplica.Says g.R.NodeReplica.Gathers g.S.Datagrams.is_telling c.listen_waiting.new.ear.last e.0 c.args.group.now c.args.self.now c.listen_waiting.new.self c.gather_heard.new.self e.1 l.comes l.others
+          (ap (λ (s : ServerValue _). s.coming) c.gather_heard.ensures.others) e.3,
+    )

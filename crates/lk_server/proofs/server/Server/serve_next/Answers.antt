@@ -1,4 +1,4 @@
-use Rattle.std.proofs.Common.{ap}
+use Rattle.std.proofs.Common.{◌≡◌, ◌∙◌, true, false, ap, sym}
 use Rattle.lk_server.specs.Servers.{ServerValue}
 use Rattle.lk_server.proofs.Carrying.{on_err}
 use Rattle.lk_server.proofs.Turning.{same_by, without_tick, turn_of, last_of, last_within}
@@ -9,7 +9,7 @@ returns-clause-turn g c = λ yes.
     let r = g.R.NodeReplica in
     let tells = g.S.Datagrams.is_telling in
     let o = c.gather_all.ensures.others in
-    let t = c.in_ok-gather_all.ensures.takes (cc c.if-not-branch.false) in
+    let t = c.in_ok-found.ensures.takes (c.is_something.ensures.0 (cc c.if-not-is_something.false)) in
     let e = c.release.ensures in (
       t.0,
       turn_of r.Says r.Gathers tells t.0 c.begin-group.result c.gather_all.new.group c.args.self.now c.gather_all.new.self c.release.new.self c.begin-group.ensures
@@ -22,7 +22,7 @@ returns-in_err-release-clause-ends g c =
     let r = g.R.NodeReplica in
     let tells = g.S.Datagrams.is_telling in
     let o = c.gather_all.ensures.others in
-    let t = c.in_ok-gather_all.ensures.takes (cc c.if-not-branch.false) in
+    let t = c.in_ok-found.ensures.takes (c.is_something.ensures.0 (cc c.if-not-is_something.false)) in
     let e = c.release.ensures in
     on_err c.from_residual-in_err-release.result (
       t.0,
@@ -31,13 +31,18 @@ returns-in_err-release-clause-ends g c =
           (ap (λ (s : ServerValue _). s.sent) o) (ap (λ (s : ServerValue _). s.socket_failures) o) (same_by c.args.self.now c.gather_all.new.self o) e.addresses e.same c.in_err-release.ensures.broken,
     )
 
-pub returns-in_err-gather_all-clause-ends : goal.returns-in_err-gather_all-clause-ends
-returns-in_err-gather_all-clause-ends g c =
+pub returns-in_err-found-clause-ends : goal.returns-in_err-found-clause-ends
+returns-in_err-found-clause-ends g c =
     let r = g.R.NodeReplica in
     let o = c.gather_all.ensures.others in
-    let e = c.in_err-gather_all.ensures.ends in
+    let e = c.in_err-found.ensures.ends in
     on_err c.from_residual.result (
       e.0,
       last_within r.Says r.Gathers g.S.Datagrams.is_telling e.0 c.begin-group.result c.args.self.now c.gather_all.new.self c.begin-group.ensures e.1
-          (ap (λ (s : ServerValue _). s.sent) o) (ap (λ (s : ServerValue _). s.socket_failures) o) (same_by c.args.self.now c.gather_all.new.self o) c.in_err-gather_all.ensures.broken,
+          (ap (λ (s : ServerValue _). s.sent) o) (ap (λ (s : ServerValue _). s.socket_failures) o) (same_by c.args.self.now c.gather_all.new.self o) c.in_err-found.ensures.broken,
     )
+
+pub returns-then-not-is_something-clause-none : goal.returns-then-not-is_something-clause-none
+returns-then-not-is_something-clause-none g c = λ no.
+    let n = c.in_ok-found.ensures.none (λ is. let both : false ≡ true = sym (cc c.if-not-is_something.true) ∙ c.is_something.ensures.1 is in cc both) in
+    (n.0, c.in_ok-found.found, n.1, n.2)

@@ -1,0 +1,63 @@
+//! What a server tells of its node, and how it answers a probe.
+
+ghost use Rattle.std.specs.Prelude.{◌≡◌, None, true, IsTrue};
+ghost use Rattle.lk_server.specs.Probes.{AnswersKept, IsAnswer, Tells};
+ghost use Rattle.lk_server.specs.declared.shown.Shown.{Shown as ShownValue};
+
+use crate::asked::Asked;
+use crate::ear::Ear;
+use crate::node_replica::NodeReplica;
+use crate::server::Server;
+use crate::socket::Datagrams;
+use lk_probe::{Identity, LENGTH, PROGRAM, Status, Traffic};
+
+/// The version of a lock table that a server does not know.
+const UNKNOWN: u8 = 0;
+
+impl<R: NodeReplica, S: Datagrams + Drop> Server<R, S> {
+    /// What it tells of its node: what the replica shows, the digest of the genesis, and what it has counted itself.
+    pub fn status(&self) -> Status
+        ensures { (shown : ShownValue) × R.Shows self.now.replica shown × Tells self.now.addresses.seals.genesis shown result }
+    {
+        let shown = self.replica.show();
+        Status {
+            identity: Identity {
+                genesis: self.post.genesis(),
+                program: PROGRAM,
+                format: shown.format,
+                table: UNKNOWN,
+            },
+            leadership: shown.leadership,
+            progress: shown.progress,
+            traffic: Traffic {
+                waiting: shown.waiting,
+                unread: self.strangers.unread(),
+                unsent: self.unsent,
+                ticks: self.ticks,
+            },
+            members: shown.members,
+        }
+    }
+
+    // The report that answers a probe.
+    fn report(&self, asked: &Asked) -> [u8; LENGTH]
+        ensures { (shown : ShownValue) × R.Shows self.now.replica shown × IsAnswer self.now.node self.now.addresses.seals.genesis shown asked.now.probe result }
+    {
+        asked.probe.answer(self.post.node(), self.status()).datagram()
+    }
+
+    /// Answers the probe that the ear keeps, if it keeps one: by a report that goes to where the probe came from.
+    pub fn answer(&mut self, ear: &mut Ear)
+        ensures answers { AnswersKept R.Shows S.is_telling ear.old.asked self.old self.new }
+        ensures kept { ear.new ≡ record ear.old { asked = None } }
+        ensures others { self.new ≡ record self.old { sent = self.new.sent; socket_failures = self.new.socket_failures; coming = self.new.coming } }
+    {
+        let Some(asked) = ear.take_asked() else {
+            return;
+        };
+        let report = self.report(&asked);
+        if self.post.reply(&asked, &report).is_err() {
+            self.unsent = self.unsent.saturating_add(1);
+        }
+    }
+}

@@ -1,0 +1,11 @@
+use Rattle.std.proofs.Common.{rules}
+use Rattle.lk_service.specs.Turns.{TellsFailure}
+use Rattle.lk_service.proofs.Turning.{turn_taken}
+use Rattle.lk_service.proofs.running.take_turn.Goals as goal
+
+pub returns-in-Ok-clause-turn : goal.returns-in-Ok-clause-turn
+returns-in-Ok-clause-turn g c =
+    let t = c.in-Ok.ensures.turn in
+    let a = c.answer.ensures in
+    let failure : TellsFailure c.answer.new.self = search rules in
+    turn_taken t.0 c.node_turn.new.ear.asked c.args.server.now c.node_turn.new.server c.answer.new.self t.1 t.2 a.answers a.others c.node_turn.ensures.outside failure
