@@ -30,6 +30,7 @@ from systems import SLOWED, Etcd, Locks, Redis, ZooKeeper, generator
 
 PEERS = {"etcd": Etcd, "zookeeper": ZooKeeper, "redis": Redis}
 DISKS = {"plain": [], "slow": SLOWED}
+TICKS = ["datagrams", "clock"]
 FEW, MANY = 8, 32  # clients of a start or a death; and of a warm-up or the long run
 LEGS = 20  # looks at memory and files in the long run
 DEATH, BEFORE, REST = 8, 1.5, 2  # seconds: of the load around a death, before it, and after it
@@ -257,7 +258,7 @@ def arguments():
     made.add_argument("--clients", type=numbers, default=[1, 2, 4, 8, 16, 32, 64], help="1,2,4,8,16,32,64 if not given")
     made.add_argument("--alpha", type=numbers, default=[8], help="of the clusters of locks, as 2,8,16; 8 if not given")
     made.add_argument("--sealed", action="store_true", help="the clusters of locks with keys too, beside those without")
-    made.add_argument("--ticks", type=words_of(["datagrams", "clock"]), default=["datagrams"], help="of the clusters of locks, as datagrams,clock; datagrams if not given")
+    made.add_argument("--ticks", type=words_of(TICKS), default=TICKS[:1], help="of the clusters of locks, as datagrams,clock; datagrams if not given")
     made.add_argument("--rounds", type=int, default=3, help="3 if not given")
     made.add_argument("--seconds", type=float, default=3, help="how long each load lasts, 3 if not given")
     made.add_argument("--warm", type=float, default=10, help="how long each system is loaded before, 10 if not given")

@@ -17,7 +17,7 @@ import subprocess
 from scripting import with_program
 
 ROUNDS = 60
-EVENTS = (50, 100, 200, 400, 800)  # of a schedule, in turn
+EVENTS = (40, 80, 160, 320)  # of a schedule, in turn
 CLIENTS = (201, 202)  # no schedule draws them
 AHEAD = 64  # numbers of datagrams that are tried before it is known whether they are sent
 LATER = 1 << 40  # a call that no run comes to

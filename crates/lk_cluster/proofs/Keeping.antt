@@ -197,9 +197,9 @@ at_rest server after = record after { coming = server.coming; sent = server.sent
 at_rest_by : {tells : Type 0} (server after : ServerValue ReplicaValue)
     → ((frames : List (SocketAddr × List ℕ)) × IsIdle tells frames server after) ⊎ ((asked : Option Asked) × AnswersKept IsShown tells asked server after) → at_rest server after ≡ server
 at_rest_by server after (inl i) = ap (λ (s : ServerValue ReplicaValue). record s { sent = server.sent; socket_failures = server.socket_failures }) i.1.same
-at_rest_by server after (inr a) = ap (λ (s : ServerValue ReplicaValue). at_rest server s) (answered_as a.0 a.1)
+at_rest_by {tells} server after (inr a) = ap (λ (s : ServerValue ReplicaValue). at_rest server s) (answered_as a.0 a.1)
   where
-    answered_as : (asked : Option Asked) → AnswersKept IsShown _ asked server after → after ≡ record server { sent = after.sent; socket_failures = after.socket_failures; coming = after.coming }
+    answered_as : (asked : Option Asked) → AnswersKept IsShown tells asked server after → after ≡ record server { sent = after.sent; socket_failures = after.socket_failures; coming = after.coming }
     answered_as None same = same ∙ ap (λ (s : ServerValue ReplicaValue). record server { sent = s.sent; socket_failures = s.socket_failures; coming = s.coming }) (sym same)
     answered_as (Some asked) one = one.same
 

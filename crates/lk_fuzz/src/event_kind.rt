@@ -1,3 +1,7 @@
+// Kinds of events.
+ghost use Rattle.std.specs.Prelude.{Bool};
+ghost use Rattle.lk_fuzz.specs.Drawn.{IsKind};
+
 /// The kinds of events that are drawn.
 #[derive(Clone, Copy)]
 pub enum EventKind {
@@ -14,8 +18,10 @@ pub enum EventKind {
 }
 
 impl EventKind {
-    /// The kind of that one of 256 cases.
-    pub fn of(case: u8) -> EventKind {
+    /// The kind of that one of 256 cases, never a group.
+    pub fn of(case: u8) -> EventKind
+        ensures { (groups : Bool) → IsKind groups result }
+    {
         match case {
             0..=183 => EventKind::Deliver,
             184..=219 => EventKind::Client,

@@ -19,7 +19,7 @@ use lk_script::fault::ScriptFault;
 use lk_script::printing::print_refusal;
 use lk_sim::{Event, Refused, World};
 use lk_step::Note;
-use lk_types::{Genesis, Member, NodeNo, Port};
+use lk_types::{Genesis, Member, NoMemory, NodeNo, Port};
 use std::alloc::{AllocError, Global};
 use std::io::Write;
 
@@ -257,12 +257,14 @@ fn write_run<R: MemoryReplica, W: Write>(
     }
 }
 
-// Writes a script of events.
-fn write_lines<W: Write>(lines: &[u8], out: &mut W) -> Result<(), ScriptFault>
-    ensures ok { OnOk result (Appends (W.contents out.old) (W.contents out.new) (world_line ++ lines.now)) }
+// A transcript that keeps lines, and has that of the world.
+fn begun_script(alloc: Global) -> Result<Transcript, NoMemory>
+    ensures kept { IfOk result (λ t. t.is_kept ≡ true) }
+    ensures text { IfOk result (λ t. t.text.items ≡ world_line) }
 {
-    write_text(WORLD_LINE, out)?;
-    write_text(lines, out)
+    let mut transcript = Transcript::new(alloc, true);
+    transcript.text.extend_from_slice(WORLD_LINE)?;
+    Ok(transcript)
 }
 
 // Runs a schedule, and writes a script of it.
@@ -273,10 +275,12 @@ fn write_script<R: MemoryReplica, W: Write>(
 ) -> Result<(), ScriptFault>
     ensures { OnOk result ((text : List ℕ) × IsScript R.behaves plan text × Appends (W.contents out.old) (W.contents out.new) text) }
 {
+    let Ok(mut transcript) = begun_script(alloc) else {
+        return Err(ScriptFault::ScriptMemory);
+    };
     let mut world = world_of_three::<R>(alloc);
-    let mut transcript = Transcript::new(alloc, true);
     match run_schedule(alloc, &mut world, plan, &mut transcript) {
-        Ok(()) => write_lines(&transcript.text, out),
+        Ok(()) => write_text(&transcript.text, out),
         Err(refused) => write_refusal(alloc, refused, out),
     }
 }

@@ -145,10 +145,11 @@ impl Schedule {
     fn kind(&mut self, groups: bool) -> EventKind
         ensures { IsKind groups result }
     {
-        match EventKind::of(self.draws.byte()) {
-            EventKind::Deliver if groups && self.draws.is_one_of(4) => EventKind::Group,
-            kind => kind,
+        let kind = EventKind::of(self.draws.byte());
+        if groups && matches!(kind, EventKind::Deliver) && self.draws.is_one_of(4) {
+            return EventKind::Group;
         }
+        kind
     }
 
     // An event of that kind.

@@ -63,7 +63,7 @@ fn away_in<'a>(
 }
 
 /// What the command line of a client says of the machines outside.
-fn ask_away<'a>(matches: &ArgMatches<'a>) -> Result<Away<'a>, Misread<'a>> {
+pub fn ask_away<'a>(matches: &ArgMatches<'a>) -> Result<Away<'a>, Misread<'a>> {
     away_in(matches, "address", None)
 }
 

@@ -5,12 +5,11 @@ use crate::plans::{client_in, number_in};
 use clap::ArgMatches;
 use lk_service::far::Far;
 use lk_status::status::{Form, Plan};
-use lk_status::target::{Inquiry, MAX_TARGETS, Target};
+use lk_status::target::{Inquiry, Target, targets_of};
 use lk_types::ClientNo;
-use lk_words::member::member_of;
 use lk_words::number::read_number;
-use lk_words::operation::port_of;
-use std::alloc::{AllocError, Global};
+use lk_server::fault::ServiceFault;
+use std::alloc::Global;
 
 /// The milliseconds of a receive, and the most that are waited in all.
 const A_RECEIVE: u64 = 100;
@@ -22,36 +21,6 @@ const PATIENCE: u32 = 5;
 
 /// The most seconds until nodes are ready.
 const MOST_SECONDS: u64 = 86_400;
-
-/// A place: `PORT` or `NODE:PORT`.
-fn target_of(word: &[u8]) -> Option<Target> {
-    if let Some(member) = member_of(word) {
-        return Some(Target {
-            node: Some(member.node),
-            port: member.port,
-        });
-    }
-    match port_of(word) {
-        Some(port) => Some(Target { node: None, port }),
-        None => None,
-    }
-}
-
-/// The places that are asked.
-fn targets_in<'a>(
-    alloc: Global,
-    matches: &ArgMatches<'a>,
-) -> Result<Result<Vec<Target>, Misread<'a>>, AllocError> {
-    let words = matches.get_strs("port").unwrap_or(&[]);
-    let mut targets = Vec::new(alloc);
-    for word in words {
-        match target_of(word.as_bytes()) {
-            Some(target) if targets.len() < MAX_TARGETS => targets.push(target)?,
-            _ => return Ok(Err(misread_word("port", word))),
-        }
-    }
-    Ok(Ok(targets))
-}
 
 /// How many receives may bring nothing.
 fn patience_in<'a>(matches: &ArgMatches<'a>) -> Result<u32, Misread<'a>> {
@@ -126,9 +95,9 @@ fn plan_of<'a>(matches: &ArgMatches<'a>, targets: Vec<Target>) -> Result<Plan, M
 pub fn status_plan<'a>(
     alloc: Global,
     matches: &ArgMatches<'a>,
-) -> Result<Result<Plan, Misread<'a>>, AllocError> {
-    match targets_in(alloc, matches)? {
-        Ok(targets) => Ok(plan_of(matches, targets)),
-        Err(misread) => Ok(Err(misread)),
+) -> Result<Result<Plan, Misread<'a>>, ServiceFault> {
+    match targets_of(alloc, matches.get_strs("port").unwrap_or(&[]))? {
+        Some(targets) => Ok(plan_of(matches, targets)),
+        None => Ok(Err(misread(matches, "port"))),
     }
 }

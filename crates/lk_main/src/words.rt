@@ -191,7 +191,7 @@ fn status_words<R: Files<File = File> + Net, W: Write, E: Write>(
     let mut plan = match status_plan(alloc, matches) {
         Ok(Ok(plan)) => plan,
         Ok(Err(misread)) => return refuse_words(&misread, err),
-        Err(_) => return ServiceFault::NoMemory.tell(err),
+        Err(fault) => return fault.tell(err),
     };
     let away = match ask_away(matches) {
         Ok(away) => away,

@@ -1,5 +1,5 @@
 -- What a replica has taken into a group, and has said by it.
-use Rattle.std.proofs.Common.{◌≡◌, ℕ, ◌+◌, inl, inr, Bool, true, false, List, [], ◌∷◌, ◌++◌, length, map, Contains, Option, Result, Ok, Err, refl, sym, ◌∙◌, ap, subst, subst₂, append_assoc, append-nil, length-append, arith}
+use Rattle.std.proofs.Common.{◌≡◌, ℕ, inl, inr, Bool, true, false, List, [], ◌∷◌, ◌++◌, length, map, Contains, Option, Result, Ok, Err, refl, sym, ◌∙◌, ap, subst, subst₂, append_assoc, append-nil, length-append, arith}
 use Rattle.std.specs.Prelude.{IfOk, IfErr, OnOk, OnErr, IsErrOf, ⊤}
 use Rattle.std.specs.List.{AllByRecursion}
 use Rattle.std.proofs.lemmas.List.{map-append, append_cancel_left}
@@ -17,7 +17,7 @@ use Rattle.lk_step.specs.declared.note.Note.{Note}
 use Rattle.lk_node.specs.Calls.{heard_by, InputFits, NodeFits, Goes}
 use Rattle.lk_node.specs.Histories.{History, Genesis, Datagram}
 use Rattle.lk_node.specs.Keeping.{Stands}
-use Rattle.lk_node.specs.Leavings.{DisksFit, AllCover}
+use Rattle.lk_node.specs.Leavings.{AllCover}
 use Rattle.lk_node.specs.NodeValue.{NodeValue}
 use Rattle.lk_replica.specs.Faults.{fault_number}
 use Rattle.lk_replica.specs.Groups.{Adds, GroupValue, StepSaid, letters_of, KeepsGroup, LeavesInGroup, MakesRoom, IsGathered, IsSettled, IsRefusedInGroup, GoesThrough, IsCovered, Recalls, as_sent, with_step}

@@ -144,11 +144,6 @@ impl LocalSocket {
         }
     }
 
-    // Whether it may wait for what has not come yet.
-    fn may_wait(&self) -> bool {
-        !self.never_waits && !self.wait.is_zero()
-    }
-
     // Receives what waits there, or what comes in time.
     fn receive_in_time(&mut self, buffer: &mut [u8]) -> Option<(usize, SocketAddr)>
         ensures within { IfSome result (λ r. r.0 ≤ length buffer.new) }
@@ -186,11 +181,14 @@ impl Datagrams for LocalSocket {
 
     // A socket that was busy is tried first: as long as it stays so, no call switches it.
     fn receive(&mut self, buffer: &mut [u8]) -> Option<(usize, SocketAddr)> {
+        if self.wait.is_zero() {
+            return self.receive_waiting(buffer);
+        }
         if self.waits {
             return self.receive_in_time(buffer);
         }
         match self.socket.recv_from(buffer).ok() {
-            None if self.may_wait() => self.receive_in_time(buffer),
+            None if !self.never_waits => self.receive_in_time(buffer),
             came => came,
         }
     }

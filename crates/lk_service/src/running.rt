@@ -141,12 +141,11 @@ fn take_turn<
     ensures failure { TellsFailure server.new }
     ensures passes { IfErr result (λ f. f ≡ ServiceFault.Send → ⊥) }
 {
-    let taken = node_turn(server, ear, metronome, log);
-    observe_turn(server, observer);
-    match taken {
+    match node_turn(server, ear, metronome, log) {
         Ok(()) => {
             server.answer(ear);
             let _ = server.replica();
+            observe_turn(server, observer);
             Ok(())
         }
         Err(fault) => Err(tell_device(fault, server.replica().device(), folder, err)),

@@ -1,3 +1,6 @@
+ghost use Rattle.std.specs.Prelude.{◌≡◌, true, IfOk, OnOk, IfSome};
+ghost use Rattle.lk_status.specs.Rounds.{IsOfRound, AreOfRound};
+
 use crate::target::{Inquiry, report_with};
 use lk_probe::Report;
 use lk_server::ear::Ear;
@@ -31,29 +34,40 @@ fn send_probes<S: Datagrams>(
     Ok(())
 }
 
+/// Whether a report answers a probe of the round.
+fn is_of_round(inquiry: &Inquiry, first: u64, report: &Report) -> bool
+    ensures { result ≡ true → IsOfRound inquiry.now first report.now }
+{
+    let token = report.token;
+    let is_within = first <= token && token - first < inquiry.targets.len() as u64;
+    is_within && report.answers(&inquiry.probe(token))
+}
+
 /// The report that these bytes are, if it answers a probe of the round that no other has answered.
-fn report_in(inquiry: &Inquiry, first: u64, reports: &[Report], bytes: &[u8]) -> Option<Report> {
+fn report_in(inquiry: &Inquiry, first: u64, reports: &[Report], bytes: &[u8]) -> Option<Report>
+    ensures { IfSome result (IsOfRound inquiry.now first) }
+{
     let seals = &inquiry.far.seals;
     let Some(report) = Report::read(seals.heard(inquiry.client_number(), bytes)) else {
         return None;
     };
-    let place = report.token.wrapping_sub(first);
-    let is_of_round = place < inquiry.targets.len() as u64;
-    let is_new = report_with(reports, report.token).is_none();
-    if !is_of_round || !is_new || !report.answers(&inquiry.probe(report.token)) {
+    if !is_of_round(inquiry, first, &report) || report_with(reports, report.token).is_some() {
         return None;
     }
     Some(report)
 }
 
 /// Hears what comes next, and keeps it if it is a report of the round. Whether anything came.
+#[tactic(auto, using(crate::proofs::Gathered::one_more))]
 fn hear<S: Datagrams>(
     socket: &mut S,
     ear: &mut Ear,
     inquiry: &Inquiry,
     first: u64,
     reports: &mut Vec<Report>,
-) -> Result<bool, ServiceFault> {
+) -> Result<bool, ServiceFault>
+    ensures { OnOk result (AreOfRound inquiry.now first reports.old.items → AreOfRound inquiry.now first reports.new.items) }
+{
     ear.receive(socket);
     let Some((bytes, _)) = ear.heard() else {
         return Ok(false);
@@ -72,7 +86,9 @@ pub fn ask_all<S: Datagrams>(
     inquiry: &Inquiry,
     first: u64,
     idle: &mut u32,
-) -> Result<Vec<Report>, ServiceFault> {
+) -> Result<Vec<Report>, ServiceFault>
+    ensures { IfOk result (λ rs. AreOfRound inquiry.now first rs.items) }
+{
     let mut reports = Vec::new(alloc);
     let mut ear = Ear::new();
     let mut silences = 0u32;

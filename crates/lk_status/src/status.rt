@@ -1,6 +1,7 @@
 //! `locks status`.
 
 ghost use Rattle.std.specs.Prelude.{◌≡◌, ◌≤◌, ◌↔◌, IfOk, IsTrue};
+ghost use Rattle.lk_status.specs.Rounds.{AreOfRound, IsShownServed};
 ghost use Rattle.lk_status.specs.Verdicts.{IsServed};
 
 use crate::asking::ask_all;
@@ -92,7 +93,9 @@ fn wait_until_ready<S: Datagrams>(
     socket: &mut S,
     inquiry: &Inquiry,
     most: u32,
-) -> Result<Round, ServiceFault> {
+) -> Result<Round, ServiceFault>
+    ensures { IfOk result (λ r. AreOfRound inquiry.now r.first r.reports.items) }
+{
     let (mut idle, mut goal) = (0, None);
     let mut round = ask_once(alloc, socket, inquiry, 0, &mut idle)?;
     'rounds: for number in 1..=u64::from(most) {
@@ -114,7 +117,9 @@ fn ask_once<S: Datagrams>(
     inquiry: &Inquiry,
     first: u64,
     idle: &mut u32,
-) -> Result<Round, ServiceFault> {
+) -> Result<Round, ServiceFault>
+    ensures { IfOk result (λ r. AreOfRound inquiry.now r.first r.reports.items) }
+{
     Ok(Round {
         first,
         reports: ask_all(alloc, socket, inquiry, first, idle)?,
@@ -123,11 +128,9 @@ fn ask_once<S: Datagrams>(
 }
 
 /// Asks as the plan says.
-fn round_of<S: Datagrams>(
-    alloc: Global,
-    socket: &mut S,
-    plan: &Plan,
-) -> Result<Round, ServiceFault> {
+fn round_of<S: Datagrams>(alloc: Global, socket: &mut S, plan: &Plan) -> Result<Round, ServiceFault>
+    ensures { IfOk result (λ r. AreOfRound plan.now.inquiry r.first r.reports.items) }
+{
     if plan.seconds > 0 {
         let most = plan.seconds.saturating_mul(A_SECOND);
         return wait_until_ready(alloc, socket, &plan.inquiry, most);
@@ -143,7 +146,9 @@ fn ask_and_print<S: Datagrams, W: Write>(
     socket: &mut S,
     plan: &Plan,
     out: &mut W,
-) -> Result<bool, ServiceFault> {
+) -> Result<bool, ServiceFault>
+    ensures { IfOk result (λ is. IsTrue is → IsShownServed plan.now.inquiry) }
+{
     let round = round_of(alloc, socket, plan)?;
     match print(plan, round.first, &round.reports, out) {
         Ok(is_served) => Ok(is_served && round.is_ready),
@@ -160,7 +165,9 @@ pub fn status<S: Datagrams, W: Write, E: Write>(
     out: &mut W,
     err: &mut E,
 ) -> u8
-    ensures { result ≤ 1 }
+    ensures status { result ≤ 1 }
+    // Status 0 only where the reports to some round show that the cluster is served.
+    ensures served { result ≡ 0 → IsShownServed plan.now.inquiry }
 {
     match ask_and_print(alloc, socket, plan, out) {
         Ok(true) => 0,

@@ -1,8 +1,14 @@
 //! Which nodes are asked, and by whose key.
 
+ghost use Rattle.std.specs.Prelude.{◌≡◌, None};
+
 use lk_probe::{Probe, Report};
+use lk_server::fault::ServiceFault;
 use lk_service::far::Far;
 use lk_types::{ClientNo, NodeNo, Port};
+use lk_words::member::member_of;
+use lk_words::operation::port_of;
+use std::alloc::Global;
 use std::net::{IpAddr, Ipv4Addr, Ipv6Addr, SocketAddr};
 
 /// The most places that are asked at once.
@@ -25,6 +31,35 @@ pub struct Inquiry {
     pub targets: Vec<Target>,
     /// The receives of 100 ms that may bring nothing until a round ends.
     pub patience: u32,
+}
+
+/// A place: `PORT` or `NODE:PORT`.
+fn target_of(word: &[u8]) -> Option<Target> {
+    if let Some(member) = member_of(word) {
+        return Some(Target {
+            node: Some(member.node),
+            port: member.port,
+        });
+    }
+    match port_of(word) {
+        Some(port) => Some(Target { node: None, port }),
+        None => None,
+    }
+}
+
+/// The places that words name, or `None` where one of them names none, or they are too many.
+pub fn targets_of(alloc: Global, words: &[&str]) -> Result<Option<Vec<Target>>, ServiceFault> {
+    if words.len() > MAX_TARGETS {
+        return Ok(None);
+    }
+    let mut targets = Vec::new(alloc);
+    for word in words {
+        match target_of(word.as_bytes()) {
+            Some(target) => targets.push(target)?,
+            None => return Ok(None),
+        }
+    }
+    Ok(Some(targets))
 }
 
 impl Inquiry {
@@ -60,7 +95,9 @@ impl Inquiry {
     }
 
     /// The probe that carries that token.
-    pub fn probe(&self, token: u64) -> Probe {
+    pub fn probe(&self, token: u64) -> Probe
+        ensures { result ≡ record { cluster = self.now.cluster; node = None; client = self.now.client; token = token } }
+    {
         Probe {
             cluster: self.cluster,
             node: None,

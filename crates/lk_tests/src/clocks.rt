@@ -42,12 +42,24 @@ fn a_metronome_tells_each_100_ms(rt: HostRuntime) -> Result<(), Fail> {
         shown: Cell::new(7),
     };
     let mut metronome = Metronome::new(&clock);
-    assert_eq!(rt; (metronome.has_passed(), metronome.left()), (false, Duration::from_millis(100)));
+    assert_eq!(rt;
+        (metronome.has_passed(), metronome.left()),
+        (false, Duration::from_millis(100))
+    );
     clock.shown.set(77);
-    assert_eq!(rt; (metronome.has_passed(), metronome.left()), (false, Duration::from_millis(30)));
+    assert_eq!(rt;
+        (metronome.has_passed(), metronome.left()),
+        (false, Duration::from_millis(30))
+    );
     clock.shown.set(377);
-    assert_eq!(rt; (metronome.left(), metronome.has_passed()), (Duration::ZERO, true));
-    assert_eq!(rt; (metronome.has_passed(), metronome.left()), (false, Duration::from_millis(100)));
+    assert_eq!(rt;
+        (metronome.left(), metronome.has_passed()),
+        (Duration::ZERO, true)
+    );
+    assert_eq!(rt;
+        (metronome.has_passed(), metronome.left()),
+        (false, Duration::from_millis(100))
+    );
     clock.shown.set(400);
     metronome.rest();
     assert_eq!(rt; metronome.left(), Duration::from_millis(100));

@@ -94,7 +94,12 @@ impl Cluster {
         let Some(server) = self.servers.get_mut(place) else {
             return Ok(());
         };
-        node_turn(server, &mut self.ear, &mut Metronome::new(Stopped), &Discard)?;
+        node_turn(
+            server,
+            &mut self.ear,
+            &mut Metronome::new(Stopped),
+            &Discard,
+        )?;
         let port = server.socket_mut().port().unwrap_or(0);
         for sent in server.socket_mut().take_sent() {
             self.carry(local(port), sent)?;

@@ -5,12 +5,11 @@ use Rattle.lk_fuzz.proofs.fuzzing.write_run.Goals as goal
 
 pub returns-in-Ok : goal.returns-in-Ok
 returns-in-Ok g c = on_ok_weaker c.write_done.result (λ done. (
-  done_line c.args.count done.0,
+  done_line c.args.plan.count done.0,
   record {
     begun = c.world_of_three-world.result;
-    new_world = c.world_of_three-world.ensures;
     ended = c.run_schedule.new.world;
-    fuzzes = c.in-Ok.ensures;
+    run = record { new_world = c.world_of_three-world.ensures; fuzzes = c.in-Ok.ensures.fuzzes };
     furthest = done.0;
     is_furthest = subst (λ trace. IsFurthest trace done.0) c.trace.ensures done.1;
     line = refl;

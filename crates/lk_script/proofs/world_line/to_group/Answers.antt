@@ -1,4 +1,4 @@
-use Rattle.std.proofs.Common.{◌≡◌, List, rules, sym, subst, arith}
+use Rattle.std.proofs.Common.{List, rules, sym, subst, arith}
 use Rattle.lk_types.specs.Limits.{max_node}
 use Rattle.lk_script.specs.WorldLines.{SpellsTurns}
 use Rattle.lk_script.proofs.WordLemmas.{leads_once}
