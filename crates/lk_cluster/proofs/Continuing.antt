@@ -12,8 +12,8 @@ use Rattle.lk_node.specs.Histories.{Genesis, Datagram}
 use Rattle.lk_replica.specs.ReplicaValue.{ReplicaValue}
 use Rattle.lk_server.specs.Probes.{IsShown, AnswersKept}
 use Rattle.lk_server.specs.Servers.{ServerValue, Turn, LastTurn, IsIdle}
-use Rattle.lk_server.specs.declared.asked.Asked.{Asked}
-use Rattle.lk_service.specs.Chains.{Chain}
+use Rattle.lk_transport.specs.declared.asked.Asked.{Asked}
+use Rattle.lk_transport.specs.Chains.{Chain}
 use Rattle.lk_service.specs.Turns.{TakesTurn as ServerTurn, TellsFailure, letters_in}
 use Rattle.lk_sim.specs.Networks.{Rests, RestsBy, nothing}
 use Rattle.lk_sim.specs.Seats.{At}

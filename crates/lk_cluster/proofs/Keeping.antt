@@ -16,11 +16,11 @@ use Rattle.lk_node.specs.Histories.{Genesis, Datagram}
 use Rattle.lk_node.specs.Leavings.{DisksFit}
 use Rattle.lk_replica.specs.Posts.{CarriesAll}
 use Rattle.lk_replica.specs.ReplicaValue.{ReplicaValue}
-use Rattle.lk_server.specs.Addresses.{AddressBook}
-use Rattle.lk_server.specs.Posts.{Tray, Becomes}
+use Rattle.lk_transport.specs.Addresses.{AddressBook}
+use Rattle.lk_transport.specs.Posts.{Tray, Becomes}
 use Rattle.lk_server.specs.Paces.{ticks_after, MayFollow}
 use Rattle.lk_server.specs.Probes.{IsShown, AnswersKept}
-use Rattle.lk_server.specs.declared.asked.Asked.{Asked}
+use Rattle.lk_transport.specs.declared.asked.Asked.{Asked}
 use Rattle.lk_server.specs.Servers.{ServerValue, HandsOn, Given, IsIdle, one_more, inputs, all_inputs, datagrams_in, IsFront, tray_at}
 use Rattle.lk_server.specs.declared.pace.Pace.{Pace}
 use Rattle.lk_server.specs.declared.pace.Pace.TheVariants.{Datagrams, Clock}

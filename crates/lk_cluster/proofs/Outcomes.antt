@@ -10,7 +10,7 @@ use Rattle.lk_node.specs.Histories.{Genesis}
 use Rattle.lk_node.specs.Leavings.{header_of}
 use Rattle.lk_replica.specs.ReplicaValue.{ReplicaValue}
 use Rattle.lk_seal.specs.declared.seals.Seals.{Seals}
-use Rattle.lk_server.specs.declared.fault.ServiceFault.{ServiceFault}
+use Rattle.lk_transport.specs.declared.fault.ServiceFault.{ServiceFault}
 use Rattle.lk_service.specs.Revivals.{IsBegun as IsTakenUp, IsRefusedWith}
 use Rattle.lk_service.specs.Turns.{Serves, EndsEarly}
 use Rattle.lk_cluster.specs.Clusters.{Cluster, ForgesNothing, Says, IsReachable}

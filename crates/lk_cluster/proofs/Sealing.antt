@@ -13,10 +13,10 @@ use Rattle.lk_node.specs.Histories.{Genesis, Datagram}
 use Rattle.lk_replica.specs.ReplicaValue.{ReplicaValue}
 use Rattle.lk_seal.specs.Seals.{key_list, heard}
 use Rattle.lk_seal.specs.declared.seals.Seals.{Seals}
-use Rattle.lk_server.specs.Posts.{all_taken_as}
+use Rattle.lk_transport.specs.Posts.{all_taken_as}
 use Rattle.lk_server.specs.Premises.{IsToldByANode}
 use Rattle.lk_server.specs.Servers.{ServerValue}
-use Rattle.lk_service.specs.Chains.{Chain}
+use Rattle.lk_transport.specs.Chains.{Chain}
 use Rattle.lk_service.specs.Turns.{TakesTurn as ServerTurn, letters_in}
 use Rattle.lk_sim.specs.Networks.{MayCome, nothing}
 use Rattle.lk_cluster.specs.Clusters.{Cluster, Network, ForgesNothing, TakesTurn, EndsByTurn, Happens, HappenAll, IsReachable}

@@ -13,8 +13,8 @@ use Rattle.lk_node.specs.Leavings.{header_of}
 use Rattle.lk_replica.specs.ReplicaValue.{ReplicaValue}
 use Rattle.lk_seal.specs.declared.seals.Seals.{Seals}
 use Rattle.lk_server.specs.Servers.{ServerValue, LastTurn}
-use Rattle.lk_server.specs.declared.fault.ServiceFault.{ServiceFault}
-use Rattle.lk_service.specs.Chains.{Chain}
+use Rattle.lk_transport.specs.declared.fault.ServiceFault.{ServiceFault}
+use Rattle.lk_transport.specs.Chains.{Chain}
 use Rattle.lk_service.specs.Revivals.{IsBegun as IsTakenUp, IsRefusedWith, StaysDown}
 use Rattle.lk_service.specs.Turns.{TakesTurn, Serves, EndsEarly}
 use Rattle.lk_sim.specs.Networks.{RestsBy}

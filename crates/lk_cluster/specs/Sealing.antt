@@ -8,9 +8,9 @@ use Rattle.lk_node.specs.Histories.{Datagram}
 use Rattle.lk_replica.specs.ReplicaValue.{ReplicaValue}
 use Rattle.lk_seal.specs.Seals.{key_list, to_node, IsSealedBy}
 use Rattle.lk_seal.specs.declared.seals.Seals.{Seals}
-use Rattle.lk_server.specs.Posts.{all_taken_as}
+use Rattle.lk_transport.specs.Posts.{all_taken_as}
 use Rattle.lk_server.specs.Servers.{ServerValue}
-use Rattle.lk_service.specs.Chains.{Chain}
+use Rattle.lk_transport.specs.Chains.{Chain}
 use Rattle.lk_service.specs.Turns.{TakesTurn as ServerTurn, letters_in}
 
 -- a node of the cluster has given a datagram of these bytes to be sent

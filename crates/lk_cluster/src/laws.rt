@@ -14,10 +14,10 @@ ghost use Rattle.lk_node.specs.Leavings.{header_of};
 ghost use Rattle.lk_seal.specs.Seals.{key_list, heard};
 ghost use Rattle.lk_seal.specs.declared.seals.Seals.{Seals};
 ghost use Rattle.lk_replica.specs.ReplicaValue.{ReplicaValue};
-ghost use Rattle.lk_server.specs.Posts.{all_taken_as};
+ghost use Rattle.lk_transport.specs.Posts.{all_taken_as};
 ghost use Rattle.lk_server.specs.Servers.{ServerValue, Turn, LastTurn, IsIdle};
-ghost use Rattle.lk_server.specs.declared.fault.ServiceFault.{ServiceFault};
-ghost use Rattle.lk_service.specs.Chains.{Repeats};
+ghost use Rattle.lk_transport.specs.declared.fault.ServiceFault.{ServiceFault};
+ghost use Rattle.lk_transport.specs.Chains.{Repeats};
 ghost use Rattle.lk_service.specs.Revivals.{IsBegun as IsTakenUp, IsRefusedWith};
 ghost use Rattle.lk_service.specs.Turns.{EndsEarly, Serves, TakesTurn};
 ghost use Rattle.lk_sim.specs.Networks.{MayCome};
@@ -39,7 +39,7 @@ use lk_promise::laws::{
 use lk_replica::Replica;
 use lk_server::laws::is_told_by_a_node;
 use lk_server::node_replica::NodeReplica;
-use lk_server::socket::Datagrams;
+use lk_transport::socket::Datagrams;
 
 /// Whatever the servers of a cluster do, one after another in any order, and whatever comes to them over a network that forges nothing: the promise
 /// holds of all that they give to be sent, of what happens, and of their disks. So the promise of a world of replicas is kept by the processes that

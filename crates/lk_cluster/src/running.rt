@@ -11,7 +11,7 @@ use lk_events::line::Observer;
 use lk_locks::LockTable;
 use lk_replica::Replica;
 use lk_server::node_replica::NodeReplica;
-use lk_server::socket::Datagrams;
+use lk_transport::socket::Datagrams;
 use lk_service::causes::FailureCause;
 use lk_service::resources::{NodePlan, Resources};
 use lk_service::running::run_node;

@@ -4,18 +4,18 @@ ghost use Rattle.std.specs.declared.net.socket_addr.SocketAddr.{SocketAddr as Ad
 ghost use Rattle.lk_types.specs.declared.genesis.Genesis.{Genesis as GenesisValue};
 ghost use Rattle.lk_node.specs.Leavings.{header_of};
 ghost use Rattle.lk_cluster.specs.Clusters.{IsBegun, Says};
-ghost use Rattle.lk_server.specs.Posts.{all_taken_as};
+ghost use Rattle.lk_transport.specs.Posts.{all_taken_as};
 ghost use Rattle.lk_server.specs.Servers.{HasWaited, TakesTurn, LastTurn};
 
 use lk_disk::LogDisk;
 use lk_entries::Header;
 use lk_locks::LockTable;
 use lk_replica::{Replica, ReviveFault};
-use lk_server::ear::Ear;
-use lk_server::fault::ServiceFault;
+use lk_transport::ear::Ear;
+use lk_transport::fault::ServiceFault;
 use lk_server::metronome::Metronome;
 use lk_server::server::{Server, node_turn};
-use lk_server::socket::Datagrams;
+use lk_transport::socket::Datagrams;
 use lk_service::resources::Resources;
 use lk_service::running::revive;
 use log::Log;

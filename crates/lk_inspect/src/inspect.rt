@@ -7,7 +7,7 @@ use crate::inspection::{Inspection, inspected};
 use crate::lines::write_inspection;
 use lk_disk::LogDisk;
 use lk_log::look;
-use lk_server::fault::ServiceFault;
+use lk_transport::fault::ServiceFault;
 use lk_service::folder::look_at_device;
 use lk_service::refusals::tell_refusal;
 use std::alloc::Global;

@@ -16,7 +16,7 @@ use crate::state::state_of;
 use lk_entries::Standing;
 use lk_locks::{Name, Slot};
 use lk_members::Window;
-use lk_server::fault::ServiceFault;
+use lk_transport::fault::ServiceFault;
 use lk_types::Executed;
 use std::alloc::Global;
 

@@ -14,7 +14,7 @@ ghost use Rattle.lk_inspect.specs.Inspections.{CannotStand};
 
 use lk_entries::Standing;
 use lk_locks::LockTable;
-use lk_server::fault::ServiceFault;
+use lk_transport::fault::ServiceFault;
 use lk_state::{Ran, Whole};
 use lk_types::{Answer, Command, NoMemory, Position};
 use std::alloc::Global;

@@ -14,7 +14,7 @@ use lk_script::ending::end;
 use lk_script::fault::ScriptFault;
 use lk_script::mode::Mode;
 use lk_script::script::run_script;
-use lk_server::fault::ServiceFault;
+use lk_transport::fault::ServiceFault;
 use lk_sim::{LeftNode, World};
 use lk_types::{NoMemory, NodeNo};
 use std::alloc::Global;

@@ -3,12 +3,12 @@
 use crate::misread::{Misread, misread, misread_word};
 use crate::plans::{client_in, number_in};
 use clap::ArgMatches;
-use lk_service::far::Far;
+use lk_client::far::Far;
 use lk_status::status::{Form, Plan};
 use lk_status::target::{Inquiry, Target, targets_of};
 use lk_types::ClientNo;
 use lk_words::number::read_number;
-use lk_server::fault::ServiceFault;
+use lk_transport::fault::ServiceFault;
 use std::alloc::Global;
 
 /// The milliseconds of a receive, and the most that are waited in all.

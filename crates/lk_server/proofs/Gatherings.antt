@@ -7,12 +7,12 @@ use Rattle.lk_step.specs.Letters.{LetterValue}
 use Rattle.lk_seal.specs.Seals.{heard}
 use Rattle.lk_seal.specs.declared.seals.Seals.{Seals}
 use Rattle.lk_replica.specs.Groups.{GroupValue}
-use Rattle.lk_server.specs.Addresses.{AddressBook, IsSameOutside}
+use Rattle.lk_transport.specs.Addresses.{AddressBook, IsSameOutside}
 use Rattle.lk_server.specs.Gatherings.{Sayings, Gatherings, GathersMore, SaysNoMore, TakesAll, EndsWithin, TakesOwn, EndsOwn, TakesHeard, EndsHeard, TakesSocket, EndsSocket, Finds}
 use Rattle.lk_server.specs.declared.found.Found.{Found}
 use Rattle.lk_server.specs.declared.found.Found.TheVariants.{Nothing, Beside, Something}
-use Rattle.lk_server.specs.Hearing.{listed}
-use Rattle.lk_server.specs.Posts.{Hears, HearsAll, is_beside, opened_as, unless_beside, all_taken_as}
+use Rattle.lk_transport.specs.Hearing.{listed}
+use Rattle.lk_transport.specs.Posts.{Hears, HearsAll, is_beside, opened_as, unless_beside, all_taken_as}
 use Rattle.lk_server.specs.Paces.{ticks_after}
 use Rattle.lk_server.specs.declared.pace.Pace.{Pace}
 use Rattle.lk_server.specs.Servers.{ServerValue, one_more, inputs, all_inputs, counted, datagrams_in}

@@ -1,7 +1,5 @@
-mod Books
 mod Free
 mod Carrying
 mod Sayings
 mod Gatherings
 mod Turning
-mod Cutting

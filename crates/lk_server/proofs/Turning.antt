@@ -7,14 +7,14 @@ use Rattle.lk_replica.specs.Groups.{GroupValue}
 use Rattle.lk_replica.specs.declared.fault.ReplicaFault.{ReplicaFault}
 use Rattle.lk_replica.specs.declared.fault.ReplicaFault.TheVariants as fault
 use Rattle.lk_replica.specs.Faults.{fault_number}
-use Rattle.lk_server.specs.Addresses.{AddressBook, IsSameOutside}
-use Rattle.lk_server.specs.Faults.{replica_fault}
-use Rattle.lk_server.specs.declared.fault.ServiceFault.TheVariants.{Send}
+use Rattle.lk_transport.specs.Addresses.{AddressBook, IsSameOutside}
+use Rattle.lk_transport.specs.Faults.{replica_fault}
+use Rattle.lk_transport.specs.declared.fault.ServiceFault.TheVariants.{Send}
 use Rattle.lk_server.specs.Gatherings.{Sayings, Gatherings, GathersMore, SaysNoMore, Finds, TakesAll, EndsWithin, TakesOwn, EndsOwn, TakesSocket, EndsSocket, TakesWaiting, TakesGroup, EndsGroup, HandsOnAll, SaysNothing}
 use Rattle.lk_server.specs.Paces.{MayFollow}
 use Rattle.lk_seal.specs.Seals.{heard}
 use Rattle.lk_seal.specs.declared.seals.Seals.{Seals}
-use Rattle.lk_server.specs.Posts.{HearsAll, is_beside, all_taken_as}
+use Rattle.lk_transport.specs.Posts.{HearsAll, is_beside, all_taken_as}
 use Rattle.lk_server.specs.Servers.{ServerValue, HandsOn, HandsNothing, HasWaited, IsSameServer, Turn, LastTurn, IsIdle, Given, GivenFirst, TakesFirst, all_inputs, counted, datagrams_in}
 use Rattle.lk_server.specs.declared.found.Found.{Found}
 use Rattle.lk_server.specs.declared.found.Found.TheVariants.{Nothing, Beside, Something}

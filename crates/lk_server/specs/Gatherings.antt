@@ -5,8 +5,8 @@ use Rattle.lk_step.specs.Letters.{LetterValue}
 use Rattle.lk_replica.specs.Groups.{GroupValue}
 use Rattle.lk_server.specs.declared.found.Found.{Found}
 use Rattle.lk_server.specs.declared.found.Found.TheVariants.{Beside}
-use Rattle.lk_server.specs.Addresses.{IsSameOutside}
-use Rattle.lk_server.specs.Posts.{HearsAll, all_taken_as}
+use Rattle.lk_transport.specs.Addresses.{IsSameOutside}
+use Rattle.lk_transport.specs.Posts.{HearsAll, all_taken_as}
 use Rattle.lk_server.specs.Servers.{ServerValue, all_inputs, counted, datagrams_in, Given, GivenFirst, HasWaited, IsFront, TakesFirst, TakesLetters, HandsOn}
 
 -- how a replica says: what becomes of it by a group, and the letters of that

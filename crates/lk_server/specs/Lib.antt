@@ -1,13 +1,7 @@
-pub mod Faults
-pub mod Addresses
-pub mod Hosts
 pub mod Paces
-pub mod Posts
 pub mod Servers
 pub mod Gatherings
 pub mod Probes
 pub mod Sights
 pub mod Sayings
-pub mod Hearing
-pub mod Sockets
 pub mod Premises

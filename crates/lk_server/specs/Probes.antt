@@ -1,53 +1,17 @@
--- Probes: which datagrams a server keeps from its replica, and how it answers one.
+-- Probes: what a node tells, and how a server answers one.
 use Rattle.std.specs.Prelude.{◌≡◌, ◌≢◌, ◌⊎◌, ◌↔◌, ◌==◌, ◌+◌, ◌-◌, ◌++◌, ℕ, if◌then◌else◌, List, [], ◌∷◌, length, min, slice_get, Option, Some, None, IsSome, IsTrue}
 use Rattle.std.specs.declared.net.socket_addr.SocketAddr.{SocketAddr}
 use Rattle.lk_members.specs.Windows.{RosterValue}
 use Rattle.lk_leader.specs.Proposing.{Leads}
-use Rattle.lk_probe.specs.Grammar.{SpellsProbe, SpellsReport, Answers, or_zero}
+use Rattle.lk_probe.specs.Grammar.{SpellsReport, Answers}
 use Rattle.lk_probe.specs.declared.probe.Probe.{Probe}
 use Rattle.lk_probe.specs.declared.probe.Report.{Report}
 use Rattle.lk_probe.specs.declared.status.Status.{Status}
 use Rattle.lk_replica.specs.ReplicaValue.{ReplicaValue}
-use Rattle.lk_seal.specs.Seals.{key_list, heard}
-use Rattle.lk_seal.specs.declared.seals.Seals.{Seals}
-use Rattle.lk_step.specs.declared.to.To.{To}
-use Rattle.lk_step.specs.declared.to.To.TheVariants.{Node, Client}
-use Rattle.lk_server.specs.Hearing.{EarValue}
-use Rattle.lk_server.specs.Posts.{Tray, Loses, frame_of, keys_for}
 use Rattle.lk_server.specs.Servers.{ServerValue, tray_at}
-use Rattle.lk_server.specs.declared.asked.Asked.{Asked}
+use Rattle.lk_transport.specs.declared.asked.Asked.{Asked}
 use Rattle.lk_server.specs.declared.shown.Shown.{Shown}
-
--- ---- who asks
-
--- a node names itself in a probe only if it seals it, where the nodes have a key: what was taken of the frame is shorter than it
-abbrev pub IsSealedAsNamed : Seals → List ℕ → Probe → Type 0
-IsSealedAsNamed s frame p = IsSome p.node → key_list s.nodes ≢ [] → length frame ≢ length (heard s frame)
-
--- by this frame somebody asks the node that has these seals
-pub record Asks (s : Seals) (frame : List ℕ) (p : Probe) : Type 0 where
-  pub spelled : SpellsProbe p (heard s frame)
-  pub cluster : p.cluster ≡ s.cluster
-  pub sealed : IsSealedAsNamed s frame p
-
--- what is kept of a frame that came from there: the probe by which somebody asks, if it is one
-abbrev pub IsKeptOf : Seals → SocketAddr × List ℕ → Option Asked → Type 0
-IsKeptOf s d None = (p : Probe) → Asks s d.1 p → ⊥
-IsKeptOf s d (Some a) = (a.from ≡ d.0) × Asks s d.1 a.probe
-
--- what is kept of what came last, if something did
-abbrev pub IsKeptOfLast : Seals → Option (SocketAddr × List ℕ) → Option Asked → Type 0
-IsKeptOfLast s None asked = asked ≡ None
-IsKeptOfLast s (Some d) asked = IsKeptOf s d asked
-
--- one probe is kept, the first: where none was, the one that came last, if it is one
-abbrev pub KeepsFirst : Seals → Option (SocketAddr × List ℕ) → Option Asked → Option Asked → Type 0
-KeepsFirst s last (Some a) new = new ≡ Some a
-KeepsFirst s last None new = IsKeptOfLast s last new
-
-pub record Keeps (s : Seals) (old new : EarValue) : Type 0 where
-  pub last : new.last ≡ old.last
-  pub asked : KeepsFirst s old.last old.asked new.asked
+use Rattle.lk_transport.specs.Askers.{Replies}
 
 -- ---- what a node tells
 
@@ -79,25 +43,6 @@ pub record Tells (digest : List ℕ) (shown : Shown) (s : Status) : Type 0 where
 
 -- ---- how it answers
 
--- the client or the node that asks, if the probe names one
-abbrev pub who : Option ℕ → Option ℕ → Option To
-who (Some c) _ = Some (Client c)
-who None (Some n) = Some (Node n 0)
-who None None = None
-
-abbrev pub asker : Probe → Option To
-asker p = who p.client p.node
-
--- as what a report is sent: by the seal for whoever asks, and as it is to one that names nobody
-abbrev pub frame_for : Seals → Option To → List ℕ → List ℕ
-frame_for s None report = report
-frame_for s (Some to) report = frame_of s to report
-
--- the keys under which it is sent
-abbrev pub keys_to : Seals → Option To → List (List ℕ)
-keys_to s None = []
-keys_to s (Some to) = keys_for s to
-
 -- these bytes are a report of that node that answers the probe, and tells what the replica shows. By the laws of lk_probe it is as long as the probe
 pub record IsAnswer (node : ℕ) (genesis : List ℕ) (shown : Shown) (p : Probe) (bytes : List ℕ) : Type 0 where
   pub report : Report
@@ -105,16 +50,6 @@ pub record IsAnswer (node : ℕ) (genesis : List ℕ) (shown : Shown) (p : Probe
   pub answers : Answers p report
   pub node_told : report.node ≡ node
   pub told : Tells genesis shown report.status
-
--- a frame is sent there, once, if the socket tells that, and no letter is kept
-pub record SendsTo (tells : Type 0) (place : SocketAddr) (frame : List ℕ) (old new : Tray) : Type 0 where
-  pub own : new.own ≡ old.own
-  pub sent : tells → new.sent ≡ old.sent ++ (place, frame) ∷ []
-  pub failures : tells → new.failures ≡ old.failures
-
--- a report goes to where the probe came from, and is sent or lost
-abbrev pub Replies : Type 0 → Seals → Asked → List ℕ → Tray → Tray → Type 0
-Replies tells s a bytes old new = SendsTo tells a.from (frame_for s (asker a.probe) bytes) old new ⊎ Loses tells (keys_to s (asker a.probe)) old new
 
 -- the probe was answered, and nothing else is sent or changed; what is to come to the socket may be more then. `Shows` is what a replica shows
 pub record AnswersOne {R : Type 0} (Shows : R → Shown → Type 0) (tells : Type 0) (a : Asked) (old new : ServerValue R) : Type 0 where

@@ -3,9 +3,9 @@ use Rattle.std.specs.Prelude.{◌≡◌, ◌⊎◌, ◌≤◌, Bool, true, false
 use Rattle.std.specs.declared.net.socket_addr.SocketAddr.{SocketAddr}
 use Rattle.lk_step.specs.Letters.{LetterValue}
 use Rattle.lk_replica.specs.Posts.{CarriesAll}
-use Rattle.lk_server.specs.Addresses.{AddressBook}
+use Rattle.lk_transport.specs.Addresses.{AddressBook}
 use Rattle.lk_server.specs.Paces.{ticks_after, MayFollow}
-use Rattle.lk_server.specs.Posts.{HearsAll, Tray, Becomes, all_taken_as}
+use Rattle.lk_transport.specs.Posts.{HearsAll, Tray, Becomes, all_taken_as}
 use Rattle.lk_server.specs.declared.pace.Pace.{Pace}
 use Rattle.lk_server.specs.declared.pace.Pace.TheVariants.{Clock}
 

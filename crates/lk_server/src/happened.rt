@@ -1,7 +1,7 @@
 //! What has happened to a node in a turn, for whoever is told its events.
 
-use crate::came::Came;
-use crate::post::Carried;
+use lk_transport::came::Came;
+use lk_transport::post::Carried;
 use crate::sight::Sight;
 use lk_types::{Executed, NodeNo};
 

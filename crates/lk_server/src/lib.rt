@@ -2,28 +2,17 @@
 //! the server and its turns. Which folder and which files the replica lies in is for those above.
 #![tactic(auto)]
 
-pub mod addresses;
-pub mod asked;
-pub mod came;
-pub mod ear;
-pub mod fault;
 pub mod found;
 mod gathering;
 pub mod happened;
-mod hearing;
-pub mod hosts;
 pub mod laws;
-pub mod memory_socket;
 pub mod metronome;
 pub mod node_replica;
 pub mod notes;
-pub mod outside;
 pub mod pace;
-pub mod post;
 mod probing;
 pub mod server;
 pub mod shown;
 pub mod sight;
-pub mod socket;
 pub mod strangers;
 pub mod watching;

@@ -4,11 +4,11 @@ ghost use Rattle.std.specs.Prelude.{◌≡◌, None, true, IsTrue};
 ghost use Rattle.lk_server.specs.Probes.{AnswersKept, IsAnswer, Tells};
 ghost use Rattle.lk_server.specs.declared.shown.Shown.{Shown as ShownValue};
 
-use crate::asked::Asked;
-use crate::ear::Ear;
+use lk_transport::asked::Asked;
+use lk_transport::ear::Ear;
 use crate::node_replica::NodeReplica;
 use crate::server::Server;
-use crate::socket::Datagrams;
+use lk_transport::socket::Datagrams;
 use lk_probe::{Identity, LENGTH, PROGRAM, Status, Traffic};
 
 /// The version of a lock table that a server does not know.

@@ -1,6 +1,6 @@
 //! The datagrams that say nothing to a server, counted.
 
-use crate::came::Came;
+use lk_transport::came::Came;
 use log::{Log, debug};
 
 /// How many datagrams came that do not read, and how many of another cluster.

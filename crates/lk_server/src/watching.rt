@@ -1,7 +1,7 @@
 //! What a server logs of its replica beside its notes: lines of level debug, one fact each. A line that fails is dropped.
 
-use crate::came::Came;
-use crate::post::Carried;
+use lk_transport::came::Came;
+use lk_transport::post::Carried;
 use crate::sight::Sight;
 use lk_types::{NodeNo, Port, RealBallot};
 use log::{Log, debug};

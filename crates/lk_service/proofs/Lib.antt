@@ -1,6 +1,2 @@
-mod Chaining
-mod Receiving
-mod Replying
-mod Sending
 mod Trying
 mod Turning

@@ -2,9 +2,9 @@
 use Rattle.std.proofs.Common.{◌≡◌, ◌++◌, List, ℕ, true, false, Option, Some, None, [], ◌∷◌, take, refl, subst}
 use Rattle.std.specs.Prelude.{is_some, slice_get}
 use Rattle.std.specs.declared.net.socket_addr.SocketAddr.{SocketAddr}
-use Rattle.lk_service.specs.Questions.{Asker, Tries, TriesInVain, TriesUntil}
-use Rattle.lk_service.specs.declared.question.Question.{Question}
-use Rattle.lk_service.specs.declared.reply.Reply.{Reply}
+use Rattle.lk_client.specs.Questions.{Asker, Tries, TriesInVain, TriesUntil}
+use Rattle.lk_client.specs.declared.question.Question.{Question}
+use Rattle.lk_client.specs.declared.reply.Reply.{Reply}
 
 module _ {S : Type 0} {sent : S → List (SocketAddr × List ℕ)} {failures : S → ℕ} {next : S → Option (SocketAddr × List ℕ)} {q : Question} {bytes : List ℕ} where
   -- a port that is asked by equal bytes

@@ -9,13 +9,13 @@ use Rattle.lk_state.specs.Meanings.{Meaning}
 use Rattle.lk_step.specs.Letters.{LetterValue}
 use Rattle.lk_replica.specs.ReplicaValue.{ReplicaValue}
 use Rattle.lk_replica.specs.Revivals.{IsRefusedFor}
-use Rattle.lk_server.specs.Addresses.{AddressBook, IsSameOutside}
-use Rattle.lk_server.specs.Posts.{all_taken_as}
+use Rattle.lk_transport.specs.Addresses.{AddressBook, IsSameOutside}
+use Rattle.lk_transport.specs.Posts.{all_taken_as}
 use Rattle.lk_server.specs.Sayings.{SaysOf}
 use Rattle.lk_server.specs.Probes.{IsShown, AnswersKept}
 use Rattle.lk_server.specs.Servers.{ServerValue, HasWaited, TakesTurn as ServerTurn, LastTurn}
-use Rattle.lk_server.specs.declared.asked.Asked.{Asked}
-use Rattle.lk_service.specs.Chains.{Repeats}
+use Rattle.lk_transport.specs.declared.asked.Asked.{Asked}
+use Rattle.lk_transport.specs.Chains.{Repeats}
 use Rattle.lk_service.specs.Revivals.{StaysDown}
 use Rattle.lk_service.specs.Turns.{TakesTurn, BreaksOff, TellsFailure}
 

@@ -16,9 +16,9 @@ use Rattle.lk_replica.specs.Faults.{fault_number}
 use Rattle.lk_replica.specs.ReplicaValue.{ReplicaValue}
 use Rattle.lk_replica.specs.Revivals.{MayGoOn, IsRefusedFor}
 use Rattle.lk_replica.specs.declared.fault.ReplicaFault.{ReplicaFault}
-use Rattle.lk_server.specs.Faults.{replica_fault}
+use Rattle.lk_transport.specs.Faults.{replica_fault}
 use Rattle.lk_server.specs.Servers.{ServerValue}
-use Rattle.lk_server.specs.declared.fault.ServiceFault.{ServiceFault}
+use Rattle.lk_transport.specs.declared.fault.ServiceFault.{ServiceFault}
 
 -- a replica of this header comes up by what these disks have: it goes on in each history that they fit, and its files are no longer than they were, or
 -- else than a Base

@@ -6,12 +6,12 @@ use Rattle.lk_entries.specs.Values.{HeaderValue}
 use Rattle.lk_step.specs.Letters.{LetterValue}
 use Rattle.lk_replica.specs.ReplicaValue.{ReplicaValue}
 use Rattle.lk_seal.specs.declared.seals.Seals.{Seals}
-use Rattle.lk_server.specs.Addresses.{IsSameOutside}
-use Rattle.lk_server.specs.Posts.{all_taken_as}
+use Rattle.lk_transport.specs.Addresses.{IsSameOutside}
+use Rattle.lk_transport.specs.Posts.{all_taken_as}
 use Rattle.lk_server.specs.Probes.{IsShown, AnswersKept}
 use Rattle.lk_server.specs.Servers.{ServerValue, HasWaited, Turn, LastTurn, IsIdle}
-use Rattle.lk_server.specs.declared.asked.Asked.{Asked}
-use Rattle.lk_service.specs.Chains.{Repeats}
+use Rattle.lk_transport.specs.declared.asked.Asked.{Asked}
+use Rattle.lk_transport.specs.Chains.{Repeats}
 use Rattle.lk_service.specs.Digests.{genesis_digest}
 
 -- the server tells whether a call has ended its replica

@@ -3,8 +3,8 @@
 ghost use Rattle.std.specs.Prelude.{◌≡◌};
 
 use lk_disk::{FileDisk, MemoryDisk, Side, SystemFile};
-use lk_server::fault::ServiceFault;
-use lk_server::socket::{LocalSocket, local};
+use lk_transport::fault::ServiceFault;
+use lk_transport::socket::{LocalSocket, local};
 use std::alloc::Global;
 use std::fmt::Display;
 use std::fs::{Files, OpenFile, OpenOptions};

@@ -2,20 +2,20 @@
 
 ghost use Rattle.std.specs.Prelude.{◌≤◌};
 
-use crate::far::Far;
-use crate::question::{Heard, Question, datagram, next_reply, write_reply};
-use crate::reply::Reply;
+use lk_client::far::Far;
+use lk_client::question::{Heard, Question, datagram, next_reply, write_reply};
+use lk_client::reply::Reply;
 use crate::resources::Resources;
 use crate::running::revive;
 use lk_disk::MemoryDisk;
 use lk_entries::Header;
 use lk_replica::Replica;
-use lk_server::ear::Ear;
-use lk_server::fault::ServiceFault;
-use lk_server::outside::Outside;
+use lk_transport::ear::Ear;
+use lk_transport::fault::ServiceFault;
+use lk_transport::outside::Outside;
 use lk_server::pace::Pace;
 use lk_server::server::Server;
-use lk_server::socket::{Datagrams, LocalSocket, local};
+use lk_transport::socket::{Datagrams, LocalSocket, local};
 use lk_state::Machine;
 use lk_types::{ClientNo, Genesis, Member, NodeNo, Port, Request, RequestNumber};
 use lk_words::operation::read_operation;

@@ -7,7 +7,7 @@ use crate::folder::look_at_device;
 use crate::refusals::tell_refusal;
 use lk_disk::LogDisk;
 use lk_log::{LiveFile, look};
-use lk_server::fault::ServiceFault;
+use lk_transport::fault::ServiceFault;
 use lk_types::Ballot;
 use std::alloc::Global;
 use std::fs::Files;

@@ -2,7 +2,7 @@
 
 use crate::causes::{open_file, tell_cause, tell_closed};
 use lk_disk::{FileDisk, SystemFile};
-use lk_server::fault::ServiceFault;
+use lk_transport::fault::ServiceFault;
 use std::alloc::Global;
 use std::fs::{File, Files, OpenOptions, TryLockError};
 use std::io::Write;

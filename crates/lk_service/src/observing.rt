@@ -9,7 +9,7 @@ use lk_node::Node;
 use lk_replica::Replica;
 use lk_server::happened::Happened;
 use lk_server::server::Server;
-use lk_server::socket::Datagrams;
+use lk_transport::socket::Datagrams;
 use lk_state::Machine;
 use lk_types::{Members, NodeNo};
 

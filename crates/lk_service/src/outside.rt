@@ -8,12 +8,12 @@ ghost use Rattle.lk_service.specs.Turns.{AreSealsOf};
 
 use crate::causes::tell_cause;
 use crate::digest::genesis_digest;
-use crate::far::Far;
+use lk_client::far::Far;
 use lk_entries::Header;
 use lk_seal::{AskerSeals, Keys, Seals};
-use lk_server::fault::ServiceFault;
-use lk_server::hosts::Hosts;
-use lk_server::outside::Outside;
+use lk_transport::fault::ServiceFault;
+use lk_transport::hosts::Hosts;
+use lk_transport::outside::Outside;
 use lk_types::{NodeNo, Port};
 use lk_words::operation::node_of;
 use lk_words::word::split_word;

@@ -5,7 +5,7 @@ ghost use Rattle.std.specs.Prelude.{◌≡◌};
 use crate::causes::{FailureCause, tell_device};
 use lk_disk::{LogDisk, Side};
 use lk_entries::{Header, Stored, first_entry};
-use lk_server::fault::ServiceFault;
+use lk_transport::fault::ServiceFault;
 use std::alloc::Global;
 use std::io;
 use std::io::Write;

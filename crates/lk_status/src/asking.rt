@@ -3,9 +3,9 @@ ghost use Rattle.lk_status.specs.Rounds.{IsOfRound, AreOfRound};
 
 use crate::target::{Inquiry, report_with};
 use lk_probe::Report;
-use lk_server::ear::Ear;
-use lk_server::fault::ServiceFault;
-use lk_server::socket::Datagrams;
+use lk_transport::ear::Ear;
+use lk_transport::fault::ServiceFault;
+use lk_transport::socket::Datagrams;
 use std::alloc::Global;
 
 /// The receives of a round.

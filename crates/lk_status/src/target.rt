@@ -3,8 +3,8 @@
 ghost use Rattle.std.specs.Prelude.{◌≡◌, None};
 
 use lk_probe::{Probe, Report};
-use lk_server::fault::ServiceFault;
-use lk_service::far::Far;
+use lk_transport::fault::ServiceFault;
+use lk_client::far::Far;
 use lk_types::{ClientNo, NodeNo, Port};
 use lk_words::member::member_of;
 use lk_words::operation::port_of;

@@ -1,5 +1,5 @@
 use Rattle.std.proofs.Common.{refl}
-use Rattle.lk_server.specs.Posts.{all_taken_as}
+use Rattle.lk_transport.specs.Posts.{all_taken_as}
 use Rattle.lk_cluster.specs.Sealing.{IsSealed}
 use Rattle.lk_cluster.proofs.Continuing.{turn_continues}
 use Rattle.lk_cluster.proofs.Sealing.{seals_forge_nothing}

@@ -1,5 +1,5 @@
 use Rattle.std.proofs.Common.{◌≡◌, arith}
-use Rattle.lk_service.proofs.Chaining.{repeats_as, repeats_more}
+use Rattle.lk_transport.proofs.Chaining.{repeats_as, repeats_more}
 use Rattle.lk_service.proofs.Turning.{on_err, turns_end}
 use Rattle.lk_service.proofs.running.take_turns.Goals as goal
 

@@ -1,5 +1,5 @@
 -- So many turns were taken.
-use Rattle.lk_service.specs.Chains.{Repeats}
+use Rattle.lk_transport.specs.Chains.{Repeats}
 use Rattle.lk_service.specs.Turns.{TakesTurn}
 use Rattle.lk_service.proofs.Turning.{SaysOn}
 use Rattle.lk_service.proofs.running.take_turns.Given as goal

@@ -1,5 +1,5 @@
 use Rattle.std.proofs.Common.{rules, ◌≡◌, ◌∙◌, refl}
-use Rattle.lk_server.specs.Posts.{tray_of}
+use Rattle.lk_transport.specs.Posts.{tray_of}
 use Rattle.lk_server.specs.Servers.{tray_at}
 use Rattle.lk_server.proofs.Carrying.{same_post, hands_on_all, says_nothing}
 use Rattle.lk_server.proofs.server.Server.hand_over.Goals as goal

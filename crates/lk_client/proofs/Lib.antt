@@ -1,0 +1,3 @@
+mod Receiving
+mod Replying
+mod Sending

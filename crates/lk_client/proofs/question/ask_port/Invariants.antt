@@ -1,0 +1,14 @@
+-- The bytes went to the port, and none of the receives told anything.
+use Rattle.std.specs.Prelude.{◌≤◌, None}
+use Rattle.lk_transport.specs.Hearing.{next_of}
+use Rattle.lk_transport.specs.Chains.{Repeats}
+use Rattle.lk_client.specs.Questions.{Receives}
+use Rattle.lk_client.proofs.question.ask_port.Given as goal
+
+abbrev pub invariant-receives : goal.invariant-receives
+invariant-receives g l =
+    let sent = g.S.Datagrams.sent in
+    let failures = g.S.Datagrams.failures in
+    (l.followed ≤ 20)
+    × (g.S.Datagrams.is_telling → Repeats (Receives sent failures (next_of g.S.Datagrams.coming) l.question l.bytes None) l.counter
+    (record { socket = l.initial.socket; followed = l.initial.followed }) (record { socket = l.socket; followed = l.followed }))

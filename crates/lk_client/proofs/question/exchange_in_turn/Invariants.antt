@@ -1,0 +1,13 @@
+-- The bytes went to the ports in front, and none of them told anything.
+use Rattle.std.specs.Prelude.{◌≤◌, take}
+use Rattle.lk_transport.specs.Hearing.{next_of}
+use Rattle.lk_client.specs.Questions.{TriesInVain}
+use Rattle.lk_client.proofs.question.exchange_in_turn.Given as goal
+
+abbrev pub invariant-ports : goal.invariant-ports
+invariant-ports g l =
+    let sent = g.S.Datagrams.sent in
+    let failures = g.S.Datagrams.failures in
+    (l.followed ≤ 20)
+    × (g.S.Datagrams.is_telling → TriesInVain sent failures (next_of g.S.Datagrams.coming) l.question (take l.port-index l.turns) l.bytes.items
+    (record { socket = l.initial.socket; followed = 0 }) (record { socket = l.socket; followed = l.followed }))

@@ -1,0 +1,165 @@
+-- What a client asks, what it hears, and what it sends by that.
+use Rattle.std.specs.Net.Socket.{socket_ip, socket_port}
+use Rattle.std.specs.Prelude.{◌≡◌, ◌⊎◌, ◌+◌, ◌<◌, ℕ, nat_lt, Bool, true, false, Option, Some, None, List, [], ◌∷◌, ◌++◌, length, take, slice_get, if◌then◌else◌}
+use Rattle.std.specs.declared.net.ip_addr.IpAddr.{IpAddr}
+use Rattle.std.specs.declared.net.socket_addr.SocketAddr.{SocketAddr}
+use Rattle.lk_types.specs.declared.member.Member.{Member}
+use Rattle.lk_disk.specs.Disk.{one_more}
+use Rattle.lk_wire.specs.Grammar.{Spells}
+use Rattle.lk_wire.specs.declared.message.Content.TheVariants as content
+use Rattle.lk_wire.specs.declared.message.Message.{Message}
+use Rattle.lk_seal.specs.Seals.{key_list, framed_by, replied}
+use Rattle.lk_seal.specs.Seals as seals
+use Rattle.lk_transport.specs.Hosts.{host_of}
+use Rattle.lk_transport.specs.Chains.{Repeats}
+use Rattle.lk_client.specs.Replies.{reply_of}
+use Rattle.lk_client.specs.declared.far.Far.{Far}
+use Rattle.lk_client.specs.declared.question.Question.{Question}
+use Rattle.lk_client.specs.declared.question.Heard.{Heard}
+use Rattle.lk_client.specs.declared.question.Heard.TheVariants.{Nothing, Other, Reply}
+use Rattle.lk_client.specs.declared.reply.Reply.{Reply as ReplyValue}
+use Rattle.lk_client.specs.declared.reply.Reply.TheVariants.{Answer, Passed, Elsewhere}
+
+-- an address, and a port of it
+abbrev pub Place : Type 0
+Place = IpAddr × ℕ
+
+abbrev pub IsAt : Place → SocketAddr → Type 0
+IsAt p a = (socket_ip a ≡ p.0) × (socket_port a ≡ p.1)
+
+-- the address that is known, or else the other one
+abbrev pub known_or : Option IpAddr → IpAddr → IpAddr
+known_or (Some address) other = address
+known_or None other = other
+
+-- where a member is asked: where it lives, and where that is not known at the address that was asked first
+abbrev pub far_address : Far → Member → IpAddr
+far_address f m = known_or (host_of f.hosts m.node) f.address
+
+-- where the question is asked first
+abbrev pub first_place : Question → Place
+first_place q = (q.far.address, q.port)
+
+-- the message by which it is asked
+abbrev pub asking : Question → Message
+asking q = record { cluster = q.cluster; content = content.Request q.request }
+
+-- these are sent for it: the bytes of its message, in a frame of its client where there is a key
+abbrev pub IsAsked : Question → List ℕ → Type 0
+IsAsked q frame = (bytes : List ℕ) × Spells (asking q) bytes × (frame ≡ framed_by (key_list q.far.seals.keys) (seals.asking q.far.seals.cluster q.request.client) bytes)
+
+-- the datagram, out of its frame where there is a key, is that reply of a node of its cluster to the request
+abbrev pub IsReply : Question → List ℕ → ReplyValue → Type 0
+IsReply q bytes r = (node : ℕ) × Spells (reply_of q.cluster node q.request.client q.request.number r) (replied (key_list q.far.seals.keys) q.far.seals.cluster q.request.client bytes)
+
+-- what is heard where this comes next: a reply where that is one to the request, nothing where nothing comes
+abbrev pub Hears : Question → Option (SocketAddr × List ℕ) → Heard → Type 0
+Hears q next Nothing = next ≡ None
+Hears q next Other = (d : SocketAddr × List ℕ) × (next ≡ Some d) × ((r : ReplyValue) → IsReply q d.1 r → ⊥)
+Hears q next (Reply r) = (d : SocketAddr × List ℕ) × (next ≡ Some d) × IsReply q d.1 r
+
+-- where the request is sent again by what is heard: where fewer than 20 Elsewhere were followed, by one of them to its member
+abbrev pub followed_to : Far → Heard → ℕ → List Place
+followed_to f (Reply (Elsewhere m)) count = if nat_lt count 20 then (far_address f m, m.port) ∷ [] else []
+followed_to f (Reply (Answer a)) count = []
+followed_to f (Reply (Passed last)) count = []
+followed_to f Nothing count = []
+followed_to f Other count = []
+
+-- what is heard tells what becomes of the request, and so ends the exchange
+abbrev pub ended_by : Heard → Option ReplyValue
+ended_by (Reply (Elsewhere m)) = None
+ended_by (Reply (Answer a)) = Some (Answer a)
+ended_by (Reply (Passed last)) = Some (Passed last)
+ended_by Nothing = None
+ended_by Other = None
+
+-- the bytes were sent once, to that place, or a send failed, which is counted, and nothing was sent
+abbrev pub SendsOnce : Place → List ℕ → List (SocketAddr × List ℕ) → ℕ → List (SocketAddr × List ℕ) → ℕ → Type 0
+SendsOnce place bytes old failures new failures_new =
+    ((to : SocketAddr) × IsAt place to × (new ≡ old ++ (to, bytes) ∷ []) × (failures_new ≡ failures))
+    ⊎ ((new ≡ old) × (failures_new ≡ one_more failures))
+
+-- so to each of these places in turn, and nothing else
+abbrev pub SendsEach : List Place → List ℕ → List (SocketAddr × List ℕ) → ℕ → List (SocketAddr × List ℕ) → ℕ → Type 0
+SendsEach [] bytes old failures new failures_new = (new ≡ old) × (failures_new ≡ failures)
+SendsEach (place ∷ places) bytes old failures new failures_new =
+    (mid : List (SocketAddr × List ℕ)) × (failures_mid : ℕ) × SendsOnce place bytes old failures mid failures_mid
+    × SendsEach places bytes mid failures_mid new failures_new
+
+-- it tells what becomes of the request, and not where to ask
+abbrev pub IsTold : ReplyValue → Type 0
+IsTold (Answer a) = Unit {0}
+IsTold (Passed last) = Unit {0}
+IsTold (Elsewhere m) = ⊥
+
+-- a client that has asked: its socket, and how many Elsewhere it has followed
+pub record Asker (S : Type 0) : Type 0 where
+  pub socket : S
+  pub followed : ℕ
+
+-- what a kind of socket has sent, how often a send of it has failed, and what comes to it next; and the question of a client at such a socket
+module _ {S : Type 0} (sent : S → List (SocketAddr × List ℕ)) (failures : S → ℕ) (next : S → Option (SocketAddr × List ℕ)) (q : Question) where
+  -- what comes next is heard, and told nothing or this; where it is an Elsewhere that is followed the bytes go to the member that it tells,
+  -- and nothing else is sent
+  pub record Receives (bytes : List ℕ) (told : Option ReplyValue) (old new : Asker S) : Type 0 where
+    pub heard : Heard
+    pub hears : Hears q (next old.socket) heard
+    pub tells : told ≡ ended_by heard
+    pub follows : new.followed ≡ old.followed + length (followed_to q.far heard old.followed)
+    pub sends : SendsEach (followed_to q.far heard old.followed) bytes (sent old.socket) (failures old.socket) (sent new.socket) (failures new.socket)
+
+  -- it was told this after fewer than so many receives that told nothing, or so many have told nothing
+  abbrev pub WaitsFor : ℕ → List ℕ → Option ReplyValue → Asker S → Asker S → Type 0
+  WaitsFor most bytes None old new = Repeats (Receives bytes None) most old new
+  WaitsFor most bytes (Some reply) old new =
+      (count : ℕ) × (count < most) × (last : Asker S) × Repeats (Receives bytes None) count old last × Receives bytes (Some reply) last new
+
+  abbrev pub Waits : List ℕ → Option ReplyValue → Asker S → Asker S → Type 0
+  Waits = WaitsFor 50
+
+  -- the bytes of the question went to its first place, and then it waited
+  pub record Exchanges (told : Option ReplyValue) (old new : S) : Type 0 where
+    pub bytes : List ℕ
+    pub spelled : IsAsked q bytes
+    pub begun : S
+    pub asks : SendsOnce (first_place q) bytes (sent old) (failures old) (sent begun) (failures begun)
+    pub followed : ℕ
+    pub waits : Waits bytes told (record { socket = begun; followed = 0 }) (record { socket = new; followed = followed })
+
+  -- ---- several ports
+
+  -- the bytes went to the port of the question's address, and then it waited for 5 receives
+  pub record Tries (port : ℕ) (bytes : List ℕ) (told : Option ReplyValue) (old new : Asker S) : Type 0 where
+    pub begun : S
+    pub asks : SendsOnce (q.far.address, port) bytes (sent old.socket) (failures old.socket) (sent begun) (failures begun)
+    pub waits : WaitsFor 5 bytes told (record { socket = begun; followed = old.followed }) new
+
+  -- so with each of these ports in turn, and none told anything
+  abbrev pub TriesInVain : List ℕ → List ℕ → Asker S → Asker S → Type 0
+  TriesInVain [] bytes old new = new ≡ old
+  TriesInVain (port ∷ ports) bytes old new = (mid : Asker S) × Tries port bytes None old mid × TriesInVain ports bytes mid new
+
+  -- so with all of them, or with each in turn until it was told this
+  abbrev pub TriesUntil : List ℕ → List ℕ → Option ReplyValue → Asker S → Asker S → Type 0
+  TriesUntil ports bytes None old new = TriesInVain ports bytes old new
+  TriesUntil ports bytes (Some reply) old new =
+      (count : ℕ) × (port : ℕ) × (slice_get ports count ≡ Some port) × (last : Asker S) × TriesInVain (take count ports) bytes old last
+      × Tries port bytes (Some reply) last new
+
+  -- the bytes of the question went to these ports, one after another, until it was told something
+  pub record ExchangesInTurn (turns : List ℕ) (told : Option ReplyValue) (old new : S) : Type 0 where
+    pub bytes : List ℕ
+    pub spelled : IsAsked q bytes
+    pub followed : ℕ
+    pub tries : TriesUntil turns bytes told (record { socket = old; followed = 0 }) (record { socket = new; followed = followed })
+
+  -- so to the question's own port alone where there are no others
+  abbrev pub Asks : List ℕ → Option ReplyValue → S → S → Type 0
+  Asks [] told old new = Exchanges told old new
+  Asks (port ∷ ports) told old new = ExchangesInTurn (port ∷ ports) told old new
+
+  -- it has asked, and was told what becomes of the request, or has waited in vain
+  abbrev pub Comes : List ℕ → Bool → S → S → Type 0
+  Comes turns true old new = (reply : ReplyValue) × Asks turns (Some reply) old new
+  Comes turns false old new = Asks turns None old new

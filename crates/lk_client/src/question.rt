@@ -1,0 +1,304 @@
+//! A client that asks once.
+
+ghost use Rattle.std.specs.Prelude.{◌≡◌, ◌≤◌, ◌⊎◌, ◌↔◌, ◌∷◌, ℕ, true, List, Some, IfOk, OnOk, IfErr, OnErr, IfSome, IsSomeAnd, length};
+ghost use Rattle.lk_wire.specs.Grammar.{Spells};
+ghost use Rattle.lk_transport.specs.Hearing.{next_of};
+ghost use Rattle.lk_client.specs.Questions.{asking, first_place, IsAsked, Place, Hears, SendsOnce, SendsEach, Receives, Exchanges, Tries, ExchangesInTurn, Asks, Comes, IsTold};
+ghost use Rattle.lk_client.specs.declared.reply.Reply.{Reply as ReplyValue};
+
+use crate::far::Far;
+use crate::reply::{Reply, read_reply};
+use bytes::BytesMut;
+use lk_transport::ear::Ear;
+use lk_transport::fault::ServiceFault;
+use lk_transport::socket::Datagrams;
+use lk_types::{Port, Request};
+use lk_wire::{Content, Message, write};
+use std::alloc::Global;
+use std::io;
+use std::io::Write;
+use std::net::{IpAddr, SocketAddr};
+
+/// The receives of 100 ms until nothing is waited for any more.
+const RECEIVES: u32 = 50;
+/// So many of them for each port, where there are several.
+const EACH: u32 = 5;
+/// The Elsewhere that are followed.
+const FOLLOWED: u32 = 20;
+
+/// A request, and where it is asked first.
+#[derive(Drop)]
+pub struct Question {
+    pub cluster: u64,
+    pub port: Port,
+    pub request: Request,
+    pub far: Far,
+}
+
+/// The bytes of a message. It refuses where memory was refused.
+fn written(alloc: Global, message: &Message) -> Result<BytesMut, ServiceFault>
+    ensures spells { IfOk result (λ bytes. Spells message.now bytes.items) }
+    ensures only { IfErr result (λ f. f ≡ ServiceFault.NoMemory) }
+{
+    let mut bytes = BytesMut::new(alloc);
+    match write(message, &mut bytes) {
+        Ok(()) => Ok(bytes),
+        Err(_) => Err(ServiceFault::NoMemory),
+    }
+}
+
+/// The bytes of the request.
+pub fn datagram(alloc: Global, question: &Question) -> Result<BytesMut, ServiceFault>
+    ensures asks { IfOk result (λ bytes. Spells (asking question.now) bytes.items) }
+    ensures only { IfErr result (λ f. f ≡ ServiceFault.NoMemory) }
+{
+    let message = Message {
+        cluster: question.cluster,
+        content: Content::Request(question.request.copy()),
+    };
+    written(alloc, &message)
+}
+
+/// What comes next to a client that has asked.
+#[derive(Clone, Copy)]
+pub enum Heard {
+    Nothing,
+    /// A datagram that is no reply to the request.
+    Other,
+    Reply(Reply),
+}
+
+/// What comes next to whoever asked that.
+pub fn next_reply<S: Datagrams>(ear: &mut Ear, socket: &mut S, question: &Question) -> Heard
+    ensures heard { S.is_telling → Hears question.now (next_of S.coming socket.old) result }
+    ensures unchanged { S.sent socket.new ≡ S.sent socket.old }
+    ensures spares { S.failures socket.new ≡ S.failures socket.old }
+{
+    ear.receive(socket);
+    let Some((bytes, _)) = ear.heard() else {
+        return Heard::Nothing;
+    };
+    match read_reply(
+        question.cluster,
+        &question.request,
+        question
+            .far
+            .seals
+            .heard(question.request.client.get(), bytes),
+    ) {
+        Some(reply) => Heard::Reply(reply),
+        None => Heard::Other,
+    }
+}
+
+/// The bytes that are sent for the request: its frame, where there is a key. It refuses where memory was refused.
+fn asked(alloc: Global, question: &Question) -> Result<Vec<u8>, ServiceFault>
+    ensures asks { IfOk result (λ bytes. IsAsked question.now bytes.items) }
+    ensures only { IfErr result (λ f. f ≡ ServiceFault.NoMemory) }
+{
+    let bytes = datagram(alloc, question)?;
+    let mut frame = Vec::new(alloc);
+    let client = question.request.client.get();
+    let framed = question.far.seals.frame_of(client, &bytes, &mut frame)?;
+    Ok(framed.to_vec(alloc)?)
+}
+
+/// Sends bytes to a port of an address. What could not be sent is lost.
+fn send<S: Datagrams>(socket: &mut S, address: IpAddr, port: Port, bytes: &[u8])
+    ensures { S.is_telling → SendsOnce (address, port) bytes.now (S.sent socket.old) (S.failures socket.old) (S.sent socket.new) (S.failures socket.new) }
+{
+    let place = SocketAddr::from((address, port.get()));
+    let _ = socket.send_to(place, bytes);
+}
+
+/// What has become of the request, where that comes next. An Elsewhere is followed, where fewer than 20 were: the bytes go
+/// to its member.
+fn take_next<S: Datagrams>(
+    ear: &mut Ear,
+    socket: &mut S,
+    question: &Question,
+    bytes: &[u8],
+    followed: &mut u32,
+) -> Option<Reply>
+    // What comes next is heard, and ends the exchange or is followed, to the member that it tells, by what it is.
+    ensures heard { S.is_telling → Receives S.sent S.failures (next_of S.coming) question.now bytes.now result
+        (record { socket = socket.old; followed = followed.old }) (record { socket = socket.new; followed = followed.new }) }
+    ensures told { IfSome result IsTold }
+    ensures most { followed.old ≤ 20 → followed.new ≤ 20 }
+{
+    match next_reply(ear, socket, question) {
+        Heard::Reply(Reply::Elsewhere(member)) if *followed < FOLLOWED => {
+            *followed += 1;
+            send(socket, question.far.address_of(&member), member.port, bytes);
+            None
+        }
+        Heard::Reply(Reply::Elsewhere(_)) | Heard::Other | Heard::Nothing => None,
+        Heard::Reply(reply) => Some(reply),
+    }
+}
+
+/// Sends the request to its port, follows the first 20 Elsewhere, and gives what it is replied, or `None` where
+/// 50 receives bring no such reply. What could not be sent is lost.
+pub fn exchange<S: Datagrams>(
+    alloc: Global,
+    socket: &mut S,
+    question: &Question,
+) -> Result<Option<Reply>, ServiceFault>
+    // The bytes of the question go to its first place and then to at most 20 others, each once, and nothing else is sent.
+    ensures sends { S.is_telling → OnOk result ((bytes : List ℕ) × (others : List Place) × IsAsked question.now bytes × (length others ≤ 20)
+        × SendsEach (first_place question.now ∷ others) bytes (S.sent socket.old) (S.failures socket.old) (S.sent socket.new) (S.failures socket.new)) }
+    // Of what comes next after that it hears one after another, at most 50, until it is told something: to follow an Elsewhere that it hears it
+    // sends to the member that this tells, and else it sends nothing more.
+    ensures hears { S.is_telling → IfOk result (λ told. Exchanges S.sent S.failures (next_of S.coming) question.now told socket.old socket.new) }
+    ensures told { IfOk result (λ reply. IfSome reply IsTold) }
+    ensures unchanged { OnErr result (socket.new ≡ socket.old) }
+    ensures only { IfErr result (λ f. f ≡ ServiceFault.NoMemory) }
+{
+    let bytes = asked(alloc, question)?;
+    send(socket, question.far.address, question.port, &bytes);
+    let (mut ear, mut followed) = (Ear::new(), 0);
+    'receives: for _ in 0..RECEIVES {
+        let reply = take_next(&mut ear, socket, question, &bytes, &mut followed);
+        if reply.is_some() {
+            return Ok(reply);
+        }
+    }
+    Ok(None)
+}
+
+/// Sends the request to a port, and gives what it is replied within 5 receives, or `None`.
+fn ask_port<S: Datagrams>(
+    ear: &mut Ear,
+    socket: &mut S,
+    question: &Question,
+    port: Port,
+    bytes: &[u8],
+    followed: &mut u32,
+) -> Option<Reply>
+    requires { followed.old ≤ 20 }
+    // The bytes go to the port, and of what comes next it hears at most 5, until it is told something.
+    ensures tries { S.is_telling → Tries S.sent S.failures (next_of S.coming) question.now port bytes.now result
+        (record { socket = socket.old; followed = followed.old }) (record { socket = socket.new; followed = followed.new }) }
+    ensures told { IfSome result IsTold }
+    ensures most { followed.new ≤ 20 }
+{
+    send(socket, question.far.address, port, bytes);
+    'receives: for _ in 0..EACH {
+        let reply = take_next(ear, socket, question, bytes, followed);
+        if reply.is_some() {
+            return reply;
+        }
+    }
+    None
+}
+
+/// Sends the request to these ports of its address in turn, to the next where 5 receives bring no reply, and gives what it is
+/// replied, or `None` where none of them brings a reply. The first 20 Elsewhere are followed. What could not be sent is lost.
+pub fn exchange_in_turn<S: Datagrams>(
+    alloc: Global,
+    socket: &mut S,
+    question: &Question,
+    turns: &[Port],
+) -> Result<Option<Reply>, ServiceFault>
+    // The bytes of the question go to each port in turn until it is told something, and further only to the members of Elsewhere that it hears.
+    ensures tries { S.is_telling → IfOk result (λ told. ExchangesInTurn S.sent S.failures (next_of S.coming) question.now turns.now told socket.old socket.new) }
+    ensures told { IfOk result (λ reply. IfSome reply IsTold) }
+    ensures unchanged { OnErr result (socket.new ≡ socket.old) }
+    ensures only { IfErr result (λ f. f ≡ ServiceFault.NoMemory) }
+{
+    let bytes = asked(alloc, question)?;
+    let (mut ear, mut followed) = (Ear::new(), 0);
+    'ports: for port in turns {
+        let reply = ask_port(&mut ear, socket, question, *port, &bytes, &mut followed);
+        if reply.is_some() {
+            return Ok(reply);
+        }
+    }
+    Ok(None)
+}
+
+/// Asks the question's port, or these ports in turn where there are some.
+fn exchange_any<S: Datagrams>(
+    alloc: Global,
+    socket: &mut S,
+    question: &Question,
+    turns: &[Port],
+) -> Result<Option<Reply>, ServiceFault>
+    ensures asks { S.is_telling → IfOk result (λ told. Asks S.sent S.failures (next_of S.coming) question.now turns.now told socket.old socket.new) }
+    ensures told { IfOk result (λ reply. IfSome reply IsTold) }
+    ensures unchanged { OnErr result (socket.new ≡ socket.old) }
+    ensures only { IfErr result (λ f. f ≡ ServiceFault.NoMemory) }
+{
+    match turns {
+        [] => exchange(alloc, socket, question),
+        turns => exchange_in_turn(alloc, socket, question, turns),
+    }
+}
+
+/// Writes an answer's text or `passed LAST` in a line. Whether the reply is one of these.
+fn write_told<W: Write>(reply: &Reply, out: &mut W) -> io::Result<bool>
+    ensures told { IfOk result (λ is_told. is_told ≡ true ↔ IsTold reply.now) }
+{
+    match reply {
+        Reply::Answer(answer) => writeln!(out, "{answer}")?,
+        Reply::Passed(last) => writeln!(out, "passed {}", last.get())?,
+        Reply::Elsewhere(_) => return Ok(false),
+    }
+    Ok(true)
+}
+
+/// Writes what was replied: an answer's text, `passed LAST`, or `no answer`. Whether it was an answer or a Passed.
+pub fn write_reply<W: Write>(reply: Option<Reply>, out: &mut W) -> io::Result<bool>
+    ensures told { IfOk result (λ is_told. is_told ≡ true ↔ IsSomeAnd reply IsTold) }
+{
+    let is_told = match reply {
+        Some(reply) => write_told(&reply, out)?,
+        None => false,
+    };
+    if !is_told {
+        out.write_all(b"no answer\n")?;
+    }
+    Ok(is_told)
+}
+
+/// Asks, and prints what is replied. Whether it was told what becomes of the request.
+///
+/// It refuses where memory was refused for the request, and where the output could not be written.
+fn ask_and_write<S: Datagrams, W: Write>(
+    alloc: Global,
+    socket: &mut S,
+    question: &Question,
+    turns: &[Port],
+    out: &mut W,
+) -> Result<bool, ServiceFault>
+    // It is told exactly where the exchange came to a reply.
+    ensures told { S.is_telling → IfOk result (λ is_told. Comes S.sent S.failures (next_of S.coming) question.now turns.now is_told socket.old socket.new) }
+    ensures only { IfErr result (λ f. (f ≡ ServiceFault.NoMemory) ⊎ (f ≡ ServiceFault.Write)) }
+{
+    let reply = exchange_any(alloc, socket, question, turns)?;
+    match (write_reply(reply, out), out.flush()) {
+        (Ok(is_told), Ok(())) => Ok(is_told),
+        _ => Err(ServiceFault::Write),
+    }
+}
+
+/// Asks the question's port, or these ports in turn where there are some, and prints what is replied. The status is 0; 1 where nothing was, which is printed as `no answer`, and where a
+/// fault is told on standard error.
+pub fn ask<S: Datagrams, W: Write, E: Write>(
+    alloc: Global,
+    socket: &mut S,
+    question: &Question,
+    turns: &[Port],
+    out: &mut W,
+    err: &mut E,
+) -> u8
+    ensures status { result ≤ 1 }
+    // Status 0 only where it has asked, and was told what becomes of the request.
+    ensures asked { S.is_telling → result ≡ 0 → (reply : ReplyValue) × Asks S.sent S.failures (next_of S.coming) question.now turns.now (Some reply) socket.old socket.new }
+{
+    match ask_and_write(alloc, socket, question, turns, out) {
+        Ok(true) => 0,
+        Ok(false) => 1,
+        Err(fault) => fault.tell(err),
+    }
+}

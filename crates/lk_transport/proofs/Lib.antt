@@ -1,0 +1,3 @@
+pub mod Chaining
+mod Books
+mod Cutting

@@ -1,0 +1,132 @@
+//! Where clients and nodes are: from where they wrote last, where nodes live, and by which keys they are known.
+
+ghost use Rattle.std.specs.Prelude.{◌≡◌, ◌≢◌, ℕ, Some, None, min};
+ghost use Rattle.lk_types.specs.Ranges.{IsClient};
+ghost use Rattle.lk_transport.specs.Addresses.{client_at, node_at, node_in, place_in, moved_up, IsSameOutside};
+ghost use Rattle.lk_transport.specs.Hosts.{host_of};
+
+use crate::hosts::Hosts;
+use crate::outside::Outside;
+use lk_seal::Seals;
+use lk_types::{ClientNo, NodeNo};
+use std::marker::Model;
+use std::net::{IpAddr, SocketAddr};
+
+/// The clients that may write.
+const CLIENTS: usize = 256;
+/// The nodes whose addresses are kept. A node of the window has a port, so these are for the others that ask.
+const NODES: usize = 64;
+
+/// The address from which each client wrote last, and those of the last 64 nodes that wrote. It takes no memory beside
+/// itself, whatever comes in.
+#[derive(Drop)]
+pub struct Addresses {
+    clients: [Option<SocketAddr>; CLIENTS],
+    // those that wrote last stand first
+    nodes: [Option<(NodeNo, SocketAddr)>; NODES],
+    hosts: Hosts,
+    seals: Seals,
+}
+
+impl Model for Addresses {
+    ghost use Rattle.lk_transport.specs.Addresses.{AddressBook};
+
+    ghost Value = { AddressBook };
+
+    ghost view = { λ a. record { clients = a.clients; nodes = a.nodes; hosts = a.hosts; seals = a.seals } };
+}
+
+/// The address that the first of the places of a node has.
+fn address_in(places: &[Option<(NodeNo, SocketAddr)>], node: NodeNo) -> Option<SocketAddr>
+    ensures { result ≡ node_in places.now node }
+{
+    for place in places {
+        match place {
+            Some((other, from)) if *other == node => return Some(*from),
+            _ => {}
+        }
+    }
+    None
+}
+
+impl Addresses {
+    /// Nobody has written.
+    pub fn new(outside: Outside) -> Addresses
+        ensures clients { (c : ℕ) → IsClient c → client_at result c ≡ None }
+        ensures nodes { (n : ℕ) → node_at result n ≡ None }
+        ensures hosts { result.hosts ≡ outside.hosts }
+        ensures seals { result.seals ≡ outside.seals }
+    {
+        let Outside { hosts, seals } = outside;
+        Addresses {
+            clients: [None; CLIENTS],
+            nodes: [None; NODES],
+            hosts,
+            seals,
+        }
+    }
+
+    /// The address at which a node lives, where it is known.
+    pub fn host(&self, node: NodeNo) -> Option<IpAddr>
+        ensures { result ≡ host_of self.now.hosts node }
+    {
+        self.hosts.address(node)
+    }
+
+    /// By which keys nodes and clients are known.
+    pub fn seals(&self) -> &Seals
+        ensures { result.now ≡ self.now.seals }
+    {
+        &self.seals
+    }
+
+    /// The address from which the client wrote last.
+    pub fn client(&self, client: ClientNo) -> Option<SocketAddr>
+        ensures { result ≡ client_at self.now client }
+    {
+        self.clients[client.get() as usize - 1]
+    }
+
+    /// A client wrote.
+    pub fn hear_client(&mut self, client: ClientNo, from: SocketAddr)
+        ensures own { client_at self.new client ≡ Some from }
+        ensures others { (c : ℕ) → IsClient c → c ≢ client → client_at self.new c ≡ client_at self.old c }
+        ensures nodes { self.new.nodes ≡ self.old.nodes }
+        ensures outside { IsSameOutside self.old self.new }
+    {
+        self.clients[client.get() as usize - 1] = Some(from);
+    }
+
+    /// The address from which the node wrote last, if it is one of the last 64 that did.
+    pub fn node(&self, node: NodeNo) -> Option<SocketAddr>
+        ensures { result ≡ node_at self.now node }
+    {
+        address_in(&self.nodes, node)
+    }
+
+    // The place of a node, or the last one.
+    fn place_of(&self, node: NodeNo) -> usize
+        ensures { result ≡ min (place_in self.now.nodes node) 63 }
+    {
+        let mut at = 0;
+        for place in &self.nodes {
+            match place {
+                Some((other, _)) if *other == node => return at,
+                _ => at += 1,
+            }
+        }
+        NODES - 1
+    }
+
+    /// A node wrote: it stands first from now on. Where all places are taken, the node that wrote longest ago is dropped.
+    pub fn hear_node(&mut self, node: NodeNo, from: SocketAddr)
+        ensures own { node_at self.new node ≡ Some from }
+        ensures places { self.new.nodes ≡ moved_up self.old.nodes node from }
+        ensures clients { self.new.clients ≡ self.old.clients }
+        ensures outside { IsSameOutside self.old self.new }
+    {
+        let place = self.place_of(node);
+        self.nodes[..=place].rotate_right(1);
+        self.nodes[0] = Some((node, from));
+    }
+}

@@ -1,0 +1,96 @@
+//! The place into which datagrams come.
+
+ghost use Rattle.std.specs.Prelude.{◌≡◌, ◌++◌, Some, None, IfSome, IsNone};
+ghost use Rattle.lk_transport.specs.Hearing.{first_asked, listed, next_of};
+
+use crate::asked::Asked;
+use crate::socket::Datagrams;
+use lk_seal::OVERHEAD;
+use lk_types::limits::MAX_DATAGRAM;
+use std::marker::Model;
+use std::net::SocketAddr;
+
+/// A place for the datagram that came last, and for a probe that is to be answered. It is made once, for all that come.
+#[derive(Drop)]
+pub struct Ear {
+    // by a byte longer than the frame of the longest datagram, so that one that is cut does not read
+    buffer: [u8; MAX_DATAGRAM + OVERHEAD + 1],
+    // how long the datagram is that came last, and from where it came, if one did
+    last: Option<(usize, SocketAddr)>,
+    asked: Option<Asked>,
+}
+
+impl Model for Ear {
+    ghost use Rattle.std.specs.Prelude.{◌≤◌, IfSome};
+    ghost use Rattle.lk_transport.specs.Hearing.{EarValue, heard_in};
+
+    ghost Value = { EarValue };
+
+    ghost invariant = { λ e. IfSome e.last (λ l. l.0 ≤ 8229) };
+
+    ghost view = { λ e. record { last = heard_in e.buffer e.last; asked = e.asked } };
+}
+
+impl Ear {
+    /// Nothing has come.
+    pub fn new() -> Ear
+        ensures { result ≡ record { last = None; asked = None } }
+    {
+        Ear {
+            buffer: [0; MAX_DATAGRAM + OVERHEAD + 1],
+            last: None,
+            asked: None,
+        }
+    }
+
+    /// Hears the next datagram of a socket: its own bytes, and none of an earlier one; or nothing, where none came within 100 ms, or the
+    /// receive failed.
+    pub fn receive<S: Datagrams>(&mut self, socket: &mut S)
+        ensures comes { S.is_telling → S.coming socket.old ≡ listed self.new.last ++ S.coming socket.new }
+        ensures next { S.is_telling → next_of S.coming socket.old ≡ self.new.last }
+        ensures asked { self.new.asked ≡ self.old.asked }
+        ensures unchanged { S.sent socket.new ≡ S.sent socket.old }
+        ensures spares { S.failures socket.new ≡ S.failures socket.old }
+    {
+        self.last = socket.receive(&mut self.buffer);
+    }
+
+    /// The same of a datagram that waits at the socket already; or nothing, where none does.
+    pub fn receive_waiting<S: Datagrams>(&mut self, socket: &mut S)
+        ensures comes { S.is_telling → S.coming socket.old ≡ listed self.new.last ++ S.coming socket.new }
+        ensures next { S.is_telling → next_of S.coming socket.old ≡ self.new.last }
+        ensures asked { self.new.asked ≡ self.old.asked }
+        ensures unchanged { S.sent socket.new ≡ S.sent socket.old }
+        ensures spares { S.failures socket.new ≡ S.failures socket.old }
+    {
+        self.last = socket.receive_waiting(&mut self.buffer);
+    }
+
+    /// What was heard last, and from where it came.
+    pub fn heard(&self) -> Option<(&[u8], SocketAddr)>
+        ensures some { IfSome result (λ r. self.now.last ≡ Some (r.1, r.0.now)) }
+        ensures none { IsNone result → self.now.last ≡ None }
+    {
+        let Some((length, from)) = self.last else {
+            return None;
+        };
+        Some((&self.buffer[..length], from))
+    }
+
+    /// Keeps a probe that is to be answered, if there is one and none is kept yet.
+    pub fn keep(&mut self, asked: Option<Asked>)
+        ensures { self.new ≡ record self.old { asked = first_asked self.old.asked asked } }
+    {
+        if self.asked.is_none() {
+            self.asked = asked;
+        }
+    }
+
+    /// Takes out the probe that is kept.
+    pub fn take_asked(&mut self) -> Option<Asked>
+        ensures value { result ≡ self.old.asked }
+        ensures rest { self.new ≡ record self.old { asked = None } }
+    {
+        self.asked.take()
+    }
+}

@@ -1,0 +1,145 @@
+//! Why a command of the service ended early.
+
+ghost use Rattle.std.specs.Prelude.{◌≡◌};
+
+use lk_disk::CannotOpen;
+use lk_log::StoreFault;
+use lk_replica::ReplicaFault;
+use lk_state::UnpackFault;
+use lk_types::NoMemory;
+use std::alloc::{AllocError, AllocFailed};
+use std::io::Write;
+
+/// Why a command ended early. Its text is the last line of standard error.
+#[derive(Clone, Copy, Debug)]
+pub enum ServiceFault {
+    /// A folder, a file or a socket did not open.
+    CannotOpen,
+    /// Fault 7: the files failed.
+    Device,
+    /// Fault 8: memory was refused.
+    NoMemory,
+    /// Fault 9: the store is damaged.
+    Damaged,
+    /// Fault 10: the store is another node's or another cluster's.
+    WrongStore,
+    /// Fault 11: the store has failed before.
+    Failed,
+    /// Fault 14: the node was refused memory.
+    Halted,
+    /// Fault 15: a datagram was not sent. A server passes over it.
+    Send,
+    /// Fault 24: the output could not be written.
+    Write,
+}
+
+impl ServiceFault {
+    ghost use Rattle.lk_transport.specs.Faults.{replica_fault};
+
+    /// The fault that a replica's is.
+    pub fn of_replica(fault: &ReplicaFault) -> ServiceFault
+        ensures { result ≡ replica_fault fault.now }
+    {
+        match fault {
+            ReplicaFault::Device => ServiceFault::Device,
+            ReplicaFault::NoMemory => ServiceFault::NoMemory,
+            ReplicaFault::Damaged => ServiceFault::Damaged,
+            ReplicaFault::WrongStore => ServiceFault::WrongStore,
+            ReplicaFault::Failed => ServiceFault::Failed,
+            ReplicaFault::Halted => ServiceFault::Halted,
+            ReplicaFault::Send(_) => ServiceFault::Send,
+        }
+    }
+
+    /// Its line.
+    pub fn text(self) -> &'static str {
+        match self {
+            ServiceFault::CannotOpen => "cannot open\n",
+            ServiceFault::Device => "fault 7\n",
+            ServiceFault::NoMemory => "fault 8\n",
+            ServiceFault::Damaged => "fault 9\n",
+            ServiceFault::WrongStore => "fault 10\n",
+            ServiceFault::Failed => "fault 11\n",
+            ServiceFault::Halted => "fault 14\n",
+            ServiceFault::Send => "fault 15\n",
+            ServiceFault::Write => "fault 24\n",
+        }
+    }
+
+    /// Tells it in a line of standard error. The status is 1.
+    pub fn tell<E: Write>(self, err: &mut E) -> u8
+        ensures { result ≡ 1 }
+    {
+        let _ = err.write_all(self.text().as_bytes());
+        1
+    }
+}
+
+impl From<CannotOpen> for ServiceFault {
+    ghost use Rattle.lk_transport.specs.declared.fault.ServiceFault.TheVariants.{CannotOpen as closed};
+
+    ghost from_gives = { λ _ e. e ≡ closed };
+
+    fn from(_: CannotOpen) -> ServiceFault {
+        ServiceFault::CannotOpen
+    }
+}
+
+impl From<AllocError> for ServiceFault {
+    ghost use Rattle.lk_transport.specs.declared.fault.ServiceFault.TheVariants.{NoMemory as memory};
+
+    ghost from_gives = { λ _ e. e ≡ memory };
+
+    fn from(_: AllocError) -> ServiceFault {
+        ServiceFault::NoMemory
+    }
+}
+
+impl<T: Drop> From<AllocFailed<T>> for ServiceFault {
+    ghost use Rattle.lk_transport.specs.declared.fault.ServiceFault.TheVariants.{NoMemory as memory};
+
+    ghost from_gives = { λ _ e. e ≡ memory };
+
+    fn from(_: AllocFailed<T>) -> ServiceFault {
+        ServiceFault::NoMemory
+    }
+}
+
+impl From<StoreFault> for ServiceFault {
+    ghost use Rattle.lk_transport.specs.Faults.{fault_of};
+
+    ghost from_gives = { λ f e. e ≡ fault_of f };
+
+    fn from(fault: StoreFault) -> ServiceFault {
+        match fault {
+            StoreFault::Device => ServiceFault::Device,
+            StoreFault::NoMemory => ServiceFault::NoMemory,
+            StoreFault::Damaged => ServiceFault::Damaged,
+            StoreFault::WrongStore => ServiceFault::WrongStore,
+            StoreFault::Failed => ServiceFault::Failed,
+        }
+    }
+}
+
+impl From<NoMemory> for ServiceFault {
+    ghost use Rattle.lk_transport.specs.declared.fault.ServiceFault.TheVariants.{NoMemory as memory};
+
+    ghost from_gives = { λ _ e. e ≡ memory };
+
+    fn from(_: NoMemory) -> ServiceFault {
+        ServiceFault::NoMemory
+    }
+}
+
+impl From<UnpackFault> for ServiceFault {
+    ghost use Rattle.lk_transport.specs.Faults.{unpack_fault};
+
+    ghost from_gives = { λ f e. e ≡ unpack_fault f };
+
+    fn from(fault: UnpackFault) -> ServiceFault {
+        match fault {
+            UnpackFault::NotPacked => ServiceFault::Damaged,
+            UnpackFault::NoMemory => ServiceFault::NoMemory,
+        }
+    }
+}

@@ -1,0 +1,38 @@
+//! At which addresses nodes live.
+
+ghost use Rattle.std.specs.Prelude.{◌≡◌, ℕ, Some, None};
+ghost use Rattle.lk_transport.specs.Hosts.{host_in, host_of};
+
+use lk_types::NodeNo;
+use std::net::{IpAddr, Ipv4Addr};
+
+/// At which addresses nodes live: all at 127.0.0.1, or each where a list says.
+#[derive(Drop)]
+pub enum Hosts {
+    Local,
+    Listed(Vec<(NodeNo, IpAddr)>),
+}
+
+/// The address that the first of the lines of a node has.
+fn address_in(lines: &[(NodeNo, IpAddr)], node: NodeNo) -> Option<IpAddr>
+    ensures { result ≡ host_in lines.now node }
+{
+    for (other, address) in lines {
+        if *other == node {
+            return Some(*address);
+        }
+    }
+    None
+}
+
+impl Hosts {
+    /// The address of a node, where it is known.
+    pub fn address(&self, node: NodeNo) -> Option<IpAddr>
+        ensures { result ≡ host_of self.now node }
+    {
+        match self {
+            Hosts::Local => Some(IpAddr::V4(Ipv4Addr::LOCALHOST)),
+            Hosts::Listed(lines) => address_in(lines, node),
+        }
+    }
+}

@@ -1,0 +1,15 @@
+//! How datagrams come and go: the socket, the buffer into which it receives, where nodes and clients live, the frames that seal what they
+//! say, and the post that sends the letters of a replica.
+#![tactic(auto)]
+
+pub mod addresses;
+pub mod asked;
+pub mod came;
+pub mod ear;
+pub mod fault;
+mod hearing;
+pub mod hosts;
+pub mod memory_socket;
+pub mod outside;
+pub mod post;
+pub mod socket;

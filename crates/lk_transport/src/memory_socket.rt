@@ -1,0 +1,132 @@
+//! A socket in memory, for tests: it tells what is sent and what comes.
+
+ghost use Rattle.std.specs.Prelude.{◌≡◌, ◌++◌, ◌∷◌, [], min, OnOk, OnErr};
+ghost use Rattle.lk_transport.specs.Sockets.{sent_in, coming_in};
+
+use crate::socket::Datagrams;
+use lk_replica::SendFault;
+use lk_types::NoMemory;
+use std::alloc::Global;
+use std::collections::VecDeque;
+use std::net::SocketAddr;
+use std::time::Duration;
+use std::{io, mem};
+
+/// A datagram of a socket in memory: from where it came, or to where it went.
+#[derive(Drop)]
+pub struct Told {
+    pub place: SocketAddr,
+    pub bytes: Vec<u8>,
+}
+
+/// Datagrams that come one after another, and those that were sent.
+#[derive(Drop)]
+pub struct MemorySocket {
+    alloc: Global,
+    port: u16,
+    coming: VecDeque<Told>,
+    sent: Vec<Told>,
+    failures: u64,
+}
+
+// How many bytes of so many are heard.
+fn cut(length: usize) -> usize
+    ensures { result ≡ min length 8229 }
+{
+    if length <= 8229 { length } else { 8229 }
+}
+
+impl MemorySocket {
+    /// The socket of a port, to which nothing comes and from which nothing was sent.
+    pub fn new(alloc: Global, port: u16) -> MemorySocket
+        ensures coming { coming_in result.coming.items ≡ [] }
+        ensures sent { result.sent.items ≡ [] }
+    {
+        MemorySocket {
+            alloc,
+            port,
+            coming: VecDeque::new(alloc),
+            sent: Vec::new(alloc),
+            failures: 0,
+        }
+    }
+
+    /// One more datagram comes. Of one that is longer than 8,229 bytes no more are heard.
+    pub fn comes(&mut self, from: SocketAddr, bytes: &[u8]) -> Result<(), NoMemory> {
+        let kept = bytes.to_vec(self.alloc)?;
+        self.coming.push_back(Told {
+            place: from,
+            bytes: kept,
+        })?;
+        Ok(())
+    }
+
+    /// Takes out what was sent, in order. Nothing is left of it.
+    pub fn take_sent(&mut self) -> Vec<Told>
+        ensures taken { result.items ≡ self.old.sent.items }
+        ensures rest { self.new ≡ record self.old { sent = self.new.sent } }
+        ensures left { self.new.sent.items ≡ [] }
+    {
+        mem::replace(&mut self.sent, Vec::new(self.alloc))
+    }
+
+    // Keeps what is sent, unless memory is refused for it.
+    fn keep(&mut self, to: SocketAddr, bytes: &[u8]) -> Result<(), NoMemory>
+        ensures ok { OnOk result (sent_in self.new.sent.items ≡ sent_in self.old.sent.items ++ (to, bytes.now) ∷ []) }
+        ensures err { OnErr result (sent_in self.new.sent.items ≡ sent_in self.old.sent.items) }
+        ensures failures { self.new.failures ≡ self.old.failures }
+    {
+        let kept = bytes.to_vec(self.alloc)?;
+        self.sent.push(Told {
+            place: to,
+            bytes: kept,
+        })?;
+        Ok(())
+    }
+}
+
+impl Datagrams for MemorySocket {
+    ghost use Rattle.std.specs.Prelude.{⊤};
+
+    ghost sent = { λ s. sent_in s.sent.items };
+
+    ghost coming = { λ s. coming_in s.coming.items };
+
+    ghost failures = { λ s. s.failures };
+
+    ghost is_telling = { ⊤ };
+
+    fn send_to(&mut self, to: SocketAddr, bytes: &[u8]) -> Result<(), SendFault> {
+        match self.keep(to, bytes) {
+            Ok(()) => Ok(()),
+            Err(NoMemory) => {
+                self.failures = self.failures.saturating_add(1);
+                Err(SendFault)
+            }
+        }
+    }
+
+    fn wait_for(&mut self, _time: Duration) {}
+
+    fn receive(&mut self, buffer: &mut [u8]) -> Option<(usize, SocketAddr)> {
+        let Some(told) = self.coming.pop_front() else {
+            return None;
+        };
+        let Told { place, bytes } = told;
+        let length = cut(bytes.len());
+        buffer[..length].copy_from_slice(&bytes[..length]);
+        Some((length, place))
+    }
+
+    fn receive_waiting(&mut self, buffer: &mut [u8]) -> Option<(usize, SocketAddr)> {
+        self.receive(buffer)
+    }
+
+    fn cause(&self) -> Option<io::Error> {
+        None
+    }
+
+    fn port(&self) -> Option<u16> {
+        Some(self.port)
+    }
+}

@@ -1,0 +1,364 @@
+//! The post of a node that has a socket.
+
+ghost use Rattle.std.specs.Prelude.{◌≡◌, ◌≢◌, ◌↔◌, ◌++◌, ◌∷◌, ℕ, [], Some, None, true, false, is_ok, OnOk, OnErr, IfOk, IsErr, IfSome, IsNone};
+ghost use Rattle.lk_types.specs.Ranges.{IsClient};
+ghost use Rattle.lk_disk.specs.Disk.{HasCause, one_more};
+ghost use Rattle.lk_transport.specs.Addresses.{client_at, node_at, IsSameOutside};
+ghost use Rattle.lk_transport.specs.Hearing.{listed};
+ghost use Rattle.lk_seal.specs.Seals.{heard};
+ghost use Rattle.lk_transport.specs.Posts.{IsRoute, IsBoundFor, Becomes, Hears, tray_of, all_taken_as, frame_of, keys_for};
+ghost use Rattle.lk_transport.specs.Askers.{IsKeptOf, Replies, asker, frame_for, keys_to};
+
+use crate::addresses::Addresses;
+use crate::asked::Asked;
+use crate::came::Came;
+use crate::ear::Ear;
+use crate::outside::Outside;
+use crate::socket::Datagrams;
+use lk_replica::{Post, SendFault};
+use lk_seal::{DIGEST, Seals};
+use lk_step::{Letter, To};
+use lk_types::{NoMemory, NodeNo};
+use std::alloc::{AllocError, Global};
+use std::collections::VecDeque;
+use std::io;
+use std::marker::Model;
+use std::net::SocketAddr;
+use std::time::Duration;
+
+/// Where a datagram has its kind, and the kind of a Want.
+const KIND: usize = 3;
+
+const WANT: u8 = 7;
+
+/// A socket, and from where others wrote to it.
+///
+/// What is bound for a client goes to the address from which its last request came, and is dropped without one. What is
+/// bound for a node goes to its port on 127.0.0.1; where that is not known, to the address from which it wrote last. What is
+/// bound for the node whose post it is does not leave it: it is kept, unless memory is refused for it.
+#[derive(Drop)]
+pub struct SocketPost<S: Datagrams + Drop> {
+    alloc: Global,
+    node: NodeNo,
+    socket: S,
+    addresses: Addresses,
+    // the frame that was sent last, if there are keys
+    frame: Vec<u8>,
+    // the letters of the node to itself
+    own: VecDeque<Letter>,
+    // how many sends failed in this group
+    failures: u64,
+    // the last node to which a Want was sent in it
+    wanted: Option<NodeNo>,
+    // the last node to which a send failed in it
+    unsent: Option<NodeNo>,
+}
+
+/// What became of the letters of a group, for the log.
+#[derive(Clone, Copy)]
+pub struct Carried {
+    /// How many sends failed.
+    pub lost: u64,
+    /// The last node to which a Want was sent.
+    pub wanted: Option<NodeNo>,
+    /// The last node to which a send failed.
+    pub unsent: Option<NodeNo>,
+}
+
+impl Carried {
+    /// Nothing was sent.
+    pub const NOTHING: Carried = Carried {
+        lost: 0,
+        wanted: None,
+        unsent: None,
+    };
+}
+
+impl<S: Datagrams + Drop> Model for SocketPost<S> {
+    ghost use Rattle.lk_transport.specs.Posts.{PostValue, all_taken_as};
+
+    ghost Value = { PostValue };
+
+    ghost view = { λ p. record { node = p.node; addresses = p.addresses; own = p.own.items; sent = S.sent p.socket; socket_failures = S.failures p.socket; failures = p.failures; coming = all_taken_as p.addresses.seals (S.coming p.socket) } };
+}
+
+/// Where a letter goes.
+fn route(addresses: &Addresses, to: &To) -> Option<SocketAddr>
+    ensures { IsRoute addresses.now to.now result }
+{
+    match to {
+        To::Client(client) => addresses.client(*client),
+        To::Node(node, 0) => addresses.node(*node),
+        To::Node(node, port) => match addresses.host(*node) {
+            Some(address) => Some(SocketAddr::from((address, *port))),
+            None => addresses.node(*node),
+        },
+    }
+}
+
+/// As what a datagram is sent. A frame is put in place of what stands there.
+fn framed<'a>(
+    seals: &Seals,
+    to: &To,
+    bytes: &'a [u8],
+    frame: &'a mut Vec<u8>,
+) -> Result<&'a [u8], AllocError>
+    ensures ok { IfOk result (λ f. f.now ≡ frame_of seals.now to.now bytes.now) }
+    ensures refused { IsErr result → keys_for seals.now to.now ≢ [] }
+{
+    match to {
+        To::Node(node, _) => seals.frame_to_node(node.get(), bytes, frame),
+        To::Client(client) => seals.frame_to_client(client.get(), bytes, frame),
+    }
+}
+
+/// The same of a report, for whoever asks.
+fn framed_for<'a>(
+    seals: &Seals,
+    asker: &Option<To>,
+    report: &'a [u8],
+    frame: &'a mut Vec<u8>,
+) -> Result<&'a [u8], AllocError>
+    ensures ok { IfOk result (λ f. f.now ≡ frame_for seals.now asker.now report.now) }
+    ensures refused { IsErr result → keys_to seals.now asker.now ≢ [] }
+{
+    match asker {
+        Some(to) => framed(seals, to, report, frame),
+        None => Ok(report),
+    }
+}
+
+impl<S: Datagrams + Drop> SocketPost<S> {
+    /// The post of a node that has a socket, to which nobody has written.
+    pub fn new(alloc: Global, node: NodeNo, outside: Outside, socket: S) -> SocketPost<S>
+        ensures node { result.node ≡ node }
+        ensures clients { (c : ℕ) → IsClient c → client_at result.addresses c ≡ None }
+        ensures nodes { (n : ℕ) → node_at result.addresses n ≡ None }
+        ensures own { result.own ≡ [] }
+        ensures sent { result.sent ≡ S.sent socket }
+        ensures socket_failures { result.socket_failures ≡ S.failures socket }
+        ensures failures { result.failures ≡ 0 }
+        ensures hosts { result.addresses.hosts ≡ outside.hosts }
+        ensures seals { result.addresses.seals ≡ outside.seals }
+        ensures coming { result.coming ≡ all_taken_as outside.seals (S.coming socket) }
+    {
+        SocketPost {
+            alloc,
+            node,
+            socket,
+            addresses: Addresses::new(outside),
+            frame: Vec::new(alloc),
+            own: VecDeque::new(alloc),
+            failures: 0,
+            wanted: None,
+            unsent: None,
+        }
+    }
+
+    /// Keeps from where a datagram of the cluster came, as `Addresses::hear` does.
+    pub fn hear(&mut self, cluster: u64, bytes: &[u8], from: SocketAddr) -> Came
+        ensures heard { Hears cluster bytes.now from self.old.addresses self.new.addresses }
+        ensures outside { IsSameOutside self.old.addresses self.new.addresses }
+        ensures others { self.new ≡ record self.old { addresses = self.new.addresses } }
+    {
+        self.addresses.hear(cluster, bytes, from)
+    }
+
+    /// Takes out the first letter of the node to itself.
+    pub fn next_own(&mut self) -> Option<Letter>
+        ensures some { IfSome result (λ l. self.old.own ≡ l ∷ self.new.own) }
+        ensures none { IsNone result → self.old.own ≡ [] }
+        ensures unchanged { IsNone result → self.new ≡ self.old }
+        ensures others { self.new ≡ record self.old { own = self.new.own } }
+    {
+        self.own.pop_front()
+    }
+
+    /// From now on the ear waits so long at most for the next datagram.
+    pub fn wait_for(&mut self, time: Duration)
+        ensures { self.new ≡ self.old }
+    {
+        self.socket.wait_for(time);
+    }
+
+    /// The ear hears the next datagram of the socket, if one comes.
+    pub fn listen(&mut self, ear: &mut Ear)
+        ensures comes { S.is_telling → self.old.coming ≡ all_taken_as self.old.addresses.seals (listed ear.new.last) ++ self.new.coming }
+        ensures none { S.is_telling → ear.new.last ≡ None → self.old.coming ≡ [] }
+        ensures others { self.new ≡ record self.old { coming = self.new.coming } }
+    {
+        ear.receive(&mut self.socket);
+    }
+
+    /// The ear hears the next datagram of the socket that waits there already.
+    pub fn listen_waiting(&mut self, ear: &mut Ear)
+        ensures comes { S.is_telling → self.old.coming ≡ all_taken_as self.old.addresses.seals (listed ear.new.last) ++ self.new.coming }
+        ensures none { S.is_telling → ear.new.last ≡ None → self.old.coming ≡ [] }
+        ensures others { self.new ≡ record self.old { coming = self.new.coming } }
+    {
+        ear.receive_waiting(&mut self.socket);
+    }
+
+    /// What is taken of a frame.
+    pub fn open<'a>(&self, frame: &'a [u8]) -> &'a [u8]
+        ensures { result.now ≡ heard self.now.addresses.seals frame.now }
+    {
+        self.addresses.seals().heard(frame)
+    }
+
+    /// The probe to answer that came from there by this frame, of which the datagram was taken.
+    pub fn asked(&self, from: SocketAddr, frame: &[u8], datagram: &[u8]) -> Option<Asked>
+        requires { datagram.now ≡ heard self.now.addresses.seals frame.now }
+        ensures { IsKeptOf self.now.addresses.seals (from, frame.now) result }
+    {
+        Asked::by(self.addresses.seals(), from, frame, datagram)
+    }
+
+    /// The digest of the genesis.
+    pub fn genesis(&self) -> [u8; DIGEST]
+        ensures { result ≡ self.now.addresses.seals.genesis }
+    {
+        self.addresses.seals().genesis
+    }
+
+    /// The node whose post it is.
+    pub fn node(&self) -> NodeNo
+        ensures { result ≡ self.now.node }
+    {
+        self.node
+    }
+
+    /// The socket.
+    pub fn socket_mut(&mut self) -> &mut S {
+        &mut self.socket
+    }
+
+    /// Why the last send that failed did, where the system told it.
+    pub fn cause(&self) -> Option<io::Error> {
+        self.socket.cause()
+    }
+
+    /// A group is sent.
+    pub fn begin(&mut self)
+        ensures { self.new ≡ record self.old { failures = 0 } }
+    {
+        self.failures = 0;
+        self.wanted = None;
+        self.unsent = None;
+    }
+
+    /// What became of what it was given in this group.
+    pub fn carried(&self) -> Carried
+        ensures { result.lost ≡ self.now.failures }
+    {
+        Carried {
+            lost: self.failures,
+            wanted: self.wanted,
+            unsent: self.unsent,
+        }
+    }
+
+    // Notes for the log that this was sent or kept.
+    fn note(&mut self, to: &To, bytes: &[u8])
+        ensures { self.new ≡ self.old }
+    {
+        match to {
+            To::Node(node, _) if bytes.get(KIND) == Some(&WANT) => self.wanted = Some(*node),
+            _ => {}
+        }
+    }
+
+    // Counts one that could not be sent.
+    fn lose(&mut self, to: &To)
+        ensures { self.new ≡ record self.old { failures = one_more self.old.failures } }
+    {
+        self.failures = self.failures.saturating_add(1);
+        if let To::Node(node, _) = to {
+            self.unsent = Some(*node);
+        }
+    }
+
+    // Whether it is bound for the node itself.
+    fn is_own(&self, to: &To) -> bool
+        ensures { result ≡ true ↔ IsBoundFor self.now.node to.now }
+    {
+        match to {
+            To::Node(node, _) => *node == self.node,
+            To::Client(_) => false,
+        }
+    }
+
+    // One more letter of the node to itself.
+    fn keep(&mut self, to: To, bytes: &[u8]) -> Result<(), NoMemory>
+        ensures ok { OnOk result (self.new ≡ record self.old { own = self.old.own ++ record { to = to; bytes = bytes.now } ∷ [] }) }
+        ensures err { OnErr result (self.new ≡ self.old) }
+    {
+        let kept = bytes.to_vec(self.alloc)?;
+        self.own.push_back(Letter { to, bytes: kept })?;
+        self.note(&to, bytes);
+        Ok(())
+    }
+
+    // Sends a letter through the system, also one of the node to itself.
+    fn carry(&mut self, to: To, bytes: &[u8]) -> Result<(), SendFault>
+        ensures becomes { Becomes S.is_telling self.old.node self.old.addresses (tray_of self.old) (record { to = to; bytes = bytes.now }) (is_ok result) (tray_of self.new) }
+        ensures own { self.new.own ≡ self.old.own }
+        ensures node { self.new.node ≡ self.old.node }
+        ensures addresses { self.new.addresses ≡ self.old.addresses }
+        ensures cause { HasCause self.old.failures self.new.failures result }
+    {
+        let Some(place) = route(&self.addresses, &to) else {
+            return Ok(());
+        };
+        let sent = match framed(self.addresses.seals(), &to, bytes, &mut self.frame) {
+            Ok(framed) => self.socket.send_to(place, framed),
+            Err(_) => Err(SendFault),
+        };
+        match sent {
+            Ok(()) => {
+                self.note(&to, bytes);
+                Ok(())
+            }
+            Err(SendFault) => {
+                self.lose(&to);
+                Err(SendFault)
+            }
+        }
+    }
+
+    /// Sends a report to where its probe came from, by the seal for whoever asks.
+    pub fn reply(&mut self, asked: &Asked, report: &[u8]) -> Result<(), SendFault>
+        ensures replies { Replies S.is_telling self.old.addresses.seals asked.now report.now (tray_of self.old) (tray_of self.new) }
+        ensures others { self.new ≡ record self.old { sent = self.new.sent; socket_failures = self.new.socket_failures; coming = self.new.coming } }
+    {
+        let Ok(framed) = framed_for(
+            self.addresses.seals(),
+            &asked.asker(),
+            report,
+            &mut self.frame,
+        ) else {
+            return Err(SendFault);
+        };
+        self.socket.send_to(asked.from, framed)
+    }
+}
+
+impl<S: Datagrams + Drop> Post for SocketPost<S> {
+    ghost use Rattle.std.specs.Prelude.{[]};
+    ghost use Rattle.lk_transport.specs.Posts.{CarriesLetter};
+
+    ghost sent = { λ _. [] };
+
+    ghost is_telling = { ⊥ };
+
+    ghost failures = { λ p. p.failures };
+
+    ghost Carries = { CarriesLetter S.is_telling };
+
+    fn send(&mut self, to: To, bytes: &[u8]) -> Result<(), SendFault> {
+        if self.is_own(&to) && self.keep(to, bytes).is_ok() {
+            return Ok(());
+        }
+        self.carry(to, bytes)
+    }
+}
