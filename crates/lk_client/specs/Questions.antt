@@ -13,7 +13,7 @@ use Rattle.lk_seal.specs.Seals as seals
 use Rattle.lk_transport.specs.Hosts.{host_of}
 use Rattle.lk_transport.specs.Chains.{Repeats}
 use Rattle.lk_client.specs.Replies.{reply_of}
-use Rattle.lk_client.specs.declared.far.Far.{Far}
+use Rattle.lk_client.specs.declared.destination.Destination.{Destination}
 use Rattle.lk_client.specs.declared.question.Question.{Question}
 use Rattle.lk_client.specs.declared.question.Heard.{Heard}
 use Rattle.lk_client.specs.declared.question.Heard.TheVariants.{Nothing, Other, Reply}
@@ -33,12 +33,12 @@ known_or (Some address) other = address
 known_or None other = other
 
 -- where a member is asked: where it lives, and where that is not known at the address that was asked first
-abbrev pub far_address : Far → Member → IpAddr
-far_address f m = known_or (host_of f.hosts m.node) f.address
+abbrev pub destination_address : Destination → Member → IpAddr
+destination_address f m = known_or (host_of f.hosts m.node) f.address
 
 -- where the question is asked first
 abbrev pub first_place : Question → Place
-first_place q = (q.far.address, q.port)
+first_place q = (q.destination.address, q.port)
 
 -- the message by which it is asked
 abbrev pub asking : Question → Message
@@ -46,11 +46,11 @@ asking q = record { cluster = q.cluster; content = content.Request q.request }
 
 -- these are sent for it: the bytes of its message, in a frame of its client where there is a key
 abbrev pub IsAsked : Question → List ℕ → Type 0
-IsAsked q frame = (bytes : List ℕ) × Spells (asking q) bytes × (frame ≡ framed_by (key_list q.far.seals.keys) (seals.asking q.far.seals.cluster q.request.client) bytes)
+IsAsked q frame = (bytes : List ℕ) × Spells (asking q) bytes × (frame ≡ framed_by (key_list q.destination.seals.keys) (seals.asking q.destination.seals.cluster q.request.client) bytes)
 
 -- the datagram, out of its frame where there is a key, is that reply of a node of its cluster to the request
 abbrev pub IsReply : Question → List ℕ → ReplyValue → Type 0
-IsReply q bytes r = (node : ℕ) × Spells (reply_of q.cluster node q.request.client q.request.number r) (replied (key_list q.far.seals.keys) q.far.seals.cluster q.request.client bytes)
+IsReply q bytes r = (node : ℕ) × Spells (reply_of q.cluster node q.request.client q.request.number r) (replied (key_list q.destination.seals.keys) q.destination.seals.cluster q.request.client bytes)
 
 -- what is heard where this comes next: a reply where that is one to the request, nothing where nothing comes
 abbrev pub Hears : Question → Option (SocketAddr × List ℕ) → Heard → Type 0
@@ -59,8 +59,8 @@ Hears q next Other = (d : SocketAddr × List ℕ) × (next ≡ Some d) × ((r : 
 Hears q next (Reply r) = (d : SocketAddr × List ℕ) × (next ≡ Some d) × IsReply q d.1 r
 
 -- where the request is sent again by what is heard: where fewer than 20 Elsewhere were followed, by one of them to its member
-abbrev pub followed_to : Far → Heard → ℕ → List Place
-followed_to f (Reply (Elsewhere m)) count = if nat_lt count 20 then (far_address f m, m.port) ∷ [] else []
+abbrev pub followed_to : Destination → Heard → ℕ → List Place
+followed_to f (Reply (Elsewhere m)) count = if nat_lt count 20 then (destination_address f m, m.port) ∷ [] else []
 followed_to f (Reply (Answer a)) count = []
 followed_to f (Reply (Passed last)) count = []
 followed_to f Nothing count = []
@@ -106,8 +106,8 @@ module _ {S : Type 0} (sent : S → List (SocketAddr × List ℕ)) (failures : S
     pub heard : Heard
     pub hears : Hears q (next old.socket) heard
     pub tells : told ≡ ended_by heard
-    pub follows : new.followed ≡ old.followed + length (followed_to q.far heard old.followed)
-    pub sends : SendsEach (followed_to q.far heard old.followed) bytes (sent old.socket) (failures old.socket) (sent new.socket) (failures new.socket)
+    pub follows : new.followed ≡ old.followed + length (followed_to q.destination heard old.followed)
+    pub sends : SendsEach (followed_to q.destination heard old.followed) bytes (sent old.socket) (failures old.socket) (sent new.socket) (failures new.socket)
 
   -- it was told this after fewer than so many receives that told nothing, or so many have told nothing
   abbrev pub WaitsFor : ℕ → List ℕ → Option ReplyValue → Asker S → Asker S → Type 0
@@ -132,7 +132,7 @@ module _ {S : Type 0} (sent : S → List (SocketAddr × List ℕ)) (failures : S
   -- the bytes went to the port of the question's address, and then it waited for 5 receives
   pub record Tries (port : ℕ) (bytes : List ℕ) (told : Option ReplyValue) (old new : Asker S) : Type 0 where
     pub begun : S
-    pub asks : SendsOnce (q.far.address, port) bytes (sent old.socket) (failures old.socket) (sent begun) (failures begun)
+    pub asks : SendsOnce (q.destination.address, port) bytes (sent old.socket) (failures old.socket) (sent begun) (failures begun)
     pub waits : WaitsFor 5 bytes told (record { socket = begun; followed = old.followed }) new
 
   -- so with each of these ports in turn, and none told anything

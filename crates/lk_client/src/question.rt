@@ -6,12 +6,12 @@ ghost use Rattle.lk_transport.specs.Hearing.{next_of};
 ghost use Rattle.lk_client.specs.Questions.{asking, first_place, IsAsked, Place, Hears, SendsOnce, SendsEach, Receives, Exchanges, Tries, ExchangesInTurn, Asks, Comes, IsTold};
 ghost use Rattle.lk_client.specs.declared.reply.Reply.{Reply as ReplyValue};
 
-use crate::far::Far;
+use crate::destination::Destination;
 use crate::reply::{Reply, read_reply};
 use bytes::BytesMut;
-use lk_transport::ear::Ear;
+use lk_transport::receive_buffer::ReceiveBuffer;
 use lk_transport::fault::ServiceFault;
-use lk_transport::socket::Datagrams;
+use lk_transport::socket::DatagramSocket;
 use lk_types::{Port, Request};
 use lk_wire::{Content, Message, write};
 use std::alloc::Global;
@@ -32,7 +32,7 @@ pub struct Question {
     pub cluster: u64,
     pub port: Port,
     pub request: Request,
-    pub far: Far,
+    pub destination: Destination,
 }
 
 /// The bytes of a message. It refuses where memory was refused.
@@ -69,20 +69,20 @@ pub enum Heard {
 }
 
 /// What comes next to whoever asked that.
-pub fn next_reply<S: Datagrams>(ear: &mut Ear, socket: &mut S, question: &Question) -> Heard
+pub fn next_reply<S: DatagramSocket>(buffer: &mut ReceiveBuffer, socket: &mut S, question: &Question) -> Heard
     ensures heard { S.is_telling → Hears question.now (next_of S.coming socket.old) result }
     ensures unchanged { S.sent socket.new ≡ S.sent socket.old }
     ensures spares { S.failures socket.new ≡ S.failures socket.old }
 {
-    ear.receive(socket);
-    let Some((bytes, _)) = ear.heard() else {
+    buffer.receive(socket);
+    let Some((bytes, _)) = buffer.heard() else {
         return Heard::Nothing;
     };
     match read_reply(
         question.cluster,
         &question.request,
         question
-            .far
+            .destination
             .seals
             .heard(question.request.client.get(), bytes),
     ) {
@@ -99,12 +99,12 @@ fn asked(alloc: Global, question: &Question) -> Result<Vec<u8>, ServiceFault>
     let bytes = datagram(alloc, question)?;
     let mut frame = Vec::new(alloc);
     let client = question.request.client.get();
-    let framed = question.far.seals.frame_of(client, &bytes, &mut frame)?;
+    let framed = question.destination.seals.frame_of(client, &bytes, &mut frame)?;
     Ok(framed.to_vec(alloc)?)
 }
 
 /// Sends bytes to a port of an address. What could not be sent is lost.
-fn send<S: Datagrams>(socket: &mut S, address: IpAddr, port: Port, bytes: &[u8])
+fn send<S: DatagramSocket>(socket: &mut S, address: IpAddr, port: Port, bytes: &[u8])
     ensures { S.is_telling → SendsOnce (address, port) bytes.now (S.sent socket.old) (S.failures socket.old) (S.sent socket.new) (S.failures socket.new) }
 {
     let place = SocketAddr::from((address, port.get()));
@@ -113,8 +113,8 @@ fn send<S: Datagrams>(socket: &mut S, address: IpAddr, port: Port, bytes: &[u8])
 
 /// What has become of the request, where that comes next. An Elsewhere is followed, where fewer than 20 were: the bytes go
 /// to its member.
-fn take_next<S: Datagrams>(
-    ear: &mut Ear,
+fn take_next<S: DatagramSocket>(
+    buffer: &mut ReceiveBuffer,
     socket: &mut S,
     question: &Question,
     bytes: &[u8],
@@ -126,10 +126,10 @@ fn take_next<S: Datagrams>(
     ensures told { IfSome result IsTold }
     ensures most { followed.old ≤ 20 → followed.new ≤ 20 }
 {
-    match next_reply(ear, socket, question) {
+    match next_reply(buffer, socket, question) {
         Heard::Reply(Reply::Elsewhere(member)) if *followed < FOLLOWED => {
             *followed += 1;
-            send(socket, question.far.address_of(&member), member.port, bytes);
+            send(socket, question.destination.address_of(&member), member.port, bytes);
             None
         }
         Heard::Reply(Reply::Elsewhere(_)) | Heard::Other | Heard::Nothing => None,
@@ -139,7 +139,7 @@ fn take_next<S: Datagrams>(
 
 /// Sends the request to its port, follows the first 20 Elsewhere, and gives what it is replied, or `None` where
 /// 50 receives bring no such reply. What could not be sent is lost.
-pub fn exchange<S: Datagrams>(
+pub fn exchange<S: DatagramSocket>(
     alloc: Global,
     socket: &mut S,
     question: &Question,
@@ -155,10 +155,10 @@ pub fn exchange<S: Datagrams>(
     ensures only { IfErr result (λ f. f ≡ ServiceFault.NoMemory) }
 {
     let bytes = asked(alloc, question)?;
-    send(socket, question.far.address, question.port, &bytes);
-    let (mut ear, mut followed) = (Ear::new(), 0);
+    send(socket, question.destination.address, question.port, &bytes);
+    let (mut buffer, mut followed) = (ReceiveBuffer::new(), 0);
     'receives: for _ in 0..RECEIVES {
-        let reply = take_next(&mut ear, socket, question, &bytes, &mut followed);
+        let reply = take_next(&mut buffer, socket, question, &bytes, &mut followed);
         if reply.is_some() {
             return Ok(reply);
         }
@@ -167,8 +167,8 @@ pub fn exchange<S: Datagrams>(
 }
 
 /// Sends the request to a port, and gives what it is replied within 5 receives, or `None`.
-fn ask_port<S: Datagrams>(
-    ear: &mut Ear,
+fn ask_port<S: DatagramSocket>(
+    buffer: &mut ReceiveBuffer,
     socket: &mut S,
     question: &Question,
     port: Port,
@@ -182,9 +182,9 @@ fn ask_port<S: Datagrams>(
     ensures told { IfSome result IsTold }
     ensures most { followed.new ≤ 20 }
 {
-    send(socket, question.far.address, port, bytes);
+    send(socket, question.destination.address, port, bytes);
     'receives: for _ in 0..EACH {
-        let reply = take_next(ear, socket, question, bytes, followed);
+        let reply = take_next(buffer, socket, question, bytes, followed);
         if reply.is_some() {
             return reply;
         }
@@ -194,7 +194,7 @@ fn ask_port<S: Datagrams>(
 
 /// Sends the request to these ports of its address in turn, to the next where 5 receives bring no reply, and gives what it is
 /// replied, or `None` where none of them brings a reply. The first 20 Elsewhere are followed. What could not be sent is lost.
-pub fn exchange_in_turn<S: Datagrams>(
+pub fn exchange_in_turn<S: DatagramSocket>(
     alloc: Global,
     socket: &mut S,
     question: &Question,
@@ -207,9 +207,9 @@ pub fn exchange_in_turn<S: Datagrams>(
     ensures only { IfErr result (λ f. f ≡ ServiceFault.NoMemory) }
 {
     let bytes = asked(alloc, question)?;
-    let (mut ear, mut followed) = (Ear::new(), 0);
+    let (mut buffer, mut followed) = (ReceiveBuffer::new(), 0);
     'ports: for port in turns {
-        let reply = ask_port(&mut ear, socket, question, *port, &bytes, &mut followed);
+        let reply = ask_port(&mut buffer, socket, question, *port, &bytes, &mut followed);
         if reply.is_some() {
             return Ok(reply);
         }
@@ -218,7 +218,7 @@ pub fn exchange_in_turn<S: Datagrams>(
 }
 
 /// Asks the question's port, or these ports in turn where there are some.
-fn exchange_any<S: Datagrams>(
+fn exchange_any<S: DatagramSocket>(
     alloc: Global,
     socket: &mut S,
     question: &Question,
@@ -264,7 +264,7 @@ pub fn write_reply<W: Write>(reply: Option<Reply>, out: &mut W) -> io::Result<bo
 /// Asks, and prints what is replied. Whether it was told what becomes of the request.
 ///
 /// It refuses where memory was refused for the request, and where the output could not be written.
-fn ask_and_write<S: Datagrams, W: Write>(
+fn ask_and_write<S: DatagramSocket, W: Write>(
     alloc: Global,
     socket: &mut S,
     question: &Question,
@@ -284,7 +284,7 @@ fn ask_and_write<S: Datagrams, W: Write>(
 
 /// Asks the question's port, or these ports in turn where there are some, and prints what is replied. The status is 0; 1 where nothing was, which is printed as `no answer`, and where a
 /// fault is told on standard error.
-pub fn ask<S: Datagrams, W: Write, E: Write>(
+pub fn ask<S: DatagramSocket, W: Write, E: Write>(
     alloc: Global,
     socket: &mut S,
     question: &Question,

@@ -23,7 +23,7 @@ use Rattle.lk_server.specs.Probes.{IsShown, AnswersKept}
 use Rattle.lk_transport.specs.declared.asked.Asked.{Asked}
 use Rattle.lk_server.specs.Servers.{ServerValue, HandsOn, Given, IsIdle, one_more, inputs, all_inputs, datagrams_in, IsFront, tray_at}
 use Rattle.lk_server.specs.declared.pace.Pace.{Pace}
-use Rattle.lk_server.specs.declared.pace.Pace.TheVariants.{Datagrams, Clock}
+use Rattle.lk_server.specs.declared.pace.Pace.TheVariants.{DatagramSocket, Clock}
 use Rattle.lk_sim.specs.Events.{Turns, Adds}
 use Rattle.lk_sim.specs.Networks.{MayCome, Steps, Appears, Rests, Stops, nothing}
 use Rattle.lk_sim.specs.Rooms.{AreShort}
@@ -125,7 +125,7 @@ module _ (genesis : Genesis) (sent : List Datagram) where
 
   -- a tick may always come
   ticks_may : (pace : Pace) (ticks : List (Option (List ℕ))) → MayFollow pace ticks → AllMay genesis sent ticks
-  ticks_may Datagrams ticks none = subst (λ (l : List (Option (List ℕ))). AllMay genesis sent l) (sym none) tt
+  ticks_may DatagramSocket ticks none = subst (λ (l : List (Option (List ℕ))). AllMay genesis sent l) (sym none) tt
   ticks_may Clock ticks (inl none) = subst (λ (l : List (Option (List ℕ))). AllMay genesis sent l) (sym none) tt
   ticks_may Clock ticks (inr one) = subst (λ (l : List (Option (List ℕ))). AllMay genesis sent l) (sym one) (tt, tt)
 

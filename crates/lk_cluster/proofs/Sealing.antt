@@ -60,7 +60,7 @@ module _ (S : ReplicaValue → List (Option (List ℕ)) → List LetterValue →
   -- the seals stay the same
   pub still_sealed : (first : ServerValue ReplicaValue) (states : List (ServerValue ReplicaValue)) (last : ServerValue ReplicaValue) → Chain (ServerTurn S tells) first states last → first.addresses.seals ≡ s → last.addresses.seals ≡ s
   still_sealed first [] last turns same = ap (λ (q : ServerValue ReplicaValue). q.addresses.seals) turns ∙ same
-  still_sealed first (next ∷ states) last turns same = still_sealed next states last turns.1 (turns.0.outside.1 ∙ same)
+  still_sealed first (next ∷ states) last turns same = still_sealed next states last turns.1 (turns.0.network.1 ∙ same)
 
   module _ (n : ℕ) (key : key_list s.nodes ≢ []) (genesis : Genesis) where
     -- in all of them
@@ -69,7 +69,7 @@ module _ (S : ReplicaValue → List (Option (List ℕ)) → List LetterValue →
     all_sealed sent first [] last turns same only = tt
     all_sealed sent first (next ∷ states) last turns same only = (
       frames_sealed s key genesis sent first same turns.0.frames turns.0.came turns.0.opened only.0,
-      all_sealed (sent ++ batch_of n (letters_in S tells turns.0.turn)) next states last turns.1 (turns.0.outside.1 ∙ same) only.1,
+      all_sealed (sent ++ batch_of n (letters_in S tells turns.0.turn)) next states last turns.1 (turns.0.network.1 ∙ same) only.1,
     )
 
 -- ---- what comes about where nothing is forged

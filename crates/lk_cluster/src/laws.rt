@@ -39,17 +39,17 @@ use lk_promise::laws::{
 use lk_replica::Replica;
 use lk_server::laws::is_told_by_a_node;
 use lk_server::node_replica::NodeReplica;
-use lk_transport::socket::Datagrams;
+use lk_transport::socket::DatagramSocket;
 
 /// Whatever the servers of a cluster do, one after another in any order, and whatever comes to them over a network that forges nothing: the promise
 /// holds of all that they give to be sent, of what happens, and of their disks. So the promise of a world of replicas is kept by the processes that
 /// people run (after IronFleet: Hawblitzel et al., 2015).
-pub fn a_cluster_keeps_the_promise<D: LogDisk, S: Datagrams>()
+pub fn a_cluster_keeps_the_promise<D: LogDisk, S: DatagramSocket>()
     ensures { (genesis : GenesisValue) (cluster : Cluster) → IsReachable ForgesNothing D.is_metered S.is_telling genesis cluster → KeepsPromise (scene_of cluster) }
 {}
 
 /// What clients see of such a cluster is linearizable (Herlihy and Wing, 1990).
-pub fn a_cluster_is_linearizable<D: LogDisk, S: Datagrams>()
+pub fn a_cluster_is_linearizable<D: LogDisk, S: DatagramSocket>()
     ensures { (genesis : GenesisValue) (cluster : Cluster) → IsReachable ForgesNothing D.is_metered S.is_telling genesis cluster → IsLinearizable cluster.genesis cluster.trace }
 {
     a_cluster_keeps_the_promise::<D, S>();
@@ -57,7 +57,7 @@ pub fn a_cluster_is_linearizable<D: LogDisk, S: Datagrams>()
 }
 
 /// Each operation of a client that follows the rule takes effect exactly once in such a cluster, in the client's order.
-pub fn a_cluster_serves_exactly_once<D: LogDisk, S: Datagrams>()
+pub fn a_cluster_serves_exactly_once<D: LogDisk, S: DatagramSocket>()
     ensures { (genesis : GenesisValue) (cluster : Cluster) → IsReachable ForgesNothing D.is_metered S.is_telling genesis cluster → AreServedOnce cluster.genesis cluster.sent cluster.trace }
 {
     a_cluster_keeps_the_promise::<D, S>();
@@ -65,7 +65,7 @@ pub fn a_cluster_serves_exactly_once<D: LogDisk, S: Datagrams>()
 }
 
 /// Nodes of such a cluster that have executed as many commands keep the same, to the byte.
-pub fn a_cluster_converges<D: LogDisk, S: Datagrams>()
+pub fn a_cluster_converges<D: LogDisk, S: DatagramSocket>()
     ensures { (genesis : GenesisValue) (cluster : Cluster) → IsReachable ForgesNothing D.is_metered S.is_telling genesis cluster → Converges (scene_of cluster) }
 {
     a_cluster_keeps_the_promise::<D, S>();
@@ -74,7 +74,7 @@ pub fn a_cluster_converges<D: LogDisk, S: Datagrams>()
 
 /// Under a key that only the nodes of a cluster have, what a node takes of a frame is not forged: whatever it says for a node of the cluster, that
 /// node has said. The premise is that nobody without the key can make such a frame (HMAC-SHA-256, RFC 2104).
-pub fn a_sealed_datagram_is_not_forged<D: LogDisk, S: Datagrams>()
+pub fn a_sealed_datagram_is_not_forged<D: LogDisk, S: DatagramSocket>()
     ensures { (genesis : GenesisValue) (cluster : Cluster) → IsReachable ForgesNothing D.is_metered S.is_telling genesis cluster
         → (seals : Seals) → key_list seals.nodes ≢ [] → (frame : List ℕ) → OnlyNodesSeal cluster.sent seals frame
         → MayCome cluster.genesis cluster.sent (Some (heard seals frame)) }
@@ -83,14 +83,14 @@ pub fn a_sealed_datagram_is_not_forged<D: LogDisk, S: Datagrams>()
 }
 
 /// A cluster whose nodes share such a key needs no other premise about the network: whatever frames come, nothing is forged in it.
-pub fn a_sealed_cluster_forges_nothing<D: LogDisk, S: Datagrams>()
+pub fn a_sealed_cluster_forges_nothing<D: LogDisk, S: DatagramSocket>()
     ensures { (genesis : GenesisValue) (cluster : Cluster) → IsReachable IsSealed D.is_metered S.is_telling genesis cluster → IsReachable ForgesNothing D.is_metered S.is_telling genesis cluster }
 {
     is_told_by_a_node();
 }
 
 /// So a cluster whose nodes share such a key keeps the promise.
-pub fn a_sealed_cluster_keeps_the_promise<D: LogDisk, S: Datagrams>()
+pub fn a_sealed_cluster_keeps_the_promise<D: LogDisk, S: DatagramSocket>()
     ensures { (genesis : GenesisValue) (cluster : Cluster) → IsReachable IsSealed D.is_metered S.is_telling genesis cluster → KeepsPromise (scene_of cluster) }
 {
     a_sealed_cluster_forges_nothing::<D, S>();
@@ -98,7 +98,7 @@ pub fn a_sealed_cluster_keeps_the_promise<D: LogDisk, S: Datagrams>()
 }
 
 /// A server that is taken up from the disks of a node continues its cluster: the cluster in which that node is up is reachable too.
-pub fn a_start_continues_a_cluster<D: LogDisk, S: Datagrams>()
+pub fn a_start_continues_a_cluster<D: LogDisk, S: DatagramSocket>()
     ensures { (genesis : GenesisValue) (cluster : Cluster) → IsReachable ForgesNothing D.is_metered S.is_telling genesis cluster
         → (place n : ℕ) (device : Memory) → HasNode cluster place n (Down device)
         → (disks : Side → Disk) → ((s : Side) → disk_of device s ≡ disks s)
@@ -107,7 +107,7 @@ pub fn a_start_continues_a_cluster<D: LogDisk, S: Datagrams>()
 {}
 
 /// A start that is refused continues its cluster: the node stays down, on the disks that the refusal has left. The program ensures such a refusal.
-pub fn a_refused_start_continues_a_cluster<D: LogDisk, S: Datagrams>()
+pub fn a_refused_start_continues_a_cluster<D: LogDisk, S: DatagramSocket>()
     ensures { D.is_honest → (genesis : GenesisValue) (cluster : Cluster) → IsReachable ForgesNothing D.is_metered S.is_telling genesis cluster
         → (place n : ℕ) (device : Memory) → HasNode cluster place n (Down device)
         → (disks : Side → Disk) → ((s : Side) → disk_of device s ≡ disks s)
@@ -117,7 +117,7 @@ pub fn a_refused_start_continues_a_cluster<D: LogDisk, S: Datagrams>()
 {}
 
 /// A turn of a server continues its cluster if what came in it is not forged. What the turn adds to the trace follows from what its replica says.
-pub fn a_turn_continues_a_cluster<D: LogDisk, S: Datagrams>()
+pub fn a_turn_continues_a_cluster<D: LogDisk, S: DatagramSocket>()
     ensures { (genesis : GenesisValue) (cluster : Cluster) → IsReachable ForgesNothing D.is_metered S.is_telling genesis cluster
         → (place n : ℕ) (server after : ServerValue ReplicaValue) → HasNode cluster place n (Up server)
         → (came : List (SocketAddr × List ℕ)) → ForgesNothing cluster.genesis cluster.sent server came
@@ -126,7 +126,7 @@ pub fn a_turn_continues_a_cluster<D: LogDisk, S: Datagrams>()
 {}
 
 /// A turn of a server that has the key of the nodes continues its cluster whatever frames came in it. `turning::turn` ensures such a turn, or an idle one.
-pub fn a_sealed_turn_continues_a_cluster<D: LogDisk, S: Datagrams>()
+pub fn a_sealed_turn_continues_a_cluster<D: LogDisk, S: DatagramSocket>()
     ensures { (genesis : GenesisValue) (cluster : Cluster) → IsReachable IsSealed D.is_metered S.is_telling genesis cluster
         → (place n : ℕ) (server after : ServerValue ReplicaValue) → HasNode cluster place n (Up server)
         → key_list server.addresses.seals.nodes ≢ [] → (frames : List (SocketAddr × List ℕ)) → OnlyNodesSealWhatComes cluster.sent server.addresses.seals frames
@@ -137,7 +137,7 @@ pub fn a_sealed_turn_continues_a_cluster<D: LogDisk, S: Datagrams>()
 }
 
 /// An idle turn of a server continues its cluster, and gives nothing to be sent.
-pub fn an_idle_turn_continues_a_cluster<D: LogDisk, S: Datagrams>()
+pub fn an_idle_turn_continues_a_cluster<D: LogDisk, S: DatagramSocket>()
     ensures { (genesis : GenesisValue) (cluster : Cluster) → IsReachable ForgesNothing D.is_metered S.is_telling genesis cluster
         → (place n : ℕ) (server after : ServerValue ReplicaValue) → HasNode cluster place n (Up server)
         → (frames : List (SocketAddr × List ℕ)) → IsIdle S.is_telling frames server after
@@ -145,7 +145,7 @@ pub fn an_idle_turn_continues_a_cluster<D: LogDisk, S: Datagrams>()
 {}
 
 /// A turn that ends a server continues its cluster: the node is down then, on the disks that its replica has left.
-pub fn a_last_turn_continues_a_cluster<D: LogDisk, S: Datagrams>()
+pub fn a_last_turn_continues_a_cluster<D: LogDisk, S: DatagramSocket>()
     ensures { (genesis : GenesisValue) (cluster : Cluster) → IsReachable ForgesNothing D.is_metered S.is_telling genesis cluster
         → (place n : ℕ) (server after : ServerValue ReplicaValue) → HasNode cluster place n (Up server)
         → (came : List (SocketAddr × List ℕ)) → ForgesNothing cluster.genesis cluster.sent server came
@@ -155,7 +155,7 @@ pub fn a_last_turn_continues_a_cluster<D: LogDisk, S: Datagrams>()
 {}
 
 /// The turns of a process on an honest device continue its cluster, one after another, if nothing that came in any of them is forged.
-pub fn turns_continue_a_cluster<D: LogDisk + Drop, S: Datagrams>()
+pub fn turns_continue_a_cluster<D: LogDisk + Drop, S: DatagramSocket>()
     ensures { D.is_honest → (genesis : GenesisValue) (cluster : Cluster) → IsReachable ForgesNothing D.is_metered S.is_telling genesis cluster
         → (place n count : ℕ) (first last : ServerValue ReplicaValue) → HasNode cluster place n (Up first)
         → (turns : Repeats (TakesTurn ⟦<Replica<LockTable, D> as NodeReplica>⟧.Says S.is_telling) count first last)
@@ -165,7 +165,7 @@ pub fn turns_continue_a_cluster<D: LogDisk + Drop, S: Datagrams>()
 {}
 
 /// A node that serves continues its cluster, from its start to its last turn. The program ensures such a service.
-pub fn a_service_continues_a_cluster<D: LogDisk + Drop, S: Datagrams>()
+pub fn a_service_continues_a_cluster<D: LogDisk + Drop, S: DatagramSocket>()
     ensures { D.is_honest → (genesis : GenesisValue) (cluster : Cluster) → IsReachable ForgesNothing D.is_metered S.is_telling genesis cluster
         → (place n count : ℕ) (device : Memory) → HasNode cluster place n (Down device)
         → (disks : Side → Disk) → ((s : Side) → disk_of device s ≡ disks s)
@@ -176,7 +176,7 @@ pub fn a_service_continues_a_cluster<D: LogDisk + Drop, S: Datagrams>()
 {}
 
 /// A node whose service breaks off continues its cluster: its last turn ends it, and it is down on the disks that its replica has left.
-pub fn a_service_that_breaks_off_continues_a_cluster<D: LogDisk + Drop, S: Datagrams>()
+pub fn a_service_that_breaks_off_continues_a_cluster<D: LogDisk + Drop, S: DatagramSocket>()
     ensures { D.is_honest → (genesis : GenesisValue) (cluster : Cluster) → IsReachable ForgesNothing D.is_metered S.is_telling genesis cluster
         → (place n most : ℕ) (device : Memory) → HasNode cluster place n (Down device)
         → (disks : Side → Disk) → ((s : Side) → disk_of device s ≡ disks s)
@@ -190,7 +190,7 @@ pub fn a_service_that_breaks_off_continues_a_cluster<D: LogDisk + Drop, S: Datag
 {}
 
 /// A node that serves with the key of the nodes continues its cluster whatever frames come. The program ensures such a service.
-pub fn a_sealed_service_continues_a_cluster<D: LogDisk + Drop, S: Datagrams>()
+pub fn a_sealed_service_continues_a_cluster<D: LogDisk + Drop, S: DatagramSocket>()
     ensures { D.is_honest → (genesis : GenesisValue) (cluster : Cluster) → IsReachable IsSealed D.is_metered S.is_telling genesis cluster
         → (place n count : ℕ) (device : Memory) → HasNode cluster place n (Down device)
         → (disks : Side → Disk) → ((s : Side) → disk_of device s ≡ disks s)
@@ -204,7 +204,7 @@ pub fn a_sealed_service_continues_a_cluster<D: LogDisk + Drop, S: Datagrams>()
 }
 
 /// So does one whose service breaks off.
-pub fn a_sealed_service_that_breaks_off_continues_a_cluster<D: LogDisk + Drop, S: Datagrams>()
+pub fn a_sealed_service_that_breaks_off_continues_a_cluster<D: LogDisk + Drop, S: DatagramSocket>()
     ensures { D.is_honest → (genesis : GenesisValue) (cluster : Cluster) → IsReachable IsSealed D.is_metered S.is_telling genesis cluster
         → (place n most : ℕ) (device : Memory) → HasNode cluster place n (Down device)
         → (disks : Side → Disk) → ((s : Side) → disk_of device s ≡ disks s)
@@ -222,7 +222,7 @@ pub fn a_sealed_service_that_breaks_off_continues_a_cluster<D: LogDisk + Drop, S
 
 /// No node of a cluster begins anew with empty disks: a node that has sent a Prepare, a Promise, an Accept or an Accepted never has two empty ones
 /// (an acceptor must remember, even if it fails and restarts: Lamport, Paxos Made Simple, 2001, section 2.2).
-pub fn no_node_forgets<D: LogDisk, S: Datagrams>()
+pub fn no_node_forgets<D: LogDisk, S: DatagramSocket>()
     ensures { (genesis : GenesisValue) (cluster : Cluster) → IsReachable ForgesNothing D.is_metered S.is_telling genesis cluster
         → (node : Node) → Contains cluster.seats node
         → (m : NodeMessage) → MustBeRemembered m → HasSent cluster.genesis cluster.sent node.number m

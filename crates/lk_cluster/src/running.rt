@@ -11,7 +11,7 @@ use lk_events::line::Observer;
 use lk_locks::LockTable;
 use lk_replica::Replica;
 use lk_server::node_replica::NodeReplica;
-use lk_transport::socket::Datagrams;
+use lk_transport::socket::DatagramSocket;
 use lk_service::causes::FailureCause;
 use lk_service::resources::{NodePlan, Resources};
 use lk_service::running::run_node;
@@ -24,7 +24,7 @@ use std::time::Clock;
 /// device had goes on by it.
 pub fn run<
     D: LogDisk + FailureCause + Drop,
-    S: Datagrams + Drop,
+    S: DatagramSocket + Drop,
     C: Clock,
     L: Log,
     O: Observer,
@@ -38,14 +38,14 @@ pub fn run<
     observer: &mut O,
     err: &mut E,
 ) -> u8
-    requires { AreSealsOf plan.now.header resources.outside.seals }
+    requires { AreSealsOf plan.now.header resources.network.seals }
     ensures served { D.is_honest → result ≡ 0 → (genesis : GenesisValue) (cluster : Cluster) → IsReachable ForgesNothing D.is_metered S.is_telling genesis cluster
         → (place n : ℕ) → plan.now.header ≡ header_of cluster.genesis n → IsDownOn cluster place n (D.disk resources.device)
-        → ServesIn D.is_metered S.is_telling D.is_honest ⟦<Replica<LockTable, D> as NodeReplica>⟧.Says genesis cluster place n (D.disk resources.device) resources.outside.seals (2 ^ 48) }
+        → ServesIn D.is_metered S.is_telling D.is_honest ⟦<Replica<LockTable, D> as NodeReplica>⟧.Says genesis cluster place n (D.disk resources.device) resources.network.seals (2 ^ 48) }
     ensures broken { D.is_honest → result ≡ 1 → (genesis : GenesisValue) (cluster : Cluster) → IsReachable ForgesNothing D.is_metered S.is_telling genesis cluster
         → (place n : ℕ) → plan.now.header ≡ header_of cluster.genesis n → IsDownOn cluster place n (D.disk resources.device)
-        → RestsIn D.is_metered S.is_telling D.is_honest ⟦<Replica<LockTable, D> as NodeReplica>⟧.Says genesis cluster place n (D.disk resources.device) resources.outside.seals
-        ⊎ EndsIn D.is_metered S.is_telling D.is_honest ⟦<Replica<LockTable, D> as NodeReplica>⟧.Says genesis cluster place n (D.disk resources.device) resources.outside.seals (2 ^ 48) }
+        → RestsIn D.is_metered S.is_telling D.is_honest ⟦<Replica<LockTable, D> as NodeReplica>⟧.Says genesis cluster place n (D.disk resources.device) resources.network.seals
+        ⊎ EndsIn D.is_metered S.is_telling D.is_honest ⟦<Replica<LockTable, D> as NodeReplica>⟧.Says genesis cluster place n (D.disk resources.device) resources.network.seals (2 ^ 48) }
     ensures status { result ≤ 1 }
 {
     run_node::<LockTable, D, S, C, L, O, E>(clock, alloc, plan, resources, log, observer, err)

@@ -11,11 +11,11 @@ use lk_disk::LogDisk;
 use lk_entries::Header;
 use lk_locks::LockTable;
 use lk_replica::{Replica, ReviveFault};
-use lk_transport::ear::Ear;
+use lk_transport::receive_buffer::ReceiveBuffer;
 use lk_transport::fault::ServiceFault;
 use lk_server::metronome::Metronome;
 use lk_server::server::{Server, node_turn};
-use lk_transport::socket::Datagrams;
+use lk_transport::socket::DatagramSocket;
 use lk_service::resources::Resources;
 use lk_service::running::revive;
 use log::Log;
@@ -23,9 +23,9 @@ use std::alloc::Global;
 use std::time::Clock;
 
 /// One turn of a server of the lock table, on any honest device and any socket. It takes what came, out of its frames where the nodes have a key.
-pub fn turn<D: LogDisk + Drop, S: Datagrams + Drop, C: Clock, L: Log>(
+pub fn turn<D: LogDisk + Drop, S: DatagramSocket + Drop, C: Clock, L: Log>(
     server: &mut Server<Replica<LockTable, D>, S>,
-    ear: &mut Ear,
+    buffer: &mut ReceiveBuffer,
     metronome: &mut Metronome<C>,
     log: &L,
 ) -> Result<(), ServiceFault>
@@ -33,13 +33,13 @@ pub fn turn<D: LogDisk + Drop, S: Datagrams + Drop, C: Clock, L: Log>(
     ensures ends { D.is_honest → OnErr result ((frames : List (Address × List ℕ)) × HasWaited S.is_telling frames server.old × LastTurn (Says D.is_metered) S.is_telling (all_taken_as server.old.addresses.seals frames) server.old server.new) }
     ensures failed { server.new.failed ≡ server.new.replica.failed }
 {
-    let taken = node_turn(server, ear, metronome, log);
+    let taken = node_turn(server, buffer, metronome, log);
     let _ = server.replica();
     taken
 }
 
 /// A server of the lock table is taken up from any honest device.
-pub fn start<D: LogDisk + Drop, S: Datagrams + Drop, L: Log>(
+pub fn start<D: LogDisk + Drop, S: DatagramSocket + Drop, L: Log>(
     alloc: Global,
     header: &Header,
     resources: Resources<D, S>,

@@ -8,8 +8,8 @@ use lk_fuzz::fuzzing::MAX_EVENTS;
 use lk_fuzz::plan::Plan;
 use lk_server::pace::Pace;
 use lk_service::command_words::operation_of;
-use lk_client::far::Far;
-use lk_service::outside::Away;
+use lk_client::destination::Destination;
+use lk_service::network::NetworkOptions;
 use lk_client::question::Question;
 use lk_service::resources::NodePlan;
 use lk_types::limits::{MAX_CLIENT, MAX_COUNT};
@@ -49,12 +49,12 @@ fn address_in<'a>(matches: &ArgMatches<'a>, name: &'a str) -> Result<Option<IpAd
 }
 
 /// What a command line says of the machines outside.
-fn away_in<'a>(
+fn options_in<'a>(
     matches: &ArgMatches<'a>,
     name: &'a str,
     key: Option<&'a str>,
-) -> Result<Away<'a>, Misread<'a>> {
-    Ok(Away {
+) -> Result<NetworkOptions<'a>, Misread<'a>> {
+    Ok(NetworkOptions {
         hosts: matches.get_str("hosts"),
         bind: address_in(matches, name)?,
         key,
@@ -63,8 +63,8 @@ fn away_in<'a>(
 }
 
 /// What the command line of a client says of the machines outside.
-pub fn ask_away<'a>(matches: &ArgMatches<'a>) -> Result<Away<'a>, Misread<'a>> {
-    away_in(matches, "address", None)
+pub fn ask_options<'a>(matches: &ArgMatches<'a>) -> Result<NetworkOptions<'a>, Misread<'a>> {
+    options_in(matches, "address", None)
 }
 
 /// The genesis.
@@ -102,9 +102,9 @@ fn pace_in<'a>(matches: &ArgMatches<'a>) -> Result<Pace, Misread<'a>> {
     let has_key = matches.get_str("key").is_some();
     match matches.get_str("ticks") {
         None if has_key => Ok(Pace::Clock),
-        None => Ok(Pace::Datagrams),
+        None => Ok(Pace::DatagramSocket),
         Some("clock") => Ok(Pace::Clock),
-        Some("datagrams") if !has_key => Ok(Pace::Datagrams),
+        Some("datagrams") if !has_key => Ok(Pace::DatagramSocket),
         Some(_) => Err(misread(matches, "ticks")),
     }
 }
@@ -118,7 +118,7 @@ pub fn node_plan<'a>(matches: &ArgMatches<'a>) -> Result<NodePlan<'a>, Misread<'
         port: port_in(matches)?,
         pace: pace_in(matches)?,
         folder: word(matches, "dir"),
-        away: away_in(matches, "bind", matches.get_str("key"))?,
+        options: options_in(matches, "bind", matches.get_str("key"))?,
     })
 }
 
@@ -166,7 +166,7 @@ fn question_of<'a>(matches: &ArgMatches<'a>, op: Op) -> Result<Question, Misread
         cluster,
         port,
         request: Request { client, number, op },
-        far: Far::local(cluster),
+        destination: Destination::local(cluster),
     })
 }
 
@@ -210,7 +210,7 @@ fn turns_of<'a>(
 pub struct AskPlan<'a> {
     pub question: Question,
     pub turns: Vec<Port>,
-    pub away: Away<'a>,
+    pub options: NetworkOptions<'a>,
 }
 
 /// What `locks ask` is to do, given its operation and the ports that it asks in turn.
@@ -219,12 +219,12 @@ fn ask_plan_of<'a>(
     op: Op,
     turns: Vec<Port>,
 ) -> Result<AskPlan<'a>, Misread<'a>> {
-    let away = ask_away(matches)?;
+    let options = ask_options(matches)?;
     let question = question_of(matches, op)?;
     Ok(AskPlan {
         question,
         turns,
-        away,
+        options,
     })
 }
 

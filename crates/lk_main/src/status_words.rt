@@ -3,7 +3,7 @@
 use crate::misread::{Misread, misread, misread_word};
 use crate::plans::{client_in, number_in};
 use clap::ArgMatches;
-use lk_client::far::Far;
+use lk_client::destination::Destination;
 use lk_status::status::{Form, Plan};
 use lk_status::target::{Inquiry, Target, targets_of};
 use lk_types::ClientNo;
@@ -80,7 +80,7 @@ fn plan_of<'a>(matches: &ArgMatches<'a>, targets: Vec<Target>) -> Result<Plan, M
     let inquiry = Inquiry {
         cluster,
         client,
-        far: Far::local(cluster),
+        destination: Destination::local(cluster),
         targets,
         patience,
     };

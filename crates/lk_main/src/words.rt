@@ -4,7 +4,7 @@ ghost use Rattle.std.specs.Prelude.{◌≤◌};
 
 use crate::commands::program;
 use crate::misread::Misread;
-use crate::plans::{AskPlan, ask_away, ask_plan, client_key_plan, fuzz_plan, node_plan};
+use crate::plans::{AskPlan, ask_options, ask_plan, client_key_plan, fuzz_plan, node_plan};
 use crate::status_words::status_plan;
 use crate::subcommand::Subcommand;
 use crate::wants::warn_of_name;
@@ -25,7 +25,7 @@ use lk_service::causes::open_socket_at;
 use lk_service::client_key::client_key;
 use lk_service::demo::demo;
 use lk_service::dump::dump;
-use lk_service::outside::{Away, far_of};
+use lk_service::network::{NetworkOptions, destination_of};
 use lk_client::question::ask;
 use lk_service::resources::{NodePlan, open_resources};
 use lk_service::running::run_node;
@@ -126,8 +126,8 @@ fn run_node_words<R: Files<File = File> + Net + Eprint + Clock, E: Write>(
 }
 
 /// The address of a client's socket: any of its machine, in the family of the node that it asks.
-fn own_address(away: &Away<'_>) -> IpAddr {
-    match away.bind {
+fn own_address(options: &NetworkOptions<'_>) -> IpAddr {
+    match options.bind {
         None => IpAddr::V4(Ipv4Addr::LOCALHOST),
         Some(IpAddr::V4(_)) => IpAddr::V4(Ipv4Addr::UNSPECIFIED),
         Some(IpAddr::V6(_)) => IpAddr::V6(Ipv6Addr::UNSPECIFIED),
@@ -147,13 +147,13 @@ fn run_ask<R: Files<File = File> + Net, W: Write, E: Write>(
     let AskPlan {
         mut question,
         turns,
-        away,
+        options,
     } = plan;
-    question.far = match far_of(rt, alloc, question.cluster, &away, err) {
-        Ok(far) => far,
+    question.destination = match destination_of(rt, alloc, question.cluster, &options, err) {
+        Ok(destination) => destination,
         Err(fault) => return fault.tell(err),
     };
-    match open_socket_at(rt, SocketAddr::from((own_address(&away), 0)), err) {
+    match open_socket_at(rt, SocketAddr::from((own_address(&options), 0)), err) {
         Ok(mut socket) => ask(alloc, &mut socket, &question, &turns, out, err),
         Err(fault) => fault.tell(err),
     }
@@ -193,12 +193,12 @@ fn status_words<R: Files<File = File> + Net, W: Write, E: Write>(
         Ok(Err(misread)) => return refuse_words(&misread, err),
         Err(fault) => return fault.tell(err),
     };
-    let away = match ask_away(matches) {
-        Ok(away) => away,
+    let options = match ask_options(matches) {
+        Ok(options) => options,
         Err(misread) => return refuse_words(&misread, err),
     };
-    plan.inquiry.far = match far_of(rt, alloc, plan.inquiry.cluster, &away, err) {
-        Ok(far) => far,
+    plan.inquiry.destination = match destination_of(rt, alloc, plan.inquiry.cluster, &options, err) {
+        Ok(destination) => destination,
         Err(fault) => return fault.tell(err),
     };
     match open_socket_at(rt, SocketAddr::from((plan.inquiry.own_address(), 0)), err) {

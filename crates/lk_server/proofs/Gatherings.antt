@@ -7,7 +7,7 @@ use Rattle.lk_step.specs.Letters.{LetterValue}
 use Rattle.lk_seal.specs.Seals.{heard}
 use Rattle.lk_seal.specs.declared.seals.Seals.{Seals}
 use Rattle.lk_replica.specs.Groups.{GroupValue}
-use Rattle.lk_transport.specs.Addresses.{AddressBook, IsSameOutside}
+use Rattle.lk_transport.specs.Addresses.{AddressBook, IsSameNetwork}
 use Rattle.lk_server.specs.Gatherings.{Sayings, Gatherings, GathersMore, SaysNoMore, TakesAll, EndsWithin, TakesOwn, EndsOwn, TakesHeard, EndsHeard, TakesSocket, EndsSocket, Finds}
 use Rattle.lk_server.specs.declared.found.Found.{Found}
 use Rattle.lk_server.specs.declared.found.Found.TheVariants.{Nothing, Beside, Something}
@@ -132,8 +132,8 @@ pub hears_more : (cluster : ℕ) (xs ys : List (SocketAddr × List ℕ)) (old mi
 hears_more cluster [] ys old mid new a b = subst (λ (k : AddressBook). HearsAll cluster ys k new) a b
 hears_more cluster (x ∷ xs) ys old mid new a b = (a.0, a.1, hears_more cluster xs ys a.0 mid new a.2 b)
 
-pub same_outside : (old mid new : AddressBook) → IsSameOutside old mid → IsSameOutside mid new → IsSameOutside old new
-same_outside old mid new a b = (b.0 ∙ a.0, b.1 ∙ a.1)
+pub same_network : (old mid new : AddressBook) → IsSameNetwork old mid → IsSameNetwork mid new → IsSameNetwork old new
+same_network old mid new a b = (b.0 ∙ a.0, b.1 ∙ a.1)
 
 
 -- no frame came
@@ -248,7 +248,7 @@ module _ {R : Type 0} (G : Gatherings R) where
   pub socket_more : (tells : Type 0) (xs ys : List (SocketAddr × List ℕ)) (group one now : GroupValue) (old mid new : ServerValue R) → mid.cluster ≡ old.cluster
       → TakesSocket G tells xs group one old mid → TakesSocket G tells ys one now mid new → TakesSocket G tells (xs ++ ys) group now old new
   socket_more tells xs ys group one now old mid new cluster a b =
-      let seals = a.takes.outside.1 in
+      let seals = a.takes.network.1 in
       record {
         takes = record {
           takes = subst (λ (ds : List (List ℕ)). TakesAll G ds group now old new) (heard_more old.addresses.seals xs ys)
@@ -257,7 +257,7 @@ module _ {R : Type 0} (G : Gatherings R) where
           heard = subst (λ (cs : List (SocketAddr × List ℕ)). HearsAll old.cluster cs old.addresses new.addresses) (sym (taken_more old.addresses.seals xs ys))
               (hears_more old.cluster (all_taken_as old.addresses.seals xs) (all_taken_as old.addresses.seals ys) old.addresses mid.addresses new.addresses a.takes.heard
               (subst₂ (λ (n : ℕ) (s : Seals). HearsAll n (all_taken_as s ys) mid.addresses new.addresses) cluster seals b.takes.heard));
-          outside = same_outside old.addresses mid.addresses new.addresses a.takes.outside b.takes.outside;
+          network = same_network old.addresses mid.addresses new.addresses a.takes.network b.takes.network;
         };
         comes = λ t.
             a.comes t
@@ -268,13 +268,13 @@ module _ {R : Type 0} (G : Gatherings R) where
 
   -- a frame of which this was taken
   pub heard_one : (frame x : SocketAddr × List ℕ) (group now : GroupValue) (old mid new : ServerValue R) → taken_of old.addresses.seals frame ≡ x → is_beside x.1 ≡ false
-      → Hears old.cluster x.1 x.0 old.addresses mid.addresses → IsSameOutside old.addresses mid.addresses → new.addresses ≡ mid.addresses → mid.replica ≡ old.replica → mid.received ≡ old.received → mid.pace ≡ old.pace
+      → Hears old.cluster x.1 x.0 old.addresses mid.addresses → IsSameNetwork old.addresses mid.addresses → new.addresses ≡ mid.addresses → mid.replica ≡ old.replica → mid.received ≡ old.received → mid.pace ≡ old.pace
       → TakesAll G (x.1 ∷ []) group now mid new → TakesHeard G (frame ∷ []) group now old new
-  heard_one frame x group now old mid new is apart hears outside book replica received pace takes = record {
+  heard_one frame x group now old mid new is apart hears network book replica received pace takes = record {
     takes = subst (λ (cs : List (SocketAddr × List ℕ)). TakesAll G (datagrams_in [] cs) group now old new) (sym (taken_one old.addresses.seals frame x is apart))
         (takes_from (x.1 ∷ []) group now old mid new replica received pace takes);
     heard = subst (λ (cs : List (SocketAddr × List ℕ)). HearsAll old.cluster cs old.addresses new.addresses) (sym (taken_one old.addresses.seals frame x is apart)) (mid.addresses, hears, book);
-    outside = subst (λ (b : AddressBook). IsSameOutside old.addresses b) (sym book) outside;
+    network = subst (λ (b : AddressBook). IsSameNetwork old.addresses b) (sym book) network;
   }
 
   -- nothing is taken of a frame that stands beside the protocol
@@ -291,7 +291,7 @@ module _ {R : Type 0} (G : Gatherings R) where
           takes = subst (λ (cs : List (SocketAddr × List ℕ)). TakesAll G (datagrams_in [] cs) group now old new) (sym gone)
               (takes_from [] group now old mid new (ap (λ (s : ServerValue R). s.replica) others) (ap (λ (s : ServerValue R). s.received) others) (ap (λ (s : ServerValue R). s.pace) others) (takes_nothing group now mid new still same));
           heard = subst (λ (cs : List (SocketAddr × List ℕ)). HearsAll old.cluster cs old.addresses new.addresses) (sym gone) book;
-          outside = (ap (λ (b : AddressBook). b.hosts) book, ap (λ (b : AddressBook). b.seals) book);
+          network = (ap (λ (b : AddressBook). b.hosts) book, ap (λ (b : AddressBook). b.seals) book);
         };
         comes = λ t.
             comes t ∙ ap (λ (o : Option (SocketAddr × List ℕ)). all_taken_as old.addresses.seals (listed o) ++ mid.coming) is
@@ -305,7 +305,7 @@ module _ {R : Type 0} (G : Gatherings R) where
   socket_one tells e frame group now old mid new is comes others coming heard =
       let h = subst (λ (s : ServerValue R). TakesHeard G (frame ∷ []) group now s new) others heard in
       record {
-        takes = record { takes = record { gathers = h.takes.gathers; counted = h.takes.counted; pace = h.takes.pace }; heard = h.heard; outside = h.outside };
+        takes = record { takes = record { gathers = h.takes.gathers; counted = h.takes.counted; pace = h.takes.pace }; heard = h.heard; network = h.network };
         comes = λ t.
             comes t ∙ ap (λ (o : Option (SocketAddr × List ℕ)). all_taken_as old.addresses.seals (listed o) ++ mid.coming) is
             ∙ ap (λ (l : List (SocketAddr × List ℕ)). all_taken_as old.addresses.seals (frame ∷ []) ++ l) (sym coming);
@@ -317,7 +317,7 @@ module _ {R : Type 0} (G : Gatherings R) where
     takes = record {
       takes = takes_nothing group now old new is same;
       heard = ap (λ (s : ServerValue R). s.addresses) same;
-      outside = (ap (λ (s : ServerValue R). s.addresses.hosts) same, ap (λ (s : ServerValue R). s.addresses.seals) same);
+      network = (ap (λ (s : ServerValue R). s.addresses.hosts) same, ap (λ (s : ServerValue R). s.addresses.seals) same);
     };
     comes = λ t. sym (ap (λ (s : ServerValue R). s.coming) same);
   }
@@ -335,7 +335,7 @@ module _ {R : Type 0} (G : Gatherings R) where
             pace = ap (λ (s : ServerValue R). s.pace) same ∙ a.takes.takes.pace;
           };
           heard = subst (λ (b : AddressBook). HearsAll old.cluster (all_taken_as old.addresses.seals xs) old.addresses b) (sym book) a.takes.heard;
-          outside = subst (λ (b : AddressBook). IsSameOutside old.addresses b) (sym book) a.takes.outside;
+          network = subst (λ (b : AddressBook). IsSameNetwork old.addresses b) (sym book) a.takes.network;
         };
         comes = λ t. a.comes t ∙ ap (λ (l : List (SocketAddr × List ℕ)). all_taken_as old.addresses.seals xs ++ l) (sym (none t));
       }
@@ -405,13 +405,13 @@ module _ {R : Type 0} (S : Sayings R) (G : Gatherings R) where
   }
 
   pub ends_heard : (frame x : SocketAddr × List ℕ) (group : GroupValue) (old mid new : ServerValue R) → taken_of old.addresses.seals frame ≡ x → is_beside x.1 ≡ false
-      → Hears old.cluster x.1 x.0 old.addresses mid.addresses → IsSameOutside old.addresses mid.addresses → new.addresses ≡ mid.addresses → mid.replica ≡ old.replica → mid.received ≡ old.received → mid.pace ≡ old.pace
+      → Hears old.cluster x.1 x.0 old.addresses mid.addresses → IsSameNetwork old.addresses mid.addresses → new.addresses ≡ mid.addresses → mid.replica ≡ old.replica → mid.received ≡ old.received → mid.pace ≡ old.pace
       → EndsWithin S G (x.1 ∷ []) group mid new → EndsHeard S G (frame ∷ []) group old new
-  ends_heard frame x group old mid new is apart hears outside book replica received pace ends = record {
+  ends_heard frame x group old mid new is apart hears network book replica received pace ends = record {
     ends = subst (λ (cs : List (SocketAddr × List ℕ)). EndsWithin S G (datagrams_in [] cs) group old new) (sym (taken_one old.addresses.seals frame x is apart))
         (ends_from (x.1 ∷ []) group old mid new replica received pace ends);
     heard = subst (λ (cs : List (SocketAddr × List ℕ)). HearsAll old.cluster cs old.addresses new.addresses) (sym (taken_one old.addresses.seals frame x is apart)) (mid.addresses, hears, book);
-    outside = subst (λ (b : AddressBook). IsSameOutside old.addresses b) (sym book) outside;
+    network = subst (λ (b : AddressBook). IsSameNetwork old.addresses b) (sym book) network;
   }
 
   pub ends_socket : (tells : Type 0) (e : Option (SocketAddr × List ℕ)) (frame : SocketAddr × List ℕ) (group : GroupValue) (old mid new : ServerValue R) → e ≡ Some frame
@@ -420,7 +420,7 @@ module _ {R : Type 0} (S : Sayings R) (G : Gatherings R) where
   ends_socket tells e frame group old mid new is comes others coming ends =
       let h = subst (λ (s : ServerValue R). EndsHeard S G (frame ∷ []) group s new) others ends in
       record {
-        ends = record { ends = record { given = h.ends.given; front = h.ends.front; silent = h.ends.silent }; heard = h.heard; outside = h.outside };
+        ends = record { ends = record { given = h.ends.given; front = h.ends.front; silent = h.ends.silent }; heard = h.heard; network = h.network };
         comes = λ t.
             comes t ∙ ap (λ (o : Option (SocketAddr × List ℕ)). all_taken_as old.addresses.seals (listed o) ++ mid.coming) is
             ∙ ap (λ (l : List (SocketAddr × List ℕ)). all_taken_as old.addresses.seals (frame ∷ []) ++ l) (sym coming);
@@ -429,7 +429,7 @@ module _ {R : Type 0} (S : Sayings R) (G : Gatherings R) where
   pub ends_further : (tells : Type 0) (xs ys : List (SocketAddr × List ℕ)) (group one : GroupValue) (old mid new : ServerValue R) → mid.cluster ≡ old.cluster
       → TakesSocket G tells xs group one old mid → EndsSocket S G tells ys one mid new → EndsSocket S G tells (xs ++ ys) group old new
   ends_further tells xs ys group one old mid new cluster a b =
-      let seals = a.takes.outside.1 in
+      let seals = a.takes.network.1 in
       record {
         ends = record {
           ends = subst (λ (ds : List (List ℕ)). EndsWithin S G ds group old new) (heard_more old.addresses.seals xs ys)
@@ -438,7 +438,7 @@ module _ {R : Type 0} (S : Sayings R) (G : Gatherings R) where
           heard = subst (λ (cs : List (SocketAddr × List ℕ)). HearsAll old.cluster cs old.addresses new.addresses) (sym (taken_more old.addresses.seals xs ys))
               (hears_more old.cluster (all_taken_as old.addresses.seals xs) (all_taken_as old.addresses.seals ys) old.addresses mid.addresses new.addresses a.takes.heard
               (subst₂ (λ (n : ℕ) (s : Seals). HearsAll n (all_taken_as s ys) mid.addresses new.addresses) cluster seals b.ends.heard));
-          outside = same_outside old.addresses mid.addresses new.addresses a.takes.outside b.ends.outside;
+          network = same_network old.addresses mid.addresses new.addresses a.takes.network b.ends.network;
         };
         comes = λ t.
             a.comes t

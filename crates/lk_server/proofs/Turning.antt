@@ -7,7 +7,7 @@ use Rattle.lk_replica.specs.Groups.{GroupValue}
 use Rattle.lk_replica.specs.declared.fault.ReplicaFault.{ReplicaFault}
 use Rattle.lk_replica.specs.declared.fault.ReplicaFault.TheVariants as fault
 use Rattle.lk_replica.specs.Faults.{fault_number}
-use Rattle.lk_transport.specs.Addresses.{AddressBook, IsSameOutside}
+use Rattle.lk_transport.specs.Addresses.{AddressBook, IsSameNetwork}
 use Rattle.lk_transport.specs.Faults.{replica_fault}
 use Rattle.lk_transport.specs.declared.fault.ServiceFault.TheVariants.{Send}
 use Rattle.lk_server.specs.Gatherings.{Sayings, Gatherings, GathersMore, SaysNoMore, Finds, TakesAll, EndsWithin, TakesOwn, EndsOwn, TakesSocket, EndsSocket, TakesWaiting, TakesGroup, EndsGroup, HandsOnAll, SaysNothing}
@@ -19,7 +19,7 @@ use Rattle.lk_server.specs.Servers.{ServerValue, HandsOn, HandsNothing, HasWaite
 use Rattle.lk_server.specs.declared.found.Found.{Found}
 use Rattle.lk_server.specs.declared.found.Found.TheVariants.{Nothing, Beside, Something}
 use Rattle.lk_server.specs.declared.pace.Pace.{Pace}
-use Rattle.lk_server.specs.declared.pace.Pace.TheVariants.{Datagrams, Clock}
+use Rattle.lk_server.specs.declared.pace.Pace.TheVariants.{DatagramSocket, Clock}
 use Rattle.lk_server.proofs.Gatherings.{takes_more, ends_more, long_as, taken_first}
 
 -- a fault that tells of no lost letter is told as none
@@ -34,7 +34,7 @@ not_send (fault.Send notes) other is = other refl
 
 -- no tick may follow, however they go
 no_tick : (pace : Pace) → MayFollow pace []
-no_tick Datagrams = refl
+no_tick DatagramSocket = refl
 no_tick Clock = inl refl
 
 -- by the clock one may
@@ -93,7 +93,7 @@ module _ {R : Type 0} (S : Sayings R) (G : Gatherings R) (tells : Type 0) where
     some = some_datagrams old.addresses.seals (take 64 old.own) frame frames (ap (λ (o : List LetterValue). take 64 o) none) apart;
     left = own ∙ none ∙ sym (ap (λ (o : List LetterValue). drop 64 o) none);
     heard = t.takes.heard;
-    outside = t.takes.outside;
+    network = t.takes.network;
   }
 
   pub socket_ends : (frame : SocketAddr × List ℕ) (frames : List (SocketAddr × List ℕ)) (group : GroupValue) (old new : ServerValue R) → old.own ≡ [] → new.own ≡ old.own → length frames ≤ 63
@@ -115,7 +115,7 @@ module _ {R : Type 0} (S : Sayings R) (G : Gatherings R) (tells : Type 0) where
         silent = e.silent;
         left = own ∙ none ∙ sym (ap (λ (o : List LetterValue). drop 0 o) none);
         heard = t.ends.heard;
-        outside = t.ends.outside;
+        network = t.ends.network;
       }
 
   -- letters of the node to itself: a first one, and further ones
@@ -135,7 +135,7 @@ module _ {R : Type 0} (S : Sayings R) (G : Gatherings R) (tells : Type 0) where
     some = λ is. let both : l.bytes ∷ datagrams_in (take 63 mid.own) [] ≡ [] = sym (ap (λ (o : List LetterValue). datagrams_in (take 64 o) []) own) ∙ is in cc both;
     left = further.left ∙ sym (ap (λ (o : List LetterValue). drop 64 o) own);
     heard = book;
-    outside = (ap (λ (b : AddressBook). b.hosts) book, ap (λ (b : AddressBook). b.seals) book);
+    network = (ap (λ (b : AddressBook). b.hosts) book, ap (λ (b : AddressBook). b.seals) book);
   }
 
   -- so many of them have ended it
@@ -158,7 +158,7 @@ module _ {R : Type 0} (S : Sayings R) (G : Gatherings R) (tells : Type 0) where
         silent = e.silent;
         left = left ∙ sym (ap (λ (o : List LetterValue). drop (suc count) o) own);
         heard = book;
-        outside = (ap (λ (b : AddressBook). b.hosts) book, ap (λ (b : AddressBook). b.seals) book);
+        network = (ap (λ (b : AddressBook). b.hosts) book, ap (λ (b : AddressBook). b.seals) book);
       }
 
   -- the first has
@@ -197,7 +197,7 @@ module _ {R : Type 0} (S : Sayings R) (G : Gatherings R) (tells : Type 0) where
         counted = t.takes.counted;
         left = t.left;
         heard = t.heard;
-        outside = t.outside;
+        network = t.network;
       }
 
   -- one is, behind what waits
@@ -218,8 +218,8 @@ module _ {R : Type 0} (S : Sayings R) (G : Gatherings R) (tells : Type 0) where
     tick_heard : HearsAll old.cluster (all_taken_as old.addresses.seals frames) old.addresses new.addresses
     tick_heard = subst (λ (b : AddressBook). HearsAll old.cluster (all_taken_as old.addresses.seals frames) old.addresses b) (sym (ap (λ (s : ServerValue R). s.addresses) same)) t.heard
 
-    tick_outside : IsSameOutside old.addresses new.addresses
-    tick_outside = subst (λ (b : AddressBook). IsSameOutside old.addresses b) (sym (ap (λ (s : ServerValue R). s.addresses) same)) t.outside
+    tick_outside : IsSameNetwork old.addresses new.addresses
+    tick_outside = subst (λ (b : AddressBook). IsSameNetwork old.addresses b) (sym (ap (λ (s : ServerValue R). s.addresses) same)) t.network
 
     pub tick_behind : (now : GroupValue) → GathersMore G (None ∷ []) one now mid.replica new.replica → TakesGroup G tells frames group now old new
     tick_behind now ticks = record {
@@ -233,7 +233,7 @@ module _ {R : Type 0} (S : Sayings R) (G : Gatherings R) (tells : Type 0) where
       counted = ap (λ (s : ServerValue R). s.received) same ∙ t.takes.counted;
       left = tick_left;
       heard = tick_heard;
-      outside = tick_outside;
+      network = tick_outside;
     }
 
     -- it has ended it
@@ -250,7 +250,7 @@ module _ {R : Type 0} (S : Sayings R) (G : Gatherings R) (tells : Type 0) where
           (silent first (given ++ all_inputs old.pace old.received waited) (t.takes.gathers first given was));
       left = tick_left;
       heard = tick_heard;
-      outside = tick_outside;
+      network = tick_outside;
     }
 
   -- it is alone: a replica is given nothing of what came in these frames
@@ -277,7 +277,7 @@ module _ {R : Type 0} (S : Sayings R) (G : Gatherings R) (tells : Type 0) where
     alone_heard : HearsAll old.cluster (all_taken_as old.addresses.seals frames) old.addresses new.addresses
     alone_heard = subst (λ (cs : List (SocketAddr × List ℕ)). HearsAll old.cluster cs old.addresses new.addresses) (sym f.beside) alone_book
 
-    alone_outside : IsSameOutside old.addresses new.addresses
+    alone_outside : IsSameNetwork old.addresses new.addresses
     alone_outside = (ap (λ (b : AddressBook). b.hosts) alone_book, ap (λ (b : AddressBook). b.seals) alone_book)
 
     alone_own : new.own ≡ []
@@ -293,7 +293,7 @@ module _ {R : Type 0} (S : Sayings R) (G : Gatherings R) (tells : Type 0) where
       counted = ap (λ (s : ServerValue R). s.received) same ∙ ap (λ (s : ServerValue R). s.received) f.same ∙ sym (ap (λ (ds : List (List ℕ)). counted old.received ds) (no_datagrams 64));
       left = alone_own ∙ sym (ap (λ (o : List LetterValue). drop 64 o) own);
       heard = alone_heard;
-      outside = alone_outside;
+      network = alone_outside;
     }
 
     pub tick_ends_alone : SaysNoMore S G (None ∷ []) one mid.replica new.replica → EndsGroup S G tells frames group old new
@@ -308,21 +308,21 @@ module _ {R : Type 0} (S : Sayings R) (G : Gatherings R) (tells : Type 0) where
       silent = subst₂ (λ (x : GroupValue) (r : R). SaysNoMore S G (None ∷ []) x r new.replica) begun mine silent;
       left = alone_own ∙ sym (ap (λ (o : List LetterValue). drop 64 o) own);
       heard = alone_heard;
-      outside = alone_outside;
+      network = alone_outside;
     }
 
   -- no tick is due, and nothing waits that a replica is given
-  by_clock : (pace : Pace) (found : Found) (frames : List (SocketAddr × List ℕ)) (due : Bool) → due ≡ false → (pace ≡ Datagrams → found ≡ Nothing → due ≡ true) → (found ≡ Beside → frames ≢ []) → (found ≡ Something → ⊥)
+  by_clock : (pace : Pace) (found : Found) (frames : List (SocketAddr × List ℕ)) (due : Bool) → due ≡ false → (pace ≡ DatagramSocket → found ≡ Nothing → due ≡ true) → (found ≡ Beside → frames ≢ []) → (found ≡ Something → ⊥)
       → frames ≡ [] → pace ≡ Clock
   by_clock Clock found frames due isnt nothing some apart empty = refl
-  by_clock Datagrams Nothing frames due isnt nothing some apart empty = absurd (cc (isnt, nothing refl refl))
-  by_clock Datagrams Beside frames due isnt nothing some apart empty = absurd (some refl empty)
-  by_clock Datagrams Something frames due isnt nothing some apart empty = absurd (apart refl)
+  by_clock DatagramSocket Nothing frames due isnt nothing some apart empty = absurd (cc (isnt, nothing refl refl))
+  by_clock DatagramSocket Beside frames due isnt nothing some apart empty = absurd (some refl empty)
+  by_clock DatagramSocket Something frames due isnt nothing some apart empty = absurd (apart refl)
 
   -- a tick is due behind what waits by the clock alone
-  clock_of : (pace : Pace) (due : Bool) → due ≡ true → (pace ≡ Datagrams → due ≡ false) → pace ≡ Clock
+  clock_of : (pace : Pace) (due : Bool) → due ≡ true → (pace ≡ DatagramSocket → due ≡ false) → pace ≡ Clock
   clock_of Clock due is_so given = refl
-  clock_of Datagrams due is_so given = absurd (cc (is_so, given refl))
+  clock_of DatagramSocket due is_so given = absurd (cc (is_so, given refl))
 
   -- this was found, and nothing of it was taken
   abbrev pub HasFound : Found → GroupValue → GroupValue → ServerValue R → ServerValue R → Type 0
@@ -332,7 +332,7 @@ module _ {R : Type 0} (S : Sayings R) (G : Gatherings R) (tells : Type 0) where
   pub untimely_takes : (group one : GroupValue) (old mid : ServerValue R) → (frames : List (SocketAddr × List ℕ)) × TakesWaiting G tells frames group one old mid → (frames : List (SocketAddr × List ℕ)) × TakesGroup G tells frames group one old mid
   untimely_takes group one old mid t = (t.0, without_tick t.0 group one old mid t.1)
 
-  pub untimely_rests : (found : Found) (due : Bool) (group one : GroupValue) (old mid : ServerValue R) → mid.pace ≡ old.pace → due ≡ false → (mid.pace ≡ Datagrams → found ≡ Nothing → due ≡ true) → (found ≡ Something → ⊥)
+  pub untimely_rests : (found : Found) (due : Bool) (group one : GroupValue) (old mid : ServerValue R) → mid.pace ≡ old.pace → due ≡ false → (mid.pace ≡ DatagramSocket → found ≡ Nothing → due ≡ true) → (found ≡ Something → ⊥)
       → HasFound found group one old mid → (frames : List (SocketAddr × List ℕ)) × HasWaited tells frames old × IsIdle tells frames old mid
   untimely_rests found due group one old mid pace isnt nothing apart n = (
     n.1,
@@ -343,14 +343,14 @@ module _ {R : Type 0} (S : Sayings R) (G : Gatherings R) (tells : Type 0) where
   -- one is
   module _ (due : Bool) (group one : GroupValue) (old mid new : ServerValue R) (pace : mid.pace ≡ old.pace) (is_so : due ≡ true) (same : new ≡ record mid { replica = new.replica; failed = new.failed }) where
     pub tick_turn : (found : Found) (now : GroupValue) → (found ≡ Something → (frames : List (SocketAddr × List ℕ)) × TakesWaiting G tells frames group one old mid) → ((found ≡ Something → ⊥) → HasFound found group one old mid)
-        → (mid.pace ≡ Datagrams → found ≡ Something → due ≡ false) → GathersMore G (None ∷ []) one now mid.replica new.replica → (frames : List (SocketAddr × List ℕ)) × TakesGroup G tells frames group now old new
+        → (mid.pace ≡ DatagramSocket → found ≡ Something → due ≡ false) → GathersMore G (None ∷ []) one now mid.replica new.replica → (frames : List (SocketAddr × List ℕ)) × TakesGroup G tells frames group now old new
     tick_turn Something now takes none given ticks =
         let t = takes refl in (t.0, tick_behind t.0 group one old mid new (sym pace ∙ clock_of mid.pace due is_so (λ is. given is refl)) t.1 same now ticks)
     tick_turn Nothing now takes none given ticks = let n = none (λ is. cc is) in (n.1, tick_alone Nothing n.1 group one old mid new n.0 n.2 n.3 same now ticks)
     tick_turn Beside now takes none given ticks = let n = none (λ is. cc is) in (n.1, tick_alone Beside n.1 group one old mid new n.0 n.2 n.3 same now ticks)
 
     pub tick_turn_ends : (found : Found) → (found ≡ Something → (frames : List (SocketAddr × List ℕ)) × TakesWaiting G tells frames group one old mid) → ((found ≡ Something → ⊥) → HasFound found group one old mid)
-        → (mid.pace ≡ Datagrams → found ≡ Something → due ≡ false) → SaysNoMore S G (None ∷ []) one mid.replica new.replica → (frames : List (SocketAddr × List ℕ)) × EndsGroup S G tells frames group old new
+        → (mid.pace ≡ DatagramSocket → found ≡ Something → due ≡ false) → SaysNoMore S G (None ∷ []) one mid.replica new.replica → (frames : List (SocketAddr × List ℕ)) × EndsGroup S G tells frames group old new
     tick_turn_ends Something takes none given silent =
         let t = takes refl in (t.0, tick_ends_behind t.0 group one old mid new (sym pace ∙ clock_of mid.pace due is_so (λ is. given is refl)) t.1 same silent)
     tick_turn_ends Nothing takes none given silent = let n = none (λ is. cc is) in (n.1, tick_ends_alone Nothing n.1 group one old mid new n.0 n.2 n.3 same silent)

@@ -5,7 +5,7 @@ use Rattle.lk_step.specs.Letters.{LetterValue}
 use Rattle.lk_replica.specs.Groups.{GroupValue}
 use Rattle.lk_server.specs.declared.found.Found.{Found}
 use Rattle.lk_server.specs.declared.found.Found.TheVariants.{Beside}
-use Rattle.lk_transport.specs.Addresses.{IsSameOutside}
+use Rattle.lk_transport.specs.Addresses.{IsSameNetwork}
 use Rattle.lk_transport.specs.Posts.{HearsAll, all_taken_as}
 use Rattle.lk_server.specs.Servers.{ServerValue, all_inputs, counted, datagrams_in, Given, GivenFirst, HasWaited, IsFront, TakesFirst, TakesLetters, HandsOn}
 
@@ -46,7 +46,7 @@ module _ {R : Type 0} (Gathers : Gatherings R) where
   pub record TakesHeard (frames : List (SocketAddr × List ℕ)) (group now : GroupValue) (old new : ServerValue R) : Type 0 where
     pub takes : TakesAll (datagrams_in [] (all_taken_as old.addresses.seals frames)) group now old new
     pub heard : HearsAll old.cluster (all_taken_as old.addresses.seals frames) old.addresses new.addresses
-    pub outside : IsSameOutside old.addresses new.addresses
+    pub network : IsSameNetwork old.addresses new.addresses
 
   -- just these frames came from the socket, in order
   pub record TakesSocket (tells : Type 0) (frames : List (SocketAddr × List ℕ)) (group now : GroupValue) (old new : ServerValue R) : Type 0 where
@@ -61,7 +61,7 @@ module _ {R : Type 0} (Gathers : Gatherings R) where
     pub some : datagrams_in (take 64 old.own) (all_taken_as old.addresses.seals frames) ≢ []
     pub left : new.own ≡ drop 64 old.own
     pub heard : HearsAll old.cluster (all_taken_as old.addresses.seals frames) old.addresses new.addresses
-    pub outside : IsSameOutside old.addresses new.addresses
+    pub network : IsSameNetwork old.addresses new.addresses
 
   -- what is taken in a turn: what waits, and a tick where one is due
   pub record TakesGroup (tells : Type 0) (frames : List (SocketAddr × List ℕ)) (group now : GroupValue) (old new : ServerValue R) : Type 0 where
@@ -73,7 +73,7 @@ module _ {R : Type 0} (Gathers : Gatherings R) where
     pub counted : new.received ≡ counted old.received (datagrams_in (take 64 old.own) (all_taken_as old.addresses.seals frames))
     pub left : new.own ≡ drop 64 old.own
     pub heard : HearsAll old.cluster (all_taken_as old.addresses.seals frames) old.addresses new.addresses
-    pub outside : IsSameOutside old.addresses new.addresses
+    pub network : IsSameNetwork old.addresses new.addresses
 
 module _ {R : Type 0} (Says : Sayings R) (Gathers : Gatherings R) where
   -- whatever it was given in this group, this has ended it, and nothing of the group is said
@@ -99,7 +99,7 @@ module _ {R : Type 0} (Says : Sayings R) (Gathers : Gatherings R) where
   pub record EndsHeard (frames : List (SocketAddr × List ℕ)) (group : GroupValue) (old new : ServerValue R) : Type 0 where
     pub ends : EndsWithin (datagrams_in [] (all_taken_as old.addresses.seals frames)) group old new
     pub heard : HearsAll old.cluster (all_taken_as old.addresses.seals frames) old.addresses new.addresses
-    pub outside : IsSameOutside old.addresses new.addresses
+    pub network : IsSameNetwork old.addresses new.addresses
 
   pub record EndsSocket (tells : Type 0) (frames : List (SocketAddr × List ℕ)) (group : GroupValue) (old new : ServerValue R) : Type 0 where
     pub ends : EndsHeard frames group old new
@@ -116,7 +116,7 @@ module _ {R : Type 0} (Says : Sayings R) (Gathers : Gatherings R) where
     pub silent : SaysNoMore given group old.replica new.replica
     pub left : new.own ≡ drop count old.own
     pub heard : HearsAll old.cluster (all_taken_as old.addresses.seals frames) old.addresses new.addresses
-    pub outside : IsSameOutside old.addresses new.addresses
+    pub network : IsSameNetwork old.addresses new.addresses
 
   -- ---- the end of a group
 

@@ -2,6 +2,6 @@ pub mod Paces
 pub mod Servers
 pub mod Gatherings
 pub mod Probes
-pub mod Sights
+pub mod Statuses
 pub mod Sayings
 pub mod Premises

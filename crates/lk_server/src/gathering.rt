@@ -4,7 +4,7 @@ ghost use Rattle.std.specs.Prelude.{◌≡◌, ◌≢◌, ◌≤◌, ◌++◌, �
 ghost use Rattle.std.specs.declared.net.socket_addr.SocketAddr.{SocketAddr as Address};
 ghost use Rattle.lk_step.specs.Letters.{LetterValue};
 ghost use Rattle.lk_node.specs.Calls.{heard_by};
-ghost use Rattle.lk_transport.specs.Addresses.{IsSameOutside};
+ghost use Rattle.lk_transport.specs.Addresses.{IsSameNetwork};
 ghost use Rattle.lk_server.specs.Gatherings.{GathersMore, SaysNoMore, Finds, TakesAll, EndsWithin, TakesOwn, EndsOwn, TakesHeard, EndsHeard, TakesSocket, EndsSocket, TakesWaiting, TakesGroup, EndsGroup};
 ghost use Rattle.lk_transport.specs.Hearing.{listed};
 ghost use Rattle.lk_transport.specs.Posts.{Hears, all_taken_as, is_beside};
@@ -13,14 +13,14 @@ ghost use Rattle.lk_transport.specs.Askers.{Keeps};
 ghost use Rattle.lk_server.specs.Servers.{HasWaited, IsIdle};
 
 use lk_transport::asked::is_beside;
-use lk_transport::came::Came;
-use lk_transport::ear::Ear;
+use lk_transport::arrival::Arrival;
+use lk_transport::receive_buffer::ReceiveBuffer;
 use lk_transport::fault::ServiceFault;
 use crate::found::Found;
 use crate::metronome::Metronome;
 use crate::node_replica::NodeReplica;
 use crate::server::Server;
-use lk_transport::socket::Datagrams;
+use lk_transport::socket::DatagramSocket;
 use crate::watching::{log_changes, log_served};
 use lk_replica::Group;
 use lk_step::{Input, Letter};
@@ -31,7 +31,7 @@ use std::time::{Clock, Duration};
 /// So many datagrams are in a group at most, behind its first.
 const FURTHER: u64 = 63;
 
-impl<R: NodeReplica, S: Datagrams + Drop> Server<R, S> {
+impl<R: NodeReplica, S: DatagramSocket + Drop> Server<R, S> {
     // Takes out the first letter of the node to itself.
     fn next_letter(&mut self) -> Option<Letter>
         ensures some { IfSome result (λ l. self.old.own ≡ l ∷ self.new.own) }
@@ -49,32 +49,32 @@ impl<R: NodeReplica, S: Datagrams + Drop> Server<R, S> {
     }
 
     // The ear hears the next datagram of the socket, if one comes.
-    fn listen(&mut self, ear: &mut Ear)
-        ensures comes { S.is_telling → self.old.coming ≡ all_taken_as self.old.addresses.seals (listed ear.new.last) ++ self.new.coming }
-        ensures none { S.is_telling → ear.new.last ≡ None → self.old.coming ≡ [] }
+    fn listen(&mut self, buffer: &mut ReceiveBuffer)
+        ensures comes { S.is_telling → self.old.coming ≡ all_taken_as self.old.addresses.seals (listed buffer.new.last) ++ self.new.coming }
+        ensures none { S.is_telling → buffer.new.last ≡ None → self.old.coming ≡ [] }
         ensures others { self.new ≡ record self.old { coming = self.new.coming } }
     {
-        self.post.listen(ear);
+        self.post.listen(buffer);
     }
 
     // The same of one that waits there already.
-    fn listen_waiting(&mut self, ear: &mut Ear)
-        ensures comes { S.is_telling → self.old.coming ≡ all_taken_as self.old.addresses.seals (listed ear.new.last) ++ self.new.coming }
-        ensures none { S.is_telling → ear.new.last ≡ None → self.old.coming ≡ [] }
+    fn listen_waiting(&mut self, buffer: &mut ReceiveBuffer)
+        ensures comes { S.is_telling → self.old.coming ≡ all_taken_as self.old.addresses.seals (listed buffer.new.last) ++ self.new.coming }
+        ensures none { S.is_telling → buffer.new.last ≡ None → self.old.coming ≡ [] }
         ensures others { self.new ≡ record self.old { coming = self.new.coming } }
     {
-        self.post.listen_waiting(ear);
+        self.post.listen_waiting(buffer);
     }
 
     // Keeps from where a datagram of its cluster came, and counts one that says nothing to it.
-    fn hear<L: Log>(&mut self, bytes: &[u8], from: SocketAddr, log: &L) -> Came
+    fn hear<L: Log>(&mut self, bytes: &[u8], from: SocketAddr, log: &L) -> Arrival
         ensures heard { Hears self.old.cluster bytes.now from self.old.addresses self.new.addresses }
         // Where nodes live, and the keys, stay what they were.
-        ensures outside { IsSameOutside self.old.addresses self.new.addresses }
+        ensures network { IsSameNetwork self.old.addresses self.new.addresses }
         ensures others { self.new ≡ record self.old { addresses = self.new.addresses } }
     {
         let came = self.post.hear(self.cluster, bytes, from);
-        self.strangers.count(&came, log);
+        self.ignored.count(&came, log);
         came
     }
 
@@ -82,7 +82,7 @@ impl<R: NodeReplica, S: Datagrams + Drop> Server<R, S> {
     fn gather<L: Log>(
         &mut self,
         input: Input,
-        came: &Came,
+        came: &Arrival,
         group: &mut Group,
         log: &L,
     ) -> Result<(), ServiceFault>
@@ -92,10 +92,10 @@ impl<R: NodeReplica, S: Datagrams + Drop> Server<R, S> {
         ensures passes { IfErr result (λ f. f ≡ ServiceFault.Send → ⊥) }
         ensures broken { OnErr result (self.new.failed ≡ true) }
     {
-        let before = self.replica.sight();
+        let before = self.replica.status();
         let said = group.letters().len();
         let gathered = self.replica.gather(input, group);
-        let after = self.replica.sight();
+        let after = self.replica.status();
         self.happened.note(came, &before, &after);
         log_changes(log, came, &before, &after);
         log_served(log, came, group.letters().len().saturating_sub(said));
@@ -118,14 +118,14 @@ impl<R: NodeReplica, S: Datagrams + Drop> Server<R, S> {
         ensures broken { OnErr result (self.new.failed ≡ true) }
     {
         self.ticks = self.ticks.saturating_add(1);
-        self.gather(Input::Tick, &Came::Tick, group, log)
+        self.gather(Input::Tick, &Arrival::Tick, group, log)
     }
 
     // Its replica takes a datagram into the group, and a tick where one follows it.
     fn gather_counted<L: Log>(
         &mut self,
         bytes: &[u8],
-        came: &Came,
+        came: &Arrival,
         group: &mut Group,
         log: &L,
     ) -> Result<(), ServiceFault>
@@ -155,7 +155,7 @@ impl<R: NodeReplica, S: Datagrams + Drop> Server<R, S> {
         let Some(letter) = self.next_letter() else {
             return Ok(false);
         };
-        let came = Came::own(&letter.bytes);
+        let came = Arrival::own(&letter.bytes);
         self.gather_counted(&letter.bytes, &came, group, log)?;
         Ok(true)
     }
@@ -179,28 +179,28 @@ impl<R: NodeReplica, S: Datagrams + Drop> Server<R, S> {
     // The group takes what the ear has heard, out of its frame. What stands beside the protocol it is not given: of that the first probe is kept. What was found.
     fn gather_heard<L: Log>(
         &mut self,
-        ear: &mut Ear,
+        buffer: &mut ReceiveBuffer,
         group: &mut Group,
         log: &L,
     ) -> Result<Found, ServiceFault>
-        ensures takes { IfOk result (λ found. found ≡ Found.Something → (frame : Address × List ℕ) × (ear.old.last ≡ Some frame) × (is_beside (heard self.old.addresses.seals frame.1) ≡ false) × TakesHeard R.Gathers (frame ∷ []) group.old group.new self.old self.new) }
-        ensures beside { IfOk result (λ found. found ≡ Found.Beside → (frame : Address × List ℕ) × (ear.old.last ≡ Some frame) × (is_beside (heard self.old.addresses.seals frame.1) ≡ true) × (self.new ≡ self.old) × (group.new ≡ group.old)) }
-        ensures none { IfOk result (λ found. found ≡ Found.Nothing → (ear.old.last ≡ None) × (self.new ≡ self.old) × (group.new ≡ group.old)) }
-        ensures ends { OnErr result ((frame : Address × List ℕ) × (ear.old.last ≡ Some frame) × (is_beside (heard self.old.addresses.seals frame.1) ≡ false) × EndsHeard R.Says R.Gathers (frame ∷ []) group.old self.old self.new) }
-        ensures kept { IfOk result (λ found. found ≡ Found.Beside → Keeps self.old.addresses.seals ear.old ear.new) }
-        ensures rest { IfOk result (λ found. (found ≡ Found.Beside → ⊥) → ear.new ≡ ear.old) }
-        ensures spares { OnErr result (ear.new ≡ ear.old) }
+        ensures takes { IfOk result (λ found. found ≡ Found.Something → (frame : Address × List ℕ) × (buffer.old.last ≡ Some frame) × (is_beside (heard self.old.addresses.seals frame.1) ≡ false) × TakesHeard R.Gathers (frame ∷ []) group.old group.new self.old self.new) }
+        ensures beside { IfOk result (λ found. found ≡ Found.Beside → (frame : Address × List ℕ) × (buffer.old.last ≡ Some frame) × (is_beside (heard self.old.addresses.seals frame.1) ≡ true) × (self.new ≡ self.old) × (group.new ≡ group.old)) }
+        ensures none { IfOk result (λ found. found ≡ Found.Nothing → (buffer.old.last ≡ None) × (self.new ≡ self.old) × (group.new ≡ group.old)) }
+        ensures ends { OnErr result ((frame : Address × List ℕ) × (buffer.old.last ≡ Some frame) × (is_beside (heard self.old.addresses.seals frame.1) ≡ false) × EndsHeard R.Says R.Gathers (frame ∷ []) group.old self.old self.new) }
+        ensures kept { IfOk result (λ found. found ≡ Found.Beside → Keeps self.old.addresses.seals buffer.old buffer.new) }
+        ensures rest { IfOk result (λ found. (found ≡ Found.Beside → ⊥) → buffer.new ≡ buffer.old) }
+        ensures spares { OnErr result (buffer.new ≡ buffer.old) }
         ensures others { self.new ≡ record self.old { replica = self.new.replica; failed = self.new.failed; received = self.new.received; addresses = self.new.addresses } }
         ensures passes { IfErr result (λ f. f ≡ ServiceFault.Send → ⊥) }
         ensures broken { OnErr result (self.new.failed ≡ true) }
     {
-        let Some((frame, from)) = ear.heard() else {
+        let Some((frame, from)) = buffer.heard() else {
             return Ok(Found::Nothing);
         };
         let datagram = self.post.open(frame);
         if is_beside(datagram) {
             let asked = self.post.asked(from, frame, datagram);
-            ear.keep(asked);
+            buffer.keep(asked);
             return Ok(Found::Beside);
         }
         let came = self.hear(datagram, from, log);
@@ -211,7 +211,7 @@ impl<R: NodeReplica, S: Datagrams + Drop> Server<R, S> {
     // The group takes the next datagram of the socket, if one comes. What was found.
     fn gather_first<L: Log>(
         &mut self,
-        ear: &mut Ear,
+        buffer: &mut ReceiveBuffer,
         group: &mut Group,
         log: &L,
     ) -> Result<Found, ServiceFault>
@@ -222,14 +222,14 @@ impl<R: NodeReplica, S: Datagrams + Drop> Server<R, S> {
         ensures passes { IfErr result (λ f. f ≡ ServiceFault.Send → ⊥) }
         ensures broken { OnErr result (self.new.failed ≡ true) }
     {
-        self.listen(ear);
-        self.gather_heard(ear, group, log)
+        self.listen(buffer);
+        self.gather_heard(buffer, group, log)
     }
 
     // The group takes the next datagram of the socket that waits there already, if one does, and if the group has something to send. Whether one came.
     fn gather_waiting<L: Log>(
         &mut self,
-        ear: &mut Ear,
+        buffer: &mut ReceiveBuffer,
         group: &mut Group,
         log: &L,
     ) -> Result<bool, ServiceFault>
@@ -243,8 +243,8 @@ impl<R: NodeReplica, S: Datagrams + Drop> Server<R, S> {
         if group.letters().is_empty() {
             return Ok(false);
         }
-        self.listen_waiting(ear);
-        match self.gather_heard(ear, group, log)? {
+        self.listen_waiting(buffer);
+        match self.gather_heard(buffer, group, log)? {
             Found::Nothing => Ok(false),
             Found::Beside => Ok(true),
             Found::Something => Ok(true),
@@ -254,7 +254,7 @@ impl<R: NodeReplica, S: Datagrams + Drop> Server<R, S> {
     // The group takes further datagrams of the socket, in order and at most 63: those that wait there already, as long as it has something to send.
     fn gather_further<L: Log>(
         &mut self,
-        ear: &mut Ear,
+        buffer: &mut ReceiveBuffer,
         group: &mut Group,
         log: &L,
     ) -> Result<(), ServiceFault>
@@ -265,7 +265,7 @@ impl<R: NodeReplica, S: Datagrams + Drop> Server<R, S> {
         ensures broken { OnErr result (self.new.failed ≡ true) }
     {
         'datagrams: for _ in 0..FURTHER {
-            if !self.gather_waiting(ear, group, log)? {
+            if !self.gather_waiting(buffer, group, log)? {
                 return Ok(());
             }
         }
@@ -275,7 +275,7 @@ impl<R: NodeReplica, S: Datagrams + Drop> Server<R, S> {
     // The group takes what comes to the socket: the next datagram, and those that wait behind it. What was found.
     fn gather_socket<L: Log>(
         &mut self,
-        ear: &mut Ear,
+        buffer: &mut ReceiveBuffer,
         group: &mut Group,
         log: &L,
     ) -> Result<Found, ServiceFault>
@@ -287,11 +287,11 @@ impl<R: NodeReplica, S: Datagrams + Drop> Server<R, S> {
         ensures passes { IfErr result (λ f. f ≡ ServiceFault.Send → ⊥) }
         ensures broken { OnErr result (self.new.failed ≡ true) }
     {
-        let found = self.gather_first(ear, group, log)?;
+        let found = self.gather_first(buffer, group, log)?;
         if !found.is_something() {
             return Ok(found);
         }
-        self.gather_further(ear, group, log)?;
+        self.gather_further(buffer, group, log)?;
         Ok(Found::Something)
     }
 
@@ -299,7 +299,7 @@ impl<R: NodeReplica, S: Datagrams + Drop> Server<R, S> {
     // What was found. A letter that the group says is sent at its end, so it waits for another group.
     pub(crate) fn gather_all<L: Log>(
         &mut self,
-        ear: &mut Ear,
+        buffer: &mut ReceiveBuffer,
         group: &mut Group,
         log: &L,
     ) -> Result<Found, ServiceFault>
@@ -311,7 +311,7 @@ impl<R: NodeReplica, S: Datagrams + Drop> Server<R, S> {
         ensures broken { OnErr result (self.new.failed ≡ true) }
     {
         if !self.gather_letter(group, log)? {
-            return self.gather_socket(ear, group, log);
+            return self.gather_socket(buffer, group, log);
         }
         self.gather_letters(group, log)?;
         Ok(Found::Something)
@@ -320,7 +320,7 @@ impl<R: NodeReplica, S: Datagrams + Drop> Server<R, S> {
     // The group takes what waits, and behind it a tick where one is due. Whether it took anything.
     pub(crate) fn gather_turn<C: Clock, L: Log>(
         &mut self,
-        ear: &mut Ear,
+        buffer: &mut ReceiveBuffer,
         metronome: &mut Metronome<C>,
         group: &mut Group,
         log: &L,
@@ -333,7 +333,7 @@ impl<R: NodeReplica, S: Datagrams + Drop> Server<R, S> {
         ensures broken { OnErr result (self.new.failed ≡ true) }
     {
         self.wait_for(metronome.left());
-        let found = self.gather_all(ear, group, log)?;
+        let found = self.gather_all(buffer, group, log)?;
         if !self.pace.is_due(found, metronome) {
             return Ok(found.is_something());
         }

@@ -1,8 +1,8 @@
 //! What has happened to a node in a turn, for whoever is told its events.
 
-use lk_transport::came::Came;
+use lk_transport::arrival::Arrival;
 use lk_transport::post::Carried;
-use crate::sight::Sight;
+use crate::replica_status::ReplicaStatus;
 use lk_types::{Executed, NodeNo};
 
 /// What has happened to a node in a turn, beside what is seen of it then.
@@ -22,7 +22,7 @@ impl Happened {
     };
 
     /// Notes what has changed by what came.
-    pub fn note(&mut self, came: &Came, before: &Sight, after: &Sight) {
+    pub fn note(&mut self, came: &Arrival, before: &ReplicaStatus, after: &ReplicaStatus) {
         match came.node() {
             Some(node) if after.snapshot.get() > before.executed.get() => {
                 self.installed = Some((after.snapshot, node));

@@ -13,6 +13,6 @@ pub mod pace;
 mod probing;
 pub mod server;
 pub mod shown;
-pub mod sight;
-pub mod strangers;
+pub mod replica_status;
+pub mod ignored;
 pub mod watching;

@@ -9,11 +9,11 @@ ghost use Rattle.lk_replica.specs.Posts.{GivesLetters, TellsSends};
 ghost use Rattle.lk_server.specs.Sayings.{GathersOf, SaysOf};
 ghost use Rattle.lk_server.specs.Gatherings.{GathersMore, SaysNoMore};
 ghost use Rattle.lk_server.specs.Probes.{IsShown};
-ghost use Rattle.lk_server.specs.Sights.{IsSight};
+ghost use Rattle.lk_server.specs.Statuses.{IsStatusOf};
 ghost use Rattle.lk_server.specs.declared.shown.Shown.{Shown as ShownValue};
 
 use crate::shown::Shown;
-use crate::sight::Sight;
+use crate::replica_status::ReplicaStatus;
 use lk_disk::LogDisk;
 use lk_replica::{Group, Post, Replica, ReplicaFault};
 use lk_state::Machine;
@@ -60,7 +60,7 @@ pub trait NodeReplica: Sized + Drop {
         ensures no_send { IfErr result (λ e. fault_number e ≡ 15 → ⊥) };
 
     /// What is seen of it from outside.
-    fn sight(&self) -> Sight;
+    fn status(&self) -> ReplicaStatus;
 
     /// What it shows of itself to whoever probes its node.
     fn show(&self) -> Shown
@@ -88,11 +88,11 @@ impl<M: Machine, D: LogDisk + Drop> NodeReplica for Replica<M, D> {
         Replica::release(self, group, post)
     }
 
-    fn sight(&self) -> Sight
-        ensures { IsSight self.now result }
+    fn status(&self) -> ReplicaStatus
+        ensures { IsStatusOf self.now result }
     {
         let node = self.node();
-        Sight {
+        ReplicaStatus {
             generation: self.generation(),
             snapshot: node.snapshot_position(),
             executed: node.executed(),

@@ -5,16 +5,16 @@ ghost use Rattle.lk_server.specs.Probes.{AnswersKept, IsAnswer, Tells};
 ghost use Rattle.lk_server.specs.declared.shown.Shown.{Shown as ShownValue};
 
 use lk_transport::asked::Asked;
-use lk_transport::ear::Ear;
+use lk_transport::receive_buffer::ReceiveBuffer;
 use crate::node_replica::NodeReplica;
 use crate::server::Server;
-use lk_transport::socket::Datagrams;
+use lk_transport::socket::DatagramSocket;
 use lk_probe::{Identity, LENGTH, PROGRAM, Status, Traffic};
 
 /// The version of a lock table that a server does not know.
 const UNKNOWN: u8 = 0;
 
-impl<R: NodeReplica, S: Datagrams + Drop> Server<R, S> {
+impl<R: NodeReplica, S: DatagramSocket + Drop> Server<R, S> {
     /// What it tells of its node: what the replica shows, the digest of the genesis, and what it has counted itself.
     pub fn status(&self) -> Status
         ensures { (shown : ShownValue) × R.Shows self.now.replica shown × Tells self.now.addresses.seals.genesis shown result }
@@ -31,7 +31,7 @@ impl<R: NodeReplica, S: Datagrams + Drop> Server<R, S> {
             progress: shown.progress,
             traffic: Traffic {
                 waiting: shown.waiting,
-                unread: self.strangers.unread(),
+                unread: self.ignored.unread(),
                 unsent: self.unsent,
                 ticks: self.ticks,
             },
@@ -47,12 +47,12 @@ impl<R: NodeReplica, S: Datagrams + Drop> Server<R, S> {
     }
 
     /// Answers the probe that the ear keeps, if it keeps one: by a report that goes to where the probe came from.
-    pub fn answer(&mut self, ear: &mut Ear)
-        ensures answers { AnswersKept R.Shows S.is_telling ear.old.asked self.old self.new }
-        ensures kept { ear.new ≡ record ear.old { asked = None } }
+    pub fn answer(&mut self, buffer: &mut ReceiveBuffer)
+        ensures answers { AnswersKept R.Shows S.is_telling buffer.old.asked self.old self.new }
+        ensures kept { buffer.new ≡ record buffer.old { asked = None } }
         ensures others { self.new ≡ record self.old { sent = self.new.sent; socket_failures = self.new.socket_failures; coming = self.new.coming } }
     {
-        let Some(asked) = ear.take_asked() else {
+        let Some(asked) = buffer.take_asked() else {
             return;
         };
         let report = self.report(&asked);

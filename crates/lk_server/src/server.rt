@@ -4,23 +4,23 @@ ghost use Rattle.std.specs.Prelude.{◌≡◌, ℕ, List, ◌∷◌, [], None, t
 ghost use Rattle.std.specs.declared.net.socket_addr.SocketAddr.{SocketAddr as Address};
 ghost use Rattle.lk_types.specs.Ranges.{IsClient};
 ghost use Rattle.lk_replica.specs.Faults.{fault_number};
-ghost use Rattle.lk_transport.specs.Addresses.{client_at, node_at, IsSameOutside};
+ghost use Rattle.lk_transport.specs.Addresses.{client_at, node_at, IsSameNetwork};
 ghost use Rattle.lk_server.specs.Gatherings.{Finds, HandsOnAll, SaysNothing};
 ghost use Rattle.lk_transport.specs.Posts.{all_taken_as};
 ghost use Rattle.lk_server.specs.Servers.{HandsOn, HandsNothing, HasWaited, IsSameServer, LastTurn, Runs, ServesOn, TakesTurn, Turn};
 
-use lk_transport::ear::Ear;
+use lk_transport::receive_buffer::ReceiveBuffer;
 use lk_transport::fault::ServiceFault;
 use crate::found::Found;
 use crate::happened::Happened;
 use crate::metronome::Metronome;
 use crate::node_replica::NodeReplica;
 use crate::notes::log_notes;
-use lk_transport::outside::Outside;
+use lk_transport::network::Network;
 use crate::pace::Pace;
 use lk_transport::post::SocketPost;
-use lk_transport::socket::Datagrams;
-use crate::strangers::Strangers;
+use lk_transport::socket::DatagramSocket;
+use crate::ignored::IgnoredCounts;
 use crate::watching::log_carried;
 use lk_replica::{Group, ReplicaFault};
 use lk_types::NodeNo;
@@ -31,7 +31,7 @@ use std::time::Clock;
 
 /// A replica, and the post with the socket on which it serves.
 #[derive(Drop)]
-pub struct Server<R: NodeReplica, S: Datagrams + Drop> {
+pub struct Server<R: NodeReplica, S: DatagramSocket + Drop> {
     pub(crate) alloc: Global,
     pub(crate) cluster: u64,
     pub(crate) pace: Pace,
@@ -41,7 +41,7 @@ pub struct Server<R: NodeReplica, S: Datagrams + Drop> {
     // the datagrams that came, modulo 2^64
     pub(crate) received: u64,
     // those of them that say nothing to it
-    pub(crate) strangers: Strangers,
+    pub(crate) ignored: IgnoredCounts,
     // what has happened since that was asked
     pub(crate) happened: Happened,
     // the ticks that its replica was given, and the sends that failed, since its start
@@ -49,7 +49,7 @@ pub struct Server<R: NodeReplica, S: Datagrams + Drop> {
     pub(crate) unsent: u64,
 }
 
-impl<R: NodeReplica, S: Datagrams + Drop> Model for Server<R, S> {
+impl<R: NodeReplica, S: DatagramSocket + Drop> Model for Server<R, S> {
     ghost use Rattle.lk_server.specs.Servers.{ServerValue};
 
     ghost Value = { ServerValue R };
@@ -57,14 +57,14 @@ impl<R: NodeReplica, S: Datagrams + Drop> Model for Server<R, S> {
     ghost view = { λ s. record { cluster = s.cluster; node = s.post.node; pace = s.pace; replica = s.replica; own = s.post.own; addresses = s.post.addresses; received = s.received; failed = R.failed s.replica; sent = s.post.sent; socket_failures = s.post.socket_failures; coming = s.post.coming } };
 }
 
-impl<R: NodeReplica, S: Datagrams + Drop> Server<R, S> {
+impl<R: NodeReplica, S: DatagramSocket + Drop> Server<R, S> {
     /// The server of that node's replica, of that cluster, to which nobody has written yet.
     pub fn new(
         alloc: Global,
         cluster: u64,
         node: NodeNo,
         pace: Pace,
-        outside: Outside,
+        network: Network,
         replica: R,
         socket: S,
     ) -> Server<R, S>
@@ -76,18 +76,18 @@ impl<R: NodeReplica, S: Datagrams + Drop> Server<R, S> {
         ensures clients { (c : ℕ) → IsClient c → client_at result.addresses c ≡ None }
         ensures nodes { (n : ℕ) → node_at result.addresses n ≡ None }
         ensures received { result.received ≡ 0 }
-        ensures hosts { result.addresses.hosts ≡ outside.hosts }
-        ensures seals { result.addresses.seals ≡ outside.seals }
-        ensures socket { ServesOn (S.sent socket) (S.failures socket) (all_taken_as outside.seals (S.coming socket)) result }
+        ensures hosts { result.addresses.hosts ≡ network.hosts }
+        ensures seals { result.addresses.seals ≡ network.seals }
+        ensures socket { ServesOn (S.sent socket) (S.failures socket) (all_taken_as network.seals (S.coming socket)) result }
     {
         Server {
             alloc,
             cluster,
             pace,
             replica,
-            post: SocketPost::new(alloc, node, outside, socket),
+            post: SocketPost::new(alloc, node, network, socket),
             received: 0,
-            strangers: Strangers::new(),
+            ignored: IgnoredCounts::new(),
             happened: Happened::NOTHING,
             ticks: 0,
             unsent: 0,
@@ -128,7 +128,7 @@ impl<R: NodeReplica, S: Datagrams + Drop> Server<R, S> {
             replica,
             post: _,
             received: _,
-            strangers: _,
+            ignored: _,
             happened: _,
             ticks: _,
             unsent: _,
@@ -203,16 +203,16 @@ impl<R: NodeReplica, S: Datagrams + Drop> Server<R, S> {
 
     /// Takes a group of what waits, if anything does: the first letters that the node wrote to itself, and where there is none what comes to
     /// the socket. Whether there was anything.
-    pub fn serve_next<L: Log>(&mut self, ear: &mut Ear, log: &L) -> Result<bool, ServiceFault>
+    pub fn serve_next<L: Log>(&mut self, buffer: &mut ReceiveBuffer, log: &L) -> Result<bool, ServiceFault>
         ensures turn { IfOk result (λ came. came ≡ true → (frames : List (Address × List ℕ)) × Turn R.Says S.is_telling (all_taken_as self.old.addresses.seals frames) self.old self.new) }
         ensures ends { OnErr result ((frames : List (Address × List ℕ)) × LastTurn R.Says S.is_telling (all_taken_as self.old.addresses.seals frames) self.old self.new) }
         ensures none { IfOk result (λ came. came ≡ false → (self.old.own ≡ []) × (found : Found) × (frames : List (Address × List ℕ)) × Finds S.is_telling found frames self.old self.new) }
         // Where nodes live, and the keys, stay what they were.
-        ensures outside { IsSameOutside self.old.addresses self.new.addresses }
+        ensures network { IsSameNetwork self.old.addresses self.new.addresses }
         ensures passes { IfErr result (λ f. f ≡ ServiceFault.Send → ⊥) }
     {
         let mut group = self.begin();
-        let found = self.gather_all(ear, &mut group, log)?;
+        let found = self.gather_all(buffer, &mut group, log)?;
         if !found.is_something() {
             return Ok(false);
         }
@@ -222,9 +222,9 @@ impl<R: NodeReplica, S: Datagrams + Drop> Server<R, S> {
 }
 
 /// One turn of a server: it takes a group of what waits, and a tick where one is due.
-pub fn node_turn<R: NodeReplica, S: Datagrams + Drop, C: Clock, L: Log>(
+pub fn node_turn<R: NodeReplica, S: DatagramSocket + Drop, C: Clock, L: Log>(
     server: &mut Server<R, S>,
-    ear: &mut Ear,
+    buffer: &mut ReceiveBuffer,
     metronome: &mut Metronome<C>,
     log: &L,
 ) -> Result<(), ServiceFault>
@@ -235,11 +235,11 @@ pub fn node_turn<R: NodeReplica, S: Datagrams + Drop, C: Clock, L: Log>(
     // After a refusal nothing of the group is sent.
     ensures ends { OnErr result ((frames : List (Address × List ℕ)) × HasWaited S.is_telling frames server.old × LastTurn R.Says S.is_telling (all_taken_as server.old.addresses.seals frames) server.old server.new) }
     // Where nodes live, and the keys, stay what they were.
-    ensures outside { IsSameOutside server.old.addresses server.new.addresses }
+    ensures network { IsSameNetwork server.old.addresses server.new.addresses }
     ensures passes { IfErr result (λ f. f ≡ ServiceFault.Send → ⊥) }
 {
     let mut group = server.begin();
-    if !server.gather_turn(ear, metronome, &mut group, log)? {
+    if !server.gather_turn(buffer, metronome, &mut group, log)? {
         return Ok(());
     }
     server.release(&group, log)

@@ -1,22 +1,22 @@
 //! What a server logs of its replica beside its notes: lines of level debug, one fact each. A line that fails is dropped.
 
-use lk_transport::came::Came;
+use lk_transport::arrival::Arrival;
 use lk_transport::post::Carried;
-use crate::sight::Sight;
+use crate::replica_status::ReplicaStatus;
 use lk_types::{NodeNo, Port, RealBallot};
 use log::{Log, debug};
 use std::io;
 
 /// Logs how a node came up: whether its store is a new one, and what stands in it.
-pub fn log_start<L: Log>(log: &L, is_new: bool, sight: &Sight) {
+pub fn log_start<L: Log>(log: &L, is_new: bool, status: &ReplicaStatus) {
     if is_new {
         debug!(log; "came up with a new store");
     } else {
         debug!(log; "came up with the store that it had");
     }
-    log_number(log, "generation", sight.generation);
-    log_number(log, "snapshot", sight.snapshot.get());
-    log_number(log, "executed", sight.executed.get());
+    log_number(log, "generation", status.generation);
+    log_number(log, "snapshot", status.snapshot.get());
+    log_number(log, "executed", status.executed.get());
 }
 
 /// Logs at which port a node listens.
@@ -36,13 +36,13 @@ fn log_begun<L: Log>(log: &L, term: RealBallot) {
 }
 
 /// Logs that a term has ended, and by what.
-fn log_ended<L: Log>(log: &L, came: &Came, term: RealBallot) {
+fn log_ended<L: Log>(log: &L, came: &Arrival, term: RealBallot) {
     let ballot = term.get();
     debug!(log; "term {}.{} ended by {came}", ballot.round(), ballot.node());
 }
 
 /// Logs which term has ended and which has begun.
-fn log_term<L: Log>(log: &L, came: &Came, before: Option<RealBallot>, after: Option<RealBallot>) {
+fn log_term<L: Log>(log: &L, came: &Arrival, before: Option<RealBallot>, after: Option<RealBallot>) {
     if before == after {
         return;
     }
@@ -64,7 +64,7 @@ fn log_known<L: Log>(log: &L, before: Option<NodeNo>, after: Option<NodeNo>) {
 }
 
 /// Logs where the store was compacted, and which snapshot of another node was installed.
-fn log_store<L: Log>(log: &L, before: &Sight, after: &Sight) {
+fn log_store<L: Log>(log: &L, before: &ReplicaStatus, after: &ReplicaStatus) {
     let rebases = after.generation.saturating_sub(before.generation);
     let is_installed = after.snapshot.get() > before.executed.get();
     if rebases > u64::from(is_installed) {
@@ -76,15 +76,15 @@ fn log_store<L: Log>(log: &L, before: &Sight, after: &Sight) {
 }
 
 /// Logs what has changed by what came.
-pub fn log_changes<L: Log>(log: &L, came: &Came, before: &Sight, after: &Sight) {
+pub fn log_changes<L: Log>(log: &L, came: &Arrival, before: &ReplicaStatus, after: &ReplicaStatus) {
     log_term(log, came, before.term, after.term);
     log_known(log, before.known, after.known);
     log_store(log, before, after);
 }
 
 /// Logs by how many datagrams another node is told what it has missed, where it wants that.
-pub fn log_served<L: Log>(log: &L, came: &Came, said: usize) {
-    if let Came::Want(node) = came {
+pub fn log_served<L: Log>(log: &L, came: &Arrival, said: usize) {
+    if let Arrival::Want(node) = came {
         debug!(log; "Want of node {} served by {said} datagrams", node.get());
     }
 }

@@ -9,7 +9,7 @@ use Rattle.lk_state.specs.Meanings.{Meaning}
 use Rattle.lk_step.specs.Letters.{LetterValue}
 use Rattle.lk_replica.specs.ReplicaValue.{ReplicaValue}
 use Rattle.lk_replica.specs.Revivals.{IsRefusedFor}
-use Rattle.lk_transport.specs.Addresses.{AddressBook, IsSameOutside}
+use Rattle.lk_transport.specs.Addresses.{AddressBook, IsSameNetwork}
 use Rattle.lk_transport.specs.Posts.{all_taken_as}
 use Rattle.lk_server.specs.Sayings.{SaysOf}
 use Rattle.lk_server.specs.Probes.{IsShown, AnswersKept}
@@ -30,21 +30,21 @@ on_err (Err e) p = p
 
 module _ {Says : ReplicaValue → List (Option (List ℕ)) → List LetterValue → ReplicaValue → Type 0} {tells : Type 0} {count : ℕ} {first last new : ServerValue ReplicaValue} (frames : List (SocketAddr × List ℕ)) where
   -- one ended the replica
-  pub turns_end : (most : ℕ) → count < most → Repeats (TakesTurn Says tells) count first last → HasWaited tells frames last → LastTurn Says tells (all_taken_as last.addresses.seals frames) last new → IsSameOutside last.addresses new.addresses → TellsFailure new
+  pub turns_end : (most : ℕ) → count < most → Repeats (TakesTurn Says tells) count first last → HasWaited tells frames last → LastTurn Says tells (all_taken_as last.addresses.seals frames) last new → IsSameNetwork last.addresses new.addresses → TellsFailure new
       → BreaksOff Says tells most first new
-  turns_end most fewer so_far waited turn outside failure = record {
+  turns_end most fewer so_far waited turn network failure = record {
     count = count;
     fewer = fewer;
     last = last;
     turns = so_far;
-    ends = record { frames = frames; came = all_taken_as last.addresses.seals frames; opened = refl; waited = waited; turn = turn; outside = outside; failure = failure };
+    ends = record { frames = frames; came = all_taken_as last.addresses.seals frames; opened = refl; waited = waited; turn = turn; network = network; failure = failure };
   }
 
 -- a turn, and behind it the answer to a probe that was kept
 pub turn_taken : {Says : ReplicaValue → List (Option (List ℕ)) → List LetterValue → ReplicaValue → Type 0} {tells : Type 0} (frames : List (SocketAddr × List ℕ)) (asked : Option Asked) (old mid new : ServerValue ReplicaValue)
     → HasWaited tells frames old → ServerTurn Says tells frames old mid → AnswersKept IsShown tells asked mid new → new ≡ record mid { sent = new.sent; socket_failures = new.socket_failures; coming = new.coming }
-    → IsSameOutside old.addresses mid.addresses → TellsFailure new → TakesTurn Says tells old new
-turn_taken frames asked old mid new waited turn answers others outside failure = record {
+    → IsSameNetwork old.addresses mid.addresses → TellsFailure new → TakesTurn Says tells old new
+turn_taken frames asked old mid new waited turn answers others network failure = record {
   frames = frames;
   came = all_taken_as old.addresses.seals frames;
   opened = refl;
@@ -53,7 +53,7 @@ turn_taken frames asked old mid new waited turn answers others outside failure =
   turn = turn;
   asked = asked;
   answers = answers;
-  outside = subst (λ (b : AddressBook). IsSameOutside old.addresses b) (sym (ap (λ (s : ServerValue ReplicaValue). s.addresses) others)) outside;
+  network = subst (λ (b : AddressBook). IsSameNetwork old.addresses b) (sym (ap (λ (s : ServerValue ReplicaValue). s.addresses) others)) network;
   failure = failure;
 }
 

@@ -6,7 +6,7 @@ use Rattle.lk_entries.specs.Values.{HeaderValue}
 use Rattle.lk_step.specs.Letters.{LetterValue}
 use Rattle.lk_replica.specs.ReplicaValue.{ReplicaValue}
 use Rattle.lk_seal.specs.declared.seals.Seals.{Seals}
-use Rattle.lk_transport.specs.Addresses.{IsSameOutside}
+use Rattle.lk_transport.specs.Addresses.{IsSameNetwork}
 use Rattle.lk_transport.specs.Posts.{all_taken_as}
 use Rattle.lk_server.specs.Probes.{IsShown, AnswersKept}
 use Rattle.lk_server.specs.Servers.{ServerValue, HasWaited, Turn, LastTurn, IsIdle}
@@ -32,7 +32,7 @@ module _ (Says : ReplicaValue → List (Option (List ℕ)) → List LetterValue 
     pub turn : Turn Says tells came old mid ⊎ IsIdle tells frames old mid
     pub asked : Option Asked
     pub answers : AnswersKept IsShown tells asked mid new
-    pub outside : IsSameOutside old.addresses new.addresses
+    pub network : IsSameNetwork old.addresses new.addresses
     pub failure : TellsFailure new
 
   -- a turn that ended the replica
@@ -42,7 +42,7 @@ module _ (Says : ReplicaValue → List (Option (List ℕ)) → List LetterValue 
     pub opened : came ≡ all_taken_as old.addresses.seals frames
     pub waited : HasWaited tells frames old
     pub turn : LastTurn Says tells came old new
-    pub outside : IsSameOutside old.addresses new.addresses
+    pub network : IsSameNetwork old.addresses new.addresses
     pub failure : TellsFailure new
 
   -- the letters that it gave to be sent in a turn; none in an idle one

@@ -3,7 +3,7 @@
 ghost use Rattle.std.specs.Prelude.{◌≡◌, ◌≤◌, List, ℕ, OnOk};
 ghost use Rattle.lk_service.specs.ClientKeys.{Prints};
 
-use crate::outside::keys_of;
+use crate::network::keys_of;
 use lk_transport::fault::ServiceFault;
 use lk_types::ClientNo;
 use std::alloc::Global;

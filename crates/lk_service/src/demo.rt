@@ -2,7 +2,7 @@
 
 ghost use Rattle.std.specs.Prelude.{◌≤◌};
 
-use lk_client::far::Far;
+use lk_client::destination::Destination;
 use lk_client::question::{Heard, Question, datagram, next_reply, write_reply};
 use lk_client::reply::Reply;
 use crate::resources::Resources;
@@ -10,12 +10,12 @@ use crate::running::revive;
 use lk_disk::MemoryDisk;
 use lk_entries::Header;
 use lk_replica::Replica;
-use lk_transport::ear::Ear;
+use lk_transport::receive_buffer::ReceiveBuffer;
 use lk_transport::fault::ServiceFault;
-use lk_transport::outside::Outside;
+use lk_transport::network::Network;
 use lk_server::pace::Pace;
 use lk_server::server::Server;
-use lk_transport::socket::{Datagrams, LocalSocket, local};
+use lk_transport::socket::{DatagramSocket, LocalSocket, local};
 use lk_state::Machine;
 use lk_types::{ClientNo, Genesis, Member, NodeNo, Port, Request, RequestNumber};
 use lk_words::operation::read_operation;
@@ -46,7 +46,7 @@ const TURNS: u64 = 1 << 48;
 
 /// The sockets of the nodes, and that of their clients.
 #[derive(Drop)]
-pub struct Sockets<S: Datagrams + Drop> {
+pub struct Sockets<S: DatagramSocket + Drop> {
     pub nodes: Vec<S>,
     pub client: S,
 }
@@ -56,17 +56,17 @@ type DemoServer<M, S> = Server<Replica<M, MemoryDisk>, S>;
 
 /// The nodes, and the socket of their clients.
 #[derive(Drop)]
-struct Cluster<M: Machine, S: Datagrams + Drop> {
+struct Cluster<M: Machine, S: DatagramSocket + Drop> {
     nodes: Vec<DemoServer<M, S>>,
     client: S,
     // where what comes to any of them is heard
-    ear: Ear,
+    buffer: ReceiveBuffer,
     // where requests are sent first
     port: Port,
 }
 
 /// The member that serves on a socket.
-fn member_at<S: Datagrams>(node: u32, socket: &S) -> Option<Member> {
+fn member_at<S: DatagramSocket>(node: u32, socket: &S) -> Option<Member> {
     let port = socket.port()?;
     match (NodeNo::of(node), Port::of(port)) {
         (Some(node), Some(port)) => Some(Member { node, port }),
@@ -75,7 +75,7 @@ fn member_at<S: Datagrams>(node: u32, socket: &S) -> Option<Member> {
 }
 
 /// How a cluster begins whose members, numbered from 1, serve on these sockets.
-fn genesis_at<S: Datagrams>(alloc: Global, sockets: &[S]) -> Result<Genesis, ServiceFault> {
+fn genesis_at<S: DatagramSocket>(alloc: Global, sockets: &[S]) -> Result<Genesis, ServiceFault> {
     let mut members = Vec::new(alloc);
     let mut node = 0u32;
     for socket in sockets {
@@ -89,7 +89,7 @@ fn genesis_at<S: Datagrams>(alloc: Global, sockets: &[S]) -> Result<Genesis, Ser
 }
 
 /// The server of a member.
-fn start<M: Machine, S: Datagrams + Drop>(
+fn start<M: Machine, S: DatagramSocket + Drop>(
     alloc: Global,
     node: NodeNo,
     genesis: &Genesis,
@@ -99,8 +99,8 @@ fn start<M: Machine, S: Datagrams + Drop>(
     let resources = Resources {
         device: MemoryDisk::new(alloc),
         socket,
-        outside: Outside::local(genesis.cluster, node),
-        pace: Pace::Datagrams,
+        network: Network::local(genesis.cluster, node),
+        pace: Pace::DatagramSocket,
     };
     revive::<M, _, _, _>(alloc, &header, resources, &Discard).map_err(
         |refused| ServiceFault::of_replica(&refused.fault),
@@ -108,7 +108,7 @@ fn start<M: Machine, S: Datagrams + Drop>(
 }
 
 /// The servers of the members, in order, on these sockets.
-fn start_all<M: Machine, S: Datagrams + Drop>(
+fn start_all<M: Machine, S: DatagramSocket + Drop>(
     alloc: Global,
     genesis: &Genesis,
     sockets: Vec<S>,
@@ -129,13 +129,13 @@ fn question_of(row: (u16, u64, &[u8]), port: Port) -> Option<Question> {
             cluster: CLUSTER,
             port,
             request: Request { client, number, op },
-            far: Far::local(CLUSTER),
+            destination: Destination::local(CLUSTER),
         }),
         _ => None,
     }
 }
 
-impl<M: Machine, S: Datagrams + Drop> Cluster<M, S> {
+impl<M: Machine, S: DatagramSocket + Drop> Cluster<M, S> {
     /// A new cluster on these sockets.
     fn begin(alloc: Global, sockets: Sockets<S>) -> Result<Cluster<M, S>, ServiceFault> {
         let Sockets { nodes, client } = sockets;
@@ -145,7 +145,7 @@ impl<M: Machine, S: Datagrams + Drop> Cluster<M, S> {
         Ok(Cluster {
             nodes,
             client,
-            ear: Ear::new(),
+            buffer: ReceiveBuffer::new(),
             port,
         })
     }
@@ -154,7 +154,7 @@ impl<M: Machine, S: Datagrams + Drop> Cluster<M, S> {
     fn serve(&mut self) -> Result<bool, ServiceFault> {
         let mut was_served = false;
         for node in &mut self.nodes {
-            was_served |= node.serve_next(&mut self.ear, &Discard)?;
+            was_served |= node.serve_next(&mut self.buffer, &Discard)?;
         }
         Ok(was_served)
     }
@@ -169,7 +169,7 @@ impl<M: Machine, S: Datagrams + Drop> Cluster<M, S> {
 
     /// What the clients hear next. An Elsewhere is followed.
     fn hear(&mut self, question: &Question, bytes: &[u8]) -> Heard {
-        match next_reply(&mut self.ear, &mut self.client, question) {
+        match next_reply(&mut self.buffer, &mut self.client, question) {
             Heard::Reply(Reply::Elsewhere(member)) => {
                 let _ = self.client.send_to(local(member.port.get()), bytes);
                 Heard::Other
@@ -228,7 +228,7 @@ impl<M: Machine, S: Datagrams + Drop> Cluster<M, S> {
 
 /// Runs nodes on disks in memory, and prints what their clients are replied, who ask in turn. The sockets' receives are
 /// not to wait. Whether each request was replied to: where one was not, the last line is `no answer`.
-pub fn play<M: Machine, S: Datagrams + Drop, W: Write>(
+pub fn play<M: Machine, S: DatagramSocket + Drop, W: Write>(
     alloc: Global,
     sockets: Sockets<S>,
     out: &mut W,

@@ -9,7 +9,7 @@ pub mod digest;
 pub mod dump;
 pub mod folder;
 mod observing;
-pub mod outside;
+pub mod network;
 pub mod refusals;
 pub mod resources;
 pub mod running;

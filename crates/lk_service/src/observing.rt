@@ -9,7 +9,7 @@ use lk_node::Node;
 use lk_replica::Replica;
 use lk_server::happened::Happened;
 use lk_server::server::Server;
-use lk_transport::socket::Datagrams;
+use lk_transport::socket::DatagramSocket;
 use lk_state::Machine;
 use lk_types::{Members, NodeNo};
 
@@ -68,7 +68,7 @@ pub fn observe_start<M: Machine, D: LogDisk + Drop, O: Observer>(
 }
 
 /// Tells that a server has taken a turn.
-pub fn observe_turn<M: Machine, D: LogDisk + Drop, S: Datagrams + Drop, O: Observer>(
+pub fn observe_turn<M: Machine, D: LogDisk + Drop, S: DatagramSocket + Drop, O: Observer>(
     server: &mut Server<Replica<M, D>, S>,
     observer: &mut O,
 )

@@ -7,12 +7,12 @@ ghost use Rattle.lk_service.specs.Turns.{AreSealsOf};
 
 use crate::causes::open_socket_at;
 use crate::folder::{FolderLock, open_device};
-use crate::outside::{Away, outside_of};
+use crate::network::{NetworkOptions, network_of};
 use lk_disk::{FileDisk, SystemFile};
 use lk_entries::Header;
 use lk_seal::{Keys, Seals};
 use lk_transport::fault::ServiceFault;
-use lk_transport::outside::Outside;
+use lk_transport::network::Network;
 use lk_server::pace::Pace;
 use lk_transport::socket::LocalSocket;
 use lk_types::{Member, NodeNo, Port};
@@ -28,7 +28,7 @@ pub struct NodePlan<'a> {
     pub port: Port,
     pub pace: Pace,
     pub folder: &'a str,
-    pub away: Away<'a>,
+    pub options: NetworkOptions<'a>,
 }
 
 /// What a node runs on: the device of its store, its socket, what it knows of the machines outside, and what its ticks go by.
@@ -36,7 +36,7 @@ pub struct NodePlan<'a> {
 pub struct Resources<D: Drop, S: Drop> {
     pub device: D,
     pub socket: S,
-    pub outside: Outside,
+    pub network: Network,
     pub pace: Pace,
 }
 
@@ -106,7 +106,7 @@ fn at_one_port(members: &[Member]) -> Option<(Member, Member)> {
 
 /// Warns where the genesis names two members at one port of this machine.
 fn warn_of_members<E: Write>(plan: &NodePlan<'_>, err: &mut E) {
-    if plan.away.hosts.is_some() {
+    if plan.options.hosts.is_some() {
         return;
     }
     if let Some((one, other)) = at_one_port(plan.header.genesis().members.as_slice()) {
@@ -127,21 +127,21 @@ pub fn open_resources<R: Files<File = File> + Net, E: Write>(
     err: &mut E,
 ) -> Result<(Resources<FolderDisk, LocalSocket>, FolderLock), ServiceFault>
     // The keys are for the node of the plan, in its cluster.
-    ensures seals { IfOk result (λ r. AreSealsOf plan.now.header r.0.outside.seals) }
+    ensures seals { IfOk result (λ r. AreSealsOf plan.now.header r.0.network.seals) }
     // Where the nodes have a key, ticks go by the clock.
-    ensures pace { IfOk result (λ r. key_list r.0.outside.seals.nodes ≢ [] → r.0.pace ≡ Pace.Clock) }
+    ensures pace { IfOk result (λ r. key_list r.0.network.seals.nodes ≢ [] → r.0.pace ≡ Pace.Clock) }
 {
     warn_of_members(plan, err);
     warn_of_port(plan, err);
-    let (outside, place) = outside_of(rt, alloc, &plan.header, plan.port, &plan.away, err)?;
+    let (network, place) = network_of(rt, alloc, &plan.header, plan.port, &plan.options, err)?;
     let socket = open_socket_at(rt, place, err)?;
     let lock = FolderLock::take(rt, alloc, plan.folder, err)?;
     let device = open_device(rt, alloc, plan.folder, err)?;
-    let pace = pace_with(&outside.seals, plan.pace);
+    let pace = pace_with(&network.seals, plan.pace);
     let resources = Resources {
         device,
         socket,
-        outside,
+        network,
         pace,
     };
     Ok((resources, lock))

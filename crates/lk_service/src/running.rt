@@ -5,7 +5,7 @@ ghost use Rattle.std.specs.declared.net.socket_addr.SocketAddr.{SocketAddr as Ad
 ghost use Rattle.lk_replica.specs.Faults.{fault_number};
 ghost use Rattle.lk_replica.specs.ReplicaValue.{ReplicaValue};
 ghost use Rattle.lk_replica.specs.Revivals.{MayGoOn};
-ghost use Rattle.lk_transport.specs.Addresses.{IsSameOutside};
+ghost use Rattle.lk_transport.specs.Addresses.{IsSameNetwork};
 ghost use Rattle.lk_transport.specs.Faults.{replica_fault};
 ghost use Rattle.lk_transport.specs.Posts.{all_taken_as};
 ghost use Rattle.lk_server.specs.Servers.{ServerValue, HasWaited, ServesOn, LastTurn};
@@ -22,13 +22,13 @@ use lk_entries::Header;
 use lk_events::line::Observer;
 use lk_log::look;
 use lk_replica::{Replica, ReviveFault};
-use lk_transport::ear::Ear;
+use lk_transport::receive_buffer::ReceiveBuffer;
 use lk_transport::fault::ServiceFault;
 use lk_server::metronome::Metronome;
 use lk_server::node_replica::NodeReplica;
 use lk_server::notes::log_notes;
 use lk_server::server::{Server, node_turn};
-use lk_transport::socket::Datagrams;
+use lk_transport::socket::DatagramSocket;
 use lk_server::watching::{log_port, log_start};
 use lk_state::Machine;
 use log::Log;
@@ -59,13 +59,13 @@ fn take_up<M: Machine, D: LogDisk + Drop, L: Log>(
     let mut device = device;
     let is_new = matches!(look(alloc, &mut device), Ok(None));
     let revived = Replica::<M, D>::revive(alloc, device, header)?;
-    log_start(log, is_new, &revived.replica.sight());
+    log_start(log, is_new, &revived.replica.status());
     log_notes(log, &revived.notes);
     Ok(revived.replica)
 }
 
 /// The server of a node that is taken up from a device. How it came up and what it executed by that is logged.
-pub fn revive<M: Machine, D: LogDisk + Drop, S: Datagrams + Drop, L: Log>(
+pub fn revive<M: Machine, D: LogDisk + Drop, S: DatagramSocket + Drop, L: Log>(
     alloc: Global,
     header: &Header,
     resources: Resources<D, S>,
@@ -73,26 +73,26 @@ pub fn revive<M: Machine, D: LogDisk + Drop, S: Datagrams + Drop, L: Log>(
 ) -> Result<NodeServer<M, D, S>, ReviveFault<D>>
     // It serves as the node of this header, in its cluster, on a replica that comes up by what the device has, and nothing has come to it.
     ensures begun { IfOk result (IsBegun M.meaning D.is_honest (D.disk resources.device) header.now) }
-    ensures hosts { IfOk result (λ s. s.addresses.hosts ≡ resources.outside.hosts) }
-    ensures seals { IfOk result (λ s. s.addresses.seals ≡ resources.outside.seals) }
+    ensures hosts { IfOk result (λ s. s.addresses.hosts ≡ resources.network.hosts) }
+    ensures seals { IfOk result (λ s. s.addresses.seals ≡ resources.network.seals) }
     ensures pace { IfOk result (λ s. s.pace ≡ resources.pace) }
-    ensures socket { IfOk result (ServesOn (S.sent resources.socket) (S.failures resources.socket) (all_taken_as resources.outside.seals (S.coming resources.socket))) }
+    ensures socket { IfOk result (ServesOn (S.sent resources.socket) (S.failures resources.socket) (all_taken_as resources.network.seals (S.coming resources.socket))) }
     // It is refused with 7 to 11, each with its cause, and what the device then has fits as what it had.
     ensures refused { IfErr result (λ e. IsNotTakenUp M.meaning M.IsText D.is_honest (D.disk resources.device) header.now (fault_number e.fault) (D.disk e.device)) }
 {
     let Resources {
         device,
         socket,
-        outside,
+        network,
         pace,
     } = resources;
     let replica = take_up::<M, D, L>(alloc, header, device, log)?;
     let cluster = header.genesis().cluster;
-    Ok(Server::new(alloc, cluster, header.node(), pace, outside, replica, socket))
+    Ok(Server::new(alloc, cluster, header.node(), pace, network, replica, socket))
 }
 
 /// The same. Where it is refused, lines tell what was found.
-fn revive_plan<M: Machine, D: LogDisk + FailureCause + Drop, S: Datagrams + Drop, L: Log, E: Write>(
+fn revive_plan<M: Machine, D: LogDisk + FailureCause + Drop, S: DatagramSocket + Drop, L: Log, E: Write>(
     alloc: Global,
     plan: &NodePlan<'_>,
     resources: Resources<D, S>,
@@ -100,7 +100,7 @@ fn revive_plan<M: Machine, D: LogDisk + FailureCause + Drop, S: Datagrams + Drop
     err: &mut E,
 ) -> Result<NodeServer<M, D, S>, ServiceFault>
     ensures begun { IfOk result (IsBegun M.meaning D.is_honest (D.disk resources.device) plan.now.header) }
-    ensures seals { IfOk result (λ s. s.addresses.seals ≡ resources.outside.seals) }
+    ensures seals { IfOk result (λ s. s.addresses.seals ≡ resources.network.seals) }
     ensures refused { IfErr result (IsRefusedWith M.meaning M.IsText D.is_honest (D.disk resources.device) plan.now.header) }
 {
     match revive::<M, D, S, L>(alloc, &plan.header, resources, log) {
@@ -118,14 +118,14 @@ fn revive_plan<M: Machine, D: LogDisk + FailureCause + Drop, S: Datagrams + Drop
 fn take_turn<
     M: Machine,
     D: LogDisk + FailureCause + Drop,
-    S: Datagrams + Drop,
+    S: DatagramSocket + Drop,
     C: Clock,
     L: Log,
     O: Observer,
     E: Write,
 >(
     server: &mut NodeServer<M, D, S>,
-    ear: &mut Ear,
+    buffer: &mut ReceiveBuffer,
     metronome: &mut Metronome<C>,
     folder: &str,
     log: &L,
@@ -137,13 +137,13 @@ fn take_turn<
     ensures turn { OnOk result (TakesTurn ⟦<Replica<M, D> as NodeReplica>⟧.Says S.is_telling server.old server.new) }
     ensures ends { OnErr result ((frames : List (Address × List ℕ)) × HasWaited S.is_telling frames server.old × LastTurn ⟦<Replica<M, D> as NodeReplica>⟧.Says S.is_telling (all_taken_as server.old.addresses.seals frames) server.old server.new) }
     // Where nodes live, and the keys, stay what they were.
-    ensures outside { IsSameOutside server.old.addresses server.new.addresses }
+    ensures network { IsSameNetwork server.old.addresses server.new.addresses }
     ensures failure { TellsFailure server.new }
     ensures passes { IfErr result (λ f. f ≡ ServiceFault.Send → ⊥) }
 {
-    match node_turn(server, ear, metronome, log) {
+    match node_turn(server, buffer, metronome, log) {
         Ok(()) => {
-            server.answer(ear);
+            server.answer(buffer);
             let _ = server.replica();
             observe_turn(server, observer);
             Ok(())
@@ -156,7 +156,7 @@ fn take_turn<
 fn take_turns<
     M: Machine,
     D: LogDisk + FailureCause + Drop,
-    S: Datagrams + Drop,
+    S: DatagramSocket + Drop,
     C: Clock,
     L: Log,
     O: Observer,
@@ -175,11 +175,11 @@ fn take_turns<
     ensures err { OnErr result (BreaksOff ⟦<Replica<M, D> as NodeReplica>⟧.Says S.is_telling (2 ^ 48) server.old server.new) }
     ensures passes { IfErr result (λ f. f ≡ ServiceFault.Send → ⊥) }
 {
-    let mut ear = Ear::new();
+    let mut buffer = ReceiveBuffer::new();
     let mut metronome = Metronome::new(clock);
     'turns: for _ in 0..TURNS {
         take_turn::<M, D, S, &C, L, O, E>(
-            server, &mut ear, &mut metronome, folder, log, observer, err,
+            server, &mut buffer, &mut metronome, folder, log, observer, err,
         )?;
     }
     Ok(())
@@ -189,7 +189,7 @@ fn take_turns<
 fn serve_turns<
     M: Machine,
     D: LogDisk + FailureCause + Drop,
-    S: Datagrams + Drop,
+    S: DatagramSocket + Drop,
     C: Clock,
     L: Log,
     O: Observer,
@@ -215,7 +215,7 @@ fn serve_turns<
 fn serve<
     M: Machine,
     D: LogDisk + FailureCause + Drop,
-    S: Datagrams + Drop,
+    S: DatagramSocket + Drop,
     C: Clock,
     L: Log,
     O: Observer,
@@ -229,10 +229,10 @@ fn serve<
     observer: &mut O,
     err: &mut E,
 ) -> Result<(), ServiceFault>
-    requires { AreSealsOf plan.now.header resources.outside.seals }
-    ensures ok { OnOk result (Serves (IsBegun M.meaning D.is_honest (D.disk resources.device) plan.now.header) plan.now.header resources.outside.seals ⟦<Replica<M, D> as NodeReplica>⟧.Says S.is_telling (2 ^ 48)) }
+    requires { AreSealsOf plan.now.header resources.network.seals }
+    ensures ok { OnOk result (Serves (IsBegun M.meaning D.is_honest (D.disk resources.device) plan.now.header) plan.now.header resources.network.seals ⟦<Replica<M, D> as NodeReplica>⟧.Says S.is_telling (2 ^ 48)) }
     ensures err { IfErr result (λ f. IsRefusedWith M.meaning M.IsText D.is_honest (D.disk resources.device) plan.now.header f
-        ⊎ EndsEarly (IsBegun M.meaning D.is_honest (D.disk resources.device) plan.now.header) plan.now.header resources.outside.seals ⟦<Replica<M, D> as NodeReplica>⟧.Says S.is_telling (2 ^ 48)) }
+        ⊎ EndsEarly (IsBegun M.meaning D.is_honest (D.disk resources.device) plan.now.header) plan.now.header resources.network.seals ⟦<Replica<M, D> as NodeReplica>⟧.Says S.is_telling (2 ^ 48)) }
 {
     let server = revive_plan::<M, D, S, L, E>(alloc, plan, resources, log, err)?;
     serve_turns(clock, server, plan, log, observer, err)
@@ -242,7 +242,7 @@ fn serve<
 pub fn run_node<
     M: Machine,
     D: LogDisk + FailureCause + Drop,
-    S: Datagrams + Drop,
+    S: DatagramSocket + Drop,
     C: Clock,
     L: Log,
     O: Observer,
@@ -256,13 +256,13 @@ pub fn run_node<
     observer: &mut O,
     err: &mut E,
 ) -> u8
-    requires { AreSealsOf plan.now.header resources.outside.seals }
+    requires { AreSealsOf plan.now.header resources.network.seals }
     ensures status { result ≤ 1 }
     // At status 0 the server of the plan's node, on a replica that came up by what the device had, has taken so many turns.
-    ensures served { result ≡ 0 → Serves (IsBegun M.meaning D.is_honest (D.disk resources.device) plan.now.header) plan.now.header resources.outside.seals ⟦<Replica<M, D> as NodeReplica>⟧.Says S.is_telling (2 ^ 48) }
+    ensures served { result ≡ 0 → Serves (IsBegun M.meaning D.is_honest (D.disk resources.device) plan.now.header) plan.now.header resources.network.seals ⟦<Replica<M, D> as NodeReplica>⟧.Says S.is_telling (2 ^ 48) }
     // At status 1 it was not taken up, or such a server has taken fewer, and then one that ended its replica.
     ensures broken { result ≡ 1 → ((f : ServiceFault) × IsRefusedWith M.meaning M.IsText D.is_honest (D.disk resources.device) plan.now.header f)
-        ⊎ EndsEarly (IsBegun M.meaning D.is_honest (D.disk resources.device) plan.now.header) plan.now.header resources.outside.seals ⟦<Replica<M, D> as NodeReplica>⟧.Says S.is_telling (2 ^ 48) }
+        ⊎ EndsEarly (IsBegun M.meaning D.is_honest (D.disk resources.device) plan.now.header) plan.now.header resources.network.seals ⟦<Replica<M, D> as NodeReplica>⟧.Says S.is_telling (2 ^ 48) }
 {
     match serve::<M, D, S, C, L, O, E>(clock, alloc, plan, resources, log, observer, err) {
         Ok(()) => 0,

@@ -12,9 +12,9 @@ use crate::target::Inquiry;
 use crate::verdict::{is_ready, is_served, leader_in};
 use crate::why::write_why;
 use lk_probe::Report;
-use lk_transport::ear::Ear;
+use lk_transport::receive_buffer::ReceiveBuffer;
 use lk_transport::fault::ServiceFault;
-use lk_transport::socket::Datagrams;
+use lk_transport::socket::DatagramSocket;
 use std::alloc::Global;
 use std::io;
 use std::io::Write;
@@ -66,9 +66,9 @@ fn print<W: Write>(plan: &Plan, first: u64, reports: &[Report], out: &mut W) -> 
 }
 
 /// Waits 100 ms, unless something comes.
-fn pause<S: Datagrams>(socket: &mut S, idle: &mut u32) {
-    let mut ear = Ear::new();
-    ear.receive(socket);
+fn pause<S: DatagramSocket>(socket: &mut S, idle: &mut u32) {
+    let mut buffer = ReceiveBuffer::new();
+    buffer.receive(socket);
     *idle = idle.saturating_add(1);
 }
 
@@ -88,7 +88,7 @@ fn is_at(goal: Option<u64>, inquiry: &Inquiry, reports: &[Report]) -> bool {
 
 /// Asks again and again until all targets report that they have executed what the leader had when it was first heard of, or
 /// until so many receives brought nothing. The last round.
-fn wait_until_ready<S: Datagrams>(
+fn wait_until_ready<S: DatagramSocket>(
     alloc: Global,
     socket: &mut S,
     inquiry: &Inquiry,
@@ -111,7 +111,7 @@ fn wait_until_ready<S: Datagrams>(
 }
 
 /// A round.
-fn ask_once<S: Datagrams>(
+fn ask_once<S: DatagramSocket>(
     alloc: Global,
     socket: &mut S,
     inquiry: &Inquiry,
@@ -128,7 +128,7 @@ fn ask_once<S: Datagrams>(
 }
 
 /// Asks as the plan says.
-fn round_of<S: Datagrams>(alloc: Global, socket: &mut S, plan: &Plan) -> Result<Round, ServiceFault>
+fn round_of<S: DatagramSocket>(alloc: Global, socket: &mut S, plan: &Plan) -> Result<Round, ServiceFault>
     ensures { IfOk result (λ r. AreOfRound plan.now.inquiry r.first r.reports.items) }
 {
     if plan.seconds > 0 {
@@ -141,7 +141,7 @@ fn round_of<S: Datagrams>(alloc: Global, socket: &mut S, plan: &Plan) -> Result<
 }
 
 /// Asks, and prints what is reported. Whether the cluster is served, and ready where that was waited for.
-fn ask_and_print<S: Datagrams, W: Write>(
+fn ask_and_print<S: DatagramSocket, W: Write>(
     alloc: Global,
     socket: &mut S,
     plan: &Plan,
@@ -158,7 +158,7 @@ fn ask_and_print<S: Datagrams, W: Write>(
 
 /// Asks all targets what they tell of themselves, and prints that. The status is 0 where the cluster is served, and ready
 /// where that was waited for; else, and where a fault is told on standard error, it is 1.
-pub fn status<S: Datagrams, W: Write, E: Write>(
+pub fn status<S: DatagramSocket, W: Write, E: Write>(
     alloc: Global,
     socket: &mut S,
     plan: &Plan,

@@ -4,7 +4,7 @@ ghost use Rattle.std.specs.Prelude.{◌≡◌, None};
 
 use lk_probe::{Probe, Report};
 use lk_transport::fault::ServiceFault;
-use lk_client::far::Far;
+use lk_client::destination::Destination;
 use lk_types::{ClientNo, NodeNo, Port};
 use lk_words::member::member_of;
 use lk_words::operation::port_of;
@@ -26,7 +26,7 @@ pub struct Target {
 pub struct Inquiry {
     pub cluster: u64,
     pub client: Option<ClientNo>,
-    pub far: Far,
+    pub destination: Destination,
     /// At most `MAX_TARGETS`.
     pub targets: Vec<Target>,
     /// The receives of 100 ms that may bring nothing until a round ends.
@@ -74,10 +74,10 @@ impl Inquiry {
     /// The address of a target.
     pub fn place_of(&self, target: &Target) -> SocketAddr {
         let known = match target.node {
-            Some(node) => self.far.hosts.address(node),
+            Some(node) => self.destination.hosts.address(node),
             None => None,
         };
-        SocketAddr::from((known.unwrap_or(self.far.address), target.port.get()))
+        SocketAddr::from((known.unwrap_or(self.destination.address), target.port.get()))
     }
 
     /// The address from which it is asked: any of this machine in the family of the targets, or loopback where they all are there.

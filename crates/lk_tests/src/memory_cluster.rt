@@ -6,14 +6,14 @@ use crate::node_turns::{Locks, header};
 use lk_disk::MemoryDisk;
 use lk_locks::LockTable;
 use lk_replica::ReviveFault;
-use lk_transport::ear::Ear;
+use lk_transport::receive_buffer::ReceiveBuffer;
 use lk_transport::memory_socket::{MemorySocket, Told};
 use lk_server::metronome::Metronome;
 use lk_server::node_replica::NodeReplica;
-use lk_transport::outside::Outside;
+use lk_transport::network::Network;
 use lk_server::pace::Pace;
 use lk_server::server::{Server, node_turn};
-use lk_transport::socket::{Datagrams, local};
+use lk_transport::socket::{DatagramSocket, local};
 use lk_service::resources::Resources;
 use lk_service::running::revive;
 use log::sink::Discard;
@@ -30,7 +30,7 @@ type LockServer = Server<Locks, MemorySocket>;
 #[derive(Drop)]
 pub struct Cluster {
     servers: Vec<LockServer>,
-    ear: Ear,
+    buffer: ReceiveBuffer,
     told: Vec<Told>,
 }
 
@@ -40,8 +40,8 @@ fn begun(alloc: Global, node: u32, port: u16) -> Result<LockServer, Fail> {
     let resources = Resources {
         device: MemoryDisk::new(alloc),
         socket: MemorySocket::new(alloc, port),
-        outside: Outside::local(header.genesis().cluster, header.node()),
-        pace: Pace::Datagrams,
+        network: Network::local(header.genesis().cluster, header.node()),
+        pace: Pace::DatagramSocket,
     };
     match revive::<LockTable, _, _, _>(alloc, &header, resources, &Discard) {
         Ok(server) => Ok(server),
@@ -73,7 +73,7 @@ impl Cluster {
     pub fn new(alloc: Global) -> Result<Cluster, Fail> {
         Ok(Cluster {
             servers: three(alloc)?,
-            ear: Ear::new(),
+            buffer: ReceiveBuffer::new(),
             told: Vec::new(alloc),
         })
     }
@@ -96,7 +96,7 @@ impl Cluster {
         };
         node_turn(
             server,
-            &mut self.ear,
+            &mut self.buffer,
             &mut Metronome::new(Stopped),
             &Discard,
         )?;
@@ -118,8 +118,8 @@ impl Cluster {
     // Whether each server has a term or knows who leads.
     fn is_led(&self) -> bool {
         for server in &self.servers {
-            let sight = server.replica().sight();
-            if sight.term.is_none() && sight.known.is_none() {
+            let status = server.replica().status();
+            if status.term.is_none() && status.known.is_none() {
                 return false;
             }
         }

@@ -4,14 +4,14 @@ ghost use Rattle.std.specs.Prelude.{◌≡◌, [], ⊤};
 use crate::clocks::Stopped;
 use lk_locks::LockTable;
 use lk_replica::{Group, Post, ReplicaFault};
-use lk_transport::ear::Ear;
+use lk_transport::receive_buffer::ReceiveBuffer;
 use lk_transport::memory_socket::MemorySocket;
 use lk_server::metronome::Metronome;
 use lk_server::node_replica::NodeReplica;
-use lk_transport::outside::Outside;
+use lk_transport::network::Network;
 use lk_server::pace::Pace;
 use lk_server::server::{Server, node_turn};
-use lk_server::sight::Sight;
+use lk_server::replica_status::ReplicaStatus;
 use lk_service::demo::{Sockets, play};
 use lk_step::{Input, Note, Outbox};
 use lk_types::{Ballot, Command, Executed, NodeNo, Position, RealBallot};
@@ -33,9 +33,9 @@ struct Told {
     alloc: Global,
     end: End,
     failed: bool,
-    sight: Sight,
+    status: ReplicaStatus,
     // what is seen once it has taken something
-    after: Sight,
+    after: ReplicaStatus,
 }
 
 // A step that notes position 3.
@@ -63,7 +63,7 @@ impl NodeReplica for Told {
 
     fn gather(&mut self, _input: Input, group: &mut Group) -> Result<(), ReplicaFault> {
         self.failed = true;
-        self.sight = self.after;
+        self.status = self.after;
         let Some(outbox) = ran(self.alloc) else {
             return Err(ReplicaFault::NoMemory);
         };
@@ -82,8 +82,8 @@ impl NodeReplica for Told {
         }
     }
 
-    fn sight(&self) -> Sight {
-        self.sight
+    fn status(&self) -> ReplicaStatus {
+        self.status
     }
 }
 
@@ -93,9 +93,9 @@ type Seen = (u64, u64, u64, u64, u32);
 
 const NEW: Seen = (1, 0, 0, 0, 0);
 
-fn sight_of(seen: Seen) -> Result<Sight, Fail> {
+fn sight_of(seen: Seen) -> Result<ReplicaStatus, Fail> {
     let (generation, snapshot, executed, round, known) = seen;
-    Ok(Sight {
+    Ok(ReplicaStatus {
         generation,
         snapshot: Executed::of(snapshot).ok_or("snapshot")?,
         executed: Executed::of(executed).ok_or("executed")?,
@@ -119,13 +119,13 @@ fn server(
         alloc,
         end,
         failed: false,
-        sight: sight_of(before)?,
+        status: sight_of(before)?,
         after: sight_of(after)?,
     };
     let node = NodeNo::of(1).ok_or("node")?;
     let socket = MemorySocket::new(alloc, 7001);
-    let outside = Outside::local(5, node);
-    Ok(Server::new(alloc, 5, node, Pace::Datagrams, outside, told, socket))
+    let network = Network::local(5, node);
+    Ok(Server::new(alloc, 5, node, Pace::DatagramSocket, network, told, socket))
 }
 
 // What a turn logs whose replica ends so, and is seen so before and after it.
@@ -133,7 +133,7 @@ fn logged(alloc: Global, end: End, before: Seen, after: Seen) -> Result<Vec<u8>,
     let memory = Memory::new(alloc);
     let mut server = server(alloc, end, before, after)?;
     let mut metronome = Metronome::new(Stopped);
-    let _ = node_turn(&mut server, &mut Ear::new(), &mut metronome, &memory);
+    let _ = node_turn(&mut server, &mut ReceiveBuffer::new(), &mut metronome, &memory);
     let mut text = Vec::new(alloc);
     for line in memory.into_lines().as_slice() {
         text.extend_from_slice(line.as_bytes())?;

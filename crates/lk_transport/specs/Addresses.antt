@@ -47,5 +47,5 @@ abbrev pub moved_up : List (Option (ℕ × SocketAddr)) → ℕ → SocketAddr �
 moved_up places node from = Some (node, from) ∷ without (min (place_in places node) (length places - 1)) places
 
 -- where nodes live, and by which keys they are known, is the same
-abbrev pub IsSameOutside : AddressBook → AddressBook → Type 0
-IsSameOutside old new = (new.hosts ≡ old.hosts) × (new.seals ≡ old.seals)
+abbrev pub IsSameNetwork : AddressBook → AddressBook → Type 0
+IsSameNetwork old new = (new.hosts ≡ old.hosts) × (new.seals ≡ old.seals)

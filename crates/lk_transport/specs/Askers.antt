@@ -7,7 +7,7 @@ use Rattle.lk_seal.specs.Seals.{key_list, heard}
 use Rattle.lk_seal.specs.declared.seals.Seals.{Seals}
 use Rattle.lk_step.specs.declared.to.To.{To}
 use Rattle.lk_step.specs.declared.to.To.TheVariants.{Node, Client}
-use Rattle.lk_transport.specs.Hearing.{EarValue}
+use Rattle.lk_transport.specs.Hearing.{BufferValue}
 use Rattle.lk_transport.specs.Posts.{Tray, Loses, frame_of, keys_for}
 use Rattle.lk_transport.specs.declared.asked.Asked.{Asked}
 
@@ -36,7 +36,7 @@ abbrev pub KeepsFirst : Seals → Option (SocketAddr × List ℕ) → Option Ask
 KeepsFirst s last (Some a) new = new ≡ Some a
 KeepsFirst s last None new = IsKeptOfLast s last new
 
-pub record Keeps (s : Seals) (old new : EarValue) : Type 0 where
+pub record Keeps (s : Seals) (old new : BufferValue) : Type 0 where
   pub last : new.last ≡ old.last
   pub asked : KeepsFirst s old.last old.asked new.asked
 

@@ -4,7 +4,7 @@ use Rattle.std.specs.declared.net.socket_addr.SocketAddr.{SocketAddr}
 use Rattle.lk_transport.specs.declared.asked.Asked.{Asked}
 
 -- the datagram that came last: from where, and its bytes; and the probe that is kept, if one is
-pub record EarValue : Type 0 where
+pub record BufferValue : Type 0 where
   pub last : Option (SocketAddr × List ℕ)
   pub asked : Option Asked
 

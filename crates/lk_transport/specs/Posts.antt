@@ -14,7 +14,7 @@ use Rattle.lk_step.specs.declared.to.To.TheVariants.{Node, Client}
 use Rattle.lk_seal.specs.Clients.{client_keys}
 use Rattle.lk_seal.specs.Seals.{key_list, to_node, replying, framed_by, heard}
 use Rattle.lk_seal.specs.declared.seals.Seals.{Seals}
-use Rattle.lk_transport.specs.Addresses.{AddressBook, client_at, node_at, moved_up, IsSameOutside}
+use Rattle.lk_transport.specs.Addresses.{AddressBook, client_at, node_at, moved_up, IsSameNetwork}
 use Rattle.lk_transport.specs.Hosts.{host_of}
 
 -- whose it is, from where others wrote, the letters of the node to itself that are kept, what the socket has sent, how often a send
@@ -120,7 +120,7 @@ pub record HearsClient (client : ℕ) (from : SocketAddr) (old new : AddressBook
   pub own : client_at new client ≡ Some from
   pub others : (c : ℕ) → IsClient c → c ≢ client → client_at new c ≡ client_at old c
   pub nodes : new.nodes ≡ old.nodes
-  pub outside : IsSameOutside old new
+  pub network : IsSameNetwork old new
 
 -- that node's is kept in place of its last one, the others keep theirs, but for the one that is dropped where all places are
 -- taken, and no client's changes
@@ -128,7 +128,7 @@ pub record HearsNode (node : ℕ) (from : SocketAddr) (old new : AddressBook) : 
   pub own : node_at new node ≡ Some from
   pub places : new.nodes ≡ moved_up old.nodes node from
   pub clients : new.clients ≡ old.clients
-  pub outside : IsSameOutside old new
+  pub network : IsSameNetwork old new
 
 -- the address of whoever says that is kept
 abbrev pub HearsContent : Content → SocketAddr → AddressBook → AddressBook → Type 0

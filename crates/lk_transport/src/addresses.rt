@@ -2,11 +2,11 @@
 
 ghost use Rattle.std.specs.Prelude.{◌≡◌, ◌≢◌, ℕ, Some, None, min};
 ghost use Rattle.lk_types.specs.Ranges.{IsClient};
-ghost use Rattle.lk_transport.specs.Addresses.{client_at, node_at, node_in, place_in, moved_up, IsSameOutside};
+ghost use Rattle.lk_transport.specs.Addresses.{client_at, node_at, node_in, place_in, moved_up, IsSameNetwork};
 ghost use Rattle.lk_transport.specs.Hosts.{host_of};
 
 use crate::hosts::Hosts;
-use crate::outside::Outside;
+use crate::network::Network;
 use lk_seal::Seals;
 use lk_types::{ClientNo, NodeNo};
 use std::marker::Model;
@@ -51,13 +51,13 @@ fn address_in(places: &[Option<(NodeNo, SocketAddr)>], node: NodeNo) -> Option<S
 
 impl Addresses {
     /// Nobody has written.
-    pub fn new(outside: Outside) -> Addresses
+    pub fn new(network: Network) -> Addresses
         ensures clients { (c : ℕ) → IsClient c → client_at result c ≡ None }
         ensures nodes { (n : ℕ) → node_at result n ≡ None }
-        ensures hosts { result.hosts ≡ outside.hosts }
-        ensures seals { result.seals ≡ outside.seals }
+        ensures hosts { result.hosts ≡ network.hosts }
+        ensures seals { result.seals ≡ network.seals }
     {
-        let Outside { hosts, seals } = outside;
+        let Network { hosts, seals } = network;
         Addresses {
             clients: [None; CLIENTS],
             nodes: [None; NODES],
@@ -92,7 +92,7 @@ impl Addresses {
         ensures own { client_at self.new client ≡ Some from }
         ensures others { (c : ℕ) → IsClient c → c ≢ client → client_at self.new c ≡ client_at self.old c }
         ensures nodes { self.new.nodes ≡ self.old.nodes }
-        ensures outside { IsSameOutside self.old self.new }
+        ensures network { IsSameNetwork self.old self.new }
     {
         self.clients[client.get() as usize - 1] = Some(from);
     }
@@ -123,7 +123,7 @@ impl Addresses {
         ensures own { node_at self.new node ≡ Some from }
         ensures places { self.new.nodes ≡ moved_up self.old.nodes node from }
         ensures clients { self.new.clients ≡ self.old.clients }
-        ensures outside { IsSameOutside self.old self.new }
+        ensures network { IsSameNetwork self.old self.new }
     {
         let place = self.place_of(node);
         self.nodes[..=place].rotate_right(1);

@@ -1,35 +1,35 @@
 //! Whoever writes is known by the address from which it wrote.
 
-ghost use Rattle.lk_transport.specs.Addresses.{IsSameOutside};
+ghost use Rattle.lk_transport.specs.Addresses.{IsSameNetwork};
 ghost use Rattle.lk_transport.specs.Posts.{Hears};
 
 use crate::addresses::Addresses;
-use crate::came::Came;
+use crate::arrival::Arrival;
 use lk_wire::{ContentRef, view};
 use std::net::SocketAddr;
 
 impl Addresses {
     /// Keeps from where a datagram of the cluster came: a client's request, or what a node says. All else is passed over.
     /// What came is told for the log.
-    pub fn hear(&mut self, cluster: u64, bytes: &[u8], from: SocketAddr) -> Came
+    pub fn hear(&mut self, cluster: u64, bytes: &[u8], from: SocketAddr) -> Arrival
         ensures heard { Hears cluster bytes.now from self.old self.new }
-        ensures outside { IsSameOutside self.old self.new }
+        ensures network { IsSameNetwork self.old self.new }
     {
         let Ok(message) = view(bytes) else {
-            return Came::Bad;
+            return Arrival::Bad;
         };
         if message.cluster != cluster {
-            return Came::Foreign;
+            return Arrival::Foreign;
         }
         match &message.content {
             ContentRef::Request(request) => {
                 let client = request.request().client;
                 self.hear_client(client, from);
-                Came::Request(client)
+                Arrival::Request(client)
             }
             ContentRef::Node(node, said) => {
                 self.hear_node(*node, from);
-                Came::said(*node, said)
+                Arrival::said(*node, said)
             }
         }
     }

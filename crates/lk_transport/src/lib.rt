@@ -4,12 +4,12 @@
 
 pub mod addresses;
 pub mod asked;
-pub mod came;
-pub mod ear;
+pub mod arrival;
+pub mod receive_buffer;
 pub mod fault;
 mod hearing;
 pub mod hosts;
 pub mod memory_socket;
-pub mod outside;
+pub mod network;
 pub mod post;
 pub mod socket;

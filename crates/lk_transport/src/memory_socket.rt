@@ -3,7 +3,7 @@
 ghost use Rattle.std.specs.Prelude.{◌≡◌, ◌++◌, ◌∷◌, [], min, OnOk, OnErr};
 ghost use Rattle.lk_transport.specs.Sockets.{sent_in, coming_in};
 
-use crate::socket::Datagrams;
+use crate::socket::DatagramSocket;
 use lk_replica::SendFault;
 use lk_types::NoMemory;
 use std::alloc::Global;
@@ -85,7 +85,7 @@ impl MemorySocket {
     }
 }
 
-impl Datagrams for MemorySocket {
+impl DatagramSocket for MemorySocket {
     ghost use Rattle.std.specs.Prelude.{⊤};
 
     ghost sent = { λ s. sent_in s.sent.items };

@@ -3,7 +3,7 @@
 ghost use Rattle.std.specs.Prelude.{◌≡◌, ◌≢◌, ◌↔◌, ◌++◌, ◌∷◌, ℕ, [], Some, None, true, false, is_ok, OnOk, OnErr, IfOk, IsErr, IfSome, IsNone};
 ghost use Rattle.lk_types.specs.Ranges.{IsClient};
 ghost use Rattle.lk_disk.specs.Disk.{HasCause, one_more};
-ghost use Rattle.lk_transport.specs.Addresses.{client_at, node_at, IsSameOutside};
+ghost use Rattle.lk_transport.specs.Addresses.{client_at, node_at, IsSameNetwork};
 ghost use Rattle.lk_transport.specs.Hearing.{listed};
 ghost use Rattle.lk_seal.specs.Seals.{heard};
 ghost use Rattle.lk_transport.specs.Posts.{IsRoute, IsBoundFor, Becomes, Hears, tray_of, all_taken_as, frame_of, keys_for};
@@ -11,10 +11,10 @@ ghost use Rattle.lk_transport.specs.Askers.{IsKeptOf, Replies, asker, frame_for,
 
 use crate::addresses::Addresses;
 use crate::asked::Asked;
-use crate::came::Came;
-use crate::ear::Ear;
-use crate::outside::Outside;
-use crate::socket::Datagrams;
+use crate::arrival::Arrival;
+use crate::receive_buffer::ReceiveBuffer;
+use crate::network::Network;
+use crate::socket::DatagramSocket;
 use lk_replica::{Post, SendFault};
 use lk_seal::{DIGEST, Seals};
 use lk_step::{Letter, To};
@@ -37,7 +37,7 @@ const WANT: u8 = 7;
 /// bound for a node goes to its port on 127.0.0.1; where that is not known, to the address from which it wrote last. What is
 /// bound for the node whose post it is does not leave it: it is kept, unless memory is refused for it.
 #[derive(Drop)]
-pub struct SocketPost<S: Datagrams + Drop> {
+pub struct SocketPost<S: DatagramSocket + Drop> {
     alloc: Global,
     node: NodeNo,
     socket: S,
@@ -74,7 +74,7 @@ impl Carried {
     };
 }
 
-impl<S: Datagrams + Drop> Model for SocketPost<S> {
+impl<S: DatagramSocket + Drop> Model for SocketPost<S> {
     ghost use Rattle.lk_transport.specs.Posts.{PostValue, all_taken_as};
 
     ghost Value = { PostValue };
@@ -128,9 +128,9 @@ fn framed_for<'a>(
     }
 }
 
-impl<S: Datagrams + Drop> SocketPost<S> {
+impl<S: DatagramSocket + Drop> SocketPost<S> {
     /// The post of a node that has a socket, to which nobody has written.
-    pub fn new(alloc: Global, node: NodeNo, outside: Outside, socket: S) -> SocketPost<S>
+    pub fn new(alloc: Global, node: NodeNo, network: Network, socket: S) -> SocketPost<S>
         ensures node { result.node ≡ node }
         ensures clients { (c : ℕ) → IsClient c → client_at result.addresses c ≡ None }
         ensures nodes { (n : ℕ) → node_at result.addresses n ≡ None }
@@ -138,15 +138,15 @@ impl<S: Datagrams + Drop> SocketPost<S> {
         ensures sent { result.sent ≡ S.sent socket }
         ensures socket_failures { result.socket_failures ≡ S.failures socket }
         ensures failures { result.failures ≡ 0 }
-        ensures hosts { result.addresses.hosts ≡ outside.hosts }
-        ensures seals { result.addresses.seals ≡ outside.seals }
-        ensures coming { result.coming ≡ all_taken_as outside.seals (S.coming socket) }
+        ensures hosts { result.addresses.hosts ≡ network.hosts }
+        ensures seals { result.addresses.seals ≡ network.seals }
+        ensures coming { result.coming ≡ all_taken_as network.seals (S.coming socket) }
     {
         SocketPost {
             alloc,
             node,
             socket,
-            addresses: Addresses::new(outside),
+            addresses: Addresses::new(network),
             frame: Vec::new(alloc),
             own: VecDeque::new(alloc),
             failures: 0,
@@ -156,9 +156,9 @@ impl<S: Datagrams + Drop> SocketPost<S> {
     }
 
     /// Keeps from where a datagram of the cluster came, as `Addresses::hear` does.
-    pub fn hear(&mut self, cluster: u64, bytes: &[u8], from: SocketAddr) -> Came
+    pub fn hear(&mut self, cluster: u64, bytes: &[u8], from: SocketAddr) -> Arrival
         ensures heard { Hears cluster bytes.now from self.old.addresses self.new.addresses }
-        ensures outside { IsSameOutside self.old.addresses self.new.addresses }
+        ensures network { IsSameNetwork self.old.addresses self.new.addresses }
         ensures others { self.new ≡ record self.old { addresses = self.new.addresses } }
     {
         self.addresses.hear(cluster, bytes, from)
@@ -182,21 +182,21 @@ impl<S: Datagrams + Drop> SocketPost<S> {
     }
 
     /// The ear hears the next datagram of the socket, if one comes.
-    pub fn listen(&mut self, ear: &mut Ear)
-        ensures comes { S.is_telling → self.old.coming ≡ all_taken_as self.old.addresses.seals (listed ear.new.last) ++ self.new.coming }
-        ensures none { S.is_telling → ear.new.last ≡ None → self.old.coming ≡ [] }
+    pub fn listen(&mut self, buffer: &mut ReceiveBuffer)
+        ensures comes { S.is_telling → self.old.coming ≡ all_taken_as self.old.addresses.seals (listed buffer.new.last) ++ self.new.coming }
+        ensures none { S.is_telling → buffer.new.last ≡ None → self.old.coming ≡ [] }
         ensures others { self.new ≡ record self.old { coming = self.new.coming } }
     {
-        ear.receive(&mut self.socket);
+        buffer.receive(&mut self.socket);
     }
 
     /// The ear hears the next datagram of the socket that waits there already.
-    pub fn listen_waiting(&mut self, ear: &mut Ear)
-        ensures comes { S.is_telling → self.old.coming ≡ all_taken_as self.old.addresses.seals (listed ear.new.last) ++ self.new.coming }
-        ensures none { S.is_telling → ear.new.last ≡ None → self.old.coming ≡ [] }
+    pub fn listen_waiting(&mut self, buffer: &mut ReceiveBuffer)
+        ensures comes { S.is_telling → self.old.coming ≡ all_taken_as self.old.addresses.seals (listed buffer.new.last) ++ self.new.coming }
+        ensures none { S.is_telling → buffer.new.last ≡ None → self.old.coming ≡ [] }
         ensures others { self.new ≡ record self.old { coming = self.new.coming } }
     {
-        ear.receive_waiting(&mut self.socket);
+        buffer.receive_waiting(&mut self.socket);
     }
 
     /// What is taken of a frame.
@@ -343,7 +343,7 @@ impl<S: Datagrams + Drop> SocketPost<S> {
     }
 }
 
-impl<S: Datagrams + Drop> Post for SocketPost<S> {
+impl<S: DatagramSocket + Drop> Post for SocketPost<S> {
     ghost use Rattle.std.specs.Prelude.{[]};
     ghost use Rattle.lk_transport.specs.Posts.{CarriesLetter};
 

@@ -22,7 +22,7 @@ pub fn local(port: u16) -> SocketAddr
 }
 
 /// What carries datagrams: a socket, or what stands for one in a test.
-pub trait Datagrams {
+pub trait DatagramSocket {
     /// What was sent, in order: to which address, and the bytes.
     ghost sent: { Self → List (Address × List ℕ) };
 
@@ -156,7 +156,7 @@ impl LocalSocket {
     }
 }
 
-impl Datagrams for LocalSocket {
+impl DatagramSocket for LocalSocket {
     ghost sent = { λ _. [] };
 
     ghost coming = { λ _. [] };

@@ -7,8 +7,8 @@ use Rattle.lk_client.proofs.question.ask_port.Given as goal
 
 abbrev pub invariant-receives : goal.invariant-receives
 invariant-receives g l =
-    let sent = g.S.Datagrams.sent in
-    let failures = g.S.Datagrams.failures in
+    let sent = g.S.DatagramSocket.sent in
+    let failures = g.S.DatagramSocket.failures in
     (l.followed ≤ 20)
-    × (g.S.Datagrams.is_telling → Repeats (Receives sent failures (next_of g.S.Datagrams.coming) l.question l.bytes None) l.counter
+    × (g.S.DatagramSocket.is_telling → Repeats (Receives sent failures (next_of g.S.DatagramSocket.coming) l.question l.bytes None) l.counter
     (record { socket = l.initial.socket; followed = l.initial.followed }) (record { socket = l.socket; followed = l.followed }))

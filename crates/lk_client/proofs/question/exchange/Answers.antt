@@ -10,7 +10,7 @@ receives-init g c = (
   λ tells. (
     [],
     refl,
-    (g.S.Datagrams.sent c.send.new.socket, g.S.Datagrams.failures c.send.new.socket, rw c.deref.ensures.value at (c.send.ensures tells), (refl, refl)),
+    (g.S.DatagramSocket.sent c.send.new.socket, g.S.DatagramSocket.failures c.send.new.socket, rw c.deref.ensures.value at (c.send.ensures tells), (refl, refl)),
   ),
   λ tells. record { states = []; are = refl; chain = refl },
 )
@@ -20,9 +20,9 @@ receives-preserved g c = (
   c.take_next-reply.ensures.most c.receives.invariant.0,
   λ tells.
       let heard = c.take_next-reply.ensures.heard tells in
-      sends_further (first_place c.args.question.now) c.receives.followed (followed_to c.args.question.now.far heard.heard c.receives.followed) c.in_ok-bytes.bytes.items c.deref-in-receives.result.now
-      (g.S.Datagrams.sent c.args.socket.now) (g.S.Datagrams.failures c.args.socket.now) (g.S.Datagrams.sent c.receives.socket) (g.S.Datagrams.failures c.receives.socket)
-      (g.S.Datagrams.sent c.take_next-reply.new.socket) (g.S.Datagrams.failures c.take_next-reply.new.socket) c.take_next-reply.new.followed
+      sends_further (first_place c.args.question.now) c.receives.followed (followed_to c.args.question.now.destination heard.heard c.receives.followed) c.in_ok-bytes.bytes.items c.deref-in-receives.result.now
+      (g.S.DatagramSocket.sent c.args.socket.now) (g.S.DatagramSocket.failures c.args.socket.now) (g.S.DatagramSocket.sent c.receives.socket) (g.S.DatagramSocket.failures c.receives.socket)
+      (g.S.DatagramSocket.sent c.take_next-reply.new.socket) (g.S.DatagramSocket.failures c.take_next-reply.new.socket) c.take_next-reply.new.followed
       c.deref-in-receives.ensures.value heard.follows (c.receives.invariant.1 tells) heard.sends,
   λ tells.
       receives_more c.take_next-reply.result (sym c.is_some.ensures ∙ c.if-is_some.false) c.deref-in-receives.ensures.value
@@ -32,9 +32,9 @@ receives-preserved g c = (
 pub returns-then-is_some-clause-sends : goal.returns-then-is_some-clause-sends
 returns-then-is_some-clause-sends g c tells =
     let heard = c.take_next-reply.ensures.heard tells in
-    let more = sends_further (first_place c.args.question.now) c.receives.followed (followed_to c.args.question.now.far heard.heard c.receives.followed) c.in_ok-bytes.bytes.items c.deref-in-receives.result.now
-    (g.S.Datagrams.sent c.args.socket.now) (g.S.Datagrams.failures c.args.socket.now) (g.S.Datagrams.sent c.receives.socket) (g.S.Datagrams.failures c.receives.socket)
-    (g.S.Datagrams.sent c.take_next-reply.new.socket) (g.S.Datagrams.failures c.take_next-reply.new.socket) c.take_next-reply.new.followed
+    let more = sends_further (first_place c.args.question.now) c.receives.followed (followed_to c.args.question.now.destination heard.heard c.receives.followed) c.in_ok-bytes.bytes.items c.deref-in-receives.result.now
+    (g.S.DatagramSocket.sent c.args.socket.now) (g.S.DatagramSocket.failures c.args.socket.now) (g.S.DatagramSocket.sent c.receives.socket) (g.S.DatagramSocket.failures c.receives.socket)
+    (g.S.DatagramSocket.sent c.take_next-reply.new.socket) (g.S.DatagramSocket.failures c.take_next-reply.new.socket) c.take_next-reply.new.followed
     c.deref-in-receives.ensures.value heard.follows (c.receives.invariant.1 tells) heard.sends in (
       c.in_ok-bytes.bytes.items,
       more.0,

@@ -8,9 +8,9 @@ use Rattle.lk_client.proofs.question.exchange.Given as goal
 
 abbrev pub invariant-receives : goal.invariant-receives
 invariant-receives g l =
-    let sent = g.S.Datagrams.sent in
-    let failures = g.S.Datagrams.failures in
+    let sent = g.S.DatagramSocket.sent in
+    let failures = g.S.DatagramSocket.failures in
     (l.followed ≤ 20)
-    × (g.S.Datagrams.is_telling → SendsTo (first_place l.question) l.followed l.bytes.items (sent l.fn.socket) (failures l.fn.socket) (sent l.socket) (failures l.socket))
-    × (g.S.Datagrams.is_telling → Repeats (Receives sent failures (next_of g.S.Datagrams.coming) l.question l.bytes.items None) l.counter
+    × (g.S.DatagramSocket.is_telling → SendsTo (first_place l.question) l.followed l.bytes.items (sent l.fn.socket) (failures l.fn.socket) (sent l.socket) (failures l.socket))
+    × (g.S.DatagramSocket.is_telling → Repeats (Receives sent failures (next_of g.S.DatagramSocket.coming) l.question l.bytes.items None) l.counter
     (record { socket = l.initial.socket; followed = 0 }) (record { socket = l.socket; followed = l.followed }))

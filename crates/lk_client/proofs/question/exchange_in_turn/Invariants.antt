@@ -6,8 +6,8 @@ use Rattle.lk_client.proofs.question.exchange_in_turn.Given as goal
 
 abbrev pub invariant-ports : goal.invariant-ports
 invariant-ports g l =
-    let sent = g.S.Datagrams.sent in
-    let failures = g.S.Datagrams.failures in
+    let sent = g.S.DatagramSocket.sent in
+    let failures = g.S.DatagramSocket.failures in
     (l.followed ≤ 20)
-    × (g.S.Datagrams.is_telling → TriesInVain sent failures (next_of g.S.Datagrams.coming) l.question (take l.port-index l.turns) l.bytes.items
+    × (g.S.DatagramSocket.is_telling → TriesInVain sent failures (next_of g.S.DatagramSocket.coming) l.question (take l.port-index l.turns) l.bytes.items
     (record { socket = l.initial.socket; followed = 0 }) (record { socket = l.socket; followed = l.followed }))

@@ -4,4 +4,4 @@ use Rattle.lk_cluster.proofs.Keeping.{forges_nothing}
 use Rattle.lk_cluster.proofs.laws.a_turn_continues_a_cluster.Goals as goal
 
 pub returns : goal.returns
-returns g c = turn_continues ForgesNothing g.D.LogDisk.is_metered g.S.Datagrams.is_telling forges_nothing
+returns g c = turn_continues ForgesNothing g.D.LogDisk.is_metered g.S.DatagramSocket.is_telling forges_nothing

@@ -4,10 +4,10 @@ use Rattle.lk_cluster.proofs.turning.turn.Goals as goal
 
 pub returns-clause-turn : goal.returns-clause-turn
 returns-clause-turn g c honest =
-    let tells = g.S.Datagrams.is_telling in
+    let tells = g.S.DatagramSocket.is_telling in
     on_ok_so _ (Says g.D.LogDisk.is_metered) (λ old o letters new says. says honest) c.node_turn-taken.result tells c.args.server.now c.node_turn-taken.new.server c.node_turn-taken.ensures.turn
 
 pub returns-clause-ends : goal.returns-clause-ends
 returns-clause-ends g c honest =
-    let tells = g.S.Datagrams.is_telling in
+    let tells = g.S.DatagramSocket.is_telling in
     on_err_so _ (Says g.D.LogDisk.is_metered) (λ old o letters new says. says honest) c.node_turn-taken.result tells c.args.server.now.addresses.seals c.args.server.now c.node_turn-taken.new.server c.node_turn-taken.ensures.ends

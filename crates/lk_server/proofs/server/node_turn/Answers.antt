@@ -18,7 +18,7 @@ returns-clause-turn g c =
     both_on_ok c.release.result (λ gives alive. (
       t.0,
       t.1.waited,
-      inl (turn_of r.Says r.Gathers g.S.Datagrams.is_telling t.0 c.begin-group.result c.gather_turn.new.group c.args.server.now c.gather_turn.new.self c.release.new.self c.begin-group.ensures t.1 gives
+      inl (turn_of r.Says r.Gathers g.S.DatagramSocket.is_telling t.0 c.begin-group.result c.gather_turn.new.group c.args.server.now c.gather_turn.new.self c.release.new.self c.begin-group.ensures t.1 gives
           (ap (λ (s : ServerValue _). s.sent) o) (ap (λ (s : ServerValue _). s.socket_failures) o) (same_by c.args.server.now c.gather_turn.new.self o) e.addresses e.received e.same alive),
     )) e.gives e.alive
 
@@ -31,7 +31,7 @@ returns-clause-ends g c =
     both_on_err c.release.result (λ silent broken. (
       t.0,
       t.1.waited,
-      last_of r.Says r.Gathers g.S.Datagrams.is_telling t.0 c.begin-group.result c.gather_turn.new.group c.args.server.now c.gather_turn.new.self c.release.new.self c.begin-group.ensures t.1 silent
+      last_of r.Says r.Gathers g.S.DatagramSocket.is_telling t.0 c.begin-group.result c.gather_turn.new.group c.args.server.now c.gather_turn.new.self c.release.new.self c.begin-group.ensures t.1 silent
           (ap (λ (s : ServerValue _). s.sent) o) (ap (λ (s : ServerValue _). s.socket_failures) o) (same_by c.args.server.now c.gather_turn.new.self o) e.addresses e.same broken,
     )) e.silent e.broken
 
@@ -43,6 +43,6 @@ returns-in_err-gather_turn-clause-ends g c =
     on_err c.from_residual.result (
       e.0,
       e.1.waited,
-      last_within r.Says r.Gathers g.S.Datagrams.is_telling e.0 c.begin-group.result c.args.server.now c.gather_turn.new.self c.begin-group.ensures e.1
+      last_within r.Says r.Gathers g.S.DatagramSocket.is_telling e.0 c.begin-group.result c.args.server.now c.gather_turn.new.self c.begin-group.ensures e.1
           (ap (λ (s : ServerValue _). s.sent) o) (ap (λ (s : ServerValue _). s.socket_failures) o) (same_by c.args.server.now c.gather_turn.new.self o) c.in_err-gather_turn.ensures.broken,
     )

@@ -15,4 +15,4 @@ returns-clause-ok g c =
 pub returns-in_err-take_turn-clause-err : goal.returns-in_err-take_turn-clause-err
 returns-in_err-take_turn-clause-err g c =
     let ended = c.in_err-take_turn.ensures in
-    on_err c.from_residual.result (turns_end ended.ends.0 281474976710656 c.turns-test.true c.turns.invariant ended.ends.1 ended.ends.2 ended.outside ended.failure)
+    on_err c.from_residual.result (turns_end ended.ends.0 281474976710656 c.turns-test.true c.turns.invariant ended.ends.1 ended.ends.2 ended.network ended.failure)

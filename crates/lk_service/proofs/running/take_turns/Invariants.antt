@@ -7,4 +7,4 @@ use Rattle.lk_service.proofs.running.take_turns.Given as goal
 abbrev pub invariant-turns : goal.invariant-turns
 invariant-turns g l =
     let device = g.D.LogDisk in
-    Repeats (TakesTurn (SaysOn device.is_honest device.is_metered g.M.Machine.meaning g.M.Machine.IsText) g.S.Datagrams.is_telling) l.counter l.fn.server l.server
+    Repeats (TakesTurn (SaysOn device.is_honest device.is_metered g.M.Machine.meaning g.M.Machine.IsText) g.S.DatagramSocket.is_telling) l.counter l.fn.server l.server

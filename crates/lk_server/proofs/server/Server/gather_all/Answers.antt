@@ -12,19 +12,19 @@ use Rattle.lk_server.proofs.server.Server.gather_all.Goals as goal
 pub returns-then-not-branch-clause-takes : goal.returns-then-not-branch-clause-takes
 returns-then-not-branch-clause-takes g c =
     let n = c.in_ok-gather_letter.ensures.none (cc c.if-not-branch.true) in
-    subst₂ (λ (x : GroupValue) (s : ServerValue _). IfOk c.gather_socket.result (λ found. found ≡ Something → (frames : List (SocketAddr × List ℕ)) × TakesWaiting g.R.NodeReplica.Gathers g.S.Datagrams.is_telling frames x c.gather_socket.new.group s c.gather_socket.new.self))
+    subst₂ (λ (x : GroupValue) (s : ServerValue _). IfOk c.gather_socket.result (λ found. found ≡ Something → (frames : List (SocketAddr × List ℕ)) × TakesWaiting g.R.NodeReplica.Gathers g.S.DatagramSocket.is_telling frames x c.gather_socket.new.group s c.gather_socket.new.self))
     n.2 n.1 c.gather_socket.ensures.takes
 
 pub returns-then-not-branch-clause-none : goal.returns-then-not-branch-clause-none
 returns-then-not-branch-clause-none g c =
     let n = c.in_ok-gather_letter.ensures.none (cc c.if-not-branch.true) in
-    subst₂ (λ (x : GroupValue) (s : ServerValue _). IfOk c.gather_socket.result (λ found. (found ≡ Something → ⊥) → (s.own ≡ []) × (frames : List (SocketAddr × List ℕ)) × Finds g.S.Datagrams.is_telling found frames s c.gather_socket.new.self × (c.gather_socket.new.group ≡ x)))
+    subst₂ (λ (x : GroupValue) (s : ServerValue _). IfOk c.gather_socket.result (λ found. (found ≡ Something → ⊥) → (s.own ≡ []) × (frames : List (SocketAddr × List ℕ)) × Finds g.S.DatagramSocket.is_telling found frames s c.gather_socket.new.self × (c.gather_socket.new.group ≡ x)))
     n.2 n.1 c.gather_socket.ensures.none
 
 pub returns-then-not-branch-clause-ends : goal.returns-then-not-branch-clause-ends
 returns-then-not-branch-clause-ends g c =
     let n = c.in_ok-gather_letter.ensures.none (cc c.if-not-branch.true) in
-    subst₂ (λ (x : GroupValue) (s : ServerValue _). OnErr c.gather_socket.result ((frames : List (SocketAddr × List ℕ)) × EndsGroup g.R.NodeReplica.Says g.R.NodeReplica.Gathers g.S.Datagrams.is_telling frames x s c.gather_socket.new.self))
+    subst₂ (λ (x : GroupValue) (s : ServerValue _). OnErr c.gather_socket.result ((frames : List (SocketAddr × List ℕ)) × EndsGroup g.R.NodeReplica.Says g.R.NodeReplica.Gathers g.S.DatagramSocket.is_telling frames x s c.gather_socket.new.self))
     n.2 n.1 c.gather_socket.ensures.ends
 
 pub returns-clause-takes : goal.returns-clause-takes
@@ -32,7 +32,7 @@ returns-clause-takes g c = λ yes.
     let r = g.R.NodeReplica in
     let first = c.in_ok-gather_letter.ensures.takes (cc c.if-not-branch.false) in (
       [],
-      own_group r.Says r.Gathers g.S.Datagrams.is_telling first.0 c.args.group.now c.gather_letter.new.group c.gather_letters.new.group c.args.self.now c.gather_letter.new.self c.gather_letters.new.self first.1
+      own_group r.Says r.Gathers g.S.DatagramSocket.is_telling first.0 c.args.group.now c.gather_letter.new.group c.gather_letters.new.group c.args.self.now c.gather_letter.new.self c.gather_letters.new.self first.1
           (ap (λ (s : ServerValue _). s.addresses) c.gather_letters.ensures.others ∙ ap (λ (s : ServerValue _). s.addresses) c.gather_letter.ensures.others) first.2 c.in_ok-gather_letters.ensures.takes,
     )
 
@@ -42,7 +42,7 @@ returns-in_err-gather_letter-clause-ends g c =
     let e = c.in_err-gather_letter.ensures.ends in
     on_err c.from_residual.result (
       [],
-      own_ends_first r.Says r.Gathers g.S.Datagrams.is_telling e.0 c.args.group.now c.args.self.now c.gather_letter.new.self e.1 (ap (λ (s : ServerValue _). s.addresses) c.gather_letter.ensures.others) e.2,
+      own_ends_first r.Says r.Gathers g.S.DatagramSocket.is_telling e.0 c.args.group.now c.args.self.now c.gather_letter.new.self e.1 (ap (λ (s : ServerValue _). s.addresses) c.gather_letter.ensures.others) e.2,
     )
 
 pub returns-in_err-gather_letters-clause-ends : goal.returns-in_err-gather_letters-clause-ends
@@ -51,6 +51,6 @@ returns-in_err-gather_letters-clause-ends g c =
     let first = c.in_ok-gather_letter.ensures.takes (cc c.if-not-branch.false) in
     on_err c.from_residual-in_err-gather_letters.result (
       [],
-      own_ends r.Says r.Gathers g.S.Datagrams.is_telling first.0 c.args.group.now c.gather_letter.new.group c.args.self.now c.gather_letter.new.self c.gather_letters.new.self first.1
+      own_ends r.Says r.Gathers g.S.DatagramSocket.is_telling first.0 c.args.group.now c.gather_letter.new.group c.args.self.now c.gather_letter.new.self c.gather_letters.new.self first.1
           (ap (λ (s : ServerValue _). s.addresses) c.gather_letters.ensures.others ∙ ap (λ (s : ServerValue _). s.addresses) c.gather_letter.ensures.others) first.2 c.in_err-gather_letters.ensures.ends,
     )

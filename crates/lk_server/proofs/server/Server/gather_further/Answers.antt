@@ -11,7 +11,7 @@ datagrams-preserved g c =
     let new = c.gather_waiting.new.self in (
       i.0 ++ t.0 ∷ [],
       omega (arith, i.1, length-append i.0 (t.0 ∷ [])),
-      socket_more g.R.NodeReplica.Gathers g.S.Datagrams.is_telling i.0 (t.0 ∷ []) c.args.group.now c.datagrams.group c.gather_waiting.new.group c.args.self.now c.datagrams.self new (ap (λ (s : ServerValue _). s.cluster) i.3) i.2 t.1,
+      socket_more g.R.NodeReplica.Gathers g.S.DatagramSocket.is_telling i.0 (t.0 ∷ []) c.args.group.now c.datagrams.group c.gather_waiting.new.group c.args.self.now c.datagrams.self new (ap (λ (s : ServerValue _). s.cluster) i.3) i.2 t.1,
       c.gather_waiting.ensures.others
           ∙ ap (λ (s : ServerValue _). record s { replica = new.replica; failed = new.failed; received = new.received; addresses = new.addresses; coming = new.coming }) i.3,
     )
@@ -22,7 +22,7 @@ returns-then-not-branch-clause-takes g c =
     let n = c.in_ok-gather_waiting.ensures.none (cc c.if-not-branch.true) in (
       i.0,
       omega (arith, i.1, c.datagrams-test.true),
-      socket_still g.R.NodeReplica.Gathers g.S.Datagrams.is_telling i.0 c.args.group.now c.datagrams.group c.gather_waiting.new.group c.args.self.now c.datagrams.self c.gather_waiting.new.self i.2 n.2 n.1 n.0,
+      socket_still g.R.NodeReplica.Gathers g.S.DatagramSocket.is_telling i.0 c.args.group.now c.datagrams.group c.gather_waiting.new.group c.args.self.now c.datagrams.self c.gather_waiting.new.self i.2 n.2 n.1 n.0,
     )
 
 pub returns-clause-takes : goal.returns-clause-takes
@@ -37,5 +37,5 @@ returns-in_err-gather_waiting-clause-ends g c =
     on_err c.from_residual.result (
       i.0 ++ e.0 ∷ [],
       omega (arith, i.1, c.datagrams-test.true, length-append i.0 (e.0 ∷ [])),
-      ends_further g.R.NodeReplica.Says g.R.NodeReplica.Gathers g.S.Datagrams.is_telling i.0 (e.0 ∷ []) c.args.group.now c.datagrams.group c.args.self.now c.datagrams.self c.gather_waiting.new.self (ap (λ (s : ServerValue _). s.cluster) i.3) i.2 e.1,
+      ends_further g.R.NodeReplica.Says g.R.NodeReplica.Gathers g.S.DatagramSocket.is_telling i.0 (e.0 ∷ []) c.args.group.now c.datagrams.group c.args.self.now c.datagrams.self c.gather_waiting.new.self (ap (λ (s : ServerValue _). s.cluster) i.3) i.2 e.1,
     )

@@ -6,5 +6,5 @@ use Rattle.lk_server.proofs.server.Server.gather_further.Given as goal
 
 abbrev pub invariant-datagrams : goal.invariant-datagrams
 invariant-datagrams g l =
-    (frames : List (SocketAddr × List ℕ)) × (length frames ≡ l.counter) × TakesSocket g.R.NodeReplica.Gathers g.S.Datagrams.is_telling frames l.fn.group l.group l.fn.self l.self
+    (frames : List (SocketAddr × List ℕ)) × (length frames ≡ l.counter) × TakesSocket g.R.NodeReplica.Gathers g.S.DatagramSocket.is_telling frames l.fn.group l.group l.fn.self l.self
     × (l.self ≡ record l.fn.self { replica = l.self.replica; failed = l.self.failed; received = l.self.received; addresses = l.self.addresses; coming = l.self.coming })

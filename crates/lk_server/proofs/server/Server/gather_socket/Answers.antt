@@ -14,7 +14,7 @@ returns-then-not-is_something-clause-none g c = λ apart. let n = c.in_ok-found.
 pub returns-clause-takes : goal.returns-clause-takes
 returns-clause-takes g c = λ yes.
     let r = g.R.NodeReplica in
-    let tells = g.S.Datagrams.is_telling in
+    let tells = g.S.DatagramSocket.is_telling in
     let first = c.in_ok-found.ensures.takes (c.is_something.ensures.0 (cc c.if-not-is_something.false)) in
     let more = c.in_ok-gather_further.ensures.takes in
     let one = c.gather_first.ensures.others in
@@ -31,13 +31,13 @@ returns-in_err-found-clause-ends g c =
     let e = c.in_err-found.ensures.ends in
     on_err c.from_residual.result (
       e.0 ∷ [],
-      socket_ends r.Says r.Gathers g.S.Datagrams.is_telling e.0 [] c.args.group.now c.args.self.now c.gather_first.new.self c.requires (ap (λ (s : ServerValue _). s.own) c.gather_first.ensures.others) (omega arith) e.1 e.2,
+      socket_ends r.Says r.Gathers g.S.DatagramSocket.is_telling e.0 [] c.args.group.now c.args.self.now c.gather_first.new.self c.requires (ap (λ (s : ServerValue _). s.own) c.gather_first.ensures.others) (omega arith) e.1 e.2,
     )
 
 pub returns-in_err-gather_further-clause-ends : goal.returns-in_err-gather_further-clause-ends
 returns-in_err-gather_further-clause-ends g c =
     let r = g.R.NodeReplica in
-    let tells = g.S.Datagrams.is_telling in
+    let tells = g.S.DatagramSocket.is_telling in
     let first = c.in_ok-found.ensures.takes (c.is_something.ensures.0 (cc c.if-not-is_something.false)) in
     let e = c.in_err-gather_further.ensures.ends in
     let one = c.gather_first.ensures.others in

@@ -9,14 +9,14 @@ use Rattle.lk_server.proofs.server.Server.gather_turn.Goals as goal
 pub returns-then-not-is_due-clause-takes : goal.returns-then-not-is_due-clause-takes
 returns-then-not-is_due-clause-takes g c = λ is.
     let r = g.R.NodeReplica in
-    let tells = g.S.Datagrams.is_telling in
+    let tells = g.S.DatagramSocket.is_telling in
     subst (λ (s : ServerValue _). (frames : List (SocketAddr × List ℕ)) × TakesGroup r.Gathers tells frames c.args.group.now c.gather_all.new.group s c.gather_all.new.self) c.wait_for.ensures
     (untimely_takes r.Says r.Gathers tells c.args.group.now c.gather_all.new.group c.wait_for.new.self c.gather_all.new.self (c.in_ok-found.ensures.takes (c.is_something.ensures.0 is)))
 
 pub returns-then-not-is_due-clause-idle : goal.returns-then-not-is_due-clause-idle
 returns-then-not-is_due-clause-idle g c = λ isnt.
     let r = g.R.NodeReplica in
-    let tells = g.S.Datagrams.is_telling in
+    let tells = g.S.DatagramSocket.is_telling in
     let pace : c.self.inside.pace ≡ c.gather_all.new.self.pace = search rules in
     let apart = apart_by isnt c.is_something.ensures.1 in
     subst (λ (s : ServerValue _). (frames : List (SocketAddr × List ℕ)) × HasWaited tells frames s × IsIdle tells frames s c.gather_all.new.self) c.wait_for.ensures
@@ -26,7 +26,7 @@ returns-then-not-is_due-clause-idle g c = λ isnt.
 pub returns-clause-takes : goal.returns-clause-takes
 returns-clause-takes g c = λ is.
     let r = g.R.NodeReplica in
-    let tells = g.S.Datagrams.is_telling in
+    let tells = g.S.DatagramSocket.is_telling in
     let a = c.in_ok-found.ensures in
     let pace : c.self.inside.pace ≡ c.gather_all.new.self.pace = search rules in
     subst (λ (s : ServerValue _). (frames : List (SocketAddr × List ℕ)) × TakesGroup r.Gathers tells frames c.args.group.now c.gather_tick.new.group s c.gather_tick.new.self) c.wait_for.ensures
@@ -36,14 +36,14 @@ returns-clause-takes g c = λ is.
 pub returns-in_err-found-clause-ends : goal.returns-in_err-found-clause-ends
 returns-in_err-found-clause-ends g c =
     let r = g.R.NodeReplica in
-    let tells = g.S.Datagrams.is_telling in
+    let tells = g.S.DatagramSocket.is_telling in
     on_err c.from_residual.result
     (subst (λ (s : ServerValue _). (frames : List (SocketAddr × List ℕ)) × EndsGroup r.Says r.Gathers tells frames c.args.group.now s c.gather_all.new.self) c.wait_for.ensures c.in_err-found.ensures.ends)
 
 pub returns-in_err-gather_tick-clause-ends : goal.returns-in_err-gather_tick-clause-ends
 returns-in_err-gather_tick-clause-ends g c =
     let r = g.R.NodeReplica in
-    let tells = g.S.Datagrams.is_telling in
+    let tells = g.S.DatagramSocket.is_telling in
     let a = c.in_ok-found.ensures in
     let pace : c.self.inside.pace ≡ c.gather_all.new.self.pace = search rules in
     on_err c.from_residual-in_err-gather_tick.result

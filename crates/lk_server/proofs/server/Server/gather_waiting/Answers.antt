@@ -9,7 +9,7 @@ returns-in-Something-clause-takes g c = λ came.
     let l = c.listen_waiting.ensures in
     let t = c.in_ok-gather_heard.ensures.takes (search rules) in (
       t.0,
-      socket_one g.R.NodeReplica.Gathers g.S.Datagrams.is_telling c.listen_waiting.new.ear.last t.0 c.args.group.now c.gather_heard.new.group c.args.self.now c.listen_waiting.new.self c.gather_heard.new.self t.1 l.comes l.others
+      socket_one g.R.NodeReplica.Gathers g.S.DatagramSocket.is_telling c.listen_waiting.new.buffer.last t.0 c.args.group.now c.gather_heard.new.group c.args.self.now c.listen_waiting.new.self c.gather_heard.new.self t.1 l.comes l.others
           (ap (λ (s : ServerValue _). s.coming) c.gather_heard.ensures.others) t.3,
     )
 
@@ -18,14 +18,14 @@ returns-in-Beside-clause-takes g c = λ came.
     let l = c.listen_waiting.ensures in
     let b = c.in_ok-gather_heard.ensures.beside (search rules) in (
       b.0,
-      socket_beside g.R.NodeReplica.Gathers g.S.Datagrams.is_telling c.listen_waiting.new.ear.last b.0 c.args.group.now c.gather_heard.new.group c.args.self.now c.listen_waiting.new.self c.gather_heard.new.self b.1 l.comes l.others b.2 b.3 b.4,
+      socket_beside g.R.NodeReplica.Gathers g.S.DatagramSocket.is_telling c.listen_waiting.new.buffer.last b.0 c.args.group.now c.gather_heard.new.group c.args.self.now c.listen_waiting.new.self c.gather_heard.new.self b.1 l.comes l.others b.2 b.3 b.4,
     )
 
 pub returns-in-Nothing-clause-none : goal.returns-in-Nothing-clause-none
 returns-in-Nothing-clause-none g c = λ came.
     let l = c.listen_waiting.ensures in
     let n = c.in_ok-gather_heard.ensures.none (search rules) in
-    let so = none_came g.S.Datagrams.is_telling c.listen_waiting.new.ear.last c.args.self.now c.listen_waiting.new.self c.gather_heard.new.self n.0 l.comes l.none l.others n.1 in
+    let so = none_came g.S.DatagramSocket.is_telling c.listen_waiting.new.buffer.last c.args.self.now c.listen_waiting.new.self c.gather_heard.new.self n.0 l.comes l.none l.others n.1 in
     (λ t. (so.0 t).1 ∙ sym (so.0 t).0, so.1, n.2)
 
 pub returns-in_err-gather_heard-clause-ends : goal.returns-in_err-gather_heard-clause-ends
@@ -34,6 +34,6 @@ returns-in_err-gather_heard-clause-ends g c =
     let e = c.in_err-gather_heard.ensures.ends in
     on_err c.from_residual.result (
       e.0,
-      ends_socket g.R.NodeReplica.Says g.R.NodeReplica.Gathers g.S.Datagrams.is_telling c.listen_waiting.new.ear.last e.0 c.args.group.now c.args.self.now c.listen_waiting.new.self c.gather_heard.new.self e.1 l.comes l.others
+      ends_socket g.R.NodeReplica.Says g.R.NodeReplica.Gathers g.S.DatagramSocket.is_telling c.listen_waiting.new.buffer.last e.0 c.args.group.now c.args.self.now c.listen_waiting.new.self c.gather_heard.new.self e.1 l.comes l.others
           (ap (λ (s : ServerValue _). s.coming) c.gather_heard.ensures.others) e.3,
     )

@@ -8,7 +8,7 @@ pub returns-clause-addresses : goal.returns-clause-addresses
 returns-clause-addresses g c =
     let e = c.release-released.ensures in
     let begun : c.begin.new.self.addresses ≡ c.args.self.now.addresses = search rules in
-    (same_post g.S.Datagrams.is_telling c.release-released.result _ c.begin.new.self c.release-released.new.post e.hands e.unsent).1 ∙ begun
+    (same_post g.S.DatagramSocket.is_telling c.release-released.result _ c.begin.new.self c.release-released.new.post e.hands e.unsent).1 ∙ begun
 
 pub returns-clause-same : goal.returns-clause-same
 returns-clause-same g c =
@@ -16,7 +16,7 @@ returns-clause-same g c =
     let begun : c.begin.new.self.node ≡ c.args.self.now.node = search rules in
     record {
       cluster = search rules;
-      node = (same_post g.S.Datagrams.is_telling c.release-released.result _ c.begin.new.self c.release-released.new.post e.hands e.unsent).0 ∙ begun;
+      node = (same_post g.S.DatagramSocket.is_telling c.release-released.result _ c.begin.new.self c.release-released.new.post e.hands e.unsent).0 ∙ begun;
       pace = search rules;
     }
 
@@ -24,7 +24,7 @@ pub returns-clause-gives : goal.returns-clause-gives
 returns-clause-gives g c =
     let e = c.release-released.ensures in
     let r = g.R.NodeReplica in
-    let tells = g.S.Datagrams.is_telling in
+    let tells = g.S.DatagramSocket.is_telling in
     let same = same_post tells c.release-released.result _ c.begin.new.self c.release-released.new.post e.hands e.unsent in
     let mine : c.self.inside.replica ≡ c.args.self.now.replica = search rules in
     let begun : tray_of c.begin.new.self ≡ tray_at c.args.self.now.own c.args.self.now = search rules in
@@ -34,4 +34,4 @@ pub returns-clause-silent : goal.returns-clause-silent
 returns-clause-silent g c =
     let e = c.release-released.ensures in
     let r = g.R.NodeReplica in
-    rw (← c.self.view_is) (says_nothing r.Says r.Gathers g.S.Datagrams.is_telling _ _ c.begin.new.self c.release-released.new.post c.args.group.now c.release-released.result e.silent e.unsent (search rules) refl)
+    rw (← c.self.view_is) (says_nothing r.Says r.Gathers g.S.DatagramSocket.is_telling _ _ c.begin.new.self c.release-released.new.post c.args.group.now c.release-released.result e.silent e.unsent (search rules) refl)

@@ -7,7 +7,7 @@ use Rattle.lk_server.proofs.server.Server.serve_next.Goals as goal
 pub returns-clause-turn : goal.returns-clause-turn
 returns-clause-turn g c = λ yes.
     let r = g.R.NodeReplica in
-    let tells = g.S.Datagrams.is_telling in
+    let tells = g.S.DatagramSocket.is_telling in
     let o = c.gather_all.ensures.others in
     let t = c.in_ok-found.ensures.takes (c.is_something.ensures.0 (cc c.if-not-is_something.false)) in
     let e = c.release.ensures in (
@@ -20,7 +20,7 @@ returns-clause-turn g c = λ yes.
 pub returns-in_err-release-clause-ends : goal.returns-in_err-release-clause-ends
 returns-in_err-release-clause-ends g c =
     let r = g.R.NodeReplica in
-    let tells = g.S.Datagrams.is_telling in
+    let tells = g.S.DatagramSocket.is_telling in
     let o = c.gather_all.ensures.others in
     let t = c.in_ok-found.ensures.takes (c.is_something.ensures.0 (cc c.if-not-is_something.false)) in
     let e = c.release.ensures in
@@ -38,7 +38,7 @@ returns-in_err-found-clause-ends g c =
     let e = c.in_err-found.ensures.ends in
     on_err c.from_residual.result (
       e.0,
-      last_within r.Says r.Gathers g.S.Datagrams.is_telling e.0 c.begin-group.result c.args.self.now c.gather_all.new.self c.begin-group.ensures e.1
+      last_within r.Says r.Gathers g.S.DatagramSocket.is_telling e.0 c.begin-group.result c.args.self.now c.gather_all.new.self c.begin-group.ensures e.1
           (ap (λ (s : ServerValue _). s.sent) o) (ap (λ (s : ServerValue _). s.socket_failures) o) (same_by c.args.self.now c.gather_all.new.self o) c.in_err-found.ensures.broken,
     )
 

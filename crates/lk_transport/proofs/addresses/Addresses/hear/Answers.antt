@@ -9,7 +9,7 @@ use Rattle.lk_transport.proofs.addresses.Addresses.hear.Goals as goal
 pub returns-in-Request-clause-heard : goal.returns-in-Request-clause-heard
 returns-in-Request-clause-heard c =
     let same : c.in-Ok.message.cluster ≡ c.args.cluster = search rules in
-    let met : HearsClient c.request-client.result.client c.args.from c.args.self.now c.hear_client.new.self = record { own = c.hear_client.ensures.own; others = c.hear_client.ensures.others; nodes = c.hear_client.ensures.nodes; outside = c.hear_client.ensures.outside } in
+    let met : HearsClient c.request-client.result.client c.args.from c.args.self.now c.hear_client.new.self = record { own = c.hear_client.ensures.own; others = c.hear_client.ensures.others; nodes = c.hear_client.ensures.nodes; network = c.hear_client.ensures.network } in
     let client : HearsClient c.in-Request.request.client c.args.from c.args.self.now c.hear_client.new.self =
     subst (λ (r : Request). HearsClient r.client c.args.from c.args.self.now c.hear_client.new.self) c.request-client.ensures.value met in
     let heard : HearsContent (shown_content c.in-Ok.message.content) c.args.from c.args.self.now c.hear_client.new.self = subst (λ (x : ContentRef). HearsContent (shown_content x) c.args.from c.args.self.now c.hear_client.new.self) (sym c.in-Request.is) client in
@@ -21,7 +21,7 @@ returns-in-Request-clause-heard c =
 pub returns-in-Node-clause-heard : goal.returns-in-Node-clause-heard
 returns-in-Node-clause-heard c =
     let same : c.in-Ok.message.cluster ≡ c.args.cluster = search rules in
-    let met : HearsNode c.in-Node.node c.args.from c.args.self.now c.hear_node.new.self = record { own = c.hear_node.ensures.own; places = c.hear_node.ensures.places; clients = c.hear_node.ensures.clients; outside = c.hear_node.ensures.outside } in
+    let met : HearsNode c.in-Node.node c.args.from c.args.self.now c.hear_node.new.self = record { own = c.hear_node.ensures.own; places = c.hear_node.ensures.places; clients = c.hear_node.ensures.clients; network = c.hear_node.ensures.network } in
     let heard : HearsContent (shown_content c.in-Ok.message.content) c.args.from c.args.self.now c.hear_node.new.self = subst (λ (x : ContentRef). HearsContent (shown_content x) c.args.from c.args.self.now c.hear_node.new.self) (sym c.in-Node.is) met in
     record {
       message = λ m s is. subst (λ (n : Message). HearsContent n.content c.args.from c.args.self.now c.hear_node.new.self) (c.in-Ok.ensures.only m s) heard;

@@ -2,10 +2,10 @@
 use Rattle.std.specs.Prelude.{◌≡◌}
 use Rattle.std.specs.Option.{option_map}
 use Rattle.lk_replica.specs.ReplicaValue.{ReplicaValue}
-use Rattle.lk_server.specs.declared.sight.Sight.{Sight}
+use Rattle.lk_server.specs.declared.replica_status.ReplicaStatus.{ReplicaStatus}
 
 -- each part is the replica's
-pub record IsSight (r : ReplicaValue) (s : Sight) : Type 0 where
+pub record IsStatusOf (r : ReplicaValue) (s : ReplicaStatus) : Type 0 where
   pub generation : s.generation ≡ r.store.generation
   pub snapshot : s.snapshot ≡ r.node.acceptor.state.snapshot_position
   pub executed : s.executed ≡ r.node.learner.whole.roster.executed

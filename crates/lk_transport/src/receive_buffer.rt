@@ -4,7 +4,7 @@ ghost use Rattle.std.specs.Prelude.{◌≡◌, ◌++◌, Some, None, IfSome, IsN
 ghost use Rattle.lk_transport.specs.Hearing.{first_asked, listed, next_of};
 
 use crate::asked::Asked;
-use crate::socket::Datagrams;
+use crate::socket::DatagramSocket;
 use lk_seal::OVERHEAD;
 use lk_types::limits::MAX_DATAGRAM;
 use std::marker::Model;
@@ -12,7 +12,7 @@ use std::net::SocketAddr;
 
 /// A place for the datagram that came last, and for a probe that is to be answered. It is made once, for all that come.
 #[derive(Drop)]
-pub struct Ear {
+pub struct ReceiveBuffer {
     // by a byte longer than the frame of the longest datagram, so that one that is cut does not read
     buffer: [u8; MAX_DATAGRAM + OVERHEAD + 1],
     // how long the datagram is that came last, and from where it came, if one did
@@ -20,23 +20,23 @@ pub struct Ear {
     asked: Option<Asked>,
 }
 
-impl Model for Ear {
+impl Model for ReceiveBuffer {
     ghost use Rattle.std.specs.Prelude.{◌≤◌, IfSome};
-    ghost use Rattle.lk_transport.specs.Hearing.{EarValue, heard_in};
+    ghost use Rattle.lk_transport.specs.Hearing.{BufferValue, heard_in};
 
-    ghost Value = { EarValue };
+    ghost Value = { BufferValue };
 
     ghost invariant = { λ e. IfSome e.last (λ l. l.0 ≤ 8229) };
 
     ghost view = { λ e. record { last = heard_in e.buffer e.last; asked = e.asked } };
 }
 
-impl Ear {
+impl ReceiveBuffer {
     /// Nothing has come.
-    pub fn new() -> Ear
+    pub fn new() -> ReceiveBuffer
         ensures { result ≡ record { last = None; asked = None } }
     {
-        Ear {
+        ReceiveBuffer {
             buffer: [0; MAX_DATAGRAM + OVERHEAD + 1],
             last: None,
             asked: None,
@@ -45,7 +45,7 @@ impl Ear {
 
     /// Hears the next datagram of a socket: its own bytes, and none of an earlier one; or nothing, where none came within 100 ms, or the
     /// receive failed.
-    pub fn receive<S: Datagrams>(&mut self, socket: &mut S)
+    pub fn receive<S: DatagramSocket>(&mut self, socket: &mut S)
         ensures comes { S.is_telling → S.coming socket.old ≡ listed self.new.last ++ S.coming socket.new }
         ensures next { S.is_telling → next_of S.coming socket.old ≡ self.new.last }
         ensures asked { self.new.asked ≡ self.old.asked }
@@ -56,7 +56,7 @@ impl Ear {
     }
 
     /// The same of a datagram that waits at the socket already; or nothing, where none does.
-    pub fn receive_waiting<S: Datagrams>(&mut self, socket: &mut S)
+    pub fn receive_waiting<S: DatagramSocket>(&mut self, socket: &mut S)
         ensures comes { S.is_telling → S.coming socket.old ≡ listed self.new.last ++ S.coming socket.new }
         ensures next { S.is_telling → next_of S.coming socket.old ≡ self.new.last }
         ensures asked { self.new.asked ≡ self.old.asked }

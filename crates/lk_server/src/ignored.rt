@@ -1,11 +1,11 @@
 //! The datagrams that say nothing to a server, counted.
 
-use lk_transport::came::Came;
+use lk_transport::arrival::Arrival;
 use log::{Log, debug};
 
 /// How many datagrams came that do not read, and how many of another cluster.
 #[derive(Clone, Copy)]
-pub struct Strangers {
+pub struct IgnoredCounts {
     bad: u64,
     foreign: u64,
 }
@@ -17,10 +17,10 @@ fn log_count<L: Log>(log: &L, what: &str, count: u64) {
     }
 }
 
-impl Strangers {
+impl IgnoredCounts {
     /// None came.
-    pub fn new() -> Strangers {
-        Strangers { bad: 0, foreign: 0 }
+    pub fn new() -> IgnoredCounts {
+        IgnoredCounts { bad: 0, foreign: 0 }
     }
 
     /// How many datagrams came that do not read.
@@ -29,13 +29,13 @@ impl Strangers {
     }
 
     /// Counts what came, if it is one of them. Each count that is a power of two is logged at level debug.
-    pub fn count<L: Log>(&mut self, came: &Came, log: &L) {
+    pub fn count<L: Log>(&mut self, came: &Arrival, log: &L) {
         match came {
-            Came::Bad => {
+            Arrival::Bad => {
                 self.bad = self.bad.saturating_add(1);
                 log_count(log, "that do not read", self.bad);
             }
-            Came::Foreign => {
+            Arrival::Foreign => {
                 self.foreign = self.foreign.saturating_add(1);
                 log_count(log, "of another cluster", self.foreign);
             }

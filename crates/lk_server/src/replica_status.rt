@@ -4,7 +4,7 @@ use lk_types::{Ballot, Executed, NodeNo, RealBallot};
 
 /// What is seen of a replica from outside, between two turns.
 #[derive(Clone, Copy)]
-pub struct Sight {
+pub struct ReplicaStatus {
     /// The generation of its store.
     pub generation: u64,
     /// The position of its snapshot.

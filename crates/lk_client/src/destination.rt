@@ -1,7 +1,7 @@
 //! Where a client asks, and by which keys it knows who replied.
 
 ghost use Rattle.std.specs.Prelude.{◌≡◌};
-ghost use Rattle.lk_client.specs.Questions.{far_address};
+ghost use Rattle.lk_client.specs.Questions.{destination_address};
 
 use lk_seal::{AskerSeals, Keys};
 use lk_transport::hosts::Hosts;
@@ -10,16 +10,16 @@ use std::net::{IpAddr, Ipv4Addr};
 
 /// At which address the node lives that is asked first, where the others live, and the keys.
 #[derive(Drop)]
-pub struct Far {
+pub struct Destination {
     pub address: IpAddr,
     pub hosts: Hosts,
     pub seals: AskerSeals,
 }
 
-impl Far {
+impl Destination {
     /// All nodes live at 127.0.0.1, and nobody has a key.
-    pub fn local(cluster: u64) -> Far {
-        Far {
+    pub fn local(cluster: u64) -> Destination {
+        Destination {
             address: IpAddr::V4(Ipv4Addr::LOCALHOST),
             hosts: Hosts::Local,
             seals: AskerSeals {
@@ -31,7 +31,7 @@ impl Far {
 
     /// The address at which a member is asked: that at which it lives, or that of the node that was asked first.
     pub fn address_of(&self, member: &Member) -> IpAddr
-        ensures { result ≡ far_address self.now member.now }
+        ensures { result ≡ destination_address self.now member.now }
     {
         match self.hosts.address(member.node) {
             Some(address) => address,

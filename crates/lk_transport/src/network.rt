@@ -6,15 +6,15 @@ use lk_types::NodeNo;
 
 /// Where the nodes live, and by which keys a node knows who wrote.
 #[derive(Drop)]
-pub struct Outside {
+pub struct Network {
     pub hosts: Hosts,
     pub seals: Seals,
 }
 
-impl Outside {
+impl Network {
     /// All nodes live at 127.0.0.1, and nobody has a key, so that no seal names the genesis.
-    pub fn local(cluster: u64, node: NodeNo) -> Outside {
-        Outside {
+    pub fn local(cluster: u64, node: NodeNo) -> Network {
+        Network {
             hosts: Hosts::Local,
             seals: Seals {
                 cluster,

@@ -8,12 +8,12 @@ ghost use Rattle.lk_service.specs.Turns.{AreSealsOf};
 
 use crate::causes::tell_cause;
 use crate::digest::genesis_digest;
-use lk_client::far::Far;
+use lk_client::destination::Destination;
 use lk_entries::Header;
 use lk_seal::{AskerSeals, Keys, Seals};
 use lk_transport::fault::ServiceFault;
 use lk_transport::hosts::Hosts;
-use lk_transport::outside::Outside;
+use lk_transport::network::Network;
 use lk_types::{NodeNo, Port};
 use lk_words::operation::node_of;
 use lk_words::word::split_word;
@@ -27,7 +27,7 @@ use std::os::unix::fs::PermissionsExt;
 /// What a command line says of the machines outside: the file of the hosts, the address at which the node listens, and the files of the
 /// keys.
 #[derive(Clone, Copy)]
-pub struct Away<'a> {
+pub struct NetworkOptions<'a> {
     pub hosts: Option<&'a str>,
     pub bind: Option<IpAddr>,
     pub key: Option<&'a str>,
@@ -203,14 +203,14 @@ fn seals_in<R: Files<File = File>, E: Write>(
     rt: &R,
     alloc: Global,
     header: &Header,
-    away: &Away<'_>,
+    options: &NetworkOptions<'_>,
     err: &mut E,
 ) -> Result<Seals, ServiceFault>
     ensures { IfOk result (AreSealsOf header.now) }
 {
-    let nodes = keys_in(rt, alloc, away.key, err)?;
-    let clients = keys_in(rt, alloc, away.client_key, err)?;
-    check_keys(&nodes, &clients, away.client_key.unwrap_or(""), err)?;
+    let nodes = keys_in(rt, alloc, options.key, err)?;
+    let clients = keys_in(rt, alloc, options.client_key, err)?;
+    check_keys(&nodes, &clients, options.client_key.unwrap_or(""), err)?;
     Ok(Seals {
         cluster: header.genesis().cluster,
         genesis: genesis_digest(alloc, header)?,
@@ -241,42 +241,42 @@ fn check_reach<E: Write>(seals: &Seals, place: SocketAddr, err: &mut E) -> Resul
 }
 
 /// Where the nodes live, the keys, and at which address the node listens.
-pub fn outside_of<R: Files<File = File>, E: Write>(
+pub fn network_of<R: Files<File = File>, E: Write>(
     rt: &R,
     alloc: Global,
     header: &Header,
     port: Port,
-    away: &Away<'_>,
+    options: &NetworkOptions<'_>,
     err: &mut E,
-) -> Result<(Outside, SocketAddr), ServiceFault>
+) -> Result<(Network, SocketAddr), ServiceFault>
     // They are the seals of this node in its cluster, of its genesis.
     ensures seals { IfOk result (λ r. AreSealsOf header.now r.0.seals) }
     // Where other machines may reach the address, the nodes have a key.
     ensures guarded { IfOk result (λ r. IsReachedWithKey r.0.seals r.1) }
 {
-    let hosts = hosts_in(rt, alloc, away.hosts, err)?;
-    let seals = seals_in(rt, alloc, header, away, err)?;
-    let address = place_of(header, &hosts, away.hosts, away.bind, err)?;
+    let hosts = hosts_in(rt, alloc, options.hosts, err)?;
+    let seals = seals_in(rt, alloc, header, options, err)?;
+    let address = place_of(header, &hosts, options.hosts, options.bind, err)?;
     let place = SocketAddr::from((address, port.get()));
     check_reach(&seals, place, err)?;
-    Ok((Outside { hosts, seals }, place))
+    Ok((Network { hosts, seals }, place))
 }
 
 /// Where a client asks, and its keys.
-pub fn far_of<R: Files<File = File>, E: Write>(
+pub fn destination_of<R: Files<File = File>, E: Write>(
     rt: &R,
     alloc: Global,
     cluster: u64,
-    away: &Away<'_>,
+    options: &NetworkOptions<'_>,
     err: &mut E,
-) -> Result<Far, ServiceFault> {
-    let hosts = hosts_in(rt, alloc, away.hosts, err)?;
-    let keys = keys_in(rt, alloc, away.client_key, err)?;
-    let address = match away.bind {
+) -> Result<Destination, ServiceFault> {
+    let hosts = hosts_in(rt, alloc, options.hosts, err)?;
+    let keys = keys_in(rt, alloc, options.client_key, err)?;
+    let address = match options.bind {
         Some(address) => address,
         None => IpAddr::V4(Ipv4Addr::LOCALHOST),
     };
-    Ok(Far {
+    Ok(Destination {
         address,
         hosts,
         seals: AskerSeals { cluster, keys },

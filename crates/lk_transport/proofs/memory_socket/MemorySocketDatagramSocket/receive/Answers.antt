@@ -1,7 +1,7 @@
 use Rattle.std.proofs.Common.{◌≡◌, ℕ, ◌∙◌, List, ◌∷◌, take, drop, length, min, ap, sym, rules}
 use Rattle.lk_transport.specs.Sockets.{coming_in}
 use Rattle.lk_transport.proofs.Cutting.{heard_so}
-use Rattle.lk_transport.proofs.memory_socket.MemorySocketDatagrams.receive.Goals as goal
+use Rattle.lk_transport.proofs.memory_socket.MemorySocketDatagramSocket.receive.Goals as goal
 
 pub returns-clause-some : goal.returns-clause-some
 returns-clause-some c telling =

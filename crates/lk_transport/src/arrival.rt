@@ -6,7 +6,7 @@ use std::fmt;
 
 /// What came to a server, as far as it was read.
 #[derive(Clone, Copy)]
-pub enum Came {
+pub enum Arrival {
     /// Some time has passed.
     Tick,
     /// A datagram that does not read.
@@ -39,45 +39,45 @@ pub fn name_of(message: &NodeMessageRef<'_>) -> &'static str {
     }
 }
 
-impl Came {
+impl Arrival {
     /// What a node wrote to itself.
-    pub fn own(bytes: &[u8]) -> Came {
+    pub fn own(bytes: &[u8]) -> Arrival {
         match &view(bytes) {
             Ok(
                 MessageRef {
                     content: ContentRef::Node(node, said),
                     ..
                 },
-            ) => Came::said(*node, said),
-            _ => Came::Bad,
+            ) => Arrival::said(*node, said),
+            _ => Arrival::Bad,
         }
     }
 
     /// The node that said it, if one did.
     pub fn node(&self) -> Option<NodeNo> {
         match self {
-            Came::Want(node) | Came::Said(_, node) => Some(*node),
-            Came::Tick | Came::Bad | Came::Foreign | Came::Request(_) => None,
+            Arrival::Want(node) | Arrival::Said(_, node) => Some(*node),
+            Arrival::Tick | Arrival::Bad | Arrival::Foreign | Arrival::Request(_) => None,
         }
     }
 
     /// What a node says.
-    pub fn said(node: NodeNo, message: &NodeMessageRef<'_>) -> Came {
+    pub fn said(node: NodeNo, message: &NodeMessageRef<'_>) -> Arrival {
         match message {
-            NodeMessageRef::Want(_) => Came::Want(node),
-            _ => Came::Said(name_of(message), node),
+            NodeMessageRef::Want(_) => Arrival::Want(node),
+            _ => Arrival::Said(name_of(message), node),
         }
     }
 }
 
-impl fmt::Display for Came {
+impl fmt::Display for Arrival {
     fn fmt<W: fmt::Write>(&self, f: &mut fmt::Formatter<W>) -> fmt::Result {
         match self {
-            Came::Tick => f.write_str("a tick"),
-            Came::Bad | Came::Foreign => f.write_str("a datagram"),
-            Came::Request(client) => write!(f, "a request of client {}", client.get()),
-            Came::Want(node) => write!(f, "Want of node {}", node.get()),
-            Came::Said(name, node) => write!(f, "{name} of node {}", node.get()),
+            Arrival::Tick => f.write_str("a tick"),
+            Arrival::Bad | Arrival::Foreign => f.write_str("a datagram"),
+            Arrival::Request(client) => write!(f, "a request of client {}", client.get()),
+            Arrival::Want(node) => write!(f, "Want of node {}", node.get()),
+            Arrival::Said(name, node) => write!(f, "{name} of node {}", node.get()),
         }
     }
 }
