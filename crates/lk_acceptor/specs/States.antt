@@ -1,4 +1,4 @@
--- Which states an acceptor has, and what becomes of them.
+-- Which states an acceptor has, and how they change.
 use Rattle.std.specs.Prelude.{ℕ, nat_lt, Contains, Option, Some, None, IsTrue, if◌then◌else◌}
 use Rattle.std.specs.List.{AllByRecursion}
 use Rattle.lk_types.specs.BallotValue.{BallotValue}
@@ -15,7 +15,7 @@ use Rattle.lk_acceptor.specs.AcceptorValue.{AcceptorValue}
 use Rattle.lk_votes.specs.VoteLists.{votes_with}
 use Rattle.lk_acceptor.specs.VoteLists.{votes_above}
 
--- the votes lie above the snapshot, strictly rising by position, and none is in a ballot above the promised one
+-- the votes are above the snapshot, strictly rising by position, and none is in a ballot above the promised one
 pub record IsOrdered (s : AcceptorState) : Type 0 where
   pub rising : IsTrue (are_votes_above s.snapshot_position s.votes)
   pub promised : (v : Vote) → Contains s.votes v → IsAtMost v.ballot s.promised
@@ -28,13 +28,13 @@ pub record IsAcceptor (a : AcceptorValue) : Type 0 where
   pub votes : AllByRecursion IsVote a.state.votes
   pub kept : IsOrdered a.state
 
--- ---- what becomes of a state
+-- ---- how a state changes
 
 -- the vote is kept in its place, and its ballot is promised
 abbrev pub with_vote : AcceptorState → Vote → AcceptorState
 with_vote s v = record { promised = v.ballot; votes = votes_with v s.votes; snapshot_position = s.snapshot_position }
 
--- a snapshot takes the place of the votes up to a position
+-- a snapshot replaces the votes up to a position
 abbrev pub without_votes_to : AcceptorState → ℕ → AcceptorState
 without_votes_to s i = record { promised = s.promised; votes = votes_above i s.votes; snapshot_position = i }
 
@@ -47,7 +47,7 @@ with_state a s = record { alpha = a.alpha; state = s }
 abbrev pub greater : BallotValue → BallotValue → BallotValue
 greater a b = if is_below a b then b else a
 
--- the state that a store stands for once an entry is written after those that stand for a state
+-- the state that a store stands for after one more entry
 abbrev pub acceptor_with : Entry → AcceptorState → AcceptorState
 acceptor_with (entry.Promise b) s = with_promise s (greater s.promised b)
 acceptor_with (entry.Vote v) s = record {
@@ -57,7 +57,7 @@ acceptor_with (entry.Vote v) s = record {
 }
 acceptor_with (entry.Decided i c) s = s
 
--- with one entry more, or none
+-- with one more entry, or none
 abbrev pub with_written : Option Entry → AcceptorState → AcceptorState
 with_written None s = s
 with_written (Some e) s = acceptor_with e s

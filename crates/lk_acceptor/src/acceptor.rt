@@ -46,7 +46,7 @@ impl Model for Acceptor {
     ghost invariant = { λ a. IsAlpha a.alpha × AllByRecursion IsVote a.votes.items × IsOrdered (record { promised = a.promised; votes = a.votes.items; snapshot_position = a.snapshot_position }) };
 }
 
-// Each vote is in its range. It does nothing.
+// Each vote is in its range. The function does nothing.
 fn votes_facts(votes: &[Vote])
     ensures { AllByRecursion IsVote votes.now }
 {
@@ -92,14 +92,14 @@ impl Acceptor {
         &self.votes
     }
 
-    /// How many positions the snapshot has taken over.
+    /// How many positions the snapshot has replaced.
     pub fn snapshot_position(&self) -> Executed
         ensures { result ≡ self.now.state.snapshot_position }
     {
         self.snapshot_position
     }
 
-    /// Each part is in its range, and the votes are kept in order. It does nothing.
+    /// Each part is in its range, and the votes are in order. The function does nothing.
     pub fn facts(&self)
         ensures { IsAcceptor self.now }
     {
@@ -132,7 +132,7 @@ impl Acceptor {
         agree(&self.votes, vote)
     }
 
-    // Refuses a ballot.
+    // Rejects a ballot.
     fn refusal(&self, ballot: RealBallot, executed: Executed) -> Response
         ensures { Refuses self.now executed ballot result self.now }
     {
@@ -147,7 +147,7 @@ impl Acceptor {
         }
     }
 
-    // Promises a ballot that is not below the promised one, and gives its entry where it is above.
+    // Promises a ballot that is not below the promised one, and returns its entry if it is above.
     fn raise(&mut self, ballot: RealBallot) -> Option<Entry>
         requires { IsAtMost self.old.state.promised ballot }
         ensures entry { (IsBelow self.old.state.promised ballot × (result ≡ Some (entry.Promise ballot))) ⊎ ((self.old.state.promised ≡ ballot) × (result ≡ None)) }
@@ -159,7 +159,7 @@ impl Acceptor {
         Some(self.own(ballot))
     }
 
-    // Keeps a vote that is granted, and gives its entry where it was not kept already.
+    // Keeps a vote that is granted, and returns its entry if it was not kept already.
     fn vote(&mut self, vote: &Vote) -> Result<Option<Entry>, NoMemory>
         requires ballot { IsAtMost self.old.state.promised vote.now.ballot }
         requires above { self.old.state.snapshot_position < vote.now.position }
@@ -177,8 +177,8 @@ impl Acceptor {
         Ok(Some(Entry::Vote(vote.copy())))
     }
 
-    /// Answers a Prepare, where `executed` positions are executed: a Promise of at most 32 votes, or a Nack. At an error
-    /// nothing has changed.
+    /// Responds to a Prepare, given how many positions are executed: a Promise of at most 32 votes, or a Nack. An
+    /// error changes nothing.
     pub fn prepare(
         &mut self,
         ballot: RealBallot,
@@ -202,8 +202,8 @@ impl Acceptor {
         })
     }
 
-    /// Answers an Accept of a vote, where `executed` positions are executed: an Accepted or a Nack. At an error nothing
-    /// has changed.
+    /// Responds to an Accept of a vote, given how many positions are executed: an Accepted or a Nack. An error changes
+    /// nothing.
     pub fn accept(&mut self, vote: Vote, executed: Executed) -> Result<Response, NoMemory>
         ensures answer { IfOk result (λ r. AnswersAccept self.old executed vote r self.new) }
         ensures err { OnErr result (self.new ≡ self.old) }
@@ -219,7 +219,7 @@ impl Acceptor {
         })
     }
 
-    /// Promises a ballot of the node's own, above the promised one, and gives its entry. It takes no memory.
+    /// Promises a ballot of the node's own, above the promised one, and returns its entry. Takes no memory.
     pub fn own(&mut self, ballot: RealBallot) -> Entry
         requires { IsBelow self.old.state.promised ballot }
         ensures entry { result ≡ entry.Promise ballot }
@@ -229,7 +229,7 @@ impl Acceptor {
         Entry::Promise(ballot)
     }
 
-    /// Forgets the votes up to a position that a snapshot has taken over. It takes no memory.
+    /// Forgets the votes up to a position that a snapshot has replaced. Takes no memory.
     pub fn forget(&mut self, position: Executed)
         requires { self.old.state.snapshot_position ≤ position }
         ensures { self.new ≡ with_state self.old (without_votes_to self.old.state position) }

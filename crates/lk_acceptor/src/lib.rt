@@ -1,5 +1,5 @@
-//! The acceptor's part of Paxos: which ballot is promised, which votes are kept, and what a Prepare and an Accept are
-//! answered (Lamport 2001, section 2.2).
+//! The acceptor's part of Paxos: which ballot is promised, which votes are kept, and the responses to a Prepare and an
+//! Accept (Lamport 2001, section 2.2).
 #![tactic(auto)]
 
 mod acceptor;

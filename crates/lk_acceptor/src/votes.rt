@@ -1,4 +1,4 @@
-// Votes that are kept in the order of their positions.
+// Votes in order of their positions.
 ghost use Rattle.std.specs.Prelude.{◌≡◌, ◌↔◌, nat_lt, Contains, IsTrue, OnErr, IfOk, MatchOption};
 ghost use Rattle.std.specs.List.{list_all};
 ghost use Rattle.lk_types.specs.declared.vote.Vote.{Vote as VoteValue};
@@ -33,7 +33,7 @@ pub fn votes_from(alloc: Global, votes: &[Vote], first: Position) -> Result<Vec<
     Ok(from)
 }
 
-/// Whether each vote lies below the end.
+/// Whether each vote is below the end.
 pub fn lie_below(votes: &[Vote], end: u64) -> bool
     requires { AreRising votes.now }
     ensures { result ≡ list_all (λ v. nat_lt v.position end) votes.now }

@@ -1,4 +1,4 @@
--- What a client asks, what it hears, and what it sends by that.
+-- What a client asks, what it receives, and what it sends in response.
 use Rattle.std.specs.Net.Socket.{socket_ip, socket_port}
 use Rattle.std.specs.Prelude.{◌≡◌, ◌⊎◌, ◌+◌, ◌<◌, ℕ, nat_lt, Bool, true, false, Option, Some, None, List, [], ◌∷◌, ◌++◌, length, take, slice_get, if◌then◌else◌}
 use Rattle.std.specs.declared.net.ip_addr.IpAddr.{IpAddr}
@@ -32,33 +32,34 @@ abbrev pub known_or : Option IpAddr → IpAddr → IpAddr
 known_or (Some address) other = address
 known_or None other = other
 
--- where a member is asked: where it lives, and where that is not known at the address that was asked first
+-- where to ask a member: where it lives, or, if that is not known, at the address that was asked first
 abbrev pub destination_address : Destination → Member → IpAddr
 destination_address f m = known_or (host_of f.hosts m.node) f.address
 
--- where the question is asked first
+-- where the request goes first
 abbrev pub first_place : Question → Place
 first_place q = (q.destination.address, q.port)
 
--- the message by which it is asked
+-- the message of the request
 abbrev pub asking : Question → Message
 asking q = record { cluster = q.cluster; content = content.Request q.request }
 
--- these are sent for it: the bytes of its message, in a frame of its client where there is a key
+-- the bytes to send: those of its message, in a frame of its client if there is a key
 abbrev pub IsAsked : Question → List ℕ → Type 0
 IsAsked q frame = (bytes : List ℕ) × Spells (asking q) bytes × (frame ≡ framed_by (key_list q.destination.seals.keys) (seals.asking q.destination.seals.cluster q.request.client) bytes)
 
--- the datagram, out of its frame where there is a key, is that reply of a node of its cluster to the request
+-- the datagram, out of its frame if there is a key, is that reply of a node of the cluster to the request
 abbrev pub IsReply : Question → List ℕ → ReplyValue → Type 0
 IsReply q bytes r = (node : ℕ) × Spells (reply_of q.cluster node q.request.client q.request.number r) (replied (key_list q.destination.seals.keys) q.destination.seals.cluster q.request.client bytes)
 
--- what is heard where this comes next: a reply where that is one to the request, nothing where nothing comes
+-- what the client receives if this arrives next: a reply if it is one to the request, nothing if nothing arrives
 abbrev pub Hears : Question → Option (SocketAddr × List ℕ) → Heard → Type 0
 Hears q next Nothing = next ≡ None
 Hears q next Other = (d : SocketAddr × List ℕ) × (next ≡ Some d) × ((r : ReplyValue) → IsReply q d.1 r → ⊥)
 Hears q next (Reply r) = (d : SocketAddr × List ℕ) × (next ≡ Some d) × IsReply q d.1 r
 
--- where the request is sent again by what is heard: where fewer than 20 Elsewhere were followed, by one of them to its member
+-- where the client resends the request: if it has followed fewer than 20 Elsewhere replies, to the member that this
+-- one names
 abbrev pub followed_to : Destination → Heard → ℕ → List Place
 followed_to f (Reply (Elsewhere m)) count = if nat_lt count 20 then (destination_address f m, m.port) ∷ [] else []
 followed_to f (Reply (Answer a)) count = []
@@ -66,7 +67,7 @@ followed_to f (Reply (Passed last)) count = []
 followed_to f Nothing count = []
 followed_to f Other count = []
 
--- what is heard tells what becomes of the request, and so ends the exchange
+-- it tells the fate of the request, and so ends the exchange
 abbrev pub ended_by : Heard → Option ReplyValue
 ended_by (Reply (Elsewhere m)) = None
 ended_by (Reply (Answer a)) = Some (Answer a)
@@ -80,28 +81,29 @@ SendsOnce place bytes old failures new failures_new =
     ((to : SocketAddr) × IsAt place to × (new ≡ old ++ (to, bytes) ∷ []) × (failures_new ≡ failures))
     ⊎ ((new ≡ old) × (failures_new ≡ one_more failures))
 
--- so to each of these places in turn, and nothing else
+-- the same to each of these places in turn, and nothing else
 abbrev pub SendsEach : List Place → List ℕ → List (SocketAddr × List ℕ) → ℕ → List (SocketAddr × List ℕ) → ℕ → Type 0
 SendsEach [] bytes old failures new failures_new = (new ≡ old) × (failures_new ≡ failures)
 SendsEach (place ∷ places) bytes old failures new failures_new =
     (mid : List (SocketAddr × List ℕ)) × (failures_mid : ℕ) × SendsOnce place bytes old failures mid failures_mid
     × SendsEach places bytes mid failures_mid new failures_new
 
--- it tells what becomes of the request, and not where to ask
+-- it tells the fate of the request, and not where to ask
 abbrev pub IsTold : ReplyValue → Type 0
 IsTold (Answer a) = Unit {0}
 IsTold (Passed last) = Unit {0}
 IsTold (Elsewhere m) = ⊥
 
--- a client that has asked: its socket, and how many Elsewhere it has followed
+-- a client that has sent its request: its socket, and how many Elsewhere replies it has followed
 pub record Asker (S : Type 0) : Type 0 where
   pub socket : S
   pub followed : ℕ
 
--- what a kind of socket has sent, how often a send of it has failed, and what comes to it next; and the question of a client at such a socket
+-- what a kind of socket has sent, how many of its sends have failed, and what arrives next; and the question of a
+-- client at such a socket
 module _ {S : Type 0} (sent : S → List (SocketAddr × List ℕ)) (failures : S → ℕ) (next : S → Option (SocketAddr × List ℕ)) (q : Question) where
-  -- what comes next is heard, and told nothing or this; where it is an Elsewhere that is followed the bytes go to the member that it tells,
-  -- and nothing else is sent
+  -- the client receives what arrives next, which tells it nothing or this; if it is an Elsewhere to follow, the bytes
+  -- go to the member that it names, and nothing else is sent
   pub record Receives (bytes : List ℕ) (told : Option ReplyValue) (old new : Asker S) : Type 0 where
     pub heard : Heard
     pub hears : Hears q (next old.socket) heard
@@ -118,7 +120,7 @@ module _ {S : Type 0} (sent : S → List (SocketAddr × List ℕ)) (failures : S
   abbrev pub Waits : List ℕ → Option ReplyValue → Asker S → Asker S → Type 0
   Waits = WaitsFor 50
 
-  -- the bytes of the question went to its first place, and then it waited
+  -- the bytes of the question went to the first place, and then it waited
   pub record Exchanges (told : Option ReplyValue) (old new : S) : Type 0 where
     pub bytes : List ℕ
     pub spelled : IsAsked q bytes
@@ -159,7 +161,7 @@ module _ {S : Type 0} (sent : S → List (SocketAddr × List ℕ)) (failures : S
   Asks [] told old new = Exchanges told old new
   Asks (port ∷ ports) told old new = ExchangesInTurn (port ∷ ports) told old new
 
-  -- it has asked, and was told what becomes of the request, or has waited in vain
+  -- it has sent the request, and learned its fate or waited in vain
   abbrev pub Comes : List ℕ → Bool → S → S → Type 0
   Comes turns true old new = (reply : ReplyValue) × Asks turns (Some reply) old new
   Comes turns false old new = Asks turns None old new

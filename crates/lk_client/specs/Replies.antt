@@ -1,4 +1,4 @@
--- What a node replies to a client's request.
+-- A node's reply to a client's request.
 use Rattle.lk_wire.specs.declared.message.NodeMessage.{NodeMessage}
 use Rattle.lk_wire.specs.declared.message.NodeMessage.TheVariants as node
 use Rattle.lk_wire.specs.declared.message.Content.TheVariants as content
@@ -7,7 +7,7 @@ use Rattle.lk_client.specs.declared.reply.Reply.{Reply}
 use Rattle.lk_client.specs.declared.reply.Reply.TheVariants.{Answer, Passed, Elsewhere}
 use Rattle.std.specs.Prelude.{ℕ}
 
--- the reply to the request of that number of the client, as a node says it
+-- the reply of a node to the client's request of that number
 abbrev pub reply_message : ℕ → ℕ → Reply → NodeMessage
 reply_message client number (Answer a) = node.Answer (record { client = client; number = number; answer = a })
 reply_message client number (Passed last) = node.Passed (record { client = client; number = number; last = last })

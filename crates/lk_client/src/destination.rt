@@ -1,4 +1,4 @@
-//! Where a client asks, and by which keys it knows who replied.
+//! Where a client sends its requests, and the keys that identify a sender.
 
 ghost use Rattle.std.specs.Prelude.{◌≡◌};
 ghost use Rattle.lk_client.specs.Questions.{destination_address};
@@ -8,7 +8,7 @@ use lk_transport::hosts::Hosts;
 use lk_types::Member;
 use std::net::{IpAddr, Ipv4Addr};
 
-/// At which address the node lives that is asked first, where the others live, and the keys.
+/// The address of the node that is asked first, the addresses of the others, and the keys.
 #[derive(Drop)]
 pub struct Destination {
     pub address: IpAddr,
@@ -29,7 +29,7 @@ impl Destination {
         }
     }
 
-    /// The address at which a member is asked: that at which it lives, or that of the node that was asked first.
+    /// The address at which to ask a member: its own, or, if that is not known, that of the node that was asked first.
     pub fn address_of(&self, member: &Member) -> IpAddr
         ensures { result ≡ destination_address self.now member.now }
     {

@@ -1,4 +1,4 @@
-//! A client that asks once.
+//! A client that sends one request.
 
 ghost use Rattle.std.specs.Prelude.{◌≡◌, ◌≤◌, ◌⊎◌, ◌↔◌, ◌∷◌, ℕ, true, List, Some, IfOk, OnOk, IfErr, OnErr, IfSome, IsSomeAnd, length};
 ghost use Rattle.lk_wire.specs.Grammar.{Spells};
@@ -9,8 +9,8 @@ ghost use Rattle.lk_client.specs.declared.reply.Reply.{Reply as ReplyValue};
 use crate::destination::Destination;
 use crate::reply::{Reply, read_reply};
 use bytes::BytesMut;
-use lk_transport::receive_buffer::ReceiveBuffer;
 use lk_transport::fault::ServiceFault;
+use lk_transport::receive_buffer::ReceiveBuffer;
 use lk_transport::socket::DatagramSocket;
 use lk_types::{Port, Request};
 use lk_wire::{Content, Message, write};
@@ -19,14 +19,14 @@ use std::io;
 use std::io::Write;
 use std::net::{IpAddr, SocketAddr};
 
-/// The receives of 100 ms until nothing is waited for any more.
+/// How many receives of 100 ms pass before the client gives up.
 const RECEIVES: u32 = 50;
 /// So many of them for each port, where there are several.
 const EACH: u32 = 5;
-/// The Elsewhere that are followed.
+/// How many Elsewhere replies it follows.
 const FOLLOWED: u32 = 20;
 
-/// A request, and where it is asked first.
+/// A request, and where to send it first.
 #[derive(Drop)]
 pub struct Question {
     pub cluster: u64,
@@ -35,7 +35,7 @@ pub struct Question {
     pub destination: Destination,
 }
 
-/// The bytes of a message. It refuses where memory was refused.
+/// The bytes of a message. Fails if it is out of memory.
 fn written(alloc: Global, message: &Message) -> Result<BytesMut, ServiceFault>
     ensures spells { IfOk result (λ bytes. Spells message.now bytes.items) }
     ensures only { IfErr result (λ f. f ≡ ServiceFault.NoMemory) }
@@ -59,7 +59,7 @@ pub fn datagram(alloc: Global, question: &Question) -> Result<BytesMut, ServiceF
     written(alloc, &message)
 }
 
-/// What comes next to a client that has asked.
+/// What a client receives next after its request.
 #[derive(Clone, Copy)]
 pub enum Heard {
     Nothing,
@@ -68,8 +68,12 @@ pub enum Heard {
     Reply(Reply),
 }
 
-/// What comes next to whoever asked that.
-pub fn next_reply<S: DatagramSocket>(buffer: &mut ReceiveBuffer, socket: &mut S, question: &Question) -> Heard
+/// What the sender of that question receives next.
+pub fn next_reply<S: DatagramSocket>(
+    buffer: &mut ReceiveBuffer,
+    socket: &mut S,
+    question: &Question,
+) -> Heard
     ensures heard { S.is_telling → Hears question.now (next_of S.coming socket.old) result }
     ensures unchanged { S.sent socket.new ≡ S.sent socket.old }
     ensures spares { S.failures socket.new ≡ S.failures socket.old }
@@ -91,7 +95,7 @@ pub fn next_reply<S: DatagramSocket>(buffer: &mut ReceiveBuffer, socket: &mut S,
     }
 }
 
-/// The bytes that are sent for the request: its frame, where there is a key. It refuses where memory was refused.
+/// The bytes to send for the request: its frame, if there is a key. Fails if it is out of memory.
 fn asked(alloc: Global, question: &Question) -> Result<Vec<u8>, ServiceFault>
     ensures asks { IfOk result (λ bytes. IsAsked question.now bytes.items) }
     ensures only { IfErr result (λ f. f ≡ ServiceFault.NoMemory) }
@@ -99,7 +103,10 @@ fn asked(alloc: Global, question: &Question) -> Result<Vec<u8>, ServiceFault>
     let bytes = datagram(alloc, question)?;
     let mut frame = Vec::new(alloc);
     let client = question.request.client.get();
-    let framed = question.destination.seals.frame_of(client, &bytes, &mut frame)?;
+    let framed = question
+        .destination
+        .seals
+        .frame_of(client, &bytes, &mut frame)?;
     Ok(framed.to_vec(alloc)?)
 }
 
@@ -111,8 +118,8 @@ fn send<S: DatagramSocket>(socket: &mut S, address: IpAddr, port: Port, bytes: &
     let _ = socket.send_to(place, bytes);
 }
 
-/// What has become of the request, where that comes next. An Elsewhere is followed, where fewer than 20 were: the bytes go
-/// to its member.
+/// The fate of the request, if that arrives next. It follows an Elsewhere, if it has followed fewer than 20, by
+/// sending the bytes to that member.
 fn take_next<S: DatagramSocket>(
     buffer: &mut ReceiveBuffer,
     socket: &mut S,
@@ -120,7 +127,7 @@ fn take_next<S: DatagramSocket>(
     bytes: &[u8],
     followed: &mut u32,
 ) -> Option<Reply>
-    // What comes next is heard, and ends the exchange or is followed, to the member that it tells, by what it is.
+    // It receives what arrives next, which either ends the exchange or is followed to the member that it names.
     ensures heard { S.is_telling → Receives S.sent S.failures (next_of S.coming) question.now bytes.now result
         (record { socket = socket.old; followed = followed.old }) (record { socket = socket.new; followed = followed.new }) }
     ensures told { IfSome result IsTold }
@@ -129,7 +136,12 @@ fn take_next<S: DatagramSocket>(
     match next_reply(buffer, socket, question) {
         Heard::Reply(Reply::Elsewhere(member)) if *followed < FOLLOWED => {
             *followed += 1;
-            send(socket, question.destination.address_of(&member), member.port, bytes);
+            send(
+                socket,
+                question.destination.address_of(&member),
+                member.port,
+                bytes,
+            );
             None
         }
         Heard::Reply(Reply::Elsewhere(_)) | Heard::Other | Heard::Nothing => None,
@@ -137,18 +149,19 @@ fn take_next<S: DatagramSocket>(
     }
 }
 
-/// Sends the request to its port, follows the first 20 Elsewhere, and gives what it is replied, or `None` where
-/// 50 receives bring no such reply. What could not be sent is lost.
+/// Sends the request to its port, follows the first 20 Elsewhere replies, and returns the reply, or `None` if 50
+/// receives bring none. What could not be sent is lost.
 pub fn exchange<S: DatagramSocket>(
     alloc: Global,
     socket: &mut S,
     question: &Question,
 ) -> Result<Option<Reply>, ServiceFault>
-    // The bytes of the question go to its first place and then to at most 20 others, each once, and nothing else is sent.
+    // The bytes of the question go to the first place and then to at most 20 others, each once, and nothing else is
+    // sent.
     ensures sends { S.is_telling → OnOk result ((bytes : List ℕ) × (others : List Place) × IsAsked question.now bytes × (length others ≤ 20)
         × SendsEach (first_place question.now ∷ others) bytes (S.sent socket.old) (S.failures socket.old) (S.sent socket.new) (S.failures socket.new)) }
-    // Of what comes next after that it hears one after another, at most 50, until it is told something: to follow an Elsewhere that it hears it
-    // sends to the member that this tells, and else it sends nothing more.
+    // After that it receives at most 50 datagrams, one after another, until one tells the fate of the request. For an
+    // Elsewhere that it follows it sends to the member named there, and otherwise it sends nothing more.
     ensures hears { S.is_telling → IfOk result (λ told. Exchanges S.sent S.failures (next_of S.coming) question.now told socket.old socket.new) }
     ensures told { IfOk result (λ reply. IfSome reply IsTold) }
     ensures unchanged { OnErr result (socket.new ≡ socket.old) }
@@ -192,15 +205,17 @@ fn ask_port<S: DatagramSocket>(
     None
 }
 
-/// Sends the request to these ports of its address in turn, to the next where 5 receives bring no reply, and gives what it is
-/// replied, or `None` where none of them brings a reply. The first 20 Elsewhere are followed. What could not be sent is lost.
+/// Sends the request to these ports of its address in turn, to the next where 5 receives bring no reply, and gives
+/// what it is replied, or `None` where none of them brings a reply. The first 20 Elsewhere are followed. What could
+/// not be sent is lost.
 pub fn exchange_in_turn<S: DatagramSocket>(
     alloc: Global,
     socket: &mut S,
     question: &Question,
     turns: &[Port],
 ) -> Result<Option<Reply>, ServiceFault>
-    // The bytes of the question go to each port in turn until it is told something, and further only to the members of Elsewhere that it hears.
+    // The bytes of the question go to each port in turn until it is told something, and further only to the members of
+    // Elsewhere that it hears.
     ensures tries { S.is_telling → IfOk result (λ told. ExchangesInTurn S.sent S.failures (next_of S.coming) question.now turns.now told socket.old socket.new) }
     ensures told { IfOk result (λ reply. IfSome reply IsTold) }
     ensures unchanged { OnErr result (socket.new ≡ socket.old) }
@@ -235,7 +250,7 @@ fn exchange_any<S: DatagramSocket>(
     }
 }
 
-/// Writes an answer's text or `passed LAST` in a line. Whether the reply is one of these.
+/// Writes an answer's text or `passed LAST` as a line. Returns whether the reply is one of these.
 fn write_told<W: Write>(reply: &Reply, out: &mut W) -> io::Result<bool>
     ensures told { IfOk result (λ is_told. is_told ≡ true ↔ IsTold reply.now) }
 {
@@ -247,7 +262,7 @@ fn write_told<W: Write>(reply: &Reply, out: &mut W) -> io::Result<bool>
     Ok(true)
 }
 
-/// Writes what was replied: an answer's text, `passed LAST`, or `no answer`. Whether it was an answer or a Passed.
+/// Writes the reply: an answer's text, `passed LAST`, or `no answer`. Returns whether it was an answer or a Passed.
 pub fn write_reply<W: Write>(reply: Option<Reply>, out: &mut W) -> io::Result<bool>
     ensures told { IfOk result (λ is_told. is_told ≡ true ↔ IsSomeAnd reply IsTold) }
 {
@@ -261,9 +276,9 @@ pub fn write_reply<W: Write>(reply: Option<Reply>, out: &mut W) -> io::Result<bo
     Ok(is_told)
 }
 
-/// Asks, and prints what is replied. Whether it was told what becomes of the request.
+/// Sends the request, and prints the reply. Returns whether it learned the fate of the request.
 ///
-/// It refuses where memory was refused for the request, and where the output could not be written.
+/// It fails if it is out of memory for the request, or if the output cannot be written.
 fn ask_and_write<S: DatagramSocket, W: Write>(
     alloc: Global,
     socket: &mut S,
@@ -271,7 +286,7 @@ fn ask_and_write<S: DatagramSocket, W: Write>(
     turns: &[Port],
     out: &mut W,
 ) -> Result<bool, ServiceFault>
-    // It is told exactly where the exchange came to a reply.
+    // It learned the fate exactly if the exchange got a reply.
     ensures told { S.is_telling → IfOk result (λ is_told. Comes S.sent S.failures (next_of S.coming) question.now turns.now is_told socket.old socket.new) }
     ensures only { IfErr result (λ f. (f ≡ ServiceFault.NoMemory) ⊎ (f ≡ ServiceFault.Write)) }
 {
@@ -282,8 +297,8 @@ fn ask_and_write<S: DatagramSocket, W: Write>(
     }
 }
 
-/// Asks the question's port, or these ports in turn where there are some, and prints what is replied. The status is 0; 1 where nothing was, which is printed as `no answer`, and where a
-/// fault is told on standard error.
+/// Asks the question's port, or these ports in turn where there are some, and prints what is replied. The status is 0;
+/// 1 where nothing was, which is printed as `no answer`, and where a fault is told on standard error.
 pub fn ask<S: DatagramSocket, W: Write, E: Write>(
     alloc: Global,
     socket: &mut S,
@@ -293,7 +308,7 @@ pub fn ask<S: DatagramSocket, W: Write, E: Write>(
     err: &mut E,
 ) -> u8
     ensures status { result ≤ 1 }
-    // Status 0 only where it has asked, and was told what becomes of the request.
+    // Status 0 only if it has sent the request and learned its fate.
     ensures asked { S.is_telling → result ≡ 0 → (reply : ReplyValue) × Asks S.sent S.failures (next_of S.coming) question.now turns.now (Some reply) socket.old socket.new }
 {
     match ask_and_write(alloc, socket, question, turns, out) {

@@ -1,4 +1,4 @@
-//! What a node replies to a client.
+//! A node's reply to a client.
 
 ghost use Rattle.std.specs.Prelude.{◌≡◌, ℕ, IfSome, IsNone};
 ghost use Rattle.lk_wire.specs.Grammar.{Spells};
@@ -13,13 +13,13 @@ use lk_wire::{ContentRef, NodeMessageRef, view};
 #[derive(Clone, Copy)]
 pub enum Reply {
     Answer(Answer),
-    /// The request will not be executed any more: one of this greater number of its client was.
+    /// The request will never be executed: a later one of its client was. Carries that greater number.
     Passed(RequestNumber),
     /// That member may lead.
     Elsewhere(Member),
 }
 
-/// The reply that a node's message is to a client's request of that number.
+/// The reply that a node's message gives to a client's request of that number.
 fn reply_in(message: &NodeMessageRef<'_>, request: &Request) -> Option<Reply>
     ensures some { IfSome result (λ r. shown_node message.now ≡ reply_message request.now.client request.now.number r) }
     ensures none { IsNone result → (r : ReplyValue) → shown_node message.now ≡ reply_message request.now.client request.now.number r → ⊥ }
@@ -37,7 +37,7 @@ fn reply_in(message: &NodeMessageRef<'_>, request: &Request) -> Option<Reply>
     }
 }
 
-/// The reply that a datagram is to the request in the cluster.
+/// The reply that a datagram gives to the request in the cluster.
 pub fn read_reply(cluster: u64, request: &Request, bytes: &[u8]) -> Option<Reply>
     ensures some { IfSome result (λ r. (n : ℕ) × Spells (reply_of cluster n request.now.client request.now.number r) bytes.now) }
     ensures none { IsNone result → (n : ℕ) (r : ReplyValue) → Spells (reply_of cluster n request.now.client request.now.number r) bytes.now → ⊥ }

@@ -1,5 +1,5 @@
--- Nodes of the lock table that run as processes: each is up as a server, or down with its disks. They take turns, start and stop one after
--- another, in any order.
+-- Nodes of the lock table that run as processes: each is up as a server, or down with its disks. They take turns,
+-- start and stop one after another, in any order.
 use Rattle.std.proofs.Common.{inl, inr}
 use Rattle.std.specs.Prelude.{◌≡◌, ◌⊎◌, ℕ, true, false, Option, Some, None, List, [], ◌∷◌, ◌++◌}
 use Rattle.std.specs.Prelude.{map, drop}
@@ -35,8 +35,8 @@ use Rattle.lk_sim.specs.declared.seat.Seat.{Seat}
 abbrev pub Node : Type 0
 Node = Seat (ServerValue ReplicaValue)
 
--- how a cluster began, its nodes, all datagrams that they have given to be sent, in order, also those to themselves and those whose send has
--- failed, and what has happened
+-- the genesis of a cluster, its nodes, all datagrams that they have produced, in order, including those to themselves
+-- and those whose send has failed, and its trace
 abbrev pub Cluster : Type 0
 Cluster = Scene (ServerValue ReplicaValue)
 
@@ -51,14 +51,14 @@ seat_of s = record { number = s.number; life = life_of s.life }
 abbrev pub scene_of : Cluster → Scene ReplicaValue
 scene_of c = record { genesis = c.genesis; seats = map seat_of c.seats; sent = c.sent; trace = c.trace; ended = None }
 
--- what a server holds, and what stands on its disks
+-- what a server holds, and what its disks hold
 abbrev pub ServerStands : ServerValue ReplicaValue → Genesis → ℕ → Holding → Type 0
 ServerStands s genesis n x = Stands table_meaning s.replica.node s.replica.store genesis n x
 
 abbrev pub server_disks : ServerValue ReplicaValue → Side → Disk
 server_disks s = disks s.replica.store
 
--- it is up as the server of that node on what these disks have, and no letter to itself waits
+-- it is up as the server of that node with what these disks have, and no letter to itself is waiting
 pub record IsBegun (genesis : Genesis) (n : ℕ) (old : Side → Disk) (s : ServerValue ReplicaValue) : Type 0 where
   pub notes : List Note
   pub rises : RisesBy ServerStands server_disks table_meaning genesis n old s notes
@@ -67,12 +67,12 @@ pub record IsBegun (genesis : Genesis) (n : ℕ) (old : Side → Disk) (s : Serv
 
 -- ---- what a network may bring
 
--- what a server of a cluster that began so may take of what comes to it in a turn, where this was given to be sent
+-- what a server of a cluster with this genesis may take from what arrives in a turn, given what has been sent
 abbrev pub Network : Type 1
 Network = Genesis → List Datagram → ServerValue ReplicaValue → List (SocketAddr × List ℕ) → Type 0
 
--- whatever the bytes of each say for a node of the cluster, that node has said. All else is free: datagrams are lost, repeated, late, cut, or come from
--- clients, from other clusters, or from nobody
+-- whatever the bytes of each say on behalf of a node of the cluster, that node has said. Everything else is free:
+-- datagrams are lost, repeated, late, cut, or come from clients, from other clusters, or from nobody
 abbrev pub ForgesNothing : Network
 ForgesNothing genesis sent server came = AllByRecursion (λ (c : SocketAddr × List ℕ). MayCome genesis sent (Some c.1)) came
 
@@ -83,18 +83,18 @@ module _ (Metered : Type 0) where
   abbrev pub Says : ReplicaValue → List (Option (List ℕ)) → List LetterValue → ReplicaValue → Type 0
   Says = SaysOf table_meaning IsTableText Metered
 
-  -- what each step of a group noted and said; of a group that was refused nothing
+  -- the notes and letters of each step of a group; of a rejected group nothing
   abbrev pub steps_of : {old new : ReplicaValue} {given : List (Option (List ℕ))} {letters : List LetterValue} → SaysByGroup table_meaning IsTableText Metered old given letters new ⊎ IsSilenced letters new → List StepSaid
   steps_of (inl s) = s.said
   steps_of (inr s) = []
 
--- the first of these steps, or where there is none one that noted and said nothing
+-- the first of these steps, or, if there is none, one without notes and letters
 abbrev pub next_step : List StepSaid → StepSaid
 next_step [] = ([], [])
 next_step (step ∷ said) = step
 
--- what joins the trace by a step of the node of that number that was given this: the request that is asked by it, what it noted, and the answers and passes
--- that it gave to be sent
+-- what a step of the node of that number, with this input, adds to the trace: the request in the input, its notes, and
+-- the answers and passes that it sends
 pub record JoinsByStep (n : ℕ) (o : Option (List ℕ)) (step : StepSaid) (trace : List Note) : Type 0 where
   pub request : Option RequestValue
   pub asks : AreAsking o request
@@ -102,21 +102,22 @@ pub record JoinsByStep (n : ℕ) (o : Option (List ℕ)) (step : StepSaid) (trac
   pub tells_of : TellsOf (batch_of n step.1) told
   pub joins : trace ≡ (asked_note request ++ step.0) ++ told
 
--- and by a group, one step after another
+-- and what a group adds, one step after another
 abbrev pub Joins : ℕ → List (Option (List ℕ)) → List StepSaid → List Note → Type 0
 Joins n [] said trace = trace ≡ []
 Joins n (o ∷ given) said trace = (here : List Note) × (rest : List Note) × (trace ≡ here ++ rest) × JoinsByStep n o (next_step said) here × Joins n given (drop 1 said) rest
 
 -- ---- what happens
 
--- a node that was down is up as a server on what its disks have, and no letter to itself waits
+-- a node that was down is up as a server with what its disks have, and no letter to itself is waiting
 pub record Starts (old new : Cluster) : Type 0 where
   pub rises : Rises ServerStands server_disks table_meaning old new
   pub own : rises.replica.own ≡ []
   pub alive : rises.replica.replica.failed ≡ false
 
--- a node that is up takes an idle turn, or answers a probe: its replica is given nothing, and nothing is given to be sent as a datagram of the node. Only what is
--- to come to its socket, what that has sent, and how many of its sends have failed may be another. `tells` says that the sockets tell that
+-- a node that is up takes an idle turn, or answers a probe: its replica is given nothing, and nothing is given to be
+-- sent as a datagram of the node. Only what is to come to its socket, what that has sent, and how many of its sends
+-- have failed may be another. `tells` says that the sockets tell that
 pub record Idles (tells : Type 0) (old new : Cluster) : Type 0 where
   pub node : Node
   pub next : Node
@@ -128,10 +129,12 @@ pub record Idles (tells : Type 0) (old new : Cluster) : Type 0 where
   pub idle : ((frames : List (SocketAddr × List ℕ)) × IsIdle tells frames server after) ⊎ ((asked : Option Asked) × AnswersKept IsShown tells asked server after)
   pub adds : Adds old new [] []
 
--- `May` says what the network may bring, `Metered` that the devices count their calls, and `tells` that the sockets tell what they send
+-- `May` says what the network may bring, `Metered` that the devices count their calls, and `tells` that the sockets
+-- reveal what they send
 module _ (May : Network) (Metered tells : Type 0) where
-  -- a node that is up takes a turn, in which datagrams may come or nothing: what it is given by that its replica takes as one group, and the letters of that
-  -- join what was given to be sent. `came` is what is taken of what comes, out of its frame where the nodes have a key
+  -- a node that is up takes a turn, in which datagrams may arrive or nothing: its replica takes the input as one
+  -- group, and its letters join what has been sent. `came` is what it takes from what arrives, out of its frame if the
+  -- nodes have a key
   pub record TakesTurn (old new : Cluster) : Type 0 where
     pub node : Node
     pub next : Node
@@ -148,7 +151,7 @@ module _ (May : Network) (Metered tells : Type 0) where
     pub joins : Joins node.number turn.given (steps_of Metered turn.hands_on.says.comes) trace
     pub adds : Adds old new trace (batch_of node.number turn.hands_on.letters)
 
-  -- a turn ends it, and it is down on the disks that its replica has left
+  -- a turn ends it, and it is down with the disks that its replica has left
   pub record EndsByTurn (old new : Cluster) : Type 0 where
     pub node : Node
     pub next : Node
@@ -167,8 +170,8 @@ module _ (May : Network) (Metered tells : Type 0) where
     pub joins : Joins node.number turn.given (steps_of Metered turn.hands_on.says.comes) trace
     pub adds : Adds old new trace (batch_of node.number turn.hands_on.letters)
 
-  -- a node appears, with empty disks; it starts, or does not; it takes a turn, or an idle one, or answers a probe, or ends by a turn; or it stops, up or down, and its disks have what a
-  -- stop may leave
+  -- a node appears, with empty disks; it starts, or does not; it takes a turn, or an idle one, or answers a probe, or
+  -- ends by a turn; or it stops, up or down, and its disks have what a stop may leave
   abbrev pub Happens : Cluster → Cluster → Type 0
   Happens old new =
       Appears old new ⊎ Starts old new ⊎ Rests table_meaning old new ⊎ TakesTurn old new ⊎ Idles tells old new ⊎ EndsByTurn old new ⊎ Stops server_disks old new
@@ -178,6 +181,6 @@ module _ (May : Network) (Metered tells : Type 0) where
   HappenAll first [] last = last ≡ first
   HappenAll first (next ∷ clusters) last = Happens first next × HappenAll next clusters last
 
-  -- the cluster is reachable: so much has happened since it began so
+  -- the cluster is reachable: these events lead to it from its genesis
   abbrev pub IsReachable : Genesis → Cluster → Type 0
   IsReachable genesis c = (clusters : List Cluster) × HappenAll (nothing genesis) clusters c

@@ -19,10 +19,11 @@ node_of n life = record { number = n; life = life }
 abbrev pub HasNode : Cluster → ℕ → ℕ → Life (ServerValue ReplicaValue) → Type 0
 HasNode c place n life = At c.seats place (node_of n life)
 
--- `May` says what the network may bring, `Metered` that the devices count their calls, and `tells` that the sockets tell what they send
+-- `May` says what the network may bring, `Metered` that the devices count their calls, and `tells` that the sockets
+-- reveal what they send
 module _ (May : Network) (Metered tells : Type 0) where
-  -- the cluster goes on to one that is reachable too: the node at that place is so, the others are as they were, and these letters of the node have
-  -- joined what was given to be sent
+  -- the cluster continues to a reachable one: the node at that place is in this state, the others are unchanged, and
+  -- these letters of the node have joined what has been sent
   pub record Continues (genesis : Genesis) (old : Cluster) (place n : ℕ) (life : Life (ServerValue ReplicaValue)) (letters : List LetterValue) : Type 0 where
     pub cluster : Cluster
     pub reachable : IsReachable May Metered tells genesis cluster
@@ -30,14 +31,14 @@ module _ (May : Network) (Metered tells : Type 0) where
     pub seats : cluster.seats ≡ set old.seats place (node_of n life)
     pub sent : cluster.sent ≡ old.sent ++ batch_of n letters
 
--- `Says` is what a replica says by what it is given, and `tells` that the sockets tell what they send
+-- `Says` relates a replica's input to its letters, and `tells` says that the sockets reveal what they send
 module _ (Says : ReplicaValue → List (Option (List ℕ)) → List LetterValue → ReplicaValue → Type 0) (tells : Type 0) where
-  -- the letters that it gave to be sent in these turns, in order
+  -- the letters that it sent in these turns, in order
   abbrev pub letters_of : (first : ServerValue ReplicaValue) (states : List (ServerValue ReplicaValue)) (last : ServerValue ReplicaValue) → Chain (ServerTurn Says tells) first states last → List LetterValue
   letters_of first [] last turns = []
   letters_of first (next ∷ states) last turns = letters_in Says tells turns.0.turn ++ letters_of next states last turns.1
 
-  -- in each of these turns the network may bring what came, where the letters of the turns before it were given to be sent
+  -- in each of these turns the network may bring what arrived, given the letters of the earlier turns
   abbrev pub MayAllCome : Network → Genesis → ℕ → List Datagram → (first : ServerValue ReplicaValue) (states : List (ServerValue ReplicaValue)) (last : ServerValue ReplicaValue) → Chain (ServerTurn Says tells) first states last → Type 0
   MayAllCome May genesis n sent first [] last turns = Unit {0}
   MayAllCome May genesis n sent first (next ∷ states) last turns =

@@ -1,4 +1,4 @@
--- What a node must remember, and does not where its disks are empty.
+-- What a node must remember, and cannot if its disks are empty.
 use Rattle.std.specs.Prelude.{◌≡◌, []}
 use Rattle.lk_disk.specs.Disk.{Disk}
 use Rattle.lk_disk.specs.Memory.{disk_of}
@@ -16,11 +16,11 @@ abbrev pub disks_in : Life (ServerValue ReplicaValue) → Side → Disk
 disks_in (Up server) = server_disks server
 disks_in (Down device) = disk_of device
 
--- both are empty, as those of a node that is new
+-- both are empty, as those of a new node
 abbrev pub HasEmptyDisks : Life (ServerValue ReplicaValue) → Type 0
 HasEmptyDisks life = (s : Side) → disks_in life s ≡ record { synced = []; unsynced = [] }
 
--- its sender must remember the message: when it was sent, its sender had promised a ballot, or voted in one
+-- its sender must remember the message: to send it, it had promised a ballot, or voted in one
 abbrev pub MustBeRemembered : NodeMessage → Type 0
 MustBeRemembered (message.Prepare ballot first) = Unit {0}
 MustBeRemembered (message.Promise p) = Unit {0}

@@ -1,4 +1,4 @@
--- What becomes of a node that the program runs, as a part of its cluster.
+-- How a node that the program runs ends, as a part of its cluster.
 use Rattle.std.specs.Prelude.{◌≡◌, ℕ, Option, List, [], ◌++◌}
 use Rattle.lk_types.specs.declared.genesis.Genesis.{Genesis}
 use Rattle.lk_disk.specs.Disk.{Disk}
@@ -17,22 +17,24 @@ use Rattle.lk_sim.specs.declared.seat.Life.TheVariants.{Up, Down}
 use Rattle.lk_cluster.specs.Clusters.{Cluster, ForgesNothing, server_disks}
 use Rattle.lk_cluster.specs.Continuing.{HasNode, Continues, MayAllCome, letters_of}
 
--- the cluster has this node at that place, down, on these disks
+-- the cluster has this node at that place, down, with these disks
 pub record IsDownOn (c : Cluster) (place n : ℕ) (disks : Side → Disk) : Type 0 where
   pub device : Memory
   pub down : HasNode c place n (Down device)
   pub same : (s : Side) → disk_of device s ≡ disks s
 
--- the node of a reachable cluster that was down there on these disks, and was run on them with these seals. `Metered` and `Honest` say that its device counts
--- its calls, and that it is honest
+-- the node of a reachable cluster that was down there with these disks, and was run on them with these seals.
+-- `Metered` and `Honest` say that its device counts its calls, and that it is honest
 module _ (Metered tells Honest : Type 0) (Says : ReplicaValue → List (Option (List ℕ)) → List LetterValue → ReplicaValue → Type 0) (genesis : Genesis) (old : Cluster) (place n : ℕ) (disks : Side → Disk) (seals : Seals) where
-  -- it has taken so many turns, and by them the cluster goes on to one in which it is up, if nothing that came in them is forged
+  -- it has taken this many turns, and they continue the cluster to one in which it is up, if nothing that arrived in
+  -- them is forged
   pub record ServesIn (count : ℕ) : Type 0 where
     pub served : Serves (IsTakenUp table_meaning Honest disks (header_of old.genesis n)) (header_of old.genesis n) seals Says tells count
     pub continues : MayAllCome Says tells ForgesNothing old.genesis n old.sent served.begun served.turns.states served.ended served.turns.chain
         → Continues ForgesNothing Metered tells genesis old place n (Up served.ended) (letters_of Says tells served.begun served.turns.states served.ended served.turns.chain)
 
-  -- it has taken fewer, and then one that ended it, and by them the cluster goes on to one in which it is down on what that has left
+  -- it has taken fewer, and then one that ended it, and they continue the cluster to one in which it is down with what
+  -- that has left
   pub record EndsIn (most : ℕ) : Type 0 where
     pub served : EndsEarly (IsTakenUp table_meaning Honest disks (header_of old.genesis n)) (header_of old.genesis n) seals Says tells most
     pub continues : (let said = letters_of Says tells served.begun served.breaks.turns.states served.breaks.last served.breaks.turns.chain in
@@ -41,7 +43,7 @@ module _ (Metered tells Honest : Type 0) (Says : ReplicaValue → List (Option (
         → (left : Memory) → ((s : Side) → disk_of left s ≡ server_disks served.ended s)
         → Continues ForgesNothing Metered tells genesis old place n (Down left) (said ++ served.breaks.ends.turn.hands_on.letters))
 
-  -- it was not taken up, and the cluster goes on to one in which it is down on what the refusal has left
+  -- it did not start, and the cluster continues to one in which it is down with what the rejection has left
   pub record RestsIn : Type 0 where
     pub told : ServiceFault
     pub refused : IsRefusedWith table_meaning IsTableText Honest disks (header_of old.genesis n) told

@@ -41,14 +41,14 @@ use lk_server::laws::is_told_by_a_node;
 use lk_server::node_replica::NodeReplica;
 use lk_transport::socket::DatagramSocket;
 
-/// Whatever the servers of a cluster do, one after another in any order, and whatever comes to them over a network that forges nothing: the promise
-/// holds of all that they give to be sent, of what happens, and of their disks. So the promise of a world of replicas is kept by the processes that
-/// people run (after IronFleet: Hawblitzel et al., 2015).
+/// Whatever the servers of a cluster do, one after another in any order, and whatever arrives over a network that
+/// forges nothing: the promise holds of everything that they send, of what happens, and of their disks. So the
+/// processes that people run keep the promise of a world of replicas (after IronFleet: Hawblitzel et al., 2015).
 pub fn a_cluster_keeps_the_promise<D: LogDisk, S: DatagramSocket>()
     ensures { (genesis : GenesisValue) (cluster : Cluster) → IsReachable ForgesNothing D.is_metered S.is_telling genesis cluster → KeepsPromise (scene_of cluster) }
 {}
 
-/// What clients see of such a cluster is linearizable (Herlihy and Wing, 1990).
+/// The history that clients of such a cluster see is linearizable (Herlihy and Wing, 1990).
 pub fn a_cluster_is_linearizable<D: LogDisk, S: DatagramSocket>()
     ensures { (genesis : GenesisValue) (cluster : Cluster) → IsReachable ForgesNothing D.is_metered S.is_telling genesis cluster → IsLinearizable cluster.genesis cluster.trace }
 {
@@ -72,8 +72,9 @@ pub fn a_cluster_converges<D: LogDisk, S: DatagramSocket>()
     nodes_converge();
 }
 
-/// Under a key that only the nodes of a cluster have, what a node takes of a frame is not forged: whatever it says for a node of the cluster, that
-/// node has said. The premise is that nobody without the key can make such a frame (HMAC-SHA-256, RFC 2104).
+/// Under a key that only the nodes of a cluster have, what a node takes from a frame is not forged: whatever it says
+/// on behalf of a node of the cluster, that node has said. The premise is that nobody without the key can make such a
+/// frame (HMAC-SHA-256, RFC 2104).
 pub fn a_sealed_datagram_is_not_forged<D: LogDisk, S: DatagramSocket>()
     ensures { (genesis : GenesisValue) (cluster : Cluster) → IsReachable ForgesNothing D.is_metered S.is_telling genesis cluster
         → (seals : Seals) → key_list seals.nodes ≢ [] → (frame : List ℕ) → OnlyNodesSeal cluster.sent seals frame
@@ -82,7 +83,8 @@ pub fn a_sealed_datagram_is_not_forged<D: LogDisk, S: DatagramSocket>()
     is_told_by_a_node();
 }
 
-/// A cluster whose nodes share such a key needs no other premise about the network: whatever frames come, nothing is forged in it.
+/// A cluster whose nodes share such a key needs no other premise about the network: whatever frames arrive, nothing is
+/// forged.
 pub fn a_sealed_cluster_forges_nothing<D: LogDisk, S: DatagramSocket>()
     ensures { (genesis : GenesisValue) (cluster : Cluster) → IsReachable IsSealed D.is_metered S.is_telling genesis cluster → IsReachable ForgesNothing D.is_metered S.is_telling genesis cluster }
 {
@@ -97,7 +99,8 @@ pub fn a_sealed_cluster_keeps_the_promise<D: LogDisk, S: DatagramSocket>()
     a_cluster_keeps_the_promise::<D, S>();
 }
 
-/// A server that is taken up from the disks of a node continues its cluster: the cluster in which that node is up is reachable too.
+/// A server that starts from the disks of a node continues its cluster: the cluster in which that node is up is
+/// reachable too.
 pub fn a_start_continues_a_cluster<D: LogDisk, S: DatagramSocket>()
     ensures { (genesis : GenesisValue) (cluster : Cluster) → IsReachable ForgesNothing D.is_metered S.is_telling genesis cluster
         → (place n : ℕ) (device : Memory) → HasNode cluster place n (Down device)
@@ -106,7 +109,8 @@ pub fn a_start_continues_a_cluster<D: LogDisk, S: DatagramSocket>()
         → Continues ForgesNothing D.is_metered S.is_telling genesis cluster place n (Up server) [] }
 {}
 
-/// A start that is refused continues its cluster: the node stays down, on the disks that the refusal has left. The program ensures such a refusal.
+/// A rejected start continues its cluster: the node stays down, with the disks that the rejection has left. The
+/// contract of the program ensures such a rejection.
 pub fn a_refused_start_continues_a_cluster<D: LogDisk, S: DatagramSocket>()
     ensures { D.is_honest → (genesis : GenesisValue) (cluster : Cluster) → IsReachable ForgesNothing D.is_metered S.is_telling genesis cluster
         → (place n : ℕ) (device : Memory) → HasNode cluster place n (Down device)
@@ -116,7 +120,8 @@ pub fn a_refused_start_continues_a_cluster<D: LogDisk, S: DatagramSocket>()
         → Continues ForgesNothing D.is_metered S.is_telling genesis cluster place n (Down left) [] }
 {}
 
-/// A turn of a server continues its cluster if what came in it is not forged. What the turn adds to the trace follows from what its replica says.
+/// A turn of a server continues its cluster if what arrived in it is not forged. What the turn adds to the trace
+/// follows from what its replica says.
 pub fn a_turn_continues_a_cluster<D: LogDisk, S: DatagramSocket>()
     ensures { (genesis : GenesisValue) (cluster : Cluster) → IsReachable ForgesNothing D.is_metered S.is_telling genesis cluster
         → (place n : ℕ) (server after : ServerValue ReplicaValue) → HasNode cluster place n (Up server)
@@ -125,7 +130,8 @@ pub fn a_turn_continues_a_cluster<D: LogDisk, S: DatagramSocket>()
         → Continues ForgesNothing D.is_metered S.is_telling genesis cluster place n (Up after) turn.hands_on.letters }
 {}
 
-/// A turn of a server that has the key of the nodes continues its cluster whatever frames came in it. `turning::turn` ensures such a turn, or an idle one.
+/// A turn of a server that has the key of the nodes continues its cluster whatever frames came in it. `turning::turn`
+/// ensures such a turn, or an idle one.
 pub fn a_sealed_turn_continues_a_cluster<D: LogDisk, S: DatagramSocket>()
     ensures { (genesis : GenesisValue) (cluster : Cluster) → IsReachable IsSealed D.is_metered S.is_telling genesis cluster
         → (place n : ℕ) (server after : ServerValue ReplicaValue) → HasNode cluster place n (Up server)
@@ -144,7 +150,7 @@ pub fn an_idle_turn_continues_a_cluster<D: LogDisk, S: DatagramSocket>()
         → Continues ForgesNothing D.is_metered S.is_telling genesis cluster place n (Up after) [] }
 {}
 
-/// A turn that ends a server continues its cluster: the node is down then, on the disks that its replica has left.
+/// A turn that ends a server continues its cluster: the node is then down, with the disks that its replica has left.
 pub fn a_last_turn_continues_a_cluster<D: LogDisk, S: DatagramSocket>()
     ensures { (genesis : GenesisValue) (cluster : Cluster) → IsReachable ForgesNothing D.is_metered S.is_telling genesis cluster
         → (place n : ℕ) (server after : ServerValue ReplicaValue) → HasNode cluster place n (Up server)
@@ -154,7 +160,8 @@ pub fn a_last_turn_continues_a_cluster<D: LogDisk, S: DatagramSocket>()
         → Continues ForgesNothing D.is_metered S.is_telling genesis cluster place n (Down left) turn.hands_on.letters }
 {}
 
-/// The turns of a process on an honest device continue its cluster, one after another, if nothing that came in any of them is forged.
+/// The turns of a process on an honest device continue its cluster, one after another, if nothing that arrived in any
+/// of them is forged.
 pub fn turns_continue_a_cluster<D: LogDisk + Drop, S: DatagramSocket>()
     ensures { D.is_honest → (genesis : GenesisValue) (cluster : Cluster) → IsReachable ForgesNothing D.is_metered S.is_telling genesis cluster
         → (place n count : ℕ) (first last : ServerValue ReplicaValue) → HasNode cluster place n (Up first)
@@ -164,7 +171,8 @@ pub fn turns_continue_a_cluster<D: LogDisk + Drop, S: DatagramSocket>()
         (letters_of ⟦<Replica<LockTable, D> as NodeReplica>⟧.Says S.is_telling first turns.states last turns.chain) }
 {}
 
-/// A node that serves continues its cluster, from its start to its last turn. The program ensures such a service.
+/// A node that serves continues its cluster, from its start to its last turn. The contract of the program ensures such
+/// a service.
 pub fn a_service_continues_a_cluster<D: LogDisk + Drop, S: DatagramSocket>()
     ensures { D.is_honest → (genesis : GenesisValue) (cluster : Cluster) → IsReachable ForgesNothing D.is_metered S.is_telling genesis cluster
         → (place n count : ℕ) (device : Memory) → HasNode cluster place n (Down device)
@@ -175,7 +183,8 @@ pub fn a_service_continues_a_cluster<D: LogDisk + Drop, S: DatagramSocket>()
         (letters_of ⟦<Replica<LockTable, D> as NodeReplica>⟧.Says S.is_telling served.begun served.turns.states served.ended served.turns.chain) }
 {}
 
-/// A node whose service breaks off continues its cluster: its last turn ends it, and it is down on the disks that its replica has left.
+/// A node whose service breaks off continues its cluster: its last turn ends it, and it is down with the disks that
+/// its replica has left.
 pub fn a_service_that_breaks_off_continues_a_cluster<D: LogDisk + Drop, S: DatagramSocket>()
     ensures { D.is_honest → (genesis : GenesisValue) (cluster : Cluster) → IsReachable ForgesNothing D.is_metered S.is_telling genesis cluster
         → (place n most : ℕ) (device : Memory) → HasNode cluster place n (Down device)
@@ -189,7 +198,8 @@ pub fn a_service_that_breaks_off_continues_a_cluster<D: LogDisk + Drop, S: Datag
         (letters_of ⟦<Replica<LockTable, D> as NodeReplica>⟧.Says S.is_telling served.begun served.breaks.turns.states served.breaks.last served.breaks.turns.chain ++ served.breaks.ends.turn.hands_on.letters) }
 {}
 
-/// A node that serves with the key of the nodes continues its cluster whatever frames come. The program ensures such a service.
+/// A node that serves with the nodes' key continues its cluster whatever frames arrive. The contract of the program
+/// ensures such a service.
 pub fn a_sealed_service_continues_a_cluster<D: LogDisk + Drop, S: DatagramSocket>()
     ensures { D.is_honest → (genesis : GenesisValue) (cluster : Cluster) → IsReachable IsSealed D.is_metered S.is_telling genesis cluster
         → (place n count : ℕ) (device : Memory) → HasNode cluster place n (Down device)
@@ -220,8 +230,9 @@ pub fn a_sealed_service_that_breaks_off_continues_a_cluster<D: LogDisk + Drop, S
     is_told_by_a_node();
 }
 
-/// No node of a cluster begins anew with empty disks: a node that has sent a Prepare, a Promise, an Accept or an Accepted never has two empty ones
-/// (an acceptor must remember, even if it fails and restarts: Lamport, Paxos Made Simple, 2001, section 2.2).
+/// No node of a cluster restarts with empty disks: a node that has sent a Prepare, a Promise, an Accept or an Accepted
+/// never has two empty ones (an acceptor must remember, even if it fails and restarts: Lamport, Paxos Made Simple,
+/// 2001, section 2.2).
 pub fn no_node_forgets<D: LogDisk, S: DatagramSocket>()
     ensures { (genesis : GenesisValue) (cluster : Cluster) → IsReachable ForgesNothing D.is_metered S.is_telling genesis cluster
         → (node : Node) → Contains cluster.seats node

@@ -1,4 +1,4 @@
-//! Clusters: nodes of the lock table that run as processes. What is promised of a simulated world holds of them.
+//! Clusters: nodes of the lock table that run as processes. They keep the promises of a simulated world.
 #![tactic(auto)]
 
 pub mod laws;

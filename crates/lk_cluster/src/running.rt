@@ -11,17 +11,17 @@ use lk_events::line::Observer;
 use lk_locks::LockTable;
 use lk_replica::Replica;
 use lk_server::node_replica::NodeReplica;
-use lk_transport::socket::DatagramSocket;
 use lk_service::causes::FailureCause;
 use lk_service::resources::{NodePlan, Resources};
 use lk_service::running::run_node;
+use lk_transport::socket::DatagramSocket;
 use log::Log;
 use std::alloc::Global;
 use std::io::Write;
 use std::time::Clock;
 
-/// Runs a node of the lock table on any honest device and any socket. Whatever becomes of it, the reachable cluster in which it was down on what the
-/// device had goes on by it.
+/// Runs a node of the lock table on any honest device and any socket. However it ends, it continues the reachable
+/// cluster in which the node was down with what the device had.
 pub fn run<
     D: LogDisk + FailureCause + Drop,
     S: DatagramSocket + Drop,

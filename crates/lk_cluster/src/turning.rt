@@ -1,4 +1,4 @@
-//! What a server does as it comes up, and in a turn, is what the theorem takes it to do.
+//! At its start, and in a turn, a server does what the theorem assumes.
 ghost use Rattle.std.specs.Prelude.{◌≡◌, ℕ, List, IfOk, OnOk, OnErr};
 ghost use Rattle.std.specs.declared.net.socket_addr.SocketAddr.{SocketAddr as Address};
 ghost use Rattle.lk_types.specs.declared.genesis.Genesis.{Genesis as GenesisValue};
@@ -11,18 +11,19 @@ use lk_disk::LogDisk;
 use lk_entries::Header;
 use lk_locks::LockTable;
 use lk_replica::{Replica, ReviveFault};
-use lk_transport::receive_buffer::ReceiveBuffer;
-use lk_transport::fault::ServiceFault;
 use lk_server::metronome::Metronome;
 use lk_server::server::{Server, node_turn};
-use lk_transport::socket::DatagramSocket;
 use lk_service::resources::Resources;
 use lk_service::running::revive;
+use lk_transport::fault::ServiceFault;
+use lk_transport::receive_buffer::ReceiveBuffer;
+use lk_transport::socket::DatagramSocket;
 use log::Log;
 use std::alloc::Global;
 use std::time::Clock;
 
-/// One turn of a server of the lock table, on any honest device and any socket. It takes what came, out of its frames where the nodes have a key.
+/// One turn of a server of the lock table, on any honest device and any socket. It takes what arrives, out of its
+/// frames if the nodes have a key.
 pub fn turn<D: LogDisk + Drop, S: DatagramSocket + Drop, C: Clock, L: Log>(
     server: &mut Server<Replica<LockTable, D>, S>,
     buffer: &mut ReceiveBuffer,
@@ -38,7 +39,7 @@ pub fn turn<D: LogDisk + Drop, S: DatagramSocket + Drop, C: Clock, L: Log>(
     taken
 }
 
-/// A server of the lock table is taken up from any honest device.
+/// Starts a server of the lock table from any honest device.
 pub fn start<D: LogDisk + Drop, S: DatagramSocket + Drop, L: Log>(
     alloc: Global,
     header: &Header,

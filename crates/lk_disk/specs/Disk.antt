@@ -3,7 +3,7 @@ use Rattle.std.specs.Prelude.{◌≡◌, ℕ, ◌+◌, ◌-◌, ◌^◌, ◌≤�
 use Rattle.lk_disk.specs.declared.device.Side.{Side}
 use Rattle.lk_disk.specs.declared.device.Side.TheVariants.{A, B}
 
--- the bytes that outlast a stop, and those after them, of which a stop leaves a beginning
+-- the bytes that outlast a stop, and those after them, of which a stop leaves a prefix
 pub record Disk : Type 0 where
   pub synced : List ℕ
   pub unsynced : List ℕ
@@ -17,11 +17,11 @@ other B = A
 abbrev pub contents : Disk → List ℕ
 contents d = d.synced ++ d.unsynced
 
--- a stop leaves the synced bytes and a beginning of the others
+-- a stop leaves the synced bytes and a prefix of the others
 abbrev pub MayLeave : Disk → List ℕ → Type 0
 MayLeave d left = (n : ℕ) × (left ≡ d.synced ++ take n d.unsynced)
 
--- a piece stands at the end, unsynced
+-- a piece was appended, unsynced
 abbrev pub appended : Disk → List ℕ → Disk
 appended d piece = record { synced = d.synced; unsynced = d.unsynced ++ piece }
 
@@ -37,20 +37,20 @@ cut_to n d = record { synced = take n (contents d); unsynced = [] }
 abbrev pub kept_by : ℕ → Disk → Disk
 kept_by n d = record { synced = d.synced ++ take n d.unsynced; unsynced = [] }
 
--- a failed append has added a beginning of the piece
+-- a failed append has appended a prefix of the piece
 abbrev pub AppendsSome : List ℕ → Disk → Disk → Type 0
 AppendsSome piece old new = (n : ℕ) × (new ≡ appended old (take n piece))
 
--- a failed cut to n has left a beginning of the bytes, synced as far as n and the synced bytes reached
+-- a failed cut to n has left a prefix of the bytes, synced as far as n and the synced bytes reached
 pub record CutShort (n : ℕ) (old new : Disk) : Type 0 where
   pub front : contents new ≡ take (length (contents new)) (contents old)
   pub kept : min n (length old.synced) ≤ length new.synced
 
--- a count goes up by one, and stays at its greatest value
+-- a count increases by one, and stays at its maximum
 abbrev pub one_more : ℕ → ℕ
 one_more n = if nat_lt n (2 ^ 64 - 1) then n + 1 else n
 
--- a count of failures is one more where the call failed, and the same where it did not
+-- a count of failures increases by one if the call failed, and is unchanged if it did not
 abbrev pub HasCause : {T E : Type 0} → ℕ → ℕ → Result T E → Type 0
 HasCause before now (Ok _) = now ≡ before
 HasCause before now (Err _) = now ≡ one_more before

@@ -7,12 +7,12 @@ use Rattle.lk_disk.specs.declared.device.Side.TheVariants.{A, B}
 pub data File : Type 0 where
   -- these are its bytes
   whole : Disk → File
-  -- of these bytes it shows the first n, while a stop may still leave more
+  -- it shows the first n of these bytes, while a stop may still leave more
   shortened : ℕ → Disk → File
-  -- a call failed: a stop may leave these bytes, and what it shows is not known
+  -- a call failed: a stop may leave these bytes, and its content is unknown
   broken : Disk → File
 
--- the same bytes, of which those after the first n are synced no longer
+-- the same bytes, without the sync of those after the first n
 abbrev pub loosened : ℕ → Disk → Disk
 loosened n d = record { synced = take n d.synced; unsynced = drop n d.synced ++ d.unsynced }
 
@@ -22,31 +22,31 @@ left_of (whole d) = d
 left_of (shortened n d) = loosened n d
 left_of (broken d) = d
 
--- its bytes, also those that it shows no longer
+-- its bytes, including those that it shows no longer
 abbrev pub bytes_of : File → Disk
 bytes_of (whole d) = d
 bytes_of (shortened n d) = d
 bytes_of (broken d) = d
 
--- a file of these bytes that shows all of them, or the first so many
+-- a file of these bytes that shows all of them, or this many of the first
 abbrev pub file_showing : Option ℕ → Disk → File
 file_showing None d = whole d
 file_showing (Some n) d = shortened n d
 
--- nothing is said of it
+-- nothing is known of it
 abbrev pub unknown : File
 unknown = broken (record { synced = []; unsynced = [] })
 
--- it is known what it shows, and that is all that a stop may leave
+-- its content is known, and is all that a stop may leave
 abbrev pub IsWhole : File → Type 0
 IsWhole f = f ≡ whole (left_of f)
 
--- where a length is told, the disk has as many bytes
+-- if a length is known, the disk has as many bytes
 abbrev pub HasLength : Option ℕ → Disk → Type 0
 HasLength None d = ⊤
 HasLength (Some n) d = n ≡ length (contents d)
 
--- what a contract sees of a file in memory: how it stands, and how often a call has failed
+-- what a contract sees of a file in memory: its state, and how many calls have failed
 pub record CountedFile : Type 0 where
   pub file : File
   pub failures : ℕ
@@ -57,7 +57,7 @@ pub record UsedFile : Type 0 where
   pub failures : ℕ
   pub failed : Bool
 
--- a call was refused, untried, since the file had failed before
+-- a call was rejected, untried, since the file had failed before
 abbrev pub IsUntried : UsedFile → UsedFile → Type 0
 IsUntried old new = (old.failed ≡ true) × (new ≡ old)
 
@@ -65,16 +65,16 @@ IsUntried old new = (old.failed ≡ true) × (new ≡ old)
 abbrev pub HasFailed : UsedFile → UsedFile → Type 0
 HasFailed old new = (old.failed ≡ false) × (new.failures ≡ one_more old.failures)
 
--- all calls of the file were made, and it goes on
+-- all calls of the file succeeded, and it goes on
 abbrev pub HasPassed : UsedFile → UsedFile → Type 0
 HasPassed old new = (old.failed ≡ false) × (new.failed ≡ false) × (new.failures ≡ old.failures)
 
--- the call was refused only so, and passed else
+-- the call failed only for this reason, and succeeded otherwise
 abbrev pub IsCaused : {T E : Type 0} → UsedFile → UsedFile → Result T E → Type 0
 IsCaused old new (Ok _) = HasPassed old new
 IsCaused old new (Err _) = IsUntried old new ⊎ HasFailed old new
 
--- or, of a cut, since this many bytes are more than the file has, where that is known
+-- or, for a cut, since this is more than the file has, if its length is known
 abbrev pub IsCutCaused : {T E : Type 0} → Type 0 → ℕ → UsedFile → UsedFile → Result T E → Type 0
 IsCutCaused is_honest len old new (Ok _) = HasPassed old new
 IsCutCaused is_honest len old new (Err _) = IsUntried old new ⊎ HasFailed old new ⊎ (HasPassed old new × (is_honest → length (contents (left_of old.file)) < len))
@@ -89,6 +89,6 @@ abbrev pub used_at : FilePair → Side → UsedFile
 used_at p A = p.a
 used_at p B = p.b
 
--- the disk that a side is
+-- the disk at a side
 abbrev pub disk_at : FilePair → Side → Disk
 disk_at p side = left_of (used_at p side).file

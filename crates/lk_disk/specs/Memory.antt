@@ -26,7 +26,7 @@ abbrev pub disk_of : Memory → Side → Disk
 disk_of m A = m.a
 disk_of m B = m.b
 
--- one disk is another now
+-- one disk has changed
 abbrev pub with_disk : Side → Disk → Memory → Memory
 with_disk A d m = record m { a = d }
 with_disk B d m = record m { b = d }
@@ -43,7 +43,8 @@ heeded m = record m { meter = asked m.meter }
 abbrev pub failed : Memory → Memory
 failed m = record m { failures = one_more m.failures }
 
--- what a stop inside a cut to n leaves that is armed for so many bytes: at least n of them, and no more than there were
+-- what a stop inside a cut to n leaves that is armed for this many bytes: at least n of them, and no more than there
+-- were
 abbrev pub cut_within : ℕ → ℕ → Disk → Disk
 cut_within n bytes d = cut_to (min (max bytes n) (length (contents d))) d
 
@@ -51,11 +52,11 @@ cut_within n bytes d = cut_to (min (max bytes n) (length (contents d))) d
 abbrev pub refused : Memory → Memory
 refused m = failed (counted m)
 
--- a call failed when out of memory, and no disk has changed
+-- a call ran out of memory, and no disk has changed
 abbrev pub wanting : Memory → Memory
 wanting m = failed (record m { meter = starving m.meter })
 
--- after a stop that keeps up to x of the unsynced bytes of A and up to y of those of B: what is left is synced, and nothing makes
--- a changing call fail
+-- after a stop that keeps up to x of the unsynced bytes of A and up to y of those of B: what is left is synced, and
+-- nothing makes a changing call fail
 abbrev pub stopped : ℕ → ℕ → Memory → Memory
 stopped x y m = record m { a = kept_by x m.a; b = kept_by y m.b; meter = eased m.meter }

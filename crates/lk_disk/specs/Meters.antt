@@ -31,11 +31,11 @@ fuse_at (Some bytes) fuse = Some 0
 abbrev pub is_refused : Meter → Bool
 is_refused m = fails_next m.trap || is_blown m.fuse
 
--- the next changing call fails, so or at an armed stop
+-- the next changing call fails, like this or at an armed stop
 abbrev pub is_failing : Meter → Bool
 is_failing m = is_refused m || is_some (stops_next m.trap)
 
--- a changing call is counted, whatever comes of it
+-- a changing call is counted, whatever its result
 abbrev pub called : Meter → Meter
 called m = record m {
   trap = trap_after m.trap;
@@ -44,11 +44,11 @@ called m = record m {
   sprung = m.sprung || is_due m.trap;
 }
 
--- and memory was refused in it
+-- and ran out of memory
 abbrev pub starving : Meter → Meter
 starving m = record (called m) { starved = true }
 
--- a changing call passed, or it failed: by the trap, the fuse, or an armed stop, or when out of memory
+-- a changing call passed, or it failed: by the trap, the fuse, or an armed stop, or for want of memory
 abbrev pub Calls : {T E : Type 0} → Meter → Meter → Result T E → Type 0
 Calls m n (Ok _) = (is_failing m ≡ false) × (n ≡ called m)
 Calls m n (Err _) = ((is_failing m ≡ true) × (n ≡ called m)) ⊎ (n ≡ starving m)
@@ -59,7 +59,7 @@ Calls m n (Err _) = ((is_failing m ≡ true) × (n ≡ called m)) ⊎ (n ≡ sta
 abbrev pub is_unread : Meter → Bool
 is_unread m = m.unread == 1
 
--- a reading call is counted, whatever comes of it
+-- a reading call is counted, whatever its result
 abbrev pub asked : Meter → Meter
 asked m = record m { unread = m.unread - 1 }
 
@@ -70,13 +70,14 @@ Reads m n (Err _) = (is_unread m ≡ true) × (n ≡ asked m)
 
 -- ---- calls in a row
 
--- so many changing calls were made, beside reading ones, and all of them passed
+-- this many changing calls were made, besides reading ones, and all of them passed
 pub data Passes (m : Meter) : Meter → ℕ → Type 0 where
   start : Passes m m 0
   call : {n : Meter} {k : ℕ} → Passes m n k → is_failing n ≡ false → Passes m (called n) (k + 1)
   read : {n : Meter} {k : ℕ} → Passes m n k → is_unread n ≡ false → Passes m (asked n) k
 
--- such calls passed, and the next one failed: a changing one as it had to, or when out of memory, or a reading one as it had to
+-- such calls passed, and the next one failed: a changing one as it had to, or for want of memory, or a reading one as
+-- it had to
 pub record Breaks (m n : Meter) : Type 0 where
   pub passed : ℕ
   pub last : Meter
@@ -85,7 +86,7 @@ pub record Breaks (m n : Meter) : Type 0 where
 
 -- ---- the trap
 
--- a trap is set, in place of one that was pending
+-- a trap is set, in place of a pending one
 abbrev pub trapped : Trap → Meter → Meter
 trapped t m = record m { trap = t; sprung = false; starved = false }
 
@@ -93,6 +94,6 @@ trapped t m = record m { trap = t; sprung = false; starved = false }
 abbrev pub eased : Meter → Meter
 eased m = record m { trap = Off; fuse = None }
 
--- the stop that was armed has come, for so many bytes: each later changing call fails
+-- the armed stop has happened, for this many bytes: each later changing call fails
 abbrev pub stopping : Meter → Option ℕ
 stopping m = if m.sprung then armed_for m.trap else None

@@ -1,4 +1,4 @@
--- A trap, and what a changing call that passes by leaves of it.
+-- A trap, and what a passing changing call leaves of it.
 use Rattle.std.specs.Prelude.{ℕ, ◌-◌, ◌==◌, nat_le, Bool, false, Option, Some, None, if◌then◌else◌}
 use Rattle.lk_disk.specs.declared.trap.Trap.{Trap}
 use Rattle.lk_disk.specs.declared.trap.Trap.TheVariants.{Off, Fail, Arm}
@@ -15,7 +15,7 @@ fails_next Off = false
 fails_next (Fail count) = count == 1
 fails_next (Arm count bytes) = false
 
--- the device stops at that call, for so many bytes
+-- the device stops at that call, for this many bytes
 abbrev pub stops_next : Trap → Option ℕ
 stops_next Off = None
 stops_next (Fail count) = None

@@ -10,19 +10,19 @@ use thiserror::Error;
 #[error("the file failed")]
 pub struct FileFault;
 
-/// One file, of which some bytes are synced: they outlast a stop, which may take the bytes after them from some byte on.
+/// One file. Its synced bytes outlast a stop, which may cut off the bytes after them from any byte on.
 ///
-/// What is said of its bytes holds where the file is honest, and as long as no call but `length` and `read_into` has
-/// failed: after such a call nobody knows what it shows. An `Err` is counted in any case: the count of failures is one
-/// more then, up to 2^64 - 1, and the same at `Ok`.
+/// Statements about its bytes hold if the file is honest, and as long as only calls of `length` and `read_into` have
+/// failed: after any other failed call its content is unknown. Each `Err` is counted: the count of failures increases
+/// by one, up to 2^64 - 1, and is unchanged at `Ok`.
 pub trait AppendFile {
     /// What is known of it.
     ghost file: { Self → File };
 
-    /// It does what is said here. It is a fact of the kind of file, so no call can end it.
+    /// It does what is stated here. This is a property of its type, so no call can change it.
     ghost is_honest: { Type 0 };
 
-    /// How often a call has failed.
+    /// How many calls have failed.
     ghost failures: { Self → ℕ };
 
     /// The number of its bytes, synced or not.
@@ -31,29 +31,29 @@ pub trait AppendFile {
         ensures unchanged { is_honest → file self.new ≡ file self.old }
         ensures cause { HasCause (failures self.old) (failures self.new) result };
 
-    /// Fills the buffer with the bytes from the offset on. A read past the end fails. After an `Err` the buffer may hold
-    /// anything.
+    /// Fills the buffer with the bytes from the offset on. A read past the end fails. After an `Err` the buffer may
+    /// hold anything.
     fn read_into(&mut self, offset: usize, buffer: &mut [u8]) -> Result<(), FileFault>
         ensures value { is_honest → IsWhole (file self.old) → OnOk result (buffer.new ≡ slice_range (contents (left_of (file self.old))) offset (offset + length buffer.old)) }
         ensures within { is_honest → IsWhole (file self.old) → OnOk result (offset + length buffer.old ≤ length (contents (left_of (file self.old)))) }
         ensures unchanged { is_honest → file self.new ≡ file self.old }
         ensures cause { HasCause (failures self.old) (failures self.new) result };
 
-    /// Adds a piece at the end, unsynced. A failed call may have added a beginning of it.
+    /// Appends a piece, unsynced. A failed call may have appended a prefix of it.
     fn append(&mut self, piece: &[u8]) -> Result<(), FileFault>
         ensures ok { is_honest → IsWhole (file self.old) → OnOk result (file self.new ≡ whole (appended (left_of (file self.old)) piece.now)) }
         ensures err { is_honest → IsWhole (file self.old) → OnErr result (AppendsSome piece.now (left_of (file self.old)) (left_of (file self.new))) }
         ensures cause { HasCause (failures self.old) (failures self.new) result };
 
-    /// Makes what it shows outlast a stop. A failed call changes nothing of what a stop may leave.
+    /// Makes its content outlast a stop. A failed call changes nothing of what a stop may leave.
     fn sync(&mut self) -> Result<(), FileFault>
         ensures ok { is_honest → IsWhole (file self.old) → OnOk result (file self.new ≡ whole (flushed (left_of (file self.old)))) }
         ensures short { is_honest → (n : ℕ) (d : Disk) → file self.old ≡ shortened n d → OnOk result (file self.new ≡ whole (cut_to n d)) }
         ensures err { is_honest → OnErr result (left_of (file self.new) ≡ left_of (file self.old)) }
         ensures cause { HasCause (failures self.old) (failures self.new) result };
 
-    /// Shows the first `len` bytes from now on, of which there are as many; a stop may leave more until they are synced.
-    /// A failed call may have done so.
+    /// Shows only the first `len` bytes from now on, of which there must be as many; a stop may leave more until they
+    /// are synced. A failed call may have done so.
     fn shorten(&mut self, len: usize) -> Result<(), FileFault>
         ensures ok { is_honest → IsWhole (file self.old) → len ≤ length (contents (left_of (file self.old))) → OnOk result (file self.new ≡ shortened len (left_of (file self.old))) }
         ensures err { is_honest → IsWhole (file self.old) → len ≤ length (contents (left_of (file self.old))) → OnErr result (CutShort len (left_of (file self.old)) (left_of (file self.new))) }

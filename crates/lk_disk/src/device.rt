@@ -14,13 +14,13 @@ pub enum Side {
     B,
 }
 
-/// The device failed in a call: refusal 7.
+/// A call of the device failed: error 7.
 #[derive(Clone, Copy, Debug, Error)]
 #[error("the device failed")]
 pub struct DeviceFault;
 
 impl DeviceFault {
-    /// The number of this refusal.
+    /// The number of this fault.
     pub fn number(self) -> u8
         ensures { result ≡ 7 }
     {
@@ -28,26 +28,26 @@ impl DeviceFault {
     }
 }
 
-/// A device of two disks, each a row of bytes that grows at its end.
+/// A device of two disks, each a sequence of bytes that grows at its end.
 ///
-/// The bytes up to some point are synced: they outlast a stop, which may take the unsynced bytes after them from some
-/// byte on. What is said of the disks holds where the device is honest. An `Err` is counted in any case: the count of
-/// failures is one more then, up to 2^64 - 1, and the same at `Ok`.
+/// The bytes up to some point are synced: they outlast a stop, which may cut off the unsynced bytes after them from
+/// any byte on. Statements about the disks hold if the device is honest. Each `Err` is counted: the count of failures
+/// increases by one, up to 2^64 - 1, and is unchanged at `Ok`.
 pub trait LogDisk {
     /// The two disks.
     ghost disk: { Self → Side → Disk };
 
-    /// The disks do what is said here. It is a fact of the kind of device, so no call can end it.
+    /// The disks do what is stated here. This is a property of the device's type, so no call can change it.
     ghost is_honest: { Type 0 };
 
-    /// How often a call has failed.
+    /// How many calls have failed.
     ghost failures: { Self → ℕ };
 
     /// What makes it fail.
     ghost meter: { Self → Meter };
 
-    /// It counts its calls and fails as its meter tells, when out of memory or past the end of a disk, and by nothing else. It is
-    /// a fact of the kind of device, so no call can end it.
+    /// It counts its calls and fails when its meter says so, when it is out of memory or past the end of a disk, and
+    /// never otherwise. This is a property of the device's type, so no call can change it.
     ghost is_metered: { Type 0 };
 
     /// The number of bytes of a disk, synced or not.
@@ -57,8 +57,8 @@ pub trait LogDisk {
         ensures metered { is_metered → Reads (meter self.old) (meter self.new) result }
         ensures cause { HasCause (failures self.old) (failures self.new) result };
 
-    /// Fills the buffer with the bytes from the offset on. A read past the end fails. After an `Err` the buffer may hold
-    /// anything.
+    /// Fills the buffer with the bytes from the offset on. A read past the end fails. After an `Err` the buffer may
+    /// hold anything.
     fn read_into(&mut self, side: Side, offset: usize, buffer: &mut [u8]) -> Result<(), DeviceFault>
         ensures value { is_honest → OnOk result (buffer.new ≡ slice_range (contents (disk self.old side)) offset (offset + length buffer.old)) }
         ensures within { is_honest → OnOk result (offset + length buffer.old ≤ length (contents (disk self.old side))) }
@@ -66,7 +66,7 @@ pub trait LogDisk {
         ensures metered { is_honest → is_metered → offset + length buffer.old ≤ length (contents (disk self.old side)) → Reads (meter self.old) (meter self.new) result }
         ensures cause { HasCause (failures self.old) (failures self.new) result };
 
-    /// Adds a piece at the end, unsynced. A failed call adds a beginning of it.
+    /// Appends a piece, unsynced. A failed call appends a prefix of it.
     fn append(&mut self, side: Side, piece: &[u8]) -> Result<(), DeviceFault>
         ensures ok { is_honest → OnOk result (disk self.new side ≡ appended (disk self.old side) piece.now) }
         ensures err { is_honest → OnErr result (AppendsSome piece.now (disk self.old side) (disk self.new side)) }
@@ -74,7 +74,7 @@ pub trait LogDisk {
         ensures metered { is_metered → Calls (meter self.old) (meter self.new) result }
         ensures cause { HasCause (failures self.old) (failures self.new) result };
 
-    /// Makes all bytes synced. A failed call changes nothing.
+    /// Syncs all bytes. A failed call changes nothing.
     fn sync(&mut self, side: Side) -> Result<(), DeviceFault>
         ensures ok { is_honest → OnOk result (disk self.new side ≡ flushed (disk self.old side)) }
         ensures err { is_honest → OnErr result (disk self.new side ≡ disk self.old side) }
@@ -82,8 +82,8 @@ pub trait LogDisk {
         ensures metered { is_metered → Calls (meter self.old) (meter self.new) result }
         ensures cause { HasCause (failures self.old) (failures self.new) result };
 
-    /// Leaves the first `len` bytes, all of them synced. A failed call leaves those that are synced of them, and may
-    /// leave more. A cut past the end fails and changes nothing.
+    /// Keeps the first `len` bytes, all of them synced. A failed call keeps those of them that were synced, and may
+    /// keep more. A cut past the end fails and changes nothing.
     fn cut(&mut self, side: Side, len: usize) -> Result<(), DeviceFault>
         ensures ok { is_honest → OnOk result (disk self.new side ≡ cut_to len (disk self.old side)) }
         ensures within { is_honest → OnOk result (len ≤ length (contents (disk self.old side))) }

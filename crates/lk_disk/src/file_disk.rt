@@ -10,9 +10,9 @@ use crate::device::{DeviceFault, LogDisk, Side};
 use crate::used_file::UsedFile;
 use std::marker::Model;
 
-/// Two files as a device. It is honest where the files are.
+/// Two files as a device. It is honest if the files are.
 ///
-/// After an append, a sync or a cut that failed a file is not used again: each further call at its side fails too.
+/// After a failed append, sync or cut it does not use the file again: each later call at that side fails too.
 #[derive(Drop)]
 pub struct FileDisk<F: AppendFile + Drop> {
     a: UsedFile<F>,
@@ -29,7 +29,7 @@ impl<F: AppendFile + Drop> Model for FileDisk<F> {
 }
 
 impl<F: AppendFile + Drop> FileDisk<F> {
-    /// The device of two files that no call has failed on.
+    /// The device of two files without failed calls.
     pub fn of(a: F, b: F) -> FileDisk<F>
         requires a { F.is_honest → IsWhole (F.file a) }
         requires b { F.is_honest → IsWhole (F.file b) }
@@ -86,7 +86,7 @@ impl<F: AppendFile + Drop> LogDisk for FileDisk<F> {
 
     ghost failures = { λ p. p.failures };
 
-    // What a file fails by is not told.
+    // Why a file fails is not stated.
     ghost meter = { λ _. fresh };
 
     ghost is_metered = { ⊥ };
@@ -96,7 +96,7 @@ impl<F: AppendFile + Drop> LogDisk for FileDisk<F> {
         ensures unchanged { F.is_honest → (s : Side) → disk_at self.new s ≡ disk_at self.old s }
         ensures alive { (used_at self.new side).failed ≡ (used_at self.old side).failed }
         ensures cause { HasCause self.old.failures self.new.failures result }
-        // It fails only where the file's call did, or had before.
+        // It fails only if the file's call did, or had failed before.
         ensures file { IsCaused (used_at self.old side) (used_at self.new side) result }
         ensures apart { used_at self.new (other side) ≡ used_at self.old (other side) }
     {
@@ -116,7 +116,7 @@ impl<F: AppendFile + Drop> LogDisk for FileDisk<F> {
         ensures unchanged { F.is_honest → (s : Side) → disk_at self.new s ≡ disk_at self.old s }
         ensures alive { (used_at self.new side).failed ≡ (used_at self.old side).failed }
         ensures cause { HasCause self.old.failures self.new.failures result }
-        // It fails only where the file's call did, or had before.
+        // It fails only if the file's call did, or had failed before.
         ensures file { IsCaused (used_at self.old side) (used_at self.new side) result }
         ensures apart { used_at self.new (other side) ≡ used_at self.old (other side) }
     {
@@ -134,7 +134,7 @@ impl<F: AppendFile + Drop> LogDisk for FileDisk<F> {
         ensures ok { F.is_honest → OnOk result (disk_at self.new side ≡ appended (disk_at self.old side) piece.now) }
         ensures err { F.is_honest → OnErr result (AppendsSome piece.now (disk_at self.old side) (disk_at self.new side)) }
         ensures cause { HasCause self.old.failures self.new.failures result }
-        // It fails only where the file's call did, or had before.
+        // It fails only if the file's call did, or had failed before.
         ensures file { IsCaused (used_at self.old side) (used_at self.new side) result }
         ensures apart { used_at self.new (other side) ≡ used_at self.old (other side) }
     {
@@ -152,7 +152,7 @@ impl<F: AppendFile + Drop> LogDisk for FileDisk<F> {
         ensures ok { F.is_honest → OnOk result (disk_at self.new side ≡ flushed (disk_at self.old side)) }
         ensures err { F.is_honest → OnErr result (disk_at self.new side ≡ disk_at self.old side) }
         ensures cause { HasCause self.old.failures self.new.failures result }
-        // It fails only where the file's call did, or had before.
+        // It fails only if the file's call did, or had failed before.
         ensures file { IsCaused (used_at self.old side) (used_at self.new side) result }
         ensures apart { used_at self.new (other side) ≡ used_at self.old (other side) }
     {
@@ -172,7 +172,7 @@ impl<F: AppendFile + Drop> LogDisk for FileDisk<F> {
         ensures err { F.is_honest → OnErr result (CutShort len (disk_at self.old side) (disk_at self.new side)) }
         ensures past_end { F.is_honest → length (contents (disk_at self.old side)) < len → disk_at self.new side ≡ disk_at self.old side }
         ensures cause { HasCause self.old.failures self.new.failures result }
-        // It fails only where a call of the file did, or had before, or past the end.
+        // It fails only if a call of the file did, or had failed before, or past the end.
         ensures file { IsCutCaused F.is_honest len (used_at self.old side) (used_at self.new side) result }
         ensures apart { used_at self.new (other side) ≡ used_at self.old (other side) }
     {

@@ -1,4 +1,4 @@
-// A file in memory: it shows that a file can be honest.
+// A file in memory, which shows that a file can be honest.
 ghost use Rattle.std.specs.Prelude.{◌≡◌, ◌↔◌, ◌≤◌, ◌+◌, ℕ, [], length, Ok, ⊤, slice_range, IsOk, OnOk, OnErr};
 ghost use Rattle.lk_disk.specs.Disk.{Disk, MayLeave, contents, appended, flushed, cut_to, kept_by, one_more, HasCause};
 ghost use Rattle.lk_disk.specs.Files.{whole, shortened, bytes_of, left_of, IsWhole};
@@ -8,11 +8,12 @@ use crate::memory_file::MemoryFile;
 use std::alloc::Global;
 use std::marker::Model;
 
-/// One file in memory. An append fails when out of memory; else a call fails where it has to, and then it changes nothing.
+/// One file in memory. An append fails when it is out of memory; otherwise a call fails when it is told to, and then
+/// it changes nothing.
 #[derive(Drop)]
 pub struct FileInMemory {
     bytes: MemoryFile,
-    // so many of its bytes it shows, where it was shortened and not yet synced
+    // how many of its bytes it shows, if it was shortened and not yet synced
     shown: Option<usize>,
     failures: u64,
 }
@@ -37,7 +38,7 @@ impl FileInMemory {
         }
     }
 
-    /// A stop that keeps up to so many of the bytes that are not synced. What is left is synced.
+    /// A stop that keeps up to this many of the unsynced bytes. What is left is synced.
     pub fn stop(&mut self, unsynced: usize)
         ensures after { self.new ≡ record self.old { file = whole (kept_by unsynced (bytes_of self.old.file)) } }
         ensures image { MayLeave (left_of self.old.file) (contents (left_of self.new.file)) }

@@ -1,5 +1,5 @@
-//! A device of two disks: what each call does to them, what a failed call and a stop may leave; such a device in memory,
-//! which can be made to fail, and one of two files.
+//! A device of two disks: what each call does to them, and what a failed call and a stop may leave; such a device in
+//! memory, which can be made to fail, and one of two files.
 #![tactic(auto)]
 
 mod append_file;

@@ -15,9 +15,9 @@ use std::marker::Model;
 
 /// Two disks in memory.
 ///
-/// A call fails by the trap, by the fuse, as it was asked to, when out of memory or past the end of a disk, and by nothing else; it
-/// is counted as a failure, and but at an armed stop changes no disk. Appends, syncs and cuts, also those that fail, are the
-/// changing calls, `length` and `read_into` the reading ones.
+/// A call fails by the trap, by the fuse, on request, when it is out of memory or past the end of a disk, and never
+/// otherwise; it is counted as a failure, and changes no disk except at an armed stop. Appends, syncs and cuts,
+/// including failed ones, are the changing calls; `length` and `read_into` are the reading ones.
 #[derive(Drop)]
 pub struct MemoryDisk {
     a: MemoryFile,
@@ -58,14 +58,15 @@ impl MemoryDisk {
         self.meter.ease();
     }
 
-    /// Lets so many changing calls pass, and fails all later ones until a stop or another fuse.
+    /// Lets this many changing calls pass, and fails all later ones until a stop or another fuse.
     pub fn fuse(&mut self, calls: u64)
         ensures { self.new ≡ record self.old { meter = record self.old.meter { fuse = Some calls } } }
     {
         self.meter.fuse = Some(calls);
     }
 
-    /// Makes the reading call of that number (a `length` or a `read_into`, counted from 1 from now on) fail once. None has number 0.
+    /// Makes the reading call of that number (a `length` or a `read_into`, counted from 1 from now on) fail once. No
+    /// call has number 0.
     pub fn fail_read(&mut self, count: u64)
         ensures { self.new ≡ record self.old { meter = record self.old.meter { unread = count } } }
     {
@@ -80,7 +81,7 @@ impl MemoryDisk {
         (self.a.len(), self.b.len())
     }
 
-    /// The number of changing calls so far, failed ones among them. At 2^64 - 1 it stays.
+    /// The number of changing calls so far, including failed ones. It stays at 2^64 - 1.
     pub fn calls(&self) -> u64
         ensures { result ≡ self.now.meter.calls }
     {
@@ -94,28 +95,29 @@ impl MemoryDisk {
         self.meter.sprung
     }
 
-    /// The trap that is pending: of an armed one what is left of its count.
+    /// The pending trap; for an armed one, with the rest of its count.
     pub fn pending(&self) -> Trap
         ensures { result ≡ self.now.meter.trap }
     {
         self.meter.trap
     }
 
-    /// For how many bytes it has come to an armed stop since the trap was last set, if it has.
+    /// For how many bytes it has reached an armed stop since the trap was last set, if it has.
     pub fn stopping(&self) -> Option<usize>
         ensures { result ≡ stopping self.now.meter }
     {
         self.meter.stopping()
     }
 
-    /// Whether memory was refused since the trap was last set.
+    /// Whether it ran out of memory since the trap was last set.
     pub fn starved(&self) -> bool
         ensures { result ≡ self.now.meter.starved }
     {
         self.meter.starved
     }
 
-    // Counts a changing call, which the trap or the fuse may fail, and tells for how many bytes it is an armed stop, if it is one.
+    // Counts a changing call, which the trap or the fuse may fail. Returns for how many bytes it is an armed stop, if
+    // it is one.
     fn begin(&mut self) -> Result<Option<usize>, DeviceFault>
         ensures ok { OnOk result ((is_refused self.old.meter ≡ false) × (self.new ≡ counted self.old)) }
         ensures stop { IfOk result (λ stop. stop ≡ stops_next self.old.meter.trap) }

@@ -5,7 +5,7 @@ ghost use Rattle.lk_disk.specs.Disk.{contents, appended, flushed, cut_to, kept_b
 use std::alloc::{AllocError, Global};
 use std::marker::Model;
 
-/// The bytes of one disk, and how many of them are synced: those in front.
+/// The bytes of one disk, and how many of them are synced, counted from the first.
 #[derive(Drop)]
 pub(crate) struct MemoryFile {
     bytes: Vec<u8>,
@@ -24,7 +24,7 @@ impl Model for MemoryFile {
 }
 
 impl MemoryFile {
-    /// A file without a byte. It takes no memory.
+    /// An empty file. Takes no memory.
     pub fn new(alloc: Global) -> Self
         ensures { result ≡ record { synced = []; unsynced = [] } }
     {
@@ -41,7 +41,7 @@ impl MemoryFile {
         self.bytes.len()
     }
 
-    /// Whether the bytes reach that far; only then is the buffer filled.
+    /// Whether there are that many bytes; only then does it fill the buffer.
     pub fn read_into(&self, offset: usize, buffer: &mut [u8]) -> bool
         ensures within { IsTrue result ↔ (offset + length buffer.old ≤ length (contents self.now)) }
         ensures value { IsTrue result → buffer.new ≡ slice_range (contents self.now) offset (offset + length buffer.old) }
@@ -55,7 +55,7 @@ impl MemoryFile {
         true
     }
 
-    /// Adds the piece to the unsynced bytes, or nothing where memory is refused.
+    /// Appends the piece to the unsynced bytes, or nothing if it is out of memory.
     pub fn append(&mut self, piece: &[u8]) -> Result<(), AllocError>
         ensures ok { OnOk result (self.new ≡ appended self.old piece.now) }
         ensures err { OnErr result (self.new ≡ self.old) }
@@ -70,7 +70,7 @@ impl MemoryFile {
         self.synced = self.bytes.len();
     }
 
-    /// Cuts it to so many bytes, where it has more; what is left is synced.
+    /// Cuts it to this many bytes, if it has more; what is left is synced.
     pub fn cut(&mut self, len: usize)
         ensures { self.new ≡ cut_to len self.old }
     {
@@ -78,7 +78,7 @@ impl MemoryFile {
         self.synced = self.bytes.len();
     }
 
-    /// A stop that keeps up to so many unsynced bytes.
+    /// A stop that keeps up to this many unsynced bytes.
     pub fn stop(&mut self, unsynced: usize)
         ensures { self.new ≡ kept_by unsynced self.old }
     {

@@ -2,21 +2,21 @@
 use crate::device::DeviceFault;
 use crate::trap::Trap;
 
-/// What makes a device in memory fail, and what it counts. Changing calls are appends, syncs and cuts, also those that fail;
-/// reading ones `length` and `read_into`.
+/// What makes a device in memory fail, and what it counts. Changing calls are appends, syncs and cuts, including
+/// failed ones; reading ones are `length` and `read_into`.
 #[derive(Clone, Copy)]
 pub struct Meter {
-    /// What befalls a changing call to come.
+    /// What happens to a future changing call.
     pub trap: Trap,
-    /// How many changing calls still pass, where that is limited.
+    /// How many changing calls still pass, if that is limited.
     pub fuse: Option<u64>,
-    /// Which reading call from now fails, counted from 1; 0 where none does.
+    /// Which reading call from now fails, counted from 1; 0 if none does.
     pub unread: u64,
-    /// The changing calls so far. At 2^64 - 1 it stays.
+    /// The changing calls so far. It stays at 2^64 - 1.
     pub calls: u64,
     /// The trap went off since it was last set.
     pub sprung: bool,
-    /// Memory was refused since the trap was last set.
+    /// It ran out of memory since the trap was last set.
     pub starved: bool,
 }
 
@@ -39,7 +39,8 @@ impl Meter {
         }
     }
 
-    /// Counts a changing call, which the trap or the fuse may refuse, and tells for how many bytes it is an armed stop, if it is one.
+    /// Counts a changing call, which the trap or the fuse may reject. Returns for how many bytes it is an armed stop,
+    /// if it is one.
     pub fn call(&mut self) -> Result<Option<usize>, DeviceFault>
         ensures ok { OnOk result (is_refused self.old ≡ false) }
         ensures stop { IfOk result (λ stop. stop ≡ stops_next self.old.trap) }
@@ -73,7 +74,7 @@ impl Meter {
         if is_unread { Err(DeviceFault) } else { Ok(()) }
     }
 
-    /// Sets the trap, in place of one that is pending.
+    /// Sets the trap, in place of a pending one.
     pub fn set(&mut self, trap: Trap)
         ensures { self.new ≡ trapped trap self.old }
     {
@@ -82,7 +83,7 @@ impl Meter {
         self.starved = false;
     }
 
-    /// The trap and the fuse are gone.
+    /// Removes the trap and the fuse.
     pub fn ease(&mut self)
         ensures { self.new ≡ eased self.old }
     {
@@ -90,7 +91,7 @@ impl Meter {
         self.fuse = None;
     }
 
-    /// For how many bytes an armed stop has come since the trap was last set, if one has.
+    /// For how many bytes an armed stop has happened since the trap was last set, if one has.
     pub fn stopping(&self) -> Option<usize>
         ensures { result ≡ stopping self.now }
     {

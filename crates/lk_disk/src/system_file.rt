@@ -1,4 +1,4 @@
-// The files of the system. What they do no contract can say: this module is trusted.
+// The files of the system. No contract can say what they do: this module is trusted.
 ghost use Rattle.std.specs.Prelude.{◌≡◌, IsFalse, IfOk};
 ghost use Rattle.lk_disk.specs.Disk.{one_more, HasCause};
 ghost use Rattle.lk_disk.specs.Files.{unknown};
@@ -15,14 +15,14 @@ use thiserror::Error;
 
 /// A file of the system, opened so that each write goes to its end.
 ///
-/// That it is honest is a premise which nothing proves, here or above: it is trusted that the bytes of a write go to the
-/// end of the file, that what `sync_data` has returned of outlasts a stop of the machine, with the length that it then
-/// had, and that nobody else writes to it.
+/// That it is honest is an assumption, which nothing here or above proves: the bytes of a write go to the end of the
+/// file; what `sync_data` has returned for outlasts a stop of the machine, with the length that the file then had; and
+/// nobody else writes to it.
 #[derive(Drop)]
 pub struct SystemFile<F> {
     file: F,
     failures: u64,
-    // why the last call that failed did
+    // why the last failed call failed
     cause: Option<io::Error>,
 }
 
@@ -43,7 +43,7 @@ impl<F> SystemFile<F> {
         FileFault
     }
 
-    // Counts a call that was not made.
+    // Records a failed call.
     fn told(&mut self, made: io::Result<()>) -> Result<(), FileFault>
         ensures { HasCause self.old.failures self.new.failures result }
     {
@@ -121,13 +121,13 @@ fn open_one<R: Files>(
     })
 }
 
-/// Makes the names of files that were made in a folder outlast a stop of the machine.
+/// Makes the names of files that were created in a folder outlast a stop of the machine.
 fn sync_folder<F: OpenFile>(folder: &F) -> Result<(), CannotOpen> {
     folder.sync_all().map_err(|_| CannotOpen)
 }
 
 impl<F: OpenFile + Read + Write + Seek + Drop> FileDisk<SystemFile<F>> {
-    /// Opens the files `a` and `b` of a folder to read and to write. One that is missing is made, a folder is not.
+    /// Opens the files `a` and `b` of a folder to read and to write. It creates a missing file, but not a folder.
     pub fn open<R: Files<File = F>>(
         rt: &R,
         alloc: Global,
@@ -150,7 +150,8 @@ impl<F: OpenFile + Read + Write + Seek + Drop> FileDisk<SystemFile<F>> {
         Ok(FileDisk::of(a, b))
     }
 
-    /// Opens the files `a` and `b` of a folder to read alone, and makes none. On such a device each append and cut fails.
+    /// Opens the files `a` and `b` of a folder to read only, and creates none. On such a device each append and cut
+    /// fails.
     pub fn look_at<R: Files<File = F>>(
         rt: &R,
         alloc: Global,
@@ -169,7 +170,7 @@ impl<F: OpenFile + Read + Write + Seek + Drop> FileDisk<SystemFile<F>> {
         Ok(FileDisk::of(a, b))
     }
 
-    /// What the system said of the last call that failed at a side, where one did.
+    /// What the system reported for the last failed call at a side, if there was one.
     pub fn cause(&self, side: Side) -> Option<io::Error> {
         self.file(side).cause
     }

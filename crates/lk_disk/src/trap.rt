@@ -5,21 +5,22 @@ ghost use Rattle.lk_disk.specs.declared.device.Side.{Side};
 
 use crate::device::LogDisk;
 
-/// What befalls a changing call (an append, a sync or a cut) to come. Calls are counted from 1 from now on; none has number 0.
+/// What happens to a future changing call (an append, a sync or a cut). Calls are counted from 1 from now on; none has
+/// number 0.
 #[derive(Clone, Copy)]
 pub enum Trap {
-    /// No call.
+    /// Nothing.
     Off,
     /// The call of that number fails once and changes nothing.
     Fail(u64),
-    /// A stop at the call of that number, for so many bytes: that call and each later one fails until a stop. An append is made
-    /// all the same, a sync is not, and a cut leaves up to so many bytes of the file. Whoever sends after the calls of a step
-    /// counts the sends on.
+    /// A stop at the call of that number, for this many bytes: that call and each later one fails until a stop. An
+    /// append is carried out all the same, a sync is not, and a cut leaves up to this many bytes of the file. Code
+    /// that sends after the calls of a step goes on counting at its sends.
     Arm(u64, usize),
 }
 
 impl Trap {
-    /// A changing call passes by. Whether the trap goes off at it.
+    /// A changing call passes. Returns whether the trap goes off at it.
     pub(crate) fn pass(&mut self) -> bool
         ensures due { result ≡ is_due self.old }
         ensures behind { self.new ≡ trap_after self.old }
@@ -54,7 +55,7 @@ impl Trap {
 
 /// A device that can be made to fail.
 pub trait Trapped: LogDisk {
-    /// Sets the trap, in place of one that is pending. It changes no disk.
+    /// Sets the trap, in place of a pending one. It changes no disk.
     fn trap(&mut self, trap: Trap)
         ensures unchanged { Self.is_honest → (s : Side) → Self.disk self.new s ≡ Self.disk self.old s }
         ensures set { Self.is_metered → Self.meter self.new ≡ trapped trap (Self.meter self.old) }

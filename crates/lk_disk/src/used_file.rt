@@ -6,17 +6,17 @@ ghost use Rattle.lk_disk.specs.Files.{left_of, HasLength, IsWhole, IsCaused, IsC
 use crate::append_file::{AppendFile, FileFault};
 use std::marker::Model;
 
-/// A file that refuses all calls after an append, a sync or a cut that failed: what it shows is then not known. Its length is
-/// asked of the file once, and counted from then on.
+/// A file that rejects all calls after a failed append, sync or cut, since its content is then unknown. It asks the
+/// file once for its length, and then keeps count.
 #[derive(Drop)]
 pub(crate) struct UsedFile<F: AppendFile + Drop> {
     file: F,
-    // the number of its bytes, where it is known
+    // the number of its bytes, if it is known
     length: Option<usize>,
     failed: bool,
 }
 
-// What a length that is known becomes by so many bytes more.
+// A known length after this many more bytes.
 fn lengthened(known: Option<usize>, more: usize) -> Option<usize>
     ensures { (d : Disk) (piece : List ℕ) → length piece ≡ more → HasLength known d → HasLength result (appended d piece) }
 {
@@ -35,7 +35,7 @@ impl<F: AppendFile + Drop> Model for UsedFile<F> {
 }
 
 impl<F: AppendFile + Drop> UsedFile<F> {
-    /// A file that nobody has used. Its length is not asked for yet.
+    /// A file that nobody has used. It does not ask for its length yet.
     pub fn of(file: F) -> UsedFile<F>
         requires { F.is_honest → IsWhole (F.file file) }
         ensures file { result.file ≡ F.file file }
@@ -57,7 +57,7 @@ impl<F: AppendFile + Drop> UsedFile<F> {
         &self.file
     }
 
-    /// The file itself, which is used no more.
+    /// The file itself, which is not used any more.
     pub fn into_file(self) -> F
         ensures file { F.file result ≡ self.file }
         ensures failures { F.failures result ≡ self.failures }
@@ -66,7 +66,7 @@ impl<F: AppendFile + Drop> UsedFile<F> {
         file
     }
 
-    /// How many bytes the file has. It refuses after a changing call that failed, and where the file itself does not tell.
+    /// How many bytes the file has. It fails after a failed changing call, and if the file itself does.
     pub fn length(&mut self) -> Result<usize, FileFault>
         ensures value { F.is_honest → IfOk result (λ n. n ≡ length (contents (left_of self.old.file))) }
         ensures unchanged { F.is_honest → self.new.file ≡ self.old.file }
@@ -84,8 +84,8 @@ impl<F: AppendFile + Drop> UsedFile<F> {
         Ok(length)
     }
 
-    /// Fills the buffer with the bytes from the offset on. It refuses after a changing call that failed, where the file has fewer
-    /// bytes, and where it does not give them.
+    /// Fills the buffer with the bytes from the offset on. It fails after a failed changing call, if the file has
+    /// fewer bytes, and if the file itself fails.
     pub fn read_into(&mut self, offset: usize, buffer: &mut [u8]) -> Result<(), FileFault>
         ensures value { F.is_honest → OnOk result (buffer.new ≡ slice_range (contents (left_of self.old.file)) offset (offset + length buffer.old)) }
         ensures within { F.is_honest → OnOk result (offset + length buffer.old ≤ length (contents (left_of self.old.file))) }
@@ -99,7 +99,7 @@ impl<F: AppendFile + Drop> UsedFile<F> {
         self.file.read_into(offset, buffer)
     }
 
-    // A changing call begins; until it ends the file counts as failed. The length, where it is known.
+    // Begins a changing call; until it ends the file counts as failed. Returns the length, if it is known.
     fn begin(&mut self) -> Result<Option<usize>, FileFault>
         ensures ok { OnOk result (IsFalse self.old.failed × (self.new ≡ record self.old { failed = true })) }
         ensures whole { F.is_honest → OnOk result (IsWhole self.new.file) }
@@ -114,7 +114,7 @@ impl<F: AppendFile + Drop> UsedFile<F> {
         Ok(self.length)
     }
 
-    // A changing call ends, and was made: the file goes on, with this length where it is known.
+    // Ends a successful changing call: the file goes on, with this length if it is known.
     fn end(&mut self, length: Option<usize>)
         requires { F.is_honest → IsWhole self.old.file × HasLength length (left_of self.old.file) }
         ensures { self.new ≡ record self.old { failed = false } }
@@ -123,7 +123,7 @@ impl<F: AppendFile + Drop> UsedFile<F> {
         self.failed = false;
     }
 
-    /// Adds the piece at the end. Where it refuses, the file may have a beginning of the piece more, and refuses all that comes.
+    /// Appends the piece. If it fails, the file may have a prefix of the piece, and rejects every later call.
     pub fn append(&mut self, piece: &[u8]) -> Result<(), FileFault>
         ensures ok { F.is_honest → OnOk result (left_of self.new.file ≡ appended (left_of self.old.file) piece.now) }
         ensures err { F.is_honest → OnErr result (AppendsSome piece.now (left_of self.old.file) (left_of self.new.file)) }
@@ -135,7 +135,7 @@ impl<F: AppendFile + Drop> UsedFile<F> {
         Ok(())
     }
 
-    /// Syncs what the file has. Where it refuses, the file refuses all that comes.
+    /// Syncs what the file has. If it fails, the file rejects every later call.
     pub fn sync(&mut self) -> Result<(), FileFault>
         ensures ok { F.is_honest → OnOk result (left_of self.new.file ≡ flushed (left_of self.old.file)) }
         ensures err { F.is_honest → OnErr result (left_of self.new.file ≡ left_of self.old.file) }
@@ -147,8 +147,8 @@ impl<F: AppendFile + Drop> UsedFile<F> {
         Ok(())
     }
 
-    /// Cuts the file to so many bytes and syncs it. Beyond the end it refuses and changes nothing; where the file itself refuses, its
-    /// length may be anything between, and it refuses all that comes.
+    /// Cuts the file to this many bytes and syncs it. Beyond the end it fails and changes nothing; if the file itself
+    /// fails, its length may be anything in between, and it rejects every later call.
     pub fn cut(&mut self, len: usize) -> Result<(), FileFault>
         ensures ok { F.is_honest → OnOk result (left_of self.new.file ≡ cut_to len (left_of self.old.file)) }
         ensures within { F.is_honest → OnOk result (len ≤ length (contents (left_of self.old.file))) }

@@ -1,4 +1,4 @@
--- The Base in front of entries.
+-- The Base at the start of entries.
 use Rattle.std.specs.Prelude.{ℕ, Bool, true, false, List, [], ◌∷◌}
 use Rattle.lk_entries.specs.declared.stored.Stored.{Stored}
 use Rattle.lk_entries.specs.declared.stored.Stored.TheVariants.{Base, Plain}
@@ -14,7 +14,7 @@ is_misplaced [] = false
 is_misplaced (Base b ∷ es) = has_base es
 is_misplaced (Plain e ∷ es) = true
 
--- of the Base in front, which has 1 at least; 0 where none stands there
+-- that of the Base at the start, at least 1; 0 if there is none
 abbrev pub generation : List Stored → ℕ
 generation [] = 0
 generation (Base b ∷ es) = b.generation

@@ -1,4 +1,4 @@
--- The one spelling of each entry of a file, and which entries fit.
+-- The canonical spelling of each entry of a file, and which entries are valid.
 use Rattle.std.specs.Prelude.{◌≡◌, ℕ, ◌+◌, ◌≤◌, Bool, true, nat_lt, ◌&&◌, List, [], ◌∷◌, ◌++◌, length, IsTrue}
 use Rattle.std.specs.List.{flat_map, AllByRecursion}
 use Rattle.lk_types.specs.Limits.{max_votes, max_base}
@@ -55,7 +55,7 @@ fields (Plain (Promise b)) = ballot b
 fields (Plain (Vote v)) = vote v
 fields (Plain (Decided position c)) = pair (position, c)
 
--- what stands after the length
+-- what follows the length
 abbrev pub body : Stored → List ℕ
 body e = kind e ∷ fields e
 
@@ -68,12 +68,12 @@ abbrev pub spelling_of_all : List Stored → List ℕ
 spelling_of_all [] = []
 spelling_of_all (e ∷ es) = spelling e ++ spelling_of_all es
 
--- what is given to a store, as entries of its file
+-- what a store is to add, as entries of its file
 abbrev pub plain : List Entry → List Stored
 plain [] = []
 plain (e ∷ es) = Plain e ∷ plain es
 
--- ---- what fits
+-- ---- validity
 
 abbrev pub IsPair : ℕ × Command → Type 0
 IsPair p = IsCount p.0 × IsCommand p.1
@@ -98,7 +98,7 @@ IsEntry (Promise b) = IsReal b
 IsEntry (Vote v) = IsVote v
 IsEntry (Decided position c) = IsCount position × IsCommand c
 
--- a whole Base has at most 49,152 bytes, with the four of its length
+-- a whole Base has at most 49,152 bytes, including the four of its length
 abbrev pub IsStored : Stored → Type 0
 IsStored (Base b) = IsBase b × (4 + length (body (Base b)) ≤ max_base)
 IsStored (Plain e) = IsEntry e

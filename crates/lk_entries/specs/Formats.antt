@@ -9,11 +9,11 @@ use Rattle.lk_types.specs.declared.entry.Entry.TheVariants.{Promise, Vote, Decid
 use Rattle.lk_entries.specs.declared.stored.Stored.{Stored}
 use Rattle.lk_entries.specs.declared.stored.Stored.TheVariants.{Base, Plain}
 
--- 1, or 2, which is what is written now
+-- 1, or 2, which is written today
 abbrev pub IsFormat : ℕ → Type 0
 IsFormat n = (1 ≤ n) × (n ≤ 2)
 
--- of the Base in front; 0 where none stands there
+-- Laws about the input of a server.
 abbrev pub format : List Stored → ℕ
 format [] = 0
 format (Base b ∷ es) = b.format
@@ -25,18 +25,19 @@ asks_raise (Join node port) = false
 asks_raise (Leave node) = false
 asks_raise Raise = true
 
--- the command asks that the machine be raised
+-- the command raises the machine
 abbrev pub is_raise : Command → Bool
 is_raise Noop = false
 is_raise (Request r) = asks_raise r.op
 
--- the entry tells of such a command: as one that is voted for, or as a decided one
+-- the entry has such a command: in a vote, or as a decided one
 abbrev pub tells_raise : Stored → Bool
 tells_raise (Base b) = list_any (λ v. is_raise v.command) b.standing.votes || list_any (λ p. is_raise p.1) b.standing.pairs
 tells_raise (Plain (Promise b)) = false
 tells_raise (Plain (Vote v)) = is_raise v.command
 tells_raise (Plain (Decided position c)) = is_raise c
 
--- The Base in front has format 1, and some entry tells of a command to raise the machine, which no file of format 1 holds.
+-- The Base at the start has format 1, and some entry has a command that raises the machine, which no file of format 1
+-- holds.
 abbrev pub is_mixed : List Stored → Bool
 is_mixed es = format es == 1 && list_any tells_raise es

@@ -1,4 +1,4 @@
--- Reading the entries of a file from the front of a list.
+-- Reading the entries of a file from the start of a list.
 use Rattle.std.specs.Prelude.{◌≡◌, ℕ, Bool, List, Option, Some, None, Result, Ok, Err, nat_le, ◌&&◌, ◌-◌}
 use Rattle.lk_types.specs.Limits.{max_votes, max_base}
 use Rattle.lk_types.specs.Rosters.{members_rise}
@@ -16,7 +16,7 @@ use Rattle.lk_entries.specs.declared.unread.Unread.TheVariants.{NoEntry, NoMemor
 use Rattle.lk_entries.specs.declared.stored.Stored.{Stored}
 use Rattle.lk_entries.specs.declared.stored.Stored.TheVariants.{Base, Plain}
 
--- nothing stands there, unless memory ran out
+-- there is none, unless memory ran out
 abbrev pub Fails : {Y : Type 0} → Unread → Option Y → Type 0
 Fails NoEntry read = read ≡ None
 Fails NoMemory read = Unit {0}
@@ -51,7 +51,7 @@ read_votes = counted read_few read_vote
 unfoldable pub read_pairs : List ℕ → Option (List (ℕ × Command) × List ℕ)
 read_pairs = counted read_few read_pair
 
--- all votes and pairs lie above the snapshot
+-- all votes and pairs are above the snapshot
 abbrev pub is_in_order : StandingValue → Bool
 is_in_order s = are_votes_above s.position s.votes && are_pairs_above s.position s.pairs
 
@@ -74,11 +74,11 @@ read_fields =
 abbrev pub read_body : List ℕ → Option (Stored × List ℕ)
 read_body = tagged read_fields
 
--- how many bytes stand after the length: with its own four at most 49,152
+-- how many bytes follow the length: including its own four at most 49,152
 unfoldable pub read_size : List ℕ → Option (ℕ × List ℕ)
 read_size = tested (λ n. nat_le n (max_base - 4)) read_four
 
--- all of the bytes that the length tells are one body
+-- all of the bytes that the length covers are one body
 abbrev pub within : {X : Type 0} → (List ℕ → Option (ℕ × List ℕ)) → (List ℕ → Option (X × List ℕ)) → List ℕ → Option (X × List ℕ)
 within c p bytes = sized c bytes >>= λ text. whole p text.0 >>= λ x. Some (x, text.1)
 

@@ -27,7 +27,7 @@ greatest_of b (c ∷ cs) = greatest_of (greater b c) cs
 abbrev pub ballot_of : VoteValue → BallotValue
 ballot_of v = v.ballot
 
--- all ballots of an entry: what is promised in a Base, by a Promise, and by votes
+-- all ballots of an entry: the promised one of a Base, that of a Promise, and those of votes
 abbrev pub ballots_in : Stored → List BallotValue
 ballots_in (Base b) = b.standing.promised ∷ map ballot_of b.standing.votes
 ballots_in (Plain (Promise b)) = b ∷ []
@@ -60,12 +60,12 @@ abbrev pub all_pairs : List Stored → List (ℕ × Command)
 all_pairs [] = []
 all_pairs (e ∷ es) = pairs_in e ++ all_pairs es
 
--- of the vote that stands so far and a later one the one of greater ballot, the earlier where they are equal
+-- of the vote so far and a later one the one of greater ballot, the earlier if they are equal
 abbrev pub better : Option VoteValue → VoteValue → Option VoteValue
 better None v = Some v
 better (Some w) v = if is_below w.ballot v.ballot then Some v else Some w
 
--- of the vote that stands so far and the later ones at a position the one of greatest ballot, the earliest among equals
+-- of the vote so far and the later ones at a position the one of greatest ballot, the earliest among equals
 abbrev pub best_from : ℕ → Option VoteValue → List VoteValue → Option VoteValue
 best_from i standing [] = standing
 best_from i standing (v ∷ vs) = best_from i (if v.position == i then better standing v else standing) vs
@@ -86,20 +86,20 @@ decided_at i (p ∷ ps) = if p.0 == i then Some p.1 else decided_at i ps
 
 -- ---- the standing
 
--- the Base in front and the standing have the same snapshot
+-- the Base at the start and the standing have the same snapshot
 abbrev pub HasSnapshot : List Stored → StandingValue → Type 0
 HasSnapshot [] s = ⊥
 HasSnapshot (Base b ∷ es) s = (s.position ≡ b.standing.position) × (s.snapshot ≡ b.standing.snapshot)
 HasSnapshot (Plain e ∷ es) s = ⊥
 
--- the Base in front names this node and this genesis
+-- the Base at the start names this node and this genesis
 abbrev pub HasHeader : List Stored → HeaderValue → Type 0
 HasHeader [] h = ⊥
 HasHeader (Base b ∷ es) h = b.header ≡ h
 HasHeader (Plain e ∷ es) h = ⊥
 
 -- The standing of some entries: the snapshot of the Base, the greatest of all ballots, and for each position above the
--- snapshot the vote of greatest ballot and the first decided command, in the order of their positions.
+-- snapshot the vote of greatest ballot and the first decided command, in order of position.
 pub record StandsFor (es : List Stored) (s : StandingValue) : Type 0 where
   pub snapshot : HasSnapshot es s
   pub promised : s.promised ≡ greatest_of zero_ballot (ballots es)
@@ -108,7 +108,7 @@ pub record StandsFor (es : List Stored) (s : StandingValue) : Type 0 where
   pub pairs : (i : ℕ) → s.position < i → decided_at i s.pairs ≡ decided_at i (all_pairs es)
   pub pairs_rise : IsTrue (are_pairs_above s.position s.pairs)
 
--- ---- lists that are kept in order
+-- ---- ordered lists
 
 -- their positions rise strictly
 abbrev pub ArePairsRising : List (ℕ × Command) → Type 0
@@ -118,7 +118,7 @@ ArePairsRising ps = (low : ℕ) × IsTrue (are_pairs_above low ps)
 abbrev pub Rises : StandingValue → Type 0
 Rises s = IsTrue (are_votes_above s.position s.votes) × IsTrue (are_pairs_above s.position s.pairs)
 
--- so many elements of smaller keys are in front
+-- this many elements of smaller keys come first
 abbrev pub below : {A : Type 0} → (A → ℕ) → ℕ → List A → ℕ
 below key i [] = 0
 below key i (x ∷ xs) = if nat_lt (key x) i then suc (below key i xs) else 0

@@ -5,14 +5,15 @@ use Rattle.lk_types.specs.declared.command.Command.{Command}
 use Rattle.lk_types.specs.declared.member.Member.{Member}
 use Rattle.lk_types.specs.declared.vote.Vote.{Vote}
 
--- whose store it is: a node, and how its cluster began
+-- whose store it is: a node, and the genesis of its cluster
 pub record HeaderValue : Type 0 where
   pub node : ℕ
   pub cluster : ℕ
   pub alpha : ℕ
   pub members : List Member
 
--- what a node remembers: the ballot that it promised, a snapshot and its position, and above it votes and decided commands
+-- what a node remembers: the ballot that it promised, a snapshot and its position, and above it votes and decided
+-- commands
 pub record StandingValue : Type 0 where
   pub promised : BallotValue
   pub position : ℕ
@@ -20,7 +21,7 @@ pub record StandingValue : Type 0 where
   pub votes : List Vote
   pub pairs : List (ℕ × Command)
 
--- what begins a file
+-- the first entry of a file
 pub record BaseValue : Type 0 where
   pub generation : ℕ
   pub format : ℕ

@@ -6,7 +6,7 @@ ghost use Rattle.lk_entries.specs.Formats.{format, is_raise, tells_raise, is_mix
 use crate::stored::Stored;
 use lk_types::{Command, Entry, Op, Position, Vote};
 
-/// Of the Base in front, 0 where none stands there.
+/// That of the Base at the start, 0 if there is none.
 pub fn format_of(entries: &[Stored]) -> u8
     ensures { result ≡ format entries.now }
 {
@@ -16,7 +16,7 @@ pub fn format_of(entries: &[Stored]) -> u8
     }
 }
 
-// Whether the command asks that the machine be raised.
+// Whether the command raises the machine.
 fn is_raise(command: &Command) -> bool
     ensures { result ≡ is_raise command.now }
 {
@@ -41,7 +41,7 @@ fn some_pair_raises(pairs: &[(Position, Command)]) -> bool
     pairs.iter().any(|pair| is_raise(&pair.1))
 }
 
-// Whether the entry tells of a command that asks so.
+// Whether the entry has such a command.
 fn tells_raise(entry: &Stored) -> bool
     ensures { result ≡ tells_raise entry.now }
 {
@@ -61,7 +61,7 @@ fn some_tells_raise(entries: &[Stored]) -> bool
     entries.iter().any(|entry| tells_raise(entry))
 }
 
-/// Whether the Base in front has format 1, and some entry tells of a command that asks so.
+/// Whether the Base at the start has format 1, and some entry has such a command.
 pub fn is_mixed(entries: &[Stored]) -> bool
     ensures { result ≡ is_mixed entries.now }
 {

@@ -6,7 +6,7 @@ ghost use Rattle.lk_entries.specs.Headers.{IsHeader};
 use lk_types::{Genesis, Member, NodeNo};
 use std::marker::Model;
 
-/// Whose store it is: a node, and how its cluster began.
+/// Whose store it is: a node, and the genesis of its cluster.
 #[derive(Drop)]
 pub struct Header {
     node: NodeNo,
@@ -26,7 +26,7 @@ impl Model for Header {
     } };
 }
 
-// Each member is in its range. It does nothing.
+// Each member is in its range. The function does nothing.
 fn members_facts(members: &[Member])
     ensures { AllByRecursion IsMember members.now }
 {
@@ -55,7 +55,7 @@ impl Header {
         self.node
     }
 
-    /// How its cluster began.
+    /// The genesis of its cluster.
     pub fn genesis(&self) -> &Genesis
         ensures cluster { result.now.cluster ≡ self.now.cluster }
         ensures alpha { result.now.alpha ≡ self.now.alpha }
@@ -64,7 +64,7 @@ impl Header {
         &self.genesis
     }
 
-    /// Each part is in its range. It does nothing.
+    /// Each part is in its range. The function does nothing.
     pub fn facts(&self)
         ensures { IsHeader self.now }
     {
@@ -73,7 +73,7 @@ impl Header {
         members_facts(self.genesis.members.as_slice());
     }
 
-    /// The same header. It takes no memory.
+    /// The same header. Takes no memory.
     pub fn copy(&self) -> Header
         ensures { result ≡ self.now }
     {

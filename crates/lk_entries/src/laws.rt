@@ -4,7 +4,7 @@ ghost use Rattle.lk_entries.specs.Entries.{IsStored, spelling, SpellsEntry};
 ghost use Rattle.lk_entries.specs.Files.{AreWholeEntries};
 ghost use Rattle.lk_entries.specs.declared.stored.Stored.{Stored};
 
-/// All bytes have whole entries, and no others.
+/// Any bytes have exactly one list of whole entries.
 pub fn whole_entries(bytes: &[u8])
     ensures some { (es : List Stored) × AreWholeEntries bytes.now es }
     ensures one { (es fs : List Stored) → AreWholeEntries bytes.now es → AreWholeEntries bytes.now fs → es ≡ fs }
@@ -12,7 +12,7 @@ pub fn whole_entries(bytes: &[u8])
     let _ = bytes;
 }
 
-/// Bytes spell one entry at most, no spelling begins another one, and none is empty.
+/// Bytes spell at most one entry, no spelling is a prefix of another, and none is empty.
 pub fn one_spelling()
     ensures one { (e f : Stored) (bytes : List ℕ) → SpellsEntry e bytes → SpellsEntry f bytes → e ≡ f }
     ensures no_front { (e f : Stored) (x y : List ℕ) → IsStored e → IsStored f → spelling e ++ x ≡ spelling f ++ y → (e ≡ f) × (x ≡ y) }

@@ -1,5 +1,5 @@
-//! What the bytes of a store's file mean: entries after a Base, each written in its one spelling and read back, what they
-//! stand for as values, and which format a file has. No disk is known here, nor which of two files is live.
+//! The meaning of the bytes of a store's file: entries after a Base, each with one spelling that reads back, what they
+//! stand for as values, and which format a file has. This crate knows no disk, nor which of two files is live.
 #![tactic(auto)]
 
 mod base;

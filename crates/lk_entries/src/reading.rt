@@ -1,4 +1,4 @@
-// Reading an entry of a file from the front of some bytes.
+// Reading an entry of a file from the start of some bytes.
 ghost use Rattle.std.specs.Prelude.{◌≡◌, ◌≤◌, ◌++◌, IfSome, IfOk, Err};
 ghost use Rattle.lk_types.specs.Limits.{max_members};
 ghost use Rattle.lk_types.specs.Ranges.{IsAlpha};
@@ -219,7 +219,7 @@ fn are_pairs_above(low: u64, pairs: &[(Position, Command)]) -> bool
     true
 }
 
-// Whether all votes and pairs lie above the snapshot and rise.
+// Whether all votes and pairs are above the snapshot and rise.
 fn is_in_order(standing: &Standing) -> bool
     ensures { result ≡ is_in_order standing.now }
 {
@@ -276,7 +276,7 @@ fn read_base(alloc: Global, bytes: &[u8]) -> Result<(Base, &[u8]), Unread>
     Ok((base, rest))
 }
 
-// What stands after the byte that tells an entry's kind.
+// What follows the tag of an entry's kind.
 #[tactic(auto, unfolding(crate::specs::Parsing::read_fields))]
 fn read_fields(alloc: Global, kind: u8, bytes: &[u8]) -> Result<(Stored, &[u8]), Unread>
     ensures { Gives (λ x. (x.0, x.1.now)) result (read_fields kind bytes.now) }
@@ -308,7 +308,7 @@ fn read_fields(alloc: Global, kind: u8, bytes: &[u8]) -> Result<(Stored, &[u8]),
     }
 }
 
-// The entry of which all of the bytes are the body.
+// The entry of which these bytes are the whole body.
 fn body_of(alloc: Global, bytes: &[u8]) -> Result<Stored, Unread>
     ensures { Gives (λ e. e) result (whole read_body bytes.now) }
 {
@@ -337,7 +337,7 @@ fn read_entry(alloc: Global, bytes: &[u8]) -> Result<(Stored, &[u8]), Unread>
     Ok((body_of(alloc, text)?, rest))
 }
 
-/// The entry that begins the bytes, and the bytes after it.
+/// The entry at the start of the bytes, and the bytes after it.
 #[tactic(auto, using(crate::proofs::EntryLaws::is_found, crate::proofs::EntryLaws::is_none))]
 pub fn first_entry(alloc: Global, bytes: &[u8]) -> Result<(Stored, &[u8]), Unread>
     ensures found { IfOk result (λ x. IsStored x.0 × (bytes.now ≡ spelling x.0 ++ x.1.now)) }

@@ -10,7 +10,7 @@ use std::marker::Model;
 /// What a node remembers.
 #[derive(Drop)]
 pub struct Standing {
-    /// No ballot below it gets a promise or a vote any more. `Ballot::ZERO` where nothing was promised.
+    /// No ballot below it gets a promise or a vote any more. `Ballot::ZERO` if nothing was promised.
     pub promised: Ballot,
     /// How many positions are executed in the snapshot.
     pub position: Executed,
@@ -36,7 +36,7 @@ impl Model for Standing {
     } };
 }
 
-// Each vote is in its range. It does nothing.
+// Each vote is in its range. The function does nothing.
 fn votes_facts(votes: &[Vote])
     ensures { AllByRecursion IsVote votes.now }
 {
@@ -45,7 +45,7 @@ fn votes_facts(votes: &[Vote])
     }
 }
 
-// Each pair is in its range. It does nothing.
+// Each pair is in its range. The function does nothing.
 fn pairs_facts(pairs: &[(Position, Command)])
     ensures { AllByRecursion IsPair pairs.now }
 {
@@ -56,7 +56,7 @@ fn pairs_facts(pairs: &[(Position, Command)])
 }
 
 impl Standing {
-    /// Each part is in its range. It does nothing.
+    /// Each part is in its range. The function does nothing.
     pub fn facts(&self)
         ensures promised { IsMark self.now.promised }
         ensures position { IsTotal self.now.position }

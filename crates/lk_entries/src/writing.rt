@@ -1,4 +1,4 @@
-// Writing an entry of a file: its one spelling.
+// Writing an entry of a file: its canonical spelling.
 ghost use Rattle.std.specs.Prelude.{◌≡◌, ◌≤◌, ◌+◌, ◌-◌, ◌++◌, ◌∷◌, length, OnOk, IfOk};
 ghost use Rattle.std.specs.List.{AllByRecursion};
 ghost use Rattle.lk_types.specs.Limits.{max_members, max_votes, max_base};
@@ -17,7 +17,7 @@ use lk_fields::{
 use lk_types::{Command, Entry, Member, Position, Vote};
 use std::alloc::{AllocError, Global};
 
-/// Appends the count of the members, and these.
+/// Appends the count of the members, and the members.
 pub fn put_members(out: &mut BytesMut, list: &[Member]) -> Result<(), AllocError>
     requires { length list.now ≤ max_members }
     ensures { OnOk result (out.new.items ≡ out.old.items ++ members list.now) }
@@ -174,7 +174,7 @@ pub fn spelled_base(alloc: Global, value: &Base) -> Result<BytesMut, AllocError>
     )
 }
 
-// The range of each part of an entry. It does nothing.
+// The range of each part of an entry. The function does nothing.
 fn entry_facts(entry: &Entry)
     ensures { IsEntry entry.now }
 {
@@ -190,7 +190,7 @@ fn entry_facts(entry: &Entry)
     }
 }
 
-/// Each entry fits into a file. It does nothing.
+/// Each entry fits into a file. The function does nothing.
 pub fn entries_facts(entries: &[Entry])
     ensures { AllByRecursion IsStored (plain entries.now) }
 {

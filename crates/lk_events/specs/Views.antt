@@ -6,7 +6,8 @@ use Rattle.lk_events.specs.declared.event.Why.{Why}
 use Rattle.lk_events.specs.declared.event.Why.TheVariants.{Promised, NoMember, Told}
 use Rattle.lk_events.specs.declared.view.View.{View}
 
--- why a node leads no more in this ballot: it is no member, or else it has promised a greater ballot, or else it was told of one
+-- why a node leads no more in this ballot: it is no member, or else it has promised a greater ballot, or else it was
+-- told of one
 abbrev pub why_of : View → BallotValue → Why
 why_of view ballot =
     if view.is_member then (if is_below ballot view.promised then Promised view.promised.node else Told) else NoMember

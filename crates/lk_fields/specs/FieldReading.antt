@@ -57,7 +57,7 @@ read_member = made (λ m. record { node = m.0; port = m.1 }) (both read_node rea
 unfoldable pub read_payload : List ℕ → Option (List ℕ × List ℕ)
 read_payload = tested (λ bytes. is_from_1_to max_payload (length bytes)) (sized read_byte)
 
--- the version that a machine is raised to: 2
+-- the version to which a machine is raised: 2
 unfoldable pub read_version : List ℕ → Option (Unit {0} × List ℕ)
 read_version = tagged (kind 2 (bare tt) no_kind)
 
@@ -87,7 +87,7 @@ read_vote = made (λ v. record { position = v.0; ballot = v.1.0; command = v.1.1
 unfoldable pub read_pair : List ℕ → Option ((ℕ × Command) × List ℕ)
 read_pair = both read_count read_command
 
--- the answers that hold nothing
+-- the answers without fields
 unfoldable pub bare_answer : ℕ → List ℕ → Option (Answer × List ℕ)
 bare_answer =
     kind 3 (bare Released)
@@ -112,11 +112,11 @@ bare_answer =
 abbrev pub read_held : List ℕ → Option ((ℕ × ℕ) × List ℕ)
 read_held = both read_client read_count
 
--- how many share a name
+-- how many clients share a name
 unfoldable pub read_sharer_count : List ℕ → Option (ℕ × List ℕ)
 read_sharer_count = tested (is_from_1_to max_sharers) read_byte
 
--- the answer that tells how many share a name, and its fence
+-- the answer with the count of sharers and the fence
 abbrev pub read_sharing : List ℕ → Option ((ℕ × ℕ) × List ℕ)
 read_sharing = both read_sharer_count read_count
 

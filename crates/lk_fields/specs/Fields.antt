@@ -1,4 +1,4 @@
--- The one spelling of each field. Numbers are big-endian.
+-- The canonical bytes of each field. Numbers are big-endian.
 use Rattle.std.specs.Prelude.{ℕ, List, [], ◌∷◌, ◌++◌, length}
 use Rattle.std.specs.Int.{w16, w32, w64, to_be_bytes}
 use Rattle.lk_types.specs.BallotValue.{BallotValue}
@@ -24,11 +24,11 @@ two n = to_be_bytes w16 n
 unfoldable pub four : ℕ → List ℕ
 four n = to_be_bytes w32 n
 
--- a number in eight bytes: a round, a position, a request's number, a fence, how many positions are executed
+-- a number in eight bytes: a round, a position, a request's number, a fence, a count of positions
 unfoldable pub eight : ℕ → List ℕ
 eight n = to_be_bytes w64 n
 
--- a ballot, and a mark too: the ballot below all is twelve zero bytes
+-- a ballot, possibly the one below all, which is twelve zero bytes
 abbrev pub ballot : BallotValue → List ℕ
 ballot b = eight b.round ++ four b.node
 
@@ -45,7 +45,7 @@ op_tag (Join node port) = 1
 op_tag (Leave node) = 2
 op_tag Raise = 3
 
--- after a Raise stands the version that the machine is raised to, which is 2
+-- a Raise is followed by the version to which the machine is raised, which is 2
 abbrev pub op_fields : Op → List ℕ
 op_fields (Table bytes) = payload bytes
 op_fields (Join node port) = member (record { node = node; port = port })

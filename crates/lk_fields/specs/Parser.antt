@@ -1,4 +1,4 @@
--- Reading from the front of a list: a value and the bytes after it. Readers of bigger things are built of smaller ones.
+-- Reading from the start of a list: a value and the bytes after it. Readers of larger things combine smaller ones.
 use Rattle.std.specs.Prelude.{◌≡◌, ℕ, zero, suc, Bool, List, [], ◌∷◌, length, take, drop, Option, Some, None, nat_lt, ◌==◌, if◌then◌else◌}
 use Rattle.std.specs.Int.{Width, byte_len, from_be_bytes}
 
@@ -16,11 +16,11 @@ abbrev pub read_byte : List ℕ → Option (ℕ × List ℕ)
 read_byte [] = None
 read_byte (b ∷ rest) = Some (b, rest)
 
--- a number of so many bytes
+-- a number of this many bytes
 abbrev pub read_number : Width → List ℕ → Option (ℕ × List ℕ)
 read_number w bytes = if nat_lt (length bytes) (byte_len w) then None else Some (from_be_bytes w (take (byte_len w) bytes), drop (byte_len w) bytes)
 
--- a length, and so many bytes
+-- a length, and this many bytes
 abbrev pub sized : (List ℕ → Option (ℕ × List ℕ)) → List ℕ → Option (List ℕ × List ℕ)
 sized c bytes = c bytes >>= λ n. if nat_lt (length n.1) n.0 then None else Some (take n.0 n.1, drop n.0 n.1)
 
@@ -38,24 +38,24 @@ module _ {X : Type 0} where
   abbrev pub tested : (X → Bool) → (List ℕ → Option (X × List ℕ)) → List ℕ → Option (X × List ℕ)
   tested t p bytes = p bytes >>= λ a. if t a.0 then Some a else None
 
-  -- so many, one after the other
+  -- this many, one after the other
   abbrev pub many : (List ℕ → Option (X × List ℕ)) → ℕ → List ℕ → Option (List X × List ℕ)
   many p zero bytes = Some ([], bytes)
   many p (suc n) bytes = p bytes >>= λ a. many p n a.1 >>= λ b. Some (a.0 ∷ b.0, b.1)
 
-  -- a count, and so many
+  -- a count, and this many
   abbrev pub counted : (List ℕ → Option (ℕ × List ℕ)) → (List ℕ → Option (X × List ℕ)) → List ℕ → Option (List X × List ℕ)
   counted c p bytes = c bytes >>= λ n. many p n.0 n.1
 
-  -- a byte that says what stands after it
+  -- a tag that says what follows it
   abbrev pub tagged : (ℕ → List ℕ → Option (X × List ℕ)) → List ℕ → Option (X × List ℕ)
   tagged q bytes = read_byte bytes >>= λ t. q t.0 t.1
 
-  -- after the tag k this, after another one what the others say
+  -- this after the tag k, and what the others say after another one
   abbrev pub kind : ℕ → (List ℕ → Option (X × List ℕ)) → (ℕ → List ℕ → Option (X × List ℕ)) → ℕ → List ℕ → Option (X × List ℕ)
   kind k p others tag bytes = if tag == k then p bytes else others tag bytes
 
-  -- nothing stands after the tag, which says it all
+  -- nothing follows the tag
   abbrev pub bare : X → List ℕ → Option (X × List ℕ)
   bare x bytes = Some (x, bytes)
 
@@ -67,6 +67,6 @@ module _ {X : Type 0} where
   abbrev pub whole : (List ℕ → Option (X × List ℕ)) → List ℕ → Option X
   whole p bytes = p bytes >>= λ a. if nat_lt 0 (length a.1) then None else Some a.0
 
--- what stands after a value that is read
+-- what follows a value that was read
 abbrev pub past : {X : Type 0} → (List ℕ → Option (X × List ℕ)) → List ℕ → Option (List ℕ)
 past p bytes = p bytes >>= λ a. Some a.1

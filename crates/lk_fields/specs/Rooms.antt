@@ -1,8 +1,8 @@
--- How many bytes the fields take at most, and what room is for.
+-- The most bytes that each field takes, and what its room is for.
 use Rattle.std.specs.Prelude.{ℕ, ◌+◌, ◌<◌, ◌≤◌, Result, MatchResult}
 use Rattle.lk_types.specs.Limits.{max_payload}
 
--- at most so much room is used, and memory is refused only where there was less of it
+-- it uses at most this much room, and runs out of memory only if there was less of it
 abbrev pub UsesRoom : {T E : Type 0} → Result T E → ℕ → ℕ → ℕ → Type 0
 UsesRoom result before after most = MatchResult result (λ _. before ≤ after + most) (λ _. before < most)
 
@@ -18,7 +18,7 @@ member_room = 4 + 2
 abbrev pub payload_room : ℕ
 payload_room = 1 + max_payload
 
--- a byte that says which op it is, and the longest of them, a payload
+-- the tag of an op, and the longest op, a payload
 abbrev pub op_room : ℕ
 op_room = 1 + payload_room
 
@@ -26,7 +26,7 @@ op_room = 1 + payload_room
 abbrev pub request_room : ℕ
 request_room = 2 + 8 + op_room
 
--- a byte that says whether it is a request, and the request
+-- the tag of a command, and the request
 abbrev pub command_room : ℕ
 command_room = 1 + request_room
 
@@ -38,6 +38,6 @@ vote_room = 8 + mark_room + command_room
 abbrev pub held_room : ℕ
 held_room = 2 + 8
 
--- a byte that says which answer it is, and the longest of them
+-- the tag of an answer, and the longest answer
 abbrev pub answer_room : ℕ
 answer_room = 1 + held_room

@@ -1,5 +1,5 @@
-//! The fields of which datagrams, store entries and packed states are built, read from the front of some bytes and
-//! written after some.
+//! The fields of datagrams, store entries and packed states: read from the start of some bytes, and appended to some
+//! bytes.
 #![tactic(auto)]
 
 mod put;

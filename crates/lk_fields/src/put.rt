@@ -1,5 +1,5 @@
-//! Writing a field after some bytes: its one spelling. Where memory is refused nothing is written. A writer asks for
-//! its room before it begins, and where that room was there, memory is not refused.
+//! Appending a field: its canonical bytes. Out of memory it appends nothing. A writer reserves its room before it
+//! begins, and with that room it does not run out of memory.
 
 ghost use Rattle.std.specs.Prelude.{◌≡◌, ◌++◌, OnOk, OnErr};
 ghost use Rattle.lk_fields.specs.Fields.{one, two, four, eight, ballot, member, payload, op, request, command, vote, answer, answer_fields, answer_tag};
@@ -13,7 +13,7 @@ use lk_types::{
 };
 use std::alloc::AllocError;
 
-/// Writes a byte.
+/// Appends a byte.
 pub fn put_u8(out: &mut BytesMut, value: u8) -> Result<(), AllocError>
     ensures ok { OnOk result (out.new.items ≡ out.old.items ++ one value) }
     ensures err { OnErr result (out.new.items ≡ out.old.items) }
@@ -22,7 +22,7 @@ pub fn put_u8(out: &mut BytesMut, value: u8) -> Result<(), AllocError>
     out.put_u8(value)
 }
 
-/// Writes a number in two bytes.
+/// Appends a number in two bytes.
 #[tactic(auto, unfolding(crate::specs::Fields::two))]
 pub fn put_u16(out: &mut BytesMut, value: u16) -> Result<(), AllocError>
     ensures ok { OnOk result (out.new.items ≡ out.old.items ++ two value) }
@@ -32,7 +32,7 @@ pub fn put_u16(out: &mut BytesMut, value: u16) -> Result<(), AllocError>
     out.put_u16(value)
 }
 
-/// Writes a number in four bytes.
+/// Appends a number in four bytes.
 #[tactic(auto, unfolding(crate::specs::Fields::four))]
 pub fn put_u32(out: &mut BytesMut, value: u32) -> Result<(), AllocError>
     ensures ok { OnOk result (out.new.items ≡ out.old.items ++ four value) }
@@ -42,7 +42,7 @@ pub fn put_u32(out: &mut BytesMut, value: u32) -> Result<(), AllocError>
     out.put_u32(value)
 }
 
-/// Writes a number in eight bytes.
+/// Appends a number in eight bytes.
 #[tactic(auto, unfolding(crate::specs::Fields::eight))]
 pub fn put_u64(out: &mut BytesMut, value: u64) -> Result<(), AllocError>
     ensures ok { OnOk result (out.new.items ≡ out.old.items ++ eight value) }
@@ -52,7 +52,7 @@ pub fn put_u64(out: &mut BytesMut, value: u64) -> Result<(), AllocError>
     out.put_u64(value)
 }
 
-/// Writes a node in four bytes.
+/// Appends a node in four bytes.
 pub fn put_node(out: &mut BytesMut, node: NodeNo) -> Result<(), AllocError>
     ensures ok { OnOk result (out.new.items ≡ out.old.items ++ four node) }
     ensures err { OnErr result (out.new.items ≡ out.old.items) }
@@ -61,7 +61,7 @@ pub fn put_node(out: &mut BytesMut, node: NodeNo) -> Result<(), AllocError>
     put_u32(out, node.get())
 }
 
-/// Writes a client in two bytes.
+/// Appends a client in two bytes.
 pub fn put_client(out: &mut BytesMut, client: ClientNo) -> Result<(), AllocError>
     ensures ok { OnOk result (out.new.items ≡ out.old.items ++ two client) }
     ensures err { OnErr result (out.new.items ≡ out.old.items) }
@@ -70,7 +70,7 @@ pub fn put_client(out: &mut BytesMut, client: ClientNo) -> Result<(), AllocError
     put_u16(out, client.get())
 }
 
-/// Writes a position in eight bytes.
+/// Appends a position in eight bytes.
 pub fn put_position(out: &mut BytesMut, position: Position) -> Result<(), AllocError>
     ensures ok { OnOk result (out.new.items ≡ out.old.items ++ eight position) }
     ensures err { OnErr result (out.new.items ≡ out.old.items) }
@@ -79,7 +79,7 @@ pub fn put_position(out: &mut BytesMut, position: Position) -> Result<(), AllocE
     put_u64(out, position.get())
 }
 
-/// Writes a request's number in eight bytes.
+/// Appends a request's number in eight bytes.
 pub fn put_number(out: &mut BytesMut, number: RequestNumber) -> Result<(), AllocError>
     ensures ok { OnOk result (out.new.items ≡ out.old.items ++ eight number) }
     ensures err { OnErr result (out.new.items ≡ out.old.items) }
@@ -88,7 +88,7 @@ pub fn put_number(out: &mut BytesMut, number: RequestNumber) -> Result<(), Alloc
     put_u64(out, number.get())
 }
 
-/// Writes a fence in eight bytes.
+/// Appends a fence in eight bytes.
 pub fn put_fence(out: &mut BytesMut, fence: Fence) -> Result<(), AllocError>
     ensures ok { OnOk result (out.new.items ≡ out.old.items ++ eight fence) }
     ensures err { OnErr result (out.new.items ≡ out.old.items) }
@@ -97,7 +97,7 @@ pub fn put_fence(out: &mut BytesMut, fence: Fence) -> Result<(), AllocError>
     put_u64(out, fence.get())
 }
 
-/// Writes how many positions are executed, in eight bytes.
+/// Appends a count of positions in eight bytes.
 pub fn put_executed(out: &mut BytesMut, executed: Executed) -> Result<(), AllocError>
     ensures ok { OnOk result (out.new.items ≡ out.old.items ++ eight executed) }
     ensures err { OnErr result (out.new.items ≡ out.old.items) }
@@ -106,7 +106,7 @@ pub fn put_executed(out: &mut BytesMut, executed: Executed) -> Result<(), AllocE
     put_u64(out, executed.get())
 }
 
-/// Writes a ballot: its round and its node, twelve zero bytes for `Ballot::ZERO`.
+/// Appends a ballot: its round and its node, twelve zero bytes for `Ballot::ZERO`.
 pub fn put_mark(out: &mut BytesMut, value: Ballot) -> Result<(), AllocError>
     ensures ok { OnOk result (out.new.items ≡ out.old.items ++ ballot value) }
     ensures err { OnErr result (out.new.items ≡ out.old.items) }
@@ -117,7 +117,7 @@ pub fn put_mark(out: &mut BytesMut, value: Ballot) -> Result<(), AllocError>
     put_u32(out, value.node())
 }
 
-/// Writes a ballot: its round and its node.
+/// Appends a ballot: its round and its node.
 pub fn put_ballot(out: &mut BytesMut, value: RealBallot) -> Result<(), AllocError>
     ensures ok { OnOk result (out.new.items ≡ out.old.items ++ ballot value) }
     ensures err { OnErr result (out.new.items ≡ out.old.items) }
@@ -126,7 +126,7 @@ pub fn put_ballot(out: &mut BytesMut, value: RealBallot) -> Result<(), AllocErro
     put_mark(out, value.get())
 }
 
-/// Writes a node and its port.
+/// Appends a node and its port.
 pub fn put_member(out: &mut BytesMut, value: Member) -> Result<(), AllocError>
     ensures ok { OnOk result (out.new.items ≡ out.old.items ++ member value) }
     ensures err { OnErr result (out.new.items ≡ out.old.items) }
@@ -137,7 +137,7 @@ pub fn put_member(out: &mut BytesMut, value: Member) -> Result<(), AllocError>
     put_u16(out, value.port.get())
 }
 
-/// Writes the length of a payload in one byte, and its bytes.
+/// Appends the length of a payload in one byte, and its bytes.
 fn put_payload(out: &mut BytesMut, value: &Payload) -> Result<(), AllocError>
     ensures ok { OnOk result (out.new.items ≡ out.old.items ++ payload value.now) }
     ensures room { UsesRoom result out.old.spare out.new.spare payload_room }
@@ -147,7 +147,7 @@ fn put_payload(out: &mut BytesMut, value: &Payload) -> Result<(), AllocError>
     out.put_slice(bytes)
 }
 
-/// Writes an op after a byte that says which it is.
+/// Appends an op after its tag.
 fn put_op(out: &mut BytesMut, value: &Op) -> Result<(), AllocError>
     ensures ok { OnOk result (out.new.items ≡ out.old.items ++ op value.now) }
     ensures room { UsesRoom result out.old.spare out.new.spare op_room }
@@ -174,7 +174,7 @@ fn put_op(out: &mut BytesMut, value: &Op) -> Result<(), AllocError>
     Ok(())
 }
 
-/// Writes a client, a number and an op.
+/// Appends a client, a number and an op.
 pub fn put_request(out: &mut BytesMut, value: &Request) -> Result<(), AllocError>
     ensures ok { OnOk result (out.new.items ≡ out.old.items ++ request value.now) }
     ensures room { UsesRoom result out.old.spare out.new.spare request_room }
@@ -184,7 +184,7 @@ pub fn put_request(out: &mut BytesMut, value: &Request) -> Result<(), AllocError
     put_op(out, &value.op)
 }
 
-/// Writes a command after a byte that says whether it is a request.
+/// Appends a command after its tag: whether it is a request.
 pub fn put_command(out: &mut BytesMut, value: &Command) -> Result<(), AllocError>
     ensures ok { OnOk result (out.new.items ≡ out.old.items ++ command value.now) }
     ensures err { OnErr result (out.new.items ≡ out.old.items) }
@@ -201,7 +201,7 @@ pub fn put_command(out: &mut BytesMut, value: &Command) -> Result<(), AllocError
     Ok(())
 }
 
-/// Writes a position, a ballot and a command.
+/// Appends a position, a ballot and a command.
 pub fn put_vote(out: &mut BytesMut, value: &Vote) -> Result<(), AllocError>
     ensures ok { OnOk result (out.new.items ≡ out.old.items ++ vote value.now) }
     ensures err { OnErr result (out.new.items ≡ out.old.items) }
@@ -213,7 +213,7 @@ pub fn put_vote(out: &mut BytesMut, value: &Vote) -> Result<(), AllocError>
     put_command(out, &value.command)
 }
 
-/// The byte that says which answer it is.
+/// The tag of an answer.
 fn tag_of(value: &Answer) -> u8
     ensures { result ≡ answer_tag value.now }
 {
@@ -243,7 +243,7 @@ fn tag_of(value: &Answer) -> u8
     }
 }
 
-/// Writes what an answer holds.
+/// Appends the fields of an answer.
 fn put_answer_fields(out: &mut BytesMut, value: &Answer) -> Result<(), AllocError>
     ensures ok { OnOk result (out.new.items ≡ out.old.items ++ answer_fields value.now) }
     ensures room { UsesRoom result out.old.spare out.new.spare held_room }
@@ -264,7 +264,7 @@ fn put_answer_fields(out: &mut BytesMut, value: &Answer) -> Result<(), AllocErro
     Ok(())
 }
 
-/// Writes an answer after a byte that says which it is.
+/// Appends an answer after its tag.
 pub fn put_answer(out: &mut BytesMut, value: Answer) -> Result<(), AllocError>
     ensures ok { OnOk result (out.new.items ≡ out.old.items ++ answer value) }
     ensures err { OnErr result (out.new.items ≡ out.old.items) }

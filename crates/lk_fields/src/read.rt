@@ -1,5 +1,5 @@
-//! Reading a field from the front of some bytes: a value that fits and is spelled there, with the bytes after it, or
-//! `None` where none is.
+//! Reading a field from the start of some bytes: a valid value that is spelled there, with the bytes after it, or
+//! `None` if there is none.
 
 ghost use Rattle.std.specs.Prelude.{◌≡◌, ◌<◌, ◌^◌};
 ghost use Rattle.lk_types.specs.Ranges.{IsNode, IsClient, IsPort, IsCount, IsTotal};
@@ -112,7 +112,7 @@ pub fn read_fence(bytes: &[u8]) -> Option<(Fence, &[u8])>
     Some((Fence::of(number)?, rest))
 }
 
-/// How many positions are executed, in eight bytes.
+/// A count of positions, in eight bytes.
 #[tactic(auto, using(crate::proofs::FrontLaws::total_front), unfolding(crate::specs::FieldReading::read_total))]
 pub fn read_executed(bytes: &[u8]) -> Option<(Executed, &[u8])>
     ensures front { ReadsFront (λ x. (x.0, x.1.now)) eight IsTotal bytes.now result }
@@ -136,7 +136,7 @@ pub fn read_ballot(bytes: &[u8]) -> Option<(RealBallot, &[u8])>
     Some((RealBallot::new(round, node), rest))
 }
 
-/// A ballot, `Ballot::ZERO` too.
+/// A ballot, including `Ballot::ZERO`.
 #[tactic(auto, using(crate::proofs::FrontLaws::mark_front), unfolding(crate::specs::FieldReading::read_mark))]
 pub fn read_mark(bytes: &[u8]) -> Option<(Ballot, &[u8])>
     ensures front { ReadsFront (λ x. (x.0, x.1.now)) ballot IsMark bytes.now result }
@@ -164,7 +164,7 @@ pub fn read_member(bytes: &[u8]) -> Option<(Member, &[u8])>
     Some((Member { node, port }, rest))
 }
 
-/// What a request asks for, after a byte that says which op it is.
+/// An op, after its tag.
 #[tactic(auto, using(crate::proofs::FrontLaws::op_front), unfolding(crate::specs::FieldReading::op_of, crate::specs::FieldReading::read_version))]
 pub fn read_op(bytes: &[u8]) -> Option<(Op, &[u8])>
     ensures front { ReadsFront (λ x. (x.0, x.1.now)) op IsOp bytes.now result }
@@ -215,7 +215,7 @@ pub fn read_request(bytes: &[u8]) -> Option<(Request, &[u8])>
     None
 }
 
-/// Nothing or a request, after a byte that says which.
+/// A no-op or a request, after its tag.
 #[tactic(auto, using(crate::proofs::FrontLaws::command_front), unfolding(crate::specs::FieldReading::command_of))]
 pub fn read_command(bytes: &[u8]) -> Option<(Command, &[u8])>
     ensures front { ReadsFront (λ x. (x.0, x.1.now)) command IsCommand bytes.now result }
@@ -254,7 +254,7 @@ pub fn read_vote(bytes: &[u8]) -> Option<(Vote, &[u8])>
     None
 }
 
-/// What a request is answered, after a byte that says which answer it is.
+/// An answer, after its tag.
 #[tactic(auto, using(crate::proofs::FrontLaws::answer_front), unfolding(crate::specs::FieldReading::answer_of, crate::specs::FieldReading::read_total))]
 pub fn read_answer(bytes: &[u8]) -> Option<(Answer, &[u8])>
     ensures front { ReadsFront (λ x. (x.0, x.1.now)) answer IsAnswer bytes.now result }
@@ -297,7 +297,7 @@ pub fn read_answer(bytes: &[u8]) -> Option<(Answer, &[u8])>
     }
 }
 
-/// What a request asks, at the front: a byte with its length, and then its bytes; and the bytes after it.
+/// A payload: a byte with its length, and then its bytes; and the bytes after it.
 #[tactic(auto, unfolding(crate::specs::FieldReading::read_payload))]
 pub fn read_payload(bytes: &[u8]) -> Option<(Payload, &[u8])>
     ensures { Finds (λ x. (x.0, x.1.now)) result (read_payload bytes.now) }
@@ -311,7 +311,7 @@ pub fn read_payload(bytes: &[u8]) -> Option<(Payload, &[u8])>
     Some((Payload::of(text)?, rest))
 }
 
-/// The answer of a tag after which nothing stands.
+/// The answer of a tag without fields.
 #[tactic(auto, unfolding(crate::specs::FieldReading::bare_answer))]
 fn bare_answer<'a>(tag: u8, rest: &'a [u8]) -> Option<(Answer, &'a [u8])>
     ensures { Finds (λ x. (x.0, x.1.now)) result (bare_answer tag rest.now) }
@@ -350,7 +350,7 @@ fn read_held(bytes: &[u8]) -> Option<(ClientNo, Fence, &[u8])>
     None
 }
 
-/// How many share a name, and its fence.
+/// How many clients share a name, and its fence.
 #[tactic(auto, unfolding(crate::specs::FieldReading::read_sharer_count))]
 fn read_sharing(bytes: &[u8]) -> Option<(SharerCount, Fence, &[u8])>
     ensures { Finds (λ x. ((x.0, x.1), x.2.now)) result (read_sharing bytes.now) }

@@ -1,4 +1,4 @@
-// Fields that are stepped over: they are what they are read as, and nothing is built.
+// Skipping fields: it consumes what reading would, and builds nothing.
 ghost use Rattle.std.specs.Prelude.{◌≡◌, ◌-◌, length, take};
 ghost use Rattle.lk_fields.specs.Parser.{Finds, made};
 ghost use Rattle.lk_fields.specs.FieldReading.{read_payload, read_op, read_request, read_command, read_vote};
@@ -49,7 +49,7 @@ fn skip_op(bytes: &[u8]) -> Option<&[u8]>
     }
 }
 
-/// What stands after a request.
+/// What follows a request.
 #[tactic(auto, unfolding(crate::specs::FieldReading::read_request))]
 pub fn skip_request(bytes: &[u8]) -> Option<&[u8]>
     ensures { Finds (λ x. x.now) result (past read_request bytes.now) }
@@ -62,7 +62,7 @@ pub fn skip_request(bytes: &[u8]) -> Option<&[u8]>
     None
 }
 
-/// What stands after a command.
+/// What follows a command.
 #[tactic(auto, unfolding(crate::specs::FieldReading::command_of))]
 pub fn skip_command(bytes: &[u8]) -> Option<&[u8]>
     ensures { Finds (λ x. x.now) result (past read_command bytes.now) }
@@ -75,7 +75,7 @@ pub fn skip_command(bytes: &[u8]) -> Option<&[u8]>
     }
 }
 
-/// The position of a vote, and what stands after the vote.
+/// The position of a vote, and what follows the vote.
 #[tactic(auto, unfolding(crate::specs::FieldReading::read_vote))]
 pub fn skip_vote(bytes: &[u8]) -> Option<(Position, &[u8])>
     ensures { Finds (λ x. (x.0, x.1.now)) result (made (λ v. v.position) read_vote bytes.now) }
@@ -89,7 +89,7 @@ pub fn skip_vote(bytes: &[u8]) -> Option<(Position, &[u8])>
     None
 }
 
-/// The bytes in front of what is left of them.
+/// The bytes before these last ones.
 pub fn front_of<'a>(bytes: &'a [u8], rest: &[u8]) -> &'a [u8]
     ensures { result.now ≡ take (length bytes.now - length rest.now) bytes.now }
 {

@@ -27,7 +27,7 @@ adds_on b old mid new t u v p q =
     let moved : kept_lines u.is_kept fs ≡ kept_lines t.is_kept fs = ap (λ (k : Bool). kept_lines k fs) p.1.1 in
     let front : u.text.items ≡ t.text.items ++ kept_lines t.is_kept es = p.1.2 in
     let all : v.text.items ≡ (t.text.items ++ kept_lines t.is_kept es) ++ kept_lines t.is_kept fs =
-        q.1.2 ∙ ap (λ (l : List ℕ). l ++ kept_lines u.is_kept fs) front ∙ ap (λ (l : List ℕ). (t.text.items ++ kept_lines t.is_kept es) ++ l) moved in (
+    q.1.2 ∙ ap (λ (l : List ℕ). l ++ kept_lines u.is_kept fs) front ∙ ap (λ (l : List ℕ). (t.text.items ++ kept_lines t.is_kept es) ++ l) moved in (
       es ++ fs,
       (
         passes_on b es fs old mid new p.1.0 q.1.0,

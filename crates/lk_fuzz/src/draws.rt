@@ -1,10 +1,10 @@
-// Numbers that are drawn.
+// Random numbers.
 ghost use Rattle.std.specs.Prelude.{◌≡◌, ◌≤◌, ◌<◌, length};
 
 use rand_core::{Rng, SeedableRng};
 use rand_pcg::Lcg64Xsh32;
 
-/// What the next numbers are drawn from.
+/// The source of the next numbers.
 #[derive(Drop)]
 pub struct Draws {
     words: Lcg64Xsh32,
@@ -26,7 +26,7 @@ impl Draws {
         self.words.next_u32() as usize % bound
     }
 
-    /// Whether one of so many cases comes up.
+    /// Whether one of this many cases comes up.
     pub fn is_one_of(&mut self, cases: usize) -> bool
         requires { 0 < cases }
     {

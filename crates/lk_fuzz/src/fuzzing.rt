@@ -47,7 +47,7 @@ fn genesis() -> Genesis
     Genesis::of(5, 2, &[member(1), member(2), member(3)]).unwrap()
 }
 
-// Some time passes at node 1, or it comes up again where it is down.
+// Node 1 takes a tick, or restarts if it is down.
 fn pass_by<R: MemoryReplica>(
     alloc: Global,
     world: &mut World<R>,
@@ -63,15 +63,15 @@ fn pass_by<R: MemoryReplica>(
     }
 }
 
-// Whether the refusal means that the event cannot happen as the world stands, whatever room and memory there is.
+// Whether the rejection means that the event cannot happen in this world, whatever room and memory there is.
 fn is_passed_by(refused: Refused) -> bool
     ensures { result ≡ true → IsPassedBy refused }
 {
     !matches!(refused, Refused::WorldFull | Refused::WorldMemory)
 }
 
-// A drawn event happens. Where it is refused for another reason than room and memory, a tick of node 1 happens in its place, or a
-// restart where that node is down.
+// A drawn event happens. If it is rejected for a reason other than room and memory, a tick of node 1 happens in its
+// place, or a restart if that node is down.
 fn happen<R: MemoryReplica>(
     alloc: Global,
     world: &mut World<R>,
@@ -87,7 +87,7 @@ fn happen<R: MemoryReplica>(
     }
 }
 
-// The node of that number is started.
+// The node of that number starts.
 fn start_one<R: MemoryReplica>(
     alloc: Global,
     world: &mut World<R>,
@@ -102,7 +102,7 @@ fn start_one<R: MemoryReplica>(
     transcript.apply(alloc, world, Event::Start(node))
 }
 
-// The three nodes are started.
+// The three nodes start.
 fn start<R: MemoryReplica>(
     alloc: Global,
     world: &mut World<R>,
@@ -132,16 +132,17 @@ fn step<R: MemoryReplica>(
     happen(alloc, world, event, transcript)
 }
 
-/// A world of three nodes in which nothing has happened: cluster 5, alpha 2, and nodes 1, 2 and 3 at the ports 7001 to 7003.
+/// A world of three nodes in which nothing has happened: cluster 5, alpha 2, and nodes 1, 2 and 3 at the ports 7001 to
+/// 7003.
 pub fn world_of_three<R: MemoryReplica>(alloc: Global) -> World<R>
     ensures { IsNew result }
 {
     World::new(alloc, genesis())
 }
 
-/// The three nodes are started, and then as many events happen as the plan says, drawn from its number, or those up to the first
-/// that is refused. An event that is refused by 16 to 20 becomes a tick of node 1, or its restart where it is down. The transcript
-/// takes what happens.
+/// The three nodes are started, and then as many events happen as the plan says, drawn from its number, or those up to
+/// the first that is refused. An event that is refused by 16 to 20 becomes a tick of node 1, or its restart where it
+/// is down. The transcript takes what happens.
 pub fn run_schedule<R: MemoryReplica>(
     alloc: Global,
     world: &mut World<R>,
@@ -159,7 +160,7 @@ pub fn run_schedule<R: MemoryReplica>(
     Ok(())
 }
 
-// The position that a note tells was executed, or 0.
+// The position in a note of an execution, or 0.
 fn ran_at(note: &Note) -> u64
     ensures { result ≡ ran_at note.now }
 {
@@ -229,7 +230,7 @@ fn write_done<W: Write>(
     }
 }
 
-// Writes the line of a run that a refusal ended, and tells the refusal.
+// Writes the line of a run that a rejection ended, and reports the rejection.
 fn write_refusal<W: Write>(alloc: Global, refused: Refused, out: &mut W) -> Result<(), ScriptFault>
     ensures ended { (result ≡ Ok tt) → ⊥ }
     ensures written { result ≡ Err (ScriptFault.Ended refused) → Appends (W.contents out.old) (W.contents out.new) (refused_line refused) }
@@ -285,9 +286,9 @@ fn write_script<R: MemoryReplica, W: Write>(
     }
 }
 
-/// Runs the plan in a new world of three nodes, and writes `done N positions P`, P being the greatest position that a node has
-/// executed, or the refusal that ended the run. The status is 0, or 1 where an event was refused, or a fault was told on standard
-/// error.
+/// Runs the plan in a new world of three nodes, and writes `done N positions P`, P being the greatest position that a
+/// node has executed, or the refusal that ended the run. The status is 0, or 1 where an event was refused, or a fault
+/// was told on standard error.
 pub fn run_fuzz<R: MemoryReplica, W: Write, E: Write>(
     alloc: Global,
     plan: Plan,

@@ -3,8 +3,8 @@ use Rattle.std.specs.Prelude.{◌≡◌, ℕ, ◌≤◌, ◌⊎◌, List, Contai
 use Rattle.lk_history.specs.Ballots.{BallotValue, IsBelow, IsAtMost}
 use Rattle.lk_history.specs.Datagrams.{Genesis, Vote, NodeMessage, Datagram, Prepare, Promise, Accept, Accepted, HasSent, WasSent}
 
--- the greatest ballot that the node promised, voted in or began; its votes; and the position up to which its snapshot has
--- taken their place
+-- the greatest ballot that the node promised, voted in or began; its votes; and the position up to which its snapshot
+-- has replaced them
 pub record AcceptorState : Type 0 where
   pub promised : BallotValue
   pub votes : List Vote
@@ -23,7 +23,7 @@ Covers s (Accept x) = IsAtMost x.ballot s.promised
 Covers s (Accepted x) = IsAtMost x.ballot s.promised × ((x.position ≤ s.snapshot_position) ⊎ CoversVote s.votes x)
 Covers s _ = Unit {0}
 
--- it covers all that the node has sent
+-- it covers everything that the node has sent
 abbrev pub CoversSent : Genesis → List Datagram → ℕ → AcceptorState → Type 0
 CoversSent genesis sent n s = (m : NodeMessage) → HasSent genesis sent n m → Covers s m
 
@@ -31,7 +31,7 @@ CoversSent genesis sent n s = (m : NodeMessage) → HasSent genesis sent n m →
 abbrev pub AreProposed : Genesis → List Datagram → AcceptorState → Type 0
 AreProposed genesis sent s = (x : Vote) → Contains s.votes x → WasSent genesis sent (Accept x) × IsAtMost x.ballot s.promised
 
--- the standing takes over a vote: its ballot is the promised one, and only votes for its position may give way
+-- the standing accepts a vote: its ballot is the promised one, and only votes for its position may go
 pub record TakesVote (old : AcceptorState) (x : Vote) (new : AcceptorState) : Type 0 where
   pub promised : new.promised ≡ x.ballot
   pub snapshot : new.snapshot_position ≡ old.snapshot_position
@@ -39,7 +39,7 @@ pub record TakesVote (old : AcceptorState) (x : Vote) (new : AcceptorState) : Ty
   pub others : (y : Vote) → Contains old.votes y → (y.position ≡ x.position → ⊥) → Contains new.votes y
   pub only : (y : Vote) → Contains new.votes y → (y ≡ x) ⊎ Contains old.votes y
 
--- a snapshot at the position takes the place of the votes up to there
+-- a snapshot at the position replaces the votes up to there
 pub record TakesSnapshot (old : AcceptorState) (i : ℕ) (new : AcceptorState) : Type 0 where
   pub promised : new.promised ≡ old.promised
   pub snapshot : new.snapshot_position ≡ i

@@ -1,4 +1,4 @@
--- How a node may change.
+-- the entry tells of a decided command
 use Rattle.std.specs.Prelude.{◌≡◌, ℕ, suc, ◌+◌, ◌≤◌, List, [], ◌∷◌, ◌++◌, length, Contains, Option, Some, None}
 use Rattle.lk_members.specs.Rosters.{members}
 use Rattle.lk_members.specs.Majorities.{IsMajority}
@@ -47,7 +47,7 @@ with_proposal t p = record { ballot = t.ballot; reports = t.reports; proposals =
 abbrev pub with_acceptance : Term → Acceptance → Term
 with_acceptance t a = record { ballot = t.ballot; reports = t.reports; proposals = t.proposals; accepted = t.accepted ++ a ∷ [] }
 
--- one change of a node, by what was sent so far
+-- one change of a node, given what was sent so far
 pub data Changes (genesis : Genesis) (sent : List Datagram) (n : ℕ) : View → View → Type 0 where
   -- it promises a ballot that is not below the promised one
   promises : {old : View} (b : BallotValue) → IsAtMost old.acceptor.promised b
@@ -82,7 +82,7 @@ pub data Changes (genesis : Genesis) (sent : List Datagram) (n : ℕ) : View →
   -- it installs a snapshot of a chosen list, which reaches as far as its own
   installs : {old : View} (L : List Command) (rest : List Pair) → Chosen genesis sent L → old.acceptor.snapshot_position ≤ length L → AreAmong rest old.pairs
       → Changes genesis sent n old (with_done old L rest)
-  -- it stops, and is restarted from an image of its disk that covers all it has sent, and stems from what was sent
+  -- it stops, and restarts from an image of its disk that covers everything it has sent, and stems from what was sent
   restarts : {old : View} (image : View) → CoversSent genesis sent n image.acceptor → Stems genesis sent image → image.term ≡ None
       → Changes genesis sent n old image
 

@@ -10,7 +10,7 @@ use Rattle.lk_wire.specs.Grammar.{Spells}
 use Rattle.lk_wire.specs.declared.message.Content.TheVariants as content
 use Rattle.lk_history.specs.declared.party.Party.TheVariants as party
 
--- what was sent by whom, bound for whom
+-- what was sent, by whom and to whom
 pub record Datagram : Type 0 where
   pub from : Party
   pub to : Party

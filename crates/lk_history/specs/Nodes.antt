@@ -1,4 +1,4 @@
--- What a node holds, and what it may send by that.
+-- What a node holds, and what that permits it to send.
 use Rattle.std.specs.Prelude.{◌≡◌, ℕ, ◌<◌, ◌≤◌, List, [], length, Contains, Option, Some, None}
 use Rattle.lk_types.specs.Ballots.{zero_ballot}
 use Rattle.lk_wire.specs.Grammar.{Spells}
@@ -41,7 +41,7 @@ pub record View : Type 0 where
 abbrev pub fresh : View
 fresh = record { acceptor = record { promised = zero_ballot; votes = []; snapshot_position = 0 }; done = []; pairs = []; term = None }
 
--- ---- how it fits to what was sent
+-- ---- how it fits what was sent
 
 pub record TermFits (genesis : Genesis) (sent : List Datagram) (n : ℕ) (s : AcceptorState) (t : Term) : Type 0 where
   pub own : t.ballot.node ≡ n
@@ -53,11 +53,11 @@ pub record TermFits (genesis : Genesis) (sent : List Datagram) (n : ℕ) (s : Ac
   pub one_each : (i : ℕ) (v w : Command) → Contains t.proposals (i, v) → Contains t.proposals (i, w) → v ≡ w
   pub justified : (i : ℕ) (v : Command) → Contains t.proposals (i, v) → Justified genesis sent t.ballot i v
 
--- all that the node holds stems from what was sent
+-- everything that the node holds stems from what was sent
 pub record Stems (genesis : Genesis) (sent : List Datagram) (w : View) : Type 0 where
   pub votes : AreProposed genesis sent w.acceptor
   pub done : Chosen genesis sent w.done
-  -- what the snapshot took over was executed
+  -- what the snapshot replaced was executed
   pub snapshot : w.acceptor.snapshot_position ≤ length w.done
   pub pairs : (i : ℕ) (v : Command) → Contains w.pairs (i, v) → ChosenAt genesis sent i v
 
@@ -68,14 +68,14 @@ pub record ViewFits (genesis : Genesis) (sent : List Datagram) (n : ℕ) (w : Vi
 
 -- ---- what it may send
 
--- the promise reports the votes that are kept from its first position on, and the snapshot has taken none of these
+-- the promise reports the votes that are kept from its first position on, and the snapshot has replaced none of these
 pub record MayPromise (s : AcceptorState) (p : PromiseValue) : Type 0 where
   pub promised : s.promised ≡ p.ballot
   pub above : s.snapshot_position < p.first
   pub all : (x : Vote) → Contains s.votes x → p.first ≤ x.position → Contains p.votes x
   pub only : (x : Vote) → Contains p.votes x → Contains s.votes x
 
--- the message is one that the node, as it is now, may send
+-- the message is one that the node may send in its present state
 abbrev pub MaySend : Genesis → List Datagram → View → NodeMessage → Type 0
 MaySend genesis sent w (Prepare b first) = IsAtMost b w.acceptor.promised
 MaySend genesis sent w (Promise p) = MayPromise w.acceptor p

@@ -1,9 +1,10 @@
--- What is sent of snapshots. `text` gives the packed text of the state that a list of commands leaves.
+-- Parts of snapshots that are sent. `text` gives the packed text of the state that a list of commands leaves.
 use Rattle.std.specs.Prelude.{◌≡◌, ℕ, List, length, take, drop}
 use Rattle.lk_history.specs.Datagrams.{Genesis, Datagram}
 use Rattle.lk_history.specs.Chosen.{Command, Chosen}
 
--- the bytes are a slice, at the offset, of the text of a chosen list that has so many commands; the text has so many bytes
+-- the bytes are a slice, at the offset, of the text of a chosen list with this many commands; the text has this many
+-- bytes
 pub record IsSlice (genesis : Genesis) (sent : List Datagram) (text : List Command → List ℕ) (position total offset : ℕ) (bytes : List ℕ) : Type 0 where
   pub under : List Command
   pub chosen : Chosen genesis sent under

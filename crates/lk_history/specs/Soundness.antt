@@ -1,4 +1,4 @@
--- What holds of all that was ever sent, and makes chosen lists agree.
+-- What holds of everything that was ever sent, and makes chosen lists agree.
 use Rattle.std.specs.Prelude.{◌≡◌, ℕ, ◌+◌, ◌≤◌, List, length, Contains}
 use Rattle.lk_wire.specs.Grammar.{Spells}
 use Rattle.lk_wire.specs.Values.{PromiseValue, DecidedValue}
@@ -43,18 +43,18 @@ pub record Justified (genesis : Genesis) (sent : List Datagram) (b : BallotValue
   pub majority : IsMajority nodes (members genesis under i)
   pub reporters : (n : ℕ) → Contains nodes n → IsReporter reports n
   pub promised : (r : Report) → Contains reports r → (r.first ≤ i) × WasPromised genesis sent b r
-  -- each vote that they report at the position is matched by one for this command, of a ballot at least as great, and
-  -- below the one in which it is proposed. So none is reported, or the command is that of the greatest
+  -- each vote that they report at the position is matched by one for this command, in a ballot at least as great, and
+  -- below the one of the proposal. So none is reported, or the command is that of the greatest
   pub highest : (x : Vote) → IsReported reports x → x.position ≡ i
       → (y : Vote) × IsReported reports y × (y.position ≡ i) × (y.command ≡ v) × IsAtMost x.ballot y.ballot × IsBelow y.ballot b
 
 pub record Sound (genesis : Genesis) (sent : List Datagram) : Type 0 where
-  -- who is told as the sender has sent it
+  -- the named sender has sent it
   pub signed : (d : Datagram) → Contains sent d → (n : ℕ) (m : NodeMessage) → Spells (said_by genesis n m) d.bytes → d.from ≡ party.Node n
   -- at most one command is proposed at a position in a ballot
   pub one_value : (b : BallotValue) (i : ℕ) (v w : Command) → WasSent genesis sent (Accept (record { position = i; ballot = b; command = v }))
       → WasSent genesis sent (Accept (record { position = i; ballot = b; command = w })) → v ≡ w
-  -- a node proposes in ballots of its own alone
+  -- a node proposes only in ballots of its own
   pub owned : (n : ℕ) (x : Vote) → HasSent genesis sent n (Accept x) → x.ballot.node ≡ n
   -- what is accepted was proposed
   pub proposed : (n : ℕ) (x : Vote) → HasSent genesis sent n (Accepted x) → WasSent genesis sent (Accept x)
@@ -66,5 +66,5 @@ pub record Sound (genesis : Genesis) (sent : List Datagram) : Type 0 where
       → IsBelow x.ballot p.ballot → p.first ≤ x.position → ReportsFrom p.votes x.position x.ballot
   -- what is proposed is justified
   pub justified : (x : Vote) → WasSent genesis sent (Accept x) → Justified genesis sent x.ballot x.position x.command
-  -- what is told as decided is chosen
+  -- what is sent as decided is chosen
   pub told : (n : ℕ) (d : DecidedValue) → HasSent genesis sent n (Decided d) → AreChosenFrom genesis sent d.first d.commands

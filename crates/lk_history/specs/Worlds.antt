@@ -1,4 +1,4 @@
--- Nodes and all that was sent, whatever is delivered, lost, repeated or stopped.
+-- Nodes and everything that was sent, whatever is delivered, lost, repeated or stopped.
 use Rattle.std.specs.Prelude.{◌≡◌, ℕ, ◌≤◌, ◌⊎◌, ◌==◌, if◌then◌else◌, List, [], ◌∷◌, ◌++◌, length, Some, Contains}
 use Rattle.lk_types.specs.declared.command.Request.{Request}
 use Rattle.lk_wire.specs.Grammar.{Spells}
@@ -37,8 +37,8 @@ pub record IsClientRequest (d : Datagram) : Type 0 where
   pub from : d.from ≡ party.Client client
   pub spelled : Spells (record { cluster = cluster; content = content.Request request }) d.bytes
 
--- a node sends some datagrams, each of which it may send; a client asks; or a node changes. Who hears what was sent, how
--- often and when, is part of the changes
+-- a node sends some datagrams, each of which it may send; a client asks; or a node changes. Who hears what was sent,
+-- how often and when, is part of the changes
 pub data Happens (genesis : Genesis) : World → World → Type 0 where
   sends : {w : World} (n : ℕ) (batch : List Datagram) → MayPostAll genesis w.sent n (w.views n) batch
       → Happens genesis w (with_sent w batch)
@@ -47,12 +47,12 @@ pub data Happens (genesis : Genesis) : World → World → Type 0 where
   changes : {w : World} (n : ℕ) (new : View) → Changes genesis w.sent n (w.views n) new
       → Happens genesis w (with_view w n new)
 
--- the worlds that come about so
+-- the reachable worlds
 pub data Reaches (genesis : Genesis) : World → Type 0 where
   begin : Reaches genesis start
   next : {w w' : World} → Reaches genesis w → Happens genesis w w' → Reaches genesis w'
 
--- what holds of each of them: the history is sound, and each node fits to it
+-- what holds of each of them: the history is sound, and each node fits it
 pub record WorldFits (genesis : Genesis) (w : World) : Type 0 where
   pub sound : Sound genesis w.sent
   pub views : (n : ℕ) → ViewFits genesis w.sent n (w.views n)
@@ -64,7 +64,7 @@ HoldsCommand state i v =
     ⊎ ((x : Vote) × Contains state.acceptor.votes x × (x.position ≡ i) × (x.command ≡ v))
 
 -- a majority of the members that the list names for the position has accepted the command there, and holds it in each
--- state that may be a node's
+-- possible state of its nodes
 pub record IsKept (genesis : Genesis) (sent : List Datagram) (L : List Command) (i : ℕ) (v : Command) (may_be : ℕ → View → Type 0) : Type 0 where
   pub ballot : BallotValue
   pub nodes : List ℕ
@@ -72,8 +72,8 @@ pub record IsKept (genesis : Genesis) (sent : List Datagram) (L : List Command) 
   pub accepted : (n : ℕ) → Contains nodes n → HasSent genesis sent n (Accepted (record { position = i; ballot = ballot; command = v }))
   pub held : (n : ℕ) → Contains nodes n → (state : View) → may_be n state → HoldsCommand state i v
 
--- that there are such worlds, and that members change in them: a world that comes about, and a list of two commands that is
--- chosen in it. The first is decided by node 1 alone, and makes node 2 a member; the second is decided by both
+-- there are such worlds, and members change in them: a reachable world, and a list of two commands that is chosen in
+-- it. Node 1 alone decides the first, which makes node 2 a member; both decide the second
 pub record MembersChange (genesis : Genesis) (w : World) (L : List Command) : Type 0 where
   pub reached : Reaches genesis w
   pub chosen : Chosen genesis w.sent L

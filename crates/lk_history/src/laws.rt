@@ -1,4 +1,4 @@
-//! Why chosen lists agree: laws over the definitions alone. Each is what a function without a body ensures.
+//! Why chosen lists agree: laws about the definitions alone. A function without a body ensures each of them.
 ghost use Rattle.std.specs.Prelude.{◌≡◌, ◌<◌, ◌≤◌, ◌+◌, ◌==◌, nat_lt, nat_le, not, filter, ◌⊎◌, ℕ, suc, List, [], ◌∷◌, ◌++◌, length, take, drop, Some, None, Contains};
 ghost use Rattle.lk_types.specs.Limits.{max_count};
 ghost use Rattle.lk_wire.specs.Grammar.{Spells};
@@ -17,7 +17,7 @@ ghost use Rattle.lk_history.specs.Changes.{view_in, Changes, Becomes};
 ghost use Rattle.lk_history.specs.Snapshots.{IsSlice};
 ghost use Rattle.lk_history.specs.Worlds.{World, start, with_sent, with_view, IsClientRequest, Reaches, WorldFits, IsKept, MembersChange};
 
-/// Of two chosen lists of a sound history one is a beginning of the other, and they name the same members.
+/// Of two chosen lists of a sound history one is a prefix of the other, and they name the same members.
 pub fn chosen_lists_agree()
     ensures lists { (genesis : Genesis) (sent : List Datagram) (L K : List Command) → Sound genesis sent
         → Chosen genesis sent L → Chosen genesis sent K → IsBeginning L K ⊎ IsBeginning K L }
@@ -26,14 +26,14 @@ pub fn chosen_lists_agree()
         → members genesis L i ≡ members genesis K i }
 {}
 
-/// At most one command is chosen at a position, also beyond a gap.
+/// At most one command is chosen at a position, even beyond a gap.
 pub fn one_command_a_position()
     ensures { (genesis : Genesis) (sent : List Datagram) (i : ℕ) (v w : Command) → Sound genesis sent
         → ChosenAt genesis sent i v → ChosenAt genesis sent i w → v ≡ w }
 {}
 
-/// A chosen list stays chosen whatever is sent later. With the command that is chosen at its next position it is chosen
-/// too, and each of its commands is chosen at its position. A beginning of it is chosen.
+/// A chosen list stays chosen whatever is sent later. With the command that is chosen at its next position it is
+/// chosen too, and each of its commands is chosen at its position. A prefix of it is chosen.
 pub fn chosen_lists_grow()
     ensures later { (genesis : Genesis) (sent new : List Datagram) (L : List Command)
         → Chosen genesis sent L → Chosen genesis (sent ++ new) L }
@@ -45,8 +45,9 @@ pub fn chosen_lists_grow()
         → Chosen genesis sent L → Chosen genesis sent (take k L) }
 {}
 
-/// A majority of the members that a chosen list names for a position has accepted its command there, and keeps it: each
-/// node of it does in every state that covers what the node has sent and stems from what was sent, so in every image of its disk.
+/// A majority of the members that a chosen list names for a position has accepted its command there, and keeps it:
+/// each node of it does in every state that covers what the node has sent and stems from what was sent, so in every
+/// image of its disk.
 pub fn chosen_commands_are_kept()
     ensures { (genesis : Genesis) (sent : List Datagram) (L : List Command) (i : ℕ) (v : Command) → Sound genesis sent
         → Chosen genesis sent L → command_at L i ≡ Some v
@@ -61,8 +62,8 @@ pub fn what_a_majority_accepted_is_chosen()
         → ChosenAt genesis sent i v }
 {}
 
-/// What is chosen at a position was sent as accepted by some node there. So each command of a chosen list and its position
-/// are in their ranges, and the list has at most 2^48 commands.
+/// What is chosen at a position was sent as accepted by some node there. So each command of a chosen list and its
+/// position are in their ranges, and the list has at most 2^48 commands.
 pub fn what_is_chosen_was_accepted()
     ensures sent { (genesis : Genesis) (sent : List Datagram) (i : ℕ) (v : Command) → ChosenAt genesis sent i v
         → (n : ℕ) × (b : BallotValue) × HasSent genesis sent n (Accepted (record { position = i; ballot = b; command = v })) }
@@ -77,25 +78,25 @@ pub fn what_is_heard_was_sent()
         → Contains sent d → Spells (said_by genesis n m) d.bytes → HasSent genesis sent n m }
 {}
 
-/// Where nothing was sent all fits.
+/// If nothing was sent, everything fits.
 pub fn the_start_fits()
     ensures { (genesis : Genesis) → WorldFits genesis start }
 {}
 
-/// A node that fits to what was sent fits to it after any changes. It takes this node's view alone, so a node can show it
-/// that knows of no other.
+/// A node that fits what was sent still fits it after any changes. The law needs this node's view alone, so a node
+/// that knows of no other can establish it.
 pub fn changes_keep_the_node()
     ensures { (genesis : Genesis) (sent : List Datagram) (n : ℕ) (old new : View) → Sound genesis sent → ViewFits genesis sent n old
         → Becomes genesis sent n old new → ViewFits genesis sent n new }
 {}
 
-/// What changes within a node leaves the history sound and every node fitting.
+/// A change within a node leaves the history sound and every node fitting.
 pub fn changes_keep_the_world()
     ensures { (genesis : Genesis) (w : World) (n : ℕ) (new : View) → WorldFits genesis w
         → Becomes genesis w.sent n (w.views n) new → WorldFits genesis (with_view w n new) }
 {}
 
-/// So does whatever a node sends of what it may send as it now is, and a client's request.
+/// So does whatever a node is permitted to send in its present state, and a client's request.
 pub fn sends_keep_the_world()
     ensures node { (genesis : Genesis) (w : World) (n : ℕ) (batch : List Datagram) → WorldFits genesis w
         → MayPostAll genesis w.sent n (w.views n) batch → WorldFits genesis (with_sent w batch) }
@@ -110,9 +111,9 @@ pub fn restarts_keep_the_world()
         → WorldFits genesis (with_view w n image) }
 {}
 
-/// An image that covers what its node had sent, and what it sends now, covers what it has sent then: so where each call
-/// syncs before it sends, every image goes on covering. Those of other nodes do in any case, and what an image holds goes
-/// on stemming from what was sent.
+/// An image that covers what its node has sent, and covers what it sends now, covers the union: so if each call syncs
+/// before it sends, every image continues to cover. Those of other nodes do in any case, and what an image holds
+/// continues to stem from what was sent.
 pub fn images_go_on_covering()
     ensures own { (genesis : Genesis) (sent batch : List Datagram) (n : ℕ) (image : View)
         → CoversSent genesis sent n image.acceptor → CoversSent genesis batch n image.acceptor
@@ -124,8 +125,8 @@ pub fn images_go_on_covering()
         → Stems genesis sent image → Stems genesis (sent ++ new) image }
 {}
 
-/// The plain ways to keep votes in a list are allowed: a vote takes the place of any other for its position, a snapshot that
-/// of those up to its position, and a promise reports those from its first position on.
+/// The simple ways to keep votes in a list are permitted: a vote replaces any other for its position, a snapshot
+/// replaces those up to its position, and a promise reports those from its first position on.
 pub fn votes_may_be_kept_in_a_list()
     ensures vote { (old new : AcceptorState) (x : Vote) → new.promised ≡ x.ballot → new.snapshot_position ≡ old.snapshot_position
         → new.votes ≡ filter (λ y. not (y.position == x.position)) old.votes ++ x ∷ [] → TakesVote old x new }
@@ -135,8 +136,8 @@ pub fn votes_may_be_kept_in_a_list()
         → p.votes ≡ filter (λ y. nat_le p.first y.position) s.votes → MayPromise s p }
 {}
 
-/// Slices of snapshots of one position, from whichever nodes, join to one text, which when whole is that of a chosen list.
-/// Such is what is sent of the text of a chosen list's beginning.
+/// Slices of snapshots of one position, from whichever nodes, join into one text, which when complete is that of a
+/// chosen list. Slices of the text of a prefix of a chosen list are such.
 pub fn slices_join()
     ensures join { (genesis : Genesis) (sent : List Datagram) (text : List Command → List ℕ) (position total : ℕ) (gathered bytes : List ℕ)
         → Sound genesis sent → IsSlice genesis sent text position total 0 gathered → IsSlice genesis sent text position total (length gathered) bytes
@@ -151,8 +152,9 @@ pub fn slices_join()
         → IsSlice genesis sent text position (length (text (take position L))) offset bytes }
 {}
 
-/// What a world may come to, at the least: nodes send what they may, clients ask, and nodes change, as often as may be. A node may
-/// stop at any time and restart from any image that covers what it has sent and stems from what was sent, and its term may end.
+/// What a world may do, at the least: nodes send what they may, clients ask, and nodes change, in any order. A node
+/// may stop at any time and restart from any image that covers what it has sent and stems from what was sent, and its
+/// term may end.
 pub fn worlds_come_about()
     ensures begins { (genesis : Genesis) → Reaches genesis start }
     ensures sends { (genesis : Genesis) (w : World) (n : ℕ) (batch : List Datagram) → Reaches genesis w
@@ -167,7 +169,7 @@ pub fn worlds_come_about()
         → Reaches genesis (with_view w n (view_in (w.views n) None)) }
 {}
 
-/// In every world that comes about chosen lists agree, and a majority keeps each command of a chosen list.
+/// In every reachable world chosen lists agree, and a majority keeps each command of a chosen list.
 pub fn every_world_agrees()
     ensures fits { (genesis : Genesis) (w : World) → Reaches genesis w → WorldFits genesis w }
     ensures agree { (genesis : Genesis) (w : World) (L K : List Command) → Reaches genesis w
@@ -176,8 +178,8 @@ pub fn every_world_agrees()
         → Chosen genesis w.sent L → command_at L i ≡ Some v → IsKept genesis w.sent L i v (λ n state. state ≡ w.views n) }
 {}
 
-/// Such worlds come about, and members change in them: the first command of a chosen list is decided by node 1 alone and
-/// makes node 2 a member, and the second is decided by both.
+/// Such worlds are reachable, and members change in them: node 1 alone decides the first command of a chosen list,
+/// which makes node 2 a member, and both decide the second.
 pub fn members_change_in_some_world()
     ensures some { (genesis : Genesis) × (w : World) × (L : List Command) × MembersChange genesis w L }
     ensures plain { (genesis : Genesis) × (w : World) × (L : List Command) × Reaches genesis w × Chosen genesis w.sent L × (length L ≡ 2)

@@ -1,6 +1,6 @@
 use lk_types::{ClientNo, NodeNo};
 
-/// Who sends a datagram, and for whom it is bound.
+/// The sender or recipient of a datagram.
 #[derive(Clone, Copy, PartialEq, Eq)]
 pub enum Party {
     Node(NodeNo),

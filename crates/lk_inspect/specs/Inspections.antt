@@ -1,4 +1,4 @@
--- What is told of a store, as the list of commands says it.
+-- A summary of a store, in terms of its list of commands.
 use Rattle.std.specs.Prelude.{◌≡◌, ◌+◌, List, length}
 use Rattle.std.specs.FinMap as map
 use Rattle.lk_entries.specs.Values.{StandingValue}
@@ -13,8 +13,8 @@ use Rattle.lk_locks.specs.Meaning.{table_meaning}
 use Rattle.lk_locks.specs.Packed.{IsTableText}
 use Rattle.lk_inspect.specs.declared.inspection.Inspection.{Inspection}
 
--- how long the list is, who decides the next positions, the names of its plain table and those that are held, and of how many
--- clients a request takes effect
+-- the length of the list, the members of the next positions, the names of its plain table and the held ones, and how
+-- many clients have had a request executed
 pub record Tells (genesis : Genesis) (L : List Command) (i : Inspection) : Type 0 where
   pub executed : i.executed ≡ length L
   pub members : i.window ≡ sets_from genesis L (length L + 1) genesis.alpha

@@ -1,4 +1,4 @@
-//! What the store of a folder comes to, for whoever runs a node.
+//! What the store of a folder amounts to, for the operator of a node.
 
 ghost use Rattle.std.specs.Prelude.{◌≡◌, ◌≤◌};
 ghost use Rattle.lk_disk.specs.declared.device.Side.{Side};
@@ -7,15 +7,15 @@ use crate::inspection::{Inspection, inspected};
 use crate::lines::write_inspection;
 use lk_disk::LogDisk;
 use lk_log::look;
-use lk_transport::fault::ServiceFault;
 use lk_service::folder::look_at_device;
 use lk_service::refusals::tell_refusal;
+use lk_transport::fault::ServiceFault;
 use std::alloc::Global;
 use std::fs::Files;
 use std::io;
 use std::io::Write;
 
-/// Writes what a store comes to, or `no store`. Whether there is one.
+/// Writes what a store amounts to, or `no store`. Returns whether there is one.
 pub fn write_found<W: Write>(found: Option<&Inspection>, out: &mut W) -> io::Result<bool> {
     match found {
         Some(inspection) => write_inspection(inspection, out)?,
@@ -25,8 +25,8 @@ pub fn write_found<W: Write>(found: Option<&Inspection>, out: &mut W) -> io::Res
     Ok(found.is_some())
 }
 
-/// What the store of a device comes to, or `None` where none stands. It changes nothing there. It refuses with the faults 7, 8
-/// and 9 of the store; 9 also where its snapshot packs no state at its position.
+/// What the store of a device amounts to, or `None` if there is none, without changing it. It fails with faults 7, 8
+/// and 9 of the store; 9 also if its snapshot packs no state at its position.
 pub fn inspect_device<D: LogDisk>(
     alloc: Global,
     device: &mut D,
@@ -39,7 +39,7 @@ pub fn inspect_device<D: LogDisk>(
     }
 }
 
-/// What the store of a folder comes to, none of whose files is made. Where a file fails a line tells why.
+/// What the store of a folder amounts to; it creates no file. If a file fails, it writes why.
 fn inspection_in<R: Files, E: Write>(
     rt: &R,
     alloc: Global,
@@ -53,7 +53,7 @@ fn inspection_in<R: Files, E: Write>(
     }
 }
 
-/// Writes what the store of a folder comes to. Whether there is one.
+/// Writes what the store of a folder amounts to. Returns whether there is one.
 fn inspect_folder<R: Files, W: Write, E: Write>(
     rt: &R,
     alloc: Global,
@@ -65,8 +65,8 @@ fn inspect_folder<R: Files, W: Write, E: Write>(
     write_found(found.as_ref(), out).map_err(|_| ServiceFault::Write)
 }
 
-/// Prints what the store of a folder comes to, also while a node serves from it. The status is 0; 1 where no store stands
-/// there, which is printed as `no store`, and where a fault is told on standard error.
+/// Prints what the store of a folder amounts to, even while a node serves from it. Returns status 0, or 1 if there is
+/// no store, which it prints as `no store`, or after an error message.
 pub fn inspect<R: Files, W: Write, E: Write>(
     rt: &R,
     alloc: Global,

@@ -1,4 +1,4 @@
-//! What is told of a store.
+//! A summary of a store.
 
 ghost use Rattle.std.specs.Prelude.{◌≡◌, ◌⊎◌, ◌++◌, List, length, IfOk, IfErr, IsErrOf};
 ghost use Rattle.std.specs.List.{AllByRecursion};
@@ -20,7 +20,7 @@ use lk_transport::fault::ServiceFault;
 use lk_types::Executed;
 use std::alloc::Global;
 
-/// What a list of commands comes to.
+/// What a list of commands amounts to.
 #[derive(Drop)]
 pub struct Inspection {
     /// How many positions are executed.
@@ -29,14 +29,14 @@ pub struct Inspection {
     pub window: Window,
     /// How many names the table has.
     pub names: usize,
-    /// Of how many clients a request took effect.
+    /// How many clients have had a request executed.
     pub clients: usize,
-    /// The names that are held, rising.
+    /// The held names, rising.
     pub held: Vec<(Name, Slot)>,
 }
 
-/// What the snapshot of a standing and the decided commands above it come to, up to the first gap. It refuses with `Damaged`
-/// where the snapshot packs no state at its position, and with `NoMemory`.
+/// What a standing's snapshot and the decided commands above it amount to, up to the first gap. It fails with
+/// `Damaged` if the snapshot packs no state at its position, and with `NoMemory`.
 pub fn inspected(alloc: Global, standing: &Standing) -> Result<Inspection, ServiceFault>
     ensures tells { (genesis : GenesisValue) (L : List CommandValue) → Packs IsTableText (whole_after table_meaning genesis L) standing.now.snapshot
         → AllByRecursion IsCommand (L ++ run_from (length L) standing.now.pairs)

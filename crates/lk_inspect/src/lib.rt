@@ -1,4 +1,4 @@
-//! What a store comes to: who the members are, how far it is, and what is held.
+//! What a store amounts to: its members, how far it is, and which names are held.
 #![tactic(auto)]
 
 pub mod inspect;

@@ -1,4 +1,4 @@
-//! An inspection in lines of text.
+//! An inspection as lines of text.
 
 use crate::inspection::Inspection;
 use lk_locks::{Holders, Name, Slot};
@@ -16,8 +16,8 @@ fn write_set<W: Write>(set: &Members, out: &mut W) -> io::Result<()> {
     out.write_all(b"\n")
 }
 
-/// Writes a line `members NODE:PORT ..` for the next position, and a line `members from P NODE:PORT ..` for each later one of
-/// the window that has others than the one in front of it.
+/// Writes a line `members NODE:PORT ..` for the next position, and a line `members from P NODE:PORT ..` for each later
+/// position of the window whose members differ from those before it.
 fn write_window<W: Write>(executed: Executed, window: &Window, out: &mut W) -> io::Result<()> {
     let mut position = executed.get();
     let mut stands: Option<&Members> = None;
@@ -60,12 +60,13 @@ fn write_slot<W: Write>(name: &Name, slot: &Slot, out: &mut W) -> io::Result<()>
     Ok(())
 }
 
-/// Writes a line of how many there are of at most so many.
+/// Writes a line of a count and its maximum.
 fn write_count<W: Write>(name: &str, count: usize, most: usize, out: &mut W) -> io::Result<()> {
     writeln!(out, "{name} {count} of {most}")
 }
 
-/// Writes `executed P`, the members, `names K of 512`, `clients K of 256`, and a line for each client that holds a name.
+/// Writes `executed P`, the members, `names K of 512`, `clients K of 256`, and a line for each client that holds a
+/// name.
 pub fn write_inspection<W: Write>(inspection: &Inspection, out: &mut W) -> io::Result<()> {
     writeln!(out, "executed {}", inspection.executed.get())?;
     write_window(inspection.executed, &inspection.window, out)?;

@@ -1,4 +1,4 @@
-//! The state that a standing comes to.
+//! The state of a standing.
 
 ghost use Rattle.std.specs.Prelude.{◌≡◌, ◌<◌, ◌⊎◌, ◌++◌, List, length, OnOk, IfOk, IfErr, IsErrOf};
 ghost use Rattle.lk_members.specs.Effects.{Command as CommandValue};
@@ -14,8 +14,8 @@ ghost use Rattle.lk_inspect.specs.Inspections.{CannotStand};
 
 use lk_entries::Standing;
 use lk_locks::LockTable;
-use lk_transport::fault::ServiceFault;
 use lk_state::{Ran, Whole};
+use lk_transport::fault::ServiceFault;
 use lk_types::{Answer, Command, NoMemory, Position};
 use std::alloc::Global;
 
@@ -33,7 +33,7 @@ fn unpacked(alloc: Global, standing: &Standing) -> Result<Whole<LockTable>, Serv
     Ok(whole)
 }
 
-/// Runs a command. A refused call changes nothing.
+/// Executes a command. A failed call changes nothing.
 fn run_one(whole: &mut Whole<LockTable>, command: &Command) -> Result<Option<Answer>, NoMemory>
     requires { whole.old.roster.executed < max_count }
     ensures { OnOk result (whole.new ≡ ran table_meaning command.now whole.old) }
@@ -42,7 +42,7 @@ fn run_one(whole: &mut Whole<LockTable>, command: &Command) -> Result<Option<Ans
     Ok(run.answer)
 }
 
-/// Runs the decided commands from the next position on, up to the first gap.
+/// Executes the decided commands from the next position on, up to the first gap.
 fn run_on(whole: &mut Whole<LockTable>, pairs: &[(Position, Command)]) -> Result<(), NoMemory>
     ensures { OnOk result (whole.new ≡ all_ran table_meaning (run_from whole.old.roster.executed pairs.now) whole.old) }
 {
@@ -55,7 +55,7 @@ fn run_on(whole: &mut Whole<LockTable>, pairs: &[(Position, Command)]) -> Result
     Ok(())
 }
 
-/// The state after the snapshot and the decided commands above it, up to the first gap. It refuses with `Damaged` where the
+/// The state after the snapshot and the decided commands above it, up to the first gap. It fails with `Damaged` if the
 /// snapshot packs no state at its position, and with `NoMemory`.
 pub fn state_of(alloc: Global, standing: &Standing) -> Result<Whole<LockTable>, ServiceFault>
     ensures sums { (genesis : GenesisValue) (L : List CommandValue) → Packs IsTableText (whole_after table_meaning genesis L) standing.now.snapshot

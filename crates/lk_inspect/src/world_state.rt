@@ -14,15 +14,15 @@ use lk_script::ending::end;
 use lk_script::fault::ScriptFault;
 use lk_script::mode::Mode;
 use lk_script::script::run_script;
-use lk_transport::fault::ServiceFault;
 use lk_sim::{LeftNode, World};
+use lk_transport::fault::ServiceFault;
 use lk_types::{NoMemory, NodeNo};
 use std::alloc::Global;
 use std::io;
 use std::io::{BufRead, Write};
 
-/// What a node leaves: whether it is up, how many bytes its disks have and how many of these are synced, A's first, and what its
-/// store comes to, or why that cannot be told.
+/// What a node leaves: whether it is up, how many bytes its disks have and how many of these are synced, A's first,
+/// and what its store comes to, or why that cannot be told.
 #[derive(Drop)]
 pub struct NodeState {
     pub number: NodeNo,
@@ -157,9 +157,10 @@ fn run_and_write<M: MemoryReplica, R: BufRead, W: Write>(
     write_left(alloc, mode, out)
 }
 
-/// Runs a script as `run_to_end` does, and prints after its last line, for each node that was started, `node N up` or `node N
-/// down`, how many bytes of its disks are synced, and what `inspect` prints of a store with the same bytes; then how many datagrams
-/// may be delivered. A script of table mode has no more lines, and one that ends early neither.
+/// Runs a script as `run_to_end` does, and prints after its last line, for each node that was started, `node N up` or
+/// `node N down`, how many bytes of its disks are synced, and what `inspect` prints of a store with the same bytes;
+/// then how many datagrams may be delivered. A script of table mode has no more lines, and one that ends early
+/// neither.
 pub fn run_to_state<M: MemoryReplica, R: BufRead, W: Write, E: Write>(
     alloc: Global,
     reader: &mut R,

@@ -16,7 +16,7 @@ members_among set nodes = map (λ m. m.node) (filter (λ m. list_any (λ n. n ==
 abbrev pub HasMajority : List Member → ProposalValue → Type 0
 HasMajority set p = IsMajority (members_among set p.accepted) set
 
--- the proposal once the node was heard to accept it
+-- the proposal after the node was heard to accept it
 abbrev pub heard : List Member → ℕ → ProposalValue → ProposalValue
 heard set node p = record { position = p.position; command = p.command; accepted = members_among set (p.accepted ++ node ∷ []) }
 
@@ -27,12 +27,12 @@ pub record IsVoteFor (t : TermValue) (roster : RosterValue) (b : BallotValue) (i
   pub proposal : proposal_at i t.proposals ≡ Some p
   pub command : p.command ≡ v
 
--- the proposals once the node was heard to accept the one at the position
+-- the proposals after the node was heard to accept the one at the position
 abbrev pub heard_at : List Member → ℕ → ℕ → List ProposalValue → List ProposalValue
 heard_at set node i [] = []
 heard_at set node i (p ∷ ps) = if p.position == i then heard set node p ∷ ps else p ∷ heard_at set node i ps
 
--- by that a majority of the set has accepted it, and had not before
+-- with that a majority of the set has accepted it, and had not before
 abbrev pub GainsMajority : List Member → ℕ → ProposalValue → Type 0
 GainsMajority set node p = (HasMajority set p → ⊥) × HasMajority set (heard set node p)
 

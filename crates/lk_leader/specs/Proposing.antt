@@ -46,11 +46,11 @@ pub record Proposes (t : TermValue) (waiting : List RequestValue) (roster : Rost
   pub promised : IsMajority (promisers set i t.reports) set
   pub value : IsLeadersValue t waiting roster set i v
 
--- the leader has a term, which does
+-- the leader has a term that proposes it
 abbrev pub LeaderProposes : LeaderValue → RosterValue → ℕ → Command → Type 0
 LeaderProposes l roster i v = (t : TermValue) × (l.term ≡ Some t) × Proposes t l.waiting roster i v
 
--- the term after that. What is proposed outside the window is kept no longer
+-- the term after that. What is proposed outside the window is not kept
 abbrev pub proposed : RosterValue → ℕ → Command → TermValue → TermValue
 proposed roster i v t =
     with_proposals (in_window roster.executed (length roster.sets) t.proposals ++ record { position = i; command = v; accepted = [] } ∷ []) t

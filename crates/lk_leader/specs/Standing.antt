@@ -3,8 +3,9 @@ use Rattle.std.specs.Prelude.{◌≡◌, ℕ, ◌+◌, ◌<◌, ◌≤◌, Conta
 use Rattle.lk_history.specs.Nodes.{Term}
 use Rattle.lk_leader.specs.Terms.{Command, Report, ProposalValue, TermValue}
 
--- a leader that keeps so much stands for the term, where so many positions are executed and the window has so many. The
--- term lists all that was ever proposed and heard; what is kept is of these, with each proposal that is not executed
+-- a leader that keeps this much stands for the term, with this many executed positions and a window of this size. The
+-- term lists everything that was ever proposed and heard; what is kept is among these, with each proposal that is not
+-- executed
 pub record LeadsTerm (executed alpha : ℕ) (t : Term) (k : TermValue) : Type 0 where
   pub ballot : t.ballot ≡ k.ballot
   pub reports : (r : Report) → Contains k.reports r → Contains t.reports r

@@ -7,13 +7,13 @@ use Rattle.lk_members.specs.Ports.{is_named}
 use Rattle.lk_members.specs.Windows.{RosterValue}
 use Rattle.std.specs.Prelude.{◌≡◌, ℕ, Bool, true, false, ◌==◌, ◌+◌, ◌&&◌, nat_lt, nat_le, Option, Some, None, List, [], ◌∷◌, ◌++◌, filter, find}
 
--- a command that was proposed at a position, and the members of the position that were heard to accept it since then
+-- a command that was proposed at a position, and the members of the position that have been heard to accept it
 pub record ProposalValue : Type 0 where
   pub position : ℕ
   pub command : Command
   pub accepted : List ℕ
 
--- a ballot in progress: the first promise of each node that was heard, in order, and what was proposed, as far as it is kept
+-- a ballot in progress: the first promise of each node, in order, and what was proposed, as far as it is kept
 pub record TermValue : Type 0 where
   pub ballot : BallotValue
   pub reports : List Report
@@ -42,7 +42,7 @@ with_proposals ps t = record { ballot = t.ballot; reports = t.reports; proposals
 abbrev pub proposal_at : ℕ → List ProposalValue → Option ProposalValue
 proposal_at i ps = find (λ p. p.position == i) ps
 
--- those at the so many positions after the executed ones
+-- those at this many positions after the executed ones
 abbrev pub in_window : ℕ → ℕ → List ProposalValue → List ProposalValue
 in_window executed alpha ps = filter (λ p. nat_lt executed p.position && nat_le p.position (executed + alpha)) ps
 

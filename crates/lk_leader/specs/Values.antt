@@ -17,15 +17,15 @@ speaks_at set i r = is_member r.node set && nat_le r.first i
 abbrev pub reports_at : List Member → ℕ → List Report → List Report
 reports_at set i reports = filter (speaks_at set i) reports
 
--- what a promise tells of the position
+-- what a promise reports of the position
 abbrev pub told_by : ℕ → Report → List Told
 told_by i r = map (λ x. record { node = r.node; vote = x }) (filter (λ x. x.position == i) r.votes)
 
--- what these promises tell of it
+-- what these promises report of it
 abbrev pub told_at : ℕ → List Report → List Told
 told_at i reports = flat_map (told_by i) reports
 
--- the second counts at least as much: a greater ballot, or the same one told by a node that is not greater
+-- the second counts at least as much: a greater ballot, or the same one reported by a node that is not greater
 abbrev pub IsNotAbove : Told → Told → Type 0
 IsNotAbove u t = IsBelow u.vote.ballot t.vote.ballot ⊎ ((u.vote.ballot ≡ t.vote.ballot) × (t.node ≤ u.node))
 
@@ -34,7 +34,7 @@ pub record IsHighest (ts : List Told) (t : Told) : Type 0 where
   pub among : Contains ts t
   pub above : (u : Told) → Contains ts u → IsNotAbove u t
 
--- the highest of them, or none where there are none
+-- the highest of them, or none if there are none
 abbrev pub IsBest : List Told → Option Told → Type 0
 IsBest ts None = ts ≡ []
 IsBest ts (Some t) = IsHighest ts t
@@ -55,21 +55,22 @@ pub record IsFirstNew (executed : ℕ) (ps : List ProposalValue) (waiting : List
 abbrev pub NoneIsNew : ℕ → List ProposalValue → List RequestValue → Type 0
 NoneIsNew executed ps waiting = (r : RequestValue) → Contains waiting r → IsUnderWay executed ps (Request r)
 
--- some promise tells of a vote at the position or after it
+-- some promise reports a vote at the position or after it
 abbrev pub is_reached : List Report → ℕ → Bool
 is_reached reports i = list_any (λ r. list_any (λ x. nat_le i x.position) r.votes) reports
 
--- the last change is not in force before the position
+-- the last change is not in effect before the position
 abbrev pub is_changing_at : RosterValue → ℕ → Bool
 is_changing_at roster i = nat_lt 0 roster.changed && nat_le i (roster.changed + length roster.sets)
 
 -- the command that a term proposes at a position of this set, in three cases
 pub data IsLeadersValue (t : TermValue) (waiting : List RequestValue) (roster : RosterValue) (set : List Member) (i : ℕ) : Command → Type 0 where
-  -- the highest vote that a member's promise tells of the position
+  -- the highest vote that a member's promise reports for the position
   highest : (h : Told) → IsHighest (told_at i (reports_at set i t.reports)) h → IsLeadersValue t waiting roster set i h.vote.command
-  -- where none is told, the first waiting request that is not under way
+  -- if none is reported, the first waiting request that is not under way
   first_new : (q : RequestValue) → told_at i (reports_at set i t.reports) ≡ [] → IsFirstNew roster.executed t.proposals waiting q
       → IsLeadersValue t waiting roster set i (Request q)
-  -- else a no-op, where a promise tells of a vote at it or after it, or the last change of members is not in force before it
+  -- otherwise a no-op, if a promise reports a vote at it or after it, or the last change of members is not in effect
+  -- before it
   fills : told_at i (reports_at set i t.reports) ≡ [] → NoneIsNew roster.executed t.proposals waiting → IsTrue (is_reached t.reports i || is_changing_at roster i)
       → IsLeadersValue t waiting roster set i Noop

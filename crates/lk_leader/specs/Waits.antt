@@ -3,11 +3,11 @@ pub use Rattle.lk_types.specs.declared.command.Request.{Request as RequestValue}
 use Rattle.std.specs.List.{AllByRecursion}
 use Rattle.std.specs.Prelude.{◌≡◌, ℕ, false, nat_lt, nat_le, ◌==◌, if◌then◌else◌, Option, Some, None, List, [], ◌∷◌, find}
 
--- which of two requests of a client waits: the later one, where its number is greater
+-- which of two requests of a client waits: the later one, if its number is greater
 abbrev pub newer : RequestValue → RequestValue → RequestValue
 newer r q = if nat_lt q.number r.number then r else q
 
--- what waits once this request was asked: a client's first waits after the others, a later one can take the place of the first
+-- what waits after this request was asked: a client's first waits after the others, a later one can replace the first
 abbrev pub asked : RequestValue → List RequestValue → List RequestValue
 asked r [] = r ∷ []
 asked r (q ∷ qs) = if r.client == q.client then newer r q ∷ qs else q ∷ asked r qs
@@ -16,12 +16,12 @@ asked r (q ∷ qs) = if r.client == q.client then newer r q ∷ qs else q ∷ as
 abbrev pub waiting_of : ℕ → List RequestValue → Option RequestValue
 waiting_of client qs = find (λ q. client == q.client) qs
 
--- its number, where it is at most this one
+-- its number, if it is at most this one
 abbrev pub number_up_to : ℕ → Option RequestValue → Option ℕ
 number_up_to number None = None
 number_up_to number (Some q) = if nat_le q.number number then Some q.number else None
 
--- what waits once the client's requests up to the number are done with
+-- what waits after the client's requests up to the number are complete
 abbrev pub left_by : ℕ → ℕ → List RequestValue → List RequestValue
 left_by client number [] = []
 left_by client number (q ∷ qs) = if client == q.client then (if nat_le q.number number then qs else q ∷ qs) else q ∷ left_by client number qs

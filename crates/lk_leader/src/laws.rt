@@ -1,4 +1,5 @@
-//! What follows of a leader's answers: laws over the definitions alone. Each is what a function without a body ensures.
+//! What follows from a leader's answers: laws about the definitions alone. A function without a body ensures each of
+//! them.
 ghost use Rattle.std.specs.Prelude.{◌≡◌, ◌⊎◌, ◌+◌, ◌≤◌, ℕ, List, length, Contains};
 ghost use Rattle.lk_types.specs.BallotValue.{BallotValue};
 ghost use Rattle.lk_types.specs.declared.member.Member.{Member};
@@ -18,8 +19,8 @@ ghost use Rattle.lk_leader.specs.Acceptances.{members_among, heard, heard_at, Is
 ghost use Rattle.lk_leader.specs.Waits.{asked, left_by, AreOneEach};
 ghost use Rattle.lk_leader.specs.Standing.{LeadsTerm};
 
-/// What a leader proposes is what a sound history allows its term to propose, where its roster stands for the executed
-/// list. A proposed command was reported, or waits, or is none: nothing unasked is ever proposed.
+/// What a leader proposes is what a sound history permits its term to propose, if its roster stands for the executed
+/// list. A proposed command was reported, or waits, or is a no-op: nothing is ever proposed that was not asked.
 pub fn what_is_proposed_is_allowed()
     ensures allowed { (genesis : Genesis) (done : List Command) (t : Term) (k : TermValue) (waiting : List RequestValue) (roster : RosterValue) (i : ℕ) (v : Command)
         → RosterSumsUp genesis done roster → LeadsTerm roster.executed (length roster.sets) t k → Proposes k waiting roster i v → MayPropose genesis done t i v }
@@ -28,8 +29,8 @@ pub fn what_is_proposed_is_allowed()
         → ((x : Vote) × IsReported t.reports x × (x.command ≡ v)) ⊎ (((q : RequestValue) × Contains waiting q × (v ≡ Request q)) ⊎ (v ≡ Noop)) }
 {}
 
-/// What a leader calls chosen was accepted by a majority of the members that the executed list names for the position, and
-/// the term has their acceptances.
+/// What a leader calls chosen was accepted by a majority of the members that the executed list names for the position,
+/// and the term has their acceptances.
 pub fn what_gains_a_majority_was_accepted()
     ensures { (genesis : Genesis) (done : List Command) (t : Term) (k : TermValue) (roster : RosterValue) (b : BallotValue) (node i : ℕ) (v : Command) (set : List Member) (p : ProposalValue)
         → RosterSumsUp genesis done roster → i ≤ roster.executed + length roster.sets → LeadsTerm roster.executed (length roster.sets) t k → IsVoteFor k roster b i v set p → GainsMajority set node p
@@ -38,7 +39,7 @@ pub fn what_gains_a_majority_was_accepted()
         → Contains (with_acceptance t (record { node = node; position = i; command = v })).accepted (record { node = n; position = i; command = v })) }
 {}
 
-/// A leader goes on standing for its term, whatever it hears, proposes or decides, and as more is executed.
+/// A leader continues to stand for its term, whatever it hears, proposes or decides, and as more is executed.
 pub fn a_leader_stands_for_its_term()
     ensures begins { (executed alpha : ℕ) (b : BallotValue) → LeadsTerm executed alpha (new_term b) (begun b) }
     ensures later { (executed later alpha : ℕ) (t : Term) (k : TermValue) → executed ≤ later → LeadsTerm executed alpha t k → LeadsTerm later alpha t k }
@@ -50,7 +51,7 @@ pub fn a_leader_stands_for_its_term()
         → LeadsTerm executed alpha (with_acceptance t (record { node = node; position = i; command = v })) (with_proposals (heard_at set node i k.proposals) k) }
 {}
 
-/// At most one request of a client waits, whatever is asked or done with.
+/// At most one request of a client waits, whatever is asked or completed.
 pub fn one_request_waits_a_client()
     ensures asked { (r : RequestValue) (waiting : List RequestValue) → AreOneEach waiting → AreOneEach (asked r waiting) }
     ensures left { (client number : ℕ) (waiting : List RequestValue) → AreOneEach waiting → AreOneEach (left_by client number waiting) }

@@ -49,7 +49,7 @@ impl Model for Leader {
 }
 
 impl Leader {
-    /// No term, and nothing waits. It takes no memory.
+    /// No term, and nothing waits. Takes no memory.
     pub fn new(alloc: Global) -> Leader
         ensures { result ≡ idle }
     {
@@ -60,8 +60,8 @@ impl Leader {
         }
     }
 
-    /// A request waits: a greater number takes the place of its client's waiting one, any other is dropped. Memory is wanted
-    /// where none of its client waits.
+    /// A request waits: a greater number replaces its client's waiting one, any other is dropped. Takes memory if none
+    /// of its client waits.
     pub fn ask(&mut self, client: ClientNo, number: RequestNumber, op: &Op) -> Result<(), NoMemory>
         ensures ok { OnOk result (self.new ≡ record { term = self.old.term; waiting = asked (record { client = client; number = number; op = op.now }) self.old.waiting }) }
         ensures err { OnErr result (self.new ≡ self.old) }
@@ -71,14 +71,14 @@ impl Leader {
         Ok(())
     }
 
-    /// A term begins with this ballot, in place of any other. What waits stays.
+    /// Begins a term with this ballot, in place of any other. What waits stays.
     pub fn begin(&mut self, ballot: RealBallot)
         ensures { self.new ≡ with_term (begun ballot) self.old }
     {
         self.term = Some(Term::begin(self.alloc, ballot));
     }
 
-    /// A promise was heard. It is kept where it is of the term's ballot, of a node of the window and that node's first.
+    /// Records a promise. It is kept if it is of the term's ballot, of a node of the window, and that node's first.
     pub fn promise(
         &mut self,
         node: NodeNo,
@@ -114,7 +114,7 @@ impl Leader {
         }
     }
 
-    /// What the term proposes next: the command and its position. It is to be called until it answers `None`.
+    /// What the term proposes next: the command and its position. Call it until it returns `None`.
     pub fn propose(&mut self, roster: &Roster) -> Option<(Position, Command)>
         ensures some { IfSome result (λ p. LeaderProposes self.old roster.now p.0 p.1) }
         ensures term { IfSome result (λ p. (t : TermValue) → self.old.term ≡ Some t → self.new ≡ with_term (proposed roster.now p.0 p.1 t) self.old) }
@@ -130,8 +130,8 @@ impl Leader {
         Some((position, command))
     }
 
-    /// A node was heard to accept a command. It counts where the term has proposed that command at that position, in this
-    /// ballot, and the position is in the window. Chosen is what a majority has accepted by that and had not before.
+    /// Records that a node accepted a command. It counts if the term has proposed that command at that position, in
+    /// this ballot, and the position is in the window. Returns what a majority has accepted now and had not before.
     pub fn accepted(
         &mut self,
         node: NodeNo,
@@ -160,7 +160,7 @@ impl Leader {
         })
     }
 
-    /// A ballot was seen. Where it is above the term's, the term ends and what waits is forgotten.
+    /// Records a ballot. If it is above the term's, the term ends and what waits is forgotten.
     pub fn yield_to(&mut self, ballot: Ballot)
         ensures above { (t : TermValue) → self.old.term ≡ Some t → IsBelow t.ballot ballot → self.new ≡ idle }
         ensures other { ((t : TermValue) → self.old.term ≡ Some t → IsBelow t.ballot ballot → ⊥) → self.new ≡ self.old }
@@ -180,7 +180,7 @@ impl Leader {
         }
     }
 
-    /// The term ends, and what waits is forgotten.
+    /// Ends the term, and forgets what waits.
     pub fn leave(&mut self)
         ensures { self.new ≡ idle }
     {
@@ -188,8 +188,8 @@ impl Leader {
         self.waiting.clear();
     }
 
-    /// The client's requests up to this number are done with: its waiting one goes where it is one of them, and its
-    /// number is told.
+    /// The client's requests up to this number are complete: removes its waiting one if it is one of them, and returns
+    /// its number.
     pub fn ran(&mut self, client: ClientNo, number: RequestNumber) -> Option<RequestNumber>
         ensures told { result ≡ number_up_to number (waiting_of client self.old.waiting) }
         ensures left { self.new ≡ record { term = self.old.term; waiting = left_by client number self.old.waiting } }
@@ -222,7 +222,7 @@ impl Leader {
         }
     }
 
-    /// Whether the term keeps a promise of the node.
+    /// Whether the term has a promise of the node.
     pub fn has_promised(&self, node: NodeNo) -> bool
         ensures { IsTrue result ↔ ((t : TermValue) × (self.now.term ≡ Some t) × (is_promiser node t.reports ≡ true)) }
     {
@@ -232,7 +232,7 @@ impl Leader {
         }
     }
 
-    /// What is proposed at the position and not decided, where the position is in the window.
+    /// What is proposed at the position and not decided, if the position is in the window.
     pub fn open_at(&self, position: Position, roster: &Roster) -> Option<Open<'_>>
         ensures { MatchOption result ((p : ProposalValue) → IsOpen self.now roster.now position p → ⊥)
             (λ o. (p : ProposalValue) × IsOpen self.now roster.now position p × (p.command ≡ o.command.now) × (p.accepted ≡ o.accepted.now)) }

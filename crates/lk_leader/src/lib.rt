@@ -1,5 +1,5 @@
 //! The leader's part of a node: which command its ballot proposes at which position, when a position is decided, and
-//! which requests wait. No disk, no socket, no bytes, and no call but `ask` and `promise` takes memory.
+//! which requests wait. It has no access to a disk, a socket or bytes, and only `ask` and `promise` take memory.
 #![tactic(auto)]
 
 pub mod laws;

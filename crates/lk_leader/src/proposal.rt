@@ -9,7 +9,7 @@ use lk_members::{Roster, is_majority};
 use lk_types::{Command, Executed, Members, NodeNo, Position, Request};
 use std::marker::Model;
 
-/// A command that was proposed at a position, and the members that were heard to accept it since then.
+/// A command that was proposed at a position, and the members that have been heard to accept it.
 #[derive(Drop)]
 pub(crate) struct Proposal {
     pub(crate) position: Position,
@@ -46,7 +46,7 @@ impl Proposal {
         }
     }
 
-    /// Whether it stands at a position of the roster's window.
+    /// Whether it is at a position of the roster's window.
     pub(crate) fn is_within(&self, roster: &Roster) -> bool
         ensures { result ≡ (nat_lt roster.now.executed self.now.position && nat_le self.now.position (roster.now.executed + length roster.now.sets)) }
     {
@@ -71,7 +71,7 @@ impl Proposal {
         is_majority(set, members_of(set, self.accepted.as_slice()).as_slice())
     }
 
-    /// The node was heard to accept it. Whether a majority of the set has by that, and had not before.
+    /// Records that the node accepted it. Returns whether a majority of the set has now, and had not before.
     fn accept(&mut self, node: NodeNo, set: &Members) -> bool
         ensures heard { self.new ≡ heard set.now node self.old }
         ensures gains { IsTrue result ↔ GainsMajority set.now node self.old }
@@ -83,8 +83,8 @@ impl Proposal {
         !had_majority && self.has_majority(set)
     }
 
-    /// The node was heard to accept this command: it changes nothing where it is another. Whether a majority of
-    /// the set has accepted by that, and had not before.
+    /// Records that the node accepted this command; another command changes nothing. Returns whether a majority of the
+    /// set has accepted now, and had not before.
     pub(crate) fn hear(&mut self, node: NodeNo, command: &Command, set: &Members) -> bool
         ensures same { self.old.command ≡ command.now → (self.new ≡ heard set.now node self.old) × (IsTrue result ↔ GainsMajority set.now node self.old) }
         ensures position { self.new.position ≡ self.old.position }

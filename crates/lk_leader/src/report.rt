@@ -9,7 +9,7 @@ use lk_wire::Votes;
 use std::alloc::Global;
 use std::marker::Model;
 
-/// A promise that was heard: who gave it, and the votes that it tells of, from `first` on.
+/// A promise: who gave it, and the votes that it reports, from `first` on.
 #[derive(Drop)]
 pub(crate) struct Report {
     pub(crate) node: NodeNo,
@@ -26,7 +26,7 @@ impl Model for Report {
 }
 
 impl Report {
-    /// The promise, its votes copied.
+    /// The promise, with its votes copied.
     pub(crate) fn of(
         alloc: Global,
         node: NodeNo,
@@ -39,7 +39,7 @@ impl Report {
         Ok(Report { node, first, votes })
     }
 
-    /// The best so far, or what it tells of the position where that counts for more.
+    /// The best so far, or what it reports of the position if that counts for more.
     pub(crate) fn tell(&self, position: Position, best: Option<Told>) -> Option<Told>
         ensures { (ts : List ToldValue) → IsBest ts best → IsBest (ts ++ told_by position self.now) result }
     {
@@ -52,7 +52,7 @@ impl Report {
         best
     }
 
-    /// Whether it tells of a vote at the position or after it.
+    /// Whether it reports a vote at the position or after it.
     pub(crate) fn reaches(&self, position: Position) -> bool
         ensures { result ≡ list_any (λ x. nat_le position x.position) self.now.votes }
     {

@@ -17,7 +17,7 @@ use lk_types::{Command, Members, NoMemory, NodeNo, Position, RealBallot};
 use std::alloc::Global;
 use std::marker::Model;
 
-/// A ballot in progress: the first promise of each node that was heard, and what was proposed at the positions of the window.
+/// A ballot in progress: the first promise of each node, and what was proposed at the positions of the window.
 #[derive(Drop)]
 pub(crate) struct Term {
     ballot: RealBallot,
@@ -38,7 +38,7 @@ impl Model for Term {
 }
 
 impl Term {
-    /// The ballot begins: nothing is promised or proposed in it. It takes no memory.
+    /// The ballot begins: nothing is promised or proposed in it. Takes no memory.
     pub(crate) fn begin(alloc: Global, ballot: RealBallot) -> Term
         ensures { result ≡ begun ballot }
     {
@@ -56,14 +56,14 @@ impl Term {
         self.ballot
     }
 
-    /// Whether a promise of the node is kept.
+    /// Whether it has a promise of the node.
     pub(crate) fn has_promised(&self, node: NodeNo) -> bool
         ensures { result ≡ is_promiser node self.now.reports }
     {
         self.reports.iter().any(|report| report.node == node)
     }
 
-    /// Keeps one promise more.
+    /// Keeps one more promise.
     pub(crate) fn keep(&mut self, report: Report) -> Result<(), NoMemory>
         ensures ok { OnOk result (self.new ≡ with_report report self.old) }
         ensures err { OnErr result (self.new ≡ self.old) }
@@ -123,7 +123,7 @@ impl Term {
         }
     }
 
-    /// The highest vote that a member's promise tells of the position.
+    /// The highest vote that a member's promise reports for the position.
     fn highest(&self, position: Position, set: &Members) -> Option<Told>
         ensures { IsBest (told_at position (reports_at set.now position self.now.reports)) result }
     {
@@ -136,7 +136,7 @@ impl Term {
         best
     }
 
-    /// Whether some promise tells of a vote at the position or after it.
+    /// Whether some promise reports a vote at the position or after it.
     fn is_reached(&self, position: Position) -> bool
         ensures { result ≡ is_reached self.now.reports position }
     {
@@ -202,8 +202,8 @@ impl Term {
             .position(|proposal| proposal.position == position)
     }
 
-    /// The node was heard to accept the command at the position: it changes nothing where another is proposed there, or
-    /// none. Whether a majority has accepted by that, and had not before.
+    /// Records that the node accepted the command at the position; nothing changes if another is proposed there, or
+    /// none. Returns whether a majority has accepted now, and had not before.
     pub(crate) fn hear(
         &mut self,
         node: NodeNo,
@@ -245,7 +245,7 @@ fn is_promiser_of(reports: &[Report], node: NodeNo, position: Position) -> bool
     reports.iter().any(|report| report.is_from(node, position))
 }
 
-/// Whether the last change is not in force before the position.
+/// Whether the last change is not in effect before the position.
 fn is_changing(position: Position, roster: &Roster) -> bool
     ensures { result ≡ is_changing_at roster.now position }
 {

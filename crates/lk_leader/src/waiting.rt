@@ -16,7 +16,7 @@ pub(crate) struct Asked {
 }
 
 impl Asked {
-    /// The request, which is this client's.
+    /// The request, as this client's.
     fn request_of(&self, client: ClientNo) -> Request
         ensures { result ≡ record { client = client; number = self.now.number; op = self.now.op } }
     {
@@ -44,7 +44,7 @@ impl Model for Waiting {
 }
 
 impl Waiting {
-    /// Nothing waits. It takes no memory.
+    /// Nothing waits. Takes no memory.
     pub(crate) fn new(alloc: Global) -> Waiting
         ensures { result ≡ [] }
     {
@@ -53,7 +53,7 @@ impl Waiting {
         }
     }
 
-    /// A request waits: a greater number takes the place of its client's waiting one, any other is dropped.
+    /// A request waits: a greater number replaces its client's waiting one, any other is dropped.
     pub(crate) fn ask(
         &mut self,
         client: ClientNo,
@@ -74,7 +74,7 @@ impl Waiting {
         Ok(())
     }
 
-    /// Takes out the client's waiting request where its number is at most this one, and tells its number.
+    /// Removes the client's waiting request if its number is at most this one, and returns its number.
     pub(crate) fn ran(&mut self, client: ClientNo, number: RequestNumber) -> Option<RequestNumber>
         ensures told { result ≡ number_up_to number (waiting_of client self.old) }
         ensures left { self.new ≡ left_by client number self.old }

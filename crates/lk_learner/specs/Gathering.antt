@@ -4,24 +4,24 @@ use Rattle.lk_types.specs.Limits.{max_base}
 use Rattle.lk_wire.specs.Values.{PartValue}
 use Rattle.lk_learner.specs.Learners.{GatheredValue}
 
--- which there are: at most one text is gathered, and no more of it than there is
+-- the invariant: at most one text is gathered, and no more of it than there is
 pub record IsGathered (g : GatheredValue) : Type 0 where
   pub room : g.total ≤ max_base
   pub within : length g.bytes ≤ g.total
 
--- the bytes of the part, where it is the first one
+-- the bytes of the part, if it is the first one
 abbrev pub first_bytes : PartValue → List ℕ
 first_bytes p = if p.offset == 0 then p.bytes else []
 
--- what is gathered from this part on: nothing yet, where the part is not the first one
+-- what is gathered with this part as its start: nothing yet, if the part is not the first one
 abbrev pub begun_by : PartValue → GatheredValue
 begun_by p = record { position = p.position; total = p.total; bytes = first_bytes p }
 
--- the part is one of the same snapshot: its total agrees, and it goes on what stands there
+-- the part is one of the same snapshot: its total agrees, and it continues the gathered bytes
 abbrev pub goes_on : GatheredValue → PartValue → Bool
 goes_on g p = (p.position == g.position) && ((p.total == g.total) && (p.offset == length g.bytes))
 
--- what is gathered with this part: it is added where it goes on what stands there
+-- what is gathered with this part: it is appended if it continues the gathered bytes
 abbrev pub joined : GatheredValue → PartValue → GatheredValue
 joined g p = if goes_on g p then record { position = g.position; total = g.total; bytes = g.bytes ++ p.bytes } else g
 
@@ -30,21 +30,21 @@ abbrev pub begins : Option GatheredValue → PartValue → Bool
 begins None p = true
 begins (Some g) p = nat_lt g.position p.position
 
--- it goes on what is gathered, if anything is
+-- it continues what is gathered, if anything is
 abbrev pub goes_on_any : Option GatheredValue → PartValue → Bool
 goes_on_any None p = false
 goes_on_any (Some g) p = goes_on g p
 
--- the part is added to what is gathered, if anything is
+-- the part is appended to what is gathered, if anything is
 abbrev pub joined_any : Option GatheredValue → PartValue → Option GatheredValue
 joined_any None p = None
 joined_any (Some g) p = Some (joined g p)
 
--- what is gathered once a part was heard, where so many positions are executed: a part of a position that is executed is
--- dropped, one of a greater position than that which is gathered begins anew, and any other goes on what stands there or is dropped
+-- what is gathered after a part, given how many positions are executed: a part at an executed position is dropped, one
+-- at a greater position than that of the gathered text starts afresh, and any other continues the text or is dropped
 abbrev pub heard : ℕ → Option GatheredValue → PartValue → Option GatheredValue
 heard executed g p = if nat_lt executed p.position then (if begins g p then Some (begun_by p) else joined_any g p) else g
 
--- its bytes are taken: it is of a position that is not executed, and begins a text or goes on what stands there
+-- its bytes are taken: it is at a position that is not executed, and begins a text or continues the gathered one
 abbrev pub is_taken : ℕ → Option GatheredValue → PartValue → Bool
 is_taken executed g p = nat_lt executed p.position && (if begins g p then p.offset == 0 else goes_on_any g p)

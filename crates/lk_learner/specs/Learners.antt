@@ -1,4 +1,4 @@
--- What a contract sees of a learner, and what becomes of it.
+-- What a contract sees of a learner, and how it changes.
 pub use Rattle.lk_state.specs.States.{WholeValue}
 pub use Rattle.lk_learner.specs.Pairs.{Command, Pair}
 use Rattle.std.specs.Prelude.{◌≡◌, ℕ, ◌+◌, ◌-◌, ◌*◌, ◌<◌, ◌≤◌, Option, Some, None, List, [], ◌∷◌, ◌++◌, length, take, drop, Contains}
@@ -10,14 +10,14 @@ use Rattle.lk_state.specs.Packed.{packed}
 use Rattle.lk_state.specs.Runs.{ran}
 use Rattle.lk_learner.specs.Pairs.{AreKept, with_pair, without}
 
--- the beginning of a snapshot's text that was heard so far
+-- the prefix of a snapshot's text that was heard so far
 pub record GatheredValue : Type 0 where
   pub position : ℕ
   pub total : ℕ
   pub bytes : List ℕ
 
--- the state after the executed list, the position of the snapshot from which it was begun and the snapshot's packed text,
--- the commands that were executed since then, the pairs of later positions, and the snapshot that is gathered, if any
+-- the state after the executed list, the position of the snapshot from which it began and the snapshot's packed text,
+-- the commands that were executed since then, the pairs of later positions, and the snapshot being gathered, if any
 pub record LearnerValue : Type 0 where
   pub whole : WholeValue
   pub snapshot_position : ℕ
@@ -34,7 +34,7 @@ executed l = l.whole.roster.executed
 abbrev pub alpha : LearnerValue → ℕ
 alpha l = length l.whole.roster.sets
 
--- which there are
+-- the invariant
 pub record IsLearner (l : LearnerValue) : Type 0 where
   pub window : IsAlpha (alpha l)
   pub reaches : executed l ≡ l.snapshot_position + length l.served
@@ -42,7 +42,7 @@ pub record IsLearner (l : LearnerValue) : Type 0 where
   pub room : length l.snapshot ≤ max_base
   pub kept : AreKept (executed l) (alpha l) l.pairs
 
--- it stands on this state, and knows nothing more
+-- it has adopted this state, and knows nothing more
 abbrev pub begun : WholeValue → LearnerValue
 begun w = record { whole = w; snapshot_position = w.roster.executed; snapshot = packed w; served = []; pairs = []; gathered = None }
 
@@ -60,7 +60,7 @@ keeping p l = record { whole = l.whole; snapshot_position = l.snapshot_position;
 abbrev pub IsNext : LearnerValue → Command → Type 0
 IsNext l v = Contains l.pairs (executed l + 1, v)
 
--- one position on with this command, whose pair goes
+-- one position further with this command, whose pair goes
 abbrev pub advanced : Meaning → Command → LearnerValue → LearnerValue
 advanced m v l = record {
   whole = ran m v l.whole;
@@ -71,7 +71,7 @@ advanced m v l = record {
   gathered = l.gathered;
 }
 
--- a snapshot of its state takes the place of the commands that it has executed
+-- a snapshot of its state replaces the commands that it has executed
 abbrev pub standing_here : LearnerValue → LearnerValue
 standing_here l = record { whole = l.whole; snapshot_position = executed l; snapshot = packed l.whole; served = []; pairs = l.pairs; gathered = l.gathered }
 
@@ -79,7 +79,7 @@ standing_here l = record { whole = l.whole; snapshot_position = executed l; snap
 abbrev pub IsServed : LearnerValue → ℕ → Type 0
 IsServed l i = (l.snapshot_position < i) × (i ≤ executed l)
 
--- the commands from there on, through the last that is executed, up to 16
+-- the commands from there on, up to the last executed one, up to 16
 abbrev pub news_from : ℕ → LearnerValue → DecidedValue
 news_from first l = record { first = first; commands = take max_commands (drop (first - (l.snapshot_position + 1)) l.served) }
 
@@ -88,6 +88,6 @@ abbrev pub gathered_bytes : Option GatheredValue → ℕ
 gathered_bytes None = 0
 gathered_bytes (Some g) = length g.bytes
 
--- what is wanted next: the next position, or a snapshot from after what is gathered on
+-- what is wanted next: the next position, or the rest of the snapshot being gathered
 abbrev pub wanted : LearnerValue → WantValue
 wanted l = record { first = executed l + 1; offset = gathered_bytes l.gathered }

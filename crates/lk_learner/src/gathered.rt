@@ -10,7 +10,7 @@ use lk_wire::PartRef;
 use std::alloc::Global;
 use std::marker::Model;
 
-/// The beginning of a snapshot's text, as far as its parts were heard.
+/// The prefix of a snapshot's text from the parts heard so far.
 #[derive(Drop)]
 pub struct Gathered {
     position: Position,
@@ -29,7 +29,7 @@ impl Model for Gathered {
     ghost invariant = { λ g. IsGathered (record { position = g.position; total = g.total; bytes = g.bytes.items }) };
 }
 
-/// The bytes of the part, where it is the first one.
+/// The bytes of the part, if it is the first one.
 fn first_bytes(alloc: Global, part: &PartRef<'_>) -> Result<Vec<u8>, NoMemory>
     ensures value { IfOk result (λ bytes. bytes.items ≡ first_bytes part.now) }
     ensures memory { OnErr result (part.now.offset ≡ 0) }
@@ -41,7 +41,7 @@ fn first_bytes(alloc: Global, part: &PartRef<'_>) -> Result<Vec<u8>, NoMemory>
 }
 
 impl Gathered {
-    /// What is gathered from this part on: nothing yet, where the part is not the first one.
+    /// What is gathered with this part as its start: nothing yet, if the part is not the first one.
     pub(crate) fn begun_by(alloc: Global, part: &PartRef<'_>) -> Result<Gathered, NoMemory>
         ensures value { IfOk result (λ g. g ≡ begun_by part.now) }
         ensures memory { OnErr result (part.now.offset ≡ 0) }
@@ -69,7 +69,7 @@ impl Gathered {
         &self.bytes
     }
 
-    /// How many bytes are there, at most 49,152.
+    /// How many bytes there are, at most 49,152.
     pub fn length(&self) -> u32
         ensures value { result ≡ length self.now.bytes }
         ensures room { result ≤ max_base }
@@ -84,7 +84,7 @@ impl Gathered {
         self.length() == self.total
     }
 
-    /// Whether the part is one of the same snapshot that goes on what stands there.
+    /// Whether the part is one of the same snapshot that continues these bytes.
     fn goes_on(&self, part: &PartRef<'_>) -> bool
         ensures { result ≡ goes_on self.now part.now }
     {
@@ -93,7 +93,7 @@ impl Gathered {
             && part.offset() == self.length()
     }
 
-    /// The part is added where it goes on what stands there. Memory is wanted for its bytes; a refused call changes nothing.
+    /// Appends the part if it continues these bytes. It needs memory for its bytes; a failed call changes nothing.
     pub(crate) fn join(&mut self, part: &PartRef<'_>) -> Result<(), NoMemory>
         ensures ok { OnOk result (self.new ≡ joined self.old part.now) }
         ensures err { OnErr result (self.new ≡ self.old) }
@@ -107,8 +107,8 @@ impl Gathered {
         Ok(())
     }
 
-    /// The state whose packed text is gathered, where it is one at its position and of this alpha. Any other text is of no use.
-    /// Memory is wanted for the state.
+    /// The state whose packed text is gathered, if it is one at its position and with this alpha. Any other text is of
+    /// no use. It needs memory for the state.
     pub fn state<M: Machine>(&self, alloc: Global, alpha: u8) -> Result<Option<Whole<M>>, NoMemory>
         ensures some { IfOk result (λ found. IfSome found (λ w. Unpacks M.IsText alpha self.now.position self.now.bytes w)) }
         ensures none { result ≡ Ok None → (w : WholeValue) → Unpacks M.IsText alpha self.now.position self.now.bytes w → ⊥ }

@@ -16,7 +16,7 @@ fn begins(gathered: &Option<Gathered>, part: &PartRef<'_>) -> bool
     }
 }
 
-// The part is added to what is gathered, where it goes on what stands there. A refused call changes nothing.
+// Appends the part to what is gathered, if it continues that. A failed call changes nothing.
 fn join(gathered: &mut Option<Gathered>, part: &PartRef<'_>) -> Result<(), NoMemory>
     ensures ok { OnOk result (gathered.new ≡ joined_any gathered.old part.now) }
     ensures err { OnErr result (gathered.new ≡ gathered.old) }
@@ -29,10 +29,10 @@ fn join(gathered: &mut Option<Gathered>, part: &PartRef<'_>) -> Result<(), NoMem
     Ok(())
 }
 
-/// A part of a snapshot was heard, where so many positions are executed. Where its position is one of these it is dropped.
-/// Where it is greater than that of what is gathered, gathering begins anew with it. Any other part is added where it is of the
-/// same snapshot and goes on what is gathered, and else dropped. So at most one text is gathered. Memory is wanted for bytes
-/// that are added; a refused call changes nothing.
+/// Handles a part of a snapshot, given how many positions are executed. A part at an executed position is dropped. One
+/// at a greater position than that of the gathered text starts gathering afresh. Any other part is appended if it is
+/// of the same snapshot and continues the text, and dropped otherwise. So at most one text is gathered. It needs
+/// memory for appended bytes; a failed call changes nothing.
 pub fn gather(
     alloc: Global,
     executed: Executed,

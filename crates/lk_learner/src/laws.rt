@@ -1,4 +1,5 @@
-//! What follows of a learner's steps: laws over the definitions alone. Each is what a function without a body ensures.
+//! What follows from a learner's steps: laws about the definitions alone. A function without a body ensures each of
+//! them.
 ghost use Rattle.std.specs.Prelude.{◌≡◌, ◌+◌, ◌-◌, ◌*◌, ◌<◌, ◌≤◌, ℕ, suc, List, [], ◌∷◌, ◌++◌, length, take, drop, Contains, Option, Some, slice_get};
 ghost use Rattle.lk_history.specs.Datagrams.{Genesis, Datagram, Decided};
 ghost use Rattle.lk_history.specs.Chosen.{command_at, Chosen, ChosenAt};
@@ -17,7 +18,8 @@ ghost use Rattle.lk_learner.specs.Gathering.{heard};
 ghost use Rattle.lk_learner.specs.Installing.{pairs_above, installed};
 ghost use Rattle.lk_learner.specs.Parts.{AreParts};
 
-/// Kept pairs are of the next positions, up to twice alpha, one each: so they are few. Where the next one goes there is one less.
+/// Kept pairs are of the next positions, up to twice alpha, one each, so they are few. When the next one is executed
+/// there is one less.
 pub fn kept_pairs_are_near_and_few()
     ensures near { (e alpha : ℕ) (pairs : List Pair) → AreKept e alpha pairs → (p : Pair) → Contains pairs p → (e < p.0) × (p.0 ≤ e + 2 * alpha) }
     ensures once { (e alpha : ℕ) (pairs : List Pair) → AreKept e alpha pairs → (i : ℕ) (v w : Command) → Contains pairs (i, v) → Contains pairs (i, w) → v ≡ w }
@@ -25,8 +27,8 @@ pub fn kept_pairs_are_near_and_few()
     ensures fewer { (e alpha : ℕ) (pairs : List Pair) (v : Command) → AreKept e alpha pairs → Contains pairs (e + 1, v) → suc (length (without (e + 1) pairs)) ≡ length pairs }
 {}
 
-/// A learner goes on following the list: as it is made, with a pair more, and with a command more that it has run. With the state
-/// of another list installed it follows that one.
+/// A learner continues to follow the list: as it is made, with one more pair, and with one more command that it has
+/// executed. With the state of another list installed it follows that one.
 pub fn a_learner_follows_its_list()
     ensures begins { (m : Meaning) (genesis : Genesis) (done : List Command) (w : WholeValue) → SumsUp m genesis done w → Follows m genesis done [] (begun w) }
     ensures keeps { (m : Meaning) (genesis : Genesis) (done : List Command) (pairs : List Pair) (l : LearnerValue) (p : Pair)
@@ -37,8 +39,8 @@ pub fn a_learner_follows_its_list()
         → Follows m genesis done pairs l → SumsUp m genesis L w → Follows m genesis L (pairs_above w.roster.executed pairs) (installed w l) }
 {}
 
-/// What a learner runs next is chosen at the position after its list, so the list with it is chosen: never is a pair run
-/// over a gap.
+/// What a learner executes next is chosen at the position after its list, so the list with it is chosen: it never
+/// executes a pair beyond a gap.
 pub fn what_is_run_is_chosen()
     ensures chosen { (m : Meaning) (genesis : Genesis) (sent : List Datagram) (w : View) (l : LearnerValue) (v : Command) → Sound genesis sent → Stems genesis sent w
         → Follows m genesis w.done w.pairs l → IsNext l v → Chosen genesis sent (w.done ++ v ∷ []) }
@@ -46,7 +48,7 @@ pub fn what_is_run_is_chosen()
         → Follows m genesis done pairs l → command_at (done ++ v ∷ []) (executed l + 1) ≡ Some v }
 {}
 
-/// A pair that is kept and a command that is run are changes that a node may make.
+/// Keeping a pair and executing a command are changes that a node may make.
 pub fn a_learner_changes_as_it_may()
     ensures learns { (genesis : Genesis) (sent : List Datagram) (n : ℕ) (w : View) (i : ℕ) (v : Command) → ChosenAt genesis sent i v
         → Changes genesis sent n w (with_done w w.done (w.pairs ++ (i, v) ∷ [])) }
@@ -54,7 +56,7 @@ pub fn a_learner_changes_as_it_may()
         → Changes genesis sent n w (with_done w (w.done ++ v ∷ []) (advanced m v l).pairs) }
 {}
 
-/// What a learner serves a node may send, and it is the list's.
+/// A node may send what a learner serves, and it is the list's.
 pub fn what_is_served_is_chosen()
     ensures may { (m : Meaning) (genesis : Genesis) (sent : List Datagram) (w : View) (l : LearnerValue) (first : ℕ) → Stems genesis sent w → Follows m genesis w.done w.pairs l
         → IsServed l first → MaySend genesis sent w (Decided (news_from first l)) }
@@ -62,13 +64,14 @@ pub fn what_is_served_is_chosen()
         → l.snapshot_position < i → slice_get l.served (i - (l.snapshot_position + 1)) ≡ Some v → command_at done i ≡ Some v }
 {}
 
-/// Each part that is served of a text is a slice of it, and tells its length.
+/// Each served part of a text is a slice of it, and states its length.
 pub fn parts_that_are_served_are_slices()
     ensures { (position start k : ℕ) (text : List ℕ) (parts : List PartValue) (p : PartValue) → AreParts position text start parts → slice_get parts k ≡ Some p
         → (p.position ≡ position) × (p.total ≡ length text) × (p.bytes ≡ take (length p.bytes) (drop p.offset text)) }
 {}
 
-/// What is gathered of parts that are slices of the texts of chosen lists, from whichever nodes, is the beginning of such a text.
+/// What is gathered from parts that are slices of the texts of chosen lists, from whichever nodes, is a prefix of such
+/// a text.
 pub fn what_is_gathered_begins_a_text()
     ensures { (genesis : Genesis) (sent : List Datagram) (text : List Command → List ℕ) (e : ℕ) (p : PartValue) (old : Option GatheredValue) (g : GatheredValue) → Sound genesis sent
         → IsSlice genesis sent text p.position p.total p.offset p.bytes

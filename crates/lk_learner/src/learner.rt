@@ -12,8 +12,8 @@ use lk_wire::{Decided, Want};
 use std::alloc::Global;
 use std::marker::Model;
 
-/// What a node has learned of the list: the state after the commands that it has executed, these commands as far as
-/// its snapshot has not taken their place, the snapshot's packed text, decided commands of later positions, and what it has
+/// What a node has learned of the list: the state after the commands that it has executed, those of them that its
+/// snapshot has not replaced, the snapshot's packed text, decided commands of later positions, and what it has
 /// gathered of another node's snapshot.
 #[derive(Drop)]
 pub struct Learner<M: Machine> {
@@ -46,7 +46,7 @@ impl<M: Machine> Learner<M> {
     ghost use Rattle.lk_state.specs.Runs.{run_answer};
     ghost use Rattle.lk_learner.specs.Learners.{IsLearner, executed, alpha, begun, IsWanted, keeping, IsNext, advanced, standing_here, IsServed, news_from, gathered_bytes, wanted};
 
-    /// A learner that stands on this state, as a snapshot of this packed text leaves it. It takes no memory.
+    /// The learner for this state, right after a snapshot with this packed text. Takes no memory.
     pub fn new(alloc: Global, whole: Whole<M>, snapshot: Vec<u8>) -> Learner<M>
         requires text { snapshot.items ≡ packed whole }
         ensures { result ≡ begun whole }
@@ -79,7 +79,8 @@ impl<M: Machine> Learner<M> {
         self.pairs.as_slice()
     }
 
-    /// The kept pairs are of the next positions, one each, and the commands since the snapshot are all there. It does nothing.
+    /// The kept pairs are of the next positions, one each, and the commands since the snapshot are all there. The
+    /// function does nothing.
     pub fn facts(&self)
         ensures { IsLearner self.now }
     {
@@ -95,15 +96,16 @@ impl<M: Machine> Learner<M> {
         executed < position.get() && position.get() <= farthest
     }
 
-    /// Whether a pair of the position is to be kept: it is one of the next, up to twice alpha, and none of it is kept.
+    /// Whether a pair of the position is to be kept: the position is one of the next, up to twice alpha, and no pair
+    /// of it is kept.
     pub fn is_wanted(&self, position: Position) -> bool
         ensures { IsTrue result ↔ IsWanted self.now position }
     {
         self.is_near(position) && !is_kept(self.pairs.as_slice(), position)
     }
 
-    /// A command is decided at the position. It is kept where the position is one of the next, up to twice alpha, and no
-    /// command of it is kept. Whether it was kept. It takes no memory.
+    /// A command is decided at the position. It is kept if the position is one of the next, up to twice alpha, and no
+    /// command of it is kept. Returns whether it was kept. Takes no memory.
     pub fn decided(&mut self, position: Position, command: &Command) -> bool
         ensures wanted { IsTrue result ↔ IsWanted self.old position }
         ensures kept { IsTrue result → self.new ≡ keeping (position, command.now) self.old }
@@ -131,8 +133,8 @@ impl<M: Machine> Learner<M> {
         }
     }
 
-    /// Executes the command of the next position, where it is kept, and keeps it no longer. Memory is wanted for the list
-    /// of what is served and for a body that the machine runs; a refused call changes nothing.
+    /// Executes the command of the next position, if it is kept, and removes it from the kept pairs. It needs memory
+    /// for the list of what is served and for a body that the machine executes; a failed call changes nothing.
     pub fn execute_next(&mut self) -> Result<Option<Ran>, NoMemory>
         ensures next { (v : Command) → IsNext self.old v → OnOk result (self.new ≡ advanced M.meaning v self.old) }
         ensures ran { (v : Command) → IsNext self.old v
@@ -165,7 +167,7 @@ impl<M: Machine> Learner<M> {
         Ok(text)
     }
 
-    /// A snapshot of the state, of which this is the packed text, takes the place of the executed commands. It takes no memory.
+    /// A snapshot of the state, with this packed text, replaces the executed commands. Takes no memory.
     pub fn stand_here(&mut self, snapshot: Vec<u8>)
         requires text { snapshot.items ≡ packed self.old.whole }
         ensures { self.new ≡ standing_here self.old }
@@ -176,8 +178,8 @@ impl<M: Machine> Learner<M> {
         self.served = Vec::new(self.alloc);
     }
 
-    /// What to ask for: the commands from the next position on, or the rest of a snapshot that is gathered. `None` where
-    /// 2^48 positions are executed, after which there is none. It takes no memory.
+    /// What to ask for: the commands from the next position on, or the rest of the snapshot being gathered. `None` if
+    /// 2^48 positions are executed, after which there is none. Takes no memory.
     pub fn want(&self) -> Option<Want>
         ensures { MatchOption result (executed self.now ≡ max_count) (λ w. w ≡ wanted self.now) }
     {
@@ -196,7 +198,7 @@ impl<M: Machine> Learner<M> {
         }
     }
 
-    /// The place among the commands since the snapshot at which that of the position stands, or would stand.
+    /// The index of the position among the commands since the snapshot, or where it would be inserted.
     fn place(&self, position: Position) -> Option<usize>
         ensures { MatchOption result (position ≤ self.now.snapshot_position) (λ k. (self.now.snapshot_position < position) × (k ≡ position - (self.now.snapshot_position + 1))) }
     {
@@ -206,14 +208,14 @@ impl<M: Machine> Learner<M> {
         Some(behind as usize)
     }
 
-    /// The command that was executed at the position. `None` where it is not executed, or the snapshot has taken its place.
+    /// The command that was executed at the position. `None` if it is not executed, or the snapshot has replaced it.
     pub fn executed_at(&self, position: Position) -> Option<&Command>
         ensures some { MatchOption result (IsServed self.now position → ⊥) (λ v. IsServed self.now position × (slice_get self.now.served (position - (self.now.snapshot_position + 1)) ≡ Some v.now)) }
     {
         self.served.get(self.place(position)?)
     }
 
-    /// The executed commands from the position on, up to 16, where the snapshot has not taken its place.
+    /// The executed commands from the position on, up to 16, if the snapshot has not replaced them.
     fn commands_from(&self, first: Position) -> Option<&[Command]>
         ensures { MatchOption result (IsServed self.now first → ⊥) (λ vs. IsServed self.now first × (vs.now ≡ (news_from first self.now).commands)) }
     {
@@ -226,8 +228,8 @@ impl<M: Machine> Learner<M> {
         self.served.get(start..end)
     }
 
-    /// What is sent to a node that asks for the commands from `first` on: up to 16 of them, through the last that is
-    /// executed. `None` where `first` is not executed, or the snapshot has taken its place: see `parts`.
+    /// The reply to a node that asks for the commands from `first` on: up to 16 of them, up to the last executed one.
+    /// `None` if `first` is not executed, or the snapshot has replaced it: see `parts`.
     pub fn serve(&self, first: Position) -> Result<Option<Decided>, NoMemory>
         ensures some { IsServed self.now first → IfOk result (λ d. d ≡ Some (news_from first self.now)) }
         ensures none { (IsServed self.now first → ⊥) → result ≡ Ok None }

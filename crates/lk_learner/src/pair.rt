@@ -60,7 +60,7 @@ pub fn is_kept(pairs: &[Pair], position: Position) -> bool
     pairs.iter().any(|pair| pair.position == position)
 }
 
-/// How many pairs of smaller positions stand in front.
+/// How many pairs of smaller positions come first.
 pub fn place_of(pairs: &[Pair], position: Position, low: u64) -> usize
     requires { IsTrue (are_pairs_above low pairs.now) }
     ensures place { result ≡ prefix_len (λ p. nat_lt p.0 position) pairs.now }

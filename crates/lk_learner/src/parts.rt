@@ -7,10 +7,10 @@ use lk_types::{NoMemory, Position};
 use lk_wire::Part;
 use std::alloc::Global;
 
-// The most parts that one wish is answered by.
+// The most parts in reply to one request for a snapshot.
 const MAX_PARTS: usize = 8;
 
-// The bytes of the part of the text there.
+// The bytes of the part of the text at this offset.
 fn piece_of(text: &[u8], offset: usize) -> &[u8]
     requires within { offset < length text.now }
     requires room { length text.now ≤ max_base }
@@ -23,7 +23,7 @@ fn piece_of(text: &[u8], offset: usize) -> &[u8]
     &text[offset..end]
 }
 
-// The part of the text there.
+// The part of the text at this offset.
 fn part_of(alloc: Global, position: Position, text: &[u8], offset: usize) -> Result<Part, NoMemory>
     requires within { offset < length text.now }
     requires room { length text.now ≤ max_base }
@@ -34,7 +34,7 @@ fn part_of(alloc: Global, position: Position, text: &[u8], offset: usize) -> Res
     Ok(part.unwrap())
 }
 
-// From where on a text is served that is wished from the offset on.
+// The offset from which a text is served when this one is requested.
 fn start_of(offset: u32, text: &[u8]) -> usize
     requires { 1 ≤ length text.now }
     ensures value { result ≡ start_of offset text.now }
@@ -66,9 +66,9 @@ fn parts_behind(
     Ok(parts)
 }
 
-/// What is served of a snapshot's packed text to a node that wants it from the offset on: the text from there on, or from its
-/// start where the offset is not below its length, in up to 8 parts of 1,024 bytes each, but for the last of the text. Memory is
-/// wanted for the bytes.
+/// The reply to a node that asks for a snapshot's packed text from the offset on: the text from there on, or from its
+/// start if the offset is not below its length, in up to 8 parts of 1,024 bytes each, except for the last part of the
+/// text. It needs memory for the bytes.
 pub fn parts_from(
     alloc: Global,
     position: Position,

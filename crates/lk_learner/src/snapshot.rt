@@ -1,4 +1,5 @@
-// What a learner does with snapshots: its own, which it serves in parts, and those of others, which it gathers and installs.
+// How a learner handles snapshots: its own, which it serves in parts, and those of others, which it gathers and
+// installs.
 ghost use Rattle.std.specs.Prelude.{◌≡◌, ◌<◌, ◌≤◌, ◌↔◌, length, Ok, Some, None, [], IsTrue, IfSome, IfOk, OnOk, OnErr};
 ghost use Rattle.lk_state.specs.Packed.{packed};
 ghost use Rattle.lk_learner.specs.Learners.{WholeValue, GatheredValue, executed, alpha};
@@ -24,10 +25,10 @@ fn forget_to(pairs: &mut ArrayVec<Pair, MAX_VOTES>, position: Executed)
 }
 
 impl<M: Machine> Learner<M> {
-    /// What is served to a node that wants commands from the position on, where the snapshot has taken its place: the
-    /// snapshot's text from the offset on, or from its start where the offset is not below its length, in up to 8 parts of
-    /// 1,024 bytes each, but for the last of the text. None where the position is above the snapshot. Memory is wanted for
-    /// the bytes.
+    /// The reply to a node that asks for commands from the position on, if the snapshot has replaced it: the
+    /// snapshot's text from the offset on, or from its start if the offset is not below its length, in up to 8 parts
+    /// of 1,024 bytes each, except for the last part of the text. Nothing if the position is above the snapshot. It
+    /// needs memory for the bytes.
     pub fn parts(&self, first: Position, offset: u32) -> Result<Vec<Part>, NoMemory>
         ensures some { first ≤ self.now.snapshot_position → IfOk result (λ parts. AreParts self.now.snapshot_position self.now.snapshot (start_of offset self.now.snapshot) parts.items) }
         ensures none { self.now.snapshot_position < first → IfOk result (λ parts. parts.items ≡ []) }
@@ -41,9 +42,10 @@ impl<M: Machine> Learner<M> {
         }
     }
 
-    /// A part of another node's snapshot was heard. Where its position is executed already it is dropped. Where it is greater
-    /// than that of what is gathered, gathering begins anew with it; any other part is added where it is of the same snapshot
-    /// and goes on what is gathered, and else dropped. Memory is wanted for bytes that are added; a refused call changes nothing.
+    /// Handles a part of another node's snapshot. A part at an executed position is dropped. One at a greater position
+    /// than that of the gathered text starts gathering afresh; any other part is appended if it is of the same
+    /// snapshot and continues the text, and dropped otherwise. It needs memory for appended bytes; a failed call
+    /// changes nothing.
     pub fn part(&mut self, part: &PartRef<'_>) -> Result<(), NoMemory>
         ensures ok { OnOk result (self.new ≡ hearing part.now self.old) }
         ensures err { OnErr result (self.new ≡ self.old) }
@@ -54,7 +56,7 @@ impl<M: Machine> Learner<M> {
         Ok(())
     }
 
-    // Whether a whole text is gathered.
+    // Whether a complete text is gathered.
     fn has_whole(&self) -> bool
         ensures { IsTrue result ↔ ((g : GatheredValue) × HasWhole self.now g) }
     {
@@ -64,7 +66,7 @@ impl<M: Machine> Learner<M> {
         }
     }
 
-    // The state whose text is gathered, where it is above what is executed.
+    // The state whose text is gathered, if it is above what is executed.
     fn gathered_state(&self) -> Result<Option<Whole<M>>, NoMemory>
         ensures some { (g : GatheredValue) → HasWhole self.now g → IfOk result (λ found. IfSome found (λ w. MayInstall M.IsText self.now w)) }
         ensures none { result ≡ Ok None → (w : WholeValue) → MayInstall M.IsText self.now w → ⊥ }
@@ -79,7 +81,7 @@ impl<M: Machine> Learner<M> {
         gathered.state(self.alloc, self.whole.roster().alpha())
     }
 
-    // It stands on this state, as a snapshot of this packed text leaves it.
+    // Adopts this state, right after a snapshot with this packed text.
     fn stand_on(&mut self, whole: Whole<M>, snapshot: Vec<u8>)
         requires text { snapshot.items ≡ packed whole }
         requires above { executed self.old ≤ whole.roster.executed }
@@ -95,10 +97,10 @@ impl<M: Machine> Learner<M> {
         self.gathered = None;
     }
 
-    /// Where a whole text is gathered, its state is installed: it takes the place of what was executed, and pairs up to its
-    /// position are forgotten. It must be the text of a state at its position, above what is executed, with as many sets of
-    /// members ahead; any other whole text is thrown away. Whether a state was installed. Memory is wanted for a state above; a
-    /// refused call changes nothing.
+    /// Installs the state of a complete gathered text: it replaces what was executed, and pairs up to its position are
+    /// forgotten. It must be the text of a state at its position, above what is executed, with as many sets of members
+    /// ahead; any other complete text is thrown away. Returns whether a state was installed. It needs memory for a
+    /// state above; a failed call changes nothing.
     pub fn install(&mut self) -> Result<bool, NoMemory>
         ensures exact { IfOk result (λ went. Installs M.IsText went self.old self.new) }
         ensures err { OnErr result (self.new ≡ self.old) }

@@ -57,7 +57,7 @@ read_name = tested is_name (sized read_byte)
 unfoldable pub read_name_and_fence : List ℕ → Option ((List ℕ × ℕ) × List ℕ)
 read_name_and_fence = both read_name read_count
 
--- what stands after the first byte
+-- what follows the first byte
 unfoldable pub fields_of : ℕ → List ℕ → Option (Body × List ℕ)
 fields_of =
     kind 1 (made Acquire read_name)
@@ -68,11 +68,11 @@ fields_of =
     (kind 6 (made (λ p. Break p.0 p.1) read_name_and_fence)
     no_kind)))))
 
--- the body that all of the bytes are, if they are one
+-- the body of which these are all the bytes, if they are one
 unfoldable pub body_of : List ℕ → Option Body
 body_of = whole (tagged fields_of)
 
--- ---- what a body is about, and who knows it
+-- ---- the name of a body, and which table knows it
 
 abbrev pub name_of : Body → List ℕ
 name_of (Acquire name) = name
@@ -82,7 +82,7 @@ name_of (Check name fence) = name
 name_of (Share name) = name
 name_of (Break name fence) = name
 
--- only a table that was raised knows of shared names and of breaking
+-- only a raised table knows shared names and Break
 abbrev pub is_known : Bool → Body → Bool
 is_known raised (Share name) = raised
 is_known raised (Break name fence) = raised
@@ -91,7 +91,7 @@ is_known raised (Release name fence) = true
 is_known raised (Ask name) = true
 is_known raised (Check name fence) = true
 
--- the body, where the table knows it
+-- the body, if the table knows it
 abbrev pub known : Bool → Option Body → Option Body
 known raised None = None
 known raised (Some body) = if is_known raised body then Some body else None

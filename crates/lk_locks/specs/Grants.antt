@@ -27,13 +27,13 @@ abbrev pub asks_for : List ℕ → Task → Bool
 asks_for name (Running bytes) = is_for name (body_of bytes)
 asks_for name Raising = false
 
--- the fence at which an answer gives a name, alone or together with others, if it gives one
+-- the fence at which an answer gives a name, alone or to share, if it gives one
 abbrev pub fences : Answer → List ℕ
 fences (Granted fence) = fence ∷ []
 fences (Shared fence) = fence ∷ []
 fences _ = []
 
--- the fences that the calls are answered for the name, in order, from this table on
+-- the fences in the calls' answers for the name, in order, from this table on
 abbrev pub fences_from : List ℕ → TableValue → List Call → List ℕ
 fences_from name t [] = []
 fences_from name t (call ∷ calls) = (if asks_for name call.1 then fences (task_answer call.0 call.1 t) else []) ++ fences_from name (next_by_task call.0 call.1 t) calls
@@ -43,22 +43,22 @@ abbrev pub once_behind : ℕ → List ℕ → List ℕ
 once_behind last [] = []
 once_behind last (f ∷ fs) = if f == last then once_behind last fs else f ∷ once_behind f fs
 
--- equal neighbours taken once: 0 is no fence
+-- equal neighbours collapsed: 0 is no fence
 abbrev pub once : List ℕ → List ℕ
 once fs = once_behind 0 fs
 
--- the fences at which the calls give the name: to share it with those who do takes no new one
+-- the fences at which the calls give the name: joining those who share it takes no new one
 abbrev pub grants : List ℕ → List Call → List ℕ
 grants name calls = once (fences_from name empty calls)
 
--- what a request asks of the table, if it is of the table
+-- the request's operation on the table, if it has one
 abbrev pub call_of : RequestValue → Op → List Call
 call_of request (Table body) = (request.client, Running body) ∷ []
 call_of request (Join node port) = []
 call_of request (Leave node) = []
 call_of request Raise = (request.client, Raising) ∷ []
 
--- what the entries of a list that take effect ask of the table, in order
+-- the operations on the table of the entries that take effect, in order
 abbrev pub calls_of : List Command → List Call
 calls_of L = flat_map (λ request. call_of request request.op) (effects L)
 
@@ -66,11 +66,11 @@ calls_of L = flat_map (λ request. call_of request request.op) (effects L)
 abbrev pub fences_in : List ℕ → List Command → List ℕ
 fences_in name L = fences_from name empty (calls_of L)
 
--- and of these equal neighbours once
+-- and with equal neighbours collapsed
 abbrev pub grants_in : List ℕ → List Command → List ℕ
 grants_in name L = once (fences_in name L)
 
--- so many numbers, from k on
+-- this many numbers, from k on
 abbrev pub numbers_from : ℕ → ℕ → List ℕ
 numbers_from k zero = []
 numbers_from k (suc n) = k ∷ numbers_from (k + 1) n

@@ -9,7 +9,7 @@ use Rattle.lk_locks.specs.declared.slot.Slot.{Slot}
 abbrev pub held_in : List Entry → List Entry
 held_in entries = filter (λ e. is_held e.1.holders) entries
 
--- nobody holds the name that has this: it is not known, or free
+-- nobody holds the name with this slot: it is unknown, or free
 abbrev pub IsFree : Option Slot → Type 0
 IsFree None = Unit {0}
 IsFree (Some s) = s.holders ≡ Nobody

@@ -15,7 +15,7 @@ is_held Nobody = false
 is_held (Alone client) = true
 is_held (Together clients) = true
 
--- a table that was not raised knows no shared name
+-- a table that was not raised has no shared name
 abbrev pub is_kept : Bool → Holders → Bool
 is_kept raised Nobody = true
 is_kept raised (Alone client) = true
@@ -26,7 +26,7 @@ abbrev pub held_by : List ℕ → Holders
 held_by [] = Nobody
 held_by (c ∷ cs) = Together (c ∷ cs)
 
--- who holds it once the client has left; none where the client holds it not
+-- who holds it after the client has left; none if the client does not hold it
 abbrev pub left_by : ℕ → Holders → Option Holders
 left_by client Nobody = None
 left_by client (Alone holder) = if holder == client then Some Nobody else None

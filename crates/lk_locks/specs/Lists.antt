@@ -13,7 +13,7 @@ table_after client (Join node port) t = t
 table_after client (Leave node) t = t
 table_after client Raise t = plain.raised t
 
--- what the lock table answers to an op of a client
+-- the lock table's answer to an op of a client
 abbrev pub table_answer : ℕ → Op → plain.Table → Option Answer
 table_answer client (Table body) t = Some (plain.answer client body t)
 table_answer client (Join node port) t = None

@@ -1,4 +1,4 @@
--- The lock table as a machine: what it means over its packed texts.
+-- The lock table as a machine: its meaning in terms of packed texts.
 use Rattle.std.specs.Prelude.{ℕ}
 use Rattle.lk_types.specs.declared.answer.Answer.{Answer}
 use Rattle.lk_state.specs.Meanings.{Meaning, Task, Running, Raising}
@@ -10,7 +10,7 @@ abbrev pub next_by_task : ℕ → Task → Table → Table
 next_by_task client (Running bytes) t = next client bytes t
 next_by_task client Raising t = raised t
 
--- what the client is answered
+-- the client's answer
 abbrev pub task_answer : ℕ → Task → Table → Answer
 task_answer client (Running bytes) t = answer client bytes t
 task_answer client Raising t = raise_answer t

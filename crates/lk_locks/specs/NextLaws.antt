@@ -1,4 +1,4 @@
--- What a body leaves of a table is a table, and what it is answered is in its range.
+-- A body leaves a table, and its answer is in its range.
 use Rattle.std.proofs.Common.{◌≡◌, ℕ, ◌+◌, ◌<◌, ◌⊎◌, Bool, true, false, cond, ltb, eqb, ◌&&◌, List, [], ◌∷◌, length, Option, Some, None, Result, Ok, Err, refl, sym, ap, subst, ◌∙◌, arith, inl, inr}
 use Rattle.std.specs.List.{AllByRecursion}
 use Rattle.std.specs.Ordering.{nat_cmp, eq_by_cmp}
@@ -114,7 +114,7 @@ module _ (raised_now : Bool) where
   MayStand old names None = Unit {0}
   MayStand old names (Some s) = IsSlotIn raised_now s × (old ≡ None → names < 512)
 
-  -- what is given: a fence in its range, and where the name is new there is room
+  -- what is given: a fence in its range, and for a new name there is room
   abbrev MayGive : Option Slot → ℕ → Result ℕ Answer → Type 0
   MayGive old names r = IfOk r (λ fence. IsCount fence × (old ≡ None → names < 512))
 
@@ -222,7 +222,7 @@ module _ (raised_now : Bool) where
   changed_are_names m name None fits named may = fits
   changed_are_names m name (Some s) fits named may = insert_are_names raised_now m name s fits (named, may.0) may.1
 
-  -- what a row writes may stand
+  -- what a row writes may be in a table
   pub row_in_may : (client : ℕ) (body : Body) (m : Names) → is_known raised_now body ≡ true → IsClient client → AreNames raised_now m → MayStand (map.get m (name_of body)) (map.len m) (row_in client body m).change
   row_in_may client body m is_known is_client fits = row_may client body (map.get m (name_of body)) (map.len m) is_known is_client (kept m (name_of body) fits)
 
@@ -247,7 +247,7 @@ next_is_table client bytes t is_client fits = after_are_names t.raised client (k
 pub raised_is_table : (t : Table) → IsTable t → IsTable (raised t)
 raised_is_table t fits = raised_are_names t.raised t.names fits
 
--- the text after a task, by the text before it
+-- the text after a task, in terms of the text before it
 pub next_is_text : (client : ℕ) (task : Task) (before : List ℕ) → IsClient client → IsTableText before → IsTableText (table_meaning.next client task before)
 next_is_text client (Running body) before is_client t =
     let is = text_is before t in
@@ -256,7 +256,7 @@ next_is_text client Raising before is_client t =
     let is = text_is before t in
     (raised (table_in before), raised_is_table (table_in before) (subst IsTable (sym is.3) is.1), refl)
 
--- ---- what is answered is in its range
+-- ---- each answer is in its range
 
 module _ (raised_now : Bool) where
   given_answers : (told : ℕ → Answer) (h : Holders) (old : Option Slot) (names : ℕ) (r : Result ℕ Answer) → ((fence : ℕ) → IsCount fence → IsAnswer (told fence)) → MayGive raised_now old names r → ((a : Answer) → r ≡ Err a → IsAnswer a) → IsAnswer (given told h r).answer
@@ -338,7 +338,7 @@ raise_answers : (b : Bool) → IsAnswer (cond b AlreadyRaised Raised)
 raise_answers true = tt
 raise_answers false = tt
 
--- what a client is answered, by the text before its task
+-- the answer to a client, in terms of the text before its task
 pub answer_is_answer : (client : ℕ) (task : Task) (before : List ℕ) → IsClient client → IsTableText before → IsAnswer (table_meaning.answer client task before)
 answer_is_answer client (Running body) before is_client t =
     let is = text_is before t in

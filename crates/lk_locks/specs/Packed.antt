@@ -18,7 +18,7 @@ use Rattle.lk_locks.specs.declared.slot.Holders.{Holders}
 use Rattle.lk_locks.specs.declared.slot.Holders.TheVariants.{Nobody, Alone, Together}
 use Rattle.lk_locks.specs.declared.slot.Slot.{Slot}
 
--- a name and what stands at it
+-- a name and its slot
 abbrev pub Entry : Type 0
 Entry = List ℕ × Slot
 
@@ -57,7 +57,7 @@ entry raised e = lock_name e.0 ++ slot raised e.1
 abbrev pub entries : Bool → List Entry → List ℕ
 entries raised es = two (length es) ++ flat_map (entry raised) es
 
--- ff02: no table has so many names, and so no text of a table that was not raised begins so
+-- ff02: no table has this many names, and so no text of a table that was not raised begins like this
 abbrev pub raised_mark : ℕ
 raised_mark = 65282
 
@@ -65,7 +65,7 @@ abbrev pub packed_table : Bool × List Entry → List ℕ
 packed_table (false, es) = entries false es
 packed_table (true, es) = two raised_mark ++ entries true es
 
--- the names stand in rising order
+-- the names rise
 unfoldable pub table_text : Table → List ℕ
 table_text t = packed_table (t.raised, map.entries t.names)
 
@@ -119,7 +119,7 @@ read_entry raised = both read_name (read_slot raised)
 unfoldable pub read_size : List ℕ → Option (ℕ × List ℕ)
 read_size = tested (λ n. nat_le n 512) read_two
 
--- whether the names strictly rise, in the order of their bytes
+-- whether the names rise strictly, in the order of their bytes
 abbrev pub rise : List Entry → Bool
 rise es = map.is_sorted (slice_cmp nat_cmp) es
 
@@ -144,6 +144,6 @@ abbrev pub table_of_entries : Option (Bool × List Entry) → Table
 table_of_entries (Some v) = record { raised = v.0; names = map.from_sorted v.1 }
 table_of_entries None = empty
 
--- the table whose text the bytes are; any, where they are none
+-- the table whose text the bytes are; any, if they are none
 unfoldable pub table_in : List ℕ → Table
 table_in bytes = table_of_entries (whole read_table bytes)

@@ -301,7 +301,7 @@ module _ (raised : Bool) where
       len_after None room = omega (arith, room refl)
       len_after (Some t) room = fits.0
 
--- raising changes no name, and what a table that was not raised holds a raised one may hold
+-- raising changes no name, and a raised table may hold whatever one that was not raised may
 raised_entry : (raised : Bool) (es : List Entry) → AllByRecursion (IsTableEntry raised) es → AllByRecursion (IsTableEntry true) es
 raised_entry raised [] fits = tt
 raised_entry raised (e ∷ es) fits = ((fits.0.0, (fits.0.1.0, (fits.0.1.1.0, all_kept e.1.holders))), raised_entry raised es fits.1)

@@ -1,4 +1,4 @@
--- The plain table: a finite map from names to their last fence and who holds them, and what each body is answered.
+-- The plain table: a finite map from names to their last fence and holders, and the answer to each body.
 use Rattle.std.specs.Prelude.{◌≡◌, ℕ, ◌+◌, ◌<◌, Bool, true, false, nat_lt, ◌&&◌, ◌==◌, List, [], ◌∷◌, length, Option, Some, None, Result, Ok, Err, if◌then◌else◌, refl}
 use Rattle.std.specs.Coded.{Coded, code_by, coded×, coded_bool, coded_ℕ, coded_list}
 use Rattle.std.specs.Ordering.{nat_cmp}
@@ -21,7 +21,7 @@ use Rattle.lk_locks.specs.declared.slot.Slot.{Slot}
 abbrev pub Names : Type 0
 Names = map.FinMap (slice_cmp nat_cmp) Slot
 
--- the names, and whether the table was raised: so it is of version 2, and else of version 1
+-- the names, and whether the table was raised: then it is of version 2, and otherwise of version 1
 pub record Table : Type 0 where
   pub raised : Bool
   pub names : Names
@@ -42,11 +42,11 @@ unchanged a = record { answer = a; change = None }
 abbrev pub fence_after : ℕ → Result ℕ Answer
 fence_after fence = if nat_lt fence max_count then Ok (fence + 1) else Err Spent
 
--- the fence of a new name, where so many stand
+-- the fence of a new name, given how many there are
 abbrev pub first_fence : ℕ → Result ℕ Answer
 first_fence names = if nat_lt names max_names then Ok 1 else Err NoRoom
 
--- what is given is told so, and held so from then on
+-- the fence that is given is in the answer, and the name is held at it from then on
 abbrev pub given : (ℕ → Answer) → Holders → Result ℕ Answer → Row
 given told holders (Ok fence) = record { answer = told fence; change = Some (record { fence = fence; holders = holders }) }
 given told holders (Err refusal) = unchanged refusal
@@ -60,7 +60,7 @@ abbrev pub acquired : ℕ → Option Slot → ℕ → Row
 acquired client None names = given Granted (Alone client) (first_fence names)
 acquired client (Some s) names = acquired_at client s.fence s.holders
 
--- to join those who share the name takes no new fence
+-- joining those who share the name takes no new fence
 abbrev pub joined : ℕ → ℕ → List ℕ → Row
 joined client fence clients =
     if is_among client clients then unchanged (Shared fence)
@@ -111,7 +111,7 @@ checked fence s = if is_held_at fence s then Valid else Stale
 
 -- ---- all bodies
 
--- by what the name has, and how many names stand
+-- given the name's slot, and how many names there are
 abbrev pub row : ℕ → Body → Option Slot → ℕ → Row
 row client (Acquire name) s names = acquired client s names
 row client (Release name fence) s names = released client fence s
@@ -135,7 +135,7 @@ abbrev pub next_by : ℕ → Option Body → Names → Names
 next_by client None m = m
 next_by client (Some body) m = changed (name_of body) (row_in client body m).change m
 
--- what a client's bytes are answered
+-- the answer to a client's bytes
 abbrev pub answer : ℕ → List ℕ → Table → Answer
 answer client bytes t = answer_to client (known t.raised (body_of bytes)) t.names
 
@@ -157,7 +157,7 @@ raised t = record { raised = true; names = t.names }
 abbrev pub HasRoom : List ℕ → Names → Type 0
 HasRoom name m = (map.get m name ≡ None) × (map.len m < max_names)
 
--- the body brings in a name
+-- the body adds a name
 abbrev pub IsNewName : Option Body → Names → Type 0
 IsNewName (Some (Acquire name)) m = HasRoom name m
 IsNewName (Some (Release name fence)) m = ⊥

@@ -1,4 +1,4 @@
--- What one client more or less makes of those that share a name.
+-- What one client more or less makes of those who share a name.
 use Rattle.std.proofs.Common.{◌≡◌, ℕ, zero, suc, ◌+◌, ◌<◌, ◌≤◌, Bool, true, false, cond, not, eqb, nat_lt, ◌&&◌, List, [], ◌∷◌, length, get_or, refl, ap, sym, inl, inr, arith}
 use Rattle.std.specs.Prelude.{insert}
 use Rattle.std.specs.List.{AllByRecursion, prefix_len}
@@ -55,14 +55,14 @@ with_client-fits client cs is room are =
     let len = length_and client cs in
     (len.0, omega (arith, len.1, room), all_and client cs is are.2, rising_and 0 client cs (omega (arith, is.0)) are.3)
 
--- how many stand before the client
+-- how many precede the client
 abbrev pub before : ℕ → List ℕ → ℕ
 before client cs = prefix_len (λ (c : ℕ). nat_lt c client) cs
 
 before_lower : (client c : ℕ) (cs : List ℕ) → nat_lt c client ≡ true → before client (c ∷ cs) ≡ suc (before client cs)
 before_lower client c cs lower = let n : ℕ = before client cs in let e : 1 + n ≡ suc n = omega arith in rw lower e
 
--- a new client comes in at its place
+-- a new client is inserted at its place
 pub inserted : (client : ℕ) (cs : List ℕ) → is_among client cs ≡ false → insert cs (before client cs) client ≡ with_client client cs
 inserted client [] h = refl
 inserted client (c ∷ cs) h =
@@ -145,7 +145,7 @@ pub least-fits : (cs : List ℕ) → AreSharers cs → IsClient (least cs)
 least-fits [] are = absurd (omega (arith, are.0))
 least-fits (c ∷ cs) are = are.2.0
 
--- ---- where a client belongs
+-- ---- the place of a client
 
 above : (low : ℕ) (cs : List ℕ) → are_clients_above low cs ≡ true → (j d : ℕ) → j < length cs → low < get_or cs j d
 above low [] h j d lt = absurd (omega (arith, lt))
@@ -163,6 +163,6 @@ clients_rise low (c ∷ cs) h zero (suc j) d le lt = omega (arith, above c cs (a
 clients_rise low (c ∷ cs) h (suc i) zero d le lt = absurd (omega arith)
 clients_rise low (c ∷ cs) h (suc i) (suc j) d le lt = clients_rise c cs (and_parts (nat_lt low c) (are_clients_above c cs) h).1 i j d (omega arith) (omega arith)
 
--- where the clients in front are below and the others are not
+-- where the clients before it are below and the others are not
 pub place_is_before : (client n : ℕ) (cs : List ℕ) → IsPartitionPoint (λ (c : ℕ). nat_lt c client ≡ true) (λ (c : ℕ). nat_lt c client ≡ false) cs n → n ≤ length cs → n ≡ before client cs
 place_is_before client n cs point le = sym (prefix_len_is (λ (c : ℕ). nat_lt c client) cs n 0 le (λ k lt. point.0 k _ (omega arith) lt) (λ lt. point.1 n _ (omega arith) lt))

@@ -24,7 +24,7 @@ with_client client (c ∷ cs) =
     else if c == client then c ∷ cs
     else c ∷ with_client client cs
 
--- the clients but this one
+-- the clients without this one
 abbrev pub without : ℕ → List ℕ → List ℕ
 without client cs = filter (λ c. not (c == client)) cs
 

@@ -13,7 +13,7 @@ use lk_types::{Fence, Payload};
 pub enum Body {
     /// To hold the name.
     Acquire(Name),
-    /// That the name be free again, where the client holds it at this fence.
+    /// To free the name, if the client holds it at this fence.
     Release(Name, Fence),
     /// Who holds the name.
     Ask(Name),
@@ -21,11 +21,11 @@ pub enum Body {
     Check(Name, Fence),
     /// To hold the name together with others.
     Share(Name),
-    /// That the name be free again, whoever holds it at this fence.
+    /// To free the name, whoever holds it at this fence.
     Break(Name, Fence),
 }
 
-/// A name after its length, from the front of the bytes.
+/// A name after its length, from the start of the bytes.
 #[tactic(auto, unfolding(crate::specs::Bodies::read_name))]
 pub fn read_name(bytes: &[u8]) -> Option<(Name, &[u8])>
     ensures { Finds (λ x. (x.0, x.1.now)) result (read_name bytes.now) }
@@ -39,7 +39,7 @@ pub fn read_name(bytes: &[u8]) -> Option<(Name, &[u8])>
     Some((Name::of(name)?, rest))
 }
 
-/// What stands after the first byte of a body.
+/// What follows the first byte of a body.
 #[tactic(auto, unfolding(crate::specs::Bodies::fields_of, crate::specs::Bodies::read_name_and_fence))]
 fn read_fields(kind: u8, bytes: &[u8]) -> Option<(Body, &[u8])>
     ensures { Finds (λ x. (x.0, x.1.now)) result (fields_of kind bytes.now) }
@@ -73,7 +73,7 @@ fn read_fields(kind: u8, bytes: &[u8]) -> Option<(Body, &[u8])>
     }
 }
 
-/// The body that all of the bytes are.
+/// The body of which these are all the bytes.
 #[tactic(auto, unfolding(crate::specs::Bodies::body_of))]
 fn read_whole(bytes: &[u8]) -> Option<Body>
     ensures { result ≡ body_of bytes.now }
@@ -100,8 +100,8 @@ fn spelled(kind: u8, name: &Name, rest: &[u8]) -> Payload
 }
 
 impl Body {
-    /// The body that the bytes are, or `None` where they are none: a first byte from 1 to 6, the name after its
-    /// length, and for Release, Check and Break the fence in eight bytes, the greatest first.
+    /// The body of the bytes, or `None` if they are none: a first byte from 1 to 6, the name after its length, and for
+    /// Release, Check and Break the fence in eight bytes, big-endian.
     pub fn read(bytes: &[u8]) -> Option<Body>
         ensures value { result ≡ body_of bytes.now }
         ensures found { IfSome result (λ body. SpellsBody body bytes.now) }
@@ -110,7 +110,7 @@ impl Body {
         read_whole(bytes)
     }
 
-    /// The bytes of the body: 3 to 42. It takes no memory.
+    /// The bytes of the body: 3 to 42. Takes no memory.
     #[tactic(auto, unfolding(lk_fields::specs::Fields::eight))]
     pub fn write(&self) -> Payload
         ensures value { result ≡ spelling self.now }
@@ -125,7 +125,7 @@ impl Body {
         }
     }
 
-    /// The name that it is about.
+    /// Its name.
     pub fn name(&self) -> &Name
         ensures { result.now ≡ name_of self.now }
     {

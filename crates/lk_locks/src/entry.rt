@@ -1,4 +1,4 @@
-//! A name and its slot as bytes, read and written: one way in a table that was raised, another in one that was not.
+//! A name and its slot as bytes, read and written: one format for a raised table, another for one that is not.
 ghost use Rattle.std.specs.Prelude.{◌≡◌, ◌<◌, ◌≤◌, [], ◌∷◌, ◌++◌, true, false, length, OnOk, OnErr, IfSome};
 ghost use Rattle.lk_types.specs.Limits.{max_sharers};
 ghost use Rattle.lk_fields.specs.Fields.{two};
@@ -22,7 +22,7 @@ use lk_types::ClientNo;
 use lk_types::limits::MAX_SHARERS;
 use std::alloc::AllocError;
 
-/// A client, or nobody where the number is 0.
+/// A client, or nobody for the number 0.
 #[tactic(auto, unfolding(crate::specs::Packed::read_holder))]
 fn read_holder(bytes: &[u8]) -> Option<(Holders, &[u8])>
     ensures read { Finds (λ x. (x.0, x.1.now)) result (read_holder bytes.now) }
@@ -79,7 +79,7 @@ fn read_sharers(bytes: &[u8]) -> Option<(Sharers, &[u8])>
     Some((clients, rest))
 }
 
-/// Who holds a name, after a byte that says in which mode.
+/// Who holds a name, after a byte for the mode.
 #[tactic(auto, unfolding(crate::specs::Packed::holders_of))]
 fn read_mode(bytes: &[u8]) -> Option<(Holders, &[u8])>
     ensures read { Finds (λ x. (x.0, x.1.now)) result (tagged holders_of bytes.now) }
@@ -129,7 +129,7 @@ fn read_slot(raised: bool, bytes: &[u8]) -> Option<(Slot, &[u8])>
     Some((Slot { fence, holders }, rest))
 }
 
-/// A name and its slot from the front of the bytes.
+/// A name and its slot from the start of the bytes.
 #[tactic(auto, unfolding(crate::specs::Packed::read_entry))]
 pub fn read_entry(raised: bool, bytes: &[u8]) -> Option<(Name, Slot, &[u8])>
     ensures read { Finds (λ x. ((x.0, x.1), x.2.now)) result (read_entry raised bytes.now) }
@@ -223,7 +223,7 @@ fn put_slot(out: &mut BytesMut, raised: bool, value: &Slot) -> Result<(), AllocE
     Ok(())
 }
 
-/// Writes a name and its slot. Where memory is refused, a beginning of the two may stand after what stood.
+/// Appends a name and its slot. Out of memory it may leave a prefix of the two.
 #[tactic(auto, using(lk_fields::proofs::Spellings::keeps_same, lk_fields::proofs::Spellings::keeps_behind))]
 pub fn put_entry(
     out: &mut BytesMut,

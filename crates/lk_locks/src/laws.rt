@@ -1,4 +1,4 @@
-//! Laws of the definitions alone.
+//! Laws about the definitions alone.
 ghost use Rattle.std.specs.Prelude.{◌≡◌, ◌≤◌, ◌+◌, ◌↔◌, ◌⊎◌, ◌∷◌, ◌++◌, List, [], ℕ, Some, length, true, IsTrue};
 ghost use Rattle.std.specs.List.{AllByRecursion};
 ghost use Rattle.std.specs.FinMap as map;
@@ -21,19 +21,19 @@ ghost use Rattle.lk_locks.specs.Grants.{Call, is_for, fences, fences_in, grants,
 ghost use Rattle.lk_locks.specs.Meaning.{table_meaning, task_answer};
 ghost use Rattle.lk_locks.specs.Lists.{table_of};
 
-/// Over any list of commands, the fences at which a name is given, alone or to share, are 1, 2, 3 and so on. To share it
-/// with those who do takes no new one.
+/// Over any list of commands, the fences at which a name is given, alone or to share, are 1, 2, 3 and so on. Joining
+/// those who share it takes no new fence.
 pub fn fences_count_up()
     ensures { (name : List ℕ) (L : List Command) → grants_in name L ≡ numbers_from 1 (length (grants_in name L)) }
 {}
 
-/// After any list of commands, a name that nobody holds is given at the fence after all at which it was given before, alone or to share: so no
-/// fence is given twice.
+/// After any list of commands, a name that nobody holds is given at the fence after all at which it was given before,
+/// alone or to share: no fence is given twice.
 pub fn a_free_name_is_given_at_the_next_fence()
     ensures { (client : ℕ) (bytes : List ℕ) (body : Body) (fence : ℕ) (L : List Command) → body_of bytes ≡ Some body → IsFree (map.get (table_of L).names (name_of body)) → fences (answer client bytes (table_of L)) ≡ fence ∷ [] → fence ≡ length (grants_in (name_of body) L) + 1 }
 {}
 
-/// A name is granted to one client alone only where nobody holds it.
+/// A name is granted to one client alone only if nobody holds it.
 pub fn a_name_is_granted_where_nobody_holds_it()
     ensures { (client : ℕ) (bytes : List ℕ) (body : Body) (fence : ℕ) (t : Table) → body_of bytes ≡ Some body → answer client bytes t ≡ Granted fence → IsFree (map.get t.names (name_of body)) }
 {}
@@ -63,12 +63,12 @@ pub fn texts_are_of_tables()
     ensures { (L : List Command) → AllByRecursion IsCommand L → text_of table_meaning L ≡ table_text (table_of L) }
 {}
 
-/// What the machine answers after a list is what the plain table after the list answers.
+/// The machine answers after a list as the plain table after the list does.
 pub fn answers_are_plain()
     ensures { (L : List Command) → AllByRecursion IsCommand L → (client : ℕ) (task : Task) → table_meaning.answer client task (text_of table_meaning L) ≡ task_answer client task (table_of L) }
 {}
 
-/// A body is for a name exactly where that is the name in it.
+/// A body is for a name exactly if that is the name in it.
 pub fn bodies_are_for_their_names()
     ensures { (name : List ℕ) (body : Body) → IsTrue (is_for name (Some body)) ↔ (name_of body ≡ name) }
 {}
@@ -78,12 +78,12 @@ pub fn each_fence_is_listed()
     ensures { (name : List ℕ) (L : List Command) (r : RequestValue) (bytes : List ℕ) (body : Body) (fence : ℕ) → in_effect L (Request r) ≡ Some r → r.op ≡ TableOp bytes → body_of bytes ≡ Some body → name_of body ≡ name → fences (answer r.client bytes (table_of L)) ≡ fence ∷ [] → fences_in name (L ++ Request r ∷ []) ≡ fences_in name L ++ fence ∷ [] }
 {}
 
-/// A Check is valid exactly where the name is held at its fence, alone or together, and else stale.
+/// A Check is valid exactly if the name is held at its fence, alone or together, and stale otherwise.
 pub fn checks_tell_who_holds()
     ensures { (client : ℕ) (bytes name : List ℕ) (fence : ℕ) (t : Table) → body_of bytes ≡ Some (Check name fence) → ((answer client bytes t ≡ Valid) ↔ ((holders : Holders) × (is_held holders ≡ true) × (map.get t.names name ≡ Some (record { fence = fence; holders = holders })))) × ((answer client bytes t ≡ Valid) ⊎ (answer client bytes t ≡ Stale)) }
 {}
 
-/// A Break at the fence at which a name is held frees it of all who hold it, and the fence stays.
+/// A Break at the fence at which a name is held frees it from all its holders, and the fence stays.
 pub fn breaks_free_all()
     ensures { (client : ℕ) (bytes name : List ℕ) (fence : ℕ) (t : Table) (holders : Holders) → t.raised ≡ true → body_of bytes ≡ Some (Break name fence) → is_held holders ≡ true → map.get t.names name ≡ Some (record { fence = fence; holders = holders }) → map.get (next client bytes t).names name ≡ Some (record { fence = fence; holders = Nobody }) }
 {}

@@ -1,4 +1,4 @@
-//! The lock table: what clients ask of it, and what it answers.
+//! The lock table: what clients ask of it, and its answers.
 #![tactic(auto)]
 
 mod body;

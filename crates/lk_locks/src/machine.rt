@@ -15,7 +15,7 @@ use lk_types::limits::MAX_NAMES;
 use lk_types::{Answer, ClientNo, NoMemory};
 use std::alloc::Global;
 
-/// The table of so many names with their slots, from the front of the bytes. The names have to rise.
+/// The table of this many names with their slots, from the start of the bytes. The names have to rise.
 fn read_entries(
     alloc: Global,
     raised: bool,
@@ -39,7 +39,7 @@ fn read_entries(
     Ok((table, rest))
 }
 
-/// The names that all of the bytes are.
+/// The names of which these are all the bytes.
 #[tactic(auto, using(crate::proofs::TableLaws::read_is), unfolding(crate::specs::Packed::read_entries, crate::specs::Packed::read_size))]
 fn read_names(alloc: Global, raised: bool, bytes: &[u8]) -> Result<LockTable, UnpackFault>
     ensures ok { IfOk result (λ t. whole (read_entries raised) bytes.now ≡ Some (map.entries t.names)) }
@@ -59,7 +59,7 @@ fn read_names(alloc: Global, raised: bool, bytes: &[u8]) -> Result<LockTable, Un
     Ok(table)
 }
 
-/// The table that all of the bytes are.
+/// The table of which these are all the bytes.
 #[tactic(auto, unfolding(crate::specs::Packed::read_table))]
 fn read_table(alloc: Global, bytes: &[u8]) -> Result<LockTable, UnpackFault>
     ensures ok { IfOk result (λ t. whole read_table bytes.now ≡ Some (parts_of t)) }
@@ -90,12 +90,12 @@ impl Machine for LockTable {
 
     ghost meaning = { table_meaning };
 
-    /// The table that knows no name.
+    /// The table without names.
     fn begin(alloc: Global) -> Self {
         LockTable::new(alloc, false)
     }
 
-    /// Answers what a client asks, and does it: `run`, seen by the packed texts.
+    /// Executes a client's operation and returns the answer: `run`, in terms of the packed texts.
     fn apply(&mut self, client: ClientNo, body: &[u8]) -> Result<Answer, NoMemory>
         ensures ok { OnOk result (table_text self.new ≡ table_meaning.next client (Running body.now) (table_text self.old)) }
         ensures answer { IfOk result (λ a. a ≡ table_meaning.answer client (Running body.now) (table_text self.old)) }
@@ -112,8 +112,8 @@ impl Machine for LockTable {
         self.raise_it()
     }
 
-    /// Adds how many names stand, and then in rising order each name with its last fence and who holds it; after a mark
-    /// where the table was raised.
+    /// Appends how many names there are, and then in rising order each name with its last fence and its holders; after
+    /// a mark if the table was raised.
     fn pack(&self, out: &mut BytesMut) -> Result<(), NoMemory> {
         let stood = out.len();
         if self.put(out).is_err() {

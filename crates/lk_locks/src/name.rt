@@ -39,7 +39,7 @@ fn all_may_stand(bytes: &[u8]) -> bool
 }
 
 impl Name {
-    /// The name, or `None` where the bytes are none.
+    /// The name, or `None` if the bytes are none.
     pub fn of(bytes: &[u8]) -> Option<Name>
         ensures some { IsSome result ↔ IsName bytes.now }
         ensures value { IfSome result (λ n. n ≡ bytes.now) }
@@ -60,7 +60,7 @@ impl Name {
         self.bytes.as_slice()
     }
 
-    /// The same name. It takes no memory.
+    /// The same name. Takes no memory.
     pub fn copy(&self) -> Name
         ensures { result ≡ self.now }
     {
@@ -68,7 +68,7 @@ impl Name {
         Name { bytes }
     }
 
-    /// It is a name. It does nothing.
+    /// It is a name. The function does nothing.
     pub(crate) fn facts(&self)
         ensures { IsName self.now }
     {

@@ -1,7 +1,7 @@
 use crate::slot::Slot;
 use lk_types::Answer;
 
-/// What a body comes to: its answer, and what the name then has, where it changes.
+/// The result of a body: its answer, and the name's new slot, if it changes.
 #[derive(Drop)]
 pub struct Row {
     pub answer: Answer,

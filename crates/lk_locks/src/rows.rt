@@ -1,4 +1,4 @@
-//! What each body comes to, by what its name has and how many names stand.
+//! The result of each body, given the slot of its name and how many names there are.
 ghost use Rattle.std.specs.Prelude.{◌≡◌, Some, [], ◌∷◌};
 ghost use Rattle.lk_types.specs.declared.answer.Answer.TheVariants.{Shared};
 ghost use Rattle.lk_locks.specs.declared.slot.Holders.TheVariants.{Together};
@@ -32,7 +32,7 @@ fn fence_after(fence: Fence) -> Result<Fence, Answer>
     Fence::of(fence.get() + 1).ok_or(Answer::Spent)
 }
 
-/// The fence of a new name, where so many stand.
+/// The fence of a new name, given how many there are.
 fn first_fence(names: usize) -> Result<Fence, Answer>
     ensures { result ≡ first_fence names }
 {
@@ -59,7 +59,7 @@ fn acquire(client: ClientNo, slot: Option<Slot>, names: usize) -> Row
     }
 }
 
-/// What it comes to that a client shares a name that others share.
+/// The result when a client shares a name that others share.
 fn join(client: ClientNo, fence: Fence, clients: Sharers) -> Row
     ensures { result ≡ joined client fence clients }
 {
@@ -73,7 +73,7 @@ fn join(client: ClientNo, fence: Fence, clients: Sharers) -> Row
     changed(Answer::Shared(fence), fence, holders)
 }
 
-/// What it comes to that a client shares a name that nobody holds.
+/// The result when a client shares a name that nobody holds.
 fn begin(client: ClientNo, fence: Result<Fence, Answer>) -> Row
     ensures { result ≡ given Shared (Together (client ∷ [])) fence }
 {
@@ -156,7 +156,7 @@ fn check(fence: Fence, slot: Option<Slot>) -> Answer
     }
 }
 
-/// What a body comes to.
+/// The result of a body.
 pub fn row(client: ClientNo, body: &Body, slot: Option<Slot>, names: usize) -> Row
     ensures { result ≡ row client body.now slot names }
 {

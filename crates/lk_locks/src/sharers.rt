@@ -28,7 +28,7 @@ impl Model for Sharers {
     ghost inverse = { λ cs. record { clients = record { items = cs } } };
 }
 
-/// Each client is in its range. It does nothing.
+/// Each client is in its range. The function does nothing.
 fn facts_of(clients: &[ClientNo])
     ensures { AllByRecursion IsClient clients.now }
 {
@@ -52,7 +52,7 @@ fn are_rising(clients: &[ClientNo]) -> bool
     true
 }
 
-/// How many smaller clients stand in front.
+/// How many smaller clients come first.
 fn place_of(clients: &[ClientNo], client: ClientNo) -> usize
     requires { IsTrue (are_clients_above 0 clients.now) }
     ensures place { result ≡ prefix_len (λ c. nat_lt c client) clients.now }
@@ -62,7 +62,7 @@ fn place_of(clients: &[ClientNo], client: ClientNo) -> usize
 }
 
 impl Sharers {
-    /// The set, or `None` where the clients do not rise strictly.
+    /// The set, or `None` if the clients do not rise strictly.
     pub fn of(clients: ArrayVec<ClientNo, 8>) -> Option<Sharers>
         requires { 1 ≤ length clients.items }
         ensures some { IsSome result ↔ IsTrue (are_clients_above 0 clients.items) }
@@ -109,7 +109,8 @@ impl Sharers {
         SharerCount::of(self.as_slice().len() as u8).unwrap()
     }
 
-    /// The least of them.
+    /// what a letter may change: the kept letters of the node to itself, what the socket has sent, and how many of its
+    /// sends have failed
     pub fn least(&self) -> ClientNo
         ensures { result ≡ least self.now }
     {
@@ -123,14 +124,14 @@ impl Sharers {
         self.as_slice().iter().any(|other| *other == client)
     }
 
-    /// Whether eight stand.
+    /// Whether there are eight.
     pub fn is_full(&self) -> bool
         ensures { result ≡ true ↔ (length self.now ≡ max_sharers) }
     {
         self.as_slice().len() >= MAX_SHARERS as usize
     }
 
-    /// The set with one client more, which is none of them yet.
+    /// The set with one more client, which is not in it yet.
     pub fn with(&self, client: ClientNo) -> Sharers
         requires new { is_among client self.now ≡ false }
         requires room { length self.now < max_sharers }
@@ -143,7 +144,7 @@ impl Sharers {
         Sharers { clients }
     }
 
-    /// The set without this client, or `None` where nobody is left.
+    /// The set without this client, or `None` if nobody is left.
     pub fn without(&self, client: ClientNo) -> Option<Sharers>
         ensures some { IsSome result ↔ (without client self.now ≡ [] → ⊥) }
         ensures value { IfSome result (λ s. s ≡ without client self.now) }

@@ -10,7 +10,7 @@ use lk_types::{ClientNo, Fence};
 #[derive(PartialEq, Eq, Drop)]
 pub enum Holders {
     Nobody,
-    /// That client, and no other may.
+    /// That client, and no other.
     Alone(ClientNo),
     /// These clients, and others may join them.
     Together(Sharers),
@@ -23,7 +23,7 @@ pub struct Slot {
     pub holders: Holders,
 }
 
-/// Who still shares the name once the client has left.
+/// Who still shares the name after the client has left.
 fn held_without(clients: &Sharers, client: ClientNo) -> Holders
     ensures { result ≡ held_by (without client clients.now) }
 {
@@ -34,7 +34,7 @@ fn held_without(clients: &Sharers, client: ClientNo) -> Holders
 }
 
 impl Holders {
-    /// Each part is in its range. It does nothing.
+    /// Each part is in its range. The function does nothing.
     pub(crate) fn facts(&self)
         ensures { IsHolders self.now }
     {
@@ -70,7 +70,7 @@ impl Holders {
         }
     }
 
-    /// Who holds the name once the client has left, or `None` where it holds it not.
+    /// Who holds the name after the client has left, or `None` if it does not hold it.
     pub fn left_by(&self, client: ClientNo) -> Option<Holders>
         ensures { result ≡ left_by client self.now }
     {
@@ -93,7 +93,7 @@ impl Holders {
 }
 
 impl Slot {
-    /// Each part is in its range. It does nothing.
+    /// Each part is in its range. The function does nothing.
     pub(crate) fn facts(&self)
         ensures { IsSlot self.now }
     {

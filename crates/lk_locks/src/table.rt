@@ -25,11 +25,11 @@ use std::alloc::{AllocError, Global};
 use std::collections::BTreeMap;
 use std::marker::Model;
 
-/// What a packed table that was raised begins with: no table has so many names.
+/// The first bytes of a packed table that was raised: no table has this many names.
 pub(crate) const RAISED_MARK: u16 = 0xff02;
 
-/// Up to max_names names, each with its last fence and who holds it. A name never leaves. A table that was raised knows
-/// of shared names and of breaking, and packs in another way.
+/// Up to max_names names, each with its last fence and its holders. A name never leaves. A raised table knows shared
+/// names and Break, and has another packed format.
 #[derive(Drop)]
 pub struct LockTable {
     raised: bool,
@@ -55,7 +55,7 @@ impl Model for LockTable {
 }
 
 impl LockTable {
-    /// The table that knows no name, of the first version or of the second. It takes no memory yet.
+    /// The table without names, of the first version or of the second. Takes no memory yet.
     pub fn new(alloc: Global, raised: bool) -> LockTable
         ensures { result ≡ record { raised = raised; names = map.empty } }
     {
@@ -65,7 +65,7 @@ impl LockTable {
         }
     }
 
-    /// How many names stand.
+    /// How many names there are.
     pub fn len(&self) -> usize
         ensures len { result ≡ map.len self.now.names }
         ensures short { result ≤ max_names }
@@ -73,7 +73,7 @@ impl LockTable {
         self.slots.len()
     }
 
-    /// At most max_names names stand, and each part is in its range. It does nothing.
+    /// There are at most max_names names, and each part is in its range. The function does nothing.
     pub fn facts(&self)
         ensures { IsTable self.now }
     {
@@ -89,7 +89,7 @@ impl LockTable {
         }
     }
 
-    /// Gives a name that slot. For a name that stands it takes no memory.
+    /// Gives a name that slot. For a known name it takes no memory.
     fn set(&mut self, name: Name, slot: Slot) -> Result<(), NoMemory>
         requires kept { is_kept self.old.raised slot.holders ≡ true }
         requires room { map.get self.old.names name ≡ None → map.len self.old.names < max_names }
@@ -103,7 +103,7 @@ impl LockTable {
         Ok(())
     }
 
-    /// Whether all names that stand are below this one.
+    /// Whether all known names are below this one.
     fn is_below(&self, name: &Name) -> bool
         ensures { (s : Slot) → result ≡ rise (map.entries self.now.names ++ (name.now, s) ∷ []) }
     {
@@ -113,7 +113,7 @@ impl LockTable {
         }
     }
 
-    /// Adds a name above all that stand, where there is room.
+    /// Adds a name above all known ones, if there is room.
     pub(crate) fn push(&mut self, name: Name, slot: Slot) -> Result<(), UnpackFault>
         requires room { map.len self.old.names < max_names }
         requires kept { is_kept self.old.raised slot.holders ≡ true }
@@ -128,8 +128,7 @@ impl LockTable {
         Ok(())
     }
 
-    /// Writes how many names stand, and then each with its slot. Where memory is refused, a beginning of that may stand
-    /// after what stood.
+    /// Appends how many names there are, and then each with its slot. Out of memory it may leave a prefix of that.
     #[tactic(auto, using(lk_fields::proofs::Spellings::keeps_same, lk_fields::proofs::Spellings::keeps_behind))]
     fn put_names(&self, out: &mut BytesMut) -> Result<(), AllocError>
         ensures ok { OnOk result (out.new.items ≡ out.old.items ++ entries self.now.raised (map.entries self.now.names)) }
@@ -142,7 +141,7 @@ impl LockTable {
         Ok(())
     }
 
-    /// Writes the packed text. Where memory is refused, a beginning of it may stand after what stood.
+    /// Appends the packed text. Out of memory it may leave a prefix of it.
     #[tactic(auto, using(lk_fields::proofs::Spellings::keeps_same, lk_fields::proofs::Spellings::keeps_behind))]
     pub(crate) fn put(&self, out: &mut BytesMut) -> Result<(), AllocError>
         ensures ok { OnOk result (out.new.items ≡ out.old.items ++ table_text self.now) }
@@ -169,7 +168,7 @@ impl LockTable {
         Ok(held)
     }
 
-    /// Answers a body that the table knows, and does it.
+    /// Executes a body that the table knows, and returns the answer.
     fn serve(&mut self, client: ClientNo, body: Body) -> Result<Answer, NoMemory>
         requires { is_known self.old.raised body ≡ true }
         ensures answer { IfOk result (λ a. a ≡ (row_in client body self.old.names).answer) }
@@ -187,7 +186,8 @@ impl LockTable {
         Ok(answer)
     }
 
-    /// Answers what a client asks, and does it. It wants memory only for a name that is new. An `Err` changes nothing.
+    /// Executes a client's operation, and returns the answer. It needs memory only for a new name. An `Err` changes
+    /// nothing.
     pub fn run(&mut self, client: ClientNo, body: &[u8]) -> Result<Answer, NoMemory>
         ensures answer { IfOk result (λ a. a ≡ answer client body.now self.old) }
         ensures ok { OnOk result (self.new ≡ next client body.now self.old) }
@@ -200,7 +200,7 @@ impl LockTable {
         }
     }
 
-    /// Raises the table: from then on it knows of shared names and of breaking. It takes no memory.
+    /// Raises the table: from then on it knows shared names and Break. Takes no memory.
     pub fn raise_it(&mut self) -> Answer
         ensures answer { result ≡ raise_answer self.old }
         ensures next { self.new ≡ raised self.old }

@@ -9,16 +9,17 @@ use Rattle.lk_log.specs.Images.{Image, MayLeaveBoth, Means, IsLive, IsEmpty, Sam
 use Rattle.lk_log.specs.Stores.{first_base, Found}
 use Rattle.lk_log.specs.declared.verdict.Verdict.{Verdict}
 
--- each image comes to something
+-- each image amounts to something
 abbrev pub AllMean : (Side → Disk) → Type 0
 AllMean disks = (image : Image) → MayLeaveBoth disks image → (v : Verdict) × (entries : Side → List Stored) × Means image v entries
 
--- each image has entries with this property: those of its live file, or those of a store that is begun where it is empty
+-- each image has entries with this property: those of its live file, or those of a new store if it is empty
 abbrev pub EveryFound : (Side → Disk) → HeaderValue → List ℕ → (List Stored → Type 0) → Type 0
 EveryFound disks whose zero P = (image : Image) → MayLeaveBoth disks image → (es : List Stored) × Found image whose zero es × P es
 
--- Each image of the new disks comes to what an image of the old ones came to, or to a store that is begun where some image
--- of the old ones was empty. What one opening promises speaks of the image that it read; this goes from opening to opening.
+-- Each image of the new disks amounts to what an image of the old ones did, or to a new store if some image of the old
+-- ones was empty. What one opening promises speaks of the image that it read; this carries over from opening to
+-- opening.
 abbrev pub NarrowsOrBeganSome : (Side → Disk) → (Side → Disk) → HeaderValue → List ℕ → Type 0
 NarrowsOrBeganSome old new whose zero = (image : Image) → MayLeaveBoth new image
     → ((before : Image) × MayLeaveBoth old before × SameMeaning before image)

@@ -1,4 +1,4 @@
--- Both files as a stop may leave them, and what they come to.
+-- Both files as a stop may leave them, and what they amount to.
 use Rattle.std.specs.Prelude.{◌≡◌, ℕ, Bool, nat_lt, ◌||◌, List, if◌then◌else◌}
 use Rattle.lk_disk.specs.Disk.{Disk, contents, MayLeave}
 use Rattle.lk_disk.specs.declared.device.Side.{Side}
@@ -23,8 +23,8 @@ seen disks s = contents (disks s)
 abbrev pub unless_damaged : Bool → Verdict → Verdict
 unless_damaged is_damaged v = if is_damaged then Damaged else v
 
--- What files of these whole entries come to, and of this damage: the file whose Base has the greater
--- generation is live, and of the other one the damage is not looked at. Without a Base they are empty.
+-- What files with these whole entries and this damage amount to: the file whose Base has the greater generation is
+-- live, and damage in the other one does not matter. Without a Base they are empty.
 abbrev pub verdict : List Stored → List Stored → Bool → Bool → Verdict
 verdict a b a_damaged b_damaged =
     if is_misplaced a || is_misplaced b then Damaged
@@ -33,7 +33,7 @@ verdict a b a_damaged b_damaged =
     else if nat_lt 0 (generation a) then Damaged
     else unless_damaged (a_damaged || b_damaged) Empty
 
--- the image comes to this, and its files have these whole entries
+-- the image amounts to this, and its files have these whole entries
 pub record Means (image : Image) (v : Verdict) (entries : Side → List Stored) : Type 0 where
   pub is_damaged : Side → Bool
   pub file : (s : Side) → IsFile (image s) (entries s) (is_damaged s)
@@ -53,10 +53,10 @@ IsEmpty image = (entries : Side → List Stored) × Means image Empty entries
 abbrev pub IsDamaged : Image → Type 0
 IsDamaged image = (entries : Side → List Stored) × Means image Damaged entries
 
--- whatever the first image comes to, the second comes to
+-- whatever the first image amounts to, the second does too
 abbrev pub SameMeaning : Image → Image → Type 0
 SameMeaning before image = (v : Verdict) (entries : Side → List Stored) → Means before v entries → Means image v entries
 
--- each image after it comes to what an image before it came to
+-- each image after it amounts to what an image before it did
 abbrev pub Narrows : (Side → Disk) → (Side → Disk) → Type 0
 Narrows old new = (image : Image) → MayLeaveBoth new image → (before : Image) × MayLeaveBoth old before × SameMeaning before image

@@ -7,8 +7,8 @@ use Rattle.lk_disk.specs.declared.device.Side.{Side}
 use Rattle.lk_disk.specs.declared.device.Side.TheVariants.{A, B}
 use Rattle.lk_entries.specs.Values.{HeaderValue}
 
--- the disk of the live file and the other one, how often the device has failed, what makes it fail, which side is live, the generation and
--- the format of its Base, whose store it is, and whether the store refuses all calls
+-- the disk of the live file and the other one, how many of the device's calls have failed, what makes it fail, which
+-- side is live, the generation and the format of its Base, whose store it is, and whether the store rejects all calls
 pub record StoreValue : Type 0 where
   pub live_disk : Disk
   pub other_disk : Disk
@@ -31,6 +31,6 @@ pick B here there B = here
 abbrev pub disks : StoreValue → Side → Disk
 disks s = pick s.live s.live_disk s.other_disk
 
--- its device, where that is one in memory
+-- its device, if that is one in memory
 abbrev pub device_of : StoreValue → Memory
 device_of s = record { a = disks s A; b = disks s B; meter = s.meter; failures = s.failures }

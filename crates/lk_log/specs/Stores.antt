@@ -44,12 +44,12 @@ pub record Holds (s : StoreValue) (synced_entries unsynced_entries : List Stored
   pub format_is : s.format ≡ format synced_entries
   pub header_is : HasHeader synced_entries s.header
 
--- each image that a stop may leave of these disks has all of the first entries and a beginning of the others
+-- each image that a stop may leave of these disks has all of the first entries and a prefix of the others
 abbrev pub KeepsAtLeastOn : Side → Disk → Disk → List Stored → List Stored → Type 0
 KeepsAtLeastOn live live_disk other_disk first more = (image : Image) → MayLeaveBoth (pick live live_disk other_disk) image
     → (k : ℕ) × IsLive image (first ++ take k more)
 
--- so of a store
+-- the same of a store
 abbrev pub KeepsAtLeast : StoreValue → List Stored → List Stored → Type 0
 KeepsAtLeast s = KeepsAtLeastOn s.live s.live_disk s.other_disk
 
@@ -63,7 +63,7 @@ KeepsItsFile old new = (new.live ≡ old.live) × (new.generation ≡ old.genera
 abbrev pub KeepsBothDisks : StoreValue → StoreValue → Type 0
 KeepsBothDisks old new = (new.live_disk ≡ old.live_disk) × (new.other_disk ≡ old.other_disk)
 
--- the other file has not changed, and where memory was refused the live one has not either
+-- the other file is unchanged, and out of memory the live one is too
 abbrev pub KeepsOtherDisk : {T : Type 0} → StoreValue → StoreValue → Result T StoreFault → Type 0
 KeepsOtherDisk old new result = (new.other_disk ≡ old.other_disk) × (IsErrOf result NoMemory → new.live_disk ≡ old.live_disk)
 
@@ -73,7 +73,8 @@ KeepsOtherDisk old new result = (new.other_disk ≡ old.other_disk) × (IsErrOf 
 abbrev pub max_snapshot : ℕ
 max_snapshot = 43230
 
--- a standing that may be written: its snapshot leaves room in a Base for all votes and pairs, and these are few and in order
+-- a standing that may be written: its snapshot leaves room in a Base for all votes and pairs, and these are few and in
+-- order
 pub record MayBegin (s : StandingValue) : Type 0 where
   pub some : 1 ≤ length s.snapshot
   pub room : length s.snapshot ≤ max_snapshot
@@ -86,17 +87,17 @@ pub record MayBegin (s : StandingValue) : Type 0 where
 abbrev pub next_base : StoreValue → StandingValue → BaseValue
 next_base s t = record { generation = s.generation + 1; format = 2; header = s.header; standing = t }
 
--- after a rebase the store has the next generation, format 2 and the same header; after a refusal the same file is live, with the same generation,
--- format and header
+-- after a rebase the store has the next generation, format 2 and the same header; after an error the same file is
+-- live, with the same generation, format and header
 abbrev pub GoesOver : {T : Type 0} → StoreValue → StoreValue → Result T StoreFault → Type 0
 GoesOver old new (Ok _) = (new.generation ≡ old.generation + 1) × (new.format ≡ 2) × (new.header ≡ old.header)
 GoesOver old new (Err e) = KeepsItsFile old new
 
--- the file that was left is empty, and the live one is no longer than a Base
+-- the old file is empty, and the live one is no longer than a Base
 abbrev pub LeavesEmpty : StoreValue → Type 0
 LeavesEmpty s = (s.other_disk ≡ record { synced = []; unsynced = [] }) × (length (contents s.live_disk) ≤ max_base)
 
--- each image that a stop may leave of these disks has all of the first entries and a beginning of the others, or the new
+-- each image that a stop may leave of these disks has all of the first entries and a prefix of the others, or the new
 -- Base alone
 abbrev pub KeepsOrIs : (Side → Disk) → List Stored → List Stored → BaseValue → Type 0
 KeepsOrIs disks first more b = (image : Image) → MayLeaveBoth disks image
@@ -104,11 +105,11 @@ KeepsOrIs disks first more b = (image : Image) → MayLeaveBoth disks image
 
 -- ---- an opening
 
--- a file of that size is cut where its entries end, by no call where nothing stands after them
+-- a file of that size is cut at the end of its entries, without a call if nothing follows them
 abbrev pub cut_calls : ℕ → ℕ → ℕ
 cut_calls end size = if nat_le size end then 0 else 1
 
--- the Base of a store that is begun, which has format 2
+-- the Base of a new store, which has format 2
 abbrev pub first_base : HeaderValue → List ℕ → BaseValue
 first_base h zero = record {
   generation = 1;
@@ -117,7 +118,7 @@ first_base h zero = record {
   standing = record { promised = zero_ballot; position = 0; snapshot = zero; votes = []; pairs = [] };
 }
 
--- what the files stood for as they were read, or that of a store that is begun where nothing stood
+-- what the files stood for when they were read, or that of a new store if there was none
 abbrev pub Found : Image → HeaderValue → List ℕ → List Stored → Type 0
 Found before h zero es = IsLive before es ⊎ (IsEmpty before × (es ≡ Base (first_base h zero) ∷ []))
 
@@ -125,7 +126,7 @@ Found before h zero es = IsLive before es ⊎ (IsEmpty before × (es ≡ Base (f
 abbrev pub StandsForSome : StandingValue → Type 0
 StandsForSome s = (es : List Stored) × StandsFor es s
 
--- what an opening finds is held by these disks, all of it synced, under this header, with its format and with this standing
+-- these disks hold what an opening finds, all of it synced, under this header, with its format and with this standing
 pub record OpensOn (before : Image) (h : HeaderValue) (zero : List ℕ) (live_disk other_disk : Disk) (number told : ℕ) (standing : StandingValue) : Type 0 where
   pub entries : List Stored
   pub found : Found before h zero entries
@@ -135,22 +136,23 @@ pub record OpensOn (before : Image) (h : HeaderValue) (zero : List ℕ) (live_di
   pub format_is : told ≡ format entries
   pub stands : StandsFor entries standing
 
--- so by an opened store
+-- the same of an opened store
 abbrev pub Opens : Image → HeaderValue → List ℕ → StoreValue → StandingValue → Type 0
 Opens before h zero s = OpensOn before h zero s.live_disk s.other_disk s.generation s.format
 
--- whatever the device gave to read, an opened store has not failed and is the one of this header, and some entries stand for the standing
+-- whatever the device returned, an opened store has not failed and has this header, and some entries stand for the
+-- standing
 abbrev pub IsOpened : HeaderValue → StoreValue → StandingValue → Type 0
 IsOpened h s standing = (s.failed ≡ false) × (s.header ≡ h) × StandsForSome standing
 
--- how many changing calls of the device an opening makes: three where it begins a store, and else a cut, where something is torn,
--- and a sync
+-- how many changing calls of the device an opening makes: three for a new store, and otherwise a cut, if something is
+-- torn, and a sync
 abbrev pub OpensBy : Image → ℕ → Type 0
 OpensBy before k =
     (IsEmpty before × (k ≡ 3))
     ⊎ ((live : Side) × (es : List Stored) × IsLive before es × IsFile (before live) es false × (k ≡ cut_calls (length (spelling_of_all es)) (length (before live)) + 1))
 
--- whole entries with one Base, in front: those that stand for something
+-- whole entries with one Base, at the start: those that stand for something
 pub record MayStand (es : List Stored) : Type 0 where
   pub fit : AllByRecursion IsStored es
   pub placed : is_misplaced es ≡ false
@@ -160,11 +162,11 @@ pub record MayStand (es : List Stored) : Type 0 where
 abbrev pub IsWrong : Image → HeaderValue → Type 0
 IsWrong before h = (es : List Stored) × IsLive before es × (HasHeader es h → ⊥)
 
--- the files are damaged, and stay as they were
+-- the files are damaged, and unchanged
 abbrev pub StaysDamaged : (Side → Disk) → (Side → Disk) → Type 0
 StaysDamaged old new = IsDamaged (seen old) × ((s : Side) → new s ≡ old s)
 
--- the live file is another node's or another cluster's, and the files stay as they were
+-- the live file is another node's or another cluster's, and the files are unchanged
 abbrev pub StaysWrong : (Side → Disk) → (Side → Disk) → HeaderValue → Type 0
 StaysWrong old new h = IsWrong (seen old) h × ((s : Side) → new s ≡ old s)
 
@@ -176,8 +178,7 @@ pub record Shows (before : Image) (number told : ℕ) (standing : StandingValue)
   pub format_is : told ≡ format entries
   pub stands : StandsFor entries standing
 
--- each image of the new disks comes to what an image of the old ones came to, or to a store that is begun where
--- nothing stood
+-- each image of the new disks amounts to what an image of the old ones did, or to a new store if there was none
 abbrev pub NarrowsOrBegins : (Side → Disk) → (Side → Disk) → HeaderValue → List ℕ → Type 0
 NarrowsOrBegins old new h zero = (image : Image) → MayLeaveBoth new image
     → ((before : Image) × MayLeaveBoth old before × SameMeaning before image) ⊎ (IsEmpty (seen old) × IsLive image (Base (first_base h zero) ∷ []))
@@ -195,6 +196,6 @@ pub record FoundLive (disks : Side → Disk) (live : Side) (es : List Stored) (e
   pub ends : end ≡ length (spelling_of_all es)
   pub sized : size ≡ length (contents (disks live))
 
--- each image of a file is a front of what stood there, or of these bytes
+-- each image of a file is a prefix of what was there, or of these bytes
 abbrev pub IsWrittenOver : Disk → List ℕ → Disk → Type 0
 IsWrittenOver old bytes new = (c : List ℕ) → MayLeave new c → ((p : ℕ) × (c ≡ take p (contents old))) ⊎ ((p : ℕ) × (c ≡ take p bytes))

@@ -15,7 +15,7 @@ use lk_entries::{entries_facts, spelled};
 use lk_types::Entry;
 use std::alloc::Global;
 
-// Appends the bytes, by no call where there are none.
+// Appends the bytes, without a call if there are none.
 fn append_some<D: LogDisk>(device: &mut D, side: Side, bytes: &[u8]) -> Result<(), DeviceFault>
     ensures ok { D.is_honest → OnOk result (D.disk device.new side ≡ appended (D.disk device.old side) bytes.now) }
     ensures err { D.is_honest → OnErr result (AppendsSome bytes.now (D.disk device.old side) (D.disk device.new side)) }
@@ -29,7 +29,7 @@ fn append_some<D: LogDisk>(device: &mut D, side: Side, bytes: &[u8]) -> Result<(
     device.append(side, bytes)
 }
 
-/// Adds entries after those of the live file, which has format 2, and syncs them where that is asked.
+/// Adds entries after those of the live file, which has format 2, and syncs them if asked to.
 pub fn add<D: LogDisk>(
     alloc: Global,
     device: &mut D,
@@ -45,7 +45,7 @@ pub fn add<D: LogDisk>(
         → KeepsAtLeastOn live (D.disk device.new live) (D.disk device.new (other live)) ks (ls ++ plain entries.now) }
     ensures beside { D.is_honest → D.disk device.new (other live) ≡ D.disk device.old (other live) }
     ensures no_memory { D.is_honest → IsErrOf result StoreFault.NoMemory → D.disk device.new live ≡ D.disk device.old live }
-    // Whatever it comes to, it adds no more bytes than so many entries have, each at most 102.
+    // Whatever its result, it adds no more bytes than this many entries have, each at most 102.
     ensures grows { D.is_honest → length (contents (D.disk device.new live)) ≤ length (contents (D.disk device.old live)) + 102 * length entries.now }
     ensures cause { IsCaused (D.failures device.old) (D.failures device.new) result }
     ensures metered { D.is_metered → IsMetered (D.meter device.old) (D.meter device.new) (put_calls entries.now sync) result }

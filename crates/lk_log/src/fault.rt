@@ -7,7 +7,7 @@ use lk_types::NoMemory;
 use std::alloc::{AllocError, AllocFailed};
 use thiserror::Error;
 
-/// Why a store refused a call.
+/// Why a call of a store failed.
 #[derive(Clone, Copy, Debug, Error)]
 pub enum StoreFault {
     #[error("the device failed")]
@@ -23,7 +23,7 @@ pub enum StoreFault {
 }
 
 impl StoreFault {
-    /// The number of this refusal, 7 to 11.
+    /// The number of this error, 7 to 11.
     pub fn number(self) -> u8
         ensures { result ≡ number_of self }
     {
@@ -77,7 +77,7 @@ pub struct ReopenFault<D> {
 }
 
 impl<D> ReopenFault<D> {
-    /// The number of this refusal, 7 to 10.
+    /// The number of this error, 7 to 10.
     pub fn number(&self) -> u8
         ensures { result ≡ number_of self.now.fault }
     {

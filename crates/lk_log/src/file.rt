@@ -25,7 +25,7 @@ pub struct File {
     pub end: usize,
     // How many bytes there are.
     pub size: usize,
-    // Whether what stands after the entries is damage, or they mix the two formats.
+    // Whether what follows the entries is damage, or they mix the two formats.
     pub is_damaged: bool,
 }
 
@@ -41,7 +41,7 @@ fn is_torn(rest: &[u8]) -> bool
     told >= 1 && told <= MAX_TORN && rest.len() < 4 + told
 }
 
-// Whether a file is damaged that has these entries, and this after them.
+// Whether a file with these entries, and this after them, is damaged.
 fn is_damaged(entries: &[Stored], rest: &[u8]) -> bool
     ensures { result ≡ (not (is_torn rest.now) || is_mixed entries.now) }
 {
@@ -103,7 +103,7 @@ pub fn read_file<D: LogDisk>(alloc: Global, device: &mut D, side: Side) -> Resul
     file_of(alloc, &bytes)
 }
 
-/// Of the Base in front, 0 where none stands there.
+/// That of the Base at the start, 0 if there is none.
 pub fn generation_of(entries: &[Stored]) -> u64
     ensures { result ≡ generation entries.now }
 {

@@ -28,7 +28,7 @@ fn greatest_of(ballot: Ballot, votes: &[Vote]) -> Ballot
     greatest
 }
 
-// How many pairs of smaller positions are in front.
+// How many pairs of smaller positions come first.
 fn pairs_below(position: Position, pairs: &[(Position, Command)]) -> usize
     requires { ArePairsRising pairs.now }
     ensures value { result ≡ pairs_below position pairs.now }
@@ -37,7 +37,7 @@ fn pairs_below(position: Position, pairs: &[(Position, Command)]) -> usize
     pairs.partition_point(|pair| pair.0 < position)
 }
 
-// Keeps a decided command in its place. Of two of a position the earlier is kept.
+// Keeps a decided command in its place. Of two at a position it keeps the earlier.
 #[tactic(auto, using(lk_entries::proofs::InOrder::pair_at_end, lk_entries::proofs::InOrder::pair_at_other, lk_entries::proofs::InOrder::pair_at_same))]
 fn keep_pair(
     pairs: &mut Vec<(Position, Command)>,
@@ -86,8 +86,8 @@ fn of_base(base: Base) -> Standing
     standing
 }
 
-// Adds an entry after those that it stands for. Of two votes at a position the one of greater ballot is kept, the
-// earlier where they are equal, and the first decided command of a position.
+// Adds an entry after those for which the standing stands. Of two votes at a position it keeps the one of greater
+// ballot, the earlier if they are equal, and it keeps the first decided command of a position.
 fn add(standing: &mut Standing, entry: Entry) -> Result<(), StoreFault>
     requires { Rises standing.old }
     ensures ok { OnOk result (standing.new ≡ with_plain entry standing.old) }
@@ -130,8 +130,8 @@ fn add_pair(standing: &mut Standing, pair: (Position, Command)) -> Result<(), St
     Ok(())
 }
 
-/// What entries with a Base in front stand for. Each is put into its place by halving, so the time grows with the number
-/// of entries, and with what is moved where they do not come in order.
+/// What entries with a Base at the start stand for. Each is put into its place by binary search, so the time grows
+/// with the number of entries, and with what has to move if they do not come in order.
 pub fn gather(alloc: Global, entries: Vec<Stored>) -> Result<Standing, StoreFault>
     requires { MayStand entries.items }
     ensures stands { IfOk result (StandsFor entries.items) }

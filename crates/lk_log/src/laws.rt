@@ -1,4 +1,5 @@
-//! Laws of what two files come to and of what a stop may leave of a store: each is the contract of a function that does nothing.
+//! Laws about what two files amount to and what a stop may leave of a store: each is the contract of a function that
+//! does nothing.
 ghost use Rattle.std.specs.Prelude.{◌≡◌, ◌++◌, ◌∷◌, [], List, ℕ, Bool, true};
 ghost use Rattle.lk_types.specs.declared.entry.Entry.{Entry};
 ghost use Rattle.lk_disk.specs.Disk.{Disk};
@@ -14,21 +15,21 @@ ghost use Rattle.lk_log.specs.StoreValue.{StoreValue, disks};
 ghost use Rattle.lk_log.specs.Stores.{Holds, KeepsAtLeast, NarrowsOrBegins};
 ghost use Rattle.lk_log.specs.declared.verdict.Verdict.{Verdict};
 
-/// Two files come to one thing: they are damaged, empty, or one of them is live.
+/// Two files amount to one thing: they are damaged, empty, or one of them is live.
 pub fn one_meaning()
     ensures verdict { (image : Image) (v w : Verdict) (es fs : Side → List Stored) → Means image v es → Means image w fs → v ≡ w }
     ensures entries { (image : Image) (v w : Verdict) (es fs : Side → List Stored) → Means image v es → Means image w fs → (s : Side) → es s ≡ fs s }
 {}
 
-/// The entries of a live file stand for one thing, and with an entry after them for that with this entry.
+/// The entries of a live file stand for one thing, and with one more entry for that with this entry.
 pub fn one_standing()
     ensures some { (image : Image) (es : List Stored) → IsLive image es → (s : StandingValue) × StandsFor es s }
     ensures one { (es : List Stored) (s t : StandingValue) → StandsFor es s → StandsFor es t → s ≡ t }
     ensures more { (es : List Stored) (s : StandingValue) (e : Entry) → StandsFor es s → StandsFor (es ++ Plain e ∷ []) (with_plain e s) }
 {}
 
-/// Of an open store each image has what it holds synced and a beginning of the others, which are plain, and some image has
-/// what is synced alone. Where all is synced, each image has just that.
+/// Each image of an open store has everything that it holds synced and a prefix of the rest, which are plain entries,
+/// and some image has only what is synced. If everything is synced, each image has exactly that.
 pub fn what_a_stop_leaves()
     ensures keeps { (s : StoreValue) (ks ls : List Stored) → Holds s ks ls → KeepsAtLeast s ks ls }
     ensures plain { (s : StoreValue) (ks ls : List Stored) → Holds s ks ls → (more : List Entry) × (ls ≡ plain more) }
@@ -42,7 +43,8 @@ pub fn what_is_read()
     ensures empty { (image : Image) → ((s : Side) → image s ≡ []) → IsEmpty image }
 {}
 
-/// Openings in a row, Ok or refused, leave what one opening may leave, and what is true of every image by some test stays so.
+/// Openings in a row, successful or not, leave what one opening may leave, and any decidable property of every image
+/// is preserved.
 pub fn openings()
     ensures one { (old new : Side → Disk) (whose : HeaderValue) (text : List ℕ) → NarrowsOrBegins old new whose text → NarrowsOrBeganSome old new whose text }
     ensures more { (old mid new : Side → Disk) (whose : HeaderValue) (text : List ℕ) → AllMean old

@@ -26,7 +26,7 @@ fn unless_damaged(is_damaged: bool, verdict: Verdict) -> Verdict
     }
 }
 
-// What both files come to.
+// What both files amount to.
 fn verdict(a: &File, b: &File) -> Verdict
     ensures { result ≡ verdict a.now.entries.items b.now.entries.items a.now.is_damaged b.now.is_damaged }
 {
@@ -46,7 +46,7 @@ fn verdict(a: &File, b: &File) -> Verdict
     unless_damaged(a.is_damaged || b.is_damaged, Verdict::Empty)
 }
 
-/// The live file, or `None` where there is no Base.
+/// The live file, or `None` if there is no Base.
 pub fn find<D: LogDisk>(alloc: Global, device: &mut D) -> Result<Option<(Side, File)>, StoreFault>
     ensures unchanged { D.is_honest → (s : Side) → D.disk device.new s ≡ D.disk device.old s }
     ensures damaged { D.is_honest → IsErrOf result StoreFault.Damaged → IsDamaged (seen (D.disk device.old)) }
@@ -68,7 +68,7 @@ pub fn find<D: LogDisk>(alloc: Global, device: &mut D) -> Result<Option<(Side, F
     }
 }
 
-// Cuts off what stands after the entries, by no call where nothing does.
+// Cuts off what follows the entries, without a call if nothing does.
 fn cut_off<D: LogDisk>(
     device: &mut D,
     live: Side,
@@ -92,7 +92,7 @@ fn cut_off<D: LogDisk>(
     Ok(())
 }
 
-/// Cuts what is torn off the live file, and syncs it.
+/// Cuts the torn end off the live file, and syncs the file.
 pub fn settle<D: LogDisk>(
     device: &mut D,
     live: Side,

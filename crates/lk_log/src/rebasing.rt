@@ -1,4 +1,4 @@
-// Going over from the live file to the other one.
+// Switching from the live file to the other one.
 ghost use Rattle.std.specs.Prelude.{◌≡◌, ◌<◌, ◌≤◌, List, [], ◌∷◌, length, OnOk, IfErr};
 ghost use Rattle.lk_types.specs.Limits.{max_base};
 ghost use Rattle.lk_disk.specs.Disk.{contents, other};
@@ -25,7 +25,7 @@ pub fn other(side: Side) -> Side
     }
 }
 
-/// Writes these bytes of a Base in the place of the other file's, syncs them, and cuts the live file to nothing.
+/// Replaces the other file with these bytes of a Base, syncs it, and truncates the live file to nothing.
 pub fn go_over<D: LogDisk>(device: &mut D, live: Side, bytes: &[u8]) -> Result<(), StoreFault>
     ensures holds { D.is_honest → (b : BaseValue) → b.format ≡ 2 → IsStored (base_entry b) → bytes.now ≡ spelling (base_entry b)
         → OnOk result (HoldsOn (D.disk device.new (other live)) (D.disk device.new live) (base_entry b ∷ []) []) }

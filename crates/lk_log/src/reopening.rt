@@ -25,7 +25,7 @@ use lk_entries::{Base, Header, Standing, Stored, format_of, spelled_base};
 use lk_types::{Ballot, Executed};
 use std::alloc::{AllocError, Global};
 
-// What an opening comes to.
+// The result of an opening.
 #[derive(Drop)]
 struct Opened {
     live: Side,
@@ -34,7 +34,7 @@ struct Opened {
     standing: Standing,
 }
 
-/// Writes these bytes in the place of a file's, and syncs them.
+/// Replaces a file with these bytes, and syncs it.
 pub(crate) fn write_over<D: LogDisk>(
     device: &mut D,
     side: Side,
@@ -53,7 +53,7 @@ pub(crate) fn write_over<D: LogDisk>(
     Ok(())
 }
 
-// The Base of a store that is begun.
+// The Base of a new store.
 fn first_base(alloc: Global, header: &Header, zero: &[u8]) -> Result<Base, AllocError>
     requires some { 1 ≤ length zero.now }
     requires room { length zero.now ≤ 49054 }
@@ -110,7 +110,7 @@ fn begin<D: LogDisk>(
     })
 }
 
-// Whether the Base in front is of this node and this genesis.
+// Whether the Base at the start is of this node and this genesis.
 fn has_header(entries: &[Stored], header: &Header) -> bool
     ensures { IsTrue result ↔ HasHeader entries.now header.now }
 {
@@ -193,11 +193,11 @@ fn recover<D: LogDisk>(
     }
 }
 
-/// Opens a store that a stop may have left, or begins one where nothing stands: then `zero` is the packed state at
+/// Opens a store that a stop may have left, or begins one if there is none: then `zero` is the packed state at
 /// position 0, of 1 to 49,054 bytes.
 ///
-/// What is torn is cut off the live file, and that file is synced. It refuses with `Device` (7), `NoMemory` (8),
-/// `Damaged` (9) and `WrongStore` (10), and hands the device back. It may be stopped too, and opened again.
+/// The torn end is cut off the live file, and the file is synced. It fails with `Device` (7), `NoMemory` (8),
+/// `Damaged` (9) and `WrongStore` (10), and returns the device. It may itself be stopped, and repeated.
 pub fn reopen<D: LogDisk + Drop>(
     alloc: Global,
     device: D,
@@ -206,23 +206,23 @@ pub fn reopen<D: LogDisk + Drop>(
 ) -> Result<(Store<D>, Standing), ReopenFault<D>>
     requires some { 1 ≤ length zero.now }
     requires room { length zero.now ≤ 49054 }
-    // The standing is that of the whole entries of the live file, or of a store that is begun, and all of it is synced.
+    // The standing is that of the whole entries of the live file, or of a new store, and all of it is synced.
     ensures ok { D.is_honest → IfOk result (λ r. Opens (seen (D.disk device)) header.now zero.now r.0 r.1) }
     ensures open { IfOk result (λ r. IsOpened header.now r.0 r.1) }
-    // After any exit each image comes to what an image before it came to, or to a store that is begun.
+    // However it ends, each image amounts to what an image before it did, or to a new store.
     ensures stays { D.is_honest → MatchResult result
         (λ r. NarrowsOrBegins (D.disk device) (disks r.0) header.now zero.now)
         (λ e. NarrowsOrBegins (D.disk device) (D.disk e.device) header.now zero.now) }
-    // After any exit neither file is longer than it was, or else than a Base.
+    // However it ends, neither file has grown, except up to the size of a Base.
     ensures room { D.is_honest → MatchResult result (λ r. StaysWithin max_base (D.disk device) (disks r.0)) (λ e. StaysWithin max_base (D.disk device) (D.disk e.device)) }
-    // A store is begun in A.
+    // A new store begins in A.
     ensures begun { D.is_honest → IsEmpty (seen (D.disk device)) → IfOk result (λ r. r.0.live ≡ A) }
-    // A damaged store and another's stay as they are.
+    // A damaged store and another's are unchanged.
     ensures damaged { D.is_honest → IfErr result (λ e. e.fault ≡ StoreFault.Damaged → StaysDamaged (D.disk device) (D.disk e.device)) }
     ensures wrong { D.is_honest → IfErr result (λ e. e.fault ≡ StoreFault.WrongStore → StaysWrong (D.disk device) (D.disk e.device) header.now) }
     ensures failed { IfErr result (λ e. e.fault ≡ StoreFault.Failed → ⊥) }
     ensures cause { MatchResult result (λ r. r.0.failures ≡ D.failures device) (λ e. D.failures e.device ≡ failures_after e.fault (D.failures device)) }
-    // Of a metered device it tells which of its calls were made.
+    // For a metered device it says which of its calls were made.
     ensures metered { D.is_metered → D.is_honest → MatchResult result
         (λ r. (k : ℕ) × OpensBy (seen (D.disk device)) k × Passes (D.meter device) r.0.meter k)
         (λ e. IsRefusedBy (D.meter device) (D.meter e.device) e.fault) }
@@ -251,7 +251,7 @@ pub fn reopen<D: LogDisk + Drop>(
     }
 }
 
-/// What stands in the live file.
+/// A summary of the live file.
 #[derive(Drop)]
 pub struct LiveFile {
     pub generation: u64,
@@ -260,9 +260,9 @@ pub struct LiveFile {
     pub standing: Standing,
 }
 
-/// The generation, the format and the standing of the live file, or `None` where no Base stands. It changes nothing.
+/// The generation, the format and the standing of the live file, or `None` if there is no Base. Changes nothing.
 ///
-/// It refuses with `Device` (7), `NoMemory` (8) and `Damaged` (9).
+/// It fails with `Device` (7), `NoMemory` (8) and `Damaged` (9).
 pub fn look<D: LogDisk>(alloc: Global, device: &mut D) -> Result<Option<LiveFile>, StoreFault>
     ensures unchanged { D.is_honest → (s : Side) → D.disk device.new s ≡ D.disk device.old s }
     ensures some { D.is_honest → IfOk result (λ r. IfSome r (λ x. Shows (seen (D.disk device.old)) x.generation x.format x.standing)) }
@@ -271,7 +271,7 @@ pub fn look<D: LogDisk>(alloc: Global, device: &mut D) -> Result<Option<LiveFile
     ensures wrong { IsErrOf result StoreFault.WrongStore → ⊥ }
     ensures failed { IsErrOf result StoreFault.Failed → ⊥ }
     ensures cause { FailuresRise (D.failures device.old) (D.failures device.new) result }
-    // Of a metered device: no changing call.
+    // For a metered device: no changing call.
     ensures metered { D.is_metered → D.is_honest → IsMetered (D.meter device.old) (D.meter device.new) 0 result }
 {
     let Some((_, file)) = find(alloc, device)? else {

@@ -1,4 +1,4 @@
-// The store: entries after one another in the live file.
+// The store: entries one after another in the live file.
 ghost use Rattle.std.specs.Prelude.{◌≡◌, ◌++◌, ◌∷◌, ◌<◌, ◌≤◌, ◌^◌, ◌+◌, ◌-◌, ◌*◌, List, [], length, true, false, IfOk, OnOk, IsErrOf};
 ghost use Rattle.lk_types.specs.Limits.{max_base};
 ghost use Rattle.lk_disk.specs.Disk.{contents, other};
@@ -22,7 +22,7 @@ use lk_types::limits::MAX_COUNT;
 use std::alloc::Global;
 use std::marker::Model;
 
-/// A store: a live file, after whose entries the next ones are written, and the other file of its device.
+/// A store: a live file, to which it appends entries, and the other file of its device.
 #[derive(Drop)]
 pub struct Store<D: LogDisk + Drop> {
     pub(crate) alloc: Global,
@@ -54,28 +54,28 @@ impl<D: LogDisk + Drop> Model for Store<D> {
 }
 
 impl<D: LogDisk + Drop> Store<D> {
-    /// Adds entries after those of the live file, which has format 2, and syncs them where that is asked.
+    /// Adds entries after those of the live file, which has format 2, and syncs them if asked to.
     ///
-    /// It refuses with `Device` (7) and `NoMemory` (8); after that each later call answers `Failed` (11).
+    /// It fails with `Device` (7) and `NoMemory` (8); after that every call fails with `Failed` (11).
     pub fn put(&mut self, entries: &[Entry], sync: bool) -> Result<(), StoreFault>
         requires { self.old.format ≡ 2 }
-        // At Ok the entries stand there, synced where that was asked.
+        // At Ok the entries are there, synced if asked to.
         ensures added { D.is_honest → sync ≡ false → (ks ls : List Stored) → Holds self.old ks ls
             → OnOk result (Holds self.new ks (ls ++ plain entries.now)) }
         ensures synced { D.is_honest → sync ≡ true → (ks ls : List Stored) → Holds self.old ks ls
             → OnOk result (Holds self.new (ks ++ (ls ++ plain entries.now)) []) }
-        // After any exit each image that a stop may leave has all synced entries, and a beginning of the others.
+        // However it ends, each image that a stop may leave has all synced entries, and a prefix of the rest.
         ensures any { D.is_honest → (ks ls : List Stored) → Holds self.old ks ls
             → KeepsAtLeast self.new ks (ls ++ plain entries.now) }
-        // The other file stays as it is, and where memory was refused the live one too.
+        // The other file is unchanged, and out of memory the live one is too.
         ensures beside { D.is_honest → KeepsOtherDisk self.old self.new result }
-        // After any exit the live file has grown by no more bytes than so many entries have, each at most 102.
+        // However it ends, the live file has grown by no more bytes than this many entries have, each at most 102.
         ensures grows { D.is_honest → length (contents self.new.live_disk) ≤ length (contents self.old.live_disk) + 102 * length entries.now }
         ensures file { KeepsItsFile self.old self.new }
         ensures failing { FailsByRefusing self.new result }
         ensures refuses { RefusesFor IsOfDeviceOrMemory self.old self.new result }
         ensures cause { FailuresRise self.old.failures self.new.failures result }
-        // Of a metered device: an append where there are entries, and a sync where one is asked for.
+        // For a metered device: an append if there are entries, and a sync if asked to.
         ensures metered { D.is_metered → IsMetered self.old.meter self.new.meter (put_calls entries.now sync) result }
     {
         if self.failed {
@@ -87,23 +87,23 @@ impl<D: LogDisk + Drop> Store<D> {
         Ok(())
     }
 
-    /// Syncs the live file, and so all that was put into it.
+    /// Syncs the live file, with everything that was written to it.
     ///
-    /// It takes no memory, and refuses with `Device` (7) alone; after that each later call answers `Failed` (11).
+    /// It takes no memory, and fails with `Device` (7) only; after that every call fails with `Failed` (11).
     pub fn sync(&mut self) -> Result<(), StoreFault>
         // At Ok all entries are synced.
         ensures synced { D.is_honest → (ks ls : List Stored) → Holds self.old ks ls
             → OnOk result (Holds self.new (ks ++ ls) []) }
-        // After any exit each image that a stop may leave has all synced entries, and a beginning of the others.
+        // However it ends, each image that a stop may leave has all synced entries, and a prefix of the rest.
         ensures any { D.is_honest → (ks ls : List Stored) → Holds self.old ks ls
             → KeepsAtLeast self.new ks ls }
-        // Neither file is longer, after any exit.
+        // Neither file is longer, however it ends.
         ensures room { D.is_honest → StaysWithin 0 (disks self.old) (disks self.new) }
         ensures file { KeepsItsFile self.old self.new }
         ensures failing { FailsByRefusing self.new result }
         ensures refuses { RefusesFor IsOfDevice self.old self.new result }
         ensures cause { FailuresRise self.old.failures self.new.failures result }
-        // Of a metered device: one call.
+        // For a metered device: one call.
         ensures metered { D.is_metered → IsMetered self.old.meter self.new.meter 1 result }
     {
         if self.failed {
@@ -115,29 +115,29 @@ impl<D: LogDisk + Drop> Store<D> {
         Ok(())
     }
 
-    /// Writes a standing as the Base of the file that is not live, with the next generation, and goes over to it: the file that
-    /// was live is cut to nothing. The new one has format 2, whatever the other had, and stands for this standing alone, and for
-    /// nothing that was put before.
+    /// Writes a standing as the Base of the file that is not live, with the next generation, and switches to it: the
+    /// formerly live file is truncated to nothing. The new one has format 2, whatever the other had, and stands for
+    /// exactly this standing, and for nothing that was written before.
     ///
-    /// It refuses with `Device` (7) and `NoMemory` (8); after that each later call answers `Failed` (11). At generation 2^48
-    /// it refuses with `Failed` and changes nothing. Memory is wanted before the device is called.
+    /// It fails with `Device` (7) and `NoMemory` (8); after that every call fails with `Failed` (11). At generation
+    /// 2^48 it fails with `Failed` and changes nothing. It takes memory only before it calls the device.
     pub fn rebase(&mut self, standing: &Standing) -> Result<(), StoreFault>
         requires { MayBegin standing.now }
-        // At Ok the Base alone stands there, synced, and the file that was left is empty.
+        // At Ok the Base alone is there, synced, and the old file is empty.
         ensures base { D.is_honest → (ks ls : List Stored) → Holds self.old ks ls
             → OnOk result (Holds self.new (Base (next_base self.old standing.now) ∷ []) []) }
         ensures left { D.is_honest → OnOk result (LeavesEmpty self.new) }
-        // After any exit each image that a stop may leave has what it had, or that Base alone.
+        // However it ends, each image that a stop may leave has what it had before, or that Base alone.
         ensures any { D.is_honest → (ks ls : List Stored) → Holds self.old ks ls
             → KeepsOrIs (disks self.new) ks ls (next_base self.old standing.now) }
         ensures no_memory { D.is_honest → IsErrOf result StoreFault.NoMemory → (s : Side) → disks self.new s ≡ disks self.old s }
-        // After any exit neither file is longer than it was, or else than a Base.
+        // However it ends, neither file has grown, except up to the size of a Base.
         ensures room { D.is_honest → StaysWithin max_base (disks self.old) (disks self.new) }
         ensures file { GoesOver self.old self.new result }
         ensures failing { FailsUnlessLast self.old self.new result }
         ensures refuses { RefusesOrIsLast IsOfDeviceOrMemory self.old self.new result }
         ensures cause { FailuresRise self.old.failures self.new.failures result }
-        // Of a metered device: four calls.
+        // For a metered device: four calls.
         ensures metered { D.is_metered → D.is_honest → IsMetered self.old.meter self.new.meter rebase_calls result }
     {
         if self.failed || self.generation >= MAX_COUNT {
@@ -157,7 +157,7 @@ impl<D: LogDisk + Drop> Store<D> {
 
     /// The number of bytes of the live file, synced or not.
     ///
-    /// It takes no memory, and refuses with `Device` (7) alone; after that each later call answers `Failed` (11).
+    /// It takes no memory, and fails with `Device` (7) only; after that every call fails with `Failed` (11).
     pub fn live_length(&mut self) -> Result<usize, StoreFault>
         ensures value { D.is_honest → IfOk result (λ n. n ≡ length (contents self.old.live_disk)) }
         ensures disks { D.is_honest → KeepsBothDisks self.old self.new }

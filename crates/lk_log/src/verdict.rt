@@ -1,6 +1,6 @@
 use lk_disk::Side;
 
-/// What both files come to.
+/// What both files amount to.
 #[derive(Clone, Copy)]
 pub enum Verdict {
     Damaged,

@@ -9,15 +9,15 @@ const VERSION: &str = "0.1.0, stores of format 2";
 /// How an argument is given.
 #[derive(Clone, Copy)]
 enum Kind {
-    /// A word after `--NAME`, which has to be given.
+    /// A required word after `--NAME`.
     Word,
-    /// A word after `--NAME`, which may be given.
+    /// An optional word after `--NAME`.
     Given,
     /// A word after `--NAME`, which has to be given, once or more.
     Several,
-    /// `--NAME` alone, which may be given.
+    /// An optional `--NAME` alone.
     Flag,
-    /// Words without `--NAME`, one or more, which have to be given.
+    /// One or more required words without `--NAME`.
     Words,
     /// Words after `--NAME`, one or more, which have to be given.
     Many,

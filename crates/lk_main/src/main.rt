@@ -19,8 +19,8 @@ use std::time::Clock;
 use std::{env, io};
 use words::{run_words, tell_start};
 
-/// The words of the command line as texts. The usage text begins with the first, the program's name, and not with the path of
-/// its file.
+/// The words of the command line as texts. The usage text begins with the first, the program's name, and not with its
+/// path.
 fn texts_of<'a>(alloc: Global, words: &'a [String]) -> io::Result<Vec<&'a str>> {
     let mut texts = Vec::new(alloc);
     texts.push("locks")?;
@@ -42,8 +42,7 @@ fn run_texts<'a, R: Input + Print + Eprint + Files<File = File> + Net + Clock, E
     Ok(run_words(rt, alloc, texts, &mut reader, &mut out, err))
 }
 
-/// Runs the command line that the program was given, on its streams. It fails where nothing could be run: memory was
-/// refused, or a word is no text.
+/// Runs the program's command line on its streams. It fails if it is out of memory or a word is not valid text.
 fn run<
     R: Env + Input + Print + Eprint + Files<File = File> + Net + Clock + Alloc<A = Global>,
     E: Write,
@@ -54,7 +53,7 @@ fn run<
     run_texts(rt, alloc, &texts, err)
 }
 
-/// Ends with the status of the command line.
+/// Exits with the status of the command line.
 fn main(rt: HostRuntime) -> ExitCode {
     let mut err = rt.stderr();
     let status = match run(&rt, &mut err) {

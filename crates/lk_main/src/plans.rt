@@ -1,16 +1,16 @@
-//! What the words of a subcommand ask for, where they are understood.
+//! What the words of a subcommand ask for, if they are valid.
 
 use crate::misread::{Misread, misread, misread_genesis, misread_word};
 use crate::wants::misread_operation;
 use clap::ArgMatches;
+use lk_client::destination::Destination;
+use lk_client::question::Question;
 use lk_entries::Header;
 use lk_fuzz::fuzzing::MAX_EVENTS;
 use lk_fuzz::plan::Plan;
 use lk_server::pace::Pace;
 use lk_service::command_words::operation_of;
-use lk_client::destination::Destination;
 use lk_service::network::NetworkOptions;
-use lk_client::question::Question;
 use lk_service::resources::NodePlan;
 use lk_types::limits::{MAX_CLIENT, MAX_COUNT};
 use lk_types::{ClientNo, Genesis, NodeNo, Op, Port, Request, RequestNumber};
@@ -48,7 +48,7 @@ fn address_in<'a>(matches: &ArgMatches<'a>, name: &'a str) -> Result<Option<IpAd
     }
 }
 
-/// What a command line says of the machines outside.
+/// The options of a command line about other machines.
 fn options_in<'a>(
     matches: &ArgMatches<'a>,
     name: &'a str,
@@ -62,7 +62,7 @@ fn options_in<'a>(
     })
 }
 
-/// What the command line of a client says of the machines outside.
+/// The options of a client's command line about other machines.
 pub fn ask_options<'a>(matches: &ArgMatches<'a>) -> Result<NetworkOptions<'a>, Misread<'a>> {
     options_in(matches, "address", None)
 }
@@ -156,7 +156,7 @@ fn request_in<'a>(matches: &ArgMatches<'a>) -> Result<RequestNumber, Misread<'a>
     }
 }
 
-/// The question of an operation that `locks ask` is to put.
+/// The question of an operation that `locks ask` is to send.
 fn question_of<'a>(matches: &ArgMatches<'a>, op: Op) -> Result<Question, Misread<'a>> {
     let cluster = number_in(matches, "cluster", u64::MAX)?;
     let port = port_in(matches)?;

@@ -6,9 +6,9 @@ use clap::ArgMatches;
 use lk_client::destination::Destination;
 use lk_status::status::{Form, Plan};
 use lk_status::target::{Inquiry, Target, targets_of};
+use lk_transport::fault::ServiceFault;
 use lk_types::ClientNo;
 use lk_words::number::read_number;
-use lk_transport::fault::ServiceFault;
 use std::alloc::Global;
 
 /// The milliseconds of a receive, and the most that are waited in all.

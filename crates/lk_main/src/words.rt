@@ -10,6 +10,7 @@ use crate::subcommand::Subcommand;
 use crate::wants::warn_of_name;
 use clap::error::ErrorKind;
 use clap::{ArgMatches, Error};
+use lk_client::question::ask;
 use lk_disk::MemoryDisk;
 use lk_events::line::{Events, Observer, Unobserved};
 use lk_fuzz::fuzzing::{print_script, run_fuzz};
@@ -20,16 +21,15 @@ use lk_replica::Replica;
 use lk_script::ending::{end, tell};
 use lk_script::fault::ScriptFault;
 use lk_script::script::run_to_end;
-use lk_transport::fault::ServiceFault;
 use lk_service::causes::open_socket_at;
 use lk_service::client_key::client_key;
 use lk_service::demo::demo;
 use lk_service::dump::dump;
 use lk_service::network::{NetworkOptions, destination_of};
-use lk_client::question::ask;
 use lk_service::resources::{NodePlan, open_resources};
 use lk_service::running::run_node;
 use lk_status::status::status;
+use lk_transport::fault::ServiceFault;
 use log::sink::{Console, Discard};
 use log::{Level, Log, Logged};
 use std::alloc::Global;
@@ -59,7 +59,7 @@ fn level_of(matches: &ArgMatches<'_>) -> Option<Level> {
     matches.get_flag("log").then_some(Level::Info)
 }
 
-/// The folder that was named.
+/// The named folder.
 fn folder_in<'a>(matches: &ArgMatches<'a>) -> &'a str {
     matches.get_str("dir").unwrap_or("")
 }
@@ -125,7 +125,7 @@ fn run_node_words<R: Files<File = File> + Net + Eprint + Clock, E: Write>(
     }
 }
 
-/// The address of a client's socket: any of its machine, in the family of the node that it asks.
+/// The address of a client's socket: any of its machine, in the address family of the node that it asks.
 fn own_address(options: &NetworkOptions<'_>) -> IpAddr {
     match options.bind {
         None => IpAddr::V4(Ipv4Addr::LOCALHOST),
@@ -159,7 +159,7 @@ fn run_ask<R: Files<File = File> + Net, W: Write, E: Write>(
     }
 }
 
-/// Asks a node once.
+/// Sends one request to a node.
 fn ask_words<R: Files<File = File> + Net, W: Write, E: Write>(
     rt: &R,
     alloc: Global,
@@ -197,7 +197,13 @@ fn status_words<R: Files<File = File> + Net, W: Write, E: Write>(
         Ok(options) => options,
         Err(misread) => return refuse_words(&misread, err),
     };
-    plan.inquiry.destination = match destination_of(rt, alloc, plan.inquiry.cluster, &options, err) {
+    plan.inquiry.destination = match destination_of(
+        rt,
+        alloc,
+        plan.inquiry.cluster,
+        &options,
+        err,
+    ) {
         Ok(destination) => destination,
         Err(fault) => return fault.tell(err),
     };
@@ -283,7 +289,7 @@ fn run_subcommand<H: Files<File = File> + Net + Eprint + Clock, R: BufRead, W: W
     }
 }
 
-/// Runs the subcommand that was named.
+/// Runs the named subcommand.
 fn run_matches<H: Files<File = File> + Net + Eprint + Clock, R: BufRead, W: Write, E: Write>(
     rt: &H,
     alloc: Global,
@@ -303,13 +309,13 @@ fn run_matches<H: Files<File = File> + Net + Eprint + Clock, R: BufRead, W: Writ
     }
 }
 
-/// Writes the help that was asked for.
+/// Writes the requested help.
 fn write_help<W: Write>(help: &Error, out: &mut W) -> Result<(), ScriptFault> {
     write!(out, "{help}").map_err(|_| ScriptFault::Write)
 }
 
-/// Tells why the command line was not taken: help goes to standard output with status 0, out of memory has status 1,
-/// anything else has status 2.
+/// Reports why the command line was rejected: help goes to standard output with status 0, out of memory has status 1,
+/// anything else status 2.
 fn refuse<W: Write, E: Write>(error: &Error, out: &mut W, err: &mut E) -> u8
     ensures { result ≤ 2 }
 {
@@ -324,8 +330,9 @@ fn refuse<W: Write, E: Write>(error: &Error, out: &mut W, err: &mut E) -> u8
     end(wrote, out, err)
 }
 
-/// Reads the command line, whose first word is the program's name, and runs it. The status is 0, 1 where a fault was told
-/// in the last line of standard error, where nothing answered and where no store stands, or 2 where the line is none.
+/// Reads the command line, whose first word is the program's name, and runs it. Returns status 0; 1 after an error
+/// message as the last line of standard error, or if nothing answered or there is no store; or 2 if the command line
+/// is invalid.
 pub fn run_words<'a, H: Files<File = File> + Net + Eprint + Clock, R: BufRead, W: Write, E: Write>(
     rt: &H,
     alloc: Global,
@@ -345,8 +352,8 @@ pub fn run_words<'a, H: Files<File = File> + Net + Eprint + Clock, R: BufRead, W
     }
 }
 
-/// Tells why no command line could be read: a word that is no text has status 2, as any bad command line, and want of
-/// memory has status 1.
+/// Reports why no command line could be read: a word that is not valid text has status 2, as any invalid command line,
+/// and running out of memory has status 1.
 pub fn tell_start<E: Write>(error: &io::Error, err: &mut E) -> u8
     ensures { result ≤ 2 }
 {

@@ -10,7 +10,7 @@ abbrev pub is_older : RequestValue → Command → Bool
 is_older r Noop = true
 is_older r (Request s) = not (s.client == r.client) || nat_lt s.number r.number
 
--- the request that the entry is, where it takes effect after these entries: its number is above all of its client's before it
+-- the request of the entry, if it takes effect after these entries: its number is above all of its client's before it
 abbrev pub in_effect : List Command → Command → Option RequestValue
 in_effect before Noop = None
 in_effect before (Request r) = if list_all (is_older r) before then Some r else None
@@ -20,7 +20,7 @@ pub record Placed : Type 0 where
   pub before : List Command
   pub entry : Command
 
--- each entry of `rest`, which stands after `before`, with the entries before it
+-- each entry of `rest`, which follows `before`, with the entries before it
 abbrev pub placed_behind : List Command → List Command → List Placed
 placed_behind before [] = []
 placed_behind before (c ∷ rest) = record { before = before; entry = c } ∷ placed_behind (before ++ c ∷ []) rest

@@ -4,7 +4,7 @@ use Rattle.std.specs.List.{list_any, list_all}
 use Rattle.lk_types.specs.declared.member.Member.{Member}
 use Rattle.lk_members.specs.Rosters.{is_member}
 
--- the nodes lie in the set, and more than half of its members are among them
+-- the nodes are in the set, and more than half of its members are among them
 pub record IsMajority (nodes : List ℕ) (set : List Member) : Type 0 where
   pub within : IsTrue (list_all (λ n. is_member n set) nodes)
   pub more_than_half : length set < 2 * count_by (λ m. list_any (λ n. n == m.node) nodes) set

@@ -12,18 +12,18 @@ abbrev pub port_in : ℕ → List Member → Option ℕ
 port_in node [] = None
 port_in node (m ∷ ms) = if m.node == node then Some m.port else port_in node ms
 
--- the port that the first set which names the node gives it
+-- the port of the node in the first set that names it
 abbrev pub port_of : ℕ → List (List Member) → Option ℕ
 port_of node [] = None
 port_of node (set ∷ sets) = if is_member node set then port_in node set else port_of node sets
 
--- the least number above this one that is such
+-- the least number above this one with the property
 pub record IsLeastAbove (is : ℕ → Bool) (low n : ℕ) : Type 0 where
   pub above : low < n
   pub such : is n ≡ true
   pub least : (k : ℕ) → low < k → k < n → is k ≡ false
 
--- the least one, or none where none above this number is such
+-- the least one, or none if none above this number has the property
 abbrev pub IsNextAbove : (ℕ → Bool) → ℕ → Option ℕ → Type 0
 IsNextAbove is low None = (k : ℕ) → low < k → is k ≡ false
 IsNextAbove is low (Some n) = IsLeastAbove is low n
@@ -34,7 +34,7 @@ lesser_of None b = b
 lesser_of (Some x) None = Some x
 lesser_of (Some x) (Some y) = Some (min x y)
 
--- those that are such and above this number, each the least above the one before
+-- those with the property and above this number, each the least above the one before
 abbrev pub AreAllAbove : (ℕ → Bool) → ℕ → List ℕ → Type 0
 AreAllAbove is low [] = IsNextAbove is low None
 AreAllAbove is low (n ∷ ns) = IsNextAbove is low (Some n) × AreAllAbove is n ns

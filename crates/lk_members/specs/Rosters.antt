@@ -1,4 +1,4 @@
--- The members, as the joins and leaves of a list of commands leave them.
+-- The members, after the joins and leaves of a list of commands.
 pub use Rattle.lk_types.specs.declared.member.Member.{Member}
 pub use Rattle.lk_types.specs.declared.genesis.Genesis.{Genesis}
 pub use Rattle.lk_types.specs.declared.command.Op.{Op}
@@ -9,7 +9,7 @@ use Rattle.std.specs.Prelude.{ℕ, ◌+◌, ◌-◌, max, Bool, true, false, not
 use Rattle.std.specs.List.{list_any}
 use Rattle.lk_members.specs.Effects.{Command, RequestValue, Placed, placed, in_effect, effects}
 
--- the members, rising by node, and the greatest number that was ever a member
+-- the members, rising by node, and the greatest number that was ever a member's
 pub record PlainRoster : Type 0 where
   pub members : List Member
   pub greatest : ℕ
@@ -52,7 +52,7 @@ IsChange (Join node port) = Unit {0}
 IsChange (Leave node) = Unit {0}
 IsChange Raise = ⊥
 
--- what a join or a leave is answered
+-- the answer to a join or a leave
 abbrev pub roster_answer : PlainRoster → Op → Option Answer
 roster_answer r (Table body) = None
 roster_answer r (Join node port) = Some (join_answer r node)
@@ -85,7 +85,7 @@ roster_of genesis L = fold (λ r q. next_roster r q.op) (first_roster genesis) (
 unfoldable pub members : Genesis → List Command → ℕ → List Member
 members genesis L i = (roster_of genesis (take (i - genesis.alpha) L)).members
 
--- the entry takes effect after the entries before it, and is granted a change of the members
+-- the entry takes effect after the entries before it, and its change of the members is granted
 abbrev pub is_granted_change : PlainRoster → Option RequestValue → Bool
 is_granted_change r None = false
 is_granted_change r (Some q) = is_granted (roster_answer r q.op)
@@ -93,6 +93,6 @@ is_granted_change r (Some q) = is_granted (roster_answer r q.op)
 abbrev pub is_change : Genesis → Placed → Bool
 is_change genesis p = is_granted_change (roster_of genesis p.before) (in_effect p.before p.entry)
 
--- the position of the last change that was granted, 0 where there is none
+-- the position of the last granted change, 0 if there is none
 unfoldable pub last_change : Genesis → List Command → ℕ
 last_change genesis L = fold (λ last p. if is_change genesis p then length p.before + 1 else last) 0 (placed L)

@@ -1,10 +1,10 @@
-//! Laws of the definitions alone.
+//! Laws about the definitions alone.
 ghost use Rattle.std.specs.Prelude.{◌≡◌, ℕ, ◌+◌, ◌≤◌, ◌∷◌, ◌++◌, Some, List, length, Contains};
 ghost use Rattle.lk_members.specs.Effects.{Command, RequestValue, Placed, placed, in_effect};
 ghost use Rattle.lk_members.specs.Rosters.{Genesis, Member, members};
 ghost use Rattle.lk_members.specs.Majorities.{IsMajority};
 
-/// What stands before a placed entry is a beginning of the list, and the entry comes next.
+/// What precedes a placed entry is a prefix of the list, and the entry comes next.
 pub fn placed_entries_stand()
     ensures { (L : List Command) (p : Placed) → Contains (placed L) p → (rest : List Command) × (L ≡ p.before ++ (p.entry ∷ rest)) }
 {}
@@ -19,7 +19,7 @@ pub fn majorities_meet()
     ensures { (set : List Member) (W V : List ℕ) → IsMajority W set → IsMajority V set → (n : ℕ) × Contains W n × Contains V n }
 {}
 
-/// What a list names for the positions up to alpha after its end, each longer list names.
+/// Each longer list names the same members for the positions up to alpha after the end of a list.
 pub fn members_stay()
     ensures { (genesis : Genesis) (L rest : List Command) (i : ℕ) → i ≤ length L + genesis.alpha → members genesis (L ++ rest) i ≡ members genesis L i }
 {}

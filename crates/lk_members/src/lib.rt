@@ -1,4 +1,4 @@
-//! The members of the next positions, as the joins and leaves of the list of commands leave them.
+//! The members of the next positions, after the joins and leaves of the list of commands.
 #![tactic(auto)]
 
 pub mod laws;

@@ -9,8 +9,9 @@ use lk_types::limits::MAX_MEMBERS;
 use lk_types::{Answer, Executed, Genesis, Member, Members, NodeNo, Op, Port, Position};
 use std::marker::Model;
 
-/// The members of the next alpha positions, the greatest number that was ever a member, and the position of the last
-/// change. A change at a position is in force alpha positions later (Lamport, Malkhi, Zhou 2010). No call takes memory.
+/// The members of the next alpha positions, the greatest number that was ever a member's, and the position of the last
+/// change. A change at a position takes effect alpha positions later (Lamport, Malkhi, Zhou 2010). No call takes
+/// memory.
 #[derive(Drop)]
 pub struct Roster {
     executed: Executed,
@@ -40,7 +41,7 @@ impl Roster {
     ghost use Rattle.lk_members.specs.Windows.{RosterSumsUp, IsRoster, newest_roster, moved, moved_unchanged, changed_by};
     ghost use Rattle.lk_members.specs.Ports.{is_named, port_of, IsNextAbove};
 
-    /// The roster of these parts, or `None` where there is no set or the greatest number is below a node of them.
+    /// The roster of these parts, or `None` if there is no set or the greatest number is below one of their nodes.
     pub fn of(
         executed: Executed,
         window: Window,
@@ -62,7 +63,7 @@ impl Roster {
         })
     }
 
-    /// Each part is in its range. It does nothing.
+    /// Each part is in its range. The function does nothing.
     pub fn facts(&self)
         ensures { IsRoster self.now }
     {
@@ -100,7 +101,7 @@ impl Roster {
         self.changed
     }
 
-    /// The greatest number that was ever a member.
+    /// The greatest number that was ever a member's.
     pub fn greatest(&self) -> NodeNo
         ensures { result ≡ self.now.greatest }
     {
@@ -114,7 +115,7 @@ impl Roster {
         &self.window
     }
 
-    /// The members that stand now, which decide the last of the next alpha positions.
+    /// The present members, which decide the last of the next alpha positions.
     pub fn newest(&self) -> &Members
         ensures value { result.now ≡ newest self.now.sets }
         ensures fits { AreMembers result.now }
@@ -125,7 +126,7 @@ impl Roster {
         set
     }
 
-    /// The members that decide the position, where it is among the next alpha ones.
+    /// The members that decide the position, if it is among the next alpha ones.
     pub fn members_at(&self, position: Position) -> Option<&Members>
         ensures some { IsSome result ↔ ((self.now.executed < position) × (position ≤ self.now.executed + length self.now.sets)) }
         ensures value { IfSome result (λ set. slice_get self.now.sets (position - (self.now.executed + 1)) ≡ Some set.now) }
@@ -143,15 +144,15 @@ impl Roster {
         self.window.is_named(node)
     }
 
-    /// The least node above this number that one of the sets of the next positions names; `None` where there is none. So
-    /// the nodes of the window are walked in rising order.
+    /// The least node above this number that one of the sets of the next positions names; `None` if there is none.
+    /// Repeated calls visit the nodes of the window in rising order.
     pub fn named_above(&self, low: u32) -> Option<NodeNo>
         ensures { IsNextAbove (λ k. is_named k self.now.sets) low result }
     {
         self.window.named_above(low)
     }
 
-    /// The port of the node, by the nearest set of the window that names it; `None` where none does.
+    /// The port of the node, in the nearest set of the window that names it; `None` if none does.
     pub fn port_of(&self, node: NodeNo) -> Option<Port>
         ensures value { result ≡ port_of node self.now.sets }
         ensures some { IsSome result ↔ IsTrue (is_named node self.now.sets) }
@@ -159,7 +160,7 @@ impl Roster {
         self.window.port_of(node)
     }
 
-    /// The same roster. It takes no memory.
+    /// The same roster. Takes no memory.
     pub fn copy(&self) -> Roster
         ensures { result ≡ self.now }
     {
@@ -171,7 +172,7 @@ impl Roster {
         }
     }
 
-    /// One position on without a change.
+    /// Advances by one position without a change.
     pub fn pass(&mut self)
         requires { self.old.executed < max_count }
         ensures next { self.new ≡ moved_unchanged self.old }
@@ -183,7 +184,7 @@ impl Roster {
         self.advance(set, greatest, changed);
     }
 
-    /// One position on: this set comes, with this greatest number and this last change.
+    /// Advances by one position, with this set, this greatest number and this last change.
     fn advance(&mut self, set: Members, greatest: NodeNo, changed: Executed)
         requires room { self.old.executed < max_count }
         requires bound { IsTrue (list_all (λ m. nat_le m.node greatest) set) }
@@ -207,7 +208,7 @@ impl Roster {
         Executed::of(self.executed.get() + 1).unwrap()
     }
 
-    /// One position on with a join.
+    /// Advances by one position with a join.
     fn join(&mut self, node: NodeNo, port: Port) -> Answer
         requires { self.old.executed < max_count }
         ensures answer { result ≡ join_answer (newest_roster self.old) node }
@@ -227,7 +228,7 @@ impl Roster {
         Answer::Joined
     }
 
-    /// One position on with a leave.
+    /// Advances by one position with a leave.
     fn leave(&mut self, node: NodeNo) -> Answer
         requires { self.old.executed < max_count }
         ensures answer { result ≡ leave_answer (newest_roster self.old) node }
@@ -247,7 +248,7 @@ impl Roster {
         Answer::Left
     }
 
-    /// One position on with a join or a leave, and what it is answered.
+    /// Advances by one position with a join or a leave, and returns its answer.
     pub fn change(&mut self, op: &Op) -> Answer
         requires room { self.old.executed < max_count }
         requires change { IsChange op.now }

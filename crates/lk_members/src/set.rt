@@ -9,7 +9,7 @@ use arrayvec::ArrayVec;
 use lk_types::limits::MAX_MEMBERS;
 use lk_types::{Member, Members, NodeNo, Port};
 
-/// Each part of the set is in its range. It does nothing.
+/// Each part of the set is in its range. The function does nothing.
 pub fn facts_of(set: &Members)
     ensures { IsSet set.now }
 {
@@ -54,7 +54,7 @@ pub fn lesser(a: Option<NodeNo>, b: Option<NodeNo>) -> Option<NodeNo>
     b
 }
 
-/// The node, where it is above this number.
+/// The node, if it is above this number.
 fn if_above(low: u32, node: NodeNo) -> Option<NodeNo>
     ensures { IsNextAbove (λ k. node == k) low result }
 {
@@ -75,7 +75,7 @@ pub fn next_above(set: &Members, low: u32) -> Option<NodeNo>
     next
 }
 
-/// The set with one member more.
+/// The set with one more member.
 pub fn with_member(set: &Members, member: Member) -> Members
     requires room { length set.now < max_members }
     requires rises { IsTrue (members_rise 0 (set.now ++ member ∷ [])) }
@@ -86,7 +86,7 @@ pub fn with_member(set: &Members, member: Member) -> Members
     Members::of(list.as_slice()).unwrap()
 }
 
-/// The set without this node, or `None` where nobody is left.
+/// The set without this node, or `None` if nobody is left.
 pub fn without(set: &Members, node: NodeNo) -> Option<Members>
     ensures some { IsSome result ↔ (is_nobody (others node set.now) ≡ false) }
     ensures value { IfSome result (λ s. s ≡ others node set.now) }

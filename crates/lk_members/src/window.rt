@@ -128,7 +128,7 @@ impl Window {
         self.places.as_slice().iter().any(|place| place.names(node))
     }
 
-    /// The port that the nearest set which names the node gives it.
+    /// The port of the node in the nearest set that names it.
     pub fn port_of(&self, node: NodeNo) -> Option<Port>
         ensures { result ≡ port_of node self.now }
     {
@@ -164,7 +164,7 @@ impl Window {
         window
     }
 
-    /// Adds the set of the position after the last.
+    /// Appends the set of the position after the last.
     pub fn push(&mut self, set: Members)
         requires { length self.old < 16 }
         ensures { self.new ≡ self.old ++ set ∷ [] }
@@ -192,7 +192,7 @@ impl Window {
         &last.set
     }
 
-    /// One position on: the nearest set goes, and this one comes.
+    /// Advances by one position: drops the nearest set, and appends this one.
     pub fn advance(&mut self, set: Members)
         requires { 0 < length self.old }
         ensures { self.new ≡ drop 1 self.old ++ set ∷ [] }

@@ -1,4 +1,4 @@
--- What a node answers as an acceptor.
+-- How a node replies as an acceptor.
 use Rattle.std.specs.Prelude.{◌≡◌, ℕ, if◌then◌else◌}
 use Rattle.lk_wire.specs.Grammar.{spelling, IsMessage}
 use Rattle.lk_wire.specs.declared.message.NodeMessage.{NodeMessage}
@@ -14,7 +14,7 @@ use Rattle.lk_node.specs.Yielding.{yielded}
 abbrev pub with_acceptor : NodeValue → AcceptorValue → NodeValue
 with_acceptor node a = record node { acceptor = a }
 
--- a leader was heard where the reply grants, and the term ends where the promised ballot is above it
+-- a leader was heard if the reply grants, and the term ends if the promised ballot is above its own
 abbrev pub replied : NodeMessage → NodeValue → NodeValue
 replied reply node = yielded node.acceptor.state.promised (if is_granted reply then record node { ticks = 0 } else node)
 
@@ -22,7 +22,7 @@ replied reply node = yielded node.acceptor.state.promised (if is_granted reply t
 abbrev pub reply_to : NodeValue → ℕ → Response → OutboxValue
 reply_to node from r = with_letter (record { to = to_node node from; bytes = spelling (saying node.header r.reply) }) (with_optional r.entry nothing)
 
--- the node's acceptor answers so, by a reply that fits into a datagram
+-- the node's acceptor gives this response, and its reply fits into a datagram
 pub record Responds (old : NodeValue) (from : ℕ) (Answer : Response → AcceptorValue → Type 0) (new : NodeValue) (out : OutboxValue) : Type 0 where
   pub response : Response
   pub acceptor : AcceptorValue

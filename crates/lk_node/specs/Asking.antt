@@ -1,4 +1,4 @@
--- What a node does with a client's request.
+-- How a node handles a client's request.
 use Rattle.std.specs.Prelude.{◌≡◌, ℕ, Option, Some, None, List}
 use Rattle.std.specs.Option.{option_map}
 use Rattle.lk_types.specs.declared.command.Request.{Request as RequestValue}
@@ -17,7 +17,7 @@ use Rattle.lk_step.specs.declared.to.To.TheVariants as to
 use Rattle.lk_node.specs.NodeValue.{NodeValue}
 use Rattle.lk_node.specs.Replying.{SaysAlone}
 
--- nothing changes, and the client is told this alone
+-- nothing changes, and the client is told only this
 abbrev pub TellsClient : NodeValue → ℕ → NodeMessage → NodeValue → OutboxValue → Type 0
 TellsClient old client message new out = (new ≡ old) × SaysAlone old (to.Client client) message out
 
@@ -25,27 +25,27 @@ TellsClient old client message new out = (new ≡ old) × SaysAlone old (to.Clie
 abbrev pub with_waiting : RequestValue → NodeValue → NodeValue
 with_waiting r node = record node { leader = record { term = node.leader.term; waiting = asked r node.leader.waiting } }
 
--- the known leader with the port that the window gives it, where the window names it
+-- the known leader with its port in the window, if the window names it
 abbrev pub leader_in : Option ℕ → List (List Member) → Option Member
 leader_in None sets = None
 leader_in (Some node) sets = option_map (λ port. record { node = node; port = port }) (port_of node sets)
 
--- the client is sent to that member, where there is one
+-- the client is sent to that member, if there is one
 abbrev pub PointsTo : Option Member → NodeValue → RequestValue → NodeValue → OutboxValue → Type 0
 PointsTo None old r new out = (new ≡ old) × (out ≡ nothing)
 PointsTo (Some member) old r new out = TellsClient old r.client (kinds.Elsewhere (record { client = r.client; number = r.number; member = member })) new out
 
--- a new request waits at a node with a term; without one its client is sent to the known leader
+-- a new request waits at a node with a term; without a term its client is sent to the known leader
 abbrev pub TakesNew : Option TermValue → NodeValue → RequestValue → NodeValue → OutboxValue → Type 0
 TakesNew None old r new out = PointsTo (leader_in old.known old.learner.whole.roster.sets) old r new out
 TakesNew (Some term) old r new out = (new ≡ with_waiting r old) × (out ≡ nothing)
 
--- the number of the client's last request gets the answer that is kept, a smaller one the last number
+-- the number of the client's last request gets the stored answer, a smaller one the last number
 abbrev pub TakesAs : Seen → NodeValue → RequestValue → NodeValue → OutboxValue → Type 0
 TakesAs (seen.Same answer) old r new out = TellsClient old r.client (kinds.Answer (record { client = r.client; number = r.number; answer = answer })) new out
 TakesAs (seen.Passed last) old r new out = TellsClient old r.client (kinds.Passed (record { client = r.client; number = r.number; last = last })) new out
 TakesAs seen.New old r new out = TakesNew old.leader.term old r new out
 
--- what the node does with a request, by where it stands to its client's last one that took effect
+-- what the node does with a request, by its place relative to its client's last one that took effect
 abbrev pub HearsRequest : NodeValue → RequestValue → NodeValue → OutboxValue → Type 0
 HearsRequest old r new out = TakesAs (seen_as (session_of r.client old.learner.whole.sessions) r.number) old r new out

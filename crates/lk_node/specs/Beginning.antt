@@ -1,4 +1,4 @@
--- When a node begins a ballot, and what becomes of it.
+-- When a node begins a ballot, and the result.
 use Rattle.std.specs.Prelude.{◌≡◌, ◌⊎◌, ℕ, ◌+◌, nat_lt, if◌then◌else◌, List}
 use Rattle.lk_types.specs.BallotValue.{BallotValue}
 use Rattle.lk_types.specs.Limits.{max_count}
@@ -16,7 +16,7 @@ use Rattle.lk_node.specs.Telling.{AreWindowNodes, telling}
 
 -- ---- the ballot
 
--- the greatest round of the promised ballot and of those that were seen
+-- the greatest round of the promised ballot and of those recorded
 abbrev pub greatest_round : NodeValue → ℕ
 greatest_round node = if nat_lt node.acceptor.state.promised.round node.rounds then node.rounds else node.acceptor.state.promised.round
 
@@ -24,18 +24,18 @@ greatest_round node = if nat_lt node.acceptor.state.promised.round node.rounds t
 abbrev pub next_ballot : NodeValue → BallotValue
 next_ballot node = record { round = greatest_round node + 1; node = node.header.node }
 
--- the node once it has begun the ballot: its acceptor has promised it, and its leader has a term of it
+-- the node after it has begun the ballot: its acceptor has promised it, and its leader has a term of it
 abbrev pub beginning : BallotValue → NodeValue → NodeValue
 beginning b node = record node { acceptor = with_state node.acceptor (with_promise node.acceptor.state b); leader = with_term (begun b) node.leader }
 
--- after the promise these nodes are asked for theirs, from the next position on, where there is one
+-- after the promise these nodes are asked for theirs, from the next position on, if there is one
 abbrev pub AsksPromises : BallotValue → List ℕ → NodeValue → OutboxValue → Type 0
 AsksPromises b nodes old out =
     (IsMessage (saying old.header (kinds.Prepare b (executed old.learner + 1))) × (out ≡ telling (beginning b old) nodes (kinds.Prepare b (executed old.learner + 1)) (with_entry (Promise b) nothing)))
     ⊎ ((executed old.learner ≡ max_count) × (out ≡ with_entry (Promise b) nothing))
 
--- The node begins the ballot: its promise is written, and the nodes of the window are asked for theirs from the next position
--- on, where there is one.
+-- The node begins the ballot: its promise is written, and the nodes of the window are asked for theirs from the next
+-- position on, if there is one.
 pub record Begins (b : BallotValue) (old new : NodeValue) (out : OutboxValue) : Type 0 where
   pub becomes : new ≡ beginning b old
   pub nodes : List ℕ

@@ -1,4 +1,4 @@
--- What a replica promises of a call, for every history to which its node fits.
+-- What a replica promises of a call, for every history that its node fits.
 use Rattle.std.specs.Prelude.{◌≡◌, ℕ, List, take, Contains, Option, Some, None}
 use Rattle.lk_wire.specs.Grammar.{Spells}
 use Rattle.lk_wire.specs.declared.message.NodeMessage.{NodeMessage}
@@ -16,17 +16,18 @@ use Rattle.lk_node.specs.Served.{IsOfNode, IsBorneOut, IsServed}
 use Rattle.lk_node.specs.Holdings.{Holding, HoldingFits}
 use Rattle.lk_node.specs.Leavings.{DisksFit}
 
--- the bytes that a node is given, none at a tick
+-- the bytes of an input, none at a tick
 abbrev pub heard_by : Input → Option (List ℕ)
 heard_by Tick = None
 heard_by (Heard bytes) = Some bytes.now
 
--- what a node may be given
+-- a permitted input
 abbrev pub InputFits : History → Input → Type 0
 InputFits h Tick = Unit {0}
 InputFits h (Heard bytes) = IsHeard h bytes.now
 
--- the datagram is the node's, and spells a message that it may send, as it now is, and that a chosen list bears out
+-- the datagram is the node's, and spells a message that it may send in its present state, and that a chosen list bears
+-- out
 pub record MayGo (m : Meaning) (h : History) (n : ℕ) (w : View) (d : Datagram) : Type 0 where
   pub message : NodeMessage
   pub from : d.from ≡ party.Node n
@@ -34,8 +35,8 @@ pub record MayGo (m : Meaning) (h : History) (n : ℕ) (w : View) (d : Datagram)
   pub may : MaySend h.genesis h.sent w message
   pub served : IsServed m h message
 
--- The node fits: the history is lawful, what it holds fits, and so does whatever a stop may leave. `Shows` tells what the
--- replica holds.
+-- The node fits: the history is lawful, what it holds fits, and so does whatever a stop may leave. `Shows` says what
+-- the replica holds.
 pub record NodeFits (m : Meaning) (h : History) (n : ℕ) (Shows : Holding → Type 0) (disks : Side → Disk) : Type 0 where
   pub lawful : IsLawful m h
   pub holding : Holding
@@ -43,8 +44,8 @@ pub record NodeFits (m : Meaning) (h : History) (n : ℕ) (Shows : Holding → T
   pub fits : HoldingFits m h n holding
   pub left : DisksFit m h n disks
 
--- What a call that was not refused leaves: a holding that fits, datagrams that may go out as the node now is, notes that a
--- chosen list bears out, and disks whose images fit with any beginning of these datagrams sent.
+-- What a successful call leaves: a holding that fits, datagrams that the node may send in its present state, notes
+-- that a chosen list bears out, and disks whose images fit with any prefix of these datagrams sent.
 pub record Goes (m : Meaning) (h : History) (n : ℕ) (Shows : Holding → Type 0) (disks : Side → Disk) (notes : List Note) (batch : List Datagram) : Type 0 where
   pub holding : Holding
   pub shown : Shows holding

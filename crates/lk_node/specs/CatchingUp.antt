@@ -1,4 +1,4 @@
--- What a node does for one that has executed less, and asks of one that has executed more.
+-- How a node helps one that has executed less, and asks one that has executed more.
 use Rattle.std.specs.Prelude.{◌≡◌, ◌⊎◌, ℕ, ◌+◌, ◌<◌, ◌≤◌, true, false, Some, List, map, Contains}
 use Rattle.lk_types.specs.BallotValue.{BallotValue}
 use Rattle.lk_types.specs.Ballots.{is_below}
@@ -21,15 +21,15 @@ use Rattle.lk_node.specs.Yielding.{seeing}
 abbrev pub sending_parts : NodeValue → ℕ → List PartValue → OutboxValue → OutboxValue
 sending_parts node other parts out = with_letters (map (λ p. letter_to node (kinds.Part p) other) parts) out
 
--- so it is sent the snapshot's text from the offset on, or from its start where the offset is not below its length
+-- it is sent the snapshot's text from the offset on, or from its start if the offset is not below its length
 pub record FeedsParts (node : NodeValue) (other offset : ℕ) (out : OutboxValue) : Type 0 where
   pub parts : List PartValue
   pub are : AreParts node.learner.snapshot_position node.learner.snapshot (start_of offset node.learner.snapshot) parts
   pub fits : (p : PartValue) → Contains parts p → IsMessage (saying node.header (kinds.Part p))
   pub comes_to : out ≡ sending_parts node other parts nothing
 
--- the other node is sent what is served from the position on: commands where it is above the snapshot and executed, the snapshot
--- from the offset on where the snapshot has taken its place, and nothing where it is not executed
+-- the other node is sent what is served from the position on: commands if it is above the snapshot and executed, the
+-- snapshot from the offset on if the snapshot has replaced it, and nothing if it is not executed
 abbrev pub Feeds : NodeValue → ℕ → ℕ → ℕ → OutboxValue → Type 0
 Feeds node other first offset out =
     (IsServed node.learner first × SaysAlone node (to_node node other) (kinds.Decided (news_from first node.learner)) out)
@@ -40,22 +40,22 @@ Feeds node other first offset out =
 abbrev pub HearsWant : NodeValue → ℕ → WantValue → NodeValue → OutboxValue → Type 0
 HearsWant old from want new out = (new ≡ old) × Feeds old from want.first want.offset out
 
--- the other node is asked for what stands after the executed positions, where these are not all 2^48
+-- the other node is asked for what follows the executed positions, unless these are all 2^48
 abbrev pub AsksOn : NodeValue → ℕ → OutboxValue → Type 0
 AsksOn node other out =
     ((executed node.learner < max_count) × SaysAlone node (to_node node other) (kinds.Want (wanted node.learner)) out)
     ⊎ ((executed node.learner ≡ max_count) × (out ≡ nothing))
 
--- ---- a refusal
+-- ---- a rejection
 
--- the other node has executed so many positions: it is asked where these are more, and fed from there where they are fewer
+-- the other node has executed this many positions: it is asked if these are more, and fed from there if they are fewer
 abbrev pub Levels : NodeValue → ℕ → ℕ → OutboxValue → Type 0
 Levels node other theirs out =
     ((executed node.learner < theirs) × AsksOn node other out)
     ⊎ ((theirs < executed node.learner) × Feeds node other (theirs + 1) 0 out)
     ⊎ ((theirs ≡ executed node.learner) × (out ≡ nothing))
 
--- both ballots are seen
+-- both ballots are recorded
 abbrev pub HearsNack : NodeValue → ℕ → Nack → NodeValue → OutboxValue → Type 0
 HearsNack old from nack new out = (new ≡ seeing nack.promised (seeing nack.ballot old)) × Levels old from nack.executed out
 
@@ -65,15 +65,16 @@ HearsNack old from nack new out = (new ≡ seeing nack.promised (seeing nack.bal
 abbrev pub following : BallotValue → NodeValue → NodeValue
 following b node = record node { ticks = 0; known = Some b.node }
 
--- the other node is asked where it has executed more
+-- the other node is asked if it has executed more
 abbrev pub AsksWhereMore : NodeValue → ℕ → ℕ → OutboxValue → Type 0
 AsksWhereMore node other theirs out = ((executed node.learner < theirs) × AsksOn node other out) ⊎ ((theirs ≤ executed node.learner) × (out ≡ nothing))
 
--- what a smaller ballot is told: the promised one, and how many positions are executed
+-- the reply to a smaller ballot: the promised one, and how many positions are executed
 abbrev pub refusal : BallotValue → NodeValue → Nack
 refusal b node = record { ballot = b; promised = node.acceptor.state.promised; executed = executed node.learner }
 
--- A notice of a ballot below the promised one is refused. Any other is followed. Its ballot is seen in either case.
+-- A notice of a ballot below the promised one is rejected. Any other is followed. Its ballot is recorded in either
+-- case.
 abbrev pub HearsLead : NodeValue → ℕ → BallotValue → ℕ → NodeValue → OutboxValue → Type 0
 HearsLead old from b theirs new out =
     ((is_below b old.acceptor.state.promised ≡ true) × (new ≡ seeing b old) × SaysAlone old (to_node old from) (kinds.Nack (refusal b old)) out)

@@ -1,4 +1,4 @@
--- What a node does with decided pairs that it is told.
+-- How a node handles decided pairs.
 use Rattle.std.specs.Prelude.{◌≡◌, ℕ, ◌+◌, Some, List, ◌∷◌, slice_get}
 use Rattle.lk_state.specs.Meanings.{Meaning}
 use Rattle.lk_history.specs.Chosen.{ChosenAt}
@@ -9,21 +9,22 @@ use Rattle.lk_node.specs.Learning.{Learns}
 use Rattle.lk_node.specs.NodeValue.{NodeValue}
 use Rattle.lk_node.specs.Serving.{GoesOn}
 
--- a pair is learned, and then all that can be is executed
+-- a pair is learned, and then everything that can be is executed
 pub record TakesPair (m : Meaning) (p : Pair) (old : NodeValue) (before : OutboxValue) (new : NodeValue) (after : OutboxValue) : Type 0 where
   pub learned : NodeValue
   pub written : OutboxValue
   pub learns : Learns p old before learned written
   pub runs : RunsAll m learned written new after
 
--- the first of some commands is taken as that of this position, which goes on where it is chosen there; the others are left
+-- the first of some commands is taken as that of this position, and it goes on if it is chosen there; the others are
+-- left
 pub record TakesFirst (m : Meaning) (position : ℕ) (commands others : List Command) (old : NodeValue) (before : OutboxValue) (new : NodeValue) (after : OutboxValue) : Type 0 where
   pub command : Command
   pub stands : commands ≡ command ∷ others
   pub takes : TakesPair m (position, command) old before new after
   pub goes_on : GoesOn m (λ h. ChosenAt h.genesis h.sent position command) old new before after
 
--- so many of the commands are taken in order, the first as that of this position
+-- this many of the commands are taken in order, the first as that of this position
 pub data TakesPairs (m : Meaning) (first : ℕ) (commands : List Command) (old : NodeValue) (before : OutboxValue) : ℕ → NodeValue → OutboxValue → Type 0 where
   none_yet : TakesPairs m first commands old before 0 old before
   one_more : {k : ℕ} {mid new : NodeValue} {between after : OutboxValue} (v : Command) → TakesPairs m first commands old before k mid between → slice_get commands k ≡ Some v

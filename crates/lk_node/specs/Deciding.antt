@@ -1,4 +1,4 @@
--- What a node does with a vote that it hears.
+-- How a node handles a vote.
 use Rattle.std.specs.Prelude.{◌≡◌, ◌⊎◌, ℕ, Option, Some, None, List, map}
 use Rattle.lk_types.specs.declared.member.Member.{Member}
 use Rattle.lk_types.specs.declared.vote.Vote.{Vote}
@@ -27,19 +27,19 @@ pub record IsForProposal (node : NodeValue) (x : Vote) : Type 0 where
   pub proposal : ProposalValue
   pub vote : IsVoteFor term node.learner.whole.roster x.ballot x.position x.command set proposal
 
--- the node once it has heard that this one cast it
+-- the node after it has heard that this one cast the vote
 abbrev pub with_vote : (from : ℕ) (x : Vote) (node : NodeValue) → IsForProposal node x → NodeValue
 with_vote from x node k = record node { leader = with_term (with_proposals (heard_at k.set from x.position k.term.proposals) k.term) node.leader }
 
--- by that a majority of the position's members has accepted the proposal, and had not before
+-- with that a majority of the position's members has accepted the proposal, and had not before
 abbrev pub BringsMajority : (from : ℕ) (x : Vote) (node : NodeValue) → IsForProposal node x → Type 0
 BringsMajority from x node k = GainsMajority k.set from k.proposal
 
--- the vote is heard, by which no majority comes about: it is kept, or nothing changes where it is for no proposal
+-- the vote is heard and completes no majority: it is kept, or nothing changes if it is for no proposal
 abbrev pub IsOnlyHeard : ℕ → Vote → NodeValue → NodeValue → Type 0
 IsOnlyHeard from x old new = ((k : IsForProposal old x) × (BringsMajority from x old k → ⊥) × (new ≡ with_vote from x old k)) ⊎ ((IsForProposal old x → ⊥) × (new ≡ old))
 
--- the vote is heard, and the members of its position are given where by that a majority of them has accepted
+-- the vote is heard, and the members of its position are returned if with that a majority of them has accepted
 abbrev pub HearsVote : ℕ → Vote → NodeValue → NodeValue → Option (List Member) → Type 0
 HearsVote from x old new None = IsOnlyHeard from x old new
 HearsVote from x old new (Some set) = (k : IsForProposal old x) × BringsMajority from x old k × (k.set ≡ set) × (new ≡ with_vote from x old k)
@@ -53,8 +53,8 @@ pub record AreNews (node : NodeValue) (p : Pair) (letters : List LetterValue) : 
   pub fits : IsMessage (saying node.header (news_of p))
   pub comes_to : letters ≡ map (letter_to node (news_of p)) nodes
 
--- The pair is decided, by a majority of this set: that is noted, the pair is learned, all that can be is executed, and the
--- other nodes of the window, as it was in front of that, are told.
+-- The pair is decided, by a majority of this set: that is noted, the pair is learned, everything that can be is
+-- executed, and the other nodes of the earlier window are told.
 pub record Decides (m : Meaning) (set : List Member) (p : Pair) (old : NodeValue) (before : OutboxValue) (new : NodeValue) (after : OutboxValue) : Type 0 where
   pub learned : NodeValue
   pub written : OutboxValue
@@ -65,7 +65,7 @@ pub record Decides (m : Meaning) (set : List Member) (p : Pair) (old : NodeValue
   pub news : AreNews old p letters
   pub comes_to : after ≡ with_letters letters ran
 
--- a node was heard to accept: where by that a majority has, the pair is decided, and else nothing comes of it
+-- a node was heard to accept: if with that a majority has, the pair is decided; otherwise nothing follows
 abbrev pub HearsAccepted : Meaning → ℕ → Vote → NodeValue → NodeValue → OutboxValue → Type 0
 HearsAccepted m from x old new out =
     ((k : IsForProposal old x) × BringsMajority from x old k × Decides m k.set (x.position, x.command) (with_vote from x old k) nothing new out)

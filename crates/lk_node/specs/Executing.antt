@@ -1,4 +1,4 @@
--- What a node executes, and which clients it answers by that.
+-- What a node executes, and which clients it answers as a result.
 use Rattle.std.specs.Prelude.{◌≡◌, ℕ, Bool, true, false, not, ◌&&◌, ◌+◌, if◌then◌else◌, Option, Some, None}
 use Rattle.lk_types.specs.declared.answer.Answer.{Answer}
 use Rattle.lk_wire.specs.Grammar.{spelling, IsMessage}
@@ -23,11 +23,11 @@ use Rattle.lk_node.specs.Yielding.{without_term}
 
 -- ---- the clients
 
--- the number of the client's waiting request, where it is at most the session's
+-- the number of the client's waiting request, if it is at most the session's
 abbrev pub waiting_number : Session → NodeValue → Option ℕ
 waiting_number s node = number_up_to s.number (waiting_of s.client node.leader.waiting)
 
--- with a letter to the client, where its request of this number waits
+-- with a letter to the client, if its request of this number waits
 abbrev pub with_told : HeaderValue → Session → Option ℕ → OutboxValue → OutboxValue
 with_told whose s None out = out
 with_told whose s (Some number) out = with_letter (record { to = to.Client s.client; bytes = spelling (saying whose (told s number)) }) out
@@ -36,21 +36,21 @@ with_told whose s (Some number) out = with_letter (record { to = to.Client s.cli
 abbrev pub settled : Session → NodeValue → NodeValue
 settled s node = record node { leader = record { term = node.leader.term; waiting = left_by s.client s.number node.leader.waiting } }
 
--- a session has become the client's last: its waiting request, where the session has reached it, is answered or passed, and
--- waits no longer
+-- a session has become the client's last: its waiting request, if the session has reached it, is answered or passed,
+-- and waits no longer
 pub record Settles (s : Session) (old : NodeValue) (before : OutboxValue) (new : NodeValue) (after : OutboxValue) : Type 0 where
   pub becomes : new ≡ settled s old
   pub comes_to : after ≡ with_told old.header s (waiting_number s old) before
   pub fits : (number : ℕ) → waiting_number s old ≡ Some number → IsMessage (saying old.header (told s number))
 
--- the session, if one came, is settled, and else nothing changes
+-- the session, if there is one, is settled, and otherwise nothing changes
 abbrev pub SettlesAny : Option Session → NodeValue → OutboxValue → NodeValue → OutboxValue → Type 0
 SettlesAny None old before new after = (new ≡ old) × (after ≡ before)
 SettlesAny (Some s) old before new after = Settles s old before new after
 
 -- ---- one execution
 
--- the session that a command leaves which was answered so, where it took effect
+-- the session that a command with this answer leaves, if it took effect
 abbrev pub session_by : Command → Option Answer → Option Session
 session_by Noop answer = None
 session_by (Request r) None = None
@@ -60,7 +60,7 @@ session_by (Request r) (Some answer) = Some (record { client = r.client; number 
 abbrev pub NothingToRun : NodeValue → Type 0
 NothingToRun node = (v : Command) → IsNext node.learner v → ⊥
 
--- the command of the next position, if it is kept, has run, and was answered so
+-- the command of the next position, if it is kept, was executed with this answer
 abbrev pub RunsNext : Meaning → NodeValue → NodeValue → Option (Command × Ran) → Type 0
 RunsNext m old new None = NothingToRun old × (new ≡ old)
 RunsNext m old new (Some (v, ran)) =
@@ -74,12 +74,12 @@ has_term (Some t) = true
 abbrev pub is_outside : NodeValue → Bool
 is_outside node = has_term node.leader.term && not (is_named node.header.node node.learner.whole.roster.sets)
 
--- the node, its term ended where no set of the window names it
+-- the node, with its term ended if no set of the window names it
 abbrev pub while_named : NodeValue → NodeValue
 while_named node = if is_outside node then without_term node else node
 
--- The command of the next position is executed and noted, a request of its client that waits is told of it, and where the
--- node is in no set of the window any more its term ends.
+-- The command of the next position is executed and noted, a waiting request of its client is answered, and if no set
+-- of the window names the node any more, its term ends.
 pub record Executes (m : Meaning) (old : NodeValue) (before : OutboxValue) (new : NodeValue) (after : OutboxValue) : Type 0 where
   pub command : Command
   pub next : IsNext old.learner command
@@ -100,6 +100,6 @@ pub data Runs (m : Meaning) (old : NodeValue) (before : OutboxValue) : NodeValue
   stays : Runs m old before old before
   goes_on : {mid new : NodeValue} {between after : OutboxValue} → Runs m old before mid between → Executes m mid between new after → Runs m old before new after
 
--- as many as there can be
+-- as many as possible
 abbrev pub RunsAll : Meaning → NodeValue → OutboxValue → NodeValue → OutboxValue → Type 0
 RunsAll m old before new after = Runs m old before new after × NothingToRun new

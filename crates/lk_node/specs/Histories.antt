@@ -1,4 +1,4 @@
--- What has happened, as far as safety goes.
+-- What has happened, as far as safety is concerned.
 pub use Rattle.lk_types.specs.declared.genesis.Genesis.{Genesis}
 pub use Rattle.lk_types.specs.declared.command.Request.{Request as RequestValue}
 pub use Rattle.lk_types.specs.declared.command.Command.{Command}
@@ -16,7 +16,7 @@ use Rattle.lk_state.specs.Meanings.{Meaning}
 use Rattle.lk_state.specs.Packed.{packed}
 use Rattle.lk_state.specs.States.{whole_after}
 
--- how the cluster began, all datagrams that were ever sent, and all requests that were ever asked
+-- the genesis of the cluster, all datagrams that were ever sent, and all requests that were ever asked
 pub record History : Type 0 where
   pub genesis : Genesis
   pub sent : List Datagram
@@ -35,14 +35,15 @@ WasAsked h (Request r) = Contains h.asked r
 abbrev pub text : Meaning → Genesis → List Command → List ℕ
 text m genesis L = packed (whole_after m genesis L)
 
--- all that was ever sent is sound, what was proposed was asked, and each part of a snapshot is a slice of a chosen list's text
+-- everything that was ever sent is sound, what was proposed was asked, and each part of a snapshot is a slice of a
+-- chosen list's text
 pub record IsLawful (m : Meaning) (h : History) : Type 0 where
   pub sound : Sound h.genesis h.sent
   pub asked : (x : Vote) → WasSent h.genesis h.sent (Accept x) → WasAsked h x.command
   pub parts : (n : ℕ) (p : PartValue) → HasSent h.genesis h.sent n (Part p)
       → IsSlice h.genesis h.sent (text m h.genesis) p.position p.total p.offset p.bytes
 
--- bytes that may be heard: what they say for a node that node has sent, and what they ask was asked
+-- bytes that may arrive: what they say on behalf of a node, that node has sent, and what they ask was asked
 pub record IsHeard (h : History) (bytes : List ℕ) : Type 0 where
   pub said : (n : ℕ) (m : NodeMessage) → Spells (said_by h.genesis n m) bytes → HasSent h.genesis h.sent n m
   pub asked : (r : RequestValue) (cluster : ℕ) → Spells (record { cluster = cluster; content = content.Request r }) bytes → Contains h.asked r

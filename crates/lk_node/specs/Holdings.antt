@@ -7,13 +7,13 @@ use Rattle.lk_learner.specs.Learners.{GatheredValue}
 use Rattle.lk_node.specs.Histories.{History, Command, RequestValue, WasAsked}
 use Rattle.lk_node.specs.Served.{text}
 
--- a view, the requests that wait for the node to propose them, and a snapshot that is gathered
+-- a view, the requests that wait for the node to propose them, and a snapshot being gathered
 pub record Holding : Type 0 where
   pub view : View
   pub waiting : List RequestValue
   pub gathered : Option GatheredValue
 
--- all of it fits to what happened
+-- all of it fits what happened
 pub record HoldingFits (m : Meaning) (h : History) (n : ℕ) (x : Holding) : Type 0 where
   pub view : ViewFits h.genesis h.sent n x.view
   pub waiting : (r : RequestValue) → Contains x.waiting r → Contains h.asked r

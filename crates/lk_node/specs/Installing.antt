@@ -1,4 +1,4 @@
--- What a node does with a part of another node's snapshot.
+-- How a node handles a part of another node's snapshot.
 use Rattle.std.specs.Prelude.{◌≡◌, ◌⊎◌, ℕ, ◌+◌, Bool, true, false, Some, List, length, slice_get}
 use Rattle.lk_wire.specs.Values.{PartValue}
 use Rattle.lk_state.specs.Meanings.{Meaning}
@@ -10,11 +10,11 @@ use Rattle.lk_node.specs.Executing.{Settles, while_named, RunsAll}
 use Rattle.lk_node.specs.Learning.{with_learner}
 use Rattle.lk_node.specs.NodeValue.{NodeValue}
 
--- the learner gathers the part, and where with it a whole text is gathered that is installed, or else thrown away
+-- the learner gathers the part, and if that completes a text, the text is installed, or else thrown away
 abbrev pub Gathers : (List ℕ → Type 0) → Bool → PartValue → NodeValue → NodeValue → Type 0
 Gathers IsText went p old new = (l : LearnerValue) × Installs IsText went (hearing p old.learner) l × (new ≡ with_learner old l)
 
--- so many of the sessions are settled, one after another
+-- this many of the sessions are settled, one after another
 pub data SettlesFirst (ss : List Session) (old : NodeValue) (before : OutboxValue) : ℕ → NodeValue → OutboxValue → Type 0 where
   none_settled : SettlesFirst ss old before 0 old before
   one_settled : {k : ℕ} {mid new : NodeValue} {between after : OutboxValue} (s : Session) → SettlesFirst ss old before k mid between → slice_get ss k ≡ Some s → Settles s mid between new after
@@ -24,15 +24,16 @@ pub data SettlesFirst (ss : List Session) (old : NodeValue) (before : OutboxValu
 abbrev pub SettlesAll : List Session → NodeValue → OutboxValue → NodeValue → OutboxValue → Type 0
 SettlesAll ss old before new after = SettlesFirst ss old before (length ss) new after
 
--- The learner stands on an installed state: the store is to be rebased, waiting requests are answered from the state in rising
--- order of clients, the term ends where no set of its window names the node, and all that can be is executed.
+-- The learner has installed a state: the store is to be rebased, waiting requests are answered from the state in
+-- rising order of clients, the term ends if no set of its window names the node, and everything that can be is
+-- executed.
 pub record TakesUp (m : Meaning) (old new : NodeValue) (out : OutboxValue) : Type 0 where
   pub told : NodeValue
   pub said : OutboxValue
   pub settles : SettlesAll old.learner.whole.sessions old (with_rebase nothing) told said
   pub runs : RunsAll m (while_named told) said new out
 
--- a part is heard: where by that a state is installed the node takes it up, and else nothing comes of it
+-- a part is heard: if that installs a state, the node adopts it, and otherwise nothing follows
 abbrev pub HearsPart : Meaning → (List ℕ → Type 0) → NodeValue → PartValue → NodeValue → OutboxValue → Type 0
 HearsPart m IsText old p new out =
     ((mid : NodeValue) × Gathers IsText true p old mid × TakesUp m mid new out)

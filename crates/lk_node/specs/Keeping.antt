@@ -34,7 +34,8 @@ IsKnown w (Promise b) = ⊥
 IsKnown w (Vote x) = ⊥
 IsKnown w (Decided i c) = Contains w.pairs (i, c) ⊎ (command_at w.done i ≡ Some c)
 
--- the store is that of this header, all its entries but decided commands are synced, and they stand for what the acceptor holds
+-- the store is that of this header, all its entries except decided commands are synced, and they stand for what the
+-- acceptor holds
 pub record Keeps (whose : HeaderValue) (store : StoreValue) (acceptor : AcceptorState) : Type 0 where
   pub entries : List Stored
   pub loose : List Entry
@@ -49,8 +50,8 @@ pub record Keeps (whose : HeaderValue) (store : StoreValue) (acceptor : Acceptor
 abbrev pub LeadsOn : LearnerValue → LeaderValue → View → Type 0
 LeadsOn l leader w = (k : TermValue) → leader.term ≡ Some k → (t : Term) × (w.term ≡ Some t) × LeadsTerm l.whole.roster.executed (length l.whole.roster.sets) t k
 
--- what a node holds: what its acceptor does, the commands that its state sums up, those that are decided and wait for an
--- earlier one, a term for which its leader stands, the requests that wait, and the snapshot that is gathered
+-- what a node holds: what its acceptor does, the commands that its state sums up, those that are decided and wait for
+-- an earlier one, a term for which its leader stands, the requests that wait, and the snapshot being gathered
 pub record IsHeld (m : Meaning) (node : NodeValue) (genesis : Genesis) (x : Holding) : Type 0 where
   pub acceptor : x.view.acceptor ≡ node.acceptor.state
   pub follows : Follows m genesis x.view.done x.view.pairs node.learner
@@ -58,7 +59,7 @@ pub record IsHeld (m : Meaning) (node : NodeValue) (genesis : Genesis) (x : Hold
   pub waiting : x.waiting ≡ node.leader.waiting
   pub gathered : x.gathered ≡ node.learner.gathered
 
--- the replica, by its parts, is that of the node in the cluster that began so, and holds this
+-- the replica, by its parts, is that of the node in the cluster with this genesis, and holds this
 pub record Stands (m : Meaning) (node : NodeValue) (store : StoreValue) (genesis : Genesis) (n : ℕ) (x : Holding) : Type 0 where
   pub whose : node.header ≡ header_of genesis n
   pub keeps : Keeps (header_of genesis n) store node.acceptor.state

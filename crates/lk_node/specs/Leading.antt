@@ -13,13 +13,13 @@ use Rattle.lk_node.specs.Telling.{telling}
 abbrev pub with_leader : NodeValue → LeaderValue → NodeValue
 with_leader node l = record node { leader = l }
 
--- ---- a promise that is heard
+-- ---- a promise
 
 -- what the promise of the node reports
 abbrev pub report_of : ℕ → PromiseValue → Report
 report_of from p = record { node = from; first = p.first; votes = p.votes }
 
--- it is kept where it is of the term's ballot, of a node of the window and that node's first
+-- it is kept if it is of the term's ballot, of a node of the window, and that node's first
 abbrev pub KeepsPromise : NodeValue → ℕ → PromiseValue → NodeValue → Type 0
 KeepsPromise old from p new =
     (t : TermValue) × IsFirstOf old.leader old.learner.whole.roster from p.ballot t × (new ≡ with_leader old (with_term (with_report (report_of from p) t) old.leader))
@@ -28,13 +28,13 @@ KeepsPromise old from p new =
 abbrev pub DropsPromise : NodeValue → ℕ → PromiseValue → NodeValue → Type 0
 DropsPromise old from p new = ((t : TermValue) → IsFirstOf old.leader old.learner.whole.roster from p.ballot t → ⊥) × (new ≡ old)
 
--- and nothing comes of it at once
+-- and nothing follows from it immediately
 abbrev pub HearsPromise : NodeValue → ℕ → PromiseValue → NodeValue → OutboxValue → Type 0
 HearsPromise old from p new out = (KeepsPromise old from p new ⊎ DropsPromise old from p new) × (out ≡ nothing)
 
--- ---- what is proposed
+-- ---- proposals
 
--- the node proposes so: a command for a position that is open, in its term's ballot
+-- the node proposes this: a command for a position that is open, in its term's ballot
 pub record ProposesVote (old : NodeValue) (x : Vote) : Type 0 where
   pub term : TermValue
   pub current : old.leader.term ≡ Some term
@@ -55,7 +55,7 @@ ProposesAll [] old new before out = NothingOpen old × (new ≡ old) × (out ≡
 ProposesAll (x ∷ xs) old new before out =
     (p : ProposesVote old x) × ProposesAll xs (having_proposed old x p) new (telling old (nodes_of p.proposes.set) (kinds.Accept x) before) out
 
--- so with all that are open
+-- the same of everything that is open
 abbrev pub ProposesOpen : NodeValue → NodeValue → OutboxValue → OutboxValue → Type 0
 ProposesOpen old new before out = (xs : List Vote) × ProposesAll xs old new before out
 

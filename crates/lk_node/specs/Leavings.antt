@@ -18,23 +18,23 @@ use Rattle.lk_node.specs.Served.{text}
 abbrev pub header_of : Genesis → ℕ → HeaderValue
 header_of genesis n = record { node = n; cluster = genesis.cluster; alpha = genesis.alpha; members = genesis.members }
 
--- what an acceptor remembers by it
+-- what an acceptor remembers from it
 abbrev pub acceptor_of : StandingValue → AcceptorState
 acceptor_of s = record { promised = s.promised; votes = s.votes; snapshot_position = s.position }
 
--- the view of a node that has just been revived from it, once its snapshot is unpacked: that of these commands
+-- the view of a node that has just restarted from it, once its snapshot is unpacked: that of these commands
 abbrev pub view_of : StandingValue → List Command → View
 view_of s under = record { acceptor = acceptor_of s; done = under; pairs = s.pairs; term = None }
 
--- the standing of the image's live file, or that of a store to be begun where nothing stands
+-- the standing of the image's live file, or that of a new store if there is none
 pub record StandsAs (whose : HeaderValue) (zero : List ℕ) (image : Image) (s : StandingValue) : Type 0 where
   pub entries : List Stored
   pub found : Found image whose zero entries
   pub header : HasHeader entries whose
   pub stands : StandsFor entries s
 
--- The image has a standing that covers all that the node has sent; the snapshot is the packed text of a chosen list, and
--- votes and pairs stem from what was sent.
+-- The image has a standing that covers everything that the node has sent; the snapshot is the packed text of a chosen
+-- list, and votes and pairs stem from what was sent.
 pub record ImageFits (m : Meaning) (h : History) (n : ℕ) (image : Image) : Type 0 where
   pub standing : StandingValue
   pub stands : StandsAs (header_of h.genesis n) (text m h.genesis []) image standing

@@ -4,8 +4,8 @@ use Rattle.lk_history.specs.Datagrams.{Vote}
 use Rattle.lk_acceptor.specs.AcceptorValue.{AcceptorValue}
 use Rattle.lk_learner.specs.Learners.{LearnerValue, executed, alpha}
 
--- they know the members as far ahead, the snapshot of the one is executed by the other, and no vote lies more than twice
--- alpha above what is executed
+-- they know the members equally far ahead, the learner has executed the acceptor's snapshot, and no vote is more than
+-- twice alpha above what is executed
 pub record AreNear (acceptor : AcceptorValue) (l : LearnerValue) : Type 0 where
   pub alpha_is : acceptor.alpha ≡ alpha l
   pub snapshot : acceptor.state.snapshot_position ≤ executed l

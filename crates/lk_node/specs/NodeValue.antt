@@ -5,8 +5,9 @@ use Rattle.lk_acceptor.specs.AcceptorValue.{AcceptorValue}
 use Rattle.lk_leader.specs.Terms.{LeaderValue}
 use Rattle.lk_learner.specs.Learners.{LearnerValue}
 
--- who it is and how its cluster began, what its acceptor, its learner and its leader hold, how many ticks have passed without
--- a leader, the greatest round that it has seen of others, the node that it takes for the leader, and whether it has halted
+-- its number and the genesis of its cluster, what its acceptor, its learner and its leader hold, how many ticks have
+-- passed without a leader, the greatest round that it has seen of others, the node that it takes for the leader, and
+-- whether it has halted
 pub record NodeValue : Type 0 where
   pub header : HeaderValue
   pub acceptor : AcceptorValue

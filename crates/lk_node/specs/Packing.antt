@@ -1,4 +1,4 @@
--- What a node writes as the Base of a further file.
+-- What a node writes as the Base of another file.
 use Rattle.lk_entries.specs.Values.{StandingValue}
 use Rattle.lk_state.specs.Packed.{packed}
 use Rattle.lk_acceptor.specs.States.{without_votes_to, with_state}
@@ -7,7 +7,7 @@ use Rattle.lk_learner.specs.Learners.{executed}
 use Rattle.lk_learner.specs.Learners as learners
 use Rattle.lk_node.specs.NodeValue.{NodeValue}
 
--- what it holds, with a snapshot of its state in the place of all that it has executed
+-- what it holds, with a snapshot of its state in place of everything that it has executed
 abbrev pub standing_of : NodeValue → StandingValue
 standing_of node = record {
   promised = node.acceptor.state.promised;
@@ -17,7 +17,7 @@ standing_of node = record {
   pairs = node.learner.pairs;
 }
 
--- the node once that snapshot has taken the place of the votes and of the executed commands up to there
+-- the node after that snapshot has replaced the votes and the executed commands up to there
 abbrev pub standing_here : NodeValue → NodeValue
 standing_here node = record node {
   acceptor = with_state node.acceptor (without_votes_to node.acceptor.state (executed node.learner));

@@ -1,4 +1,4 @@
--- What a node with a term tells again as time passes.
+-- What a node with a term repeats as time passes.
 use Rattle.std.specs.Prelude.{◌≡◌, ◌⊎◌, ℕ, ◌+◌, ◌≤◌, Bool, false, not, ◌==◌, Option, Some, None, List, filter}
 use Rattle.std.specs.List.{list_any}
 use Rattle.lk_types.specs.BallotValue.{BallotValue}
@@ -23,22 +23,22 @@ use Rattle.lk_node.specs.Telling.{AreWindowNodes, AreOthers, telling}
 abbrev pub IsTermOf : BallotValue → LeaderValue → Type 0
 IsTermOf b leader = (k : TermValue) × (leader.term ≡ Some k) × (k.ballot ≡ b)
 
--- these are told so, in a message that fits into a datagram
+-- these get this message, which fits into a datagram
 abbrev pub TellsThese : NodeValue → List ℕ → NodeMessage → OutboxValue → OutboxValue → Type 0
 TellsThese node nodes message before out = IsMessage (saying node.header message) × (out ≡ telling node nodes message before)
 
 -- ---- the promises
 
--- the term, if any, keeps a promise of the node
+-- the term, if any, has a promise of the node
 abbrev pub keeps_promise : Option TermValue → ℕ → Bool
 keeps_promise None k = false
 keeps_promise (Some t) k = is_promiser k t.reports
 
--- the nodes of the window of which the term keeps no promise, in rising order
+-- the nodes of the window whose promise the term does not have, in rising order
 abbrev pub AreSilent : NodeValue → List ℕ → Type 0
 AreSilent node ns = (all : List ℕ) × AreWindowNodes node all × (ns ≡ filter (λ k. not (keeps_promise node.leader.term k)) all)
 
--- they are asked again from the next position on, where there is one
+-- they are asked again from the next position on, if there is one
 abbrev pub AsksAgain : NodeValue → BallotValue → OutboxValue → OutboxValue → Type 0
 AsksAgain node b before out =
     ((nodes : List ℕ) × AreSilent node nodes × TellsThese node nodes (kinds.Prepare b (executed node.learner + 1)) before out)
@@ -49,28 +49,28 @@ AsksAgain node b before out =
 abbrev pub vote_for : BallotValue → ℕ → ProposalValue → Vote
 vote_for b i p = record { position = i; ballot = b; command = p.command }
 
--- the members of the set that are not among those that were heard to accept, in rising order
+-- the members of the set that have not been heard to accept, in rising order
 abbrev pub unheard : List Member → List ℕ → List ℕ
 unheard set accepted = filter (λ k. not (list_any (λ n. n == k) accepted)) (nodes_of set)
 
--- what is open at the position is told again to the members of the position that were not heard to accept it
+-- what is open at the position is repeated to the members of the position that have not been heard to accept it
 abbrev pub OffersAgain : NodeValue → BallotValue → ℕ → OutboxValue → OutboxValue → Type 0
 OffersAgain node b i before out =
     ((p : ProposalValue) × (o : IsOpen node.leader node.learner.whole.roster i p) × TellsThese node (unheard o.set p.accepted) (kinds.Accept (vote_for b i p)) before out)
     ⊎ (((p : ProposalValue) → IsOpen node.leader node.learner.whole.roster i p → ⊥) × (out ≡ before))
 
--- so at the position that lies so far after the next one, where there is one
+-- the same at the position this far after the next one, if there is one
 abbrev pub OffersAhead : NodeValue → BallotValue → ℕ → OutboxValue → OutboxValue → Type 0
 OffersAhead node b ahead before out =
     OffersAgain node b (executed node.learner + 1 + ahead) before out
     ⊎ ((max_count ≤ executed node.learner + ahead) × (out ≡ before))
 
--- so at the first so many positions of the window, in order
+-- the same at this many first positions of the window, in order
 pub data OffersFirst (node : NodeValue) (b : BallotValue) (before : OutboxValue) : ℕ → OutboxValue → Type 0 where
   none_offered : OffersFirst node b before 0 before
   one_offered : {k : ℕ} {mid out : OutboxValue} → OffersFirst node b before k mid → OffersAhead node b k mid out → OffersFirst node b before (k + 1) out
 
--- so at all positions of the window
+-- the same at all positions of the window
 abbrev pub OffersAll : NodeValue → BallotValue → OutboxValue → OutboxValue → Type 0
 OffersAll node b before out = OffersFirst node b before (alpha node.learner) out
 
@@ -82,7 +82,8 @@ TellsLead node b before out = (nodes : List ℕ) × AreOthers node nodes × Tell
 
 -- ---- a tick in a term
 
--- Who has not promised is asked again, what is open is told again, what can be proposed is, and the others are told who leads.
+-- Nodes that have not promised are asked again, what is open is repeated, what can be proposed is, and the others are
+-- told who leads.
 pub record Reminds (b : BallotValue) (old new : NodeValue) (out : OutboxValue) : Type 0 where
   pub asked : OutboxValue
   pub asks : AsksAgain old b nothing asked
@@ -92,7 +93,7 @@ pub record Reminds (b : BallotValue) (old new : NodeValue) (out : OutboxValue) :
   pub proposes : ProposesOpen old new offered proposed
   pub leads : TellsLead new b proposed out
 
--- what a tick comes to: with a term the node reminds the others of it, without one it waits for a leader
+-- the result of a tick: with a term the node reminds the others of it, without one it waits for a leader
 abbrev pub Ticks : NodeValue → NodeValue → OutboxValue → Type 0
 Ticks old new out =
     ((b : BallotValue) × IsTermOf b old.leader × Reminds b old new out)

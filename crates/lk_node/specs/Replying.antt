@@ -1,4 +1,4 @@
--- What comes of a message that is answered by one message, or by none.
+-- The result of a message that gets one message in reply, or none.
 use Rattle.std.specs.Prelude.{◌≡◌}
 use Rattle.lk_wire.specs.Grammar.{spelling, IsMessage}
 use Rattle.lk_wire.specs.declared.message.NodeMessage.{NodeMessage}
@@ -7,6 +7,6 @@ use Rattle.lk_step.specs.Saying.{saying}
 use Rattle.lk_step.specs.declared.to.To.{To}
 use Rattle.lk_node.specs.NodeValue.{NodeValue}
 
--- the node says this, which fits into a datagram, and nothing else comes of it
+-- the node sends this, which fits into a datagram, and nothing else follows
 abbrev pub SaysAlone : NodeValue → To → NodeMessage → OutboxValue → Type 0
 SaysAlone node to message out = IsMessage (saying node.header message) × (out ≡ with_letter (record { to = to; bytes = spelling (saying node.header message) }) nothing)

@@ -1,4 +1,4 @@
--- To whom a node says something.
+-- To whom a node sends a message.
 use Rattle.std.specs.Prelude.{ℕ}
 use Rattle.lk_members.specs.Ports.{port_of}
 use Rattle.lk_step.specs.Saying.{port_or_none}
@@ -6,6 +6,6 @@ use Rattle.lk_step.specs.declared.to.To.{To}
 use Rattle.lk_step.specs.declared.to.To.TheVariants as to
 use Rattle.lk_node.specs.NodeValue.{NodeValue}
 
--- a node, and the port that the node's window gives it
+-- a node, and its port in the node's window
 abbrev pub to_node : NodeValue → ℕ → To
 to_node node from = to.Node from (port_or_none (port_of from node.learner.whole.roster.sets))

@@ -1,4 +1,4 @@
--- What the notes of a node and the datagrams to clients rest on: a chosen list that bears them out.
+-- What a node's notes and the datagrams to clients rest on: a chosen list that bears them out.
 use Rattle.lk_step.specs.declared.note.Note.{Note}
 use Rattle.lk_step.specs.declared.note.Note.TheVariants as note
 pub use Rattle.lk_node.specs.Histories.{text}
@@ -46,7 +46,8 @@ pub record IsServed (m : Meaning) (h : History) (x : NodeMessage) : Type 0 where
   pub chosen : Chosen h.genesis h.sent under
   pub bears : BearsOutMessage m h under x
 
--- what a node itself notes: that it counted a majority, or executed a command. Answers and passes are noted as they are sent
+-- what a node itself notes: that it counted a majority, or executed a command. Answers and passes are noted as they
+-- are sent
 abbrev pub IsOfNode : Note → Type 0
 IsOfNode (note.Asked r) = ⊥
 IsOfNode (note.Counted node i set v) = Unit {0}

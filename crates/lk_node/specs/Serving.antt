@@ -1,4 +1,4 @@
--- What a part of a step does, as far as safety goes.
+-- What a part of a step does, as far as safety is concerned.
 use Rattle.std.specs.Prelude.{◌≡◌, ℕ, Bool, true, false, List, [], ◌∷◌, Contains}
 use Rattle.std.specs.List.{AllByRecursion}
 use Rattle.lk_types.specs.declared.entry.Entry.{Entry}
@@ -22,13 +22,14 @@ use Rattle.lk_node.specs.Leavings.{header_of}
 use Rattle.lk_node.specs.NodeValue.{NodeValue}
 use Rattle.lk_node.specs.Served.{IsBorneOut, IsOfNode}
 
--- the message is no promise and no vote: what it may be sent by, a rebase leaves
+-- the message is neither a promise nor a vote: a rebase leaves what permits it
 abbrev pub IsLight : NodeMessage → Type 0
 IsLight (kinds.Promise p) = ⊥
 IsLight (kinds.Accepted x) = ⊥
 IsLight _ = Unit {0}
 
--- the letter spells a message of a node of this header, which what its acceptor holds covers, and a light one where the step rebases
+-- the letter spells a message of a node of this header, which what its acceptor holds covers, and a light one if the
+-- step rebases
 pub record Tells (whose : HeaderValue) (acceptor : AcceptorState) (rebase : Bool) (l : LetterValue) : Type 0 where
   pub message : NodeMessage
   pub fits : IsMessage (saying whose message)
@@ -36,13 +37,14 @@ pub record Tells (whose : HeaderValue) (acceptor : AcceptorState) (rebase : Bool
   pub covers : Covers acceptor message
   pub light : rebase ≡ true → IsLight message
 
--- what the acceptor holds once these entries are written
+-- what the acceptor holds after these entries are written
 abbrev pub with_entries : List Entry → AcceptorState → AcceptorState
 with_entries [] s = s
 with_entries (e ∷ es) s = with_entries es (acceptor_with e s)
 
--- Whatever has happened: since the node was this first one, the entries tell what its acceptor now holds, none but decided
--- commands are unsynced, and the acceptor covers what the letters tell. Where the step rebases the acceptor is as it was.
+-- Whatever has happened: since the node was this first one, the entries tell what its acceptor now holds, only decided
+-- commands are unsynced, and the acceptor covers what the letters tell. If the step rebases, the acceptor is
+-- unchanged.
 pub record Binds (first now : NodeValue) (out : OutboxValue) : Type 0 where
   pub header : now.header ≡ first.header
   pub written : now.acceptor.state ≡ with_entries out.entries first.acceptor.state
@@ -50,8 +52,8 @@ pub record Binds (first now : NodeValue) (out : OutboxValue) : Type 0 where
   pub still : out.rebase ≡ true → now.acceptor.state ≡ first.acceptor.state
   pub tells : (l : LetterValue) → Contains out.letters l → Tells now.header now.acceptor.state out.rebase l
 
--- In this history: the node holds what fits to it, and by that it may send the letters; what it writes rests on what was
--- sent, and a chosen list bears out each note. It knows what it writes unsynced, and what was unsynced before.
+-- In this history: what the node holds fits, and permits the letters; what it writes rests on what was sent, and a
+-- chosen list bears out each note. It knows what it writes unsynced, and what was unsynced before.
 pub record Serves (m : Meaning) (h : History) (n : ℕ) (loose : List Entry) (now : NodeValue) (out : OutboxValue) : Type 0 where
   pub lawful : IsLawful m h
   pub whose : now.header ≡ header_of h.genesis n
@@ -64,7 +66,7 @@ pub record Serves (m : Meaning) (h : History) (n : ℕ) (loose : List Entry) (no
   pub may : (d : Datagram) → Contains (batch_of n out.letters) d → MayGo m h n holding.view d
   pub noted : (x : Note) → Contains out.notes x → IsOfNode x × IsBorneOut m h x
 
--- A part of a step goes on with what the parts before it did, in each history in which it heard this.
+-- A part of a step continues what the parts before it did, in each history in which it heard this.
 pub record GoesOn (m : Meaning) (Heard : History → Type 0) (old new : NodeValue) (before after : OutboxValue) : Type 0 where
   pub binds : (first : NodeValue) → Binds first old before → Binds first new after
   pub serves : (h : History) (n : ℕ) (loose : List Entry) → Serves m h n loose old before → Heard h → Serves m h n loose new after

@@ -29,11 +29,11 @@ abbrev pub WasHeard : History → Content → Type 0
 WasHeard h (content.Request r) = Contains h.asked r
 WasHeard h (content.Node from m) = HasSent h.genesis h.sent from m
 
--- nothing changes, and nothing comes of it
+-- nothing changes, and nothing follows
 abbrev pub StandsStill : NodeValue → NodeValue → OutboxValue → Type 0
 StandsStill old new out = (new ≡ old) × (out ≡ nothing)
 
--- what the node does with a message of another node, or of itself. `IsText` tells which texts are those of a machine
+-- what the node does with a message of another node, or of itself. `IsText` says which texts are those of a machine
 abbrev pub HearsNode : Meaning → (List ℕ → Type 0) → NodeValue → ℕ → NodeMessage → NodeValue → OutboxValue → Type 0
 HearsNode m IsText old from (kinds.Prepare b first) new out = Responds old from (AnswersPrepare old.acceptor old.learner.whole.roster.executed b first) new out
 HearsNode m IsText old from (kinds.Accept x) new out = Responds (with_round x.ballot old) from (AnswersAccept old.acceptor old.learner.whole.roster.executed x) new out
@@ -51,17 +51,17 @@ abbrev pub Hears : Meaning → (List ℕ → Type 0) → NodeValue → Content �
 Hears m IsText old (content.Request r) new out = HearsRequest old r new out
 Hears m IsText old (content.Node from x) new out = HearsNode m IsText old from x new out
 
--- no message of the cluster is spelled so
+-- no message of the cluster is spelled like this
 abbrev pub IsForeign : NodeValue → List ℕ → Type 0
 IsForeign node bytes = (m : Message) → Spells m bytes → m.cluster ≡ node.header.cluster → ⊥
 
--- what it does with any bytes: those of its cluster's messages are heard, and nothing comes of all others
+-- what it does with any bytes: it handles those of its cluster's messages, and ignores all others
 abbrev pub TakesBytes : Meaning → (List ℕ → Type 0) → NodeValue → List ℕ → NodeValue → OutboxValue → Type 0
 TakesBytes m IsText old bytes new out =
     ((x : Message) × Spells x bytes × (x.cluster ≡ old.header.cluster) × Hears m IsText old x.content new out)
     ⊎ (IsForeign old bytes × StandsStill old new out)
 
--- and after that it proposes all that is open
+-- and after that it proposes everything that is open
 pub record TakesDatagram (m : Meaning) (IsText : List ℕ → Type 0) (old : NodeValue) (bytes : List ℕ) (new : NodeValue) (out : OutboxValue) : Type 0 where
   pub mid : NodeValue
   pub first : OutboxValue

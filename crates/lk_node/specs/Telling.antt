@@ -1,4 +1,4 @@
--- Which nodes a node tells, and several of them the same.
+-- Messages of a node to other nodes, and to several of them.
 use Rattle.std.specs.Prelude.{◌≡◌, ℕ, not, ◌==◌, List, map, filter}
 use Rattle.lk_wire.specs.Grammar.{spelling}
 use Rattle.lk_wire.specs.declared.message.NodeMessage.{NodeMessage}
@@ -17,10 +17,10 @@ AreWindowNodes node ns = AreAllAbove (λ k. is_named k node.learner.whole.roster
 abbrev pub AreOthers : NodeValue → List ℕ → Type 0
 AreOthers node ns = (all : List ℕ) × AreWindowNodes node all × (ns ≡ filter (λ k. not (k == node.header.node)) all)
 
--- the node tells this one so
+-- the node sends this to that node
 abbrev pub letter_to : NodeValue → NodeMessage → ℕ → LetterValue
 letter_to node message k = record { to = to_node node k; bytes = spelling (saying node.header message) }
 
--- it tells each of these so
+-- it sends this to each of these
 abbrev pub telling : NodeValue → List ℕ → NodeMessage → OutboxValue → OutboxValue
 telling node ns message out = with_letters (map (letter_to node message) ns) out

@@ -17,7 +17,7 @@ next_members (set ∷ sets) = set
 abbrev pub place_of : NodeValue → Option ℕ
 place_of node = position (λ m. m.node == node.header.node) (next_members node.learner.whole.roster.sets)
 
--- so many ticks are enough at this place
+-- how many ticks are enough at this place
 abbrev pub is_enough : ℕ → Option ℕ → Bool
 is_enough ticks None = false
 is_enough ticks (Some place) = nat_le (ticks_a_place + ticks_a_place * place) ticks
@@ -26,7 +26,7 @@ is_enough ticks (Some place) = nat_le (ticks_a_place + ticks_a_place * place) ti
 abbrev pub ticked : NodeValue → NodeValue
 ticked node = record node { ticks = min (node.ticks + 1) max_ticks }
 
--- Where it has waited long enough, and the round can be raised, the node begins its next ballot.
+-- If it has waited long enough, and the round can be raised, the node begins its next ballot.
 abbrev pub BeginsWhereDue : NodeValue → NodeValue → OutboxValue → Type 0
 BeginsWhereDue old new out =
     ((is_enough old.ticks (place_of old) ≡ true) × Begins (next_ballot old) old new out)

@@ -14,14 +14,14 @@ abbrev pub is_term_below : BallotValue → Option TermValue → Bool
 is_term_below b None = false
 is_term_below b (Some t) = is_below t.ballot b
 
--- the node once it has seen the ballot: where its term is of a smaller one, the term has ended
+-- the node after it has recorded the ballot: if its term is of a smaller one, the term has ended
 abbrev pub yielded : BallotValue → NodeValue → NodeValue
 yielded b node = if is_term_below b node.leader.term then without_term node else node
 
--- its ballot's round counts among those that were seen
+-- its ballot's round counts among those recorded
 abbrev pub with_round : BallotValue → NodeValue → NodeValue
 with_round b node = record node { rounds = max node.rounds b.round }
 
--- the node once it has seen the ballot in a refusal or a leader's notice
+-- the node after it has recorded the ballot of a rejection or of a leader's notice
 abbrev pub seeing : BallotValue → NodeValue → NodeValue
 seeing b node = yielded b (with_round b node)

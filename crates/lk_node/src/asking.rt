@@ -1,4 +1,4 @@
-// What a node does with a client's request.
+// How a node handles a client's request.
 ghost use Rattle.std.specs.Prelude.{◌≡◌, Contains, IfOk};
 ghost use Rattle.lk_step.specs.Outboxes.{nothing};
 ghost use Rattle.lk_node.specs.Asking.{leader_in, PointsTo, TakesNew, HearsRequest};
@@ -11,7 +11,7 @@ use lk_types::{ClientNo, Member, NoMemory, Request};
 use lk_wire::{Elsewhere, NodeMessage};
 
 impl<M: Machine> Node<M> {
-    // The known leader with the port that the window gives it, where the window names it.
+    // The known leader, with its port in the window, if the window names it.
     fn known_leader(&self) -> Option<Member>
         ensures { result ≡ leader_in self.now.known self.now.learner.whole.roster.sets }
     {
@@ -20,7 +20,7 @@ impl<M: Machine> Node<M> {
         Some(Member { node, port })
     }
 
-    // The client is sent to the known leader, where the window names it.
+    // Sends the client to the known leader, if the window names it.
     fn point(&self, request: &Request) -> Result<Outbox, NoMemory>
         ensures { IfOk result (λ o. PointsTo (leader_in self.now.known self.now.learner.whole.roster.sets) self.now request.now self.now o) }
     {
@@ -37,7 +37,7 @@ impl<M: Machine> Node<M> {
         Ok(out)
     }
 
-    // A new request waits at a node with a term.
+    // At a node with a term a new request waits.
     fn take_new(&mut self, request: &Request) -> Result<Outbox, NoMemory>
         ensures { IfOk result (λ o. TakesNew self.old.leader.term self.old request.now self.new o) }
     {
@@ -49,7 +49,7 @@ impl<M: Machine> Node<M> {
         Ok(Outbox::new(self.alloc))
     }
 
-    // What the request comes to, by where it stands to its client's last one.
+    // Handles a request, by its place relative to its client's last one.
     fn take_request(&mut self, request: &Request) -> Result<Outbox, NoMemory>
         ensures { IfOk result (λ o. HearsRequest self.old request.now self.new o) }
     {
@@ -62,7 +62,7 @@ impl<M: Machine> Node<M> {
         Ok(out)
     }
 
-    /// A client asks.
+    /// A client's request.
     pub(crate) fn hear_request(&mut self, request: &Request) -> Result<Outbox, NoMemory>
         ensures exact { IfOk result (λ o. HearsRequest self.old request.now self.new o) }
         ensures goes_on { IfOk result (λ o. GoesOn M.meaning (λ h. Contains h.asked request.now) self.old self.new nothing o) }

@@ -14,7 +14,7 @@ use lk_types::{NoMemory, Position, RealBallot, Round};
 use lk_wire::NodeMessage;
 
 impl<M: Machine> Node<M> {
-    /// The next ballot of the node, or none where its round would be above 2^48.
+    /// The next ballot of the node, or none if its round would exceed 2^48.
     pub(crate) fn next_ballot(&self) -> Option<RealBallot>
         ensures { MatchOption result (max_count ≤ greatest_round self.now) (λ b. (b ≡ next_ballot self.now) × IsBelow self.now.acceptor.state.promised b) }
     {
@@ -28,7 +28,7 @@ impl<M: Machine> Node<M> {
         Some(RealBallot::new(round, self.header.node()))
     }
 
-    /// The ballot is promised, and a term of it begins: the nodes of the window are asked for their promises.
+    /// Promises the ballot, and begins a term with it: asks the nodes of the window for their promises.
     pub(crate) fn begin(&mut self, ballot: RealBallot) -> Result<Outbox, NoMemory>
         requires below { IsBelow self.old.acceptor.state.promised ballot }
         requires own { ballot.node ≡ self.old.header.node }

@@ -1,4 +1,4 @@
-// What a node does for one that has executed less, and asks of one that has executed more.
+// How a node helps one that has executed less, and asks one that has executed more.
 ghost use Rattle.std.specs.Prelude.{◌≡◌, ◌<◌, ◌≤◌, Contains, IfOk, OnOk};
 ghost use Rattle.lk_wire.specs.Grammar.{IsMessage};
 ghost use Rattle.lk_wire.specs.Values.{PartValue};
@@ -17,7 +17,7 @@ use lk_types::{Executed, NoMemory, NodeNo, Position, RealBallot};
 use lk_wire::{Nack, NodeMessage, Part, Want};
 
 impl<M: Machine> Node<M> {
-    // The other node is sent these parts, in order.
+    // Sends these parts to the other node, in order.
     fn tell_parts(&self, other: NodeNo, parts: Vec<Part>) -> Result<Outbox, NoMemory>
         ensures said { IfOk result (λ o. o ≡ sending_parts self.now other parts.items nothing) }
         ensures fits { OnOk result ((p : PartValue) → Contains parts.items p → IsMessage (saying self.now.header (kinds.Part p))) }
@@ -29,7 +29,7 @@ impl<M: Machine> Node<M> {
         Ok(out)
     }
 
-    // The other node is sent the snapshot from the offset on, where the snapshot has taken the position's place.
+    // Sends the snapshot from the offset on to the other node, if the snapshot has replaced the position.
     fn feed_parts(&self, other: NodeNo, first: Position, offset: u32) -> Result<Outbox, NoMemory>
         ensures some { first ≤ self.now.learner.snapshot_position → IfOk result (λ o. FeedsParts self.now other offset o) }
         ensures none { self.now.learner.snapshot_position < first → IfOk result (λ o. o ≡ nothing) }
@@ -39,7 +39,7 @@ impl<M: Machine> Node<M> {
         Ok(out)
     }
 
-    // The other node is sent what is served from the position on, where anything is.
+    // Sends whatever is served from the position on to the other node.
     fn feed(&self, other: NodeNo, first: Position, offset: u32) -> Result<Outbox, NoMemory>
         ensures { IfOk result (λ o. Feeds self.now other first offset o) }
     {
@@ -50,7 +50,7 @@ impl<M: Machine> Node<M> {
         Ok(out)
     }
 
-    // The other node is asked for what stands after the executed positions.
+    // Asks the other node for what follows the executed positions.
     fn ask_on(&self, other: NodeNo) -> Result<Outbox, NoMemory>
         ensures { IfOk result (λ o. AsksOn self.now other o) }
     {
@@ -61,7 +61,7 @@ impl<M: Machine> Node<M> {
         Ok(out)
     }
 
-    // The other node has executed so many positions: it is asked where these are more, and fed where they are fewer.
+    // The other node has executed this many positions: asks it if that is more, and feeds it if that is less.
     fn level(&self, other: NodeNo, theirs: Executed) -> Result<Outbox, NoMemory>
         ensures { IfOk result (λ o. Levels self.now other theirs o) }
     {
@@ -75,7 +75,7 @@ impl<M: Machine> Node<M> {
         }
     }
 
-    /// A node wants commands, or a snapshot.
+    /// Handles a Want for commands, or for a snapshot.
     pub(crate) fn hear_want(&mut self, from: NodeNo, want: &Want) -> Result<Outbox, NoMemory>
         ensures exact { IfOk result (λ o. HearsWant self.old from want.now self.new o) }
         ensures goes_on { IfOk result (λ o. GoesOn M.meaning (λ h. Unit {0}) self.old self.new nothing o) }
@@ -84,7 +84,7 @@ impl<M: Machine> Node<M> {
         Ok(out)
     }
 
-    /// A node refuses a ballot: both ballots are seen.
+    /// Handles the rejection of a ballot: records both ballots.
     pub(crate) fn hear_nack(&mut self, from: NodeNo, nack: &Nack) -> Result<Outbox, NoMemory>
         ensures exact { IfOk result (λ o. HearsNack self.old from nack.now self.new o) }
         ensures goes_on { IfOk result (λ o. GoesOn M.meaning (λ h. Unit {0}) self.old self.new nothing o) }
@@ -95,7 +95,7 @@ impl<M: Machine> Node<M> {
         Ok(out)
     }
 
-    // The other node is asked where it has executed more.
+    // Asks the other node if it has executed more.
     fn ask_where_more(&self, other: NodeNo, theirs: Executed) -> Result<Outbox, NoMemory>
         ensures { IfOk result (λ o. AsksWhereMore self.now other theirs o) }
     {
@@ -106,7 +106,7 @@ impl<M: Machine> Node<M> {
         Ok(out)
     }
 
-    // A ballot below the promised one is refused.
+    // Rejects a ballot below the promised one.
     fn refuse(&self, other: NodeNo, ballot: RealBallot) -> Result<Outbox, NoMemory>
         ensures { IfOk result (λ o. SaysAlone self.now (to_node self.now other) (kinds.Nack (refusal ballot self.now)) o) }
     {
@@ -119,7 +119,7 @@ impl<M: Machine> Node<M> {
         Ok(out)
     }
 
-    // The ballot's node is the known leader, and ticks count from the start.
+    // The ballot's node becomes the known leader, and ticks count from the start.
     fn follow(&mut self, ballot: RealBallot)
         ensures { self.new ≡ following ballot self.old }
     {
@@ -127,7 +127,7 @@ impl<M: Machine> Node<M> {
         self.ticks.reset();
     }
 
-    // A leader's notice is refused, or followed.
+    // Rejects a leader's notice, or follows it.
     fn answer_lead(
         &mut self,
         from: NodeNo,
@@ -147,7 +147,7 @@ impl<M: Machine> Node<M> {
         Ok(out)
     }
 
-    /// A node leads in this ballot, and has executed so many positions.
+    /// Handles a leader's notice: its node leads in this ballot, and has executed this many positions.
     pub(crate) fn hear_lead(
         &mut self,
         from: NodeNo,

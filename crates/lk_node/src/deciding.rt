@@ -14,7 +14,7 @@ use lk_step::{Letter, Note, Outbox, news_of};
 use lk_types::{Command, Members, NoMemory, NodeNo, Position, Vote};
 
 impl<M: Machine> Node<M> {
-    // A node was heard to vote. The members of the position, where by that a majority of them has.
+    // A node has voted. Returns the members of the position, if this vote gives it a majority of them.
     fn hear_vote(&mut self, from: NodeNo, vote: &Vote) -> Option<Members>
         ensures { HearsVote from vote.now self.old self.new result }
     {
@@ -68,7 +68,7 @@ impl<M: Machine> Node<M> {
         Ok(())
     }
 
-    /// A node was heard to accept.
+    /// Handles an Accepted.
     pub(crate) fn hear_accepted(&mut self, from: NodeNo, vote: &Vote) -> Result<Outbox, NoMemory>
         ensures exact { IfOk result (λ o. HearsAccepted M.meaning from vote.now self.old self.new o) }
         ensures goes_on { IfOk result (λ o. GoesOn M.meaning (λ h. HasSent h.genesis h.sent from (kinds.Accepted vote.now)) self.old self.new nothing o) }

@@ -1,4 +1,4 @@
-// What a node executes, and which clients it answers by that.
+// What a node executes, and which clients it answers as a result.
 ghost use Rattle.std.specs.Prelude.{◌≡◌, IfOk, OnOk};
 ghost use Rattle.lk_node.specs.Executing.{Settles, SettlesAny, session_by, RunsNext, has_term, is_outside, while_named, ExecutesOne, RunsAll};
 ghost use Rattle.lk_node.specs.Serving.{GoesOn};
@@ -9,7 +9,7 @@ use lk_step::{Note, Outbox, To, told};
 use lk_types::{Answer, Command, NoMemory};
 
 impl<M: Machine> Node<M> {
-    /// The session has become its client's last: the waiting request up to it is told, and waits no longer.
+    /// The session has become its client's last: answers the waiting request up to it, which waits no longer.
     pub(crate) fn settle(&mut self, session: Session, out: &mut Outbox) -> Result<(), NoMemory>
         ensures { OnOk result (Settles session self.old out.old self.new out.new) }
     {
@@ -20,7 +20,7 @@ impl<M: Machine> Node<M> {
         Ok(())
     }
 
-    // The session that has become its client's last, if one has, is settled.
+    // Settles the session that has become its client's last, if one has.
     fn settle_ran(&mut self, session: Option<Session>, out: &mut Outbox) -> Result<(), NoMemory>
         ensures { OnOk result (SettlesAny session self.old out.old self.new out.new) }
     {
@@ -45,7 +45,7 @@ impl<M: Machine> Node<M> {
         self.has_term() && !self.roster().is_in_window(self.header.node())
     }
 
-    /// The term ends where no set of the window names the node.
+    /// Ends the term if no set of the window names the node.
     pub(crate) fn leave_outside(&mut self)
         ensures { self.new ≡ while_named self.old }
     {
@@ -54,7 +54,7 @@ impl<M: Machine> Node<M> {
         }
     }
 
-    // Runs the command of the next position, if it is kept, and gives it.
+    // Executes the command of the next position, if it is kept, and returns it.
     fn run_next(&mut self) -> Result<Option<(Command, Ran)>, NoMemory>
         ensures { IfOk result (λ r. RunsNext M.meaning self.old self.new r) }
     {
@@ -68,7 +68,7 @@ impl<M: Machine> Node<M> {
         Ok(Some((command.copy(), ran)))
     }
 
-    // Executes the command of the next position, if it is kept. Whether it was.
+    // Executes the command of the next position, if it is kept. Returns whether it was.
     fn execute_one(&mut self, out: &mut Outbox) -> Result<bool, NoMemory>
         ensures exact { IfOk result (λ went. ExecutesOne M.meaning went self.old out.old self.new out.new) }
         ensures goes_on { OnOk result (GoesOn M.meaning (λ h. Unit {0}) self.old self.new out.old out.new) }
@@ -97,7 +97,7 @@ impl<M: Machine> Node<M> {
     }
 }
 
-// The session that a command leaves which was answered so, where it took effect.
+// The session that a command with this answer leaves, if it took effect.
 fn session_of(command: &Command, answer: Option<Answer>) -> Option<Session>
     ensures { result ≡ session_by command.now answer }
 {

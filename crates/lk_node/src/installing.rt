@@ -1,4 +1,4 @@
-// What a node does with a part of another node's snapshot.
+// How a node handles a part of another node's snapshot.
 ghost use Rattle.std.specs.Prelude.{◌≡◌, ℕ, IfOk, OnOk};
 ghost use Rattle.lk_wire.specs.declared.message.NodeMessage.TheVariants as kinds;
 ghost use Rattle.lk_history.specs.Datagrams.{HasSent};
@@ -13,7 +13,7 @@ use lk_types::NoMemory;
 use lk_wire::PartRef;
 
 impl<M: Machine> Node<M> {
-    // The part is gathered, and what is whole by that is installed where it is a state's. Whether it was.
+    // Gathers the part, and installs the text if that completes it and it is a state's. Returns whether it did.
     fn gather(&mut self, part: &PartRef<'_>) -> Result<bool, NoMemory>
         ensures { IfOk result (λ went. Gathers M.IsText went part.now self.old self.new) }
     {
@@ -22,7 +22,7 @@ impl<M: Machine> Node<M> {
         Ok(went)
     }
 
-    // The sessions of the learner's state are settled, in rising order of clients.
+    // Settles the sessions of the learner's state, in rising order of clients.
     fn settle_sessions(&mut self, out: &mut Outbox) -> Result<(), NoMemory>
         ensures { OnOk result (SettlesAll self.old.learner.whole.sessions self.old out.old self.new out.new) }
     {
@@ -34,7 +34,7 @@ impl<M: Machine> Node<M> {
         Ok(())
     }
 
-    // The learner stands on an installed state: waiting requests are answered from it, and what can be is executed.
+    // The learner has installed a state: answers waiting requests from it, and executes what it can.
     fn take_up(&mut self) -> Result<Outbox, NoMemory>
         ensures exact { IfOk result (λ o. TakesUp M.meaning self.old self.new o) }
         ensures goes_on { IfOk result (λ o. GoesOn M.meaning (λ h. Unit {0}) self.old self.new nothing o) }
@@ -48,7 +48,7 @@ impl<M: Machine> Node<M> {
         Ok(out)
     }
 
-    /// A part of another node's snapshot was heard.
+    /// Handles a part of another node's snapshot.
     pub(crate) fn hear_part(&mut self, part: &PartRef<'_>) -> Result<Outbox, NoMemory>
         ensures exact { IfOk result (λ o. HearsPart M.meaning M.IsText self.old part.now self.new o) }
         ensures goes_on { (from : ℕ) → IfOk result (λ o. GoesOn M.meaning (λ h. HasSent h.genesis h.sent from (kinds.Part part.now)) self.old self.new nothing o) }

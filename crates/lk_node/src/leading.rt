@@ -1,4 +1,4 @@
-// What a node does as a leader with what it hears, and what it proposes.
+// How a leader handles what it hears, and what it proposes.
 ghost use Rattle.std.specs.Prelude.{◌≡◌, ◌⊎◌, List, IfOk, OnOk, MatchOption};
 ghost use Rattle.lk_types.specs.declared.member.Member.{Member as MemberValue};
 ghost use Rattle.lk_wire.specs.Grammar.{IsMessage};
@@ -20,7 +20,7 @@ use lk_types::{NoMemory, NodeNo, Vote};
 use lk_wire::{NodeMessage, PromiseRef};
 
 impl<M: Machine> Node<M> {
-    // The leader hears a promise.
+    // The leader records a promise.
     fn keep_promise(&mut self, from: NodeNo, promise: &PromiseRef<'_>) -> Result<(), NoMemory>
         ensures { OnOk result (KeepsPromise self.old from promise.now self.new ⊎ DropsPromise self.old from promise.now self.new) }
     {
@@ -31,7 +31,7 @@ impl<M: Machine> Node<M> {
         Ok(())
     }
 
-    /// A promise is heard.
+    /// Handles a Promise.
     #[tactic(auto, using(crate::proofs::TermRules::promise_goes_on))]
     pub(crate) fn hear_promise(
         &mut self,
@@ -47,7 +47,7 @@ impl<M: Machine> Node<M> {
 }
 
 impl<M: Machine> Node<M> {
-    /// The term's ballot is promised. It does nothing.
+    /// The term's ballot is promised. The function does nothing.
     pub(crate) fn facts(&self)
         ensures { HasPromised self.now.acceptor self.now.leader }
     {
@@ -85,7 +85,7 @@ impl<M: Machine> Node<M> {
         Ok(())
     }
 
-    // Proposes what comes next, and tells the members of its position. Whether there was anything.
+    // Proposes what comes next, and tells the members of its position. Returns whether there was anything.
     fn propose_next(&mut self, out: &mut Outbox) -> Result<bool, NoMemory>
         ensures exact { IfOk result (λ more. ProposesNext more self.old self.new out.old out.new) }
         ensures goes_on { OnOk result (GoesOn M.meaning (λ h. Unit {0}) self.old self.new out.old out.new) }
@@ -98,7 +98,7 @@ impl<M: Machine> Node<M> {
         Ok(true)
     }
 
-    /// Proposes all that is open, at rising positions, and tells each to the members of its position.
+    /// Proposes everything that is open, at rising positions, and tells each to the members of its position.
     pub(crate) fn propose(&mut self, out: &mut Outbox) -> Result<(), NoMemory>
         ensures exact { OnOk result (ProposesOpen self.old self.new out.old out.new) }
         ensures done { OnOk result (NothingOpen self.new) }

@@ -15,7 +15,7 @@ use lk_types::{Command, Entry, NoMemory, Position};
 use lk_wire::{Commands, DecidedRef};
 
 impl<M: Machine> Node<M> {
-    /// A command is decided at the position. Where it is wanted it is kept, and written.
+    /// A command is decided at the position. Keeps it and writes it, if it is wanted.
     pub(crate) fn learn(
         &mut self,
         position: Position,
@@ -31,7 +31,7 @@ impl<M: Machine> Node<M> {
         Ok(())
     }
 
-    /// A command that is chosen at the position is learned, and then all that can be is executed.
+    /// Learns a command that is chosen at the position, and then executes everything it can.
     pub(crate) fn take_pair(
         &mut self,
         position: Position,
@@ -46,8 +46,8 @@ impl<M: Machine> Node<M> {
         Ok(())
     }
 
-    // The first of the commands that are told is decided at the position, and the others are still to be heard. It is read
-    // where it is wanted, and else stepped over.
+    // Decides the first of these commands at the position; the others are still to come. Reads it if it is wanted, and
+    // skips it otherwise.
     fn hear_first<'a>(
         &mut self,
         position: Position,
@@ -68,7 +68,7 @@ impl<M: Machine> Node<M> {
         Ok(Some(others))
     }
 
-    /// Decided commands are told: they are taken in order.
+    /// Handles Decided: takes its commands in order.
     pub(crate) fn hear_decided(&mut self, decided: &DecidedRef<'_>) -> Result<Outbox, NoMemory>
         ensures exact { IfOk result (λ o. TakesPairs M.meaning decided.now.first decided.now.commands self.old nothing (length decided.now.commands) self.new o) }
         ensures goes_on { (from : ℕ) → IfOk result (λ o. GoesOn M.meaning (λ h. HasSent h.genesis h.sent from (kinds.Decided decided.now)) self.old self.new nothing o) }

@@ -1,5 +1,5 @@
-//! A node of the cluster: what it holds in memory, and what it does with a tick or a datagram. No disk, socket or clock is
-//! in its reach.
+//! A node of the cluster: what it holds in memory, and how it handles a tick or a datagram. It has no access to a
+//! disk, socket or clock.
 #![tactic(auto)]
 
 mod answering;

@@ -1,4 +1,4 @@
-// The node: what it is, and what it does with any input. No disk, socket or clock is in its reach.
+// The node: what it is, and how it handles any input. It has no access to a disk, socket or clock.
 ghost use Rattle.std.specs.Prelude.{◌≡◌, ◌∷◌, [], None, true, false, OnOk, OnErr, IsErr};
 ghost use Rattle.lk_wire.specs.Grammar.{spelling, IsMessage};
 ghost use Rattle.lk_leader.specs.Terms.{idle};
@@ -20,12 +20,12 @@ use std::alloc::Global;
 use std::marker::Model;
 use thiserror::Error;
 
-/// The node was refused memory, in this step or an earlier one: refusal 14 of the replica.
+/// The node ran out of memory, in this step or an earlier one: error 14 of the replica.
 #[derive(Clone, Copy, Debug, Error)]
 #[error("the node has halted")]
 pub struct Halted;
 
-/// A node in memory: who it is, its acceptor, its learner and its leader, and the little that it remembers of time.
+/// A node in memory: its header, its acceptor, its learner and its leader, and what little it remembers of time.
 #[derive(Drop)]
 pub struct Node<M: Machine> {
     pub(crate) alloc: Global,
@@ -70,28 +70,28 @@ impl<M: Machine> Node<M> {
         }
     }
 
-    /// Whether it has halted: then each step answers `Halted`.
+    /// Whether it has halted: then each step fails with `Halted`.
     pub fn halted(&self) -> bool
         ensures { result ≡ self.now.halted }
     {
         self.halted
     }
 
-    /// Who it is, and how its cluster began.
+    /// Its number, and the genesis of its cluster.
     pub fn header(&self) -> &Header
         ensures { result.now ≡ self.now.header }
     {
         &self.header
     }
 
-    /// The roster that stands once all executed commands are run.
+    /// The roster after all executed commands.
     pub fn roster(&self) -> &Roster
         ensures { result.now ≡ self.now.learner.whole.roster }
     {
         self.learner.whole().roster()
     }
 
-    /// Says something to a node or a client.
+    /// Sends a message to a node or a client.
     pub(crate) fn say(&self, to: To, message: NodeMessage, out: &mut Outbox) -> Result<(), NoMemory>
         ensures said { OnOk result (out.new ≡ with_letter (record { to = to; bytes = spelling (saying self.now.header message) }) out.old) }
         ensures fits { OnOk result (IsMessage (saying self.now.header message)) }
@@ -101,7 +101,7 @@ impl<M: Machine> Node<M> {
         Ok(())
     }
 
-    /// Says something to a node, by the port that the window gives it.
+    /// Sends a message to a node, at its port in the window.
     pub(crate) fn tell(
         &self,
         node: NodeNo,

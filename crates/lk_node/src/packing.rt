@@ -1,4 +1,4 @@
-// What a node writes as the Base of a further file, and what it then holds.
+// What a node writes as the Base of another file, and what it then holds.
 ghost use Rattle.std.specs.Prelude.{◌≡◌, ◌+◌, ◌≤◌, ◌↔◌, IsTrue, IfOk};
 ghost use Rattle.lk_learner.specs.Learners.{executed};
 ghost use Rattle.lk_log.specs.Stores.{MayBegin};
@@ -13,8 +13,8 @@ use lk_step::{copied, votes_above};
 use lk_types::NoMemory;
 
 impl<M: Machine> Node<M> {
-    /// What is written as the Base of a further file: all that the node holds, with a snapshot of its state in the place of
-    /// what it has executed.
+    /// The Base of another file: everything that the node holds, with a snapshot of its state in place of what it has
+    /// executed.
     pub fn standing(&self) -> Result<Standing, NoMemory>
         ensures value { IfOk result (λ s. s ≡ standing_of self.now) }
         ensures may { IfOk result MayBegin }
@@ -43,8 +43,7 @@ impl<M: Machine> Node<M> {
         self.learner.whole().executed().get() >= snapshot + 256
     }
 
-    /// That snapshot, of which this is the text, takes the place of the votes and of the executed commands up to there. It takes
-    /// no memory.
+    /// The snapshot with this text replaces the votes and the executed commands up to there. Takes no memory.
     pub fn stand_here(&mut self, snapshot: Vec<u8>)
         requires text { snapshot.items ≡ packed self.old.learner.whole }
         ensures { self.new ≡ standing_here self.old }

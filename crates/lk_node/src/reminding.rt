@@ -1,4 +1,4 @@
-// What a node with a term tells again as time passes.
+// What a node with a term repeats as time passes.
 ghost use Rattle.std.specs.Prelude.{◌≡◌, ◌+◌, not, IfOk, OnOk};
 ghost use Rattle.lk_step.specs.Outboxes.{nothing};
 ghost use Rattle.lk_node.specs.Leading.{NothingOpen};
@@ -12,14 +12,14 @@ use lk_types::{Members, NoMemory, NodeNo, Position, RealBallot, Vote};
 use lk_wire::NodeMessage;
 
 impl<M: Machine> Node<M> {
-    // Whether the term keeps no promise of the node.
+    // Whether the term has no promise of the node.
     fn is_silent(&self, node: NodeNo) -> bool
         ensures { result ≡ not (keeps_promise self.now.leader.term node) }
     {
         !self.leader.has_promised(node)
     }
 
-    // The nodes of the window of which the term keeps no promise.
+    // The nodes of the window whose promise the term does not have.
     fn silent_nodes(&self) -> Result<Vec<NodeNo>, NoMemory>
         ensures { IfOk result (λ ns. AreSilent self.now ns.items) }
     {
@@ -34,7 +34,7 @@ impl<M: Machine> Node<M> {
         Ok(silent)
     }
 
-    // They are asked again for their promise.
+    // Asks them again for their promise.
     fn ask_silent(&self, ballot: RealBallot, out: &mut Outbox) -> Result<(), NoMemory>
         ensures { OnOk result (AsksAgain self.now ballot out.old out.new) }
     {
@@ -46,7 +46,7 @@ impl<M: Machine> Node<M> {
         Ok(())
     }
 
-    // The same, by the term's ballot.
+    // The same, for the term's ballot.
     fn ask_again(&self, ballot: RealBallot, out: &mut Outbox) -> Result<(), NoMemory>
         requires { IsTermOf ballot self.now.leader }
         ensures exact { OnOk result (AsksAgain self.now ballot out.old out.new) }
@@ -57,7 +57,7 @@ impl<M: Machine> Node<M> {
         Ok(())
     }
 
-    // The members of the set that were not heard to accept, in rising order.
+    // The members of the set that have not been heard to accept, in rising order.
     fn unheard(&self, set: &Members, accepted: &[NodeNo]) -> Result<Vec<NodeNo>, NoMemory>
         ensures { IfOk result (λ ns. ns.items ≡ unheard set.now accepted.now) }
     {
@@ -66,7 +66,7 @@ impl<M: Machine> Node<M> {
         Ok(nodes)
     }
 
-    // What is open at the position is told again to the members of it that were not heard to accept it.
+    // Repeats what is open at the position to its members that have not been heard to accept it.
     fn offer(
         &self,
         ballot: RealBallot,
@@ -92,7 +92,7 @@ impl<M: Machine> Node<M> {
         Ok(())
     }
 
-    // The same, by the term's ballot.
+    // The same, for the term's ballot.
     fn offer_again(
         &self,
         ballot: RealBallot,
@@ -108,7 +108,7 @@ impl<M: Machine> Node<M> {
         Ok(())
     }
 
-    // What is open at the positions of the window is told again, in order.
+    // Repeats what is open at the positions of the window, in order.
     fn offer_all(&self, ballot: RealBallot, out: &mut Outbox) -> Result<(), NoMemory>
         requires { IsTermOf ballot self.now.leader }
         ensures exact { OnOk result (OffersAll self.now ballot out.old out.new) }
@@ -123,7 +123,7 @@ impl<M: Machine> Node<M> {
         Ok(())
     }
 
-    /// The other nodes of the window are told who leads.
+    /// Tells the other nodes of the window who leads.
     pub(crate) fn tell_lead(&self, ballot: RealBallot, out: &mut Outbox) -> Result<(), NoMemory>
         ensures exact { OnOk result (TellsLead self.now ballot out.old out.new) }
         ensures goes_on { OnOk result (GoesOn M.meaning (λ h. Unit {0}) self.now self.now out.old out.new) }

@@ -1,4 +1,4 @@
-// What comes of a message that is answered by one message.
+// The result of a message that gets one message in reply.
 ghost use Rattle.std.specs.Prelude.{◌≡◌, IfOk};
 ghost use Rattle.lk_node.specs.Replying.{SaysAlone};
 ghost use Rattle.lk_node.specs.Saying.{to_node};
@@ -19,7 +19,7 @@ impl<M: Machine> Node<M> {
         Ok(out)
     }
 
-    /// One message to a node by the port that the window gives it, and nothing else.
+    /// One message to a node at its port in the window, and nothing else.
     pub(crate) fn tell_alone(&self, node: NodeNo, message: NodeMessage) -> Result<Outbox, NoMemory>
         ensures { IfOk result (λ o. SaysAlone self.now (to_node self.now node) message o) }
     {

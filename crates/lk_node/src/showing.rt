@@ -1,4 +1,4 @@
-// What a node shows of itself to whoever runs it.
+// What a node shows of itself to its operator.
 ghost use Rattle.std.specs.Prelude.{◌≡◌, ◌↔◌, IsTrue, length};
 ghost use Rattle.std.specs.Option.{option_map};
 ghost use Rattle.lk_leader.specs.Proposing.{Leads};

@@ -1,4 +1,4 @@
-// What a node does with any input.
+// How a node handles any input.
 ghost use Rattle.std.specs.Prelude.{◌≡◌, true, false, IfOk, OnOk, OnErr, IsErr};
 ghost use Rattle.lk_wire.specs.Shown.{shown_node, shown_content};
 ghost use Rattle.lk_history.specs.Datagrams.{HasSent};
@@ -18,7 +18,7 @@ use lk_wire::{ContentRef, NodeMessageRef, view};
 
 impl<M: Machine> Node<M> {
     #[tactic(auto, using(crate::proofs::Serving::rests_here))]
-    // Does with a node's message what is to be done.
+    // Dispatches a node's message.
     fn hear_node(&mut self, from: NodeNo, message: &NodeMessageRef<'_>) -> Result<Outbox, NoMemory>
         ensures exact { IfOk result (λ o. HearsNode M.meaning M.IsText self.old from (shown_node message.now) self.new o) }
         ensures goes_on { IfOk result (λ o. GoesOn M.meaning (λ h. HasSent h.genesis h.sent from (shown_node message.now)) self.old self.new nothing o) }
@@ -38,7 +38,7 @@ impl<M: Machine> Node<M> {
     }
 
     #[tactic(auto, using(crate::proofs::Serving::rests_here))]
-    // Does with a message of the cluster what is to be done.
+    // Dispatches a message of the cluster.
     fn hear(&mut self, content: &ContentRef<'_>) -> Result<Outbox, NoMemory>
         ensures exact { IfOk result (λ o. Hears M.meaning M.IsText self.old (shown_content content.now) self.new o) }
         ensures goes_on { IfOk result (λ o. GoesOn M.meaning (λ h. WasHeard h (shown_content content.now)) self.old self.new nothing o) }
@@ -50,7 +50,7 @@ impl<M: Machine> Node<M> {
     }
 
     #[tactic(auto, using(crate::proofs::Serving::rests_here, crate::proofs::Serving::bytes_go_on))]
-    // Does with any bytes what is to be done.
+    // Handles any bytes.
     fn take_bytes(&mut self, bytes: &[u8]) -> Result<Outbox, NoMemory>
         ensures exact { IfOk result (λ o. TakesBytes M.meaning M.IsText self.old bytes.now self.new o) }
         ensures goes_on { IfOk result (λ o. GoesOn M.meaning (λ h. IsHeard h bytes.now) self.old self.new nothing o) }
@@ -65,7 +65,7 @@ impl<M: Machine> Node<M> {
         Ok(out)
     }
 
-    // Does with any bytes what is to be done, and then proposes what can be.
+    // Handles any bytes, and then proposes what it can.
     fn take_datagram(&mut self, bytes: &[u8]) -> Result<Outbox, NoMemory>
         ensures exact { IfOk result (λ o. TakesDatagram M.meaning M.IsText self.old bytes.now self.new o) }
         ensures done { OnOk result (NothingOpen self.new) }
@@ -87,11 +87,11 @@ impl<M: Machine> Node<M> {
         }
     }
 
-    /// Takes a tick or a datagram, and tells what is to be written, noted and sent, in that order. What it learns it also
-    /// executes, as far as that goes: the command of the next position is not kept after it, where it was not before. What is
-    /// open it has proposed.
+    /// Takes a tick or a datagram, and returns what to write, note and send, in that order. It also executes what it
+    /// learns, as far as possible: afterwards it does not keep the command of the next position, if it did not before.
+    /// It has proposed what is open.
     ///
-    /// It refuses with `Halted` where memory is refused; after that each later call answers `Halted`.
+    /// It fails with `Halted` if it runs out of memory; after that every call fails with `Halted`.
     pub fn step(&mut self, input: Input) -> Result<Outbox, Halted>
         ensures steps { IfOk result (λ o. Steps M.meaning M.IsText self.old input.entry self.new o) }
         ensures goes_on { IfOk result (λ o. GoesOn M.meaning (λ h. InputFits h input.entry) self.old self.new nothing o) }

@@ -1,4 +1,4 @@
-// What a node tells several nodes.
+// Messages of a node to several nodes.
 ghost use Rattle.std.specs.Prelude.{◌≡◌, IfOk, OnOk};
 ghost use Rattle.lk_wire.specs.Grammar.{IsMessage};
 ghost use Rattle.lk_step.specs.Outboxes.{with_letter};
@@ -51,7 +51,7 @@ impl<M: Machine> Node<M> {
         Ok(())
     }
 
-    /// Tells each of the nodes the same, in order.
+    /// Sends the same to each of the nodes, in order.
     pub(crate) fn tell_all(
         &self,
         nodes: &[NodeNo],

@@ -11,7 +11,7 @@ use lk_step::{Outbox, TICKS_A_PLACE};
 use lk_types::NoMemory;
 
 impl<M: Machine> Node<M> {
-    // The node's place from 0 among the members of the next position, or none where it is no member.
+    // The node's place from 0 among the members of the next position, or none if it is no member.
     fn place(&self) -> Option<usize>
         ensures { result ≡ place_of self.now }
     {
@@ -32,7 +32,7 @@ impl<M: Machine> Node<M> {
     }
 
     #[tactic(auto, using(crate::proofs::Serving::rests_here))]
-    // Begins a ballot where it has waited long enough.
+    // Begins a ballot if it has waited long enough.
     fn begin_where_due(&mut self) -> Result<Outbox, NoMemory>
         ensures exact { IfOk result (λ o. BeginsWhereDue self.old self.new o) }
         ensures goes_on { IfOk result (λ o. GoesOn M.meaning (λ h. Unit {0}) self.old self.new nothing o) }
@@ -48,7 +48,7 @@ impl<M: Machine> Node<M> {
     }
 
     #[tactic(auto, using(crate::proofs::BallotRules::ticked_goes_on))]
-    // A tick without a term is counted.
+    // Counts a tick without a term.
     fn wait(&mut self) -> Result<Outbox, NoMemory>
         ensures exact { IfOk result (λ o. BeginsWhereDue (ticked self.old) self.new o) }
         ensures goes_on { IfOk result (λ o. GoesOn M.meaning (λ h. Unit {0}) self.old self.new nothing o) }

@@ -74,7 +74,7 @@ probe_spelling p = padded (front 9 (probe p))
 abbrev pub report_spelling : Report → List ℕ
 report_spelling r = padded (front 10 (report r))
 
--- ---- what fits
+-- ---- validity
 
 abbrev pub IsByte : ℕ → Type 0
 IsByte n = n < 256

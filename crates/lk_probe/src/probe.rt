@@ -44,7 +44,7 @@ fn client_facts(client: Option<ClientNo>)
 }
 
 impl Probe {
-    /// Each part is in its range. It does nothing.
+    /// Each part is in its range. The function does nothing.
     pub fn facts(&self)
         ensures { IsProbe self.now }
     {
@@ -56,7 +56,7 @@ impl Probe {
 
     /// The probe that the bytes spell. It takes no memory.
     pub fn read(bytes: &[u8]) -> Option<Probe>
-        // What is read is spelled so.
+        // What is read is spelled there.
         ensures found { IfSome result (λ p. SpellsProbe p bytes.now) }
         // What is spelled so is read.
         ensures only { (p : ProbeValue) → SpellsProbe p bytes.now → IsSomeAnd result (λ r. r ≡ p) }
@@ -89,7 +89,7 @@ impl Probe {
 }
 
 impl Report {
-    /// Each part is in its range. It does nothing.
+    /// Each part is in its range. The function does nothing.
     pub fn facts(&self)
         ensures { IsReport self.now }
     {
@@ -102,7 +102,7 @@ impl Report {
 
     /// The report that the bytes spell. It takes no memory.
     pub fn read(bytes: &[u8]) -> Option<Report>
-        // What is read is spelled so.
+        // What is read is spelled there.
         ensures found { IfSome result (λ r. SpellsReport r bytes.now) }
         // What is spelled so is read.
         ensures only { (r : ReportValue) → SpellsReport r bytes.now → IsSomeAnd result (λ s. s ≡ r) }

@@ -4,7 +4,7 @@ ghost use Rattle.lk_probe.specs.Grammar.{IsIdentity, IsLeadership, IsProgress, I
 
 use lk_types::{Ballot, Executed, Members, NodeNo};
 
-/// The bytes of a genesis' digest.
+/// The length of a genesis' digest.
 pub const DIGEST: usize = 32;
 
 /// The bytes of a probe, and of a report.
@@ -28,7 +28,7 @@ pub const PROGRAM: Version = Version {
 /// Which genesis, program, store and table a node has.
 #[derive(Clone, Copy)]
 pub struct Identity {
-    /// The SHA-256 digest of its genesis.
+    /// the replica, by its parts, is that of the node in the cluster with this genesis, and holds this
     pub genesis: [u8; DIGEST],
     /// The version of its program.
     pub program: Version,
@@ -96,7 +96,7 @@ pub fn node_facts(node: Option<NodeNo>)
 }
 
 impl Identity {
-    /// Each part is in its range. It does nothing.
+    /// Each part is in its range. The function does nothing.
     pub fn facts(&self)
         ensures { IsIdentity self.now }
     {
@@ -112,7 +112,7 @@ impl Identity {
 }
 
 impl Leadership {
-    /// Each part is in its range. It does nothing.
+    /// Each part is in its range. The function does nothing.
     pub fn facts(&self)
         ensures { IsLeadership self.now }
     {
@@ -123,7 +123,7 @@ impl Leadership {
 }
 
 impl Progress {
-    /// Each part is in its range. It does nothing.
+    /// Each part is in its range. The function does nothing.
     pub fn facts(&self)
         ensures { IsProgress self.now }
     {
@@ -134,7 +134,7 @@ impl Progress {
 }
 
 impl Traffic {
-    /// Each part is in its range. It does nothing.
+    /// Each part is in its range. The function does nothing.
     pub fn facts(&self)
         ensures { IsTraffic self.now }
     {
@@ -146,7 +146,7 @@ impl Traffic {
 }
 
 impl Status {
-    /// Each part is in its range. It does nothing.
+    /// Each part is in its range. The function does nothing.
     pub fn facts(&self)
         ensures { IsStatus self.now }
     {

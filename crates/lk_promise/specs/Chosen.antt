@@ -30,11 +30,11 @@ pub record IsAcceptedBy (genesis : Genesis) (sent : List Datagram) (set : List M
 unfoldable pub IsChosen : Genesis → List Datagram → List Command → Type 0
 IsChosen genesis sent L = (i : ℕ) (v : Command) → at L i ≡ Some v → (ballot : Ballot) × IsAcceptedBy genesis sent (members genesis L i) i v ballot
 
--- the first list is a beginning of the second
+-- the first list is a prefix of the second
 abbrev pub Begins : List Command → List Command → Type 0
 Begins L K = (rest : List Command) × (K ≡ L ++ rest)
 
--- chosen lists agree: of two of them one begins the other. (The safety of consensus, for a whole list: Lamport, Paxos Made
--- Simple, 2001, section 2.1)
+-- chosen lists agree: of two of them one is a prefix of the other. (The safety of consensus, for a whole list:
+-- Lamport, Paxos Made Simple, 2001, section 2.1)
 abbrev pub Agree : Genesis → List Datagram → Type 0
 Agree genesis sent = (L K : List Command) → IsChosen genesis sent L → IsChosen genesis sent K → Begins L K ⊎ Begins K L

@@ -1,5 +1,5 @@
--- What the disks of nodes keep, and the bytes of a snapshot. Which bytes are which entries, which file is live, and what entries stand for, is the grammar
--- of files.
+-- What the disks of nodes keep, and the bytes of a snapshot. Which bytes are which entries, which file is live, and
+-- what entries stand for, is the grammar of files.
 use Rattle.std.specs.Prelude.{◌≡◌, ℕ, ◌*◌, ◌<◌, ◌≤◌, ◌⊎◌, Bool, Some, List, [], ◌∷◌, ◌++◌, length, take, count_by, Contains, IsTrue}
 use Rattle.std.specs.List.{flat_map}
 use Rattle.lk_types.specs.Ballots.{IsBelow, IsAtMost}
@@ -32,7 +32,8 @@ use Rattle.lk_promise.specs.Plain.{at, members, Kept, IsKeptOf}
 
 -- ---- the bytes of a snapshot
 
--- its bytes, by the fields that datagrams have too: numbers of one byte, two, four and eight, the greater bytes first
+-- its bytes, in the fields that datagrams have too: numbers of one byte, two, four and eight, most significant byte
+-- first
 abbrev pub members_text : List Member → List ℕ
 members_text set = field.one (length set) ++ flat_map field.member set
 
@@ -56,7 +57,7 @@ abbrev pub device_in : Life ReplicaValue → Memory
 device_in (Up replica) = device_of replica.store
 device_in (Down device) = device
 
--- a stop leaves of a disk all that was synced, and of the rest a beginning
+-- a stop leaves of a disk everything that was synced, and a prefix of the rest
 abbrev pub MayRemain : Disk → List ℕ → Type 0
 MayRemain disk left = (kept : ℕ) × (left ≡ disk.synced ++ take kept disk.unsynced)
 
@@ -64,8 +65,9 @@ MayRemain disk left = (kept : ℕ) × (left ≡ disk.synced ++ take kept disk.un
 abbrev pub MayRemainOf : Life ReplicaValue → (Side → List ℕ) → Type 0
 MayRemainOf life image = MayRemain (device_in life).a (image A) × MayRemain (device_in life).b (image B)
 
--- what a node remembers by these bytes: what the entries of its live file stand for; or, where no file was begun, no more than a snapshot of
--- no commands. (Which bytes are which entries, which file is live, and what entries stand for, is the grammar of files)
+-- what a node remembers from these bytes: what the entries of its live file stand for; or, if no file was begun, no
+-- more than a snapshot of no commands. (Which bytes are which entries, which file is live, and what entries stand for,
+-- is the grammar of files)
 pub record Remembers (genesis : Genesis) (node : ℕ) (image : Side → List ℕ) (memory : StandingValue) : Type 0 where
   pub entries : List Stored
   pub stand_for : StandsFor entries memory
@@ -73,7 +75,7 @@ pub record Remembers (genesis : Genesis) (node : ℕ) (image : Side → List ℕ
   pub live : IsLive image entries
       ⊎ (IsEmpty image × ((blank : List ℕ) × IsSnapshot genesis [] blank × (entries ≡ Base (first_base (record { node = node; cluster = genesis.cluster; alpha = genesis.alpha; members = genesis.members }) blank) ∷ [])))
 
--- each image that a stop may leave of the node's disks is remembered so
+-- the node remembers this from each image that a stop may leave of its disks
 abbrev pub EachImage : Genesis → Seat ReplicaValue → (StandingValue → Type 0) → Type 0
 EachImage genesis s Is = (image : Side → List ℕ) → MayRemainOf s.life image → (memory : StandingValue) × Remembers genesis s.number image memory × Is memory
 
@@ -81,7 +83,7 @@ EachImage genesis s Is = (image : Side → List ℕ) → MayRemainOf s.life imag
 abbrev pub HasSnapshot : Genesis → List Datagram → StandingValue → Type 0
 HasSnapshot genesis sent memory = (L : List Command) × IsChosen genesis sent L × (length L ≡ memory.position) × IsSnapshot genesis L memory.snapshot
 
--- so with each node, whatever a stop may leave of it
+-- the same of each node, whatever a stop may leave of it
 abbrev pub HaveSnapshots : Genesis → List (Seat ReplicaValue) → List Datagram → Type 0
 HaveSnapshots genesis seats sent = (s : Seat ReplicaValue) → Contains seats s → EachImage genesis s (HasSnapshot genesis sent)
 
@@ -89,8 +91,8 @@ HaveSnapshots genesis seats sent = (s : Seat ReplicaValue) → Contains seats s 
 abbrev pub HasVote : List Vote → Vote → Type 0
 HasVote votes x = (y : Vote) × Contains votes y × (y.position ≡ x.position) × (IsBelow x.ballot y.ballot ⊎ ((y.ballot ≡ x.ballot) × (y.command ≡ x.command)))
 
--- what was promised is remembered, and so is each vote, unless a snapshot has taken its place. (Lamport, Paxos Made Simple, 2001, section 2.2:
--- an acceptor must remember this even if it fails and then restarts)
+-- what was promised is remembered, and so is each vote, unless a snapshot has replaced it. (Lamport, Paxos Made
+-- Simple, 2001, section 2.2: an acceptor must remember this even if it fails and then restarts)
 abbrev pub IsCovered : StandingValue → NodeMessage → Type 0
 IsCovered memory (message.Prepare ballot first) = IsAtMost ballot memory.promised
 IsCovered memory (message.Promise p) = IsAtMost p.ballot memory.promised
@@ -98,11 +100,12 @@ IsCovered memory (message.Accept x) = IsAtMost x.ballot memory.promised
 IsCovered memory (message.Accepted x) = IsAtMost x.ballot memory.promised × ((x.position ≤ memory.position) ⊎ HasVote memory.votes x)
 IsCovered memory _ = Unit {0}
 
--- all that a node has sent is covered, whatever a stop may leave of it
+-- everything that a node has sent is covered, whatever a stop may leave of it
 abbrev pub AreCovered : Genesis → List (Seat ReplicaValue) → List Datagram → Type 0
 AreCovered genesis seats sent = (s : Seat ReplicaValue) → Contains seats s → EachImage genesis s (λ memory. (m : NodeMessage) → Says genesis sent s.number m → IsCovered memory m)
 
--- the command of position i is remembered: by a snapshot of a chosen list that reaches it and agrees with this one, or by a vote
+-- the command of position i is remembered: by a snapshot of a chosen list that reaches it and agrees with this one, or
+-- by a vote
 abbrev pub IsRemembered : Genesis → List Datagram → List Command → ℕ → Command → StandingValue → Type 0
 IsRemembered genesis sent L i v memory =
     ((i ≤ memory.position)
@@ -116,16 +119,16 @@ pub record IsKeptBy (genesis : Genesis) (seats : List (Seat ReplicaValue)) (sent
   pub each : (m : Member) → Contains (members genesis L i) m → IsTrue (among m)
       → (s : Seat ReplicaValue) × Contains seats s × (s.number ≡ m.node) × EachImage genesis s (IsRemembered genesis sent L i v)
 
--- so each command of a chosen list is kept
+-- so it is for each command of a chosen list
 abbrev pub AreKept : Genesis → List (Seat ReplicaValue) → List Datagram → Type 0
 AreKept genesis seats sent = (L : List Command) (i : ℕ) (v : Command) → IsChosen genesis sent L → at L i ≡ Some v → IsKeptBy genesis seats sent L i v
 
 -- ---- how long the files of a node are
 
--- 262,144 bytes at most, synced or not
+-- at most 262,144 bytes, synced or not
 abbrev pub IsShort : Disk → Type 0
 IsShort disk = length (disk.synced ++ disk.unsynced) ≤ 262144
 
--- so with both files of each node, up or down
+-- both files of each node, up or down
 abbrev pub AreShort : List (Seat ReplicaValue) → Type 0
 AreShort seats = (s : Seat ReplicaValue) → Contains seats s → IsShort (device_in s.life).a × IsShort (device_in s.life).b

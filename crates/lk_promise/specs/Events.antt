@@ -1,4 +1,5 @@
--- Events: how a world begins, what each event does to it of which the promise speaks, when one is refused, and what a run of them does.
+-- Events: how a world begins, what each event does to it of which the promise speaks, when one is refused, and what a
+-- run of them does.
 --
 -- As on the page of the promise, all is said in words of its own, but for the contract of a replica, which is named.
 use Rattle.std.specs.Prelude.{◌≡◌, ℕ, ◌+◌, ◌<◌, ◌≤◌, ◌⊎◌, Option, Some, None, Ok, List, [], ◌∷◌, ◌++◌, length, take, set, slice_get, Contains}
@@ -43,7 +44,7 @@ nothing genesis = record { genesis = genesis; seats = []; sent = []; trace = [];
 
 -- ---- what an event asks, and which node it is for
 
--- the request that a line of the trace tells of
+-- the request in a line of the trace
 abbrev pub asked_of : Note → Option Asking
 asked_of (note.Asked r) = Some r
 asked_of (note.Counted node i set v) = None
@@ -81,7 +82,7 @@ IsFor sent (event.Stop n x y) number = number ≡ n
 IsFor sent (event.FailAt n count) number = number ≡ n
 IsFor sent (event.Arm n count bytes) number = number ≡ n
 
--- of all nodes this one alone may be another now, or it was added
+-- only this node may have changed, or it was added
 abbrev pub ChangesOnly : ℕ → List (Seat ReplicaValue) → List (Seat ReplicaValue) → Type 0
 ChangesOnly number old new =
     (new ≡ old)
@@ -93,7 +94,7 @@ abbrev pub FallsDown : ℕ → List (Seat ReplicaValue) → List (Seat ReplicaVa
 FallsDown number old new =
     (place : ℕ) × (s : Seat ReplicaValue) × (device : Memory) × (slice_get old place ≡ Some s) × (s.number ≡ number) × (new ≡ set old place (record { number = number; life = Down device }))
 
--- what a client asks joins the datagrams, alone, bound for the node, and changes no node
+-- what a client asks joins the datagrams, alone, addressed to the node, and changes no node
 abbrev pub SendsAsAsked : Scene ReplicaValue → Event → Scene ReplicaValue → Type 0
 SendsAsAsked old (event.Client n r) new =
     (d : Datagram) × (d.from ≡ party.Client r.client) × (d.to ≡ party.Node n) × Spells (record { cluster = old.genesis.cluster; content = content.Request r }) d.bytes
@@ -104,11 +105,11 @@ SendsAsAsked old _ new = Unit {0}
 abbrev pub Grows : Scene ReplicaValue → Scene ReplicaValue → Type 0
 Grows old new = ((more : List Datagram) × (new.sent ≡ old.sent ++ more)) × ((more : List Note) × (new.trace ≡ old.trace ++ more)) × (new.genesis ≡ old.genesis)
 
--- a stop leaves of a disk all that was synced and up to so many of the other bytes, and all of this is synced
+-- a stop leaves of a disk everything that was synced and up to this many of the other bytes, and all of that is synced
 abbrev pub remaining : ℕ → Disk → Disk
 remaining most disk = record { synced = disk.synced ++ take most disk.unsynced; unsynced = [] }
 
--- a node was up and is down, with so many bytes of its disk A and of its disk B; all other nodes are as they were
+-- a node was up and is down, with this many bytes of its disk A and of its disk B; all other nodes are unchanged
 pub record IsStopped (old new : Scene ReplicaValue) (number x y : ℕ) : Type 0 where
   pub place : ℕ
   pub replica : ReplicaValue
@@ -216,7 +217,8 @@ abbrev pub ended_node : End → ℕ
 ended_node (Fault n number) = n
 ended_node (Stopped n) = n
 
--- a fault that ends a node is one of its device (7), its files (9), or that it has failed before or has no generation left (11)
+-- a fault that ends a node is one of its device (7), its files (9), or that it has failed before or has no generation
+-- left (11)
 abbrev pub IsEnding : End → Type 0
 IsEnding (Fault n number) = (number ≡ 7) ⊎ (number ≡ 9) ⊎ (number ≡ 11)
 IsEnding (Stopped n) = Unit {0}
@@ -225,8 +227,8 @@ IsEnding (Stopped n) = Unit {0}
 abbrev pub LeavesDown : Scene ReplicaValue → Event → Scene ReplicaValue → Type 0
 LeavesDown old e new = (x : End) → new.ended ≡ Some x → IsFor old.sent e (ended_node x) × IsDown new.seats (ended_node x) × IsEnding x
 
--- a replica took a tick, or these bytes: it did what its contract says, and what it sent was sent. (The contracts, `ComesTo` and `ComesToAll`, are named
--- here and not restated)
+-- a replica took a tick, or these bytes: it did what its contract says, and what it sent was sent. (The contracts,
+-- `ComesTo` and `ComesToAll`, are named here and not restated)
 pub record IsTaken (old : Scene ReplicaValue) (n : ℕ) (given : Option (List ℕ)) (new : Scene ReplicaValue) : Type 0 where
   pub before : ReplicaValue
   pub after : ReplicaValue
@@ -276,7 +278,8 @@ pub record IsDone (old : Scene ReplicaValue) (e : Event) (new : Scene ReplicaVal
   pub takes : TakesAsTold old e new
   pub grows : Grows old new
 
--- a node that was told to compact, and that nothing ended, remembers a snapshot of all that it has executed, whatever a stop may leave of it
+-- a node that has compacted, and that nothing has ended, remembers a snapshot of everything that it has executed,
+-- whatever a stop may leave of it
 abbrev pub Compacts : Event → Scene ReplicaValue → Type 0
 Compacts (event.Compact n) new =
     new.ended ≡ None
@@ -284,7 +287,8 @@ Compacts (event.Compact n) new =
     × EachImage new.genesis s (λ memory. (memory.position ≡ (kept_by replica).executed) × HasSnapshot new.genesis new.sent memory)
 Compacts _ new = Unit {0}
 
--- an event that is refused has a cause and changes nothing. When out of memory it notes and sends nothing, and the node that it is for may have gone down
+-- an event that is refused has a cause and changes nothing. When out of memory it notes and sends nothing, and the
+-- node that it is for may have gone down
 pub record IsRefused (old : Scene ReplicaValue) (e : Event) (refused : Refused) (new : Scene ReplicaValue) : Type 0 where
   pub cause : HasCause old e refused
   pub unchanged : (refused ≡ WorldMemory → ⊥) → new ≡ old
@@ -298,12 +302,12 @@ abbrev pub AreDone : List Event → Scene ReplicaValue → Scene ReplicaValue �
 AreDone [] old new = new ≡ old
 AreDone (e ∷ events) old new = (mid : Scene ReplicaValue) × IsDone old e mid × AreDone events mid new
 
--- all of them were, or the next one is refused
+-- all of them were, or the next one is rejected
 abbrev pub EndsSo : List Event → ℕ → Option Refused → Scene ReplicaValue → Scene ReplicaValue → Type 0
 EndsSo events done None last new = (done ≡ length events) × (new ≡ last)
 EndsSo events done (Some refused) last new = (e : Event) × (slice_get events done ≡ Some e) × IsRefused last e refused new
 
--- a run does so many of the events in order, and ends so
+-- a run does this many of the events in order, and ends like this
 pub record IsRun (old : Scene ReplicaValue) (events : List Event) (how : RunEnd) (new : Scene ReplicaValue) : Type 0 where
   pub last : Scene ReplicaValue
   pub done : AreDone (take how.done events) old last

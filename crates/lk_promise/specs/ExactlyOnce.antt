@@ -1,7 +1,8 @@
--- Exactly once, for a client that follows the rule: one number an operation, rising, and the same operation again until it is answered.
+-- Exactly once, for a client that follows the rule: one number an operation, rising, and the same operation again
+-- until it is answered.
 --
--- That a call which returned was carried out exactly once: Birrell, Nelson, Implementing remote procedure calls, 1984. By numbers, on a replicated list:
--- Ongaro, Consensus: bridging theory and practice, 2014, section 6.3.
+-- That a call which returned was carried out exactly once: Birrell, Nelson, Implementing remote procedure calls, 1984.
+-- By numbers, on a replicated list: Ongaro, Consensus: bridging theory and practice, 2014, section 6.3.
 use Rattle.std.specs.Prelude.{◌≡◌, ℕ, ◌-◌, ◌<◌, List, ◌∷◌, ◌++◌, take, Contains}
 use Rattle.lk_types.specs.declared.answer.Answer.{Answer}
 use Rattle.lk_types.specs.declared.command.Command.{Command}

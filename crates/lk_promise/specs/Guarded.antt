@@ -1,5 +1,5 @@
--- A resource that a name guards: whoever writes to it shows the fence that it was granted, and the resource accepts a write only at or above the
--- highest fence that it has seen.
+-- A resource that a name guards: whoever writes to it shows the fence of its grant, and the resource accepts a write
+-- only at or above the highest fence that it has seen.
 use Rattle.std.specs.Prelude.{◌≡◌, ℕ, ◌-◌, ◌≤◌, nat_le, List, [], ◌∷◌, ◌++◌, take, Some, Contains, if◌then◌else◌}
 use Rattle.lk_types.specs.declared.answer.Answer.TheVariants.{Granted}
 use Rattle.lk_types.specs.declared.command.Command.{Command}
@@ -14,19 +14,19 @@ use Rattle.lk_step.specs.declared.note.Note.TheVariants as note
 use Rattle.lk_promise.specs.Plain.{after, serve, TakesEffectAt}
 use Rattle.lk_promise.specs.Promise.{IsChosen}
 
--- a write, with the grant under which it is made: whose request that answered, of which number, and with which fence
+-- a write, with the grant under which it is made: the client and number of the request that was granted, and the fence
 pub record Write : Type 0 where
   pub client : ℕ
   pub number : ℕ
   pub fence : ℕ
 
--- the writes that are accepted of those that come, where the highest fence seen so far is this
+-- the writes that the resource accepts of these, given the highest fence that it has seen so far
 abbrev pub accepted : ℕ → List Write → List Write
 accepted highest [] = []
 accepted highest (w ∷ writes) = if nat_le highest w.fence then w ∷ accepted w.fence writes else accepted highest writes
 
--- the write is made under the grant at this position of the list: there its client's request to acquire the name takes effect, and is granted the
--- write's fence
+-- the write is made under the grant at this position of the list: there its client's request to acquire the name takes
+-- effect, and is granted the write's fence
 pub record IsUnder (genesis : Genesis) (L : List Command) (name : List ℕ) (w : Write) (i : ℕ) : Type 0 where
   pub request : Asking
   pub takes : TakesEffectAt genesis L i request
@@ -37,14 +37,14 @@ pub record IsUnder (genesis : Genesis) (L : List Command) (name : List ℕ) (w :
   pub acquires : body_of body ≡ Some (Acquire name)
   pub granted : (serve request.client request.op (after genesis (take (i - 1) L))).0 ≡ Granted w.fence
 
--- whatever comes to the resource, of a list that grants
+-- whatever writes come to the resource, and whatever list grants them
 pub record IsGuarded (genesis : Genesis) (L : List Command) (name : List ℕ) (writes : List Write) : Type 0 where
   -- what was accepted at one fence was written under one grant
   pub one_grant : (v w : Write) (i j : ℕ) → IsUnder genesis L name v i → IsUnder genesis L name w j → v.fence ≡ w.fence → i ≡ j
-  -- once a write under a later grant was accepted, none under an earlier one is
+  -- after a write under a later grant was accepted, none under an earlier one is
   pub in_order : (front back : List Write) (v w : Write) (i j : ℕ) → accepted 0 writes ≡ front ++ v ∷ back → Contains back w → IsUnder genesis L name v i → IsUnder genesis L name w j → i ≤ j
 
--- each grant that was told stands in a chosen list
+-- each grant that was told is in a chosen list
 abbrev pub AreListed : Genesis → List Datagram → List Note → Type 0
 AreListed genesis sent trace =
     (L : List Command) × IsChosen genesis sent L

@@ -1,5 +1,6 @@
--- What clients see of a world, in the standard form: linearizability (Herlihy, Wing, Linearizability: a correctness condition for concurrent
--- objects, 1990). A request is invoked where it is first asked, and its response is its answer.
+-- What clients see of a world, in the standard form: linearizability (Herlihy, Wing, Linearizability: a correctness
+-- condition for concurrent objects, 1990). A request is invoked when it is first asked, and its response is its
+-- answer.
 use Rattle.std.specs.Prelude.{◌≡◌, ℕ, Bool, List, [], ◌∷◌, ◌++◌, Contains}
 use Rattle.lk_types.specs.declared.answer.Answer.{Answer}
 use Rattle.lk_types.specs.declared.command.Op.{Op}
@@ -10,7 +11,8 @@ use Rattle.lk_step.specs.declared.note.Note.{Note}
 use Rattle.lk_step.specs.declared.note.Note.TheVariants as note
 use Rattle.lk_promise.specs.Plain.{State, Locks, begin, serve}
 
--- the object by itself: the members, the greatest number that was ever one, and the lock table. It knows no position and no numbers of clients
+-- the object alone: the members, the greatest number that was ever a member's, and the lock table. It knows no
+-- positions and no clients' numbers
 pub record Object : Type 0 where
   pub members : List Member
   pub greatest : ℕ
@@ -23,15 +25,15 @@ object s = record { members = s.members; greatest = s.greatest; raised = s.raise
 abbrev pub state_of : Object → State
 state_of o = record { position = 0; least = λ client. 0; members = o.members; greatest = o.greatest; changed = 0; raised = o.raised; locks = o.locks }
 
--- an operation of a client on it: what that is answered, and the object after it
+-- an operation of a client on it: its answer, and the object after it
 abbrev pub alone : ℕ → Op → Object → Answer × Object
 alone client op o = ((serve client op (state_of o)).0, object (serve client op (state_of o)).1)
 
--- a sequential history: operations one after another, each with what it was answered
+-- a sequential history: operations one after another, each with its answer
 abbrev pub Sequence : Type 0
 Sequence = List (Asking × Answer)
 
--- it is legal: each is answered as the object answers it, one after another
+-- it is legal: each answer is the object's, one after another
 abbrev pub IsLegal : Object → Sequence → Type 0
 IsLegal o [] = Unit {0}
 IsLegal o (x ∷ history) = ((alone x.0.client x.0.op o).0 ≡ x.1) × IsLegal (alone x.0.client x.0.op o).1 history
@@ -39,14 +41,14 @@ IsLegal o (x ∷ history) = ((alone x.0.client x.0.op o).0 ≡ x.1) × IsLegal (
 -- a legal sequential history of a trace
 pub record Linearizes (genesis : Genesis) (trace : List Note) (history : Sequence) : Type 0 where
   pub legal : IsLegal (object (begin genesis)) history
-  -- each request that was answered stands in it with that answer; of those that wait any may
+  -- it has each request that was answered, with that answer; of those that wait it may have any
   pub completes : (node client number : ℕ) (answer : Answer) → Contains trace (note.Answered node client number answer)
       → (r : Asking) × (r.client ≡ client) × (r.number ≡ number) × Contains history (r, answer)
   -- and nothing that was not asked
   pub invoked : (r : Asking) (answer : Answer) → Contains history (r, answer) → Contains trace (note.Asked r)
-  -- a number of a client stands in it once
+  -- it has a number of a client at most once
   pub once : (front back : Sequence) (r q : Asking) (a b : Answer) → history ≡ front ++ (r, a) ∷ back → Contains front (q, b) → q.client ≡ r.client → q.number ≡ r.number → ⊥
-  -- real time: what was answered before a request was first asked stands in front of it
+  -- real time: what was answered before a request was first asked precedes it
   pub in_time : (before later : List Note) → trace ≡ before ++ later
       → (node client number : ℕ) (answer : Answer) → Contains before (note.Answered node client number answer)
       → (r : Asking) → (Contains before (note.Asked r) → ⊥)

@@ -1,5 +1,5 @@
--- What a list of commands leaves: the plain lock table and the members, which requests take effect, and what they are answered; and what a
--- node keeps of a list that it has executed.
+-- What a list of commands leaves: the plain lock table and the members, which requests take effect, and their answers;
+-- and what a node keeps of a list that it has executed.
 use Rattle.std.specs.Prelude.{◌≡◌, ℕ, zero, suc, ◌+◌, ◌-◌, ◌<◌, ◌≤◌, max, Bool, true, false, not, ◌&&◌, ◌==◌, nat_lt, nat_le, if◌then◌else◌, Option, Some, None, List, [], ◌∷◌, ◌++◌, length, take, fold, filter, slice_get, Contains, IsTrue}
 use Rattle.std.specs.List.{list_any}
 use Rattle.std.specs.Ordering.{nat_cmp}
@@ -26,17 +26,18 @@ use Rattle.lk_locks.specs.declared.slot.Slot.{Slot as Lock}
 
 -- ---- the plain lock table
 
--- each name that was ever given, with its last fence and who holds it: nobody, one client alone, or clients together, 1 to 8 of
--- them in rising order
+-- each name that was ever given, with its last fence and its holders: nobody, one client alone, or one to eight
+-- clients together, in rising order
 abbrev pub Locks : Type 0
 Locks = map.FinMap (slice_cmp nat_cmp) Lock
 
--- the name is held so, at this fence
+-- the name is held like this, at this fence
 abbrev pub hold : List ℕ → ℕ → Holders → Locks → Locks
 hold name fence holders locks = map.insert locks name (record { fence = fence; holders = holders })
 
--- a free name is given at a fence one above the last, while there are fences up to 2^48. (A number that rises with each grant,
--- which a holder shows to whoever must not serve an earlier one: "sequencers" in Burrows, The Chubby lock service, 2006.)
+-- a free name is given at the fence after its last one, while there are fences up to 2^48. (A number that rises with
+-- each grant, which a holder shows to whoever must not serve an earlier one: "sequencers" in Burrows, The Chubby lock
+-- service, 2006.)
 abbrev pub give_again : (ℕ → Answer) → Holders → List ℕ → ℕ → Locks → Answer × Locks
 give_again given holders name last locks =
     if nat_lt last 281474976710656 then (given (last + 1), hold name (last + 1) holders locks) else (Spent, locks)
@@ -51,7 +52,7 @@ abbrev pub first : List ℕ → ℕ
 first [] = 0
 first (c ∷ cs) = c
 
--- Acquire: one client alone is given a free name or a new one
+-- Acquire: gives a free name or a new one to one client alone
 abbrev pub acquire_known : ℕ → List ℕ → ℕ → Holders → Locks → Answer × Locks
 acquire_known client name last Nobody locks = give_again Granted (Alone client) name last locks
 acquire_known client name last (Alone holder) locks = (Busy holder last, locks)
@@ -70,8 +71,8 @@ abbrev pub and_one : ℕ → List ℕ → List ℕ
 and_one client [] = client ∷ []
 and_one client (c ∷ cs) = if nat_lt c client then c ∷ and_one client cs else client ∷ c ∷ cs
 
--- Share: a client is given a free name or a new one as Acquire gives it, but others may join it; and it joins those who hold the
--- name together, at their fence, while they are fewer than eight
+-- Share: gives a free name or a new one to a client as Acquire does, but others may join; or the client joins those
+-- who hold the name together, at their fence, while they are fewer than eight
 abbrev pub share_known : ℕ → List ℕ → ℕ → Holders → Locks → Answer × Locks
 share_known client name last Nobody locks = give_again Shared (Together (client ∷ [])) name last locks
 share_known client name last (Alone holder) locks = (Busy holder last, locks)
@@ -94,18 +95,18 @@ is_held_by client Nobody = false
 is_held_by client (Alone holder) = holder == client
 is_held_by client (Together clients) = is_one_of client clients
 
--- nobody, where none is left
+-- nobody, if none is left
 abbrev pub those : List ℕ → Holders
 those [] = Nobody
 those (c ∷ cs) = Together (c ∷ cs)
 
--- who holds a name once one of its holders has left
+-- who holds a name after one of its holders has left
 abbrev pub without : ℕ → Holders → Holders
 without client Nobody = Nobody
 without client (Alone holder) = Nobody
 without client (Together clients) = those (filter (λ c. not (c == client)) clients)
 
--- Release: who holds the name at this fence holds it no longer. The fence is kept, so that it is given once
+-- Release: whoever holds the name at this fence holds it no longer. The fence is kept, so that it is given once
 abbrev pub release : ℕ → List ℕ → ℕ → Option Lock → Locks → Answer × Locks
 release client name fence None locks = (NotHeld, locks)
 release client name fence (Some lock) locks =
@@ -122,7 +123,7 @@ abbrev pub break_lock : List ℕ → ℕ → Option Lock → Locks → Answer ×
 break_lock name fence lock locks =
     if is_held_at fence lock then (Broken, hold name fence Nobody locks) else (Stale, locks)
 
--- Ask: who holds the name at which fence, or what its last fence was
+-- Ask: who holds the name at which fence, or its last fence
 abbrev pub told_of : ℕ → Holders → Answer
 told_of last Nobody = Free last
 told_of last (Alone holder) = Held holder last
@@ -136,7 +137,7 @@ asks (Some lock) = told_of lock.fence lock.holders
 abbrev pub checks : ℕ → Option Lock → Answer
 checks fence lock = if is_held_at fence lock then Valid else Stale
 
--- what a client is answered, and the locks after that. Only a table that was raised knows Share and Break
+-- the answer to a client, and the locks after that. Only a raised table knows Share and Break
 abbrev pub use_locks : ℕ → Bool → Option Body → Locks → Answer × Locks
 use_locks client raised None locks = (Bad, locks)
 use_locks client raised (Some (Acquire name)) locks = acquire client name (map.get locks name) locks
@@ -146,14 +147,15 @@ use_locks client raised (Some (Check name fence)) locks = (checks fence (map.get
 use_locks client raised (Some (Share name)) locks = if raised then share client name (map.get locks name) locks else (Bad, locks)
 use_locks client raised (Some (Break name fence)) locks = if raised then break_lock name fence (map.get locks name) locks else (Bad, locks)
 
--- ---- what stands after a list of commands
+-- ---- the state after a list of commands
 
 pub record State : Type 0 where
   -- how many commands there were
   pub position : ℕ
   -- for each client the least number that its next request needs to take effect
   pub least : ℕ → ℕ
-  -- the members; the greatest number that was ever one; and the position of the last join or leave that was granted, 0 if none
+  -- the members; the greatest number that was ever a member's; and the position of the last join or leave that was
+  -- granted, 0 if none
   pub members : List Member
   pub greatest : ℕ
   pub changed : ℕ
@@ -161,7 +163,7 @@ pub record State : Type 0 where
   pub raised : Bool
   pub locks : Locks
 
--- of these the lock table
+-- the lock table of this state
 abbrev pub table : State → TableValue
 table s = record { raised = s.raised; names = s.locks }
 
@@ -181,14 +183,14 @@ begin genesis = record {
   locks = map.empty;
 }
 
--- a node whose number was never a member becomes one, while there are fewer than seven
+-- a node whose number was never a member's becomes a member, while there are fewer than seven
 abbrev pub join : ℕ → ℕ → State → Answer × State
 join node port s =
     if nat_le node s.greatest then (Used, s)
     else if nat_le 7 (length s.members) then (Full, s)
     else (Joined, record s { members = s.members ++ record { node = node; port = port } ∷ []; greatest = node; changed = s.position + 1 })
 
--- a member is one no longer, unless it is the only one
+-- a member leaves, unless it is the only one
 abbrev pub leave : ℕ → State → Answer × State
 leave node s =
     if list_any (λ m. m.node == node) s.members then
@@ -196,18 +198,18 @@ leave node s =
     else (Left, record s { members = filter (λ m. not (m.node == node)) s.members; changed = s.position + 1 }))
     else (NotMember, s)
 
--- the lock table is raised, once for all
+-- the lock table is raised, once and for all
 abbrev pub raise : State → Answer × State
 raise s = if s.raised then (AlreadyRaised, s) else (Raised, record s { raised = true })
 
--- what a request is answered, and the state after that
+-- the answer to a request, and the state after that
 abbrev pub serve : ℕ → Op → State → Answer × State
 serve client (Table body) s = ((use_locks client s.raised (body_of body) s.locks).0, record s { locks = (use_locks client s.raised (body_of body) s.locks).1 })
 serve client (Join node port) s = join node port s
 serve client (Leave node) s = leave node s
 serve client Raise s = raise s
 
--- a request takes effect where its number is above all that its client has used: so a number takes effect once
+-- a request takes effect if its number is above all that its client has used: so a number takes effect once
 abbrev pub takes_effect : State → Asking → Bool
 takes_effect s r = nat_le (s.least r.client) r.number
 
@@ -222,12 +224,12 @@ effect s (Request r) = if takes_effect s r then used r (serve r.client r.op s).1
 abbrev pub after_one : State → Command → State
 after_one s c = record (effect s c) { position = s.position + 1 }
 
--- the state that a list leaves. (A state machine that runs the chosen commands in order: Lamport, Paxos Made Simple, 2001,
--- section 3)
+-- the state that a list leaves. (A state machine that executes the chosen commands in order: Lamport, Paxos Made
+-- Simple, 2001, section 3)
 unfoldable pub after : Genesis → List Command → State
 after genesis L = fold after_one (begin genesis) L
 
--- the request stands in the list, takes effect there, and is answered so by what the entries before it leave
+-- the request is in the list, takes effect there, and gets this answer from what the entries before it leave
 pub record IsAnswered (genesis : Genesis) (L : List Command) (client number : ℕ) (answer : Answer) : Type 0 where
   pub before : List Command
   pub request : Asking
@@ -247,11 +249,11 @@ at [] (suc i) = None
 at (c ∷ L) (suc zero) = Some c
 at (c ∷ L) (suc (suc i)) = at L (suc i)
 
--- the request stands at position i, and takes effect there
+-- the request is at position i, and takes effect there
 abbrev pub TakesEffectAt : Genesis → List Command → ℕ → Asking → Type 0
 TakesEffectAt genesis L i r = (at L i ≡ Some (Request r)) × IsTrue (takes_effect (after genesis (take (i - 1) L)) r)
 
--- each number of a client takes effect at one position at most
+-- each number of a client takes effect at most at one position
 abbrev pub TakesEffectOnce : Genesis → List Command → Type 0
 TakesEffectOnce genesis L =
     (i j : ℕ) (q r : Asking) → TakesEffectAt genesis L i q → TakesEffectAt genesis L j r → q.client ≡ r.client → q.number ≡ r.number → i ≡ j
@@ -278,8 +280,9 @@ HasFixedMembers genesis L = list_any asks_change L ≡ false → (i : ℕ) → m
 
 -- ---- what is kept of a list
 
--- what a node keeps of the commands that it has executed: how many there were, the members of the next positions, the greatest number that
--- was ever a member, the position of the last change, of each client the last request with its answer, and the text of the lock table
+-- what a node keeps of the commands that it has executed: how many there were, the members of the next positions, the
+-- greatest number that was ever a member's, the position of the last change, for each client its last request with the
+-- answer, and the text of the lock table
 pub record Kept : Type 0 where
   pub executed : ℕ
   pub coming : List (List Member)
@@ -288,7 +291,7 @@ pub record Kept : Type 0 where
   pub sessions : List Session
   pub locks : List ℕ
 
--- it is kept of this list
+-- this is kept of this list
 pub record IsKeptOf (genesis : Genesis) (L : List Command) (kept : Kept) : Type 0 where
   pub executed : kept.executed ≡ length L
   -- the members of the next alpha positions
@@ -296,7 +299,7 @@ pub record IsKeptOf (genesis : Genesis) (L : List Command) (kept : Kept) : Type 
   pub coming : (k : ℕ) → k < genesis.alpha → slice_get kept.coming k ≡ Some (members genesis L (length L + 1 + k))
   pub greatest : kept.greatest ≡ (after genesis L).greatest
   pub changed : kept.changed ≡ (after genesis L).changed
-  -- of each client that has asked, in rising order, its request of greatest number, and what that was answered
+  -- for each client that has asked, in rising order, its request of greatest number, and the answer to that
   pub answers : (s : Session) → Contains kept.sessions s → IsAnswered genesis L s.client s.number s.answer
   pub last : (s : Session) → Contains kept.sessions s → (r : Asking) → Contains L (Request r) → r.client ≡ s.client → r.number ≤ s.number
   pub clients : (r : Asking) → Contains L (Request r) → (s : Session) × Contains kept.sessions s × (s.client ≡ r.client)

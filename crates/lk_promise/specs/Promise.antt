@@ -1,13 +1,16 @@
 -- The promise: what holds of every world of replicas of the lock table, whatever has happened.
 --
--- `Plain.antt` has what a list of commands leaves and `Chosen.antt` which lists are chosen; this page has what a chosen list explains, and the promise. What
--- the disks keep of it stands in `Disks.antt`, and what an event does in `Events.antt`.
+-- `Plain.antt` has what a list of commands leaves and `Chosen.antt` which lists are chosen; this page has what a
+-- chosen list explains, and the promise. What the disks keep of it stands in `Disks.antt`, and what an event does in
+-- `Events.antt`.
 --
--- All of that is stated here a second time, in words of its own. Of the crates below, these files import the values, the order of ballots, the grammar of
--- bytes, bodies and files, the packed text of a lock table, and what a world shows (its genesis, its nodes, its datagrams, its trace). Of the definitions of
--- lk_members, lk_history, lk_state and lk_sim they import none but such values: so a definition that is weakened there breaks a proof of this crate.
+-- All of that is stated here a second time, in words of its own. Of the crates below, these files import the values,
+-- the order of ballots, the grammar of bytes, bodies and files, the packed text of a lock table, and what a world
+-- shows (its genesis, its nodes, its datagrams, its trace). Of the definitions of lk_members, lk_history, lk_state and
+-- lk_sim they import none but such values: so a definition that is weakened there breaks a proof of this crate.
 --
--- Not restated: what is named above, the contract of a replica (`ComesTo`), what a revival revives, and what a trap that is set does.
+-- Not restated: what is named above, the contract of a replica (`ComesTo`), what a revival revives, and what a trap
+-- that is set does.
 use Rattle.std.specs.Prelude.{◌≡◌, ℕ, ◌+◌, ◌-◌, ◌<◌, ◌≤◌, Bool, true, false, Some, List, [], ◌∷◌, ◌++◌, length, take, drop, filter, set, Contains}
 use Rattle.lk_types.specs.declared.answer.Answer.{Answer}
 use Rattle.lk_types.specs.declared.command.Command.{Command}
@@ -47,24 +50,24 @@ pub record IsPart (genesis : Genesis) (L : List Command) (p : PartValue) : Type 
 pub record Explains (genesis : Genesis) (sent : List Datagram) (trace : List Note) (L : List Command) : Type 0 where
   -- each entry is a no-op, or a request that a client asked
   pub asked : (i : ℕ) (r : Asking) → at L i ≡ Some (Request r) → Contains trace (note.Asked r)
-  -- what a node executed at a position stands there
+  -- what a node executed at a position is the list's command there
   pub ran : (node i : ℕ) (v : Command) → Contains trace (note.Ran node i v) → at L i ≡ Some v
-  -- whoever counted a majority at a position counted it among the members of that position, which the list knows
+  -- whoever counted a majority at a position counted it among the members of that position, which the list names
   pub known : (node i : ℕ) (set : List Member) (v : Command) → Contains trace (note.Counted node i set v) → i - genesis.alpha ≤ length L
   pub among : (node i : ℕ) (set : List Member) (v : Command) → Contains trace (note.Counted node i set v) → set ≡ members genesis L i
-  -- and for the command that stands there; at each position, also beyond the list, for one command
+  -- and for the list's command there; at each position, even beyond the list, for one command
   pub counted : (node i : ℕ) (set : List Member) (v w : Command) → Contains trace (note.Counted node i set v) → at L i ≡ Some w → v ≡ w
   pub counted_once : (node other i : ℕ) (set others : List Member) (v w : Command) → Contains trace (note.Counted node i set v) → Contains trace (note.Counted other i others w) → v ≡ w
-  -- what a client was answered is what its request is answered where it takes effect; and what it was told of instead is a
-  -- greater number of its own that takes effect
+  -- a client's answer is the answer to its request where that takes effect; and any other reply tells it a greater
+  -- number of its own that takes effect
   pub answered : (node client number : ℕ) (answer : Answer) → Contains trace (note.Answered node client number answer) → IsAnswered genesis L client number answer
   pub told : (node client number last : ℕ) → Contains trace (note.Told node client number last) → (number < last) × ((answer : Answer) × IsAnswered genesis L client last answer)
-  -- a command that was sent as decided for a position of the list stands there
+  -- a command that was sent as decided for a position of the list is the list's command there
   pub decided : (node k : ℕ) (d : DecidedValue) (v w : Command) → Says genesis sent node (message.Decided d) → at d.commands (k + 1) ≡ Some v → at L (d.first + k) ≡ Some w → v ≡ w
-  -- and a part of a snapshot is a piece of one of a beginning of the list
+  -- and a part of a snapshot is a piece of the snapshot of a prefix of the list
   pub parts : (node : ℕ) (p : PartValue) → Says genesis sent node (message.Part p) → IsPart genesis L p
 
--- one list is chosen that explains all that was noted and sent
+-- some chosen list explains everything that was noted and sent
 abbrev pub IsExplained : Genesis → List Datagram → List Note → Type 0
 IsExplained genesis sent trace = (L : List Command) × IsChosen genesis sent L × Explains genesis sent trace L
 
@@ -98,14 +101,15 @@ is_told (note.Ran node i v) = false
 is_told (note.Answered node client number answer) = true
 is_told (note.Told node client number last) = true
 
--- the trace tells of them all
+-- the trace has all of them
 abbrev pub AreTold : List Datagram → List Note → Type 0
 AreTold sent trace = AreReplies sent (filter is_told trace)
 
 -- ---- order
 
--- what was answered before a request was asked takes effect before it, in each chosen list: however the trace is separated, of an
--- answer in front and a request that was not asked there. (The real-time order of Herlihy, Wing, Linearizability, 1990)
+-- what was answered before a request was asked takes effect before it, in each chosen list: wherever the trace is
+-- split, for an answer before the split and a request that was not asked before it. (The real-time order of Herlihy,
+-- Wing, Linearizability, 1990)
 abbrev pub IsOrdered : Genesis → List Datagram → List Note → Type 0
 IsOrdered genesis sent trace =
     (front back : List Note) → trace ≡ front ++ back
@@ -133,7 +137,7 @@ kept_by replica = record {
   locks = replica.node.learner.whole.text;
 }
 
--- it has executed a chosen list, of which it keeps all that takes effect
+-- it has executed a chosen list, of which it keeps everything that takes effect
 abbrev pub HasExecuted : Genesis → List Datagram → ReplicaValue → Type 0
 HasExecuted genesis sent replica = (L : List Command) × IsChosen genesis sent L × IsKeptOf genesis L (kept_by replica)
 
@@ -143,15 +147,16 @@ HaveExecuted genesis seats sent = (s : Seat ReplicaValue) → Contains seats s �
 
 -- ---- the promise
 
--- what holds of every world, whatever has happened in it: the datagrams that were ever sent, the trace, and the disks of its nodes
+-- what holds of every world, whatever has happened in it: the datagrams that were ever sent, the trace, and the disks
+-- of its nodes
 pub record KeepsPromise (world : Scene ReplicaValue) : Type 0 where
-  -- one list of no-ops and asked requests is chosen that explains all that was noted and sent
+  -- some chosen list of no-ops and asked requests explains everything that was noted and sent
   pub explained : IsExplained world.genesis world.sent world.trace
-  -- of two chosen lists one begins the other
+  -- of two chosen lists one is a prefix of the other
   pub agree : Agree world.genesis world.sent
   -- each node that is up has executed a chosen list
   pub executed : HaveExecuted world.genesis world.seats world.sent
-  -- the trace tells, in order, of each answer that was sent
+  -- the trace has, in order, each answer that was sent
   pub told : AreTold world.sent world.trace
   -- what was answered before a request was asked takes effect before it
   pub order : IsOrdered world.genesis world.sent world.trace
@@ -159,7 +164,7 @@ pub record KeepsPromise (world : Scene ReplicaValue) : Type 0 where
   pub told_in_time : AreToldInTime world.trace
   -- whatever stops may leave, a majority remembers each command of a chosen list
   pub kept : AreKept world.genesis world.seats world.sent
-  -- whatever a stop may leave of a node covers all that it has sent
+  -- whatever a stop may leave of a node covers everything that it has sent
   pub covered : AreCovered world.genesis world.seats world.sent
   -- whatever a stop may leave of a node has a snapshot of a chosen list
   pub snapshots : HaveSnapshots world.genesis world.seats world.sent

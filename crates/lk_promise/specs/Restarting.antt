@@ -1,5 +1,5 @@
--- Restarts are idempotent: a node that is stopped and started again, however often and whatever its disks keep of what was not synced, is the same node and
--- notes the same.
+-- Restarts are idempotent: a node that is stopped and started again, however often and whatever its disks keep of what
+-- was not synced, is the same node and notes the same.
 --
 -- That a recovery may be repeated: Mohan et al., ARIES, 1992.
 use Rattle.std.specs.Prelude.{◌≡◌, ℕ, ◌⊎◌, List, [], ◌∷◌, Ok, Err, Contains}

@@ -1,4 +1,4 @@
-//! Laws of the definitions alone.
+//! Laws about the definitions alone.
 ghost use Rattle.std.specs.Prelude.{ℕ, List};
 ghost use Rattle.lk_disk.specs.Memory.{Memory};
 ghost use Rattle.lk_entries.specs.Values.{HeaderValue};
@@ -21,24 +21,26 @@ pub fn members_stay_fixed()
     ensures { (genesis : Genesis) (L : List Command) → HasFixedMembers genesis L }
 {}
 
-/// Each number of a client takes effect at one position of a list at most.
+/// Each number of a client takes effect at most at one position of a list.
 pub fn numbers_take_effect_once()
     ensures { (genesis : Genesis) (L : List Command) → TakesEffectOnce genesis L }
 {}
 
-/// What clients see of a world that keeps the promise is linearizable: there is a legal sequential history of the lock table and the members that
-/// completes each request that was answered and keeps the order of real time.
+/// What clients see of a world that keeps the promise is linearizable: some legal sequential history of the lock table
+/// and the members completes each request that was answered, and keeps the order of real time.
 pub fn worlds_are_linearizable()
     ensures { (world : Scene ReplicaValue) → KeepsPromise world → IsLinearizable world.genesis world.trace }
 {}
 
-/// A resource that accepts a write only at or above the highest fence that it has seen is guarded by the name: its accepted writes of one fence are of
-/// one grant, and after one under a later grant comes none under an earlier one.
+/// A resource that accepts a write only at or above the highest fence that it has seen is guarded by the name: its
+/// accepted writes at one fence are made under one grant, and after a write under a later grant it accepts none under
+/// an earlier one.
 pub fn fences_guard_resources()
     ensures { (genesis : Genesis) (L : List Command) (name : List ℕ) (writes : List Write) → IsGuarded genesis L name writes }
 {}
 
-/// Of a world that keeps the promise each grant that a client was told stands in one chosen list, for a name that its request acquires.
+/// Each grant that a client of a world that keeps the promise was told is in some chosen list, for a name that its
+/// request acquires.
 pub fn grants_are_listed()
     ensures { (world : Scene ReplicaValue) → KeepsPromise world → AreListed world.genesis world.sent world.trace }
 {}
@@ -48,19 +50,22 @@ pub fn replies_are_explained()
     ensures { (world : Scene ReplicaValue) (L : List Command) → KeepsPromise world → Explains world.genesis world.sent world.trace L → ExplainsReplies world.genesis world.sent L }
 {}
 
-/// Exactly once: of a world that keeps the promise, each operation of a client that follows the rule takes effect at one position where it was answered,
-/// in the order in which the client asked, and before it is answered the client is not told Passed.
+/// Exactly once: of a world that keeps the promise, each operation of a client that follows the rule takes effect at
+/// one position where it was answered, in the order in which the client asked, and before it is answered the client is
+/// not told Passed.
 pub fn operations_take_effect_exactly_once()
     ensures { (world : Scene ReplicaValue) → KeepsPromise world → AreServedOnce world.genesis world.sent world.trace }
 {}
 
-/// Convergence: in a world that keeps the promise nodes that have executed as many commands keep the same, to the byte, and so do snapshots.
+/// Convergence: in a world that keeps the promise nodes that have executed as many commands keep the same, to the
+/// byte, and so do snapshots.
 pub fn nodes_converge()
     ensures { (world : Scene ReplicaValue) → KeepsPromise world → Converges world }
 {}
 
-/// Restarts are idempotent: however often a node is stopped and started again, and whatever its disks keep of what was not synced, it is the same node and
-/// notes the same; and it comes up again, but for memory or a call of the device that failed.
+/// Restarts are idempotent: however often a node is stopped and started again, and whatever its disks keep of what was
+/// not synced, it is the same node and notes the same; and it comes up again, but for memory or a call of the device
+/// that failed.
 pub fn restarts_are_idempotent()
     ensures { (header : HeaderValue) (device : Memory) (replica : ReplicaValue) (notes : List Note) → ReadsFormatTwo device → ComesUp header device replica notes → IsIdempotent header replica notes }
 {}

@@ -1,4 +1,4 @@
-//! The promise: what holds of every world of replicas of the lock table, stated a second time and on one page.
+//! The promise: what holds of every world of replicas of the lock table, stated a second time, on one page.
 #![tactic(auto)]
 
 pub mod laws;

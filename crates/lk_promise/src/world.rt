@@ -10,7 +10,7 @@ use lk_sim::{Event, Refused, RunEnd, World};
 use lk_types::Genesis;
 use std::alloc::Global;
 
-/// Replicas of the lock table, on disks in memory.
+/// Replicas of the lock table, with disks in memory.
 pub type Replicas = Replica<LockTable, MemoryDisk>;
 
 /// A world in which nothing has happened.
@@ -20,23 +20,23 @@ pub fn begin(alloc: Global, genesis: Genesis) -> World<Replicas>
     World::new(alloc, genesis)
 }
 
-/// One event happens, and the promise holds, whether it is done or refused.
+/// One event happens, and the promise holds, whether the event is done or rejected.
 pub fn apply(world: &mut World<Replicas>, event: Event) -> Result<(), Refused>
     ensures promised { KeepsPromise world.new }
-    // An event that is done has done what is said of it.
+    // An event that is done has the effect stated for it.
     ensures does { OnOk result (IsDone world.old event world.new) }
-    // A node that was told to compact has a snapshot of all that it has executed.
+    // A node that has compacted has a snapshot of everything that it has executed.
     ensures compacts { OnOk result (Compacts event world.new) }
-    // An event that is refused changes nothing but that its node may have stopped when out of memory.
+    // A rejected event changes nothing, except that its node may have stopped for want of memory.
     ensures refused { IfErr result (λ e. IsRefused world.old event e world.new) }
 {
     world.apply(event)
 }
 
-/// Events happen in order, up to the first that is refused, and the promise holds.
+/// Events happen in order, up to the first that is rejected, and the promise holds.
 pub fn run(world: &mut World<Replicas>, events: &[Event]) -> RunEnd
     ensures promised { KeepsPromise world.new }
-    // Each event has done what is said of it, up to the first that is refused.
+    // Each event has the effect stated for it, up to the first that is rejected.
     ensures runs { IsRun world.old events.now result world.new }
 {
     world.run(events)

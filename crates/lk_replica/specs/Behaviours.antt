@@ -1,4 +1,4 @@
--- What the calls of a replica come to, in the form in which a world of replicas is told of them.
+-- The results of a replica's calls, as a world of replicas sees them.
 use Rattle.std.specs.Prelude.{◌≡◌, ℕ, List, Option, Result}
 use Rattle.lk_disk.specs.Disk.{Disk}
 use Rattle.lk_disk.specs.Memory.{Memory, disk_of}
@@ -9,20 +9,22 @@ use Rattle.lk_entries.specs.Values.{HeaderValue}
 use Rattle.lk_step.specs.declared.note.Note.{Note}
 use Rattle.lk_node.specs.Histories.{Datagram}
 
--- a replica was given a tick, or these bytes, and became another: with its notes and what it sent, or with the number of a fault
+-- a replica took a tick, or these bytes, and became another: with its notes and what it sent, or with the number of a
+-- fault
 abbrev pub Taking : Type 0 → Type 1
 Taking R = R → Option (List ℕ) → R → Result (List Note × List Datagram) ℕ → Type 0
 
--- a replica was given these together, and became another: with the notes and the datagrams of each step, or with the number of a fault
+-- a replica took these together, and became another: with the notes and the datagrams of each step, or with the number
+-- of a fault
 abbrev pub TakingAll : Type 0 → Type 1
 TakingAll R = R → List (Option (List ℕ)) → R → Result (List (List Note × List Datagram)) ℕ → Type 0
 
--- a node of this header was revived on this device: it came up with its notes, or there is the number of a fault, and the device as
--- it was left
+-- a node of this header restarted from this device: with its notes, or with the number of a fault and the device that
+-- this left
 abbrev pub Reviving : Type 0 → Type 1
 Reviving R = Memory → HeaderValue → Result (R × List Note) (ℕ × Memory) → Type 0
 
--- a replica was told to compact and became another: it did, or there is the number of a fault
+-- a replica was to compact and became another: it did, or there is the number of a fault
 abbrev pub Compacting : Type 0 → Type 1
 Compacting R = R → R → Result (Unit {0}) ℕ → Type 0
 
@@ -30,21 +32,22 @@ Compacting R = R → R → Result (Unit {0}) ℕ → Type 0
 pub record Behaviour (R : Type 0) : Type 1 where
   -- its device, two disks in memory
   pub memory : R → Memory
-  -- the same replica, at whose device this trap is set
+  -- the same replica, with this trap set at its device
   pub with_trap : Trap → R → R
-  -- The first replica, given a tick (`None`) or these bytes, becomes the second by one call of `take`, which gives these notes and
-  -- sends these datagrams in order, and does nothing else, or refuses with the fault of this number.
+  -- The first replica, given a tick (`None`) or these bytes, becomes the second by one call of `take`, which returns
+  -- these notes and sends these datagrams in order, and does nothing else, or fails with the fault of this number.
   pub Takes : Taking R
-  -- The first replica, given these, becomes the second by one call of `take_all`, whose steps give these notes and send these datagrams in order, and does
-  -- nothing else, or refuses with the fault of this number.
+  -- The first replica, given these, becomes the second by one call of `take_all`, whose steps return these notes and
+  -- send these datagrams in order, and does nothing else, or fails with the fault of this number.
   pub TakesAll : TakingAll R
-  -- A revival on this device, for a node of this header, makes this replica and gives these notes, or refuses with the fault of this
-  -- number and leaves that device.
+  -- A restart from this device, for a node of this header, makes this replica and returns these notes, or fails with
+  -- the fault of this number and leaves that device.
   pub Revives : Reviving R
-  -- The first replica becomes the second by one call of `compact`, which is done, or refuses with the fault of this number.
+  -- The first replica becomes the second by one call of `compact`, which succeeds, or fails with the fault of this
+  -- number.
   pub Compacts : Compacting R
 
--- a trap is one of the device, and nothing else of it changes
+-- a trap belongs to the device, and changes nothing else of it
 abbrev pub TrapsAlone : {R : Type 0} → Behaviour R → Type 0
 TrapsAlone {R = R} b = (t : Trap) (r : R) → b.memory (b.with_trap t r) ≡ record (b.memory r) { meter = trapped t (b.memory r).meter }
 

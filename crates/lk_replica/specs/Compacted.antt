@@ -1,4 +1,4 @@
--- What a call of a replica has done that was told to compact.
+-- What a call of `compact` has done.
 use Rattle.std.specs.Prelude.{◌≡◌, ℕ, ◌<◌, ◌≤◌, ◌⊎◌, ⊤, true, false, Result, Ok, Err}
 use Rattle.lk_types.specs.Limits.{max_count}
 use Rattle.lk_disk.specs.Memory.{disk_of}
@@ -16,8 +16,8 @@ use Rattle.lk_replica.specs.ReplicaValue.{ReplicaValue}
 use Rattle.lk_replica.specs.Taking.{IsRefused}
 use Rattle.lk_state.specs.Meanings.{Meaning}
 
--- the replica has written its Base, in the calls that a rebase takes, and goes on: whatever a stop may leave of its disks stands for the
--- packed text of all that it has executed
+-- the replica has written its Base, in the calls that a rebase takes, and goes on: whatever a stop may leave of its
+-- disks stands for the packed text of everything that it has executed
 pub record IsCompacted (m : Meaning) (old new : ReplicaValue) : Type 0 where
   pub rebases : Rebases old.node old.store new.node new.store
   pub stands : (genesis : Genesis) (n : ℕ) (x : Holding) → Stands m old.node old.store genesis n x
@@ -26,13 +26,14 @@ pub record IsCompacted (m : Meaning) (old new : ReplicaValue) : Type 0 where
   pub alive : new.failed ≡ false
   pub store_alive : new.store.failed ≡ false
 
--- the device has failed, memory was wanting, or it has failed before
+-- the device has failed, memory ran out, or it failed earlier
 abbrev pub IsStoreFault : ℕ → Type 0
 IsStoreFault number = (number ≡ 7) ⊎ (number ≡ 8) ⊎ (number ≡ 11)
 
--- the call was refused with the fault of this number, for its cause: 11 only after an earlier refusal, after which there is no other and nothing changes,
--- or where no generation is left. It has ended the replica, whose node is as it was and whose store has not gone over; and where no call of the device
--- has failed, the files are as they were. `Honest` says that its device does what it tells, and `Metered` that it counts its calls
+-- the call failed with the fault of this number, for its cause: 11 only after an earlier error, after which there is
+-- no other and nothing changes, or if no generation is left. It has ended the replica, whose node is unchanged and
+-- whose store has not switched files; and if no call of the device has failed, the files are unchanged. `Honest` says
+-- that its device does what its contract says, and `Metered` that it counts its calls
 pub record IsNotCompacted (Honest Metered : Type 0) (old new : ReplicaValue) (number : ℕ) : Type 0 where
   pub of_store : IsStoreFault number
   pub calls : Metered → Honest → RefusedAfter number old.store.meter new.store.meter
@@ -43,8 +44,8 @@ pub record IsNotCompacted (Honest Metered : Type 0) (old new : ReplicaValue) (nu
   pub ends : new.failed ≡ true
   pub stays : Honest → (number ≡ 7 → ⊥) → AreSame (disks old.store) (disks new.store)
 
--- what the call came to: a refusal leaves the node as it was, and the same file live; and where no generation is left, it was refused as failed, also
--- where memory was wanting
+-- the result of the call: an error leaves the node unchanged, and the same file live; and if no generation is left, it
+-- fails with `Failed`, even if it is out of memory
 abbrev pub CompactsTo : Meaning → ReplicaValue → ReplicaValue → Result (Unit {0}) ℕ → Type 0
 CompactsTo m old new (Ok done) = IsCompacted m old new
 CompactsTo m old new (Err number) = IsRefused ⊤ ⊤ old new number × IsStoreFault number × (max_count ≤ old.store.generation → number ≡ 11) × (new.node ≡ old.node) × KeepsItsFile old.store new.store

@@ -1,4 +1,4 @@
--- What a call of a replica has done that rebases its store.
+-- What a call that rebases the store of a replica has done.
 use Rattle.std.specs.Prelude.{◌≡◌, ℕ, ◌+◌, ◌≤◌, ◌==◌, ◌⊎◌, if◌then◌else◌, List, [], ◌∷◌, length}
 use Rattle.lk_disk.specs.Disk.{Disk, contents}
 use Rattle.lk_disk.specs.declared.device.Side.{Side}
@@ -17,12 +17,13 @@ use Rattle.lk_node.specs.Histories.{Genesis, Command}
 use Rattle.lk_node.specs.Leavings.{header_of, StandsAs}
 use Rattle.lk_node.specs.Served.{text}
 
--- each image that a stop may leave of these disks stands for a snapshot at this position, the packed text of this list, which is as long
+-- each image that a stop may leave of these disks stands for a snapshot at this position, the packed text of this
+-- list, which has that length
 abbrev pub AllStandAt : Meaning → Genesis → ℕ → (Side → Disk) → ℕ → List Command → Type 0
 AllStandAt m genesis n disks position done = (image : Image) → MayLeaveBoth disks image
     → (s : StandingValue) × StandsAs (header_of genesis n) (text m genesis []) image s × (s.position ≡ position) × (length done ≡ s.position) × (s.snapshot ≡ text m genesis done)
 
--- the live file has grown to half of what a file may hold, or 256 positions are executed above the snapshot
+-- the live file has grown to half of its maximum, or 256 positions are executed above the snapshot
 abbrev pub IsDue : NodeValue → StoreValue → Type 0
 IsDue node store = (131072 ≤ length (contents store.live_disk)) ⊎ (node.acceptor.state.snapshot_position + 256 ≤ executed node.learner)
 
@@ -35,13 +36,13 @@ pub record IsSameStore (old new : StoreValue) : Type 0 where
   pub format : new.format ≡ old.format
   pub header : new.header ≡ old.header
 
--- the node's Base stands alone in the store, which is one generation further, and the node stands on it
+-- the node's Base is alone in the store, which is one generation further, and the node matches it
 pub record Rebases (node : NodeValue) (store : StoreValue) (new : NodeValue) (after : StoreValue) : Type 0 where
   pub becomes : new ≡ standing_here node
   pub generation : after.generation ≡ store.generation + 1
   pub writes : (ks ls : List Stored) → Holds store ks ls → Holds after (Base (next_base store (standing_of node)) ∷ []) []
 
--- a store of format 1 was rebased, and so has format 2, and one of format 2 is as it was
+-- a store of format 1 was rebased, and so has format 2, and one of format 2 is unchanged
 pub record Renews (node : NodeValue) (store : StoreValue) (new : NodeValue) (after : StoreValue) : Type 0 where
   pub rebases : store.format ≡ 1 → Rebases node store new after
   pub rests : store.format ≡ 2 → (new ≡ node) × (after ≡ store)
@@ -50,22 +51,23 @@ pub record Renews (node : NodeValue) (store : StoreValue) (new : NodeValue) (aft
 abbrev pub renew_calls : ℕ → ℕ
 renew_calls format = if format == 2 then 0 else rebase_calls
 
--- what was due was done, and else nothing
+-- what was due was done, and nothing else
 pub record RebasesWhereDue (node : NodeValue) (store : StoreValue) (new : NodeValue) (after : StoreValue) : Type 0 where
   pub due : IsDue node store → Rebases node store new after
   pub rests : (IsDue node store → ⊥) → (new ≡ node) × IsSameStore store after
 
--- each file is as it was
+-- each file is unchanged
 abbrev pub AreSame : (Side → Disk) → (Side → Disk) → Type 0
 AreSame old new = (s : Side) → new s ≡ old s
 
--- the files are as they were, or as a rebase that was due left them
+-- the files are unchanged, or as a rebase that was due left them
 abbrev pub AreLeft : NodeValue → StoreValue → StoreValue → Type 0
 AreLeft node old new =
     AreSame (disks old) (disks new)
     ⊎ ((mid : NodeValue) × (between : StoreValue) × IsDue node old × Rebases node old mid between × AreSame (disks between) (disks new))
 
--- the same file is live, with the same generation, format and header, or, after a rebase that was due, one of the next generation
+-- the same file is live, with the same generation, format and header, or, after a rebase that was due, one of the next
+-- generation
 abbrev pub KeepsFileOrGoesOver : NodeValue → StoreValue → StoreValue → Type 0
 KeepsFileOrGoesOver node old new = KeepsItsFile old new ⊎ (IsDue node old × (new.generation ≡ old.generation + 1))
 

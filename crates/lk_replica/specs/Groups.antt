@@ -1,4 +1,5 @@
--- A node in the middle of a group: it has taken some inputs and has written, unsynced, what they told to write, and nothing of what it said is sent.
+-- A node in the middle of a group: it has taken some inputs and written their entries unsynced, and nothing of what it
+-- said is sent.
 use Rattle.std.specs.Prelude.{◌≡◌, ℕ, ◌+◌, ◌<◌, ◌||◌, Bool, true, false, if◌then◌else◌, List, [], ◌∷◌, ◌++◌, Contains}
 use Rattle.std.specs.List.{AllByRecursion}
 use Rattle.lk_types.specs.declared.entry.Entry.{Entry}
@@ -41,17 +42,17 @@ use Rattle.lk_node.specs.Serving.{with_entries}
 abbrev pub as_synced : StoreValue → StoreValue
 as_synced s = record s { live_disk = flushed s.live_disk }
 
--- the store as it will be when what the group said is sent: synced, where something waits for that
+-- the store as it will be when the group's letters are sent: synced, if something waits for that
 abbrev pub as_sent : Bool → StoreValue → StoreValue
 as_sent true s = as_synced s
 as_sent false s = s
 
--- whether something waits for a sync after one more step: a rebase has synced all
+-- whether something waits for a sync after one more step: a rebase has synced everything
 abbrev pub waits_after : Bool → OutboxValue → Bool
 waits_after waits out = if out.rebase then false else (waits || out.sync)
 
--- The store is that of this header, and its entries, synced or not, stand for what the acceptor holds. Where nothing waits for a sync, those that are not
--- synced are decided commands.
+-- The store is that of this header, and its entries, synced or not, stand for what the acceptor holds. If nothing
+-- waits for a sync, the unsynced ones are decided commands.
 pub record Gathers (whose : HeaderValue) (store : StoreValue) (waits : Bool) (acceptor : AcceptorState) : Type 0 where
   pub entries : List Stored
   pub loose : List Entry
@@ -62,45 +63,47 @@ pub record Gathers (whose : HeaderValue) (store : StoreValue) (waits : Bool) (ac
   pub stands : StandsFor entries standing
   pub remembers : with_entries loose (acceptor_of standing) ≡ acceptor
 
--- the replica, by its parts, is that of the node in the cluster that began so, and its store has what its acceptor holds
+-- the replica, by its parts, is that of the node in the cluster with this genesis, and its store has what its acceptor
+-- holds
 pub record Recalls (node : NodeValue) (store : StoreValue) (waits : Bool) (genesis : Genesis) (n : ℕ) : Type 0 where
   pub whose : node.header ≡ header_of genesis n
   pub keeps : Gathers (header_of genesis n) store waits node.acceptor.state
 
--- so it is, and holds this
+-- it is, and holds this
 pub record Gathered (m : Meaning) (node : NodeValue) (store : StoreValue) (waits : Bool) (genesis : Genesis) (n : ℕ) (x : Holding) : Type 0 where
   pub whose : node.header ≡ header_of genesis n
   pub keeps : Gathers (header_of genesis n) store waits node.acceptor.state
   pub known : waits ≡ false → AllByRecursion (IsKnown x.view) keeps.loose
   pub held : IsHeld m node genesis x
 
--- in this history, in which what the group has said so far is sent, the node fits as if all were synced that waits for it
+-- in this history, which contains what the group has said so far, the node fits as if everything that waits were
+-- synced
 abbrev pub GroupFits : Meaning → History → ℕ → NodeValue → StoreValue → Bool → Type 0
 GroupFits m h n node store waits = NodeFits m h n (Gathered m node store waits h.genesis n) (disks (as_sent waits store))
 
--- so a step of a group goes on that says this
+-- the effect of a step of a group with these letters
 abbrev pub GroupGoes : Meaning → History → ℕ → NodeValue → StoreValue → Bool → List Note → List Datagram → Type 0
 GroupGoes m h n node store waits notes batch = Goes m h n (Gathered m node store waits h.genesis n) (disks (as_sent waits store)) notes batch
 
--- in this history, in which nothing of what the group has said is sent, the node fits, what it has written rests on what was sent, and whatever a stop may
--- leave of the files as they are fits
+-- in this history, which contains nothing of what the group has said, the node fits, what it has written rests on what
+-- was sent, and whatever a stop may leave of the files as they are fits
 pub record GroupStays (m : Meaning) (h : History) (n : ℕ) (node : NodeValue) (store : StoreValue) (waits : Bool) : Type 0 where
   pub fits : GroupFits m h n node store waits
   pub rests : AllByRecursion (Rests h) fits.shown.keeps.loose
   pub left : DisksFit m h n (disks store)
 
--- what a sync does, where something waits for it
+-- the effect of a sync, if something waits for it
 abbrev pub Settles : Bool → StoreValue → StoreValue → Type 0
 Settles true old new = (ks ls : List Stored) → Holds old ks ls → Holds new (ks ++ ls) []
 Settles false old new = new ≡ old
 
--- what a group has noted and what it has said so far, in order, and whether something that it has written waits for a sync
+-- the notes and the letters of a group so far, in order, and whether something that it has written waits for a sync
 pub record GroupValue : Type 0 where
   pub notes : List Note
   pub letters : List LetterValue
   pub waits : Bool
 
--- with what one more step came to
+-- the group with one more step
 abbrev pub with_step : Bool → OutboxValue → GroupValue → GroupValue
 with_step waits out g = record { notes = g.notes ++ out.notes; letters = g.letters ++ out.letters; waits = waits_after waits out }
 
@@ -112,26 +115,26 @@ pub record Adds (old new : GroupValue) (Are : List Note → List LetterValue →
   pub said : new.letters ≡ old.letters ++ letters
   pub are : Are notes letters
 
--- once all is synced that waits for it, whatever the group has said is covered
+-- once everything that waits is synced, everything that the group has said is covered
 abbrev pub IsCovered : Meaning → Genesis → ℕ → GroupValue → StoreValue → Type 0
 IsCovered m genesis n g s = (x : NodeMessage) (d : Datagram) → Contains (batch_of n g.letters) d → Spells (said_by genesis n x) d.bytes → AllCover m genesis n (disks (as_sent g.waits s)) x
 
--- What a call leaves on the disks in the middle of a group, however it ends: where the history has what the call was given, each image that a stop may leave
--- fits the history as it was, in which nothing of the group is sent; each covers what every image covered; and neither file is longer than it was, or else than
--- so many bytes.
+-- What a call leaves on the disks in the middle of a group, however it ends: where the history has what the call was
+-- given, each image that a stop may leave fits the history as it was, in which nothing of the group is sent; each
+-- covers what every image covered; and neither file is longer than it was, or else than so many bytes.
 pub record LeavesInGroup (m : Meaning) (Hears : History → Type 0) (most : ℕ) (node : NodeValue) (store : StoreValue) (waits : Bool) (after : Side → Disk) : Type 0 where
   pub ends : (h : History) (n : ℕ) → GroupStays m h n node store waits → Hears h → DisksFit m h n after
   pub covers : (genesis : Genesis) (n : ℕ) (x : NodeMessage) → Recalls node store waits genesis n → AllCover m genesis n (disks store) x → AllCover m genesis n after x
   pub room : StaysWithin most (disks store) after
 
--- What a step keeps of a group: where nothing of it is sent, the node fits as it did; its store has what its acceptor holds; and once all is synced that waits
--- for it, whatever the group has said is covered.
+-- What a step keeps of a group: where nothing of it is sent, the node fits as it did; its store has what its acceptor
+-- holds; and once all is synced that waits for it, whatever the group has said is covered.
 pub record KeepsGroup (m : Meaning) (Hears : History → Type 0) (node : NodeValue) (store : StoreValue) (group : GroupValue) (new : NodeValue) (after : StoreValue) (now : GroupValue) : Type 0 where
   pub stays : (h : History) (n : ℕ) → GroupStays m h n node store group.waits → Hears h → GroupStays m h n new after now.waits
   pub recalls : (genesis : Genesis) (n : ℕ) → Recalls node store group.waits genesis n → Recalls new after now.waits genesis n
   pub said : (genesis : Genesis) (n : ℕ) → Recalls node store group.waits genesis n → IsCovered m genesis n group store → IsCovered m genesis n now after
 
--- ---- what the steps of a group have done, that and nothing else
+-- ---- what the steps of a group have done, and nothing else
 
 -- how many changing calls of the device the sync takes
 abbrev pub settle_calls : Bool → ℕ
@@ -142,8 +145,8 @@ pub record CallsOfRoom (node : NodeValue) (store : StoreValue) (waits : Bool) (k
   pub due : IsDue node store → k ≡ settle_calls waits + rebase_calls
   pub rests : (IsDue node store → ⊥) → k ≡ 0
 
--- Room was made for a step: a rebase was made where that was due, after a sync where something waited for that; after a rebase nothing waits. A device that
--- counts its calls (`Metered`) has had no others.
+-- Room was made for a step: a rebase was made where that was due, after a sync where something waited for that; after
+-- a rebase nothing waits. A device that counts its calls (`Metered`) has had no others.
 pub record MakesRoom (Metered : Type 0) (node : NodeValue) (store : StoreValue) (waits : Bool) (new : NodeValue) (after : StoreValue) (still : Bool) : Type 0 where
   pub rebases : RebasesWhereDue node store new after
   pub synced : IsDue node store → still ≡ false
@@ -154,12 +157,12 @@ pub record MakesRoom (Metered : Type 0) (node : NodeValue) (store : StoreValue) 
 abbrev pub gather_calls : Bool → OutboxValue → ℕ
 gather_calls waits out = if out.rebase then settle_calls waits + rebase_calls else put_calls out.entries false
 
--- the outbox's entries stand after what the store held, and no more is synced
+-- the outbox's entries follow what the store held, and nothing more is synced
 abbrev pub Appends : StoreValue → OutboxValue → StoreValue → Type 0
 Appends old out new = (ks ls : List Stored) → Holds old ks ls → Holds new ks (ls ++ plain out.entries)
 
--- a step was taken, and what its outbox says is written, unsynced, by which neither file grows by more than a step; in the calls that this takes of a device
--- that counts them (`Metered`)
+-- a step was taken, and what its outbox says is written, unsynced, by which neither file grows by more than a step; in
+-- the calls that this takes of a device that counts them (`Metered`)
 pub record StepsToFile (m : Meaning) (IsText : List ℕ → Type 0) (Metered : Type 0) (node : NodeValue) (store : StoreValue) (waits : Bool) (i : Input) (out : OutboxValue) (new : NodeValue) (after : StoreValue) : Type 0 where
   pub stepped : NodeValue
   pub steps : Steps m IsText node i stepped out
@@ -168,8 +171,9 @@ pub record StepsToFile (m : Meaning) (IsText : List ℕ → Type 0) (Metered : T
   pub grows : out.rebase ≡ false → GrowsByStep (disks store) (disks after)
   pub calls : Metered → Passes store.meter after.meter (gather_calls waits out)
 
--- One more input of a group was taken: room was made for it, a step was taken, and what its outbox says is written, unsynced; its notes and its letters stand
--- behind those of the steps before it, the group waits for a sync exactly where something that it has written does, and nothing else was done.
+-- One more input of a group was taken: room was made for it, a step was taken, and what its outbox says is written,
+-- unsynced; its notes and its letters stand behind those of the steps before it, the group waits for a sync exactly
+-- where something that it has written does, and nothing else was done.
 pub record IsGathered (m : Meaning) (IsText : List ℕ → Type 0) (Metered : Type 0) (node : NodeValue) (store : StoreValue) (before : GroupValue) (i : Input) (new : NodeValue) (after : StoreValue) (now : GroupValue) : Type 0 where
   pub mid : NodeValue
   pub between : StoreValue
@@ -187,8 +191,8 @@ pub record IsSettled (Metered : Type 0) (old : ReplicaValue) (waits : Bool) (new
   pub calls : Metered → Passes old.store.meter new.store.meter (settle_calls waits)
   pub store_alive : old.store.failed ≡ false → new.store.failed ≡ false
 
--- A call of a group was refused with the fault of this number, as one of `take` is (`IsRefused`), and has ended the replica: nothing of the group is sent.
--- What the files then have `disks` says.
+-- A call of a group was refused with the fault of this number, as one of `take` is (`IsRefused`), and has ended the
+-- replica: nothing of the group is sent. What the files then have `disks` says.
 pub record IsRefusedInGroup (Honest Metered : Type 0) (old new : ReplicaValue) (number : ℕ) : Type 0 where
   pub told : IsNumberOfCalls number
   pub no_send : number ≡ 15 → ⊥
@@ -203,18 +207,18 @@ pub record IsRefusedInGroup (Honest Metered : Type 0) (old new : ReplicaValue) (
 
 -- ---- a whole group
 
--- what a step of a group noted, and what it said
+-- the notes and the letters of a step of a group
 abbrev pub StepSaid : Type 0
 StepSaid = List Note × List LetterValue
 
--- all that the steps said
+-- everything that the steps said
 abbrev pub letters_of : List StepSaid → List LetterValue
 letters_of [] = []
 letters_of (x ∷ xs) = x.1 ++ letters_of xs
 
--- The replica took these inputs one after another: in each history to which it fits, in which what it said before is sent, it goes on by each of them, as by
--- a call of `take`, whichever of its letters are sent; and at last it is as it would be. Each `mid` is as the replica will be once all is synced that it has
--- written.
+-- The replica took these inputs one after another: in each history that it fits, and that contains what it said
+-- before, it goes on at each of them, as in a call of `take`, whichever of its letters are sent; and at the end it is
+-- as it would be. Each `mid` is the replica as it will be once everything that it has written is synced.
 abbrev pub GoesThrough : Meaning → ℕ → ReplicaValue → List Input → ReplicaValue → List StepSaid → Type 0
 GoesThrough m n r [] q said = (said ≡ []) × ((h : History) → NodeFits m h n (Stands m r.node r.store h.genesis n) (disks r.store) → NodeFits m h n (Stands m q.node q.store h.genesis n) (disks q.store))
     × StaysWithin max_after (disks r.store) (disks q.store)

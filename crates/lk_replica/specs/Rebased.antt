@@ -1,4 +1,4 @@
--- What a rebase of a node and its store has done, what it leaves, and why it was refused.
+-- What a rebase of a node and its store has done, what it leaves, and why it failed.
 use Rattle.std.specs.Prelude.{◌≡◌, ℕ, ◌+◌, ◌<◌, ◌≤◌, false, [], length}
 use Rattle.lk_types.specs.Limits.{max_base, max_count}
 use Rattle.lk_disk.specs.Disk.{contents}
@@ -28,8 +28,8 @@ use Rattle.lk_replica.specs.declared.fault.ReplicaFault.TheVariants as fault
 
 -- ---- a rebase
 
--- the node stands on its Base, which its disks may begin with, and has executed what it could where it had before; and the store has the next
--- generation and format 2, and has not failed
+-- the node matches its Base, which its disks may begin with, and has executed what it could if it had before; and the
+-- store has the next generation and format 2, and has not failed
 pub record StandsOnBase (node : NodeValue) (store : StoreValue) (new : NodeValue) (after : StoreValue) : Type 0 where
   pub becomes : new ≡ standing_here node
   pub begins : MayBegin (standing_of node)
@@ -38,9 +38,10 @@ pub record StandsOnBase (node : NodeValue) (store : StoreValue) (new : NodeValue
   pub format : after.format ≡ 2
   pub store_alive : after.failed ≡ false
 
--- the node's Base stands alone in the store, written in so many calls of a device that counts them (`Metered`), and is no longer than a Base may be.
--- In each history that the node fitted it goes on, and sends and notes nothing; it holds something where it did, and the store keeps what the acceptor
--- holds where it did; whatever a stop may leave of the disks covers what the node does, and stands for a snapshot of all that is executed
+-- the node's Base is alone in the store, written in this many calls of a device that counts them (`Metered`), and is
+-- no longer than a Base may be. In each history that the node fitted it goes on, and sends and notes nothing; it holds
+-- something if it did before, and the store keeps what the acceptor holds if it did before; whatever a stop may leave
+-- of the disks covers what the node does, and stands for a snapshot of everything executed
 pub record HasGoneOver (m : Meaning) (Metered : Type 0) (node : NodeValue) (store : StoreValue) (new : NodeValue) (after : StoreValue) : Type 0 where
   pub rebases : Rebases node store new after
   pub calls : Metered → Passes store.meter after.meter rebase_calls
@@ -51,16 +52,16 @@ pub record HasGoneOver (m : Meaning) (Metered : Type 0) (node : NodeValue) (stor
   pub syncs : (genesis : Genesis) (n : ℕ) (x : NodeMessage) → Keeps (header_of genesis n) store node.acceptor.state → Covers node.acceptor.state x → AllCover m genesis n (disks after) x
   pub stands : (genesis : Genesis) (n : ℕ) (held : Holding) → Stands m node store genesis n held → AllStandAt m genesis n (disks after) (executed new.learner) held.view.done
 
--- each image that a stop may leave of the store fits each history that the node fitted, and covers what every image covered; neither file is
--- longer than it was, or else than a Base
+-- each image that a stop may leave of the store fits each history that the node fitted, and covers what every image
+-- covered; neither file has grown, except up to the size of a Base
 pub record StaysSafe (m : Meaning) (node : NodeValue) (store after : StoreValue) : Type 0 where
   pub fits : (h : History) (n : ℕ) → NodeFits m h n (Stands m node store h.genesis n) (disks store) → DisksFit m h n (disks after)
   pub covers : (genesis : Genesis) (n : ℕ) (x : NodeMessage) → Keeps (header_of genesis n) store node.acceptor.state → AllCover m genesis n (disks store) x → AllCover m genesis n (disks after) x
   pub room : StaysWithin max_base (disks store) (disks after)
 
--- what was to be written was refused with this fault, for its cause: the device has failed, memory was wanting, or, where the store has failed before
--- or no generation is left, with `Failed`. The same file is live, with the same generation, format and header; and where no call of the device has
--- failed, the files are as they were
+-- a write failed with this fault, for its cause: the device has failed, memory ran out, or, if the store failed
+-- earlier or no generation is left, with `Failed`. The same file is live, with the same generation, format and header;
+-- and if no call of the device has failed, the files are unchanged
 pub record IsNotWritten (Honest Metered : Type 0) (store after : StoreValue) (e : ReplicaFault) : Type 0 where
   pub of_store : IsStoreFault (fault_number e)
   pub calls : Metered → Honest → RefusedAfter (fault_number e) store.meter after.meter
@@ -68,21 +69,23 @@ pub record IsNotWritten (Honest Metered : Type 0) (store after : StoreValue) (e 
   pub file : KeepsItsFile store after
   pub stays : Honest → IfSpared (AreSame (disks store) (disks after)) e
 
--- so a rebase was refused, and the node is as it was: it stands on no Base to which its store has not gone over
+-- a rebase failed with this, and the node is unchanged: it matches no Base to which its store has not switched
 pub record IsNotRebased (Honest Metered : Type 0) (node : NodeValue) (store : StoreValue) (new : NodeValue) (after : StoreValue) (e : ReplicaFault) : Type 0 where
   pub rests : new ≡ node
   pub why : IsNotWritten Honest Metered store after e
 
--- ---- one that is made where it is due
+-- ---- a rebase if it is due
 
--- the store has not failed and is one generation further at most, and the node has executed what it could where it had before
+-- the store has not failed and is at most one generation further, and the node has executed what it could if it had
+-- before
 pub record StaysAlive (node : NodeValue) (store : StoreValue) (new : NodeValue) (after : StoreValue) : Type 0 where
   pub store_alive : after.failed ≡ false
   pub further : after.generation ≤ store.generation + 1
   pub runs : NothingToRun node → NothingToRun new
 
--- what was due was done, in the calls that this takes of a device that counts them (`Metered`), and none is due for the length of the live file. The
--- node fits each history that it fitted; it holds something where it did, and the store keeps what the acceptor holds where it did
+-- what was due was done, in the calls that this takes of a device that counts them (`Metered`), and the length of the
+-- live file makes none due. The node fits each history that it fitted; it holds something if it did before, and the
+-- store keeps what the acceptor holds if it did before
 pub record IsReadyToStep (m : Meaning) (Metered : Type 0) (node : NodeValue) (store : StoreValue) (new : NodeValue) (after : StoreValue) : Type 0 where
   pub rebases : RebasesWhereDue node store new after
   pub calls : Metered → (k : ℕ) × CallsWhereDue node store k × Passes store.meter after.meter k

@@ -1,4 +1,4 @@
--- What a replica keeps of what its node has promised and accepted, whatever history it was revived on.
+-- What a replica keeps of what its node has promised and accepted, whatever history it restarted in.
 use Rattle.std.specs.Prelude.{◌≡◌, ℕ}
 use Rattle.lk_log.specs.StoreValue.{StoreValue}
 use Rattle.lk_node.specs.Histories.{Genesis}
@@ -6,7 +6,8 @@ use Rattle.lk_node.specs.Keeping.{Keeps}
 use Rattle.lk_node.specs.Leavings.{header_of}
 use Rattle.lk_node.specs.NodeValue.{NodeValue}
 
--- the replica, by its parts, is that of the node in the cluster that began so, and its store keeps what its acceptor holds
+-- the replica, by its parts, is that of the node in the cluster with this genesis, and its store keeps what its
+-- acceptor holds
 pub record Remembers (node : NodeValue) (store : StoreValue) (genesis : Genesis) (n : ℕ) : Type 0 where
   pub whose : node.header ≡ header_of genesis n
   pub keeps : Keeps (header_of genesis n) store node.acceptor.state

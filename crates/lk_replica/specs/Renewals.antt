@@ -1,4 +1,4 @@
--- What a call has done that brings a store to format 2.
+-- What a call that converts a store to format 2 has done.
 use Rattle.std.specs.Prelude.{◌≡◌, ℕ, ◌<◌, false}
 use Rattle.lk_types.specs.Limits.{max_count}
 use Rattle.lk_log.specs.StoreValue.{StoreValue, disks}
@@ -12,22 +12,23 @@ use Rattle.lk_replica.specs.Compacted.{IsStoreFault}
 use Rattle.lk_replica.specs.Compacting.{Renews}
 use Rattle.lk_replica.specs.Remembering.{Remembers}
 
--- a store of format 1 was rebased, and one of format 2 is as it was; the node fits each history that it fitted, and the store keeps what the
--- acceptor holds where it did
+-- a store of format 1 was rebased, and one of format 2 is unchanged; the node fits each history that it fitted, and
+-- the store keeps what the acceptor holds if it did before
 pub record IsRenewed (m : Meaning) (node : NodeValue) (store : StoreValue) (new : NodeValue) (after : StoreValue) : Type 0 where
   pub renews : Renews node store new after
   pub goes : (h : History) (n : ℕ) → NodeFits m h n (Stands m node store h.genesis n) (disks store) → NodeFits m h n (Stands m new after h.genesis n) (disks after)
   pub remembers : (genesis : Genesis) (n : ℕ) → Remembers node store genesis n → Remembers new after genesis n
 
--- the store has format 2, and has not failed where it had not; the node is the same one, and where it had executed all that it can, it has
+-- the store has format 2, and has not failed if it had not before; the node is the same, and if it had executed all
+-- that it can, it has
 pub record HasFormatTwo (node : NodeValue) (store : StoreValue) (new : NodeValue) (after : StoreValue) : Type 0 where
   pub format : after.format ≡ 2
   pub alive : store.failed ≡ false → after.failed ≡ false
   pub runs : NothingToRun node → NothingToRun new
   pub header : new.header ≡ node.header
 
--- a store that has not format 2 was refused with the fault of this number: the device has failed, memory was wanting, or, where it has
--- failed before or no generation is left, with 11
+-- the conversion of a store without format 2 failed with the fault of this number: the device has failed, memory ran
+-- out, or, if the store failed earlier or no generation is left, with 11
 pub record IsNotRenewed (store : StoreValue) (number : ℕ) : Type 0 where
   pub of_store : IsStoreFault number
   pub old : store.format ≡ 2 → ⊥

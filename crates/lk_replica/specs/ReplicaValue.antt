@@ -3,7 +3,7 @@ use Rattle.std.specs.Prelude.{Bool}
 use Rattle.lk_log.specs.StoreValue.{StoreValue}
 use Rattle.lk_node.specs.NodeValue.{NodeValue}
 
--- a node, its store, and whether the replica refuses all calls
+-- a node, its store, and whether the replica rejects all calls
 pub record ReplicaValue : Type 0 where
   pub node : NodeValue
   pub store : StoreValue

@@ -1,4 +1,4 @@
--- What a revival makes of what a store stands for.
+-- What a restart makes of what a store stands for.
 use Rattle.std.specs.Prelude.{◌≡◌, ℕ, ◌⊎◌, ◌+◌, ◌*◌, ◌≤◌, ◌==◌, if◌then◌else◌, false, None, Result, Ok, Err, List, [], ◌∷◌, length, drop, Contains}
 use Rattle.lk_types.specs.Limits.{max_count}
 use Rattle.lk_types.specs.declared.vote.Vote.{Vote}
@@ -39,17 +39,17 @@ abbrev pub run_from : ℕ → List Pair → List Command
 run_from e [] = []
 run_from e (p ∷ ps) = if p.0 == e + 1 then p.1 ∷ run_from (e + 1) ps else []
 
--- what stands once these commands were run
+-- the state once these commands are executed
 abbrev pub all_ran : Meaning → List Command → WholeValue → WholeValue
 all_ran m [] w = w
 all_ran m (v ∷ vs) w = all_ran m vs (ran m v w)
 
--- the notes that they were run, where so many positions were executed before
+-- the notes of their execution, after this many executed positions
 abbrev pub notes_of : ℕ → ℕ → List Command → List Note
 notes_of n e [] = []
 notes_of n e (v ∷ vs) = Ran n (e + 1) v ∷ notes_of n (e + 1) vs
 
--- the learner that stands on this state, has learned of these pairs, and has run what it could
+-- the learner for this state, after it has learned of these pairs and executed what it could
 abbrev pub relearned : Meaning → WholeValue → List Pair → LearnerValue
 relearned m w pairs = record {
   whole = all_ran m (run_from w.roster.executed pairs) w;
@@ -60,17 +60,18 @@ relearned m w pairs = record {
   gathered = None;
 }
 
--- how many positions are executed once it has
+-- how many positions are executed then
 abbrev pub reached : ℕ → List Pair → ℕ
 reached e pairs = e + length (run_from e pairs)
 
--- the standing may be revived: its snapshot unpacks, and no vote or pair lies more than twice alpha above what is then executed
+-- a node may restart from the standing: its snapshot unpacks, and no vote or pair is more than twice alpha above what
+-- is then executed
 pub record MayRevive (IsText : List ℕ → Type 0) (whose : HeaderValue) (s : StandingValue) (w : WholeValue) : Type 0 where
   pub unpacks : Unpacks IsText whose.alpha s.position s.snapshot w
   pub votes : (v : Vote) → Contains s.votes v → v.position ≤ reached s.position s.pairs + 2 * whose.alpha
   pub pairs : (p : Pair) → Contains s.pairs p → p.0 ≤ reached s.position s.pairs + 2 * whose.alpha
 
--- the node that comes of it
+-- the resulting node
 abbrev pub revived : Meaning → HeaderValue → StandingValue → WholeValue → NodeValue
 revived m whose s w = record {
   header = whose;
@@ -83,7 +84,7 @@ revived m whose s w = record {
   halted = false;
 }
 
--- the standing is revived as this node, with these notes
+-- the standing restarts as this node, with these notes
 pub record Restores (m : Meaning) (IsText : List ℕ → Type 0) (whose : HeaderValue) (s : StandingValue) (node : NodeValue) (notes : List Note) : Type 0 where
   pub whole : WholeValue
   pub may : MayRevive IsText whose s whole
@@ -91,7 +92,7 @@ pub record Restores (m : Meaning) (IsText : List ℕ → Type 0) (whose : Header
   pub node_is : node ≡ revived m whose s whole
   pub notes_are : notes ≡ notes_of whose.node s.position (run_from s.position s.pairs)
 
--- what these disks stand for, or a store that is begun there, is taken up as this store and this node, with these notes
+-- what these disks stand for, or a new store, restarts as this store and this node, with these notes
 pub record TakesUp (m : Meaning) (IsText : List ℕ → Type 0) (disks : Side → Disk) (whose : HeaderValue) (node : NodeValue) (store : StoreValue) (notes : List Note) : Type 0 where
   pub genesis : Genesis
   pub began : whose ≡ header_of genesis whose.node
@@ -99,8 +100,8 @@ pub record TakesUp (m : Meaning) (IsText : List ℕ → Type 0) (disks : Side �
   pub opens : Opens (seen disks) whose (text m genesis []) store standing
   pub restores : Restores m IsText whose standing node notes
 
--- what was taken up is of this header and goes on, in whatever format its file has: its store has not failed, its node has not halted, and what
--- that can execute it has executed
+-- it has restarted with this header and goes on, whatever the format of its file: its store has not failed, its node
+-- has not halted, and it has executed what it can
 pub record IsTakenUp (header : HeaderValue) (node : NodeValue) (store : StoreValue) : Type 0 where
   pub whose : store.header ≡ header
   pub of_node : node.header ≡ header
@@ -108,8 +109,8 @@ pub record IsTakenUp (header : HeaderValue) (node : NodeValue) (store : StoreVal
   pub awake : node.halted ≡ false
   pub runs : NothingToRun node
 
--- the replica goes on as the node of this header: neither it nor its store has failed, its node has not halted, what that can execute it has
--- executed, and the store has format 2
+-- the replica goes on as the node of this header: neither it nor its store has failed, its node has not halted, it has
+-- executed what it can, and the store has format 2
 pub record MayGoOn (header : HeaderValue) (r : ReplicaValue) : Type 0 where
   pub whose : r.node.header ≡ header
   pub format : r.store.format ≡ 2
@@ -122,12 +123,12 @@ pub record MayGoOn (header : HeaderValue) (r : ReplicaValue) : Type 0 where
 abbrev pub IsOld : Image → Type 0
 IsOld image = (es : List Stored) × IsLive image es × (format es ≡ 1)
 
--- so, and it has the last generation
+-- it has, and it has the last generation
 abbrev pub IsLastOld : Image → Type 0
 IsLastOld image = (es : List Stored) × IsLive image es × (format es ≡ 1) × (max_count ≤ generation es)
 
--- it is revived as this replica, with these notes: where the file has format 1 the store was rebased at once, and so a generation was left for
--- that
+-- it restarts as this replica, with these notes: a file of format 1 was rebased at once, so it had a generation left
+-- for that
 pub record Revives (m : Meaning) (IsText : List ℕ → Type 0) (disks : Side → Disk) (whose : HeaderValue) (r : ReplicaValue) (notes : List Note) : Type 0 where
   pub node : NodeValue
   pub store : StoreValue
@@ -137,7 +138,7 @@ pub record Revives (m : Meaning) (IsText : List ℕ → Type 0) (disks : Side �
   pub alive : r.failed ≡ false
   pub store_alive : r.store.failed ≡ false
 
--- how many changing calls of the device bring it to format 2
+-- how many changing calls of the device convert it to format 2
 pub record RenewsBy (image : Image) (k : ℕ) : Type 0 where
   pub old : IsOld image → k ≡ rebase_calls
   pub rests : (IsOld image → ⊥) → k ≡ 0
@@ -146,12 +147,12 @@ pub record RenewsBy (image : Image) (k : ℕ) : Type 0 where
 abbrev pub CallsOfOpening : (Side → Disk) → Meter → Meter → Type 0
 CallsOfOpening disks m n = (k : ℕ) × OpensBy (seen disks) k × Passes m n k
 
--- and brought to format 2 where it was not
+-- and converted to format 2 if it was not
 abbrev pub CallsOfRevival : (Side → Disk) → Meter → Meter → Type 0
 CallsOfRevival disks m n = (k j : ℕ) × OpensBy (seen disks) k × RenewsBy (seen disks) j × Passes m n (k + j)
 
--- each image of the new disks comes to what an image of the old ones came to, or to a store that is begun where nothing stood, or, where what was read
--- has format 1, has its entries or the Base of format 2 of the next generation alone
+-- each image of the new disks amounts to what an image of the old ones did, or to a new store if there was none, or,
+-- if the file had format 1, has its entries or the Base of format 2 of the next generation alone
 abbrev pub NarrowsOrRenews : (Side → Disk) → (Side → Disk) → HeaderValue → List ℕ → Type 0
 NarrowsOrRenews old new whose zero = (image : Image) → MayLeaveBoth new image
     → ((before : Image) × MayLeaveBoth old before × SameMeaning before image)
@@ -159,7 +160,7 @@ NarrowsOrRenews old new whose zero = (image : Image) → MayLeaveBoth new image
     ⊎ ((es : List Stored) × IsLive (seen old) es × (format es ≡ 1)
     × (IsLive image es ⊎ ((b : BaseValue) × (b.format ≡ 2) × (b.generation ≡ generation es + 1) × IsLive image (Base b ∷ []))))
 
--- what these disks stand for may not be revived
+-- no node may restart from what these disks stand for
 pub record NoneRevives (m : Meaning) (IsText : List ℕ → Type 0) (disks : Side → Disk) (whose : HeaderValue) : Type 0 where
   pub genesis : Genesis
   pub began : whose ≡ header_of genesis whose.node
@@ -167,7 +168,7 @@ pub record NoneRevives (m : Meaning) (IsText : List ℕ → Type 0) (disks : Sid
   pub stands : StandsAs whose (text m genesis []) (seen disks) standing
   pub none : (w : WholeValue) → MayRevive IsText whose standing w → ⊥
 
--- what these disks stand for may be revived
+-- a node may restart from what these disks stand for
 pub record SomeRevives (m : Meaning) (IsText : List ℕ → Type 0) (disks : Side → Disk) (whose : HeaderValue) : Type 0 where
   pub genesis : Genesis
   pub began : whose ≡ header_of genesis whose.node
@@ -176,9 +177,10 @@ pub record SomeRevives (m : Meaning) (IsText : List ℕ → Type 0) (disks : Sid
   pub whole : WholeValue
   pub may : MayRevive IsText whose standing whole
 
--- a revival of these disks was refused with the fault of this number for its cause, and left those disks: 9 comes where the files are damaged or
--- what they stand for may not be revived, 10 where they are another's, and 11 where the file has format 1, no generation is left for a rebase, and what
--- the file stands for may be revived: 9 is told first. Damaged files and another's stay as they are
+-- a restart from these disks failed with the fault of this number for its cause, and left those disks: 9 if the files
+-- are damaged or no node may restart from what they stand for, 10 if they are another's, and 11 if the file has format
+-- 1, no generation is left for a rebase, and a node may restart from what the file stands for: 9 has precedence.
+-- Damaged files and another's are unchanged
 pub record IsRefusedFor (m : Meaning) (IsText : List ℕ → Type 0) (old : Side → Disk) (whose : HeaderValue) (number : ℕ) (left : Side → Disk) : Type 0 where
   pub damaged : number ≡ 9 → IsDamaged (seen old) ⊎ NoneRevives m IsText old whose
   pub wrong : number ≡ 10 → IsWrong (seen old) whose
@@ -187,14 +189,14 @@ pub record IsRefusedFor (m : Meaning) (IsText : List ℕ → Type 0) (old : Side
   pub damaged_stays : IsDamaged (seen old) → number ≡ 9 → AreSame old left
   pub wrong_stays : number ≡ 10 → AreSame old left
 
--- so by a device in memory: 7 comes exactly where one of its calls has failed, and no other number than 7 to 11 comes
+-- the same with a device in memory: 7 exactly if one of its calls has failed, and no other number than 7 to 11
 pub record IsNotRevived (m : Meaning) (IsText : List ℕ → Type 0) (device : Memory) (whose : HeaderValue) (number : ℕ) (left : Memory) : Type 0 where
   pub failures : left.failures ≡ failures_by number device.failures
   pub calls : RefusedAfter number device.meter left.meter
   pub cause : IsRefusedFor m IsText (disk_of device) whose number (disk_of left)
   pub only : (7 ≤ number) × (number ≤ 11)
 
--- what a revival came to
+-- the result of a restart
 abbrev pub RevivesTo : Meaning → (List ℕ → Type 0) → Memory → HeaderValue → Result (ReplicaValue × List Note) (ℕ × Memory) → Type 0
 RevivesTo m IsText device whose (Ok came) =
     Revives m IsText (disk_of device) whose came.0 came.1

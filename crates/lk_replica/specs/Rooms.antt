@@ -4,7 +4,7 @@ use Rattle.lk_types.specs.Limits.{max_base}
 use Rattle.lk_disk.specs.Disk.{Disk, contents}
 use Rattle.lk_disk.specs.declared.device.Side.{Side}
 
--- a step: sixteen entries of 102 bytes, which are 1,632 of the 4,096 that it may append
+-- a step: sixteen entries of 102 bytes, 1,632 of the 4,096 that it may append
 abbrev pub max_step : ℕ
 max_step = 102 * 16
 
@@ -16,7 +16,7 @@ max_after = 131072 + max_step
 abbrev pub GrowsByStep : (Side → Disk) → (Side → Disk) → Type 0
 GrowsByStep old new = (s : Side) → length (contents (new s)) ≤ length (contents (old s)) + max_step
 
--- nor has it apart from a Base, which may stand in the place of what the file held
+-- nor has it except by a Base, which may replace what the file held
 abbrev pub GrowsFromBase : (Side → Disk) → (Side → Disk) → Type 0
 GrowsFromBase old new = (s : Side) → length (contents (new s)) ≤ max (length (contents (old s))) max_base + max_step
 

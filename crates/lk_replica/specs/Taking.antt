@@ -1,4 +1,4 @@
--- What a call of a replica has done, that and nothing else, and what it leaves, also where it was refused.
+-- What a call of a replica has done, and nothing else, and what it leaves, even after an error.
 use Rattle.std.specs.Prelude.{◌≡◌, ℕ, ◌+◌, ◌<◌, ◌≤◌, ⊤, true, false, if◌then◌else◌, Option, Result, Ok, Err, List, [], ◌++◌, length, Contains, Vec}
 use Rattle.std.specs.Global.{Global}
 use Rattle.lk_disk.specs.Meters.{Passes}
@@ -33,13 +33,13 @@ use Rattle.lk_replica.specs.ReplicaValue.{ReplicaValue}
 use Rattle.lk_node.specs.NodeValue.{NodeValue}
 use Rattle.lk_node.specs.Steps.{Steps}
 
--- the outbox's entries stand after what the store held, and all of it is synced where the outbox says so
+-- the outbox's entries follow what the store held, and everything is synced if the outbox says so
 abbrev pub Puts : StoreValue → OutboxValue → StoreValue → Type 0
 Puts old out new = (ks ls : List Stored) → Holds old ks ls
     → (out.sync ≡ false → Holds new ks (ls ++ plain out.entries)) × (out.sync ≡ true → Holds new (ks ++ (ls ++ plain out.entries)) [])
 
--- what the outbox says is written: where it says so a Base of the node, which then stands on it, in place of the entries, and else these, by which
--- neither file grows by more than a step
+-- the outbox is written: if it says so, a Base of the node, which then matches it, in place of the entries, and
+-- otherwise these, by which neither file grows by more than a step
 pub record Writes (node : NodeValue) (store : StoreValue) (out : OutboxValue) (new : NodeValue) (after : StoreValue) : Type 0 where
   pub rebases : out.rebase ≡ true → Rebases node store new after
   pub puts : out.rebase ≡ false → (new ≡ node) × Puts store out after
@@ -53,15 +53,15 @@ write_calls out = if out.rebase then rebase_calls else put_calls out.entries out
 abbrev pub CallsOfStep : NodeValue → StoreValue → OutboxValue → StoreValue → Type 0
 CallsOfStep node store out new = (k : ℕ) × CallsWhereDue node store k × Passes store.meter new.meter (k + write_calls out)
 
--- a step was taken, and what its outbox says is written, in the calls that this takes of a device that counts them (`Metered`)
+-- a step was taken, and its outbox is written, in the calls that this takes of a device that counts them (`Metered`)
 pub record StepsToDisk (m : Meaning) (IsText : List ℕ → Type 0) (Metered : Type 0) (node : NodeValue) (store : StoreValue) (i : Input) (out : OutboxValue) (new : NodeValue) (after : StoreValue) : Type 0 where
   pub stepped : NodeValue
   pub steps : Steps m IsText node i stepped out
   pub writes : Writes stepped store out new after
   pub calls : Metered → Passes store.meter after.meter (write_calls out)
 
--- the replica has rebased where that was due, taken a step, written what the outbox says, given its notes, and sent its letters, and
--- goes on. `Metered` says that its device is
+-- the replica has rebased if that was due, taken a step, written the outbox, returned its notes, and sent its letters,
+-- and goes on. `Metered` says that its device counts its calls
 pub record IsTaken (m : Meaning) (IsText : List ℕ → Type 0) (Metered : Type 0) (old : ReplicaValue) (i : Input) (new : ReplicaValue) (notes : List Note) (Sends : List LetterValue → Type 0) : Type 0 where
   pub mid : NodeValue
   pub between : StoreValue
@@ -77,9 +77,10 @@ pub record IsTaken (m : Meaning) (IsText : List ℕ → Type 0) (Metered : Type 
   pub store_alive : new.store.failed ≡ false
   pub awake : new.node.halted ≡ false
 
--- what a call tells of the letters that it gave to its post, whatever the post: where it goes on it has taken its step, and these are the step's
--- letters; all that it notes and gives it may note and send by what it holds; and, after any exit, whatever has happened and whatever it was
--- revived on, each image that a stop may leave covers what they say for the node: it was synced before they were given
+-- what a call says of the letters that it gave to its post, whatever the post: if it goes on, it has taken its step,
+-- and these are the step's letters; what it holds permits all its notes and letters; and, however it ends, whatever
+-- has happened and whatever it restarted from, each image that a stop may leave covers what they say on behalf of the
+-- node: it was synced before they were given
 pub record GivesBy (m : Meaning) (IsText : List ℕ → Type 0) (Metered : Type 0) (old : ReplicaValue) (i : Input) (new : ReplicaValue) (r : Result (Vec Note Global) ReplicaFault) (letters : List LetterValue) (Sends : List LetterValue → Type 0) : Type 0 where
   pub taken : IfGoesOn r (λ notes. IsTaken m IsText Metered old i new notes (λ all. (all ≡ letters) × Sends all))
   pub goes : (h : History) (n : ℕ) → NodeFits m h n (Stands m old.node old.store h.genesis n) (disks old.store) → InputFits h i
@@ -87,11 +88,12 @@ pub record GivesBy (m : Meaning) (IsText : List ℕ → Type 0) (Metered : Type 
   pub syncs : (genesis : Genesis) (n : ℕ) (x : NodeMessage) → Remembers old.node old.store genesis n
       → (d : Datagram) → Contains (batch_of n letters) d → Spells (said_by genesis n x) d.bytes → AllCover m genesis n (disks new.store) x
 
--- a call was refused with the fault of this number, for its cause: 7 exactly where the device has failed once more, 11 only after an
--- earlier refusal, after which there is no other, or where no generation is left, or only one and a rebase was due: a call rebases twice at most; and
--- 14 exactly where the node has halted. It has ended the replica, unless it tells that a datagram was lost; its store has gone over only by a rebase that
--- was due; and where no call of the device has failed, the files are as they were, or as that rebase left them. `Honest` says that its device does what
--- it tells, and `Metered` that it counts its calls
+-- a call failed with the fault of this number, for its cause: 7 exactly if the device has failed once more, 11 only
+-- after an earlier error, after which there is no other, or if no generation is left, or only one and a rebase was due
+-- (a call rebases at most twice); and 14 exactly if the node has halted. It has ended the replica, unless it reports a
+-- lost datagram; its store has switched files only by a rebase that was due; and if no call of the device has failed,
+-- the files are unchanged, or as that rebase left them. `Honest` says that its device does what its contract says, and
+-- `Metered` that it counts its calls
 pub record IsRefused (Honest Metered : Type 0) (old new : ReplicaValue) (number : ℕ) : Type 0 where
   pub told : IsNumberOfCalls number
   pub failures : new.store.failures ≡ failures_by number old.store.failures
@@ -105,8 +107,8 @@ pub record IsRefused (Honest Metered : Type 0) (old new : ReplicaValue) (number 
   pub halts : number ≡ 14 → new.node.halted ≡ true
   pub awake : old.node.halted ≡ false → (number ≡ 14 → ⊥) → new.node.halted ≡ false
 
--- the replica goes on: it and its store have not failed, its node has not halted and has executed what it could, and where the store kept
--- what the acceptor holds, it keeps what it holds now
+-- the replica goes on: it and its store have not failed, its node has not halted and has executed what it could, and
+-- if the store kept what the acceptor holds, it still does
 pub record StaysUp (Honest : Type 0) (old new : ReplicaValue) : Type 0 where
   pub alive : new.failed ≡ false
   pub store_alive : new.store.failed ≡ false
@@ -114,16 +116,16 @@ pub record StaysUp (Honest : Type 0) (old new : ReplicaValue) : Type 0 where
   pub runs : NothingToRun new.node
   pub remembers : Honest → (genesis : Genesis) (n : ℕ) → Remembers old.node old.store genesis n → Remembers new.node new.store genesis n
 
--- a node and its store go on so: the store has not failed, the node has not halted, it has executed what it could where it had before, and
--- where the store kept what the acceptor held, it keeps what it holds now
+-- a node and its store go on: the store has not failed, the node has not halted, it has executed what it could if it
+-- had before, and if the store kept what the acceptor held, it still does
 pub record StepsOn (Honest : Type 0) (node : NodeValue) (store : StoreValue) (new : NodeValue) (after : StoreValue) : Type 0 where
   pub store_alive : after.failed ≡ false
   pub awake : new.halted ≡ false
   pub runs : NothingToRun node → NothingToRun new
   pub remembers : Honest → (genesis : Genesis) (n : ℕ) → Remembers node store genesis n → Remembers new after genesis n
 
--- a part of a call was refused so, which rebases so many times at most, and more than once only where a rebase was due; it leaves the store with such a
--- file, and the files so where no call of the device has failed
+-- a part of a call failed with this, which rebases at most this often, and more than once only if a rebase was due; it
+-- leaves the store with such a file, and, if no call of the device has failed, the files like this
 pub record IsCutShort (Honest Metered : Type 0) (most : ℕ) (node : NodeValue) (store : StoreValue) (new : NodeValue) (after : StoreValue) (File Left : Type 0) (e : ReplicaFault) : Type 0 where
   pub told : IsOfCalls e
   pub only : IfSend (λ notes. ⊥) e
@@ -135,27 +137,27 @@ pub record IsCutShort (Honest Metered : Type 0) (most : ℕ) (node : NodeValue) 
   pub halts : e ≡ fault.Halted → new.halted ≡ true
   pub awake : node.halted ≡ false → (fault_number e ≡ 14 → ⊥) → new.halted ≡ false
 
--- what a call leaves on the disks, however it ends: where the history has what the call was given, each image that a stop may leave fits the
--- history as it was; each covers what every image covered; and neither file is longer than it was, or else than so many bytes, nor has it grown by more
--- than a step apart from a Base
+-- what a call leaves on the disks, however it ends: if the history has the call's input, each image that a stop may
+-- leave fits the earlier history; each covers what every image covered; and neither file has grown, except up to this
+-- many bytes, nor by more than a step except by a Base
 pub record LeavesDisks (m : Meaning) (Hears : History → Type 0) (most : ℕ) (node : NodeValue) (store : StoreValue) (after : Side → Disk) : Type 0 where
   pub ends : (h : History) (n : ℕ) → NodeFits m h n (Stands m node store h.genesis n) (disks store) → Hears h → DisksFit m h n after
   pub covers : (genesis : Genesis) (n : ℕ) (x : NodeMessage) → Remembers node store genesis n → AllCover m genesis n (disks store) x → AllCover m genesis n after x
   pub room : StaysWithin most (disks store) after
   pub grows : GrowsFromBase (disks store) after
 
--- so of a step alone: the files are no longer than that where the live one was shorter than what makes a rebase due
+-- the same of a step alone: the files are no longer than that if the live one was shorter than what makes a rebase due
 pub record StepLeavesDisks (m : Meaning) (Hears : History → Type 0) (most : ℕ) (node : NodeValue) (store : StoreValue) (after : Side → Disk) : Type 0 where
   pub ends : (h : History) (n : ℕ) → NodeFits m h n (Stands m node store h.genesis n) (disks store) → Hears h → DisksFit m h n after
   pub covers : (genesis : Genesis) (n : ℕ) (x : NodeMessage) → Remembers node store genesis n → AllCover m genesis n (disks store) x → AllCover m genesis n after x
   pub room : length (contents store.live_disk) < 131072 → StaysWithin most (disks store) after
   pub grows : GrowsFromBase (disks store) after
 
--- a rebase is due and no generation is left for it: so it is refused, and not for memory
+-- a rebase is due and no generation is left for it: so it fails, and not for want of memory
 abbrev pub IsOfLast : ReplicaValue → ℕ → Type 0
 IsOfLast old number = max_count ≤ old.store.generation → IsDue old.node old.store → WantsNoMemory number
 
--- the replica was given this, and sent these datagrams of its node
+-- the replica took this input, and sent these datagrams of its node
 pub record IsTakenAs (m : Meaning) (IsText : List ℕ → Type 0) (old : ReplicaValue) (bytes : Option (List ℕ)) (new : ReplicaValue) (notes : List Note) (sent : List Datagram) : Type 0 where
   pub input : Input
   pub given : heard_by input ≡ bytes
@@ -163,7 +165,7 @@ pub record IsTakenAs (m : Meaning) (IsText : List ℕ → Type 0) (old : Replica
   pub batch : sent ≡ batch_of old.node.header.node letters
   pub taken : IsTaken m IsText ⊤ old input new notes (λ ls. ls ≡ letters)
 
--- what a call came to
+-- the result of a call
 abbrev pub ComesTo : Meaning → (List ℕ → Type 0) → ReplicaValue → Option (List ℕ) → ReplicaValue → Result (List Note × List Datagram) ℕ → Type 0
 ComesTo m IsText old bytes new (Ok told) = IsTakenAs m IsText old bytes new told.0 told.1
 ComesTo m IsText old bytes new (Err number) = IsRefused ⊤ ⊤ old new number × IsOfLast old number

@@ -1,4 +1,4 @@
--- What a group of inputs comes to, step by step, where a replica takes them together.
+-- The result of a group of inputs, step by step, when a replica takes them together.
 use Rattle.std.specs.Prelude.{◌≡◌, ◌⊎◌, ℕ, Bool, true, false, List, [], ◌∷◌, ◌++◌, map, take, drop, Option, Result, Ok, Err, ⊤}
 use Rattle.lk_disk.specs.Disk.{Disk}
 use Rattle.lk_disk.specs.declared.device.Side.{Side}
@@ -20,16 +20,16 @@ use Rattle.lk_replica.specs.declared.taken.TakenAll.{TakenAll}
 
 -- ---- what the steps noted, and what they sent
 
--- what a step of the group noted, and what it said, which is sent once all of them are over
+-- the notes and the letters of a step of the group, which are sent once all steps are over
 abbrev pub Said : Type 0
 Said = List Note × List Datagram
 
--- all that was sent of it
+-- everything that was sent of it
 abbrev pub sent_of : List Said → List Datagram
 sent_of [] = []
 sent_of (x ∷ xs) = x.1 ++ sent_of xs
 
--- each step takes its own of what the group sent, or what is left of that
+-- each step takes its own part of what the group sent, or of what is left of that
 abbrev pub parts_of : List Step → List Datagram → List Said
 parts_of [] sent = []
 parts_of (s ∷ steps) sent = (s.notes.items, take s.sends sent) ∷ parts_of steps (drop s.sends sent)
@@ -42,10 +42,11 @@ abbrev pub said_by_steps : ℕ → List StepSaid → List Said
 said_by_steps n [] = []
 said_by_steps n (x ∷ xs) = (x.0, batch_of n x.1) ∷ said_by_steps n xs
 
--- ---- what the replica may note and send, in each history to which it fits
+-- ---- what the replica may note and send, in each history that it fits
 
--- The replica took these inputs in order: in each history to which it fits, in which what it said before is sent, it goes on by each of them as by a call
--- of `take`, and at last it is as it would be. Each `mid` is as the replica will be once all is synced that it has written.
+-- The replica took these inputs in order: in each history that it fits, and that contains what it said before, it goes
+-- on at each of them as in a call of `take`, and at the end it is as it would be. Each `mid` is the replica as it will
+-- be once everything that it has written is synced.
 abbrev pub GoesAll : {R : Type 0} → (R → Genesis → ℕ → Holding → Type 0) → (R → Side → Disk) → Meaning → ℕ → R → List Input → R → List Said → Type 0
 GoesAll Shows disks m n r [] q said = (said ≡ [])
     × ((h : History) → NodeFits m h n (Shows r h.genesis n) (disks r) → Goes m h n (Shows q h.genesis n) (disks q) [] [])
@@ -55,10 +56,10 @@ GoesAll {R} Shows disks m n r (i ∷ is) q said = (mid : R) × (one : Said) × (
     × StaysWithin max_after (disks r) (disks mid)
     × GoesAll Shows disks m n mid is q rest
 
--- ---- what it has done, that and nothing else
+-- ---- what it has done, and nothing else
 
--- these inputs were gathered, one after another, by a node whose files stood so, and of which something waited for a sync or not; and what each step noted
--- and said
+-- a node with these files, of which something waited for a sync or not, took these inputs, one after another; and the
+-- notes and letters of each step
 abbrev pub GathersAll : Meaning → (List ℕ → Type 0) → NodeValue → StoreValue → Bool → List Input → NodeValue → StoreValue → Bool → List StepSaid → Type 0
 GathersAll m IsText node store waits [] new after still steps = (new ≡ node) × (after ≡ store) × (still ≡ waits) × (steps ≡ [])
 GathersAll m IsText node store waits (i ∷ is) new after still steps =
@@ -66,12 +67,12 @@ GathersAll m IsText node store waits (i ∷ is) new after still steps =
     × IsGathered m IsText ⊤ node store (record { notes = []; letters = []; waits = waits }) i mid between one
     × GathersAll m IsText mid between one.waits is new after still rest
 
--- these were given to the replica, and it gathered them, after which it was so
+-- the replica took these inputs, after which it was in this state
 pub record IsGatheredFrom (m : Meaning) (IsText : List ℕ → Type 0) (old : ReplicaValue) (inputs : List Input) (mid : ReplicaValue) (waits : Bool) (steps : List StepSaid) : Type 0 where
   pub gathers : GathersAll m IsText old.node old.store false inputs mid.node mid.store waits steps
   pub alive : (mid ≡ old) ⊎ (mid.failed ≡ false)
 
--- it took all of these, synced once where something waited for that, and then sent what the steps had said
+-- it took all of these, synced once if something waited for that, and then sent the letters of the steps
 pub record IsTakenTogether (m : Meaning) (IsText : List ℕ → Type 0) (old : ReplicaValue) (given : List (Option (List ℕ))) (new : ReplicaValue) (said : List Said) : Type 0 where
   pub inputs : List Input
   pub are : map heard_by inputs ≡ given
@@ -83,17 +84,17 @@ pub record IsTakenTogether (m : Meaning) (IsText : List ℕ → Type 0) (old : R
   pub sends : said ≡ said_by_steps old.node.header.node steps
   pub alive : new.failed ≡ false
 
--- memory was refused for what a step came to, which ended the replica
+-- memory ran out for the result of a step, which ended the replica
 pub record IsNotKept (mid new : ReplicaValue) (number : ℕ) : Type 0 where
   pub no_memory : number ≡ 8
   pub ends : new ≡ record mid { failed = true }
 
--- memory was refused for what was to be sent, once it was synced
+-- memory ran out for what was to be sent, once it was synced
 pub record IsNotSent (mid : ReplicaValue) (waits : Bool) (new : ReplicaValue) (number : ℕ) : Type 0 where
   pub not_sent : number ≡ 15
   pub settled : IsSettled ⊤ mid waits new
 
--- it gathered the first of these, and then a call was refused so; nothing was sent
+-- it took the first of these, and then a call failed with this; nothing was sent
 pub record IsTogetherRefused (m : Meaning) (IsText : List ℕ → Type 0) (old : ReplicaValue) (given : List (Option (List ℕ))) (new : ReplicaValue) (number : ℕ) : Type 0 where
   pub inputs : List Input
   pub rest : List Input
@@ -104,7 +105,7 @@ pub record IsTogetherRefused (m : Meaning) (IsText : List ℕ → Type 0) (old :
   pub gathered : IsGatheredFrom m IsText old inputs mid waits steps
   pub refused : IsRefusedInGroup ⊤ ⊤ mid new number ⊎ IsNotKept mid new number ⊎ IsNotSent mid waits new number
 
--- what a call came to
+-- the result of a call
 abbrev pub ComesToAll : Meaning → (List ℕ → Type 0) → ReplicaValue → List (Option (List ℕ)) → ReplicaValue → Result (List (List Note × List Datagram)) ℕ → Type 0
 ComesToAll m IsText old given new (Ok said) = IsTakenTogether m IsText old given new said
 ComesToAll m IsText old given new (Err number) = IsTogetherRefused m IsText old given new number

@@ -10,7 +10,7 @@ use lk_types::{NoMemory, NodeNo};
 use std::alloc::Global;
 use std::marker::Model;
 
-/// The letters that were sent, in order, and how often memory was refused for one.
+/// The letters that were sent, in order, and how many were lost for want of memory.
 #[derive(Drop)]
 pub struct Collected {
     alloc: Global,
@@ -48,7 +48,7 @@ impl Post for Collected {
     }
 }
 
-// For whom a letter is bound, without its port.
+// The recipient of a letter, without its port.
 fn party_of(to: To) -> Party
     ensures { result ≡ party_of to }
 {
@@ -58,7 +58,7 @@ fn party_of(to: To) -> Party
     }
 }
 
-// The datagram that a letter of the node is.
+// The datagram of a node's letter.
 fn datagram_of(node: NodeNo, letter: Letter) -> Datagram
     ensures { result ≡ datagram_of node letter }
 {
@@ -78,7 +78,7 @@ pub fn datagrams(
     letters: Vec<Letter>,
 ) -> Result<Vec<Datagram>, NoMemory>
     ensures ok { IfOk result (λ ds. ds.items ≡ batch_of node letters.items) }
-    // Memory is wanted only where there are letters.
+    // Only letters need memory.
     ensures memory { OnErr result (letters.items ≡ [] → ⊥) }
 {
     let mut datagrams = Vec::new(alloc);
@@ -89,7 +89,7 @@ pub fn datagrams(
 }
 
 impl Collected {
-    /// Nothing was sent.
+    /// Nothing has been sent.
     pub fn new(alloc: Global) -> Collected
         ensures { result ≡ record { letters = []; failures = 0 } }
     {
@@ -100,7 +100,7 @@ impl Collected {
         }
     }
 
-    // One more letter.
+    // Keeps one more letter.
     fn keep(&mut self, to: To, bytes: &[u8]) -> Result<(), NoMemory>
         ensures ok { OnOk result (self.new ≡ record { letters = self.old.letters ++ record { to = to; bytes = bytes.now } ∷ []; failures = self.old.failures }) }
         ensures err { OnErr result (self.new ≡ self.old) }
@@ -113,7 +113,7 @@ impl Collected {
     /// The letters as datagrams of the node.
     pub fn into_datagrams(self, node: NodeNo) -> Result<Vec<Datagram>, NoMemory>
         ensures ok { IfOk result (λ ds. ds.items ≡ batch_of node self.letters) }
-        // Memory is wanted only where there are letters.
+        // Only letters need memory.
         ensures memory { OnErr result (self.letters ≡ [] → ⊥) }
     {
         let Collected {

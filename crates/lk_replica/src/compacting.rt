@@ -1,4 +1,4 @@
-// Writing all that a node holds as the Base of the other file.
+// Writing everything that a node holds as the Base of the other file.
 ghost use Rattle.std.specs.Prelude.{◌≡◌, ◌+◌, ◌≤◌, ◌<◌, length, List, false, true, ◌↔◌, IsTrue, OnOk, IfOk, IfErr, IsErrAnd, IsErrOf, ⊤};
 ghost use Rattle.lk_types.specs.Limits.{max_base, max_count};
 ghost use Rattle.lk_disk.specs.Disk.{contents};
@@ -21,25 +21,25 @@ use lk_node::Node;
 use lk_state::Machine;
 use lk_types::limits::MAX_COUNT;
 
-/// Writes what the node holds as the Base of the other file, and goes over to it: a snapshot of all that was executed takes
-/// the place of the commands and the votes up to there. Nothing is sent. At generation 2^48 nothing is written, and it refuses with
-/// `Failed` (11), also where memory is refused.
+/// Writes what the node holds as the Base of the other file, and switches to that file: a snapshot of everything
+/// executed replaces the commands and the votes up to there. Sends nothing. At generation 2^48 it writes nothing and
+/// fails with `Failed` (11), even if it is out of memory.
 pub fn write_base<M: Machine, D: LogDisk + Drop>(
     node: &mut Node<M>,
     store: &mut Store<D>,
 ) -> Result<(), ReplicaFault>
-    // At Ok it has gone over: its Base alone stands there, the node stands on it, and goes on.
+    // At Ok it has switched: the Base alone is in the file, the node matches it, and goes on.
     ensures done { D.is_honest → OnOk result (HasGoneOver M.meaning D.is_metered node.old store.old node.new store.new) }
     ensures becomes { OnOk result (StandsOnBase node.old store.old node.new store.new) }
-    // After any exit each image that a stop may leave fits, and covers what every image covered, and neither file is longer than it was, or
-    // else than a Base.
+    // However it ends, every image that a stop may leave fits and covers what every image covered before, and neither
+    // file has grown, except up to the size of a Base.
     ensures disks { D.is_honest → StaysSafe M.meaning node.old store.old store.new }
-    // After any exit each image has what it had, or the Base alone.
+    // However it ends, every image has what it had before, or the Base alone.
     ensures any { D.is_honest → (ks ls : List Stored) → Holds store.old ks ls → KeepsOrIs (disks store.new) ks ls (next_base store.old (standing_of node.old)) }
     ensures within { node.old.acceptor.state.snapshot_position ≤ executed node.old.learner }
     ensures wakes { node.new.halted ≡ node.old.halted }
     ensures format_stays { store.old.format ≡ 2 → store.new.format ≡ 2 }
-    // A refusal leaves the node as it was, and the same file live.
+    // An error leaves the node unchanged, and the same file live.
     ensures refused { IfErr result (IsNotRebased D.is_honest D.is_metered node.old store.old node.new store.new) }
     ensures last { max_count ≤ store.old.generation → (store.new ≡ store.old) × IsErrOf result ReplicaFault.Failed }
     ensures cause { RaisesFailures store.old.failures store.new.failures result }
@@ -54,7 +54,7 @@ pub fn write_base<M: Machine, D: LogDisk + Drop>(
     Ok(())
 }
 
-/// Whether a rebase is due: the live file has grown to half of what a file may hold, or 256 positions are executed above the
+/// Whether a rebase is due: the live file has grown to half of its maximum, or 256 positions are executed above the
 /// snapshot.
 pub fn is_due<M: Machine, D: LogDisk + Drop>(
     node: &Node<M>,
@@ -74,19 +74,20 @@ pub fn is_due<M: Machine, D: LogDisk + Drop>(
     Ok(length >= 131_072 || node.is_far())
 }
 
-/// Writes the node's Base where that is due.
+/// Writes the node's Base if that is due.
 pub fn rebase_where_due<M: Machine, D: LogDisk + Drop>(
     node: &mut Node<M>,
     store: &mut Store<D>,
 ) -> Result<(), ReplicaFault>
     ensures done { D.is_honest → OnOk result (IsReadyToStep M.meaning D.is_metered node.old store.old node.new store.new) }
     ensures alive { OnOk result (StaysAlive node.old store.old node.new store.new) }
-    // What is on the disks after any exit: neither file is longer than it was, or else than a Base.
+    // What is on the disks, however it ends: neither file has grown, except up to the size of a Base.
     ensures disks { D.is_honest → LeavesDisks M.meaning (λ h. ⊤) max_base node.old store.old (disks store.new) }
     ensures wakes { node.new.halted ≡ node.old.halted }
     ensures format_stays { store.old.format ≡ 2 → store.new.format ≡ 2 }
     ensures refused { IfErr result (IsNotRebased D.is_honest D.is_metered node.old store.old node.new store.new) }
-    // Where a rebase is due at generation 2^48, it answers `Failed`, also where memory is refused, or `Device` where the device fails.
+    // If a rebase is due at generation 2^48, it fails with `Failed`, even if it is out of memory, or with `Device` if
+    // the device fails.
     ensures last { D.is_honest → max_count ≤ store.old.generation → IsDue node.old store.old → IsErrAnd result (λ e. WantsNoMemory (fault_number e)) }
     ensures cause { RaisesFailures store.old.failures store.new.failures result }
 {
@@ -99,25 +100,26 @@ pub fn rebase_where_due<M: Machine, D: LogDisk + Drop>(
 }
 
 impl<M: Machine, D: LogDisk + Drop> Replica<M, D> {
-    /// Writes a snapshot of all that is executed, in the place of the commands and the votes up to there.
+    /// Writes a snapshot of everything executed, which replaces the commands and the votes up to there.
     ///
-    /// It refuses with `Device` (7), `NoMemory` (8), and at generation 2^48 with `Failed` (11); after that each later call
-    /// answers `Failed` (11).
+    /// It fails with `Device` (7), `NoMemory` (8), or, at generation 2^48, `Failed` (11); after that every call fails
+    /// with `Failed` (11).
     pub fn compact(&mut self) -> Result<(), ReplicaFault>
-        // At Ok it has gone over to its Base in four calls of the device: the node goes on, and each image stands for a snapshot of all that
-        // is executed.
+        // At Ok it has switched to its Base in four calls of the device: the node goes on, and every image stands for
+        // a snapshot of everything executed.
         ensures done { D.is_honest → OnOk result (HasGoneOver M.meaning D.is_metered self.old.node self.old.store self.new.node self.new.store) }
         ensures becomes { OnOk result (StandsOnBase self.old.node self.old.store self.new.node self.new.store) }
         ensures alive { OnOk result (self.new.failed ≡ false) }
-        // What is on the disks after any exit: neither file is longer than it was, or else than a Base.
+        // What is on the disks, however it ends: neither file has grown, except up to the size of a Base.
         ensures disks { D.is_honest → LeavesDisks M.meaning (λ h. ⊤) max_base self.old.node self.old.store (disks self.new.store) }
         ensures wakes { self.new.node.halted ≡ self.old.node.halted }
-        // Nothing but 7, 8 and 11 comes, each for its cause, and each ends it; the node is as it was, and the same file is live.
+        // It fails only with 7, 8 or 11, each for its cause, and each ends it; the node is unchanged, and the same
+        // file is live.
         ensures refused { IfErr result (λ e. IsNotCompacted D.is_honest D.is_metered self.old self.new (fault_number e)) }
         ensures failed { self.old.failed ≡ true → IsErrOf result ReplicaFault.Failed }
-        // At generation 2^48 it answers `Failed`, also where memory is refused, and leaves its store as it was.
+        // At generation 2^48 it fails with `Failed`, even if it is out of memory, and leaves its store unchanged.
         ensures last { max_count ≤ self.old.store.generation → (self.new.store ≡ self.old.store) × IsErrOf result ReplicaFault.Failed }
-        // `Device` comes exactly where a call of the device has failed.
+        // It fails with `Device` exactly if a call of the device has failed.
         ensures cause { RaisesFailures self.old.store.failures self.new.store.failures result }
     {
         if self.failed {

@@ -1,7 +1,7 @@
 use lk_history::Party;
 use std::marker::Model;
 
-/// A datagram: who sends it, for whom it is bound, and its bytes.
+/// A datagram: its sender, its recipient, and its bytes.
 #[derive(Drop)]
 pub struct Datagram {
     pub from: Party,

@@ -1,4 +1,4 @@
-// Sending what a step tells to send. No device is in its reach.
+// Sends the letters of a step. It has no access to a device.
 ghost use Rattle.std.specs.Prelude.{◌≡◌, ◌≢◌, ℕ, true, false, [], ◌∷◌, ◌++◌, OnOk, OnErr};
 ghost use Rattle.lk_disk.specs.Disk.{one_more};
 ghost use Rattle.lk_replica.specs.Posts.{CarriesAll, SendsSome, more_by};
@@ -6,7 +6,7 @@ ghost use Rattle.lk_replica.specs.Posts.{CarriesAll, SendsSome, more_by};
 use crate::post::{Post, SendFault};
 use lk_step::Letter;
 
-// Sends a letter, and tells whether it was sent.
+// Sends a letter. Returns whether it was sent.
 fn is_sent<P: Post>(letter: &Letter, post: &mut P) -> bool
     ensures carries { P.Carries post.old letter.now result post.new }
     ensures sent { P.is_telling → result ≡ true → P.sent post.new ≡ P.sent post.old ++ letter.now ∷ [] }
@@ -20,7 +20,7 @@ fn is_sent<P: Post>(letter: &Letter, post: &mut P) -> bool
     }
 }
 
-/// Sends the letters in order. Those whose send fails are lost, and the others are sent all the same: each of them is tried.
+/// Sends the letters in order. It tries each of them: a failed send loses that letter alone.
 pub fn deliver<P: Post>(letters: &[Letter], post: &mut P) -> Result<(), SendFault>
     ensures carries { CarriesAll P.Carries post.old letters.now post.new }
     ensures all { P.is_telling → OnOk result (P.sent post.new ≡ P.sent post.old ++ letters.now) }

@@ -9,13 +9,13 @@ use lk_step::Note;
 use lk_types::NoMemory;
 use thiserror::Error;
 
-/// Why a replica refused a call. After `Device`, `NoMemory`, `Failed` and `Halted` each later call answers `Failed`, until
-/// its disks are revived. After `Send` it goes on.
+/// Why a replica rejected a call. After `Device`, `NoMemory`, `Failed` and `Halted` every call fails with `Failed`,
+/// until the replica restarts from its disks. After `Send` it goes on.
 #[derive(Debug, Drop, Error)]
 pub enum ReplicaFault {
     #[error("the device failed")]
     Device,
-    /// The store was refused memory.
+    /// The store is out of memory.
     #[error("no memory")]
     NoMemory,
     #[error("the store is damaged")]
@@ -24,16 +24,16 @@ pub enum ReplicaFault {
     WrongStore,
     #[error("the replica has failed before")]
     Failed,
-    /// The step was refused memory. Nothing was written or sent.
+    /// The step is out of memory. Nothing was written or sent.
     #[error("the node has halted")]
     Halted,
-    /// Some datagrams were not sent, and are lost. These are the notes of the call.
+    /// Some datagrams were not sent, and are lost. Carries the notes of the call.
     #[error("a datagram was not sent")]
     Send(Vec<Note>),
 }
 
 impl ReplicaFault {
-    /// The number of this refusal: 7 to 11, 14 or 15.
+    /// The number of this error: 7 to 11, 14 or 15.
     pub fn number(&self) -> u8
         ensures { result ≡ fault_number self.now }
     {

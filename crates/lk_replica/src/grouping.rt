@@ -1,4 +1,4 @@
-// Steps of a group: what they tell to write is written unsynced, and synced once before what they say is sent.
+// Steps of a group: their entries are written unsynced, and synced once before their letters are sent.
 ghost use Rattle.std.specs.Prelude.{◌≡◌, ℕ, ◌-◌, ◌<◌, List, [], length, true, false, Contains, IfOk, IfErr, OnOk, OnErr, IsErrOf, ⊤};
 ghost use Rattle.lk_types.specs.Limits.{max_base};
 ghost use Rattle.lk_disk.specs.Disk.{contents};
@@ -38,7 +38,7 @@ use std::alloc::Global;
 use std::marker::Model;
 use std::mem;
 
-/// What a group of inputs has come to so far: what was noted, what is to be sent, in order, and whether something that was written waits for a sync.
+/// A group so far: its notes, its letters in order, and whether something written waits for a sync.
 #[derive(Drop)]
 pub struct Group {
     notes: Vec<Note>,
@@ -55,7 +55,7 @@ impl Model for Group {
 }
 
 impl Group {
-    /// Nothing was taken.
+    /// An empty group.
     pub fn new(alloc: Global) -> Group
         ensures { result ≡ record { notes = []; letters = []; waits = false } }
     {
@@ -66,28 +66,28 @@ impl Group {
         }
     }
 
-    /// What the steps noted, in order.
+    /// The notes of the steps, in order.
     pub fn notes(&self) -> &[Note]
         ensures { result.now ≡ self.now.notes }
     {
         &self.notes
     }
 
-    /// What they said, in order.
+    /// Their letters, in order.
     pub fn letters(&self) -> &[Letter]
         ensures { result.now ≡ self.now.letters }
     {
         &self.letters
     }
 
-    /// Whether something that was written waits for a sync.
+    /// Whether something written waits for a sync.
     pub fn waits(&self) -> bool
         ensures { result ≡ self.now.waits }
     {
         self.waits
     }
 
-    /// What the last step came to, in front of which so many letters had been said. What it noted is taken out.
+    /// The last step, given how many letters preceded it. Its notes are moved out.
     pub fn take_step(&mut self, alloc: Global, before: usize) -> Step
         ensures notes { result.notes.items ≡ self.old.notes }
         ensures sends { result.sends ≡ length self.old.letters - before }
@@ -99,14 +99,14 @@ impl Group {
         }
     }
 
-    /// What it has said.
+    /// Its letters.
     pub fn into_letters(self) -> Vec<Letter>
         ensures { result.items ≡ self.letters }
     {
         self.letters
     }
 
-    /// What one more step came to, in front of which this waited.
+    /// The group with one more step, given whether something waited before it.
     pub fn add(&mut self, waits: bool, outbox: Outbox) -> Result<(), NoMemory>
         ensures { OnOk result (self.new ≡ with_step waits outbox self.old) }
     {
@@ -124,7 +124,7 @@ impl Group {
     }
 }
 
-// Sends the letters in order, and tells whether all were sent.
+// Sends the letters in order. Returns whether all were sent.
 fn are_sent<P: Post>(letters: &[Letter], post: &mut P) -> bool
     ensures carries { CarriesAll P.Carries post.old letters.now post.new }
     ensures tells { TellsSends result (P.failures post.old) (P.failures post.new) }
@@ -135,11 +135,11 @@ fn are_sent<P: Post>(letters: &[Letter], post: &mut P) -> bool
     }
 }
 
-/// Syncs the live file, where something waits for that.
+/// Syncs the live file if something waits for that.
 pub fn settle<D: LogDisk + Drop>(store: &mut Store<D>, waits: bool) -> Result<(), ReplicaFault>
     requires { store.old.format ≡ 2 }
     ensures settles { D.is_honest → OnOk result (Settles waits store.old store.new) }
-    // After any exit each image that a stop may leave has all that was synced, and a beginning of the rest.
+    // However it ends, every image that a stop may leave has everything that was synced, and a prefix of the rest.
     ensures any { D.is_honest → (ks ls : List Stored) → Holds store.old ks ls → KeepsAtLeast store.new ks ls }
     ensures room { D.is_honest → StaysWithin 0 (disks store.old) (disks store.new) }
     ensures refused { IfErr result (IsNotWritten D.is_honest D.is_metered store.old store.new) }
@@ -156,8 +156,8 @@ pub fn settle<D: LogDisk + Drop>(store: &mut Store<D>, waits: bool) -> Result<()
     Ok(())
 }
 
-// Steps, and writes what the step tells to write, unsynced; or, where it says that, the node's Base in place of it, before which is synced what waits
-// for that. Nothing is sent.
+// Steps, and writes the step's entries unsynced; or, if the step says so, the node's Base in their place, after a sync
+// if something waits for one. Sends nothing.
 fn step_to_file<M: Machine, D: LogDisk + Drop>(
     node: &mut Node<M>,
     store: &mut Store<D>,
@@ -165,19 +165,19 @@ fn step_to_file<M: Machine, D: LogDisk + Drop>(
     waits: bool,
 ) -> Result<Outbox, ReplicaFault>
     requires { store.old.format ≡ 2 }
-    // In each history in which what the group has said so far is sent, all that the step notes and says it may note and say.
+    // In each history that contains what the group has said so far, the step is permitted its notes and letters.
     ensures goes { D.is_honest → (h : History) (n : ℕ) → GroupFits M.meaning h n node.old store.old waits → InputFits h input.entry
         → IfOk result (λ o. (sent : List LetterValue) → AreOf sent o.letters → GroupGoes M.meaning h n node.new store.new (waits_after waits o) o.notes (batch_of n sent)) }
-    // In each history in which nothing of it is sent, whatever a stop may leave fits, after any exit.
+    // In each history that contains nothing of it, whatever a stop may leave fits, however it ends.
     ensures ends { D.is_honest → (h : History) (n : ℕ) → GroupStays M.meaning h n node.old store.old waits → InputFits h input.entry → DisksFit M.meaning h n (disks store.new) }
     ensures stays { D.is_honest → (h : History) (n : ℕ) → GroupStays M.meaning h n node.old store.old waits → InputFits h input.entry
         → IfOk result (λ o. GroupStays M.meaning h n node.new store.new (waits_after waits o)) }
-    // Once all is synced that waits for it, what the step says is covered, and whatever was.
+    // Once everything that waits is synced, the step's letters are covered, and whatever was covered still is.
     ensures syncs { D.is_honest → (genesis : Genesis) (n : ℕ) (x : NodeMessage) → Recalls node.old store.old waits genesis n
         → IfOk result (λ o. (d : DatagramValue) → Contains (batch_of n o.letters) d → Spells (said_by genesis n x) d.bytes → AllCover M.meaning genesis n (disks (as_sent (waits_after waits o) store.new)) x) }
     ensures still { D.is_honest → (genesis : Genesis) (n : ℕ) (x : NodeMessage) → Recalls node.old store.old waits genesis n → AllCover M.meaning genesis n (disks (as_sent waits store.old)) x
         → IfOk result (λ o. AllCover M.meaning genesis n (disks (as_sent (waits_after waits o) store.new)) x) }
-    // After any exit whatever was covered is.
+    // However it ends, whatever was covered still is.
     ensures covers { D.is_honest → (genesis : Genesis) (n : ℕ) (x : NodeMessage) → Recalls node.old store.old waits genesis n → AllCover M.meaning genesis n (disks store.old) x → AllCover M.meaning genesis n (disks store.new) x }
     ensures recalls { D.is_honest → (genesis : Genesis) (n : ℕ) → Recalls node.old store.old waits genesis n → IfOk result (λ o. Recalls node.new store.new (waits_after waits o) genesis n) }
     ensures runs { NothingToRun node.old → OnOk result (NothingToRun node.new) }
@@ -199,7 +199,7 @@ fn step_to_file<M: Machine, D: LogDisk + Drop>(
     Ok(outbox)
 }
 
-// Rebases where that is due, after a sync where something waits for that, and tells whether something waits still.
+// Rebases if that is due, after a sync if something waits for one. Returns whether something still waits.
 fn make_room<M: Machine, D: LogDisk + Drop>(
     node: &mut Node<M>,
     store: &mut Store<D>,
@@ -232,7 +232,7 @@ fn make_room<M: Machine, D: LogDisk + Drop>(
     Ok(false)
 }
 
-// One more step of a group: what it tells to write is written, and what it notes and says is kept. Nothing is sent.
+// Takes one more step of a group: writes its entries, and keeps its notes and letters. Sends nothing.
 fn gather_on<M: Machine, D: LogDisk + Drop>(
     node: &mut Node<M>,
     store: &mut Store<D>,
@@ -259,25 +259,28 @@ fn gather_on<M: Machine, D: LogDisk + Drop>(
 }
 
 impl<M: Machine, D: LogDisk + Drop> Replica<M, D> {
-    /// Takes a tick or a datagram as one more of a group: what the step tells to write is written, and nothing is synced or sent before `release`.
+    /// Takes a tick or a datagram into a group: the step's entries are written, and nothing is synced or sent before
+    /// `release`.
     ///
-    /// It refuses as `take`, and after that each later call answers `Failed` (11): nothing of the group is sent.
+    /// It fails as `take` does, and after that every call fails with `Failed` (11): nothing of the group is sent.
     pub fn gather(&mut self, input: Input, group: &mut Group) -> Result<(), ReplicaFault>
-        // In each history to which the node fits as it will be once all is synced that waits for it, it goes on so: what it notes and says it may note and
-        // say by what it then holds. So the history may have all that the group said before.
+        // In each history that the node will fit once everything that waits is synced, it goes on: it is permitted its
+        // notes and letters by what it then holds. So the history may contain everything that the group said before.
         ensures goes { D.is_honest → OnOk result (Adds group.old group.new (λ notes letters. (genesis : Genesis) (k : ℕ) → Recalls self.old.node self.old.store group.old.waits genesis k
             → (h : History) (n : ℕ) → NodeFits M.meaning h n (Stands M.meaning self.old.node (as_sent group.old.waits self.old.store) h.genesis n) (disks (as_sent group.old.waits self.old.store)) → InputFits h input.entry
             → (sent : List LetterValue) → AreOf sent letters
             → Goes M.meaning h n (Stands M.meaning self.new.node (as_sent group.new.waits self.new.store) h.genesis n) (disks (as_sent group.new.waits self.new.store)) notes (batch_of n sent))) }
-        // What is on the disks after any exit, where nothing of the group is sent. Before each step it is looked whether a rebase is due: so neither file has grown
-        // above half of what a file may hold, and a step, nor by more than a step apart from a Base.
+        // What is on the disks after any exit, where nothing of the group is sent. Before each step it is looked
+        // whether a rebase is due: so neither file has grown above half of what a file may hold, and a step, nor by
+        // more than a step apart from a Base.
         ensures disks { D.is_honest → LeavesInGroup M.meaning (λ h. InputFits h input.entry) max_after self.old.node self.old.store group.old.waits (disks self.new.store) }
         ensures grows { D.is_honest → GrowsFromBase (disks self.old.store) (disks self.new.store) }
-        // The group goes on where nothing of it is sent, and what it has said is covered once all is synced that waits for that.
+        // The group goes on where nothing of it is sent, and what it has said is covered once all is synced that waits
+        // for that.
         ensures keeps { D.is_honest → OnOk result (KeepsGroup M.meaning (λ h. InputFits h input.entry) self.old.node self.old.store group.old self.new.node self.new.store group.new) }
         // It has taken a step and written what that told, in the calls that this takes, and nothing else.
         ensures exact { D.is_honest → OnOk result (IsGathered M.meaning M.IsText D.is_metered self.old.node self.old.store group.old input.entry self.new.node self.new.store group.new) }
-        // Nothing but 7, 8, 11 and 14 comes, each for its cause, and each ends it.
+        // It fails only with 7, 8, 11 or 14, each for its cause, and each ends it.
         ensures refused { IfErr result (λ e. IsRefusedInGroup D.is_honest D.is_metered self.old self.new (fault_number e)) }
         ensures failed { self.old.failed ≡ true → IsErrOf result ReplicaFault.Failed }
         ensures alive { OnOk result ((self.new.failed ≡ false) × (self.new.store.failed ≡ false) × (self.new.node.halted ≡ false)) }
@@ -292,26 +295,27 @@ impl<M: Machine, D: LogDisk + Drop> Replica<M, D> {
         Ok(())
     }
 
-    /// Ends a group: syncs once, where a promise or a vote of it waits for that, and then sends what it has said, in order. It tells whether all was sent.
+    /// Ends a group: syncs once, if a promise or a vote of it waits for that, and then sends its letters in order.
+    /// Returns whether all were sent.
     ///
-    /// It refuses with `Device` (7), `NoMemory` (8) and `Failed` (11), and then nothing of the group is sent.
+    /// It fails with `Device` (7), `NoMemory` (8) and `Failed` (11), and then nothing of the group is sent.
     pub fn release<P: Post>(&mut self, group: &Group, post: &mut P) -> Result<bool, ReplicaFault>
-        // The node fits to each history to which it fitted as it would be.
+        // The node fits each history that it was to fit once it was synced.
         ensures fits { D.is_honest → (genesis : Genesis) (k : ℕ) → Recalls self.old.node self.old.store group.now.waits genesis k
             → (h : History) (n : ℕ) → NodeFits M.meaning h n (Stands M.meaning self.old.node (as_sent group.now.waits self.old.store) h.genesis n) (disks (as_sent group.now.waits self.old.store))
             → IfOk result (λ all. NodeFits M.meaning h n (Stands M.meaning self.new.node self.new.store h.genesis n) (disks self.new.store)) }
         // What is on the disks after any exit, where nothing of the group is sent: neither file has grown.
         ensures disks { D.is_honest → LeavesInGroup M.meaning (λ h. ⊤) 0 self.old.node self.old.store group.now.waits (disks self.new.store) }
-        // Sync before send: whatever the group has said every image covers.
+        // Sync before send: every image covers everything that the group says.
         ensures syncs { D.is_honest → (genesis : Genesis) (n : ℕ) (x : NodeMessage) → Recalls self.old.node self.old.store group.now.waits genesis n → IsCovered M.meaning genesis n group.now self.old.store
             → IfOk result (λ all. (d : DatagramValue) → Contains (batch_of n group.now.letters) d → Spells (said_by genesis n x) d.bytes → AllCover M.meaning genesis n (disks self.new.store) x) }
-        // The letters were given to the post in order, each once, and nothing else; after a refusal none was.
+        // The letters were given to the post in order, each once, and nothing else; after an error none was.
         ensures gives { IfOk result (λ all. CarriesAll P.Carries post.old group.now.letters post.new) }
         ensures tells { IfOk result (λ all. TellsSends all (P.failures post.old) (P.failures post.new)) }
         ensures silent { OnErr result (post.new ≡ post.old) }
         // It has synced once what waited for that, and has done nothing else.
         ensures exact { D.is_honest → OnOk result (IsSettled D.is_metered self.old group.now.waits self.new) }
-        // Nothing but 7, 8 and 11 comes, each for its cause, and each ends it.
+        // It fails only with 7, 8 or 11, each for its cause, and each ends it.
         ensures refused { IfErr result (λ e. IsRefusedInGroup D.is_honest D.is_metered self.old self.new (fault_number e)) }
         ensures alive { OnOk result (self.new.failed ≡ false) }
         ensures cause { RaisesFailures self.old.store.failures self.new.store.failures result }

@@ -1,4 +1,4 @@
-// The replica on disks in memory.
+// The replica with disks in memory.
 ghost use Rattle.std.specs.Prelude.{◌≡◌, [], refl};
 ghost use Rattle.lk_disk.specs.Meters.{trapped};
 ghost use Rattle.lk_log.specs.StoreValue.{device_of};
@@ -22,14 +22,14 @@ use lk_types::{NoMemory, NodeNo};
 use std::alloc::Global;
 
 impl<M: Machine, D: LogDisk + Drop> Replica<M, D> {
-    // Its node's number.
+    // The number of its node.
     fn number(&self) -> NodeNo
         ensures { result ≡ self.now.node.header.node }
     {
         self.node.header().node()
     }
 
-    // What it takes memory by.
+    // Its allocator.
     fn alloc(&self) -> Global {
         self.alloc
     }

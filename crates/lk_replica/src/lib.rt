@@ -1,4 +1,4 @@
-//! A replica: a node that keeps on disk whatever it sends, before it sends it, and takes up what a stop left.
+//! A replica: a node that saves whatever it sends before it sends it, and restarts from what a stop has left.
 #![tactic(auto)]
 
 mod collected;

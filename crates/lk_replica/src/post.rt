@@ -5,27 +5,26 @@ ghost use Rattle.lk_step.specs.Letters.{LetterValue};
 use lk_step::To;
 use thiserror::Error;
 
-/// A datagram was not sent: refusal 15 of the replica.
+/// A datagram was not sent: error 15 of the replica.
 #[derive(Clone, Copy, Debug, Error)]
 #[error("the datagram was not sent")]
 pub struct SendFault;
 
-/// What carries datagrams off.
+/// Something that sends datagrams.
 ///
-/// What is said of the letters that were sent holds where the post tells them; what becomes of a post by each letter it says in
-/// any case. An `Err` is counted in any case: the count
-/// of failures is one more then, up to 2^64 - 1, and the same at `Ok`.
+/// What is said of sent letters holds if the post reveals them; the effect of each letter on the post holds in any
+/// case. Each `Err` is counted: the count of failures increases by one, up to 2^64 - 1, and is unchanged at `Ok`.
 pub trait Post {
     /// What was sent, in order.
     ghost sent: { Self → List LetterValue };
 
-    /// It tells what was sent. It is a fact of the kind of post, so no call can end it.
+    /// It reveals what was sent. This is a property of its type, so no call can change it.
     ghost is_telling: { Type 0 };
 
-    /// How often a call has failed.
+    /// How many calls have failed.
     ghost failures: { Self → ℕ };
 
-    /// What becomes of it by one letter: as it was, the letter, whether that was sent, and as it is then.
+    /// The effect of one letter on it: the post before, the letter, whether that was sent, and the post after.
     ghost Carries: { Self → LetterValue → Bool → Self → Type 0 };
 
     /// Sends bytes to a node or a client. A failed call sends nothing.

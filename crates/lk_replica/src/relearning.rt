@@ -1,4 +1,4 @@
-// What a node learns again as it is revived.
+// What a node learns again when it restarts.
 ghost use Rattle.std.specs.Prelude.{◌≡◌, ◌⊎◌, ℕ, ◌+◌, ◌*◌, ◌<◌, ◌≤◌, ◌++◌, [], ◌∷◌, Contains, IsTrue, length, OnOk, IfOk, IfErr, IsErrOf};
 ghost use Rattle.lk_learner.specs.Learners.{Command as CommandValue, Pair, IsLearner, IsNext, IsWanted, executed, keeping, advanced};
 ghost use Rattle.lk_learner.specs.Pairs.{are_pairs_above};
@@ -13,7 +13,7 @@ use lk_step::Note;
 use lk_types::{Command, NoMemory, NodeNo, Position};
 use std::alloc::Global;
 
-// Runs the command of the next position, where it is kept, and notes it.
+// Executes the command of the next position, if it is kept, and notes that.
 fn run_next<M: Machine>(
     learner: &mut Learner<M>,
     notes: &mut Vec<Note>,
@@ -31,7 +31,7 @@ fn run_next<M: Machine>(
     Ok(())
 }
 
-// Learns of a pair, and runs it where it is the next one.
+// Learns of a pair, and executes it if it is the next one.
 fn learn<M: Machine>(
     learner: &mut Learner<M>,
     notes: &mut Vec<Note>,
@@ -55,8 +55,8 @@ fn learn<M: Machine>(
     Ok(())
 }
 
-/// The learner that stands on this state, by a snapshot of this packed text, and has learned of these pairs, and the notes of
-/// what it ran.
+/// The learner for this state and the packed text of its snapshot, after it has learned of these pairs, and the notes
+/// of what it executed.
 pub fn relearn<M: Machine>(
     alloc: Global,
     node: NodeNo,

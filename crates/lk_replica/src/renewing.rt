@@ -1,4 +1,4 @@
-// Bringing a store to format 2.
+// Converting a store to format 2.
 ghost use Rattle.std.specs.Prelude.{◌≡◌, ◌≤◌, List, OnOk, OnErr, IfErr, IsErrOf};
 ghost use Rattle.lk_types.specs.Limits.{max_count};
 ghost use Rattle.lk_entries.specs.declared.stored.Stored.{Stored};
@@ -17,22 +17,22 @@ use lk_log::Store;
 use lk_node::Node;
 use lk_state::Machine;
 
-/// Writes the node's Base where the store has format 1, and so gives it format 2.
+/// Writes the node's Base if the store has format 1, and so converts it to format 2.
 pub fn renew<M: Machine, D: LogDisk + Drop>(
     node: &mut Node<M>,
     store: &mut Store<D>,
 ) -> Result<(), ReplicaFault>
-    // A store of format 1 was rebased, one of format 2 is as it was, and the node goes on.
+    // A store of format 1 was rebased, one of format 2 is unchanged, and the node goes on.
     ensures renewed { D.is_honest → OnOk result (IsRenewed M.meaning node.old store.old node.new store.new) }
     ensures ready { OnOk result (HasFormatTwo node.old store.old node.new store.new) }
-    // After any exit each image that a stop may leave fits, and covers what every image covered, and neither file is longer than it was, or
-    // else than a Base.
+    // However it ends, every image that a stop may leave fits and covers what every image covered before, and neither
+    // file has grown, except up to the size of a Base.
     ensures safe { D.is_honest → StaysSafe M.meaning node.old store.old store.new }
     ensures wakes { node.new.halted ≡ node.old.halted }
-    // After a refusal each image has what it had, or the Base alone.
+    // After an error every image has what it had before, or the Base alone.
     ensures left { D.is_honest → (ks ls : List Stored) → Holds store.old ks ls → OnErr result (KeepsOrIs (disks store.new) ks ls (next_base store.old (standing_of node.old))) }
     ensures refused { IfErr result (λ e. IsNotRenewed store.old (fault_number e)) }
-    // A store of format 1 that has the last generation is refused with `Failed`, also where memory is refused.
+    // For a store of format 1 at the last generation it fails with `Failed`, even if it is out of memory.
     ensures last { store.old.format ≡ 1 → max_count ≤ store.old.generation → (store.new ≡ store.old) × IsErrOf result ReplicaFault.Failed }
     ensures cause { RaisesFailures store.old.failures store.new.failures result }
     ensures metered { D.is_metered → D.is_honest → PassesOr store.old.meter store.new.meter (renew_calls store.old.format) result }

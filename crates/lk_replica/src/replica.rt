@@ -50,37 +50,40 @@ impl<M: Machine, D: LogDisk + Drop> Model for Replica<M, D> {
 
     ghost Value = { ReplicaValue };
 
-    // What it could execute it has executed, and its store has format 2.
+    // It has executed what it could, and its store has format 2.
     ghost invariant = { λ r. (r.failed ≡ false → NothingToRun r.node) × (r.store.format ≡ 2) };
 
     ghost view = { λ r. record { node = r.node; store = r.store; failed = r.failed } };
 }
 
 impl<M: Machine, D: LogDisk + Drop> Replica<M, D> {
-    /// Takes a tick or a datagram: what the step tells to write is written, and synced where a promise or a vote is among
-    /// it, before anything is sent.
+    /// Takes a tick or a datagram: the step's entries are written, and synced if a promise or a vote is among them,
+    /// before anything is sent.
     ///
-    /// It refuses with `Device` (7), `NoMemory` (8) and `Halted` (14), and with `Failed` (11) where it has to rebase at generation
-    /// 2^48; after that each later call answers `Failed` (11). With `Send` (15) some datagrams are lost, and the replica goes on.
+    /// It fails with `Device` (7), `NoMemory` (8) and `Halted` (14), and with `Failed` (11) if it has to rebase at
+    /// generation 2^48; after that every call fails with `Failed` (11). With `Send` (15) some datagrams are lost, and
+    /// the replica goes on.
     #[tactic(auto, using(crate::proofs::NoSend::never_sends))]
     pub fn take<P: Post>(&mut self, input: Input, post: &mut P) -> Result<Vec<Note>, ReplicaFault>
-        // Letters were given to the post in order, each once, and nothing else. Where it goes on it has then written the outbox of its step,
-        // given its notes, and these are its letters: all of this it may note and send by what it holds. Sync before send: whatever the post,
-        // what it was given every image covers. Under `Send` those whose send failed are lost.
+        // Letters were given to the post in order, each once, and nothing else. If it goes on, it has then written the
+        // outbox of its step and returned its notes, and these are the step's letters: what it holds permits all of
+        // them. Sync before send: whatever the post, every image covers what it was given. Under `Send` the letters
+        // whose send failed are lost.
         ensures gives { GivesLetters P.Carries post.old post.new (λ letters. D.is_honest → GivesBy M.meaning M.IsText D.is_metered self.old input.entry self.new result letters
             (λ all. P.is_telling → SendsAs result all (P.sent post.old) (P.sent post.new) (P.failures post.old) (P.failures post.new))) }
         ensures alive { IfGoesOn result (λ notes. StaysUp D.is_honest self.old self.new) }
-        // What is on the disks after any exit: neither file has grown above half of what a file may hold, and a step, nor by more than a step
-        // apart from a Base.
+        // What is on the disks, however it ends: neither file has grown beyond half of its maximum and one step, nor
+        // by more than a step except by a Base.
         ensures disks { D.is_honest → LeavesDisks M.meaning (λ h. InputFits h input.entry) max_after self.old.node self.old.store (disks self.new.store) }
-        // Nothing but 7, 8, 11, 14 and 15 comes, each for its cause, and all but 15 end it.
+        // It fails only with 7, 8, 11, 14 or 15, each for its cause, and all but 15 end it.
         ensures refused { IfErr result (λ e. IsRefused D.is_honest D.is_metered self.old self.new (fault_number e)) }
-        // Under `Send` some sends have failed, and under another refusal nothing was given to the post.
+        // Under `Send` some sends have failed; under any other error nothing was given to the post.
         ensures sends { IfErr result (λ e. RefusesSends (fault_number e) post.old post.new (P.failures post.old) (P.failures post.new)) }
-        // `Device` comes exactly where a call of the device has failed.
+        // It fails with `Device` exactly if a call of the device has failed.
         ensures cause { RaisesFailures self.old.store.failures self.new.store.failures result }
         ensures failed { self.old.failed ≡ true → IsErrOf result ReplicaFault.Failed }
-        // Where a rebase is due at generation 2^48 it answers `Failed`, also where memory is refused, or `Device` where the device fails.
+        // If a rebase is due at generation 2^48, it fails with `Failed`, even if it is out of memory, or with `Device`
+        // if the device fails.
         ensures last { D.is_honest → max_count ≤ self.old.store.generation → IsDue self.old.node self.old.store → IsErrAnd result (λ e. WantsNoMemory (fault_number e)) }
     {
         if self.failed {
@@ -104,7 +107,7 @@ impl<M: Machine, D: LogDisk + Drop> Replica<M, D> {
 }
 
 impl<M: Machine, D: LogDisk + Drop> Replica<M, D> {
-    /// Whether it has ended: then each call answers `Failed`, until its disks are revived.
+    /// Whether it has ended: then every call fails with `Failed`, until it restarts from its disks.
     pub fn ended(&self) -> bool
         ensures { result ≡ self.now.failed }
     {
@@ -158,7 +161,7 @@ impl<M: Machine, D: LogDisk + Drop> Replica<M, D> {
 }
 
 impl<M: Machine, D: Trapped + Drop> Replica<M, D> {
-    /// Sets the trap of the device, in place of one that is pending. It changes no disk.
+    /// Sets the trap of the device, in place of a pending one. It changes no disk.
     pub fn trap(&mut self, trap: Trap)
         ensures node { self.new.node ≡ self.old.node }
         ensures store { D.is_honest → D.is_metered → self.new.store ≡ record self.old.store { meter = trapped trap self.old.store.meter } }
@@ -170,8 +173,8 @@ impl<M: Machine, D: Trapped + Drop> Replica<M, D> {
 }
 
 #[tactic(auto, using(crate::proofs::NoSend::store_never_sends))]
-// Steps, and writes what the step tells to write, synced where it says so; or, where it says that, the node's Base in place of
-// it. Nothing is sent.
+// Steps, and writes the step's entries, synced if the step says so; or, if the step says so, the node's Base in their
+// place. Sends nothing.
 fn step_to_disk<M: Machine, D: LogDisk + Drop>(
     node: &mut Node<M>,
     store: &mut Store<D>,
@@ -188,7 +191,7 @@ fn step_to_disk<M: Machine, D: LogDisk + Drop>(
     ensures refused { IfErr result (IsCutShort D.is_honest D.is_metered 1 node.old store.old node.new store.new (KeepsItsFile store.old store.new) (AreSame (disks store.old) (disks store.new))) }
     ensures halts { IsErrOf result ReplicaFault.Halted ↔ (node.new.halted ≡ true) }
     ensures format { store.new.format ≡ 2 }
-    // At generation 2^48 no step is done that has to rebase.
+    // At generation 2^48 it takes no step that has to rebase.
     ensures last { max_count ≤ store.old.generation → IfOk result (λ o. o.rebase ≡ false) }
     ensures cause { RaisesFailures store.old.failures store.new.failures result }
 {
@@ -201,7 +204,7 @@ fn step_to_disk<M: Machine, D: LogDisk + Drop>(
     Ok(outbox)
 }
 
-// Rebases where that is due, and then steps and writes as the step tells. Nothing is sent.
+// Rebases if that is due, and then steps and writes the step's entries. Sends nothing.
 fn rebase_and_step<M: Machine, D: LogDisk + Drop>(
     node: &mut Node<M>,
     store: &mut Store<D>,

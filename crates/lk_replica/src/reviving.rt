@@ -1,4 +1,4 @@
-// Reviving what a stop left.
+// Restarting from what a stop has left.
 ghost use Rattle.std.specs.Prelude.{◌≡◌, ◌⊎◌, ℕ, ◌+◌, ◌*◌, ◌≤◌, [], length, nat_le, Contains, IfOk, IfErr, IsErrOf, MatchResult};
 ghost use Rattle.std.specs.List.{list_all};
 ghost use Rattle.lk_disk.specs.declared.device.Side.{Side};
@@ -35,7 +35,7 @@ use lk_step::Note;
 use lk_types::{Executed, Genesis, NoMemory, Vote};
 use std::alloc::Global;
 
-// The packed text of what stands before any command is executed.
+// The packed text of the state before any command is executed.
 fn zero_text<M: Machine>(alloc: Global, genesis: &Genesis) -> Result<BytesMut, NoMemory>
     ensures text { IfOk result (λ t. t.items ≡ text M.meaning genesis.now []) }
     ensures some { IfOk result (λ t. 1 ≤ length t.items) }
@@ -48,7 +48,7 @@ fn zero_text<M: Machine>(alloc: Global, genesis: &Genesis) -> Result<BytesMut, N
     Ok(out)
 }
 
-// The state of a snapshot, at its position and of this alpha.
+// The state of a snapshot, at its position and with this alpha.
 fn unpacked<M: Machine>(
     alloc: Global,
     alpha: u8,
@@ -67,7 +67,7 @@ fn unpacked<M: Machine>(
     Ok(whole)
 }
 
-// Whether no vote lies more than twice alpha above what is executed.
+// Whether no vote is more than twice alpha above what is executed.
 fn are_near(votes: &[Vote], executed: Executed, alpha: u8) -> bool
     ensures { result ≡ list_all (λ v. nat_le v.position (executed + 2 * alpha)) votes.now }
 {
@@ -75,7 +75,7 @@ fn are_near(votes: &[Vote], executed: Executed, alpha: u8) -> bool
     votes.iter().all(|vote| vote.position.get() <= farthest)
 }
 
-// What a node holds that this standing stands for, and the notes of what it ran.
+// The node for this standing, and the notes of what it executed.
 fn restored<M: Machine>(
     alloc: Global,
     header: &Header,
@@ -104,7 +104,7 @@ fn restored<M: Machine>(
     Ok((Node::new(alloc, header.copy(), acceptor, learner), notes))
 }
 
-// What was taken up, whatever format its file has.
+// A restarted replica, whatever the format of its file.
 #[derive(Drop)]
 struct TakenUp<M: Machine, D: LogDisk + Drop> {
     node: Node<M>,
@@ -112,39 +112,40 @@ struct TakenUp<M: Machine, D: LogDisk + Drop> {
     notes: Vec<Note>,
 }
 
-// Takes up what a stop left on these disks, or begins where nothing stands. Where the file has format 1 it stays so.
+// Restarts from what a stop has left on these disks, or begins a store if there is none. A file of format 1 keeps its
+// format.
 fn take_up<M: Machine, D: LogDisk + Drop>(
     alloc: Global,
     device: D,
     header: &Header,
 ) -> Result<TakenUp<M, D>, ReviveFault<D>>
-    // Where the disks fit a history, what is taken up goes on in it, and what a refusal leaves fits it.
+    // If the disks fit a history, the restarted replica goes on in it, and what an error leaves fits it.
     ensures fits { D.is_honest → (h : History) (n : ℕ) → header.now ≡ header_of h.genesis n → IsLawful M.meaning h → DisksFit M.meaning h n (D.disk device)
         → MatchResult result
         (λ r. Goes M.meaning h n (Stands M.meaning r.node r.store h.genesis n) (disks r.store) r.notes.items [])
         (λ e. DisksFit M.meaning h n (D.disk e.device)) }
-    // Whatever every image covered, every image covers.
+    // Every image covers whatever every image covered before.
     ensures covers { D.is_honest → (genesis : GenesisValue) (n : ℕ) (x : NodeMessage) → header.now ≡ header_of genesis n → AllCover M.meaning genesis n (D.disk device) x
         → MatchResult result (λ r. AllCover M.meaning genesis n (disks r.store) x) (λ e. AllCover M.meaning genesis n (D.disk e.device) x) }
-    // Its store keeps what its acceptor holds, whatever the disks have been through.
+    // Its store keeps what its acceptor holds, whatever has happened to the disks.
     ensures remembers { D.is_honest → (genesis : GenesisValue) (n : ℕ) → header.now ≡ header_of genesis n → IfOk result (λ r. Remembers r.node r.store genesis n) }
-    // What the disks stand for is what is revived, and nothing else is executed.
+    // It restarts exactly what the disks stand for, and executes nothing else.
     ensures exact { D.is_honest → IfOk result (λ r. TakesUp M.meaning M.IsText (D.disk device) header.now r.node r.store r.notes.items) }
     // Nothing of it has failed, and it has executed what it can.
     ensures ready { IfOk result (λ r. IsTakenUp header.now r.node r.store) }
-    // A refusal has its cause. A damaged store and another's stay as they are.
+    // An error has its cause. A damaged store and another's are unchanged.
     ensures refused { D.is_honest → IfErr result (λ e. IsRefusedFor M.meaning M.IsText (D.disk device) header.now (fault_number e.fault) (D.disk e.device)) }
-    // After a refusal each image comes to what an image before it came to, or to a store that is begun.
+    // After an error every image amounts to what an image before it did, or to a new store.
     ensures stays_err { D.is_honest → (genesis : GenesisValue) → header.now ≡ header_of genesis header.now.node
         → IfErr result (λ e. NarrowsOrBegins (D.disk device) (D.disk e.device) header.now (text M.meaning genesis [])) }
-    // It refuses with 7 to 10, and with `Device` exactly where a call of the device has failed.
+    // It fails with 7 to 10, and with `Device` exactly if a call of the device has failed.
     ensures cause { MatchResult result
         (λ r. r.store.failures ≡ D.failures device)
         (λ e. (7 ≤ fault_number e.fault) × (fault_number e.fault ≤ 10) × (D.failures e.device ≡ failures_by (fault_number e.fault) (D.failures device))) }
     ensures metered { D.is_metered → D.is_honest → MatchResult result
         (λ r. CallsOfOpening (D.disk device) (D.meter device) r.store.meter)
         (λ e. RefusedAfter (fault_number e.fault) (D.meter device) (D.meter e.device)) }
-    // After any exit neither file is longer than it was, or else than a Base.
+    // However it ends, neither file has grown, except up to the size of a Base.
     ensures room { D.is_honest → MatchResult result (λ r. StaysWithin max_base (D.disk device) (disks r.store)) (λ e. StaysWithin max_base (D.disk device) (D.disk e.device)) }
 {
     header.genesis().facts();
@@ -170,47 +171,48 @@ fn take_up<M: Machine, D: LogDisk + Drop>(
 }
 
 impl<M: Machine, D: LogDisk + Drop> Replica<M, D> {
-    /// Takes up what a stop left on these disks, or begins where nothing stands. It gives the notes of what it executed. Where
-    /// the file has format 1 it is rebased at once, and so has format 2.
+    /// Takes up what a stop left on these disks, or begins where nothing stands. It gives the notes of what it
+    /// executed. Where the file has format 1 it is rebased at once, and so has format 2.
     ///
-    /// It refuses with `Device` (7), `NoMemory` (8), `Damaged` (9) and `WrongStore` (10), and where a file of format 1 has
-    /// generation 2^48 with `Failed` (11), told after 9, and hands the device back. `Damaged` is also told where the snapshot is no packed
-    /// state at its position with the genesis' alpha, and where a vote or a decided pair lies more than twice alpha above what
-    /// is then executed.
+    /// It fails with `Device` (7), `NoMemory` (8), `Damaged` (9) and `WrongStore` (10), and for a file of format 1 at
+    /// generation 2^48 with `Failed` (11), after the checks for 9, and returns the device. `Damaged` also means that
+    /// the snapshot is no packed state at its position with the genesis' alpha, or that a vote or a decided pair is
+    /// more than twice alpha above what is then executed.
     pub fn revive(
         alloc: Global,
         device: D,
         header: &Header,
     ) -> Result<Revived<Replica<M, D>>, ReviveFault<D>>
-        // Where the disks fit a history, the replica goes on in it, and what a refusal leaves fits it.
+        // If the disks fit a history, the replica goes on in it, and what an error leaves fits it.
         ensures fits { D.is_honest → (h : History) (n : ℕ) → header.now ≡ header_of h.genesis n → IsLawful M.meaning h → DisksFit M.meaning h n (D.disk device)
             → MatchResult result
             (λ r. Goes M.meaning h n (Stands M.meaning r.replica.node r.replica.store h.genesis n) (disks r.replica.store) r.notes.items [])
             (λ e. DisksFit M.meaning h n (D.disk e.device)) }
-        // Whatever every image covered, every image covers.
+        // Every image covers whatever every image covered before.
         ensures covers { D.is_honest → (genesis : GenesisValue) (n : ℕ) (x : NodeMessage) → header.now ≡ header_of genesis n → AllCover M.meaning genesis n (D.disk device) x
             → MatchResult result (λ r. AllCover M.meaning genesis n (disks r.replica.store) x) (λ e. AllCover M.meaning genesis n (D.disk e.device) x) }
-        // Its store keeps what its acceptor holds, whatever the disks have been through.
+        // Its store keeps what its acceptor holds, whatever has happened to the disks.
         ensures remembers { D.is_honest → (genesis : GenesisValue) (n : ℕ) → header.now ≡ header_of genesis n → IfOk result (λ r. Remembers r.replica.node r.replica.store genesis n) }
-        // What the disks stand for is what is revived, and nothing else is executed. A file of format 1 that has generation 2^48 is never
-        // revived.
+        // It restarts exactly what the disks stand for, and executes nothing else. A file of format 1 at generation
+        // 2^48 never restarts.
         ensures exact { D.is_honest → IfOk result (λ r. Revives M.meaning M.IsText (D.disk device) header.now r.replica r.notes.items) }
-        // Whatever the device does, it can take calls as the node of this header: nothing of it has failed, and it has executed what it can.
+        // Whatever the device does, it can take calls as the node of this header: nothing of it has failed, and it has
+        // executed what it can.
         ensures ready { IfOk result (λ r. MayGoOn header.now r.replica) }
-        // A refusal has its cause, and 9 is told before 11. A damaged store and another's stay as they are.
+        // An error has its cause, and 9 has precedence over 11. A damaged store and another's are unchanged.
         ensures refused { D.is_honest → IfErr result (λ e. IsRefusedFor M.meaning M.IsText (D.disk device) header.now (fault_number e.fault) (D.disk e.device)) }
-        // After a refusal each image comes to what an image before it came to, or to a store that is begun, or to what was found in a
-        // file of format 1 or the Base that was to take its place.
+        // After an error every image amounts to what an image before it did, or to a new store, or to what a file of
+        // format 1 held or the Base that was to replace it.
         ensures stays_err { D.is_honest → (genesis : GenesisValue) → header.now ≡ header_of genesis header.now.node
             → IfErr result (λ e. NarrowsOrRenews (D.disk device) (D.disk e.device) header.now (text M.meaning genesis [])) }
-        // It refuses with 7 to 11, and with `Device` exactly where a call of the device has failed.
+        // It fails with 7 to 11, and with `Device` exactly if a call of the device has failed.
         ensures cause { MatchResult result
             (λ r. r.replica.store.failures ≡ D.failures device)
             (λ e. (7 ≤ fault_number e.fault) × (fault_number e.fault ≤ 11) × (D.failures e.device ≡ failures_by (fault_number e.fault) (D.failures device))) }
         ensures metered { D.is_metered → D.is_honest → MatchResult result
             (λ r. CallsOfRevival (D.disk device) (D.meter device) r.replica.store.meter)
             (λ e. RefusedAfter (fault_number e.fault) (D.meter device) (D.meter e.device)) }
-        // After any exit neither file is longer than it was, or else than a Base.
+        // However it ends, neither file has grown, except up to the size of a Base.
         ensures room { D.is_honest → MatchResult result (λ r. StaysWithin max_base (D.disk device) (disks r.replica.store)) (λ e. StaysWithin max_base (D.disk device) (D.disk e.device)) }
     {
         let mut up: TakenUp<M, D> = match take_up(alloc, device, header) {

@@ -1,4 +1,4 @@
-// What ends a group whose letters the caller sends, and what is kept of its steps.
+// The end of a group whose letters the caller sends, and what remains of its steps.
 ghost use Rattle.std.specs.Prelude.{◌≡◌, ◌∷◌, ◌++◌, [], false, IfErr, OnOk, ⊤};
 ghost use Rattle.lk_log.specs.StoreValue.{disks};
 ghost use Rattle.lk_replica.specs.Faults.{RaisesFailures, fault_number};
@@ -13,7 +13,7 @@ use lk_disk::LogDisk;
 use lk_state::Machine;
 
 impl<M: Machine, D: LogDisk + Drop> Replica<M, D> {
-    /// Keeps what a step came to. Where memory is refused for that, the replica ends.
+    /// Keeps the result of a step. If it is out of memory, the replica ends.
     pub(crate) fn keep(&mut self, steps: &mut Vec<Step>, step: Step) -> Result<(), ReplicaFault>
         ensures kept { OnOk result (steps.new.items ≡ steps.old.items ++ step ∷ []) }
         ensures same { OnOk result (self.new ≡ self.old) }
@@ -28,7 +28,7 @@ impl<M: Machine, D: LogDisk + Drop> Replica<M, D> {
         }
     }
 
-    /// Syncs the live file once, where something waits for that. Where that is refused, the replica ends.
+    /// Syncs the live file once, if something waits for that. If the sync fails, the replica ends.
     pub(crate) fn end_group(&mut self, waits: bool) -> Result<(), ReplicaFault>
         ensures exact { D.is_honest → OnOk result (IsSettled D.is_metered self.old waits self.new) }
         // What is on the disks after any exit, where nothing of the group is sent: neither file has grown.

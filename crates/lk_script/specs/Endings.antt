@@ -9,7 +9,7 @@ use Rattle.lk_script.specs.declared.fault.ScriptFault.{ScriptFault}
 use Rattle.lk_script.specs.declared.fault.ScriptFault.TheVariants.{Read, Write, ScriptMemory, BadLine, Ended}
 use Rattle.lk_script.specs.declared.mode.Mode.{Mode}
 
--- the script's lines print the text, to the last of them, and what stands after it
+-- the script's lines print the text, up to the last of them and the closing line
 pub record PrintsAll {R : Type 0} (b : Behaviour R) (script text : List ℕ) : Type 0 where
   pub state : Script R
   pub printed : List ℕ
@@ -20,15 +20,16 @@ pub record PrintsAll {R : Type 0} (b : Behaviour R) (script text : List ℕ) : T
 abbrev pub SetsUp : {R : Type 0} → Behaviour R → List ℕ → List ℕ → Mode R → Type 0
 SetsUp b script text mode = (all : PrintsAll b script text) × Fits all.state mode
 
--- the lines in front of the line of that number print the text, and that line is the first that is not understood
+-- the lines before the line of that number print the text, and that line is the first invalid one
 abbrev pub EndsAtLine : {R : Type 0} → Behaviour R → ℕ → List ℕ → List ℕ → Type 0
 EndsAtLine b number script text = Runs b begun 1 (lines_of script) text (at_line number)
 
--- the lines in front of one of which an event was refused print the text, with what that line printed and the refusal
+-- the lines before the one with a rejected event print the text, with what that line printed and the rejection
 abbrev pub EndsRefused : {R : Type 0} → Behaviour R → Refused → List ℕ → List ℕ → Type 0
 EndsRefused b r script text = Runs b begun 1 (lines_of script) text (at_refusal r)
 
--- the run broke off at a line: the lines in front of it print the text, and of what stands after these no more than this line was taken
+-- the run broke off at a line: the lines before it print the text, and of what follows these no more than this line
+-- was read
 pub record BreaksOff {R : Type 0} (b : Behaviour R) (script text : List ℕ) (left : Option (List ℕ)) : Type 0 where
   pub front : List (List ℕ)
   pub behind : List ℕ
@@ -37,7 +38,8 @@ pub record BreaksOff {R : Type 0} (b : Behaviour R) (script text : List ℕ) (le
   pub printed : Runs b begun 1 front text (at_end state)
   pub taken : TakesWithinLine behind left
 
--- a script that ends by the fault has printed the text, and the reader has this left; of a failed write nothing is said
+-- a script that ends with the fault has printed the text, and the reader has this left; nothing is said of a failed
+-- write
 abbrev pub EndsBy : {R : Type 0} → Behaviour R → ScriptFault → List ℕ → List ℕ → Option (List ℕ) → Type 0
 EndsBy b Read script text left = BreaksOff b script text left
 EndsBy b Write script text left = ⊤

@@ -13,7 +13,7 @@ pub record SpellsGenesis (words : List ℕ) (cluster alpha : ℕ) (members : Lis
   pub alpha_leads : Leads 1 16 alpha rest more
   pub members_are : SpellsMembers 32 rest members
 
--- the line begins a cluster, which is not refused
+-- the line begins a valid cluster
 pub record IsGenesisLine (line : List ℕ) (cluster alpha : ℕ) (members : List Member) : Type 0 where
   pub words : List ℕ
   pub line_is : line ≡ codes "genesis" ++ 32 ∷ words

@@ -3,7 +3,7 @@ use Rattle.std.specs.Prelude.{◌≡◌, ◌==◌, ℕ, Option, Some, List, [], 
 use Rattle.std.specs.Io.{StopsAt}
 use Rattle.std.specs.Io.KnownBytes.{Consumes}
 
--- the first line with one more byte in front
+-- the first line with one more byte at its start
 abbrev pub with_byte : ℕ → List (List ℕ) → List (List ℕ)
 with_byte b [] = (b ∷ []) ∷ []
 with_byte b (line ∷ lines) = (b ∷ line) ∷ lines
@@ -18,10 +18,10 @@ abbrev pub first_line : List ℕ → List ℕ
 first_line [] = []
 first_line (b ∷ text) = if b == 10 then [] else b ∷ first_line text
 
--- a line was taken from the front of the text, and the rest is left
+-- a line was taken from the start of the text, and the rest is left
 abbrev pub TakesLine : List ℕ → List ℕ → Option (List ℕ) → Type 0
 TakesLine text line left = (rest : List ℕ) × (left ≡ Some rest) × (lines_of text ≡ line ∷ lines_of rest)
 
--- no more than one line, with its line feed, was taken from the front of the text, and the rest is left
+-- no more than one line, with its line feed, was taken from the start of the text, and the rest is left
 abbrev pub TakesWithinLine : List ℕ → Option (List ℕ) → Type 0
 TakesWithinLine text left = (part : List ℕ) × StopsAt part 10 × Consumes (Some text) left part

@@ -1,10 +1,10 @@
--- What a list of requests is replied: each request that takes effect once, at its place.
+-- The replies to a list of requests: each request that takes effect once, at its place.
 use Rattle.std.specs.Prelude.{◌≡◌, ℕ, is_some, if◌then◌else◌, Some, List, [], ◌∷◌, ◌++◌, Contains}
 use Rattle.lk_types.specs.declared.answer.Answer.{Answer}
 use Rattle.lk_members.specs.Effects.{Command, RequestValue, Request, Placed, placed, in_effect}
 use Rattle.lk_locks.specs.Lists.{table_of, table_answer}
 
--- the client's request of that number takes effect in the list, and at its place the table answers this
+-- the client's request of that number takes effect in the list, and at its place the table gives this answer
 pub record IsReply (L : List Command) (client number : ℕ) (answer : Answer) : Type 0 where
   pub place : Placed
   pub stands : Contains (placed L) place
@@ -14,6 +14,6 @@ pub record IsReply (L : List Command) (client number : ℕ) (answer : Answer) : 
   pub of_number : request.number ≡ number
   pub answered : table_answer request.client request.op (table_of place.before) ≡ Some answer
 
--- the list with a request: it goes to the end where it takes effect there, and else adds nothing
+-- the list with a request: it is appended if it takes effect there, and otherwise adds nothing
 abbrev pub with_request : List Command → RequestValue → List Command
 with_request L r = if is_some (in_effect L (Request r)) then L ++ Request r ∷ [] else L

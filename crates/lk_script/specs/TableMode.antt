@@ -14,7 +14,7 @@ use Rattle.lk_wire.specs.Grammar.{spelling, Spells}
 use Rattle.lk_members.specs.Effects.{Command, RequestValue, IsLast}
 use Rattle.lk_script.specs.Replies.{IsReply, with_request}
 
--- what a request is replied, by the list in which it stands if it takes effect
+-- the reply to a request, by the list in which it is if it takes effect
 pub data Replies (L : List Command) (r : RequestValue) : NodeMessage → Type 0 where
   -- the number is the client's last one: the answer that it got
   answers : (a : AnswerValue) → IsLast L r.client r.number → IsReply L r.client r.number a → Replies L r (Answer (record { client = r.client; number = r.number; answer = a }))
@@ -36,7 +36,7 @@ is_request (content.Node node m) = false
 abbrev pub is_request_to : ℕ → Message → Bool
 is_request_to cluster m = m.cluster == cluster && is_request m.content
 
--- it asks something of the lock table, and not of the members
+-- it is for the lock table, and not for the members
 abbrev pub is_for_table : Op → Bool
 is_for_table (Table body) = true
 is_for_table (Join node port) = false
@@ -51,7 +51,7 @@ pub data Prints (cluster : ℕ) (L : List Command) (bytes : List ℕ) : List ℕ
   others : (m : Message) → Spells m bytes → is_request_to cluster m ≡ false → Prints cluster L bytes (codes "not a request") L
   -- a request to join or to leave
   not_here : (r : RequestValue) → Spells (from_client cluster r) bytes → is_for_table r.op ≡ false → Prints cluster L bytes (codes "not here") L
-  -- a request for the lock table: the reply in hex; it goes to the end of the list where it takes effect
+  -- a request for the lock table: the reply in hex; it is appended to the list if it takes effect
   replied : (r : RequestValue) (m : NodeMessage) → Spells (from_client cluster r) bytes → is_for_table r.op ≡ true → Replies (with_request L r) r m
       → Prints cluster L bytes (encode_lower (spelling (from_node cluster m))) (with_request L r)
 

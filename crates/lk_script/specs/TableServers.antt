@@ -12,7 +12,7 @@ use Rattle.lk_script.specs.declared.mode.Mode.{Mode}
 use Rattle.lk_script.specs.declared.mode.Mode.TheVariants as mode
 use Rattle.lk_script.specs.declared.table_server.TableServer.{TableServer}
 
--- the entry is a request that asks something of the lock table
+-- the entry is a request for the lock table
 abbrev pub AsksTable : Command → Type 0
 AsksTable Noop = ⊥
 AsksTable (Request r) = IsRequest r × (is_for_table r.op ≡ true)
@@ -23,7 +23,7 @@ pub record IsFirst (cluster : ℕ) (genesis : Genesis) : Type 0 where
   pub alpha : genesis.alpha ≡ 1
   pub members : genesis.members ≡ record { node = 1; port = 1 } ∷ []
 
--- the server's state is that of the list, which asks things of the lock table only
+-- the server's state is that of the list, which has requests for the lock table only
 pub record HasServed (L : List Command) (server : TableServer) : Type 0 where
   pub genesis : Genesis
   pub first : IsFirst server.cluster genesis

@@ -14,11 +14,11 @@ use Rattle.lk_script.specs.declared.event_verb.EventVerb.TheVariants as verb
 use Rattle.lk_script.specs.declared.order.Order.{Order}
 use Rattle.lk_script.specs.declared.order.Order.TheVariants.{Ticks, Once}
 
--- the word tells a number from `least` to `most`
+-- the word spells a number from `least` to `most`
 abbrev pub IsWord : ℕ → ℕ → ℕ → List ℕ → Type 0
 IsWord least most n word = (least ≤ n) × (n ≤ most) × (word ≡ decimal n)
 
--- the words begin with such a number, and after a space these words stand
+-- the words begin with such a number, followed by a space and these words
 abbrev pub Leads : ℕ → ℕ → ℕ → List ℕ → List ℕ → Type 0
 Leads least most n rest words = (least ≤ n) × (n ≤ most) × (words ≡ decimal n ++ 32 ∷ rest)
 
@@ -78,7 +78,7 @@ SpellsRequest words r = (rest : List ℕ) × (text : List ℕ) × Leads 1 max_cl
 abbrev pub AsksOfClient : List ℕ → Order → Type 0
 AsksOfClient words o = (n : ℕ) × (r : RequestValue) × (rest : List ℕ) × NodeLeads n rest words × SpellsRequest rest r × (o ≡ Once (event.Client n r))
 
--- the node is handed these bytes
+-- the node takes these bytes
 abbrev pub Injects : ℕ → List ℕ → Event → Type 0
 Injects n bytes (event.Inject m handed) = (m ≡ n) × (handed.items ≡ bytes)
 Injects n bytes e = ⊥

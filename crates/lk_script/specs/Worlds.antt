@@ -22,11 +22,11 @@ abbrev pub events_of : Order → List Event
 events_of (Ticks n times) = replicate times (Tick n)
 events_of (Once e) = e ∷ []
 
--- so many of the events happened in order: all of them, or the next one was refused so
+-- this many of the events happened in order: all of them, or the next one was rejected for this reason
 abbrev pub Follows : {R : Type 0} → Behaviour R → Scene R → List Event → ℕ → Option Refused → Scene R → Type 0
 Follows b old events done refused new = Runs b old events (record { done = done; refused = refused }) new
 
--- the name of a refusal
+-- the name of a rejection
 abbrev pub refusal_name : Refused → List ℕ
 refusal_name NoSuchNode = codes "NoSuchNode"
 refusal_name NotUp = codes "NotUp"
@@ -36,10 +36,10 @@ refusal_name Forged = codes "Forged"
 refusal_name WorldFull = codes "WorldFull"
 refusal_name WorldMemory = codes "WorldMemory"
 
--- the last line of a run that a refusal ended
+-- the last line of a run that a rejection ended
 abbrev pub refused_line : Refused → List ℕ
 refused_line r = codes "refused " ++ decimal (refusal_number r) ++ 32 ∷ refusal_name r ++ 10 ∷ []
 
--- the last line of a run in which nothing was refused
+-- the last line of a run in which nothing was rejected
 abbrev pub done_line : ℕ → List ℕ
 done_line events = codes "done " ++ decimal events ++ 10 ∷ []

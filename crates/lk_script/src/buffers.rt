@@ -1,4 +1,4 @@
-//! What is kept from line to line, so that its memory is used again.
+//! Buffers that are kept from line to line, so that their memory is reused.
 
 ghost use Rattle.std.specs.Prelude.{◌≡◌, [], OnOk};
 ghost use Rattle.hex.specs.Hex.{encode_lower};

@@ -1,4 +1,4 @@
-//! How a run of the program ends: what stands last on standard error, and the status.
+//! How a run of the program ends: its last line on standard error, and the status.
 
 ghost use Rattle.std.specs.Prelude.{◌≡◌, ◌⊎◌, Ok};
 ghost use Rattle.std.specs.Io.KnownBytes.{Keeps};
@@ -6,7 +6,7 @@ ghost use Rattle.std.specs.Io.KnownBytes.{Keeps};
 use crate::fault::ScriptFault;
 use std::io::Write;
 
-/// Tells a fault in a line of standard error. The status is 1.
+/// Reports a fault in a line on standard error. Returns status 1.
 pub fn tell<E: Write>(fault: ScriptFault, err: &mut E) -> u8
     ensures { result ≡ 1 }
 {
@@ -14,8 +14,9 @@ pub fn tell<E: Write>(fault: ScriptFault, err: &mut E) -> u8
     1
 }
 
-/// Ends a run: flushes the output, and tells the run's fault, and after it fault 24 where the flush failed. A refusal of the
-/// world is not told, since it stands in the output. The status is 0, or 1 where a fault was told or an event was refused.
+/// Ends a run: flushes the output, and reports the run's fault, followed by fault 24 if the flush failed. An event
+/// that the world rejected is not reported, since it is in the output. Returns status 0, or 1 after a fault or a
+/// rejected event.
 pub fn end<W: Write, E: Write>(ran: Result<(), ScriptFault>, out: &mut W, err: &mut E) -> u8
     ensures status { (result ≡ 0) ⊎ (result ≡ 1) }
     ensures ran { result ≡ 0 → ran ≡ Ok tt }

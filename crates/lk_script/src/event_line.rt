@@ -37,12 +37,7 @@ fn add_numbers(alloc: Global, text: &mut Vec<u8>, numbers: &[u64]) -> Result<(),
 }
 
 /// Adds a verb and numbers.
-fn add_words(
-    alloc: Global,
-    text: &mut Vec<u8>,
-    verb: &str,
-    numbers: &[u64],
-) -> Result<(), NoMemory>
+fn add_words(alloc: Global, text: &mut Vec<u8>, verb: &str, numbers: &[u64]) -> Result<(), NoMemory>
     ensures { OnOk result (text.new.items ≡ text.old.items ++ verb.now ++ then_numbers numbers.now) }
 {
     add(text, verb)?;

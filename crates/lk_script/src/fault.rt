@@ -30,7 +30,7 @@ pub enum ScriptFault {
 /// Why a line was not taken.
 #[derive(Clone, Copy, Debug, Error)]
 pub enum LineFault {
-    /// Memory was refused.
+    /// Out of memory.
     #[error("no memory")]
     NoMemory,
     /// The line is none of a script.

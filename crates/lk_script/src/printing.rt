@@ -161,8 +161,8 @@ fn print_end(text: &mut Vec<u8>, end: &End) -> Result<(), NoMemory> {
     }
 }
 
-/// Adds what an event printed, which added the notes and the datagrams from these places on: its notes, of a group those of all
-/// steps, the datagrams, each answer and pass after its own note, and the fault that ended a node.
+/// Adds what an event printed, which added the notes and the datagrams from these places on: its notes, of a group
+/// those of all steps, the datagrams, each answer and pass after its own note, and the fault that ended a node.
 pub fn print_event(
     text: &mut Vec<u8>,
     trace: &[Note],

@@ -68,8 +68,8 @@ fn world_mode<M: MemoryReplica>(alloc: Global, genesis: Genesis) -> Mode<M>
     Mode::World(WorldRun::new(alloc, genesis))
 }
 
-/// What the first line sets up. It is a function of its own since a server is large: in `take_line` each line would pay for
-/// the place of a new one.
+/// What the first line sets up. It is a function of its own since a server is large: in `take_line` each line would
+/// pay for the place of a new one.
 #[inline(never)]
 fn begin<M: MemoryReplica>(alloc: Global, line: &[u8]) -> Result<Mode<M>, LineFault>
     ensures ok { IfOk result (λ m. (after : Script M) × Takes M.behaves begun line.now [] after × Fits after m) }
@@ -194,9 +194,9 @@ pub fn run_script<M: MemoryReplica, R: BufRead, W: Write>(
     Err(ScriptFault::Read)
 }
 
-/// Runs the script that the reader gives to its end: what each line prints is written and flushed, and a fault is told on
-/// standard error. A refusal of the world stands in the output and not there. The status is 0, or 1 where a fault was told or
-/// an event refused.
+/// Runs the script that the reader gives to its end: what each line prints is written and flushed, and a fault is told
+/// on standard error. A refusal of the world stands in the output and not there. The status is 0, or 1 where a fault
+/// was told or an event refused.
 pub fn run_to_end<M: MemoryReplica, R: BufRead, W: Write, E: Write>(
     alloc: Global,
     reader: &mut R,

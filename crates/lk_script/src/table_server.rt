@@ -18,7 +18,7 @@ use lk_types::{Answer, Command, Genesis, Member, NoMemory, NodeNo, Op, Request};
 use lk_wire::{Answered, Bad, Content, ContentRef, Message, MessageRef, NodeMessage, view};
 use std::alloc::Global;
 
-/// The request that a message in a datagram is, where it is one to the cluster.
+/// The request in a datagram's message, if it is one to the cluster.
 fn request_to(cluster: u64, message: &MessageRef<'_>) -> Option<Request>
     ensures some { IfSome result (λ r. shown message.now ≡ from_client cluster r) }
     ensures none { IsNone result → is_request_to cluster (shown message.now) ≡ false }
@@ -29,7 +29,7 @@ fn request_to(cluster: u64, message: &MessageRef<'_>) -> Option<Request>
     }
 }
 
-/// The request that some bytes spell, where they are a datagram and it is a request to the cluster.
+/// The request that some bytes spell, if they are a datagram and it is a request to the cluster.
 fn read_request(cluster: u64, bytes: &[u8]) -> Result<Option<Request>, Bad>
     ensures request { IfOk result (λ found. IfSome found (λ r. Spells (from_client cluster r) bytes.now)) }
     ensures other { IfOk result (λ found. IsNone found → (m : MessageValue) × Spells m bytes.now × (is_request_to cluster m ≡ false)) }
@@ -39,7 +39,7 @@ fn read_request(cluster: u64, bytes: &[u8]) -> Result<Option<Request>, Bad>
     Ok(request_to(cluster, &message))
 }
 
-/// Whether an op asks something of the lock table, and not of the members.
+/// Whether an op is for the lock table, and not for the members.
 fn is_for_table(op: &Op) -> bool
     ensures { result ≡ is_for_table op.now }
 {
@@ -92,7 +92,7 @@ impl TableServer {
         Ok(ran.answer.unwrap())
     }
 
-    /// Replies to a request for the lock table, which is executed where it is new.
+    /// Replies to a request for the lock table, after executing it if it is new.
     pub fn reply(&mut self, request: &Request) -> Result<NodeMessage, NoMemory>
         requires room { executed_of self.old < max_count }
         requires table { is_for_table request.now.op ≡ true }

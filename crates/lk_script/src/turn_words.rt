@@ -10,7 +10,7 @@ use lk_types::limits::MAX_COUNT;
 use lk_words::word::split_word;
 use std::alloc::Global;
 
-/// The part that a word tells: `t`, or the number of a datagram.
+/// The part that a word names: `t`, or the number of a datagram.
 fn turn_of(word: &[u8]) -> Option<Turn>
     ensures some { IfSome result (λ t. IsTurnWord t word.now) }
     ensures none { IsNone result → (t : TurnValue) → IsTurnWord t word.now → ⊥ }
@@ -22,7 +22,7 @@ fn turn_of(word: &[u8]) -> Option<Turn>
     Some(Turn::Deliver(k as usize))
 }
 
-/// The parts that words tell, one or more.
+/// The parts that words name, one or more.
 pub fn read_turns(alloc: Global, words: &[u8]) -> Result<Vec<Turn>, LineFault>
     ensures ok { IfOk result (λ v. SpellsTurns words.now v.items) }
     ensures not_understood { IsErrOf result LineFault.NotUnderstood → (turns : List TurnValue) → SpellsTurns words.now turns → ⊥ }

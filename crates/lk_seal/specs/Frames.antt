@@ -1,4 +1,4 @@
--- What a sealed datagram is: a frame, byte by byte.
+-- A sealed datagram: its frame, byte by byte.
 use Rattle.std.specs.Prelude.{ℕ, List, [], ◌∷◌, ◌++◌, drop, Option, Some, None, if◌then◌else◌, nat_eq}
 use Rattle.std.specs.Cmp.Lexicographic.{pointwise}
 use Rattle.std.specs.Int.{w32, w64, to_be_bytes}
@@ -18,11 +18,11 @@ purpose_byte ToNode = 1
 purpose_byte Asking = 2
 purpose_byte Replying = 3
 
--- what a frame begins with: the letters LS, the version, and for what it is
+-- the first bytes of a frame: the letters LS, the version, and the purpose
 abbrev pub head : Purpose → List ℕ
 head p = 76 ∷ 83 ∷ 1 ∷ purpose_byte p ∷ []
 
--- what is tagged in front of the datagram: for what it is, the cluster, the digest of its genesis, and for whom
+-- the tagged bytes that precede the datagram: the purpose, the cluster, the digest of its genesis, and the recipient
 unfoldable pub front : Scope → List ℕ
 front s = label s.purpose ++ (to_be_bytes w64 s.cluster ++ (s.genesis ++ to_be_bytes w32 s.bound))
 
@@ -30,7 +30,7 @@ front s = label s.purpose ++ (to_be_bytes w64 s.cluster ++ (s.genesis ++ to_be_b
 unfoldable pub seal_tag : List ℕ → Scope → List ℕ → List ℕ
 seal_tag key s datagram = hmac key (front s ++ datagram)
 
--- the frame of a datagram: 36 bytes, and the datagram as it is
+-- the frame of a datagram: 36 bytes, and the datagram unchanged
 unfoldable pub sealed : List ℕ → Scope → List ℕ → List ℕ
 sealed key s datagram = head s.purpose ++ (seal_tag key s datagram ++ datagram)
 

@@ -2,11 +2,11 @@
 use Rattle.std.specs.Prelude.{ℕ, ◌-◌, List, ◌++◌, length, replicate, map, bit_xor, nat_le, if◌then◌else◌}
 use Rattle.sha2.specs.Sha256.{sha256}
 
--- the key in a block of 64 bytes: a longer one is its digest, and zeros stand behind (2)
+-- the key in a block of 64 bytes: a longer key is replaced by its digest, and zeros fill the block (2)
 unfoldable pub key_block : List ℕ → List ℕ
 key_block key = if nat_le (length key) 64 then key ++ replicate (64 - length key) 0 else sha256 key ++ replicate 32 0
 
--- each byte of a block with that byte added without carry
+-- each byte of a block, exclusive-or with that byte
 abbrev pub with_pad : ℕ → List ℕ → List ℕ
 with_pad pad block = map (λ byte. bit_xor byte pad) block
 

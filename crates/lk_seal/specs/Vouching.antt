@@ -12,12 +12,12 @@ pub record IsScope (s : Scope) : Type 0 where
   pub genesis : length s.genesis ≡ 32
   pub bound : s.bound < 2 ^ 32
 
--- two messages that are not the same have one tag: nobody is known to have found such
+-- two different messages have one tag: nobody is known to have found such a pair
 pub record Collide (key : List ℕ) (m n : List ℕ) : Type 0 where
   pub differ : m ≢ n
   pub same : hmac key m ≡ hmac key n
 
--- one frame is for one scope and of one datagram
+-- one frame is for one scope and for one datagram
 pub record IsForOne (s t : Scope) (d e : List ℕ) : Type 0 where
   pub purpose : s.purpose ≡ t.purpose
   pub cluster : s.cluster ≡ t.cluster
@@ -25,15 +25,16 @@ pub record IsForOne (s t : Scope) (d e : List ℕ) : Type 0 where
   pub bound : s.bound ≡ t.bound
   pub datagram : d ≡ e
 
--- what is heard where the nodes have a key: what someone with a key of theirs has sealed for this node, or nothing that a node sends
+-- what is taken if the nodes have a key: what someone with one of their keys has sealed for this node, or no node's
+-- message
 abbrev pub IsVouched : Seals → List ℕ → Type 0
 IsVouched s frame = IsSealedBy (key_list s.nodes) (to_node s s.node) frame (heard s frame) ⊎ IsOfNoNode (heard s frame)
 
--- it was sealed by that client of the cluster, under a key that the masters make for it
+-- that client of the cluster sealed it, under a key that the masters yield for it
 abbrev pub IsSealedByClient : Seals → ℕ → List ℕ → List ℕ → Type 0
 IsSealedByClient s client frame datagram = IsSealedBy (client_keys client (key_list s.clients)) (asking s.cluster client) frame datagram
 
--- what is heard where nodes and clients have keys: what someone with a key of the nodes has sealed for this node, or nothing, or what someone with
--- the key of the client that it names has sealed
+-- what is taken if nodes and clients have keys: what someone with a key of the nodes has sealed for this node, or
+-- nothing, or what someone with the key of the client that it names has sealed
 abbrev pub IsOfWhoItNames : Seals → List ℕ → Type 0
 IsOfWhoItNames s frame = IsSealedBy (key_list s.nodes) (to_node s s.node) frame (heard s frame) ⊎ (heard s frame ≡ []) ⊎ IsSealedByClient s (client_in (heard s frame)) frame (heard s frame)

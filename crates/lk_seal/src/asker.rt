@@ -1,4 +1,4 @@
-//! What a client makes of the bytes that come to its socket, and of the requests that it sends.
+//! How a client opens what arrives at its socket, and seals the requests that it sends.
 
 ghost use Rattle.std.specs.Prelude.{◌≡◌, IfOk};
 ghost use Rattle.lk_seal.specs.Seals.{key_list, no_genesis, asking, framed_by, replied};
@@ -7,7 +7,7 @@ use crate::frame::{DIGEST, Purpose, Scope};
 use crate::keys::Keys;
 use std::alloc::AllocError;
 
-/// The keys of a client, by which it knows who replied, in a cluster. The nodes make them of their masters.
+/// The keys by which a client of a cluster knows who replied. The nodes derive them from their masters.
 #[derive(Drop)]
 pub struct AskerSeals {
     pub cluster: u64,
@@ -15,7 +15,7 @@ pub struct AskerSeals {
 }
 
 impl AskerSeals {
-    // What that client asks, or is replied.
+    // What that client asks, or the reply to it.
     fn scope(&self, purpose: Purpose, client: u16) -> Scope
         ensures { result ≡ record { purpose = purpose; cluster = self.now.cluster; genesis = no_genesis; bound = client } }
     {
@@ -27,7 +27,7 @@ impl AskerSeals {
         }
     }
 
-    /// What is sent of a request of that client. Its frame, if there is a key, is put in place of what stands there.
+    /// What is sent for a request of that client. Its frame, if there is a key, overwrites the frame buffer.
     pub fn frame_of<'a>(
         &self,
         client: u16,
@@ -40,7 +40,8 @@ impl AskerSeals {
             .frame_of(&self.scope(Purpose::Asking, client), request, frame)
     }
 
-    /// What is taken of the bytes that come: what a node has replied to that client, and else nothing. All as it is, where there is no key.
+    /// What the client takes from what arrives: a node's reply to it, and nothing else. Without a key everything is
+    /// unchanged.
     pub fn heard<'a>(&self, client: u16, frame: &'a [u8]) -> &'a [u8]
         ensures { result.now ≡ replied (key_list self.now.keys) self.now.cluster client frame.now }
     {

@@ -1,4 +1,4 @@
-//! The frame of a datagram: 36 bytes with the tag, and the datagram as it is.
+//! The frame of a datagram: 36 bytes including the tag, and then the datagram, unchanged.
 
 ghost use Rattle.std.specs.Prelude.{◌≡◌, ◌↔◌, ℕ, List, IsTrue, length, Some, None, OnOk, IfSome, IsNone};
 ghost use Rattle.lk_seal.specs.Frames.{label, head, front, seal_tag, sealed, opened};
@@ -7,31 +7,31 @@ use crate::key::Key;
 use crate::mac::TAG;
 use std::alloc::AllocError;
 
-/// The bytes in front of the tag.
+/// The bytes before the tag.
 const HEAD: usize = 4;
 
-/// The bytes of a frame beside its datagram.
+/// The bytes that a frame adds to its datagram.
 pub const OVERHEAD: usize = HEAD + TAG;
 
-/// The bytes that are tagged in front of a datagram.
+/// The tagged bytes that precede a datagram.
 const FRONT: usize = 60;
 
-/// The bytes of a genesis' digest.
+/// The length of a genesis' digest.
 pub const DIGEST: usize = 32;
 
-/// For what a frame is.
+/// The purpose of a frame.
 #[derive(Clone, Copy, PartialEq, Eq)]
 pub enum Purpose {
-    /// A node says it to a node.
+    /// A node's message to a node.
     ToNode,
-    /// A client asks.
+    /// A client's request.
     Asking,
-    /// A node replies to a client.
+    /// A node's reply to a client.
     Replying,
 }
 
-/// What a tag vouches for beside the datagram: for what it is, in which cluster, of which genesis, and for which node, or 0. For clients
-/// zeros stand for the digest of the genesis.
+/// What a tag vouches for besides the datagram: the purpose, the cluster, the genesis, and the node, or 0. Clients
+/// have zeros in place of the genesis' digest.
 #[derive(Clone, Copy)]
 pub struct Scope {
     pub purpose: Purpose,
@@ -52,7 +52,7 @@ impl Purpose {
         }
     }
 
-    /// What a frame begins with.
+    /// The first bytes of a frame.
     fn head(self) -> [u8; HEAD]
         ensures { result ≡ head self }
     {
@@ -65,7 +65,7 @@ impl Purpose {
     }
 }
 
-/// What is tagged in front of a datagram.
+/// The tagged bytes that precede a datagram.
 #[tactic(auto, unfolding(crate::specs::Frames::front))]
 fn front_of(scope: &Scope) -> [u8; FRONT]
     ensures { result ≡ front scope.now }
@@ -86,7 +86,7 @@ fn tag_in(key: &Key, scope: &Scope, datagram: &[u8]) -> [u8; TAG]
     key.tag(&front_of(scope), datagram)
 }
 
-/// Whether these are what a frame begins with.
+/// Whether these are the first bytes of a frame.
 fn has_head(bytes: &[u8], purpose: Purpose) -> bool
     ensures { IsTrue result ↔ (bytes.now ≡ head purpose) }
 {
@@ -94,7 +94,7 @@ fn has_head(bytes: &[u8], purpose: Purpose) -> bool
     bytes == head.as_slice()
 }
 
-/// Whether two tags are the same. It reads each byte of both, wherever they differ; how long that takes no clause says.
+/// Whether two tags are equal. It reads every byte of both, wherever they differ; no clause speaks of its time.
 fn is_same(left: &[u8; TAG], right: &[u8]) -> bool
     requires { length right.now ≡ 32 }
     ensures { IsTrue result ↔ (left.now ≡ right.now) }
@@ -106,7 +106,7 @@ fn is_same(left: &[u8; TAG], right: &[u8]) -> bool
     difference == 0
 }
 
-/// Puts the frame of a datagram in place of what stands there.
+/// Overwrites the frame buffer with the frame of a datagram.
 #[tactic(auto, unfolding(crate::specs::Frames::sealed))]
 pub fn seal(
     key: &Key,
@@ -124,7 +124,7 @@ pub fn seal(
     Ok(())
 }
 
-/// The datagram of which these bytes are the frame.
+/// The datagram in this frame.
 pub fn open<'a>(key: &Key, scope: &Scope, frame: &'a [u8]) -> Option<&'a [u8]>
     ensures some { IfSome result (λ d. frame.now ≡ sealed key.now scope.now d.now) }
     ensures none { IsNone result → (d : List ℕ) → frame.now ≡ sealed key.now scope.now d → ⊥ }

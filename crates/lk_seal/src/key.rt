@@ -5,7 +5,7 @@ ghost use Rattle.lk_seal.specs.Hmac.{hmac};
 use crate::mac::{Mac, TAG};
 use std::marker::Model;
 
-/// The bytes of a key.
+/// The length of a key.
 pub const KEY: usize = 32;
 
 /// A key, and HMAC under it.
@@ -27,7 +27,7 @@ impl Model for Key {
 }
 
 impl Key {
-    /// The key of these bytes.
+    /// The key with these bytes.
     pub fn of(bytes: [u8; KEY]) -> Key
         ensures { result ≡ bytes }
     {
@@ -42,7 +42,8 @@ impl Key {
         self.bytes == other.bytes
     }
 
-    /// The key of a client, made of this one, which is a master. Whoever has the key of one client can make that of no other.
+    /// The key of a client, derived from this key, which is a master. Whoever has the key of one client can derive no
+    /// other client's.
     #[tactic(auto, unfolding(crate::specs::Clients::client_key))]
     pub fn of_client(&self, client: u16) -> Key
         ensures { result ≡ client_key client self.now }

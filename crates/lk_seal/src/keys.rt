@@ -6,7 +6,7 @@ use crate::frame::{Scope, open, seal};
 use crate::key::Key;
 use std::alloc::AllocError;
 
-/// No key, one, or two while keys are changed: the first seals, and each of them opens.
+/// No key, one, or two while keys are rotated: the first one seals, and each of them opens.
 #[derive(Drop)]
 pub enum Keys {
     NoKey,
@@ -15,7 +15,7 @@ pub enum Keys {
 }
 
 impl Keys {
-    /// There is none.
+    /// Whether there is none.
     pub fn is_none(&self) -> bool
         ensures { IsTrue result ↔ (key_list self.now ≡ []) }
     {
@@ -31,7 +31,7 @@ impl Keys {
         }
     }
 
-    /// Whether a key is one of these and one of those.
+    /// Whether some key is in both sets.
     pub fn meets(&self, others: &Keys) -> bool {
         match others {
             Keys::NoKey => false,
@@ -40,7 +40,7 @@ impl Keys {
         }
     }
 
-    /// The keys of a client, made of these, which are masters.
+    /// The keys of a client, derived from these, which are masters.
     pub fn of_client(&self, client: u16) -> Keys
         ensures { key_list result ≡ client_keys client (key_list self.now) }
     {
@@ -53,7 +53,7 @@ impl Keys {
         }
     }
 
-    /// What a frame opens to under the first of them that opens it.
+    /// What the first key that opens a frame opens it to.
     pub fn open<'a>(&self, scope: &Scope, frame: &'a [u8]) -> Option<&'a [u8]>
         ensures some { IfSome result (λ d. opened_by (key_list self.now) scope.now frame.now ≡ Some d.now) }
         ensures none { IsNone result → opened_by (key_list self.now) scope.now frame.now ≡ None }
@@ -68,8 +68,8 @@ impl Keys {
         }
     }
 
-    /// What is sent of a datagram: its frame, and where there is no key the datagram as it is. The frame is put in place of what
-    /// stands there.
+    /// What is sent for a datagram: its frame, or the datagram itself if there is no key. The frame overwrites the
+    /// frame buffer.
     pub fn frame_of<'a>(
         &self,
         scope: &Scope,

@@ -1,4 +1,4 @@
-//! Seals of datagrams: who has the key made them, and for whom.
+//! Seals of datagrams: they show that someone with the key made them, and for whom.
 #![tactic(auto)]
 
 mod asker;

@@ -6,13 +6,13 @@ ghost use Rattle.lk_seal.specs.Macs.{IsKeyed};
 
 use sha2::{Digest, Sha256};
 
-/// The bytes of a block of the hash.
+/// The block length of the hash.
 const BLOCK: usize = 64;
 
-/// The bytes of a digest, and so of a tag.
+/// The length of a digest, and of a tag.
 pub const TAG: usize = 32;
 
-/// What is added to a key's block in front of the message, and in front of the digest.
+/// The pads of a key's block, before the message and before the digest.
 const INNER: u8 = 0x36;
 
 const OUTER: u8 = 0x5c;
@@ -43,8 +43,8 @@ fn padded(block: &[u8; BLOCK], pad: u8) -> [u8; BLOCK]
     mixed
 }
 
-/// HMAC under a key: the hashers of the inner and of the outer digest, each of which has taken in the key's block. A tag begins with copies of
-/// them, so that the blocks are compressed once for all tags.
+/// HMAC under a key: the hashers of the inner and of the outer digest, each of which has taken in the key's block. A
+/// tag begins with copies of them, so that the blocks are compressed once for all tags.
 #[derive(Drop)]
 pub struct Mac {
     inner: Sha256,

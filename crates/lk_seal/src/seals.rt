@@ -1,4 +1,4 @@
-//! What a node makes of the bytes that come to its socket, and of the datagrams that it sends.
+//! How a node opens what arrives at its socket, and seals the datagrams that it sends.
 
 ghost use Rattle.std.specs.Prelude.{◌≡◌, ◌≢◌, [], drop, IfOk, IsErr};
 ghost use Rattle.lk_seal.specs.Clients.{client_keys, client_in};
@@ -8,13 +8,13 @@ use crate::frame::{DIGEST, OVERHEAD, Purpose, Scope};
 use crate::keys::Keys;
 use std::alloc::AllocError;
 
-/// Where a datagram has its kind, and the kind of what clients send.
+/// The offset of a datagram's kind, and the kind of a request.
 const KIND: usize = 3;
 
 const REQUEST: u8 = 9;
 
-/// The keys by which a node knows who wrote: in which cluster of which genesis it is which node, the keys of the nodes, and those of the
-/// clients' masters, of which the key of each client is made.
+/// The keys by which a node knows a sender: its cluster, its genesis and its number, the keys of the nodes, and the
+/// masters from which the keys of the clients are derived.
 #[derive(Drop)]
 pub struct Seals {
     pub cluster: u64,
@@ -25,10 +25,10 @@ pub struct Seals {
     pub clients: Keys,
 }
 
-/// Where a request names its client, in two bytes.
+/// The offset of the client in a request, two bytes.
 const CLIENT: usize = 16;
 
-/// What stands behind the tag of a frame.
+/// What follows the tag of a frame.
 fn behind_tag<'a>(frame: &'a [u8]) -> &'a [u8]
     ensures { result.now ≡ drop 36 frame.now }
 {
@@ -47,7 +47,7 @@ fn client_in(datagram: &[u8]) -> u16
     u16::from_be_bytes([first, second])
 }
 
-/// The datagram, where it is of the kind that clients send.
+/// The datagram, if it is a client's kind.
 fn only_request<'a>(datagram: &'a [u8]) -> &'a [u8]
     ensures { result.now ≡ only_request datagram.now }
 {
@@ -58,7 +58,7 @@ fn only_request<'a>(datagram: &'a [u8]) -> &'a [u8]
 }
 
 impl Seals {
-    /// What a node says to that node.
+    /// A node's message to that node.
     fn to_node(&self, node: u32) -> Scope
         ensures { result ≡ to_node self.now node }
     {
@@ -70,7 +70,7 @@ impl Seals {
         }
     }
 
-    /// What that client asks, or is replied.
+    /// What that client asks, or the reply to it.
     fn with_client(&self, purpose: Purpose, client: u16) -> Scope
         ensures { result ≡ record { purpose = purpose; cluster = self.now.cluster; genesis = no_genesis; bound = client } }
     {
@@ -82,7 +82,7 @@ impl Seals {
         }
     }
 
-    // What that client has sent, by the keys that the masters make for it.
+    // What that client has sent, under the keys that the masters yield for it.
     fn heard_of<'a>(&self, client: u16, frame: &'a [u8]) -> &'a [u8]
         ensures { result.now ≡ heard_of client (key_list self.now.clients) self.now.cluster frame.now }
     {
@@ -103,8 +103,8 @@ impl Seals {
         self.heard_of(client_in(behind_tag(frame)), frame)
     }
 
-    /// What is taken of the bytes that come: what a node of the cluster has said to this one, what a client has sent, and else
-    /// nothing. All as it is, where the nodes have no key.
+    /// What a node takes from what arrives: a message of a node of the cluster to it, what a client has sent, and
+    /// nothing else. If the nodes have no key, everything is unchanged.
     pub fn heard<'a>(&self, frame: &'a [u8]) -> &'a [u8]
         ensures { result.now ≡ heard self.now frame.now }
     {
@@ -117,7 +117,7 @@ impl Seals {
         }
     }
 
-    /// What is sent of a datagram that is bound for a node. Its frame, if there is a key, is put in place of what stands there.
+    /// What is sent for a datagram to a node. Its frame, if there is a key, overwrites the frame buffer.
     pub fn frame_to_node<'a>(
         &self,
         node: u32,
@@ -130,7 +130,7 @@ impl Seals {
         self.nodes.frame_of(&self.to_node(node), datagram, frame)
     }
 
-    /// The same of one that is bound for that client.
+    /// The same for a datagram to that client.
     pub fn frame_to_client<'a>(
         &self,
         client: u16,

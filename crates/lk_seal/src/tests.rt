@@ -1,12 +1,12 @@
-//! The tags of RFC 4231, section 4, and a frame by its bytes.
+//! The tags of RFC 4231, section 4, and a frame byte by byte.
 use crate::{DIGEST, Key, Keys, Seals, tag};
 use std::alloc::Global;
 use std::test::Fail;
 
-// A key, a message, and the beginning of its tag.
+// A key, a message, and the first bytes of its tag.
 type Row<'a> = (&'a str, &'a str, &'a str);
 
-// Each test case; of the fifth the first 16 bytes are given.
+// Each test case; for the fifth the RFC gives the first 16 bytes.
 #[rattlefmt::skip]
 const VECTORS: [Row; 7] = [
     ("0b0b0b0b0b0b0b0b0b0b0b0b0b0b0b0b0b0b0b0b", "4869205468657265", "b0344c61d8db38535ca8afceaf0bf12b881dc200c9833da726e9376c2e32cff7"),
@@ -18,7 +18,7 @@ const VECTORS: [Row; 7] = [
     ("aaaaaaaaaaaaaaaaaaaaaaaaaaaaaaaaaaaaaaaaaaaaaaaaaaaaaaaaaaaaaaaaaaaaaaaaaaaaaaaaaaaaaaaaaaaaaaaaaaaaaaaaaaaaaaaaaaaaaaaaaaaaaaaaaaaaaaaaaaaaaaaaaaaaaaaaaaaaaaaaaaaaaaaaaaaaaaaaaaaaaaaaaaaaaaaaaaaaaaaaaaaaaaaaaaaaaaaaaaaaaaaaaaaaaaaaaaaaaaaaaaaaaaaaaaaaaaaaaaaaaa", "5468697320697320612074657374207573696e672061206c6172676572207468616e20626c6f636b2d73697a65206b657920616e642061206c6172676572207468616e20626c6f636b2d73697a6520646174612e20546865206b6579206e6565647320746f20626520686173686564206265666f7265206265696e6720757365642062792074686520484d414320616c676f726974686d2e", "9b09ffa71b942fcb27635fbcd5b0e944bfdc63644f0713938a7f51535c3a35e2"),
 ];
 
-// Whether the message has a tag that begins so.
+// Whether the message's tag begins with these bytes.
 fn is_tagged(alloc: Global, row: Row) -> Result<bool, Fail> {
     let (key, message, begins) = row;
     let key = hex::decode(alloc, key)?;
@@ -28,7 +28,7 @@ fn is_tagged(alloc: Global, row: Row) -> Result<bool, Fail> {
     Ok(tag.as_slice().starts_with(&begins))
 }
 
-// The first row that is not tagged so.
+// The first row with another tag.
 fn first_bad<'a>(alloc: Global, rows: &'a [Row<'a>]) -> Result<Option<&'a Row<'a>>, Fail> {
     for row in rows {
         if !is_tagged(alloc, *row)? {
@@ -45,9 +45,10 @@ const GENESIS: [u8; DIGEST] = [
     0x50, 0xb4, 0xcf, 0xb1, 0x53, 0x4b, 0xdd, 0x7b, 0xa9, 0xd3, 0x26, 0x0e, 0x91, 0xa2, 0xb0, 0x6b,
 ];
 
-// Frames in cluster 5, under the nodes' key of bytes 11 and the key that the clients' master of bytes 22 makes for client 7, and what node 2 of that
-// genesis hears of each: a datagram to it, a request, a reply, a datagram to node 1, one to node 2 where alpha is 2, a datagram of a node in place of a
-// request, a request of client 8 as client 7's and as its own, and one under the master.
+// Frames in cluster 5, under the nodes' key of bytes 11 and the key that the clients' master of bytes 22 yields for
+// client 7, and what node 2 of that genesis takes from each: a datagram to it, a request, a reply, a datagram to node
+// 1, one to node 2 with alpha 2, a node's datagram in place of a request, a request of client 8 as client 7's and as
+// its own, and one under the master.
 #[rattlefmt::skip]
 const FRAMES: [(&str, &str); 9] = [
     ("4c5301011f15d5833f31acfadaf329cae2fc0a27ec210361085a47a28eba3f5a352588084c4b01010000000000000005000000010000000000000003000000010000000000000064", "4c4b01010000000000000005000000010000000000000003000000010000000000000064"),
@@ -72,7 +73,7 @@ fn of_node_2() -> Seals {
     }
 }
 
-// Whether node 2 hears that of it.
+// Whether node 2 takes that from it.
 fn is_heard(alloc: Global, row: (&str, &str)) -> Result<bool, Fail> {
     let (frame, datagram) = row;
     let frame = hex::decode(alloc, frame)?;
@@ -80,7 +81,7 @@ fn is_heard(alloc: Global, row: (&str, &str)) -> Result<bool, Fail> {
     Ok(of_node_2().heard(&frame) == datagram.as_slice())
 }
 
-// Whether it hears of each what stands in its row.
+// Whether it takes from each what its row says.
 fn are_heard<'a>(alloc: Global, rows: &'a [(&'a str, &'a str)]) -> Result<bool, Fail> {
     for row in rows {
         if !is_heard(alloc, *row)? {

@@ -135,7 +135,6 @@ hears_more cluster (x ∷ xs) ys old mid new a b = (a.0, a.1, hears_more cluster
 pub same_network : (old mid new : AddressBook) → IsSameNetwork old mid → IsSameNetwork mid new → IsSameNetwork old new
 same_network old mid new a b = (b.0 ∙ a.0, b.1 ∙ a.1)
 
-
 -- no frame came
 pub none_came : {R : Type 0} (tells : Type 0) (e : Option (SocketAddr × List ℕ)) (old mid new : ServerValue R) → e ≡ None → (tells → old.coming ≡ all_taken_as old.addresses.seals (listed e) ++ mid.coming)
     → (tells → e ≡ None → old.coming ≡ []) → mid ≡ record old { coming = mid.coming } → new ≡ mid → (tells → (old.coming ≡ []) × (new.coming ≡ [])) × (record new { coming = old.coming } ≡ old)

@@ -45,10 +45,10 @@ gathered_more : (m : Meaning) (IsText : List ℕ → Type 0) (Metered : Type 0) 
     → AreGathered m IsText Metered node store group (inputs ++ i ∷ []) (said ++ (e.out.notes, e.out.letters) ∷ []) new after now
 gathered_more m IsText Metered node store group [] said mid between gathered i new after now all e =
     let room : MakesRoom Metered node store group.waits e.mid e.between e.waits =
-        subst (λ (x : GroupValue). MakesRoom Metered node store x.waits e.mid e.between e.waits) all.3
-        (subst₂ (λ (n : NodeValue) (s : StoreValue). MakesRoom Metered n s gathered.waits e.mid e.between e.waits) all.1 all.2 e.room) in
+    subst (λ (x : GroupValue). MakesRoom Metered node store x.waits e.mid e.between e.waits) all.3
+    (subst₂ (λ (n : NodeValue) (s : StoreValue). MakesRoom Metered n s gathered.waits e.mid e.between e.waits) all.1 all.2 e.room) in
     let first : IsGathered m IsText Metered node store group i new after now =
-        record { mid = e.mid; between = e.between; waits = e.waits; room = room; out = e.out; steps = e.steps; adds = e.adds ∙ ap (with_step e.waits e.out) all.3 } in
+    record { mid = e.mid; between = e.between; waits = e.waits; room = room; out = e.out; steps = e.steps; adds = e.adds ∙ ap (with_step e.waits e.out) all.3 } in
     (new, after, now, first, [], ap (λ (l : List StepSaid). l ++ (e.out.notes, e.out.letters) ∷ []) all.0, (refl, refl, refl, refl))
 gathered_more m IsText Metered node store group (j ∷ inputs) said mid between gathered i new after now all e = (
   all.0,

@@ -62,7 +62,7 @@ given_none pace received ds none = subst (λ (l : List (List ℕ)). Given pace r
 pub some_datagrams : (s : Seals) (own : List LetterValue) (d : SocketAddr × List ℕ) (more : List (SocketAddr × List ℕ)) → own ≡ [] → is_beside (heard s d.1) ≡ false → datagrams_in own (all_taken_as s (d ∷ more)) ≢ []
 some_datagrams s own d more none apart is =
     let both : heard s d.1 ∷ map (λ (x : SocketAddr × List ℕ). x.1) (all_taken_as s more) ≡ [] =
-        sym (ap (λ (o : List LetterValue). datagrams_in o (all_taken_as s (d ∷ more))) none ∙ ap (λ (cs : List (SocketAddr × List ℕ)). datagrams_in [] cs) (taken_first s d more apart)) ∙ is in
+    sym (ap (λ (o : List LetterValue). datagrams_in o (all_taken_as s (d ∷ more))) none ∙ ap (λ (cs : List (SocketAddr × List ℕ)). datagrams_in [] cs) (taken_first s d more apart)) ∙ is in
     cc both
 
 -- of no letters none are taken

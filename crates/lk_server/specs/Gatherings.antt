@@ -1,4 +1,4 @@
--- A server in the middle of a turn: what its replica has taken into the group, of which nothing is synced or sent yet.
+-- A server in the middle of a turn: what its replica has taken into the group, nothing of which is synced or sent yet.
 use Rattle.std.specs.Prelude.{◌≡◌, ◌≢◌, ◌≤◌, ℕ, List, [], ◌++◌, take, drop, Option}
 use Rattle.std.specs.declared.net.socket_addr.SocketAddr.{SocketAddr}
 use Rattle.lk_step.specs.Letters.{LetterValue}
@@ -9,16 +9,16 @@ use Rattle.lk_transport.specs.Addresses.{IsSameNetwork}
 use Rattle.lk_transport.specs.Posts.{HearsAll, all_taken_as}
 use Rattle.lk_server.specs.Servers.{ServerValue, all_inputs, counted, datagrams_in, Given, GivenFirst, HasWaited, IsFront, TakesFirst, TakesLetters, HandsOn}
 
--- how a replica says: what becomes of it by a group, and the letters of that
+-- how a replica speaks: the effect of a group, and its letters
 abbrev pub Sayings : Type 0 → Type 1
 Sayings R = R → List (Option (List ℕ)) → List LetterValue → R → Type 0
 
--- how it gathers: as it was when the group began, what it was given since, what the group has come to, and as it is
+-- how it gathers: the replica when the group began, its input since, the group so far, and the replica now
 abbrev pub Gatherings : Type 0 → Type 1
 Gatherings R = R → List (Option (List ℕ)) → GroupValue → R → Type 0
 
--- this was found at the socket: these frames came, and a replica is given nothing of them; where none came, nothing was to come, if the socket tells that; and
--- nothing is changed
+-- this was found at the socket: these frames came, and a replica is given nothing of them; where none came, nothing
+-- was to come, if the socket tells that; and nothing is changed
 pub record Finds {R : Type 0} (tells : Type 0) (found : Found) (frames : List (SocketAddr × List ℕ)) (old new : ServerValue R) : Type 0 where
   pub some : found ≡ Beside → frames ≢ []
   pub beside : all_taken_as old.addresses.seals frames ≡ []
@@ -27,28 +27,29 @@ pub record Finds {R : Type 0} (tells : Type 0) (found : Found) (frames : List (S
   pub same : record new { coming = old.coming } ≡ old
 
 module _ {R : Type 0} (Gathers : Gatherings R) where
-  -- whatever the replica was given in this group, it was then given this too, and nothing is synced or sent for that
+  -- whatever input this group had before, it now has this input too, and nothing is synced or sent for it
   abbrev pub GathersMore : List (Option (List ℕ)) → GroupValue → GroupValue → R → R → Type 0
   GathersMore more group now old new = (start : R) (given : List (Option (List ℕ))) → Gathers start given group old → Gathers start (given ++ more) now new
 
-  -- these datagrams were taken into the group one after another, each counted, and where ticks go by datagrams a tick after every 64th
+  -- these datagrams were taken into the group one after another, each counted, and where ticks go by datagrams a tick
+  -- after every 64th
   pub record TakesAll (datagrams : List (List ℕ)) (group now : GroupValue) (old new : ServerValue R) : Type 0 where
     pub gathers : GathersMore (all_inputs old.pace old.received datagrams) group now old.replica new.replica
     pub counted : new.received ≡ counted old.received datagrams
     pub pace : new.pace ≡ old.pace
 
-  -- of the letters of the node to itself the first, so many at most
+  -- the first letters of the node to itself, at most this many
   pub record TakesOwn (most : ℕ) (group now : GroupValue) (old new : ServerValue R) : Type 0 where
     pub takes : TakesAll (datagrams_in (take most old.own) []) group now old new
     pub left : new.own ≡ drop most old.own
 
-  -- what came in these frames, and whoever sent it was heard
+  -- the content of these frames, and their senders' addresses were recorded
   pub record TakesHeard (frames : List (SocketAddr × List ℕ)) (group now : GroupValue) (old new : ServerValue R) : Type 0 where
     pub takes : TakesAll (datagrams_in [] (all_taken_as old.addresses.seals frames)) group now old new
     pub heard : HearsAll old.cluster (all_taken_as old.addresses.seals frames) old.addresses new.addresses
     pub network : IsSameNetwork old.addresses new.addresses
 
-  -- just these frames came from the socket, in order
+  -- exactly these frames came from the socket, in order
   pub record TakesSocket (tells : Type 0) (frames : List (SocketAddr × List ℕ)) (group now : GroupValue) (old new : ServerValue R) : Type 0 where
     pub takes : TakesHeard frames group now old new
     pub comes : tells → old.coming ≡ all_taken_as old.addresses.seals frames ++ new.coming
@@ -76,17 +77,17 @@ module _ {R : Type 0} (Gathers : Gatherings R) where
     pub network : IsSameNetwork old.addresses new.addresses
 
 module _ {R : Type 0} (Says : Sayings R) (Gathers : Gatherings R) where
-  -- whatever it was given in this group, this has ended it, and nothing of the group is said
+  -- whatever input the group had, this input has ended the replica, and nothing of the group is sent
   abbrev pub SaysNoMore : List (Option (List ℕ)) → GroupValue → R → R → Type 0
   SaysNoMore more group old new = (start : R) (given : List (Option (List ℕ))) → Gathers start given group old → Says start (given ++ more) [] new
 
-  -- a beginning of what it is given at these datagrams has ended it
+  -- a prefix of the input at these datagrams has ended it
   pub record EndsWithin (datagrams : List (List ℕ)) (group : GroupValue) (old new : ServerValue R) : Type 0 where
     pub given : List (Option (List ℕ))
     pub front : IsFront given (all_inputs old.pace old.received datagrams)
     pub silent : SaysNoMore given group old.replica new.replica
 
-  -- at the first letters of the node to itself: so many were taken
+  -- at the first letters of the node to itself, of which it took this many
   pub record EndsOwn (most : ℕ) (group : GroupValue) (old new : ServerValue R) : Type 0 where
     pub count : ℕ
     pub at_most : count ≤ most
@@ -95,7 +96,7 @@ module _ {R : Type 0} (Says : Sayings R) (Gathers : Gatherings R) where
     pub ends : EndsWithin (datagrams_in (take count old.own) []) group old new
     pub left : new.own ≡ drop count old.own
 
-  -- at what came in these frames
+  -- at the content of these frames
   pub record EndsHeard (frames : List (SocketAddr × List ℕ)) (group : GroupValue) (old new : ServerValue R) : Type 0 where
     pub ends : EndsWithin (datagrams_in [] (all_taken_as old.addresses.seals frames)) group old new
     pub heard : HearsAll old.cluster (all_taken_as old.addresses.seals frames) old.addresses new.addresses
@@ -105,7 +106,7 @@ module _ {R : Type 0} (Says : Sayings R) (Gathers : Gatherings R) where
     pub ends : EndsHeard frames group old new
     pub comes : tells → old.coming ≡ all_taken_as old.addresses.seals frames ++ new.coming
 
-  -- at what is taken in a turn
+  -- at the input of a turn
   pub record EndsGroup (tells : Type 0) (frames : List (SocketAddr × List ℕ)) (group : GroupValue) (old new : ServerValue R) : Type 0 where
     pub waited : HasWaited tells frames old
     pub takes : TakesFirst tells (all_taken_as old.addresses.seals frames) old
@@ -120,14 +121,15 @@ module _ {R : Type 0} (Says : Sayings R) (Gathers : Gatherings R) where
 
   -- ---- the end of a group
 
-  -- nothing of the group is said: no letter is kept or sent
+  -- nothing of the group leaves: no letter is kept or sent
   pub record SaysNothing (group : GroupValue) (old new : ServerValue R) : Type 0 where
     pub silent : (start : R) (given : List (Option (List ℕ))) → Gathers start given group old.replica → Says start given [] new.replica
     pub own : new.own ≡ old.own
     pub sent : new.sent ≡ old.sent
     pub failures : new.socket_failures ≡ old.socket_failures
 
-  -- whatever the group was given since the server was so, of which nothing is sent, it has handed on what its replica says by that
+  -- whatever input the group had since the server was in this state, with nothing of it sent, the server has handed on
+  -- the replica's letters
   abbrev pub HandsOnAll : Type 0 → GroupValue → ServerValue R → ServerValue R → Type 0
   HandsOnAll tells group old new = (start : ServerValue R) (given : List (Option (List ℕ))) → Gathers start.replica given group old.replica
       → start.sent ≡ old.sent → start.socket_failures ≡ old.socket_failures → HandsOn Says tells given old.own start new

@@ -1,4 +1,4 @@
--- What a server is given where the nodes have a key.
+-- What a server takes if the nodes have a key.
 use Rattle.std.specs.Prelude.{◌≡◌, ◌⊎◌, ℕ, List}
 use Rattle.lk_types.specs.declared.command.Request.{Request}
 use Rattle.lk_wire.specs.Grammar.{Spells}
@@ -8,18 +8,19 @@ use Rattle.lk_seal.specs.Seals.{key_list, to_node, heard, IsSealedBy}
 use Rattle.lk_seal.specs.Vouching.{IsSealedByClient}
 use Rattle.lk_seal.specs.declared.seals.Seals.{Seals}
 
--- no node says that: it spells a client's request, or nothing
+-- no node's message: it spells a client's request, or nothing
 abbrev pub IsFree : List ℕ → Type 0
 IsFree bytes = (m : Message) → Spells m bytes → (r : Request) × (m.content ≡ content.Request r)
 
--- what is taken of a frame was sealed for this node by someone who has a key of the nodes, or no node says it
+-- what is taken from a frame was sealed for this node by someone who has a key of the nodes, or it is no node's
+-- message
 abbrev pub IsToldByANode : Seals → List ℕ → Type 0
 IsToldByANode s frame = IsSealedBy (key_list s.nodes) (to_node s s.node) frame (heard s frame) ⊎ IsFree (heard s frame)
 
--- what is taken of a frame is a request of the client under whose key it was sealed, or it spells nothing
+-- what is taken from a frame is a request of the client under whose key it was sealed, or it spells nothing
 abbrev pub IsAskedByItsClient : Seals → List ℕ → Type 0
 IsAskedByItsClient s frame = (m : Message) → Spells m (heard s frame) → (r : Request) × (m.content ≡ content.Request r) × IsSealedByClient s r.client frame (heard s frame)
 
--- what is taken of a frame was sealed for this node by someone who has a key of the nodes, or its client asks it
+-- what is taken from a frame was sealed for this node by someone who has a key of the nodes, or its client asks it
 abbrev pub IsToldOrAsked : Seals → List ℕ → Type 0
 IsToldOrAsked s frame = IsSealedBy (key_list s.nodes) (to_node s s.node) frame (heard s frame) ⊎ IsAskedByItsClient s frame

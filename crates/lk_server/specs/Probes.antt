@@ -43,7 +43,8 @@ pub record Tells (digest : List ℕ) (shown : Shown) (s : Status) : Type 0 where
 
 -- ---- how it answers
 
--- these bytes are a report of that node that answers the probe, and tells what the replica shows. By the laws of lk_probe it is as long as the probe
+-- these bytes are a report of that node that answers the probe, and tells what the replica shows. By the laws of
+-- lk_probe it is as long as the probe
 pub record IsAnswer (node : ℕ) (genesis : List ℕ) (shown : Shown) (p : Probe) (bytes : List ℕ) : Type 0 where
   pub report : Report
   pub spelled : SpellsReport report bytes
@@ -51,7 +52,8 @@ pub record IsAnswer (node : ℕ) (genesis : List ℕ) (shown : Shown) (p : Probe
   pub node_told : report.node ≡ node
   pub told : Tells genesis shown report.status
 
--- the probe was answered, and nothing else is sent or changed; what is to come to the socket may be more then. `Shows` is what a replica shows
+-- the probe was answered, and nothing else is sent or changed; what is to come to the socket may be more then. `Shows`
+-- is what a replica shows
 pub record AnswersOne {R : Type 0} (Shows : R → Shown → Type 0) (tells : Type 0) (a : Asked) (old new : ServerValue R) : Type 0 where
   pub shown : Shown
   pub shows : Shows old.replica shown

@@ -1,4 +1,5 @@
--- What a replica says by what it is given, as one group: all of it is taken, one after another, and synced once, before anything is said.
+-- The letters of a replica for the input of a group: it takes all of it, one after another, and syncs once, before it
+-- sends anything.
 use Rattle.std.specs.Prelude.{◌≡◌, ◌≢◌, ◌⊎◌, ℕ, true, false, List, [], ◌∷◌, ◌++◌, length, map, Option, Contains}
 use Rattle.std.specs.List.{AllByRecursion}
 use Rattle.lk_disk.specs.Disk.{Disk}
@@ -25,16 +26,16 @@ use Rattle.lk_replica.specs.Rooms.{GrowsBySteps, max_after}
 abbrev pub nothing_taken : GroupValue
 nothing_taken = record { notes = []; letters = []; waits = false }
 
--- these inputs were taken into a group one after another, and this is what each step noted and said; each made the calls that it takes of a device that
--- counts them (`Metered`)
+-- these inputs were taken into a group one after another, and this is what each step noted and said; each made the
+-- calls that it takes of a device that counts them (`Metered`)
 abbrev pub AreGathered : Meaning → (List ℕ → Type 0) → Type 0 → NodeValue → StoreValue → GroupValue → List Input → List StepSaid → NodeValue → StoreValue → GroupValue → Type 0
 AreGathered m IsText Metered node store group [] said new after now = (said ≡ []) × (new ≡ node) × (after ≡ store) × (now ≡ group)
 AreGathered m IsText Metered node store group (i ∷ inputs) said new after now =
     (mid : NodeValue) × (between : StoreValue) × (gathered : GroupValue) × (taken : IsGathered m IsText Metered node store group i mid between gathered)
     × (rest : List StepSaid) × (said ≡ (taken.out.notes, taken.out.letters) ∷ rest) × AreGathered m IsText Metered mid between gathered inputs rest new after now
 
--- a replica has taken these inputs as one group, one after another, each with these notes and letters; then it has synced once what waited for that, and has
--- done nothing else. It goes on
+-- a replica has taken these inputs as one group, one after another, each with these notes and letters; then it has
+-- synced once what waited for that, and has done nothing else. It goes on
 pub record IsGroupTaken (m : Meaning) (IsText : List ℕ → Type 0) (Metered : Type 0) (old : ReplicaValue) (inputs : List Input) (said : List StepSaid) (new : ReplicaValue) : Type 0 where
   pub node : NodeValue
   pub store : StoreValue
@@ -47,8 +48,9 @@ pub record IsGroupTaken (m : Meaning) (IsText : List ℕ → Type 0) (Metered : 
   pub store_alive : inputs ≢ [] → new.store.failed ≡ false
   pub awake : inputs ≢ [] → new.node.halted ≡ false
 
--- a replica has taken a group of what it was given, and these are the letters of the steps. All that each step notes and says it may note and say by what it
--- then holds, where what the steps before it said is sent; and each image that a stop may leave covers all of it: it was synced before it was said
+-- a replica has taken its input as a group, and these are the letters of the steps. Each step is permitted its notes
+-- and letters by what the replica then holds, once the letters of the earlier steps are sent; and every image that a
+-- stop may leave covers all of them: they were synced before they were sent
 pub record SaysByGroup (m : Meaning) (IsText : List ℕ → Type 0) (Metered : Type 0) (old : ReplicaValue) (given : List (Option (List ℕ))) (letters : List LetterValue) (new : ReplicaValue) : Type 0 where
   pub inputs : List Input
   pub are_given : map heard_by inputs ≡ given
@@ -59,22 +61,22 @@ pub record SaysByGroup (m : Meaning) (IsText : List ℕ → Type 0) (Metered : T
   pub syncs : (genesis : Genesis) (n : ℕ) (x : NodeMessage) → Remembers old.node old.store genesis n
       → (d : Datagram) → Contains (batch_of n letters) d → Spells (said_by genesis n x) d.bytes → AllCover m genesis n (disks new.store) x
 
--- it was refused, and says nothing
+-- it was rejected, and sends nothing
 pub record IsSilenced (letters : List LetterValue) (new : ReplicaValue) : Type 0 where
   pub none : letters ≡ []
   pub ended : new.failed ≡ true
 
--- what a group leaves on the disks, however it ends: where the history has all that it was given, each image that a stop may leave fits the history as it was;
--- each covers what every image covered; and neither file is longer than it was, or else than so many bytes, nor has it grown by more than so many steps apart
--- from a Base
+-- what a group leaves on the disks, however it ends: where the history has all that it was given, each image that a
+-- stop may leave fits the history as it was; each covers what every image covered; and neither file is longer than it
+-- was, or else than so many bytes, nor has it grown by more than so many steps apart from a Base
 pub record GroupLeaves (m : Meaning) (Hears : History → Type 0) (most steps : ℕ) (node : NodeValue) (store : StoreValue) (after : Side → Disk) : Type 0 where
   pub ends : (h : History) (n : ℕ) → NodeFits m h n (Stands m node store h.genesis n) (disks store) → Hears h → DisksFit m h n after
   pub covers : (genesis : Genesis) (n : ℕ) (x : NodeMessage) → Remembers node store genesis n → AllCover m genesis n (disks store) x → AllCover m genesis n after x
   pub room : StaysWithin most (disks store) after
   pub grows : GrowsBySteps steps (disks store) after
 
--- so, or so; and however it ends, whatever a stop may leave of its disks fits, covers what every image covered, and is not long. One that a call has
--- ended stays as it is
+-- one or the other; however it ends, whatever a stop may leave of its disks fits, covers what every image covered
+-- before, and is not long. A replica that a call has ended does not change
 pub record SaysOf (m : Meaning) (IsText : List ℕ → Type 0) (Metered : Type 0) (old : ReplicaValue) (given : List (Option (List ℕ))) (letters : List LetterValue) (new : ReplicaValue) : Type 0 where
   pub inputs : List Input
   pub are_given : map heard_by inputs ≡ given
@@ -84,8 +86,9 @@ pub record SaysOf (m : Meaning) (IsText : List ℕ → Type 0) (Metered : Type 0
 
 -- ---- in the middle of a group
 
--- A replica was so when the group began, and has taken into it what it was given, one after another. Whatever comes of it further, all of that goes through;
--- once all is synced that waits for that, whatever the group has said is covered; and whatever a stop may leave, if nothing of it is sent, fits
+-- The replica was in this state when the group began, and has taken this input, one after another. Whatever follows,
+-- all of it goes through; once what waits for a sync is synced, everything the group says is covered; and whatever a
+-- stop may leave, if nothing of the group is sent, fits
 pub record GathersOf (m : Meaning) (IsText : List ℕ → Type 0) (Metered : Type 0) (start : ReplicaValue) (given : List (Option (List ℕ))) (group : GroupValue) (now : ReplicaValue) : Type 0 where
   pub inputs : List Input
   pub are_given : map heard_by inputs ≡ given

@@ -1,4 +1,4 @@
--- What a server gives to its replica, and what becomes of what that says.
+-- The input that a server gives to its replica, and the fate of the letters.
 use Rattle.std.specs.Prelude.{◌≡◌, ◌⊎◌, ◌≤◌, Bool, true, false, ◌+◌, ◌%◌, ◌^◌, ℕ, List, [], ◌∷◌, ◌++◌, length, map, take, drop, Option, Some, None, if◌then◌else◌}
 use Rattle.std.specs.declared.net.socket_addr.SocketAddr.{SocketAddr}
 use Rattle.lk_step.specs.Letters.{LetterValue}
@@ -9,9 +9,9 @@ use Rattle.lk_transport.specs.Posts.{HearsAll, Tray, Becomes, all_taken_as}
 use Rattle.lk_server.specs.declared.pace.Pace.{Pace}
 use Rattle.lk_server.specs.declared.pace.Pace.TheVariants.{Clock}
 
--- the number of its cluster and that of its node, what its ticks go by, its replica, the letters of the node to itself that it has not taken yet, from where
--- others wrote, how many datagrams came, whether a call has ended the replica, what its socket has sent, how often a send of that has
--- failed, and what comes to it, in order, as it is taken
+-- the number of its cluster and that of its node, what its ticks go by, its replica, the letters of the node to itself
+-- that it has not taken yet, from where others wrote, how many datagrams came, whether a call has ended the replica,
+-- what its socket has sent, how often a send of that has failed, and what comes to it, in order, as it is taken
 pub record ServerValue (R : Type 0) : Type 0 where
   pub cluster : ℕ
   pub node : ℕ
@@ -30,15 +30,15 @@ pub record Runs {R : Type 0} (r : R) (ended : Bool) (s : ServerValue R) : Type 0
   pub replica : s.replica ≡ r
   pub failed : s.failed ≡ ended
 
--- it serves on a socket that has sent this, of which so many sends have failed, and to which this comes
+-- it serves on a socket that has sent these datagrams, with this many failed sends and these datagrams to come
 pub record ServesOn {R : Type 0} (datagrams : List (SocketAddr × List ℕ)) (count : ℕ) (next : List (SocketAddr × List ℕ)) (s : ServerValue R) : Type 0 where
   pub sent : s.sent ≡ datagrams
   pub failures : s.socket_failures ≡ count
   pub coming : s.coming ≡ next
 
--- ---- what a replica is given
+-- ---- the input of a replica
 
--- how many datagrams have come with one more
+-- the count of datagrams after one more
 abbrev pub one_more : ℕ → ℕ
 one_more received = (received + 1) % 2 ^ 64
 
@@ -46,26 +46,27 @@ one_more received = (received + 1) % 2 ^ 64
 abbrev pub inputs : Pace → ℕ → List ℕ → List (Option (List ℕ))
 inputs pace number bytes = if ticks_after pace number then Some bytes ∷ None ∷ [] else Some bytes ∷ []
 
--- so at these datagrams, one after another, where so many have come before them
+-- the same at these datagrams, one after another, after this many
 abbrev pub all_inputs : Pace → ℕ → List (List ℕ) → List (Option (List ℕ))
 all_inputs pace received [] = []
 all_inputs pace received (bytes ∷ more) = inputs pace (one_more received) bytes ++ all_inputs pace (one_more received) more
 
--- how many have come then
+-- the count of datagrams after these
 abbrev pub counted : ℕ → List (List ℕ) → ℕ
 counted received [] = received
 counted received (bytes ∷ more) = counted (one_more received) more
 
--- a replica may be given this in a turn: these datagrams, one after another, and ticks as they may follow; where there are none a tick
+-- a replica may be given this in a turn: these datagrams, one after another, and ticks as they may follow; where there
+-- are none a tick
 abbrev pub Given : Pace → ℕ → List (List ℕ) → List (Option (List ℕ)) → Type 0
 Given pace received [] given = given ≡ None ∷ []
 Given pace received (bytes ∷ more) given = (ticks : List (Option (List ℕ))) × MayFollow pace ticks × (given ≡ all_inputs pace received (bytes ∷ more) ++ ticks)
 
--- the datagrams that are taken in a turn: letters of the node to itself, and what came to the socket
+-- the datagrams that a turn takes: letters of the node to itself, and what came from the socket
 abbrev pub datagrams_in : List LetterValue → List (SocketAddr × List ℕ) → List (List ℕ)
 datagrams_in own came = map (λ (l : LetterValue). l.bytes) own ++ map (λ (c : SocketAddr × List ℕ). c.1) came
 
--- it is a beginning of the other list
+-- it is a prefix of the other list
 abbrev pub IsFront : {X : Type 0} → List X → List X → Type 0
 IsFront {X} front whole = (rest : List X) × (whole ≡ front ++ rest)
 
@@ -75,36 +76,38 @@ pub record GivenFirst (pace : Pace) (received : ℕ) (datagrams : List (List ℕ
   pub may : Given pace received datagrams whole
   pub front : IsFront given whole
 
--- ---- what becomes of what it says
+-- ---- the fate of the letters
 
--- more letters stand behind these
+-- it has more letters at the end
 pub record Grows (old new : List LetterValue) : Type 0 where
   pub added : List LetterValue
   pub is : new ≡ old ++ added
 
--- what its letters may change, where these of the node to itself are kept
+-- what the letters may change, given the kept letters of the node to itself
 abbrev pub tray_at : {R : Type 0} → List LetterValue → ServerValue R → Tray
 tray_at own s = record { own = own; sent = s.sent; failures = s.socket_failures }
 
--- its replica was given just this as one group, and said these letters by it; each of them was kept, sent where it goes, or lost by a send
--- that failed, in order, and nothing else was sent or kept. `own` are the letters of the node to itself that stood before, but for those that were taken
+-- the replica took exactly this input as one group and produced these letters; each was kept, sent to its destination,
+-- or lost by a failed send, in order, and nothing else was sent or kept. `own` are the earlier letters of the node to
+-- itself, without those that were taken
 pub record HandsOn {R : Type 0} (Says : R → List (Option (List ℕ)) → List LetterValue → R → Type 0) (tells : Type 0) (given : List (Option (List ℕ))) (own : List LetterValue) (old new : ServerValue R) : Type 0 where
   pub letters : List LetterValue
   pub says : Says old.replica given letters new.replica
   pub kept : Grows own new.own
   pub carried : CarriesAll (Becomes tells new.node new.addresses) (tray_at own old) letters (tray_at new.own new)
 
--- it was given just this, and has said nothing by it: no letter was kept or sent. `stood` are the letters of the node to itself that stood before
+-- the replica took exactly this input and produced nothing: no letter was kept or sent. `stood` are the earlier
+-- letters of the node to itself
 pub record HandsNothing {R : Type 0} (Says : R → List (Option (List ℕ)) → List LetterValue → R → Type 0) (given : List (Option (List ℕ))) (stood : List LetterValue) (old new : ServerValue R) : Type 0 where
   pub says : Says old.replica given [] new.replica
   pub own : new.own ≡ stood
   pub sent : new.sent ≡ old.sent
   pub failures : new.socket_failures ≡ old.socket_failures
 
--- ---- a turn. `came` is what came to the socket in it and was taken, each from where and which bytes, in order
+-- ---- a turn. `came` is what the turn took from the socket, each with its source and bytes, in order
 
--- what may be taken of the socket: nothing where letters of the node to itself wait, at most 64 datagrams, and the first of what is to come if the socket
--- tells that
+-- what may be taken of the socket: nothing where letters of the node to itself wait, at most 64 datagrams, and the
+-- first of what is to come if the socket tells that
 pub record TakesFirst {R : Type 0} (tells : Type 0) (came : List (SocketAddr × List ℕ)) (old : ServerValue R) : Type 0 where
   pub alone : (old.own ≡ []) ⊎ (came ≡ [])
   pub few : length came ≤ 64
@@ -121,8 +124,9 @@ pub record IsSameServer {R : Type 0} (old new : ServerValue R) : Type 0 where
   pub node : new.node ≡ old.node
   pub pace : new.pace ≡ old.pace
 
--- Where letters of the node to itself wait, it takes the first 64 of them, in order, and nothing of the socket; else what came. Its replica was given just that
--- as one group, and a tick where one was due; whoever sent what came was heard, and it goes on
+-- Where letters of the node to itself wait, it takes the first 64 of them, in order, and nothing of the socket; else
+-- what came. Its replica was given just that as one group, and a tick where one was due; whoever sent what came was
+-- heard, and it goes on
 pub record Turn {R : Type 0} (Says : R → List (Option (List ℕ)) → List LetterValue → R → Type 0) (tells : Type 0) (came : List (SocketAddr × List ℕ)) (old new : ServerValue R) : Type 0 where
   pub takes : TakesFirst tells came old
   pub given : List (Option (List ℕ))
@@ -133,8 +137,8 @@ pub record Turn {R : Type 0} (Says : R → List (Option (List ℕ)) → List Let
   pub same : IsSameServer old new
   pub alive : new.failed ≡ false
 
--- A turn has ended the replica, by a beginning of what it was to be given, or by the sync after all of it: of the letters of the node to itself so many were taken,
--- and of what came the last is what has ended it; nothing of the group is said
+-- A turn has ended the replica, after a prefix of its input or at the sync after all of it: this many letters of the
+-- node to itself were taken, and the last datagram that arrived has ended it; nothing of the group is sent
 pub record LastTurn {R : Type 0} (Says : R → List (Option (List ℕ)) → List LetterValue → R → Type 0) (tells : Type 0) (came : List (SocketAddr × List ℕ)) (old new : ServerValue R) : Type 0 where
   pub takes : TakesFirst tells came old
   pub count : ℕ
@@ -147,8 +151,9 @@ pub record LastTurn {R : Type 0} (Says : R → List (Option (List ℕ)) → List
   pub same : IsSameServer old new
   pub ended : new.failed ≡ true
 
--- An idle turn: no letter of the node to itself waited, these frames came, and none of them says anything to the replica. It was given nothing, nothing was sent,
--- and nothing is changed but what is to come. By datagrams a turn in which no frame comes is never idle: it is a tick
+-- An idle turn: no letter of the node to itself waited, these frames came, and none of them says anything to the
+-- replica. It was given nothing, nothing was sent, and nothing is changed but what is to come. By datagrams a turn in
+-- which no frame comes is never idle: it is a tick
 pub record IsIdle {R : Type 0} (tells : Type 0) (frames : List (SocketAddr × List ℕ)) (old new : ServerValue R) : Type 0 where
   pub own : old.own ≡ []
   pub none : all_taken_as old.addresses.seals frames ≡ []
@@ -160,6 +165,7 @@ pub record IsIdle {R : Type 0} (tells : Type 0) (frames : List (SocketAddr × Li
 abbrev pub HasWaited : {R : Type 0} → Type 0 → List (SocketAddr × List ℕ) → ServerValue R → Type 0
 HasWaited tells frames old = tells → old.own ≡ [] → frames ≡ [] → old.coming ≡ []
 
--- a turn in which these frames came: its replica was given what was taken of them, or what waited, or a tick; or the turn is idle
+-- a turn in which these frames came: its replica was given what was taken of them, or what waited, or a tick; or the
+-- turn is idle
 abbrev pub TakesTurn : {R : Type 0} (Says : R → List (Option (List ℕ)) → List LetterValue → R → Type 0) (tells : Type 0) → List (SocketAddr × List ℕ) → ServerValue R → ServerValue R → Type 0
 TakesTurn Says tells frames old new = Turn Says tells (all_taken_as old.addresses.seals frames) old new ⊎ IsIdle tells frames old new

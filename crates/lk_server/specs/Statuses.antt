@@ -1,4 +1,4 @@
--- What is seen of a replica from outside.
+-- A replica's state, as others see it.
 use Rattle.std.specs.Prelude.{◌≡◌}
 use Rattle.std.specs.Option.{option_map}
 use Rattle.lk_replica.specs.ReplicaValue.{ReplicaValue}

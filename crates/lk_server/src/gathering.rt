@@ -1,4 +1,4 @@
-//! What a server takes in one group, in the middle of which nothing is sent.
+//! How a server collects one group. It sends nothing until the group ends.
 
 ghost use Rattle.std.specs.Prelude.{◌≡◌, ◌≢◌, ◌≤◌, ◌++◌, ℕ, List, ◌∷◌, [], length, Some, None, true, false, OnOk, OnErr, IfOk, IfErr, IfSome, IsNone};
 ghost use Rattle.std.specs.declared.net.socket_addr.SocketAddr.{SocketAddr as Address};
@@ -12,27 +12,27 @@ ghost use Rattle.lk_seal.specs.Seals.{heard};
 ghost use Rattle.lk_transport.specs.Askers.{Keeps};
 ghost use Rattle.lk_server.specs.Servers.{HasWaited, IsIdle};
 
-use lk_transport::asked::is_beside;
-use lk_transport::arrival::Arrival;
-use lk_transport::receive_buffer::ReceiveBuffer;
-use lk_transport::fault::ServiceFault;
 use crate::found::Found;
 use crate::metronome::Metronome;
 use crate::node_replica::NodeReplica;
 use crate::server::Server;
-use lk_transport::socket::DatagramSocket;
 use crate::watching::{log_changes, log_served};
 use lk_replica::Group;
 use lk_step::{Input, Letter};
+use lk_transport::arrival::Arrival;
+use lk_transport::asked::is_beside;
+use lk_transport::fault::ServiceFault;
+use lk_transport::receive_buffer::ReceiveBuffer;
+use lk_transport::socket::DatagramSocket;
 use log::Log;
 use std::net::SocketAddr;
 use std::time::{Clock, Duration};
 
-/// So many datagrams are in a group at most, behind its first.
+/// A group has at most this many datagrams after its first.
 const FURTHER: u64 = 63;
 
 impl<R: NodeReplica, S: DatagramSocket + Drop> Server<R, S> {
-    // Takes out the first letter of the node to itself.
+    // Removes the first letter of the node to itself.
     fn next_letter(&mut self) -> Option<Letter>
         ensures some { IfSome result (λ l. self.old.own ≡ l ∷ self.new.own) }
         ensures none { IsNone result → (self.old.own ≡ []) × (self.new ≡ self.old) }
@@ -48,7 +48,7 @@ impl<R: NodeReplica, S: DatagramSocket + Drop> Server<R, S> {
         self.post.wait_for(time);
     }
 
-    // The ear hears the next datagram of the socket, if one comes.
+    // Receives the next datagram of the socket into the buffer, if one arrives.
     fn listen(&mut self, buffer: &mut ReceiveBuffer)
         ensures comes { S.is_telling → self.old.coming ≡ all_taken_as self.old.addresses.seals (listed buffer.new.last) ++ self.new.coming }
         ensures none { S.is_telling → buffer.new.last ≡ None → self.old.coming ≡ [] }
@@ -57,7 +57,7 @@ impl<R: NodeReplica, S: DatagramSocket + Drop> Server<R, S> {
         self.post.listen(buffer);
     }
 
-    // The same of one that waits there already.
+    // The same for a datagram that is already waiting.
     fn listen_waiting(&mut self, buffer: &mut ReceiveBuffer)
         ensures comes { S.is_telling → self.old.coming ≡ all_taken_as self.old.addresses.seals (listed buffer.new.last) ++ self.new.coming }
         ensures none { S.is_telling → buffer.new.last ≡ None → self.old.coming ≡ [] }
@@ -66,10 +66,10 @@ impl<R: NodeReplica, S: DatagramSocket + Drop> Server<R, S> {
         self.post.listen_waiting(buffer);
     }
 
-    // Keeps from where a datagram of its cluster came, and counts one that says nothing to it.
+    // Records the source of a datagram of this cluster, and counts a datagram that means nothing to it.
     fn hear<L: Log>(&mut self, bytes: &[u8], from: SocketAddr, log: &L) -> Arrival
         ensures heard { Hears self.old.cluster bytes.now from self.old.addresses self.new.addresses }
-        // Where nodes live, and the keys, stay what they were.
+        // Where nodes live and the keys do not change.
         ensures network { IsSameNetwork self.old.addresses self.new.addresses }
         ensures others { self.new ≡ record self.old { addresses = self.new.addresses } }
     {
@@ -78,7 +78,7 @@ impl<R: NodeReplica, S: DatagramSocket + Drop> Server<R, S> {
         came
     }
 
-    // Its replica takes a tick or a datagram into the group, and what changes by that is logged.
+    // The replica takes a tick or a datagram into the group, and logs what changes.
     fn gather<L: Log>(
         &mut self,
         input: Input,
@@ -143,7 +143,7 @@ impl<R: NodeReplica, S: DatagramSocket + Drop> Server<R, S> {
         Ok(())
     }
 
-    // The group takes the first letter of the node to itself, if one waits. Whether one did.
+    // The group takes the first letter of the node to itself. Returns whether one was waiting.
     fn gather_letter<L: Log>(&mut self, group: &mut Group, log: &L) -> Result<bool, ServiceFault>
         ensures takes { IfOk result (λ some. some ≡ true → (l : LetterValue) × (self.old.own ≡ l ∷ self.new.own) × TakesAll R.Gathers (l.bytes ∷ []) group.old group.new self.old self.new) }
         ensures none { IfOk result (λ some. some ≡ false → (self.old.own ≡ []) × (self.new ≡ self.old) × (group.new ≡ group.old)) }
@@ -160,7 +160,7 @@ impl<R: NodeReplica, S: DatagramSocket + Drop> Server<R, S> {
         Ok(true)
     }
 
-    // The group takes further letters of the node to itself, in order, and at most 63.
+    // The group takes further letters of the node to itself, in order, at most 63.
     fn gather_letters<L: Log>(&mut self, group: &mut Group, log: &L) -> Result<(), ServiceFault>
         ensures takes { OnOk result (TakesOwn R.Gathers 63 group.old group.new self.old self.new) }
         ensures ends { OnErr result (EndsOwn R.Says R.Gathers 63 group.old self.old self.new) }
@@ -176,7 +176,8 @@ impl<R: NodeReplica, S: DatagramSocket + Drop> Server<R, S> {
         Ok(())
     }
 
-    // The group takes what the ear has heard, out of its frame. What stands beside the protocol it is not given: of that the first probe is kept. What was found.
+    // The group takes what the ear has heard, out of its frame. What stands beside the protocol it is not given: of
+    // that the first probe is kept. What was found.
     fn gather_heard<L: Log>(
         &mut self,
         buffer: &mut ReceiveBuffer,
@@ -226,7 +227,8 @@ impl<R: NodeReplica, S: DatagramSocket + Drop> Server<R, S> {
         self.gather_heard(buffer, group, log)
     }
 
-    // The group takes the next datagram of the socket that waits there already, if one does, and if the group has something to send. Whether one came.
+    // The group takes the next datagram of the socket that waits there already, if one does, and if the group has
+    // something to send. Whether one came.
     fn gather_waiting<L: Log>(
         &mut self,
         buffer: &mut ReceiveBuffer,
@@ -251,7 +253,8 @@ impl<R: NodeReplica, S: DatagramSocket + Drop> Server<R, S> {
         }
     }
 
-    // The group takes further datagrams of the socket, in order and at most 63: those that wait there already, as long as it has something to send.
+    // The group takes up to 63 further datagrams in order: those that are already waiting, as long as it has something
+    // to send.
     fn gather_further<L: Log>(
         &mut self,
         buffer: &mut ReceiveBuffer,
@@ -295,8 +298,9 @@ impl<R: NodeReplica, S: DatagramSocket + Drop> Server<R, S> {
         Ok(Found::Something)
     }
 
-    // The group takes what waits: the letters of the node to itself, the first 64 of them, and where there is none what comes to the socket.
-    // What was found. A letter that the group says is sent at its end, so it waits for another group.
+    // The group takes what waits: the letters of the node to itself, the first 64 of them, and where there is none
+    // what comes to the socket. What was found. A letter that the group says is sent at its end, so it waits for
+    // another group.
     pub(crate) fn gather_all<L: Log>(
         &mut self,
         buffer: &mut ReceiveBuffer,

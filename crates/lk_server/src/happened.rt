@@ -1,8 +1,8 @@
 //! What has happened to a node in a turn, for whoever is told its events.
 
+use crate::replica_status::ReplicaStatus;
 use lk_transport::arrival::Arrival;
 use lk_transport::post::Carried;
-use crate::replica_status::ReplicaStatus;
 use lk_types::{Executed, NodeNo};
 
 /// What has happened to a node in a turn, beside what is seen of it then.

@@ -1,16 +1,16 @@
-//! The datagrams that say nothing to a server, counted.
+//! Counts of datagrams that mean nothing to a server.
 
 use lk_transport::arrival::Arrival;
 use log::{Log, debug};
 
-/// How many datagrams came that do not read, and how many of another cluster.
+/// How many datagrams did not parse, and how many were of another cluster.
 #[derive(Clone, Copy)]
 pub struct IgnoredCounts {
     bad: u64,
     foreign: u64,
 }
 
-/// Logs how many there are, where that is a power of two.
+/// Logs a count that is a power of two.
 fn log_count<L: Log>(log: &L, what: &str, count: u64) {
     if count.is_power_of_two() {
         debug!(log; "datagrams {what}: {count}");
@@ -18,7 +18,7 @@ fn log_count<L: Log>(log: &L, what: &str, count: u64) {
 }
 
 impl IgnoredCounts {
-    /// None came.
+    /// No such datagram has arrived.
     pub fn new() -> IgnoredCounts {
         IgnoredCounts { bad: 0, foreign: 0 }
     }
@@ -28,7 +28,7 @@ impl IgnoredCounts {
         self.bad
     }
 
-    /// Counts what came, if it is one of them. Each count that is a power of two is logged at level debug.
+    /// Counts a datagram if it is one of them. Each count that is a power of two is logged at level debug.
     pub fn count<L: Log>(&mut self, came: &Arrival, log: &L) {
         match came {
             Arrival::Bad => {

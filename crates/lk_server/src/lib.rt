@@ -1,18 +1,18 @@
-//! A node that serves on a socket: what comes to it, from where others wrote, the post that sends what its replica says, and
-//! the server and its turns. Which folder and which files the replica lies in is for those above.
+//! A node that serves on a socket: what arrives, who sent it, the post that sends the replica's letters, and the
+//! server's turns. Folders and files belong to the crates above.
 #![tactic(auto)]
 
 pub mod found;
 mod gathering;
 pub mod happened;
+pub mod ignored;
 pub mod laws;
 pub mod metronome;
 pub mod node_replica;
 pub mod notes;
 pub mod pace;
 mod probing;
+pub mod replica_status;
 pub mod server;
 pub mod shown;
-pub mod replica_status;
-pub mod ignored;
 pub mod watching;

@@ -12,46 +12,48 @@ ghost use Rattle.lk_server.specs.Probes.{IsShown};
 ghost use Rattle.lk_server.specs.Statuses.{IsStatusOf};
 ghost use Rattle.lk_server.specs.declared.shown.Shown.{Shown as ShownValue};
 
-use crate::shown::Shown;
 use crate::replica_status::ReplicaStatus;
+use crate::shown::Shown;
 use lk_disk::LogDisk;
 use lk_replica::{Group, Post, Replica, ReplicaFault};
 use lk_state::Machine;
 use lk_step::Input;
 use std::alloc::Global;
 
-/// A replica as a server runs it: what is given to it, it takes, a group at a time.
+/// A replica as a server runs it: it takes its input in groups.
 pub trait NodeReplica: Sized + Drop {
     /// A call has ended it.
     ghost failed: { Self → Bool };
 
-    /// What becomes of it by a group of ticks and datagrams, and the letters that it says by that: as it was, what it was given (the bytes
-    /// of a datagram, or none at a tick), the letters, and as it is then.
+    /// The effect of a group: the replica before, its input (the bytes of a datagram, or nothing for a tick), the
+    /// letters that it produces, and the replica after.
     ghost Says: { Self → List (Option (List ℕ)) → List LetterValue → Self → Type 0 };
 
-    /// It is in the middle of a group: as it was when the group began, what it was given since, what the group has come to, and as it is.
+    /// The middle of a group: the replica when the group began, its input since, the group so far, and the replica
+    /// now.
     ghost Gathers: { Self → List (Option (List ℕ)) → GroupValue → Self → Type 0 };
 
     /// What it shows of itself to whoever probes its node.
     ghost Shows: { Self → ShownValue → Type 0 };
 
-    /// A group begins.
+    /// Begins a group.
     fn begin(&self, alloc: Global) -> Group
         ensures begins { Gathers self.now [] result self.now };
 
-    /// Takes a tick or a datagram as one more of a group, as `Replica::gather` does. Nothing is said before `release`, and after a refusal
-    /// nothing of the group ever is. Any refusal ends it.
+    /// Takes a tick or a datagram into a group, as `Replica::gather` does. Nothing is sent before `release`, and
+    /// nothing of a rejected group ever is. Any error ends the replica.
     fn gather(&mut self, input: Input, group: &mut Group) -> Result<(), ReplicaFault>
         ensures gathers { OnOk result (GathersMore Gathers (heard_by input.entry ∷ []) group.old group.new self.old self.new) }
         ensures silent { OnErr result (SaysNoMore Says Gathers (heard_by input.entry ∷ []) group.old self.old self.new) }
         ensures broken { OnErr result (failed self.new ≡ true) }
         ensures no_send { IfErr result (λ e. fault_number e ≡ 15 → ⊥) };
 
-    /// Ends a group, as `Replica::release` does, and tells whether all of its letters were sent. Any refusal ends it.
+    /// Ends a group, as `Replica::release` does, and returns whether all of its letters were sent. Any error ends the
+    /// replica.
     fn release<P: Post>(&mut self, group: &Group, post: &mut P) -> Result<bool, ReplicaFault>
-        // The letters that it says it gives to the post in order, each once, and nothing else.
+        // It gives its letters to the post in order, each once, and nothing else.
         ensures hands { OnOk result (GivesLetters P.Carries post.old post.new (λ letters. (start : Self) (given : List (Option (List ℕ))) → Gathers start given group.now self.old → Says start given letters self.new)) }
-        // After a refusal it says nothing, and gives it nothing.
+        // After an error it produces nothing, and gives the post nothing.
         ensures silent { OnErr result ((start : Self) (given : List (Option (List ℕ))) → Gathers start given group.now self.old → Says start given [] self.new) }
         ensures unsent { OnErr result (post.new ≡ post.old) }
         ensures tells { IfOk result (λ all. TellsSends all (P.failures post.old) (P.failures post.new)) }
@@ -59,7 +61,7 @@ pub trait NodeReplica: Sized + Drop {
         ensures broken { OnErr result (failed self.new ≡ true) }
         ensures no_send { IfErr result (λ e. fault_number e ≡ 15 → ⊥) };
 
-    /// What is seen of it from outside.
+    /// A summary of its state.
     fn status(&self) -> ReplicaStatus;
 
     /// What it shows of itself to whoever probes its node.

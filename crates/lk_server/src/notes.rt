@@ -1,10 +1,10 @@
-//! The notes of a node as lines of a log.
+//! A node's notes as log lines.
 
 use lk_step::Note;
 use log::{Log, info};
 
-/// Logs what a node counted and executed, a line each at the level of information: `counted POSITION`, `ran POSITION`. A line
-/// that fails is dropped.
+/// Logs what a node counted and executed, one line each at level info: `counted POSITION`, `ran POSITION`. A line that
+/// cannot be written is dropped.
 pub fn log_notes<L: Log>(log: &L, notes: &[Note]) {
     for note in notes {
         match note {

@@ -4,12 +4,12 @@ ghost use Rattle.std.specs.Prelude.{◌≡◌, None, true, IsTrue};
 ghost use Rattle.lk_server.specs.Probes.{AnswersKept, IsAnswer, Tells};
 ghost use Rattle.lk_server.specs.declared.shown.Shown.{Shown as ShownValue};
 
-use lk_transport::asked::Asked;
-use lk_transport::receive_buffer::ReceiveBuffer;
 use crate::node_replica::NodeReplica;
 use crate::server::Server;
-use lk_transport::socket::DatagramSocket;
 use lk_probe::{Identity, LENGTH, PROGRAM, Status, Traffic};
+use lk_transport::asked::Asked;
+use lk_transport::receive_buffer::ReceiveBuffer;
+use lk_transport::socket::DatagramSocket;
 
 /// The version of a lock table that a server does not know.
 const UNKNOWN: u8 = 0;
@@ -43,7 +43,10 @@ impl<R: NodeReplica, S: DatagramSocket + Drop> Server<R, S> {
     fn report(&self, asked: &Asked) -> [u8; LENGTH]
         ensures { (shown : ShownValue) × R.Shows self.now.replica shown × IsAnswer self.now.node self.now.addresses.seals.genesis shown asked.now.probe result }
     {
-        asked.probe.answer(self.post.node(), self.status()).datagram()
+        asked
+            .probe
+            .answer(self.post.node(), self.status())
+            .datagram()
     }
 
     /// Answers the probe that the ear keeps, if it keeps one: by a report that goes to where the probe came from.

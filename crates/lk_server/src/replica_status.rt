@@ -1,8 +1,8 @@
-//! What is seen of a replica from outside.
+//! A replica's state, as others see it.
 
 use lk_types::{Ballot, Executed, NodeNo, RealBallot};
 
-/// What is seen of a replica from outside, between two turns.
+/// A replica's state between two turns, as others see it.
 #[derive(Clone, Copy)]
 pub struct ReplicaStatus {
     /// The generation of its store.

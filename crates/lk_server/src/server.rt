@@ -9,20 +9,20 @@ ghost use Rattle.lk_server.specs.Gatherings.{Finds, HandsOnAll, SaysNothing};
 ghost use Rattle.lk_transport.specs.Posts.{all_taken_as};
 ghost use Rattle.lk_server.specs.Servers.{HandsOn, HandsNothing, HasWaited, IsSameServer, LastTurn, Runs, ServesOn, TakesTurn, Turn};
 
-use lk_transport::receive_buffer::ReceiveBuffer;
-use lk_transport::fault::ServiceFault;
 use crate::found::Found;
 use crate::happened::Happened;
+use crate::ignored::IgnoredCounts;
 use crate::metronome::Metronome;
 use crate::node_replica::NodeReplica;
 use crate::notes::log_notes;
-use lk_transport::network::Network;
 use crate::pace::Pace;
-use lk_transport::post::SocketPost;
-use lk_transport::socket::DatagramSocket;
-use crate::ignored::IgnoredCounts;
 use crate::watching::log_carried;
 use lk_replica::{Group, ReplicaFault};
+use lk_transport::fault::ServiceFault;
+use lk_transport::network::Network;
+use lk_transport::post::SocketPost;
+use lk_transport::receive_buffer::ReceiveBuffer;
+use lk_transport::socket::DatagramSocket;
 use lk_types::NodeNo;
 use log::Log;
 use std::alloc::Global;
@@ -36,11 +36,11 @@ pub struct Server<R: NodeReplica, S: DatagramSocket + Drop> {
     pub(crate) cluster: u64,
     pub(crate) pace: Pace,
     pub(crate) replica: R,
-    // what the node wrote to itself and has not taken yet is kept there
+    // it holds the letters of the node to itself that wait for a group
     pub(crate) post: SocketPost<S>,
-    // the datagrams that came, modulo 2^64
+    // datagrams taken so far, modulo 2^64
     pub(crate) received: u64,
-    // those of them that say nothing to it
+    // those of them that mean nothing to the node
     pub(crate) ignored: IgnoredCounts,
     // what has happened since that was asked
     pub(crate) happened: Happened,
@@ -58,7 +58,7 @@ impl<R: NodeReplica, S: DatagramSocket + Drop> Model for Server<R, S> {
 }
 
 impl<R: NodeReplica, S: DatagramSocket + Drop> Server<R, S> {
-    /// The server of that node's replica, of that cluster, to which nobody has written yet.
+    /// The server of this replica of the cluster, to which nobody has written yet.
     pub fn new(
         alloc: Global,
         cluster: u64,
@@ -97,13 +97,13 @@ impl<R: NodeReplica, S: DatagramSocket + Drop> Server<R, S> {
     /// The replica.
     pub fn replica(&self) -> &R
         ensures is { result.now ≡ self.now.replica }
-        // Whether the server has ended is its replica's to tell.
+        // The replica says whether the server has ended.
         ensures failed { self.now.failed ≡ R.failed self.now.replica }
     {
         &self.replica
     }
 
-    /// The socket on which it serves, for whoever carries its datagrams.
+    /// The socket on which it serves, for tests that carry its datagrams.
     pub fn socket_mut(&mut self) -> &mut S {
         self.post.socket_mut()
     }
@@ -136,14 +136,15 @@ impl<R: NodeReplica, S: DatagramSocket + Drop> Server<R, S> {
         replica
     }
 
-    // A group begins.
+    // Begins a group.
     fn begin(&self) -> Group
         ensures { R.Gathers self.now.replica [] result self.now.replica }
     {
         self.replica.begin(self.alloc)
     }
 
-    // Ends a group: what its replica says by it is sent or kept, what became of that is logged, and sends that failed are counted.
+    // Ends a group: what its replica says by it is sent or kept, what became of that is logged, and sends that failed
+    // are counted.
     fn hand_over<L: Log>(&mut self, group: &Group, log: &L) -> Result<bool, ReplicaFault>
         ensures gives { OnOk result (HandsOnAll R.Says R.Gathers S.is_telling group.now self.old self.new) }
         ensures silent { OnErr result (SaysNothing R.Says R.Gathers group.now self.old self.new) }
@@ -162,11 +163,12 @@ impl<R: NodeReplica, S: DatagramSocket + Drop> Server<R, S> {
         released
     }
 
-    /// Ends a group. What could not be sent is lost, and the notes count all the same.
+    /// Ends a group. What could not be sent is lost; the notes count all the same.
     fn release<L: Log>(&mut self, group: &Group, log: &L) -> Result<(), ServiceFault>
-        // The letters of the group were each sent where they go, kept for the node itself, or lost by a send that failed, in order.
+        // Each letter of the group was sent to its destination, kept for the node itself, or lost by a failed send, in
+        // order.
         ensures gives { OnOk result (HandsOnAll R.Says R.Gathers S.is_telling group.now self.old self.new) }
-        // After a refusal nothing of it is sent.
+        // After an error nothing of the group is sent.
         ensures silent { OnErr result (SaysNothing R.Says R.Gathers group.now self.old self.new) }
         ensures addresses { self.new.addresses ≡ self.old.addresses }
         ensures same { IsSameServer self.old self.new }
@@ -184,9 +186,10 @@ impl<R: NodeReplica, S: DatagramSocket + Drop> Server<R, S> {
         }
     }
 
-    /// Some time has passed: a group of a tick alone.
+    /// Some time has passed: takes a group of one tick.
     pub fn tick<L: Log>(&mut self, log: &L) -> Result<(), ServiceFault>
-        // The replica was given that and nothing else; what it said was sent or kept, or a send of it failed, and nothing else was sent.
+        // The replica took a tick and nothing else. Each of its letters was sent, kept, or lost by a failed send, and
+        // nothing else was sent.
         ensures hands_on { OnOk result (HandsOn R.Says S.is_telling (None ∷ []) self.old.own self.old self.new) }
         ensures ends { OnErr result (HandsNothing R.Says (None ∷ []) self.old.own self.old self.new) }
         ensures addresses { self.new.addresses ≡ self.old.addresses }
@@ -201,13 +204,17 @@ impl<R: NodeReplica, S: DatagramSocket + Drop> Server<R, S> {
         self.release(&group, log)
     }
 
-    /// Takes a group of what waits, if anything does: the first letters that the node wrote to itself, and where there is none what comes to
-    /// the socket. Whether there was anything.
-    pub fn serve_next<L: Log>(&mut self, buffer: &mut ReceiveBuffer, log: &L) -> Result<bool, ServiceFault>
+    /// Takes what is waiting as one group: the first letters of the node to itself, or else what arrives at the
+    /// socket. Returns whether there was anything.
+    pub fn serve_next<L: Log>(
+        &mut self,
+        buffer: &mut ReceiveBuffer,
+        log: &L,
+    ) -> Result<bool, ServiceFault>
         ensures turn { IfOk result (λ came. came ≡ true → (frames : List (Address × List ℕ)) × Turn R.Says S.is_telling (all_taken_as self.old.addresses.seals frames) self.old self.new) }
         ensures ends { OnErr result ((frames : List (Address × List ℕ)) × LastTurn R.Says S.is_telling (all_taken_as self.old.addresses.seals frames) self.old self.new) }
         ensures none { IfOk result (λ came. came ≡ false → (self.old.own ≡ []) × (found : Found) × (frames : List (Address × List ℕ)) × Finds S.is_telling found frames self.old self.new) }
-        // Where nodes live, and the keys, stay what they were.
+        // Where nodes live and the keys do not change.
         ensures network { IsSameNetwork self.old.addresses self.new.addresses }
         ensures passes { IfErr result (λ f. f ≡ ServiceFault.Send → ⊥) }
     {
@@ -228,13 +235,15 @@ pub fn node_turn<R: NodeReplica, S: DatagramSocket + Drop, C: Clock, L: Log>(
     metronome: &mut Metronome<C>,
     log: &L,
 ) -> Result<(), ServiceFault>
-    // Where the node wrote to itself it takes the first 64 letters of that, once and in order, and nothing of the socket. Else it takes what came, each whole and
-    // out of its frame, from where it came. Its replica was given just that, as one group, and a tick where one was due. The letters that it said were each sent
-    // where they go, kept for the node itself, or lost by a send that failed, in order, and nothing else was sent. A turn in which it was given nothing is idle.
+    // Where the node wrote to itself it takes the first 64 letters of that, once and in order, and nothing of the
+    // socket. Else it takes what came, each whole and out of its frame, from where it came. Its replica was given just
+    // that, as one group, and a tick where one was due. The letters that it said were each sent where they go, kept
+    // for the node itself, or lost by a send that failed, in order, and nothing else was sent. A turn in which it was
+    // given nothing is idle.
     ensures turn { OnOk result ((frames : List (Address × List ℕ)) × HasWaited S.is_telling frames server.old × TakesTurn R.Says S.is_telling frames server.old server.new) }
-    // After a refusal nothing of the group is sent.
+    // After an error nothing of the group is sent.
     ensures ends { OnErr result ((frames : List (Address × List ℕ)) × HasWaited S.is_telling frames server.old × LastTurn R.Says S.is_telling (all_taken_as server.old.addresses.seals frames) server.old server.new) }
-    // Where nodes live, and the keys, stay what they were.
+    // Where nodes live and the keys do not change.
     ensures network { IsSameNetwork server.old.addresses server.new.addresses }
     ensures passes { IfErr result (λ f. f ≡ ServiceFault.Send → ⊥) }
 {

@@ -1,13 +1,14 @@
-//! What a server logs of its replica beside its notes: lines of level debug, one fact each. A line that fails is dropped.
+//! What a server logs of its replica besides the notes: lines of level debug, one fact each. A line that cannot be
+//! written is dropped.
 
+use crate::replica_status::ReplicaStatus;
 use lk_transport::arrival::Arrival;
 use lk_transport::post::Carried;
-use crate::replica_status::ReplicaStatus;
 use lk_types::{NodeNo, Port, RealBallot};
 use log::{Log, debug};
 use std::io;
 
-/// Logs how a node came up: whether its store is a new one, and what stands in it.
+/// Logs how a node started: whether its store is new, and what it holds.
 pub fn log_start<L: Log>(log: &L, is_new: bool, status: &ReplicaStatus) {
     if is_new {
         debug!(log; "came up with a new store");
@@ -19,12 +20,12 @@ pub fn log_start<L: Log>(log: &L, is_new: bool, status: &ReplicaStatus) {
     log_number(log, "executed", status.executed.get());
 }
 
-/// Logs at which port a node listens.
+/// Logs the port at which a node listens.
 pub fn log_port<L: Log>(log: &L, port: Port) {
     log_number(log, "port", u64::from(port.get()));
 }
 
-/// Logs a number by its name.
+/// Logs a named number.
 fn log_number<L: Log>(log: &L, name: &str, number: u64) {
     debug!(log; "{name} {number}");
 }
@@ -35,14 +36,19 @@ fn log_begun<L: Log>(log: &L, term: RealBallot) {
     debug!(log; "term {}.{} begun", ballot.round(), ballot.node());
 }
 
-/// Logs that a term has ended, and by what.
+/// Logs that a term has ended, and why.
 fn log_ended<L: Log>(log: &L, came: &Arrival, term: RealBallot) {
     let ballot = term.get();
     debug!(log; "term {}.{} ended by {came}", ballot.round(), ballot.node());
 }
 
 /// Logs which term has ended and which has begun.
-fn log_term<L: Log>(log: &L, came: &Arrival, before: Option<RealBallot>, after: Option<RealBallot>) {
+fn log_term<L: Log>(
+    log: &L,
+    came: &Arrival,
+    before: Option<RealBallot>,
+    after: Option<RealBallot>,
+) {
     if before == after {
         return;
     }
@@ -54,7 +60,7 @@ fn log_term<L: Log>(log: &L, came: &Arrival, before: Option<RealBallot>, after: 
     }
 }
 
-/// Logs another leader than before.
+/// Logs a change of the leader.
 fn log_known<L: Log>(log: &L, before: Option<NodeNo>, after: Option<NodeNo>) {
     match after {
         _ if before == after => {}
@@ -63,7 +69,7 @@ fn log_known<L: Log>(log: &L, before: Option<NodeNo>, after: Option<NodeNo>) {
     }
 }
 
-/// Logs where the store was compacted, and which snapshot of another node was installed.
+/// Logs a compaction of the store, and an installed snapshot of another node.
 fn log_store<L: Log>(log: &L, before: &ReplicaStatus, after: &ReplicaStatus) {
     let rebases = after.generation.saturating_sub(before.generation);
     let is_installed = after.snapshot.get() > before.executed.get();
@@ -75,21 +81,21 @@ fn log_store<L: Log>(log: &L, before: &ReplicaStatus, after: &ReplicaStatus) {
     }
 }
 
-/// Logs what has changed by what came.
+/// Logs what an input has changed.
 pub fn log_changes<L: Log>(log: &L, came: &Arrival, before: &ReplicaStatus, after: &ReplicaStatus) {
     log_term(log, came, before.term, after.term);
     log_known(log, before.known, after.known);
     log_store(log, before, after);
 }
 
-/// Logs by how many datagrams another node is told what it has missed, where it wants that.
+/// Logs how many datagrams answer another node's Want.
 pub fn log_served<L: Log>(log: &L, came: &Arrival, said: usize) {
     if let Arrival::Want(node) = came {
         debug!(log; "Want of node {} served by {said} datagrams", node.get());
     }
 }
 
-/// Logs that the node wants to be told what it has missed.
+/// Logs that the node asks for what it has missed.
 fn log_wants<L: Log>(log: &L, carried: &Carried) {
     if let Some(node) = carried.wanted {
         log_number(log, "Want sent to node", u64::from(node.get()));
@@ -105,7 +111,7 @@ fn log_lost<L: Log>(log: &L, lost: u64, cause: Option<io::Error>) {
     }
 }
 
-/// Logs what became of what was sent in a turn.
+/// Logs the fate of a turn's letters.
 pub fn log_carried<L: Log>(log: &L, carried: &Carried, cause: Option<io::Error>) {
     log_wants(log, carried);
     log_lost(log, carried.lost, cause);

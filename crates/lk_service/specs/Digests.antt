@@ -5,10 +5,10 @@ use Rattle.lk_fields.specs.Fields.{one, eight}
 use Rattle.lk_entries.specs.Entries.{members}
 use Rattle.lk_entries.specs.Values.{HeaderValue}
 
--- the one spelling of the genesis of a header: cluster, alpha, the count of the members, and these in rising node
+-- the canonical bytes of a header's genesis: cluster, alpha, the count of the members, and the members by rising node
 abbrev pub genesis_spelling : HeaderValue → List ℕ
 genesis_spelling h = eight h.cluster ++ (one h.alpha ++ members h.members)
 
--- SHA-256 of that
+-- its SHA-256
 unfoldable pub genesis_digest : HeaderValue → List ℕ
 genesis_digest h = sha256 (genesis_spelling h)

@@ -1,4 +1,4 @@
--- By which machines a node is reached.
+-- Which machines can reach a node.
 use Rattle.std.specs.Prelude.{◌≡◌, ◌≢◌, ◌⊎◌, []}
 use Rattle.std.specs.Net.Addr.{MatchIp, IsLoopbackV4, IsLoopbackV6}
 use Rattle.std.specs.Net.Socket.{socket_ip}
@@ -7,10 +7,10 @@ use Rattle.std.specs.declared.net.socket_addr.SocketAddr.{SocketAddr}
 use Rattle.lk_seal.specs.Seals.{key_list}
 use Rattle.lk_seal.specs.declared.seals.Seals.{Seals}
 
--- no other machine reaches it
+-- no other machine can reach it
 abbrev pub IsOfThisMachine : IpAddr → Type 0
 IsOfThisMachine a = MatchIp a IsLoopbackV4 IsLoopbackV6
 
--- no other machine reaches the address, or the nodes have a key
+-- no other machine can reach the address, or the nodes have a key
 abbrev pub IsReachedWithKey : Seals → SocketAddr → Type 0
 IsReachedWithKey s place = IsOfThisMachine (socket_ip place) ⊎ (key_list s.nodes ≢ [])

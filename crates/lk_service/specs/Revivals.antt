@@ -1,4 +1,4 @@
--- How a node comes up, and for what it does not.
+-- How a node starts, and why it does not.
 use Rattle.std.specs.Prelude.{◌≡◌, ◌≤◌, ℕ, false, List, []}
 use Rattle.lk_types.specs.Limits.{max_base}
 use Rattle.lk_disk.specs.Disk.{Disk}
@@ -20,23 +20,23 @@ use Rattle.lk_transport.specs.Faults.{replica_fault}
 use Rattle.lk_server.specs.Servers.{ServerValue}
 use Rattle.lk_transport.specs.declared.fault.ServiceFault.{ServiceFault}
 
--- a replica of this header comes up by what these disks have: it goes on in each history that they fit, and its files are no longer than they were, or
--- else than a Base
+-- a replica of this header restarts from what these disks have: it goes on in each history that they fit, and its
+-- files have not grown, except up to the size of a Base
 pub record ComesUp (m : Meaning) (header : HeaderValue) (old : Side → Disk) (r : ReplicaValue) : Type 0 where
   pub notes : List Note
   pub goes : (h : History) (n : ℕ) → header ≡ header_of h.genesis n → IsLawful m h → DisksFit m h n old → Goes m h n (Stands m r.node r.store h.genesis n) (disks r.store) notes []
   pub room : StaysWithin max_base old (disks r.store)
 
--- none comes up by what these disks had, and they are left so: whatever a stop may leave of them fits each history that they fitted, and the files are
--- no longer than they were, or else than a Base
+-- none restarts from what these disks had, and they are left like this: whatever a stop may leave of them fits each
+-- history that they fitted, and the files have not grown, except up to the size of a Base
 pub record StaysDown (m : Meaning) (header : HeaderValue) (old left : Side → Disk) : Type 0 where
   pub fits : (h : History) (n : ℕ) → header ≡ header_of h.genesis n → IsLawful m h → DisksFit m h n old → DisksFit m h n left
   pub room : StaysWithin max_base old left
 
--- `honest` says that the device is honest, which had these disks
+-- `honest` says that the device that had these disks is honest
 module _ (m : Meaning) (honest : Type 0) (old : Side → Disk) (header : HeaderValue) where
-  -- it is the server of the node of this header, in its cluster, on a replica that can take calls as that node and comes up by what the device
-  -- had. Nothing has come to it, and nothing waits that the node wrote to itself
+  -- it is the server of the node of this header, in its cluster, with a replica that can take calls as that node and
+  -- restarts from what the device had. Nothing has arrived, and no letter of the node to itself is waiting
   pub record IsBegun (s : ServerValue ReplicaValue) : Type 0 where
     pub cluster : s.cluster ≡ header.cluster
     pub node : s.node ≡ header.node
@@ -47,14 +47,15 @@ module _ (m : Meaning) (honest : Type 0) (old : Side → Disk) (header : HeaderV
     pub received : s.received ≡ 0
 
 module _ (m : Meaning) (IsText : List ℕ → Type 0) (honest : Type 0) (old : Side → Disk) (header : HeaderValue) where
-  -- what the device had was not taken up, for the fault of this number, and it has these disks now, which fit as those did. Damage, another's store and
-  -- a store at its last generation are told for their cause alone
+  -- the restart from what the device had failed with the fault of this number, and the device now has these disks,
+  -- which fit as those did. The faults for damage, for another's store and for a store at its last generation have
+  -- exactly that cause
   pub record IsNotTakenUp (number : ℕ) (left : Side → Disk) : Type 0 where
     pub among : (7 ≤ number) × (number ≤ 11)
     pub cause : honest → IsRefusedFor m IsText old header number left
     pub stays_down : honest → StaysDown m header old left
 
-  -- it was not taken up, and this is told for it
+  -- the restart failed, and this fault reports it
   pub record IsRefusedWith (told : ServiceFault) : Type 0 where
     pub fault : ReplicaFault
     pub is : told ≡ replica_fault fault

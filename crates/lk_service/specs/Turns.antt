@@ -14,15 +14,17 @@ use Rattle.lk_transport.specs.declared.asked.Asked.{Asked}
 use Rattle.lk_transport.specs.Chains.{Repeats}
 use Rattle.lk_service.specs.Digests.{genesis_digest}
 
--- the server tells whether a call has ended its replica
+-- the server knows whether a call has ended its replica
 abbrev pub TellsFailure : ServerValue ReplicaValue → Type 0
 TellsFailure s = s.failed ≡ s.replica.failed
 
--- `Says` is what a replica says by what it is given, and `tells` that the socket tells what it sends and what comes to it
+-- `Says` relates a replica's input to its letters, and `tells` says that the socket reveals what it sends and what
+-- arrives
 module _ (Says : ReplicaValue → List (Option (List ℕ)) → List LetterValue → ReplicaValue → Type 0) (tells : Type 0) where
-  -- a turn: the replica was given the first letters of the node to itself as one group, or where none waited what was taken of what came, out of its frames where
-  -- the nodes have a key, and a tick where one was due, and goes on; or it is idle, and given nothing. Behind that a probe that was kept is answered. Where nodes
-  -- live, and the keys, are the same
+  -- a turn: the replica was given the first letters of the node to itself as one group, or where none waited what was
+  -- taken of what came, out of its frames where the nodes have a key, and a tick where one was due, and goes on; or it
+  -- is idle, and given nothing. Behind that a probe that was kept is answered. Where nodes live, and the keys, are the
+  -- same
   pub record TakesTurn (old new : ServerValue ReplicaValue) : Type 0 where
     pub frames : List (SocketAddr × List ℕ)
     pub came : List (SocketAddr × List ℕ)
@@ -50,7 +52,7 @@ module _ (Says : ReplicaValue → List (Option (List ℕ)) → List LetterValue 
   letters_in (inl turn) = turn.hands_on.letters
   letters_in (inr idle) = []
 
-  -- fewer turns than so many were taken, and then one that ended the replica
+  -- it took fewer turns than this, and then one that ended the replica
   pub record BreaksOff (most : ℕ) (old new : ServerValue ReplicaValue) : Type 0 where
     pub count : ℕ
     pub fewer : count < most
@@ -58,7 +60,7 @@ module _ (Says : ReplicaValue → List (Option (List ℕ)) → List LetterValue 
     pub turns : Repeats TakesTurn count old last
     pub ends : EndsTurn last new
 
--- they are the seals of the node of this header, in its cluster, of its genesis
+-- they are the seals of the node of this header, in its cluster, for its genesis
 pub record AreSealsOf (header : HeaderValue) (s : Seals) : Type 0 where
   pub cluster : s.cluster ≡ header.cluster
   pub genesis : s.genesis ≡ genesis_digest header
@@ -69,9 +71,9 @@ pub record HasSeals (header : HeaderValue) (seals : Seals) (s : ServerValue Repl
   pub are : s.addresses.seals ≡ seals
   pub whose : AreSealsOf header seals
 
--- `Begins` is how the server of a node is taken up
+-- `Begins` says how the server of a node starts
 module _ (Begins : ServerValue ReplicaValue → Type 0) (header : HeaderValue) (seals : Seals) (Says : ReplicaValue → List (Option (List ℕ)) → List LetterValue → ReplicaValue → Type 0) (tells : Type 0) where
-  -- it was taken up so, with these seals of the node of this header, and has taken so many turns
+  -- it started in this way, with these seals of the node of this header, and has taken this many turns
   pub record Serves (count : ℕ) : Type 0 where
     pub begun : ServerValue ReplicaValue
     pub begins : Begins begun
@@ -79,7 +81,7 @@ module _ (Begins : ServerValue ReplicaValue → Type 0) (header : HeaderValue) (
     pub ended : ServerValue ReplicaValue
     pub turns : Repeats (TakesTurn Says tells) count begun ended
 
-  -- it was, and has taken fewer, and then one that ended its replica
+  -- it did, and has taken fewer, and then one that ended its replica
   pub record EndsEarly (most : ℕ) : Type 0 where
     pub begun : ServerValue ReplicaValue
     pub begins : Begins begun

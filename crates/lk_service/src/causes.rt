@@ -1,4 +1,4 @@
-//! Why something does not open, or a call of a file failed, for whoever runs the program.
+//! Explains why something does not open, or why a call of a file failed.
 
 ghost use Rattle.std.specs.Prelude.{◌≡◌};
 
@@ -13,7 +13,7 @@ use std::io::{Read, Seek, Write};
 use std::net::{Net, SocketAddr};
 use std::path::Path;
 
-/// Tells in a line what does not open, and why: `NAME: TEXT`.
+/// Writes a line that says what does not open, and why: `NAME: TEXT`.
 pub fn tell_cause<N: Display + Drop, T: Display + Drop, E: Write>(
     name: N,
     text: T,
@@ -23,7 +23,7 @@ pub fn tell_cause<N: Display + Drop, T: Display + Drop, E: Write>(
     ServiceFault::CannotOpen
 }
 
-/// The socket of a port, or of any free one where the port is 0. It refuses with `CannotOpen`, and a line tells why.
+/// The socket of a port, or of any free port for 0. On failure it writes the reason and returns `CannotOpen`.
 pub fn open_socket<R: Net, E: Write>(
     rt: &R,
     port: u16,
@@ -32,7 +32,7 @@ pub fn open_socket<R: Net, E: Write>(
     open_socket_at(rt, local(port), err)
 }
 
-/// The socket of an address. It refuses with `CannotOpen`, and a line tells why.
+/// The socket of an address. On failure it writes the reason and returns `CannotOpen`.
 pub fn open_socket_at<R: Net, E: Write>(
     rt: &R,
     place: SocketAddr,
@@ -44,7 +44,7 @@ pub fn open_socket_at<R: Net, E: Write>(
     }
 }
 
-/// A file of a folder. It refuses with `CannotOpen`, and a line tells why.
+/// A file of a folder. On failure it writes the reason and returns `CannotOpen`.
 pub fn open_file<R: Files, E: Write>(
     rt: &R,
     alloc: Global,
@@ -60,7 +60,7 @@ pub fn open_file<R: Files, E: Write>(
     }
 }
 
-/// Tells in a line why the files of a folder do not open, by the first of them that does not.
+/// Writes why the files of a folder do not open, for the first one that does not.
 pub fn tell_closed<R: Files, E: Write>(
     rt: &R,
     alloc: Global,
@@ -76,9 +76,9 @@ pub fn tell_closed<R: Files, E: Write>(
     ServiceFault::CannotOpen
 }
 
-/// A device that tells why a call of it failed.
+/// A device that says why one of its calls failed.
 pub trait FailureCause {
-    /// What the system said of the last call that failed at a side, where one did.
+    /// What the system reported for the last failed call at a side, if there was one.
     fn cause(&self, side: Side) -> Option<io::Error>;
 }
 
@@ -94,7 +94,7 @@ impl FailureCause for MemoryDisk {
     }
 }
 
-/// Tells in a line for each file of a folder of which a call has failed why that did, where the fault is the device's.
+/// Writes a line for each file of a folder with a failed call, if the device caused the fault.
 pub fn tell_device<D: FailureCause, E: Write>(
     fault: ServiceFault,
     device: &D,

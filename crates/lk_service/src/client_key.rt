@@ -1,4 +1,4 @@
-//! The key of a client, for whoever runs the nodes.
+//! The key of a client, for the operator of the nodes.
 
 ghost use Rattle.std.specs.Prelude.{◌≡◌, ◌≤◌, List, ℕ, OnOk};
 ghost use Rattle.lk_service.specs.ClientKeys.{Prints};
@@ -29,7 +29,7 @@ fn print_keys<R: Files<File = File>, W: Write, E: Write>(
     }
 }
 
-/// Prints the key file of a client, made of the masters in a file. The status is 0, or 1 where a fault is told.
+/// Prints the key file of a client, derived from the masters in a file. Returns status 0, or 1 after an error message.
 pub fn client_key<R: Files<File = File>, W: Write, E: Write>(
     rt: &R,
     alloc: Global,
@@ -39,7 +39,8 @@ pub fn client_key<R: Files<File = File>, W: Write, E: Write>(
     err: &mut E,
 ) -> u8
     ensures status { result ≤ 1 }
-    // Status 0 only where what was read is a key file of masters, and the keys that these make for the client are printed.
+    // Status 0 only where what was read is a key file of masters, and the keys that these make for the client are
+    // printed.
     ensures printed { result ≡ 0 → (text : List ℕ) × Prints text client (W.contents out.old) (W.contents out.new) }
 {
     match print_keys(rt, alloc, master, client, out, err) {

@@ -4,7 +4,7 @@ use lk_types::Op;
 use lk_words::operation::read_operation;
 use std::alloc::{AllocError, Global};
 
-/// Adds a word after those that stand, with one space between them. Whether it is one word: it has no space itself.
+/// Appends a word, separated by a space. Returns whether it is a single word, without a space in it.
 fn add_word(text: &mut Vec<u8>, is_first: bool, word: &str) -> Result<bool, AllocError> {
     if !is_first {
         text.extend_from_slice(b" ")?;
@@ -13,8 +13,8 @@ fn add_word(text: &mut Vec<u8>, is_first: bool, word: &str) -> Result<bool, Allo
     Ok(!word.as_bytes().contains(&b' '))
 }
 
-/// What the words of a command line ask, as the same words of a script do, or `None` where they ask nothing. It refuses
-/// where memory was refused.
+/// Reads the words of a command line as the words of a script, or returns `None` if they are no operation. Fails if it
+/// is out of memory.
 pub fn operation_of<'a>(alloc: Global, words: &'a [&'a str]) -> Result<Option<Op>, AllocError> {
     let mut text = Vec::new(alloc);
     for (at, word) in words.iter().enumerate() {

@@ -1,22 +1,22 @@
-//! The service shown in one process: three nodes, and two clients that ask in turn.
+//! A demonstration in one process: three nodes, and two clients that take turns.
 
 ghost use Rattle.std.specs.Prelude.{◌≤◌};
 
+use crate::resources::Resources;
+use crate::running::revive;
 use lk_client::destination::Destination;
 use lk_client::question::{Heard, Question, datagram, next_reply, write_reply};
 use lk_client::reply::Reply;
-use crate::resources::Resources;
-use crate::running::revive;
 use lk_disk::MemoryDisk;
 use lk_entries::Header;
 use lk_replica::Replica;
-use lk_transport::receive_buffer::ReceiveBuffer;
-use lk_transport::fault::ServiceFault;
-use lk_transport::network::Network;
 use lk_server::pace::Pace;
 use lk_server::server::Server;
-use lk_transport::socket::{DatagramSocket, LocalSocket, local};
 use lk_state::Machine;
+use lk_transport::fault::ServiceFault;
+use lk_transport::network::Network;
+use lk_transport::receive_buffer::ReceiveBuffer;
+use lk_transport::socket::{DatagramSocket, LocalSocket, local};
 use lk_types::{ClientNo, Genesis, Member, NodeNo, Port, Request, RequestNumber};
 use lk_words::operation::read_operation;
 use log::sink::Discard;
@@ -24,24 +24,24 @@ use std::alloc::Global;
 use std::io::Write;
 use std::net::Net;
 
-/// The number of the cluster that is shown.
+/// The number of the demonstration's cluster.
 const CLUSTER: u64 = 1;
 /// How many positions ahead its members are known.
 const ALPHA: u8 = 2;
 /// How many nodes it has.
 const NODES: usize = 3;
-/// What the clients ask in turn: the client, its number, and the words.
+/// The clients' requests in order: the client, its number, and the words.
 const STORY: [(u16, u64, &[u8]); 4] = [
     (1, 1, b"acquire db"),
     (2, 1, b"acquire db"),
     (1, 2, b"release db 1"),
     (2, 2, b"acquire db"),
 ];
-/// The idle turns after which a request is sent again.
+/// How many idle turns pass before a request is resent.
 const PATIENCE: u32 = 200;
-/// The idle turns after which nothing is waited for any more.
+/// How many idle turns pass before the client gives up.
 const IDLE_TURNS: u32 = 10_000;
-/// The turns between two idle ones, at most.
+/// The largest number of turns between two idle ones.
 const TURNS: u64 = 1 << 48;
 
 /// The sockets of the nodes, and that of their clients.
@@ -51,7 +51,7 @@ pub struct Sockets<S: DatagramSocket + Drop> {
     pub client: S,
 }
 
-/// A node on a disk in memory.
+/// A node with a disk in memory.
 type DemoServer<M, S> = Server<Replica<M, MemoryDisk>, S>;
 
 /// The nodes, and the socket of their clients.
@@ -59,9 +59,9 @@ type DemoServer<M, S> = Server<Replica<M, MemoryDisk>, S>;
 struct Cluster<M: Machine, S: DatagramSocket + Drop> {
     nodes: Vec<DemoServer<M, S>>,
     client: S,
-    // where what comes to any of them is heard
+    // the receive buffer that all of them share
     buffer: ReceiveBuffer,
-    // where requests are sent first
+    // where requests go first
     port: Port,
 }
 
@@ -74,7 +74,7 @@ fn member_at<S: DatagramSocket>(node: u32, socket: &S) -> Option<Member> {
     }
 }
 
-/// How a cluster begins whose members, numbered from 1, serve on these sockets.
+/// The genesis of a cluster whose members, numbered from 1, serve on these sockets.
 fn genesis_at<S: DatagramSocket>(alloc: Global, sockets: &[S]) -> Result<Genesis, ServiceFault> {
     let mut members = Vec::new(alloc);
     let mut node = 0u32;
@@ -120,7 +120,7 @@ fn start_all<M: Machine, S: DatagramSocket + Drop>(
     Ok(nodes)
 }
 
-/// The question that a row of the story asks at a port.
+/// The question of a row of the story, for a port.
 fn question_of(row: (u16, u64, &[u8]), port: Port) -> Option<Question> {
     let (client, number, words) = row;
     let op = read_operation(words)?;
@@ -150,7 +150,7 @@ impl<M: Machine, S: DatagramSocket + Drop> Cluster<M, S> {
         })
     }
 
-    /// Each node takes the next datagram that waits for it. Whether one waited for any.
+    /// Each node takes its next waiting datagram. Returns whether any node had one.
     fn serve(&mut self) -> Result<bool, ServiceFault> {
         let mut was_served = false;
         for node in &mut self.nodes {
@@ -159,7 +159,7 @@ impl<M: Machine, S: DatagramSocket + Drop> Cluster<M, S> {
         Ok(was_served)
     }
 
-    /// Some time passes at each node.
+    /// Each node takes a tick.
     fn tick(&mut self) -> Result<(), ServiceFault> {
         for node in &mut self.nodes {
             node.tick(&Discard)?;
@@ -167,7 +167,7 @@ impl<M: Machine, S: DatagramSocket + Drop> Cluster<M, S> {
         Ok(())
     }
 
-    /// What the clients hear next. An Elsewhere is followed.
+    /// What the clients receive next. It follows an Elsewhere.
     fn hear(&mut self, question: &Question, bytes: &[u8]) -> Heard {
         match next_reply(&mut self.buffer, &mut self.client, question) {
             Heard::Reply(Reply::Elsewhere(member)) => {
@@ -178,7 +178,7 @@ impl<M: Machine, S: DatagramSocket + Drop> Cluster<M, S> {
         }
     }
 
-    /// Serves until a reply comes, or no datagram waits.
+    /// Serves until a reply arrives or no datagram is waiting.
     fn serve_waiting(
         &mut self,
         question: &Question,
@@ -195,8 +195,8 @@ impl<M: Machine, S: DatagramSocket + Drop> Cluster<M, S> {
         Ok(None)
     }
 
-    /// Sends a request, and again after every 200 idle turns, in each of which a tick comes to each node. Gives its reply,
-    /// or `None` after 10,000 idle turns.
+    /// Sends a request, and resends it after every 200 idle turns; in each idle turn every node takes a tick. Returns
+    /// the reply, or `None` after 10,000 idle turns.
     fn ask(&mut self, alloc: Global, question: &Question) -> Result<Option<Reply>, ServiceFault> {
         let bytes = datagram(alloc, question)?;
         for idle in 0..IDLE_TURNS {
@@ -211,7 +211,7 @@ impl<M: Machine, S: DatagramSocket + Drop> Cluster<M, S> {
         Ok(None)
     }
 
-    /// Asks what a row of the story says, and prints the reply. Whether there was one.
+    /// Sends the request of a row of the story, and prints the reply. Returns whether there was one.
     fn tell<W: Write>(
         &mut self,
         alloc: Global,
@@ -226,8 +226,8 @@ impl<M: Machine, S: DatagramSocket + Drop> Cluster<M, S> {
     }
 }
 
-/// Runs nodes on disks in memory, and prints what their clients are replied, who ask in turn. The sockets' receives are
-/// not to wait. Whether each request was replied to: where one was not, the last line is `no answer`.
+/// Runs nodes with disks in memory, and prints the replies to their clients, which take turns. The sockets' receives
+/// must not wait. Returns whether every request got a reply; if not, the last line is `no answer`.
 pub fn play<M: Machine, S: DatagramSocket + Drop, W: Write>(
     alloc: Global,
     sockets: Sockets<S>,
@@ -242,7 +242,7 @@ pub fn play<M: Machine, S: DatagramSocket + Drop, W: Write>(
     Ok(true)
 }
 
-/// Sockets of so many free ports of 127.0.0.1.
+/// Sockets of this many free ports of 127.0.0.1.
 fn free_sockets<R: Net>(
     rt: &R,
     alloc: Global,
@@ -255,7 +255,7 @@ fn free_sockets<R: Net>(
     Ok(sockets)
 }
 
-/// Plays on four free ports of 127.0.0.1.
+/// Plays the story on four free ports of 127.0.0.1.
 fn play_on_ports<M: Machine, R: Net, W: Write>(
     rt: &R,
     alloc: Global,
@@ -270,8 +270,8 @@ fn play_on_ports<M: Machine, R: Net, W: Write>(
     Ok(is_told)
 }
 
-/// Shows the service: three nodes of this process on free ports of 127.0.0.1, and what two clients are replied in turn. The
-/// status is 0; 1 where nothing was, which is printed as `no answer`, and where a fault is told on standard error.
+/// Runs the demonstration: three nodes of this process on free ports of 127.0.0.1, and the replies to two clients that
+/// take turns. Returns status 0, or 1 after `no answer` or an error message.
 pub fn demo<M: Machine, R: Net, W: Write, E: Write>(
     rt: &R,
     alloc: Global,

@@ -10,7 +10,7 @@ use lk_seal::DIGEST;
 use sha2::{Digest, Sha256};
 use std::alloc::{AllocError, Global};
 
-/// Appends the one spelling of the genesis of a header.
+/// Appends the canonical bytes of a header's genesis.
 fn put_genesis(out: &mut BytesMut, header: &Header) -> Result<(), AllocError>
     ensures { OnOk result (out.new.items ≡ out.old.items ++ genesis_spelling header.now) }
 {
@@ -20,7 +20,7 @@ fn put_genesis(out: &mut BytesMut, header: &Header) -> Result<(), AllocError>
     Ok(())
 }
 
-/// The digest of the genesis of a header, by which nodes of two geneses do not hear each other.
+/// The digest of a header's genesis. It keeps nodes of two geneses from hearing each other.
 #[tactic(auto, unfolding(crate::specs::Digests::genesis_digest))]
 pub fn genesis_digest(alloc: Global, header: &Header) -> Result<[u8; DIGEST], AllocError>
     ensures { IfOk result (λ digest. digest ≡ genesis_digest header.now) }

@@ -1,4 +1,4 @@
-//! What stands in the store of a folder, for whoever runs a node.
+//! A summary of the store of a folder, for the operator of a node.
 
 ghost use Rattle.std.specs.Prelude.{◌≡◌, ◌≤◌};
 ghost use Rattle.lk_disk.specs.declared.device.Side.{Side};
@@ -24,8 +24,8 @@ fn write_promised<W: Write>(promised: Ballot, out: &mut W) -> io::Result<()> {
     writeln!(out, "promised {} {}", promised.round(), promised.node())
 }
 
-/// Writes a line each for the generation of the live file, the promised ballot (`0 0` where there is none), the position
-/// of the snapshot, how many votes and decided commands stand above it, and the format of the file.
+/// Writes one line each for the generation of the live file, the promised ballot (`0 0` if there is none), the
+/// snapshot's position, the counts of votes and decided commands above it, and the format of the file.
 fn write_live<W: Write>(live: &LiveFile, out: &mut W) -> io::Result<()> {
     write_number("generation", live.generation, out)?;
     write_promised(live.standing.promised, out)?;
@@ -35,7 +35,7 @@ fn write_live<W: Write>(live: &LiveFile, out: &mut W) -> io::Result<()> {
     write_number("format", u64::from(live.format), out)
 }
 
-/// Writes what a look found, or `no store`. Whether there is a store.
+/// Writes what was found, or `no store`. Returns whether there is a store.
 fn write_found<W: Write>(found: Option<LiveFile>, out: &mut W) -> io::Result<bool> {
     match found {
         Some(live) => {
@@ -49,9 +49,9 @@ fn write_found<W: Write>(found: Option<LiveFile>, out: &mut W) -> io::Result<boo
     }
 }
 
-/// Writes what stands in the store of a device. It changes nothing there. Whether there is a store.
+/// Writes a summary of the store of a device, without changing it. Returns whether there is a store.
 ///
-/// It refuses with the faults 7, 8 and 9 of the store, and with 24 where the output could not be written.
+/// It fails with faults 7, 8 and 9 of the store, or 24 if the output could not be written.
 pub fn dump_device<D: LogDisk, W: Write>(
     alloc: Global,
     device: &mut D,
@@ -69,7 +69,7 @@ pub fn dump_device<D: LogDisk, W: Write>(
     Ok(is_store)
 }
 
-/// The same of the files of a folder, none of which is made.
+/// The same for the files of a folder, none of which is created.
 fn dump_folder<R: Files, W: Write, E: Write>(
     rt: &R,
     alloc: Global,
@@ -84,8 +84,8 @@ fn dump_folder<R: Files, W: Write, E: Write>(
     }
 }
 
-/// Prints what stands in the store of a folder, in six lines. The status is 0; 1 where no store stands there, which is
-/// printed as `no store`, and where a fault is told on standard error.
+/// Prints a summary of the store of a folder, in six lines. Returns status 0, or 1 if there is no store, which it
+/// prints as `no store`, or after an error message.
 pub fn dump<R: Files, W: Write, E: Write>(
     rt: &R,
     alloc: Global,

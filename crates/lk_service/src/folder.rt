@@ -1,4 +1,4 @@
-//! The files of a folder, from which one process alone serves.
+//! The files of a folder, from which only one process serves.
 
 use crate::causes::{open_file, tell_cause, tell_closed};
 use lk_disk::{FileDisk, SystemFile};
@@ -7,14 +7,14 @@ use std::alloc::Global;
 use std::fs::{File, Files, OpenOptions, TryLockError};
 use std::io::Write;
 
-/// A folder from which no other process serves as long as the value lives: its file `a` is locked. The lock is gone with the
-/// process, and hinders nobody who only reads.
+/// A folder from which no other process can serve as long as the value lives: its file `a` is locked. The lock ends
+/// with the process, and does not affect readers.
 #[derive(Drop)]
 pub struct FolderLock {
     _file: File,
 }
 
-/// How the files of a node are opened.
+/// How a node's files are opened.
 fn to_write() -> OpenOptions {
     let mut how = OpenOptions::new();
     how.read(true).append(true).create(true);
@@ -22,8 +22,8 @@ fn to_write() -> OpenOptions {
 }
 
 impl FolderLock {
-    /// Locks a folder, whose file `a` is made where it is missing. It refuses with `CannotOpen` where that does not open and
-    /// where another process has locked it, and a line tells which.
+    /// Locks a folder; it creates the file `a` if that is missing. If the file does not open or another process has
+    /// locked it, it writes which, and returns `CannotOpen`.
     pub fn take<R: Files<File = File>, E: Write>(
         rt: &R,
         alloc: Global,
@@ -41,8 +41,8 @@ impl FolderLock {
     }
 }
 
-/// The device of a folder to read and to write; a file that is missing is made. It refuses with `CannotOpen`, and a line tells
-/// why where a file does not open.
+/// The device of a folder, to read and to write; it creates a missing file. On failure it writes the reason and
+/// returns `CannotOpen`.
 pub fn open_device<R: Files, E: Write>(
     rt: &R,
     alloc: Global,
@@ -55,7 +55,7 @@ pub fn open_device<R: Files, E: Write>(
     }
 }
 
-/// The same to read alone, where no file is made.
+/// The same to read only; it creates no file.
 pub fn look_at_device<R: Files, E: Write>(
     rt: &R,
     alloc: Global,

@@ -1,4 +1,4 @@
-//! What the program does beside scripts: the service over files and sockets.
+//! The service over files and sockets: what the program does besides scripts.
 #![tactic(auto)]
 
 pub mod causes;
@@ -8,8 +8,8 @@ pub mod demo;
 pub mod digest;
 pub mod dump;
 pub mod folder;
-mod observing;
 pub mod network;
+mod observing;
 pub mod refusals;
 pub mod resources;
 pub mod running;

@@ -1,4 +1,4 @@
-//! Where the nodes of a cluster live, and the keys by which they know each other, from the files that a command line names.
+//! Reads, from the files that a command line names, where the nodes of a cluster live and which keys they use.
 
 ghost use Rattle.std.specs.Prelude.{◌≡◌, List, ℕ, Some, IfOk, OnOk};
 ghost use Rattle.lk_seal.specs.KeyFiles.{key_file};
@@ -24,8 +24,8 @@ use std::io::{Read, Write};
 use std::net::{IpAddr, Ipv4Addr, SocketAddr};
 use std::os::unix::fs::PermissionsExt;
 
-/// What a command line says of the machines outside: the file of the hosts, the address at which the node listens, and the files of the
-/// keys.
+/// The options of a command line about other machines: the file of the hosts, the address to listen on, and the files
+/// of the keys.
 #[derive(Clone, Copy)]
 pub struct NetworkOptions<'a> {
     pub hosts: Option<&'a str>,
@@ -34,17 +34,18 @@ pub struct NetworkOptions<'a> {
     pub client_key: Option<&'a str>,
 }
 
-/// The bits of a file's mode that let others than its owner have it.
+/// The mode bits that give others access to a file.
 const OTHERS: u32 = 0o077;
 
-/// A file to read.
+/// Opens a file to read.
 fn open<R: Files<File = File>>(rt: &R, path: &str) -> io::Result<File> {
     let mut how = OpenOptions::new();
     how.read(true);
     how.open(rt, path)
 }
 
-/// The bytes of a file. It refuses with `CannotOpen`, and a line tells why; also where others may have it, if it is to be secret.
+/// Reads a file. On failure it writes the reason and returns `CannotOpen`; also if the file should be secret and
+/// others have access to it.
 fn bytes_of<R: Files<File = File>, E: Write>(
     rt: &R,
     alloc: Global,
@@ -80,7 +81,7 @@ fn host_of(line: &[u8]) -> Option<(NodeNo, IpAddr)> {
     }
 }
 
-/// Whether a line may stand behind the last one.
+/// Whether a line may follow the last one.
 fn follows(last: Option<&(NodeNo, IpAddr)>, host: &(NodeNo, IpAddr)) -> bool {
     match last {
         Some(last) => last.0 < host.0 && last.1.is_ipv4() == host.1.is_ipv4(),
@@ -88,12 +89,13 @@ fn follows(last: Option<&(NodeNo, IpAddr)>, host: &(NodeNo, IpAddr)) -> bool {
     }
 }
 
-/// Whether a line says nothing.
+/// Whether a line is empty or a comment.
 fn is_idle(line: &[u8]) -> bool {
     line.is_empty() || line[0] == b'#'
 }
 
-/// The lines of hosts, or the number of the first that is none. The nodes rise, and their addresses are of one family.
+/// Reads the lines of hosts, or returns the number of the first invalid one. Nodes must rise, and all addresses must
+/// be of one family.
 fn read_hosts(
     alloc: Global,
     text: &[u8],
@@ -162,13 +164,13 @@ fn keys_in<R: Files<File = File>, E: Write>(
     }
 }
 
-/// Tells in a line that no address of a node is known.
+/// Writes that no address of a node is known.
 fn tell_homeless<E: Write>(node: NodeNo, path: &str, err: &mut E) -> ServiceFault {
     let _ = writeln!(err, "{path}: no line of node {}, and no --bind", node.get());
     ServiceFault::CannotOpen
 }
 
-/// At which address a node listens.
+/// The address on which a node listens.
 fn place_of<E: Write>(
     header: &Header,
     hosts: &Hosts,
@@ -182,7 +184,7 @@ fn place_of<E: Write>(
     }
 }
 
-/// Refuses a clients' key where the nodes have none, and one that the nodes have too.
+/// Rejects a clients' key if the nodes have none, or if the nodes have the same key.
 fn check_keys<E: Write>(
     nodes: &Keys,
     clients: &Keys,
@@ -198,7 +200,7 @@ fn check_keys<E: Write>(
     Ok(())
 }
 
-/// The keys of the node of a header, in its cluster, of its genesis.
+/// The keys of a header's node, in its cluster, for its genesis.
 fn seals_in<R: Files<File = File>, E: Write>(
     rt: &R,
     alloc: Global,
@@ -220,7 +222,7 @@ fn seals_in<R: Files<File = File>, E: Write>(
     })
 }
 
-/// Refuses an address that other machines reach where the nodes have no key, and warns where the clients have none.
+/// Rejects an address that other machines can reach if the nodes have no key, and warns if the clients have none.
 fn check_reach<E: Write>(seals: &Seals, place: SocketAddr, err: &mut E) -> Result<(), ServiceFault>
     ensures { OnOk result (IsReachedWithKey seals.now place) }
 {
@@ -240,7 +242,7 @@ fn check_reach<E: Write>(seals: &Seals, place: SocketAddr, err: &mut E) -> Resul
     Ok(())
 }
 
-/// Where the nodes live, the keys, and at which address the node listens.
+/// Where the nodes live, the keys, and the address on which the node listens.
 pub fn network_of<R: Files<File = File>, E: Write>(
     rt: &R,
     alloc: Global,
@@ -249,9 +251,9 @@ pub fn network_of<R: Files<File = File>, E: Write>(
     options: &NetworkOptions<'_>,
     err: &mut E,
 ) -> Result<(Network, SocketAddr), ServiceFault>
-    // They are the seals of this node in its cluster, of its genesis.
+    // They are the seals of this node in its cluster, for its genesis.
     ensures seals { IfOk result (λ r. AreSealsOf header.now r.0.seals) }
-    // Where other machines may reach the address, the nodes have a key.
+    // If other machines can reach the address, the nodes have a key.
     ensures guarded { IfOk result (λ r. IsReachedWithKey r.0.seals r.1) }
 {
     let hosts = hosts_in(rt, alloc, options.hosts, err)?;
@@ -262,7 +264,7 @@ pub fn network_of<R: Files<File = File>, E: Write>(
     Ok((Network { hosts, seals }, place))
 }
 
-/// Where a client asks, and its keys.
+/// Where a client sends its requests, and its keys.
 pub fn destination_of<R: Files<File = File>, E: Write>(
     rt: &R,
     alloc: Global,

@@ -9,8 +9,8 @@ use lk_node::Node;
 use lk_replica::Replica;
 use lk_server::happened::Happened;
 use lk_server::server::Server;
-use lk_transport::socket::DatagramSocket;
 use lk_state::Machine;
+use lk_transport::socket::DatagramSocket;
 use lk_types::{Members, NodeNo};
 
 /// The ticks within which a leader is heard again: from the next on a node waits for none.

@@ -92,8 +92,8 @@ fn tell_owner<D: LogDisk, E: Write>(alloc: Global, device: &mut D, folder: &str,
     let _ = writeln!(err, "{folder}: check --dir, --number and --genesis");
 }
 
-/// Tells in lines why the store of a folder is not taken up, and what to do: where the files failed, where it is damaged, and
-/// whose it is.
+/// Tells in lines why the store of a folder is not taken up, and what to do: where the files failed, where it is
+/// damaged, and whose it is.
 pub fn tell_refusal<D: LogDisk + FailureCause, E: Write>(
     alloc: Global,
     fault: ServiceFault,

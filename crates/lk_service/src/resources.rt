@@ -1,4 +1,4 @@
-//! What a node runs on.
+//! The resources of a node.
 
 ghost use Rattle.std.specs.Prelude.{◌≡◌, ◌≢◌, [], IfOk};
 ghost use Rattle.lk_members.specs.Ports.{port_in};
@@ -11,9 +11,9 @@ use crate::network::{NetworkOptions, network_of};
 use lk_disk::{FileDisk, SystemFile};
 use lk_entries::Header;
 use lk_seal::{Keys, Seals};
+use lk_server::pace::Pace;
 use lk_transport::fault::ServiceFault;
 use lk_transport::network::Network;
-use lk_server::pace::Pace;
 use lk_transport::socket::LocalSocket;
 use lk_types::{Member, NodeNo, Port};
 use std::alloc::Global;
@@ -21,7 +21,8 @@ use std::fs::{File, Files};
 use std::io::Write;
 use std::net::Net;
 
-/// Which node is run, at which port, what its ticks go by, in which folder its files are, and which files tell of the machines outside.
+/// Which node is run, at which port, what its ticks go by, in which folder its files are, and which files tell of the
+/// machines outside.
 #[derive(Drop)]
 pub struct NodePlan<'a> {
     pub header: Header,
@@ -31,7 +32,8 @@ pub struct NodePlan<'a> {
     pub options: NetworkOptions<'a>,
 }
 
-/// What a node runs on: the device of its store, its socket, what it knows of the machines outside, and what its ticks go by.
+/// What a node runs on: the device of its store, its socket, what it knows of the machines outside, and what its ticks
+/// go by.
 #[derive(Drop)]
 pub struct Resources<D: Drop, S: Drop> {
     pub device: D,
@@ -43,7 +45,7 @@ pub struct Resources<D: Drop, S: Drop> {
 /// The files of a folder as a device.
 pub type FolderDisk = FileDisk<SystemFile<File>>;
 
-/// The port at which the members have the node, where they do.
+/// The port that the members give the node, if they have it.
 fn named_port(members: &[Member], node: NodeNo) -> Option<Port>
     ensures { result ≡ port_in node members.now }
 {
@@ -55,7 +57,7 @@ fn named_port(members: &[Member], node: NodeNo) -> Option<Port>
     None
 }
 
-/// Warns in a line that the node listens at another port than the one that the genesis names.
+/// Warns that the node does not listen at the port that the genesis names.
 fn write_warning<E: Write>(plan: &NodePlan<'_>, named: Port, err: &mut E) {
     let (node, named, own) = (plan.header.node().get(), named.get(), plan.port.get());
     let _ = writeln!(
@@ -64,8 +66,8 @@ fn write_warning<E: Write>(plan: &NodePlan<'_>, named: Port, err: &mut E) {
     );
 }
 
-/// Warns where the genesis names the node at another port than that at which it listens: it would send and not hear, where
-/// no relay stands between.
+/// Warns if the genesis gives the node another port than the one on which it listens: without a relay in between, it
+/// would send but not receive.
 fn warn_of_port<E: Write>(plan: &NodePlan<'_>, err: &mut E) {
     let members = plan.header.genesis().members.as_slice();
     match named_port(members, plan.header.node()) {
@@ -74,8 +76,8 @@ fn warn_of_port<E: Write>(plan: &NodePlan<'_>, err: &mut E) {
     }
 }
 
-/// What the ticks of a node go by that has these seals: with a key of the nodes by the clock, so that a stranger's payloads neither
-/// bring nor prevent them.
+/// What the ticks of a node go by that has these seals: with a key of the nodes by the clock, so that a stranger's
+/// payloads neither bring nor prevent them.
 fn pace_with(seals: &Seals, asked: Pace) -> Pace
     ensures key { key_list seals.now.nodes ≢ [] → result ≡ Pace.Clock }
     ensures none { key_list seals.now.nodes ≡ [] → result ≡ asked }
@@ -118,8 +120,9 @@ fn warn_of_members<E: Write>(plan: &NodePlan<'_>, err: &mut E) {
     }
 }
 
-/// Opens what the node of a plan runs on: its files, which are made where they are missing, and its socket. The folder is locked as long as
-/// the second value lives. It refuses with `CannotOpen`, and a line tells why; also where another process serves from the folder.
+/// Opens the resources of a plan's node: its files, which are created if they are missing, and its socket. The folder
+/// stays locked as long as the second value lives. On failure, or if another process serves from the folder, it writes
+/// the reason and returns `CannotOpen`.
 pub fn open_resources<R: Files<File = File> + Net, E: Write>(
     rt: &R,
     alloc: Global,

@@ -1,4 +1,4 @@
-//! A node: a server that is taken up from a device, and its turns.
+//! A node: its start from a device, and its turns.
 
 ghost use Rattle.std.specs.Prelude.{◌≡◌, ◌≤◌, ◌^◌, ◌⊎◌, ℕ, List, IfOk, IfErr, OnOk, OnErr};
 ghost use Rattle.std.specs.declared.net.socket_addr.SocketAddr.{SocketAddr as Address};
@@ -22,27 +22,27 @@ use lk_entries::Header;
 use lk_events::line::Observer;
 use lk_log::look;
 use lk_replica::{Replica, ReviveFault};
-use lk_transport::receive_buffer::ReceiveBuffer;
-use lk_transport::fault::ServiceFault;
 use lk_server::metronome::Metronome;
 use lk_server::node_replica::NodeReplica;
 use lk_server::notes::log_notes;
 use lk_server::server::{Server, node_turn};
-use lk_transport::socket::DatagramSocket;
 use lk_server::watching::{log_port, log_start};
 use lk_state::Machine;
+use lk_transport::fault::ServiceFault;
+use lk_transport::receive_buffer::ReceiveBuffer;
+use lk_transport::socket::DatagramSocket;
 use log::Log;
 use std::alloc::Global;
 use std::io::Write;
 use std::time::Clock;
 
-/// The turns of a node until it ends.
+/// How many turns a node takes.
 const TURNS: u64 = 1 << 48;
 
-/// The server of a node's replica on a device, and a socket.
+/// The server of a node's replica on a device, with a socket.
 type NodeServer<M, D, S> = Server<Replica<M, D>, S>;
 
-/// The replica that is taken up from a device. How it came up and what it executed by that is logged.
+/// Restarts the replica from a device. Logs how it started and what it executed.
 fn take_up<M: Machine, D: LogDisk + Drop, L: Log>(
     alloc: Global,
     header: &Header,
@@ -51,9 +51,9 @@ fn take_up<M: Machine, D: LogDisk + Drop, L: Log>(
 ) -> Result<Replica<M, D>, ReviveFault<D>>
     // It can take calls as the node of this header: nothing of it has failed.
     ensures ready { IfOk result (λ r. MayGoOn header.now r) }
-    // It comes up by what the device has.
+    // It restarts from what the device has.
     ensures comes_up { D.is_honest → IfOk result (ComesUp M.meaning header.now (D.disk device)) }
-    // It is refused with 7 to 11, each with its cause, and what the device then has fits as what it had.
+    // It fails with 7 to 11, each with its cause, and what the device then has fits as what it had.
     ensures refused { IfErr result (λ e. IsNotTakenUp M.meaning M.IsText D.is_honest (D.disk device) header.now (fault_number e.fault) (D.disk e.device)) }
 {
     let mut device = device;
@@ -64,20 +64,21 @@ fn take_up<M: Machine, D: LogDisk + Drop, L: Log>(
     Ok(revived.replica)
 }
 
-/// The server of a node that is taken up from a device. How it came up and what it executed by that is logged.
+/// Starts the server of a node from a device. Logs how it started and what it executed.
 pub fn revive<M: Machine, D: LogDisk + Drop, S: DatagramSocket + Drop, L: Log>(
     alloc: Global,
     header: &Header,
     resources: Resources<D, S>,
     log: &L,
 ) -> Result<NodeServer<M, D, S>, ReviveFault<D>>
-    // It serves as the node of this header, in its cluster, on a replica that comes up by what the device has, and nothing has come to it.
+    // It serves as the node of this header, in its cluster, with a replica restarted from what the device has, and has
+    // received nothing.
     ensures begun { IfOk result (IsBegun M.meaning D.is_honest (D.disk resources.device) header.now) }
     ensures hosts { IfOk result (λ s. s.addresses.hosts ≡ resources.network.hosts) }
     ensures seals { IfOk result (λ s. s.addresses.seals ≡ resources.network.seals) }
     ensures pace { IfOk result (λ s. s.pace ≡ resources.pace) }
     ensures socket { IfOk result (ServesOn (S.sent resources.socket) (S.failures resources.socket) (all_taken_as resources.network.seals (S.coming resources.socket))) }
-    // It is refused with 7 to 11, each with its cause, and what the device then has fits as what it had.
+    // It fails with 7 to 11, each with its cause, and what the device then has fits as what it had.
     ensures refused { IfErr result (λ e. IsNotTakenUp M.meaning M.IsText D.is_honest (D.disk resources.device) header.now (fault_number e.fault) (D.disk e.device)) }
 {
     let Resources {
@@ -88,11 +89,25 @@ pub fn revive<M: Machine, D: LogDisk + Drop, S: DatagramSocket + Drop, L: Log>(
     } = resources;
     let replica = take_up::<M, D, L>(alloc, header, device, log)?;
     let cluster = header.genesis().cluster;
-    Ok(Server::new(alloc, cluster, header.node(), pace, network, replica, socket))
+    Ok(Server::new(
+        alloc,
+        cluster,
+        header.node(),
+        pace,
+        network,
+        replica,
+        socket,
+    ))
 }
 
 /// The same. Where it is refused, lines tell what was found.
-fn revive_plan<M: Machine, D: LogDisk + FailureCause + Drop, S: DatagramSocket + Drop, L: Log, E: Write>(
+fn revive_plan<
+    M: Machine,
+    D: LogDisk + FailureCause + Drop,
+    S: DatagramSocket + Drop,
+    L: Log,
+    E: Write,
+>(
     alloc: Global,
     plan: &NodePlan<'_>,
     resources: Resources<D, S>,
@@ -132,11 +147,12 @@ fn take_turn<
     observer: &mut O,
     err: &mut E,
 ) -> Result<(), ServiceFault>
-    // Its replica was given as one group just what it wrote to itself, or what was taken of what came, and a tick where one was due. Of the letters that it said it
-    // keeps none but those of the node to itself, after the ones that wait. Behind that a probe that was kept is answered.
+    // Its replica was given as one group just what it wrote to itself, or what was taken of what came, and a tick
+    // where one was due. Of the letters that it said it keeps none but those of the node to itself, after the ones
+    // that wait. Behind that a probe that was kept is answered.
     ensures turn { OnOk result (TakesTurn ⟦<Replica<M, D> as NodeReplica>⟧.Says S.is_telling server.old server.new) }
     ensures ends { OnErr result ((frames : List (Address × List ℕ)) × HasWaited S.is_telling frames server.old × LastTurn ⟦<Replica<M, D> as NodeReplica>⟧.Says S.is_telling (all_taken_as server.old.addresses.seals frames) server.old server.new) }
-    // Where nodes live, and the keys, stay what they were.
+    // Where nodes live and the keys do not change.
     ensures network { IsSameNetwork server.old.addresses server.new.addresses }
     ensures failure { TellsFailure server.new }
     ensures passes { IfErr result (λ f. f ≡ ServiceFault.Send → ⊥) }
@@ -169,9 +185,9 @@ fn take_turns<
     observer: &mut O,
     err: &mut E,
 ) -> Result<(), ServiceFault>
-    // At Ok just so many turns were taken, one after another.
+    // At Ok it has taken exactly this many turns, one after another.
     ensures ok { OnOk result (Repeats (TakesTurn ⟦<Replica<M, D> as NodeReplica>⟧.Says S.is_telling) (2 ^ 48) server.old server.new) }
-    // At a fault fewer were, and then one that ended the replica.
+    // At an error it has taken fewer, and then one that ended the replica.
     ensures err { OnErr result (BreaksOff ⟦<Replica<M, D> as NodeReplica>⟧.Says S.is_telling (2 ^ 48) server.old server.new) }
     ensures passes { IfErr result (λ f. f ≡ ServiceFault.Send → ⊥) }
 {
@@ -179,13 +195,20 @@ fn take_turns<
     let mut metronome = Metronome::new(clock);
     'turns: for _ in 0..TURNS {
         take_turn::<M, D, S, &C, L, O, E>(
-            server, &mut buffer, &mut metronome, folder, log, observer, err,
+            server,
+            &mut buffer,
+            &mut metronome,
+            folder,
+            log,
+            observer,
+            err,
         )?;
     }
     Ok(())
 }
 
-/// Takes 2^48 turns with a server that ends then. That it serves, and at which port, is logged, and an observer is told of it.
+/// Takes 2^48 turns with a server that ends then. That it serves, and at which port, is logged, and an observer is
+/// told of it.
 fn serve_turns<
     M: Machine,
     D: LogDisk + FailureCause + Drop,
@@ -211,7 +234,7 @@ fn serve_turns<
     take_turns(clock, &mut server, plan.folder, log, observer, err)
 }
 
-/// Takes up the server of a node, and takes 2^48 turns with it.
+/// Starts the server of a node, and takes 2^48 turns.
 fn serve<
     M: Machine,
     D: LogDisk + FailureCause + Drop,
@@ -238,7 +261,8 @@ fn serve<
     serve_turns(clock, server, plan, log, observer, err)
 }
 
-/// Runs a node on these resources, and tells an observer what happens to it. The status is 0 after 2^48 turns, and 1 where a fault is told on standard error.
+/// Runs a node on these resources, and tells an observer what happens to it. The status is 0 after 2^48 turns, and 1
+/// where a fault is told on standard error.
 pub fn run_node<
     M: Machine,
     D: LogDisk + FailureCause + Drop,
@@ -258,9 +282,10 @@ pub fn run_node<
 ) -> u8
     requires { AreSealsOf plan.now.header resources.network.seals }
     ensures status { result ≤ 1 }
-    // At status 0 the server of the plan's node, on a replica that came up by what the device had, has taken so many turns.
+    // At status 0 the server of the plan's node, with a replica restarted from what the device had, has taken this
+    // many turns.
     ensures served { result ≡ 0 → Serves (IsBegun M.meaning D.is_honest (D.disk resources.device) plan.now.header) plan.now.header resources.network.seals ⟦<Replica<M, D> as NodeReplica>⟧.Says S.is_telling (2 ^ 48) }
-    // At status 1 it was not taken up, or such a server has taken fewer, and then one that ended its replica.
+    // At status 1 it did not start, or it has taken fewer turns, and then one that ended its replica.
     ensures broken { result ≡ 1 → ((f : ServiceFault) × IsRefusedWith M.meaning M.IsText D.is_honest (D.disk resources.device) plan.now.header f)
         ⊎ EndsEarly (IsBegun M.meaning D.is_honest (D.disk resources.device) plan.now.header) plan.now.header resources.network.seals ⟦<Replica<M, D> as NodeReplica>⟧.Says S.is_telling (2 ^ 48) }
 {

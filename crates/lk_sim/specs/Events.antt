@@ -36,7 +36,7 @@ use Rattle.lk_sim.specs.declared.seat.Seat.{Seat}
 use Rattle.lk_sim.specs.declared.seat.Life.{Life}
 use Rattle.lk_sim.specs.declared.seat.Life.TheVariants.{Up, Down}
 
--- of all nodes this one alone is another now
+-- only this node has changed
 pub record Turns {R : Type 0} (old new : List (Seat R)) (s t : Seat R) : Type 0 where
   pub place : ℕ
   pub at : At old place s
@@ -53,56 +53,57 @@ pub record Adds {R : Type 0} (old new : Scene R) (notes : List Note) (batch : Li
   pub sent : new.sent ≡ old.sent ++ batch
   pub trace : new.trace ≡ old.trace ++ notes
 
--- a call of the replica was refused with the fault of this number, and left this device
+-- a call of the replica failed with the fault of this number, and left this device
 abbrev pub Breaks : {R : Type 0} → Behaviour R → R → Option (List ℕ) → ℕ → Memory → Type 0
 Breaks {R = R} b r o number left = (q : R) × b.Takes r o q (Err number) × RefusedAfter number (b.memory r).meter left.meter × (left ≡ b.memory q)
 
--- a revival was refused with the fault of this number, and left this device
+-- a restart failed with the fault of this number, and left this device
 abbrev pub StaysDown : {R : Type 0} → Behaviour R → Memory → HeaderValue → ℕ → Memory → Type 0
 StaysDown b device header number left = b.Revives device header (Err (number, left)) × RefusedAfter number device.meter left.meter
 
--- a compaction was refused with the fault of this number, and left this device
+-- a compaction failed with the fault of this number, and left this device
 abbrev pub FailsToPack : {R : Type 0} → Behaviour R → R → ℕ → Memory → Type 0
 FailsToPack {R = R} b r number left = (q : R) × b.Compacts r q (Err number) × RefusedAfter number (b.memory r).meter left.meter × (left ≡ b.memory q)
 
--- a fault is not "out of memory"
+-- a fault other than "out of memory"
 pub record IsNoWant (number : ℕ) (left : Memory) : Type 0 where
   pub memory : number ≡ 8 → ⊥
   pub halted : number ≡ 14 → ⊥
   pub letters : number ≡ 15 → ⊥
   pub starved : left.meter.starved ≡ false
 
--- a fault is "out of memory"
+-- the fault "out of memory"
 abbrev pub IsWant : ℕ → Memory → Type 0
 IsWant number left = (number ≡ 8) ⊎ (number ≡ 14) ⊎ (number ≡ 15) ⊎ (left.meter.starved ≡ true)
 
--- a node ends by such a fault alone: the device has failed, its store is damaged, or it has failed before or has no generation left
+-- only such a fault ends a node: the device has failed, its store is damaged, it failed earlier, or it has no
+-- generation left
 abbrev pub IsNumberOfEnd : ℕ → Type 0
 IsNumberOfEnd number = (number ≡ 7) ⊎ (number ≡ 9) ⊎ (number ≡ 11)
 
--- so where an end tells a fault
+-- the same of an end that reports a fault
 abbrev pub IsToldEnd : Option End → Type 0
 IsToldEnd None = Unit {0}
 IsToldEnd (Some (Fault n number)) = IsNumberOfEnd number
 IsToldEnd (Some (Stopped n)) = Unit {0}
 
--- how a node ended that has come to an armed stop, or else to a fault of this number
+-- how a node ended: with an armed stop if it has reached one, or else with a fault of this number
 abbrev pub end_by : Option ℕ → ℕ → ℕ → End
 end_by None n number = Fault n number
 end_by (Some bytes) n number = Stopped n
 
--- how a node ended that has come to an armed stop at a send, if it has
+-- how a node ended that has reached an armed stop at a send, if it has
 abbrev pub end_at : Option ℕ → ℕ → Option End
 end_at None n = None
 end_at (Some bytes) n = Some (Stopped n)
 
--- an armed stop that comes at one of so many sends: how many go out in front of it, and for how many bytes it is
+-- an armed stop at one of this many sends: how many precede it, and for how many bytes it is
 abbrev pub stop_among : Trap → ℕ → Option (ℕ × ℕ)
 stop_among Off sends = None
 stop_among (Fail count) sends = None
 stop_among (Arm count bytes) sends = if nat_lt 0 count && nat_le count sends then Some (count - 1, bytes) else None
 
--- the replica, at whose device an armed trap has counted so many sends
+-- the replica, with this many sends counted by an armed trap of its device
 abbrev pub counting : {R : Type 0} → Behaviour R → Trap → ℕ → R → R
 counting b Off sends r = r
 counting b (Fail count) sends r = r
@@ -111,12 +112,13 @@ counting b (Arm count bytes) sends r = b.with_trap (Arm (count - sends) bytes) r
 abbrev pub after_sends : {R : Type 0} → Behaviour R → ℕ → R → R
 after_sends b sends r = counting b (b.memory r).meter.trap sends r
 
--- all of these were sent, and counted; or an armed stop came at one of them, and those in front of it were sent
+-- all of these were sent, and counted; or an armed stop happened at one of them, and those before it were sent
 abbrev pub SentUpTo : {R : Type 0} → Behaviour R → Option ℕ → R → R → List Datagram → List Datagram → Type 0
 SentUpTo b None r q all sent = (stop_among (b.memory r).meter.trap (length all) ≡ None) × (q ≡ after_sends b (length all) r) × (sent ≡ all)
 SentUpTo b (Some bytes) r q all sent = (k : ℕ) × (stop_among (b.memory r).meter.trap (length all) ≡ Some (k, bytes)) × (q ≡ r) × (sent ≡ take k all)
 
--- a fault of that kind, or an armed stop at a call of the device, ended the node, which is down: it noted and sent nothing
+-- a fault of that kind, or an armed stop at a call of the device, ended the node, which is down: it noted and sent
+-- nothing
 pub record Falls {R : Type 0} (Ends : ℕ → Memory → Type 0) (old new : Scene R) (t : Seat R) (asked : List Note) : Type 0 where
   pub number : ℕ
   pub left : Memory
@@ -127,10 +129,10 @@ pub record Falls {R : Type 0} (Ends : ℕ → Memory → Type 0) (old new : Scen
   pub told : IsToldEnd new.ended
   pub adds : Adds old new asked []
 
--- ---- a node is given something
+-- ---- a node takes an input
 
--- it goes on: all calls of its device have passed, no armed stop came at a send, what its replica noted and sent was added, after a
--- request that was just asked, and its answers and passes were noted as they were sent
+-- it goes on: all calls of its device have passed, no armed stop happened at a send, what its replica noted and sent
+-- was added, after a request that was just asked, with its answers and passes noted as they were sent
 pub record GoesOn {R : Type 0} (b : Behaviour R) (old new : Scene R) (r : R) (t : Seat R) (o : Option (List ℕ)) (asked : List Note) : Type 0 where
   pub replica : R
   pub notes : List Note
@@ -146,7 +148,7 @@ pub record GoesOn {R : Type 0} (b : Behaviour R) (old new : Scene R) (r : R) (t 
   pub adds : Adds old new ((asked ++ notes) ++ told) batch
   pub ended : new.ended ≡ None
 
--- an armed stop ended it at a send: all that its replica noted was added, and what it sent in front of that
+-- an armed stop ended it at a send: everything that its replica noted was added, and what it sent before that
 pub record StopsSending {R : Type 0} (b : Behaviour R) (old new : Scene R) (r : R) (t : Seat R) (o : Option (List ℕ)) (asked : List Note) : Type 0 where
   pub replica : R
   pub notes : List Note
@@ -164,11 +166,11 @@ pub record StopsSending {R : Type 0} (b : Behaviour R) (old new : Scene R) (r : 
   pub adds : Adds old new ((asked ++ notes) ++ told) (take sends batch)
   pub ended : new.ended ≡ Some (Stopped t.number)
 
--- what came of a tick, or of these bytes
+-- the result of a tick, or of these bytes
 abbrev pub Comes : {R : Type 0} → Behaviour R → Scene R → Scene R → R → Seat R → Option (List ℕ) → List Note → Type 0
 Comes b old new r t o asked = GoesOn b old new r t o asked ⊎ StopsSending b old new r t o asked ⊎ Falls (Breaks b r o) old new t asked
 
--- the node of this number was given a tick or these bytes
+-- the node of this number took a tick or these bytes
 pub record IsGiven {R : Type 0} (b : Behaviour R) (old new : Scene R) (n : ℕ) (o : Option (List ℕ)) (asked : List Note) : Type 0 where
   pub seat : Seat R
   pub number : seat.number ≡ n
@@ -178,7 +180,7 @@ pub record IsGiven {R : Type 0} (b : Behaviour R) (old new : Scene R) (n : ℕ) 
   pub turns : Turns old.seats new.seats seat next
   pub comes_to : Comes b old new replica next o asked
 
--- the node to which the datagram was bound was given its bytes
+-- the node to which the datagram is addressed took its bytes
 pub record IsDelivered {R : Type 0} (b : Behaviour R) (old new : Scene R) (k : ℕ) : Type 0 where
   pub datagram : Datagram
   pub stands : datagram_at old.sent k ≡ Some datagram
@@ -186,9 +188,9 @@ pub record IsDelivered {R : Type 0} (b : Behaviour R) (old new : Scene R) (k : �
   pub bound : datagram.to ≡ party.Node node
   pub given : IsGiven b old new node (Some datagram.bytes) []
 
--- ---- a node is given a group
+-- ---- a node takes a group
 
--- a call of the replica for a group was refused with the fault of this number, and left this device
+-- a call of the replica for a group failed with the fault of this number, and left this device
 abbrev pub BreaksTogether : {R : Type 0} → Behaviour R → R → List (Option (List ℕ)) → ℕ → Memory → Type 0
 BreaksTogether {R = R} b r given number left = (q : R) × b.TakesAll r given q (Err number) × RefusedAfter number (b.memory r).meter left.meter × (left ≡ b.memory q)
 
@@ -196,8 +198,8 @@ BreaksTogether {R = R} b r given number left = (q : R) × b.TakesAll r given q (
 abbrev pub AreAllOwn : List Said → Type 0
 AreAllOwn said = AllByRecursion (λ (x : Said). AreOwn x.0) said
 
--- it goes on: all calls of its device have passed, no armed stop came at a send, and what the steps noted and sent was added, step by step, the answers and
--- passes noted as they were sent
+-- it goes on: all calls of its device have passed, no armed stop happened at a send, and what the steps noted and sent
+-- was added, step by step, with the answers and passes noted as they were sent
 pub record GoesOnTogether {R : Type 0} (b : Behaviour R) (old new : Scene R) (r : R) (t : Seat R) (given : List (Option (List ℕ))) : Type 0 where
   pub replica : R
   pub said : List Said
@@ -212,7 +214,7 @@ pub record GoesOnTogether {R : Type 0} (b : Behaviour R) (old new : Scene R) (r 
   pub adds : Adds old new notes (sent_of said)
   pub ended : new.ended ≡ None
 
--- an armed stop ended it at a send: all that the steps noted was added, and what they sent in front of that
+-- an armed stop ended it at a send: everything that the steps noted was added, and what they sent before that
 pub record StopsTogether {R : Type 0} (b : Behaviour R) (old new : Scene R) (r : R) (t : Seat R) (given : List (Option (List ℕ))) : Type 0 where
   pub replica : R
   pub said : List Said
@@ -229,11 +231,12 @@ pub record StopsTogether {R : Type 0} (b : Behaviour R) (old new : Scene R) (r :
   pub adds : Adds old new notes (take sends (sent_of said))
   pub ended : new.ended ≡ Some (Stopped t.number)
 
--- what came of the group; where a fault ended the node, or an armed stop at a call of its device, it noted and sent nothing
+-- the result of the group; if a fault ended the node, or an armed stop at a call of its device, it noted and sent
+-- nothing
 abbrev pub ComesTogether : {R : Type 0} → Behaviour R → Scene R → Scene R → R → Seat R → List (Option (List ℕ)) → Type 0
 ComesTogether b old new r t given = GoesOnTogether b old new r t given ⊎ StopsTogether b old new r t given ⊎ Falls (BreaksTogether b r given) old new t []
 
--- the node of this number was given these together
+-- the node of this number took these together
 pub record IsGivenTogether {R : Type 0} (b : Behaviour R) (old new : Scene R) (n : ℕ) (given : List (Option (List ℕ))) : Type 0 where
   pub seat : Seat R
   pub number : seat.number ≡ n
@@ -243,13 +246,13 @@ pub record IsGivenTogether {R : Type 0} (b : Behaviour R) (old new : Scene R) (n
   pub turns : Turns old.seats new.seats seat next
   pub comes_to : ComesTogether b old new replica next given
 
--- the node was given these bytes, and a request in them was noted as asked
+-- the node took these bytes, and a request in them was noted as asked
 pub record IsInjected {R : Type 0} (b : Behaviour R) (old new : Scene R) (n : ℕ) (bytes : List ℕ) : Type 0 where
   pub request : Option RequestValue
   pub asks : Asks bytes request
   pub given : IsGiven b old new n (Some bytes) (asked_note request)
 
--- the client's datagram was added, bound for the node, and noted as asked
+-- the client's datagram was added, addressed to the node, and noted as asked
 pub record IsAsked {R : Type 0} (old new : Scene R) (n : ℕ) (r : RequestValue) : Type 0 where
   pub datagram : Datagram
   pub from : datagram.from ≡ party.Client r.client
@@ -259,9 +262,9 @@ pub record IsAsked {R : Type 0} (old new : Scene R) (n : ℕ) (r : RequestValue)
   pub adds : Adds old new (note.Asked r ∷ []) (datagram ∷ [])
   pub ended : new.ended ≡ None
 
--- ---- a node comes up
+-- ---- a node starts
 
--- it came up on this device, and what it executed was noted
+-- it restarted from this device, and what it executed was noted
 pub record IsRevived {R : Type 0} (b : Behaviour R) (old new : Scene R) (t : Seat R) (device : Memory) : Type 0 where
   pub replica : R
   pub up : t.life ≡ Up replica
@@ -276,14 +279,14 @@ pub record IsRevived {R : Type 0} (b : Behaviour R) (old new : Scene R) (t : Sea
 abbrev pub ComesUp : {R : Type 0} → Behaviour R → Scene R → Scene R → Seat R → Memory → Type 0
 ComesUp b old new t device = IsRevived b old new t device ⊎ Falls (StaysDown b device (header_of old.genesis t.number)) old new t []
 
--- a node was added, and came up on empty disks
+-- a node was added, and started with empty disks
 pub record IsBegun {R : Type 0} (b : Behaviour R) (old new : Scene R) (n : ℕ) : Type 0 where
   pub seat : Seat R
   pub number : seat.number ≡ n
   pub seats : new.seats ≡ old.seats ++ seat ∷ []
   pub comes : ComesUp b old new seat empty
 
--- a node that was down came up on its disks
+-- a node that was down restarted from its disks
 pub record IsBack {R : Type 0} (b : Behaviour R) (old new : Scene R) (n : ℕ) : Type 0 where
   pub seat : Seat R
   pub number : seat.number ≡ n
@@ -293,9 +296,10 @@ pub record IsBack {R : Type 0} (b : Behaviour R) (old new : Scene R) (n : ℕ) :
   pub turns : Turns old.seats new.seats seat next
   pub comes : ComesUp b old new next device
 
--- ---- a node is told to compact
+-- ---- a node compacts
 
--- it goes on, on a snapshot of all that it has executed: all calls of its device have passed, and nothing was noted or sent
+-- it goes on, with a snapshot of everything executed: all calls of its device have passed, and nothing was noted or
+-- sent
 pub record IsPacked {R : Type 0} (b : Behaviour R) (old new : Scene R) (r : R) (t : Seat R) : Type 0 where
   pub replica : R
   pub compacts : b.Compacts r replica (Ok tt)
@@ -338,7 +342,7 @@ pub record HasTrap {R : Type 0} (b : Behaviour R) (old new : Scene R) (n : ℕ) 
 
 -- ---- an event
 
--- what comes of it
+-- its result
 abbrev pub Brings : {R : Type 0} → Behaviour R → Scene R → Event → Scene R → Type 0
 Brings b old (event.Start n) new = IsBegun b old new n
 Brings b old (event.Restart n) new = IsBack b old new n
@@ -352,13 +356,13 @@ Brings b old (event.Stop n x y) new = GoesDown b old new n x y
 Brings b old (event.FailAt n count) new = HasTrap b old new n (Fail count)
 Brings b old (event.Arm n count bytes) new = HasTrap b old new n (Arm count bytes)
 
--- what an event does that is done
+-- what an event does if it is done
 abbrev pub Does : {R : Type 0} → Behaviour R → Scene R → Event → Scene R → Type 0
 Does b old e new = May old e × Brings b old e new
 
--- ---- what refused memory leaves
+-- ---- what running out of memory leaves
 
--- what a call came to takes memory: it was refused when out of memory, or there is something to be noted or sent
+-- the result of a call takes memory: the call ran out of memory, or there is something to note or send
 abbrev pub TakesMemory : Result (List Note × List Datagram) ℕ → Memory → Type 0
 TakesMemory (Ok told) left = told.0 ≡ [] → told.1 ≡ [] → ⊥
 TakesMemory (Err number) left = IsWant number left
@@ -377,21 +381,21 @@ abbrev pub LeftByGroup : {R : Type 0} → Behaviour R → List (Option (List ℕ
 LeftByGroup {R = R} b given life left =
     (r q : R) × (came : Result (List Said) ℕ) × (life ≡ Up r) × b.TakesAll r given q came × (left ≡ b.memory q) × TakesMemoryTogether came left
 
--- this is the device of what a revival came to that takes memory: it was refused when out of memory, or there is something to be noted
+-- this is the device of a restart whose result takes memory: it ran out of memory, or there is something to note
 abbrev pub IsOf : {R : Type 0} → Behaviour R → Result (R × List Note) (ℕ × Memory) → Memory → Type 0
 IsOf b (Ok came) left = (left ≡ b.memory came.0) × (came.1 ≡ [] → ⊥)
 IsOf b (Err came) left = (left ≡ came.1) × IsWant came.0 came.1
 
--- such a revival left this device
+-- such a restart left this device
 abbrev pub LeftByRevival : {R : Type 0} → Behaviour R → HeaderValue → Life R → Memory → Type 0
 LeftByRevival {R = R} b header life left =
     (d : Memory) × (came : Result (R × List Note) (ℕ × Memory)) × (life ≡ Down d) × b.Revives d header came × IsOf b came left
 
--- a Start takes memory: there was no room for the node's place, or its revival on empty disks takes memory
+-- a Start takes memory: there was no room for the node's place, or its start with empty disks takes memory
 abbrev pub StartWants : {R : Type 0} → Behaviour R → Genesis → ℕ → Vec (Seat R) Global → Type 0
 StartWants b genesis n seats = (vec_capacity seats < vec_len seats + 1) ⊎ ((left : Memory) × LeftByRevival b (header_of genesis n) (Down empty) left)
 
--- a compaction that was refused when out of memory left this device
+-- a compaction that ran out of memory left this device
 abbrev pub LeftByPacking : {R : Type 0} → Behaviour R → Life R → Memory → Type 0
 LeftByPacking {R = R} b life left = (r q : R) × (number : ℕ) × (life ≡ Up r) × b.Compacts r q (Err number) × (left ≡ b.memory q) × IsWant number left
 
@@ -407,20 +411,20 @@ pub record IsHalted {R : Type 0} (Left : Life R → Memory → Type 0) (old new 
   pub adds : Adds old new [] []
   pub ended : new.ended ≡ old.ended
 
--- what refused memory leaves of bytes that no node has sent: they are a request, and there was no room for its note, before its node stepped;
--- or the node has stopped, and its call takes memory
+-- what running out of memory leaves of bytes that no node has sent: they are a request, and there was no room for its
+-- note, before its node stepped; or the node has stopped, and its call takes memory
 abbrev pub WantsInjection : {R : Type 0} → Behaviour R → Scene R → ℕ → List ℕ → Scene R → Type 0
 WantsInjection b old n bytes new = ((new ≡ old) × ((r : RequestValue) × Asks bytes (Some r))) ⊎ IsHalted (LeftBy b (Some bytes)) old new n
 
--- what refused memory leaves of a group: there was no room for what its node was to be given, which is something, before the node stepped; or the node
--- has stopped, and its call takes memory
+-- what refused memory leaves of a group: there was no room for what its node was to be given, which is something,
+-- before the node stepped; or the node has stopped, and its call takes memory
 abbrev pub WantsGroup : {R : Type 0} → Behaviour R → Scene R → ℕ → List Turn → Scene R → Type 0
 WantsGroup b old n turns new = ((new ≡ old) × (0 < length turns)) ⊎ IsHalted (LeftByGroup b (map (given_by old.sent) turns)) old new n
 
--- what refused memory leaves of an event: the node that it steps, or revives, has stopped. Where no node was stepping yet nothing has
--- changed, nor where the node was never started before: it is as never started. A stop, and a trap that is set, take no memory, nor does a
--- call that came to another fault, or that left nothing to be noted or sent; a client's datagram takes some each time, for its bytes. Nothing was noted or
--- sent
+-- what refused memory leaves of an event: the node that it steps, or revives, has stopped. Where no node was stepping
+-- yet nothing has changed, nor where the node was never started before: it is as never started. A stop, and a trap
+-- that is set, take no memory, nor does a call that came to another fault, or that left nothing to be noted or sent; a
+-- client's datagram takes some each time, for its bytes. Nothing was noted or sent
 abbrev pub Wants : {R : Type 0} → Behaviour R → Scene R → Event → Scene R → Type 0
 Wants b old (event.Start n) new = new ≡ old
 Wants b old (event.Restart n) new = IsHalted (LeftByRevival b (header_of old.genesis n)) old new n
@@ -435,20 +439,20 @@ Wants b old (event.Stop n x y) new = ⊥
 Wants b old (event.FailAt n count) new = ⊥
 Wants b old (event.Arm n count bytes) new = ⊥
 
--- what an event leaves that is refused. Memory is wanting only where nothing else refuses it
+-- what a rejected event leaves. Memory runs out only if nothing else rejects the event
 abbrev pub IsRefused : {R : Type 0} → Behaviour R → Scene R → Event → Refused → Scene R → Type 0
 IsRefused b old e r new = (MayNot old e r × (new ≡ old)) ⊎ ((r ≡ WorldMemory) × May old e × Wants b old e new)
 
--- so of bytes that no node has sent
+-- the same of bytes that no node has sent
 abbrev pub IsNotInjected : {R : Type 0} → Behaviour R → Scene R → ℕ → List ℕ → Refused → Scene R → Type 0
 IsNotInjected b old n bytes r new = (NoInjection old.seats old.sent n bytes r × (new ≡ old)) ⊎ ((r ≡ WorldMemory) × MayInject old n bytes × WantsInjection b old n bytes new)
 
--- so of a group
+-- the same of a group
 abbrev pub IsNotGrouped : {R : Type 0} → Behaviour R → Scene R → ℕ → List Turn → Refused → Scene R → Type 0
 IsNotGrouped b old n turns r new = (NoGroup old.seats old.sent n turns r × (new ≡ old)) ⊎ ((r ≡ WorldMemory) × MayGroup old n turns × WantsGroup b old n turns new)
 
 -- ---- what every event keeps
 
--- the datagrams that stood there stand there still, and first
+-- the earlier datagrams are still there, and come first
 abbrev pub Grows : {R : Type 0} → Scene R → Scene R → Type 0
 Grows old new = (more : List Datagram) × (new.sent ≡ old.sent ++ more)

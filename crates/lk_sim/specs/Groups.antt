@@ -1,4 +1,4 @@
--- The steps of a group in a world: what a node takes together, and what then stands in the trace.
+-- The steps of a group in a world: what a node takes together, and what they add to the trace.
 use Rattle.std.specs.Prelude.{◌≡◌, ℕ, zero, suc, ◌++◌, List, [], ◌∷◌, take, Option, Some, None, Contains, Vec}
 use Rattle.std.specs.Global.{Global}
 use Rattle.lk_step.specs.declared.input.Input.{Input}
@@ -17,7 +17,7 @@ abbrev pub bytes_of : Option Datagram → Option (List ℕ)
 bytes_of None = None
 bytes_of (Some d) = Some d.bytes
 
--- what the node is given by a turn: the datagram's bytes, none at a tick
+-- the input of a turn: the datagram's bytes, none at a tick
 abbrev pub given_by : List Datagram → Turn → Option (List ℕ)
 given_by sent turn.Tick = None
 given_by sent (turn.Deliver k) = bytes_of (datagram_at sent k)
@@ -36,22 +36,22 @@ abbrev pub WereSentTo : List Datagram → List Input → Type 0
 WereSentTo sent [] = Unit {0}
 WereSentTo sent (i ∷ is) = WasSentTo sent i × WereSentTo sent is
 
--- ---- what then stands in the trace
+-- ---- what it adds to the trace
 
--- the notes of the steps, each step's behind those of the steps before it: what the node noted, and its answers and passes as they are sent
+-- the notes of the steps, one step after another: what the node noted, and its answers and passes as they are sent
 abbrev pub AreNotesOf : List Said → List Note → Type 0
 AreNotesOf [] notes = notes ≡ []
 AreNotesOf (x ∷ xs) notes = (told rest : List Note) × Tells x.1 told × (notes ≡ (x.0 ++ told) ++ rest) × AreNotesOf xs rest
 
 -- ---- a stop at one of its sends
 
--- how many of so many are left behind these
+-- how many of this many are left after these
 abbrev pub left_over : {X : Type 0} → ℕ → List X → ℕ
 left_over k [] = k
 left_over zero (x ∷ xs) = zero
 left_over (suc k) (x ∷ xs) = left_over k xs
 
--- with so many datagrams sent, and no more
+-- the same for each of these
 abbrev pub cut_short : ℕ → List Said → List Said
 cut_short k [] = []
 cut_short k (x ∷ xs) = (x.0, take k x.1) ∷ cut_short (left_over k x.1) xs

@@ -24,16 +24,16 @@ abbrev pub disks_of : {R : Type 0} → (R → Side → Disk) → Life R → Side
 disks_of disks (Up r) = disks r
 disks_of disks (Down d) = disk_of d
 
--- whatever a stop may leave of the node's disks has a standing that is so
+-- whatever a stop may leave of the node's disks has a standing with this property
 abbrev pub EveryStanding : {R : Type 0} → (R → Side → Disk) → Meaning → Genesis → Seat R → (StandingValue → Type 0) → Type 0
 EveryStanding disks m genesis s Is = (image : Image) → MayLeaveBoth (disks_of disks s.life) image
     → (x : StandingValue) × StandsAs (header_of genesis s.number) (text m genesis []) image x × Is x
 
--- it covers all that the node has sent
+-- it covers everything that the node has sent
 abbrev pub CoversAll : {R : Type 0} → (R → Side → Disk) → Meaning → Genesis → List Datagram → Seat R → Type 0
 CoversAll disks m genesis sent s = EveryStanding disks m genesis s (λ x. CoversSent genesis sent s.number (acceptor_of x))
 
--- the snapshot is the packed text of a beginning of the list, or of a chosen list that goes on from it
+-- the snapshot is the packed text of a prefix of the list, or of a chosen list that extends it
 pub record HasPacked (m : Meaning) (genesis : Genesis) (sent : List Datagram) (L : List Command) (x : StandingValue) : Type 0 where
   pub under : List Command
   pub chosen : Chosen genesis sent under
@@ -47,8 +47,8 @@ KeepsCommand m genesis sent L i v x =
     ((i ≤ x.position) × HasPacked m genesis sent L x)
     ⊎ ((y : Vote) × Contains x.votes y × (y.position ≡ i) × (y.command ≡ v))
 
--- a majority of the members that the list names for the position keeps its command so: each was started, and whatever a stop may
--- leave of its disks does
+-- a majority of the members that the list names for the position keeps its command: each was started, and whatever a
+-- stop may leave of its disks keeps it
 pub record IsKeptBy {R : Type 0} (disks : R → Side → Disk) (m : Meaning) (genesis : Genesis) (seats : List (Seat R)) (sent : List Datagram) (L : List Command) (i : ℕ) (v : Command) : Type 0 where
   pub nodes : List ℕ
   pub majority : IsMajority nodes (members genesis L i)

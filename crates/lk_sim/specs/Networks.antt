@@ -1,4 +1,5 @@
--- Processes of a network: nodes that are given what comes to them, start and stop, one step of one node after another, in any order.
+-- Processes of a network: nodes that take what arrives, start and stop, one step of one node after another, in any
+-- order.
 use Rattle.std.specs.Prelude.{◌≡◌, ◌⊎◌, ℕ, Option, Some, None, List, [], ◌∷◌, ◌++◌}
 use Rattle.lk_disk.specs.Disk.{Disk, kept_by}
 use Rattle.lk_disk.specs.Memory.{Memory, disk_of}
@@ -22,10 +23,10 @@ use Rattle.lk_sim.specs.Traces.{told_by, asked_note}
 use Rattle.lk_sim.specs.declared.seat.Seat.{Seat}
 use Rattle.lk_sim.specs.declared.seat.Life.TheVariants.{Up, Down}
 
--- ---- what comes to a node
+-- ---- what arrives at a node
 
--- what the bytes say for a node of the cluster, that node has said. Of all other bytes nothing is assumed: they may be lost, repeated,
--- late, cut, of a client, of another cluster, or of nobody
+-- what the bytes say on behalf of a node of the cluster, that node has said. Nothing is assumed of any other bytes:
+-- they may be lost, repeated, late, cut, of a client, of another cluster, or of nobody
 abbrev pub MayCome : Genesis → List Datagram → Option (List ℕ) → Type 0
 MayCome genesis sent None = Unit {0}
 MayCome genesis sent (Some bytes) = (n : ℕ) (x : NodeMessage) → Spells (said_by genesis n x) bytes → HasSent genesis sent n x
@@ -35,37 +36,37 @@ pub record IsRequestIn (bytes : List ℕ) (o : Option RequestValue) : Type 0 whe
   pub only : (r : RequestValue) (cluster : ℕ) → Spells (record { cluster = cluster; content = content.Request r }) bytes → o ≡ Some r
   pub some : (r : RequestValue) → o ≡ Some r → (cluster : ℕ) × Spells (record { cluster = cluster; content = content.Request r }) bytes
 
--- that is asked by what comes
+-- the request that arrives
 abbrev pub AreAsking : Option (List ℕ) → Option RequestValue → Type 0
 AreAsking None o = o ≡ None
 AreAsking (Some bytes) o = IsRequestIn bytes o
 
--- a tick, or bytes that may be heard
+-- a tick, or bytes that may arrive
 abbrev pub MayHear : History → Option (List ℕ) → Type 0
 MayHear h None = Unit {0}
 MayHear h (Some bytes) = IsHeard h bytes
 
--- these notes are, in order, those of the answers and passes among the datagrams; one that does not read has none
+-- these notes are, in order, those of the answers and passes among the datagrams; one that does not parse has none
 abbrev pub TellsOf : List Datagram → List Note → Type 0
 TellsOf [] notes = notes ≡ []
 TellsOf (d ∷ ds) notes =
     ((m : Message) × (rest : List Note) × Spells m d.bytes × (notes ≡ told_by m.content ++ rest) × TellsOf ds rest)
     ⊎ (((m : Message) → Spells m d.bytes → ⊥) × TellsOf ds notes)
 
--- ---- what a node does, in each history to which it fits. `Shows` says what it holds, and `disks` what stands on its disks
+-- ---- what a node does, in each history that it fits. `Shows` says what it holds, and `disks` what its disks hold
 
--- given that, it goes on: all that it notes and gives to be sent it may note and send by what it holds, and each image that a stop may
--- leave fits with any beginning of that sent
+-- with that input it goes on: what it holds permits everything that it notes and sends, and each image that a stop may
+-- leave fits with any prefix of that sent
 pub record GoesBy {R : Type 0} (Shows : R → Genesis → ℕ → Holding → Type 0) (disks : R → Side → Disk) (m : Meaning) (n : ℕ) (r : R) (o : Option (List ℕ)) (q : R) (notes : List Note) (batch : List Datagram) : Type 0 where
   pub goes : (h : History) → NodeFits m h n (Shows r h.genesis n) (disks r) → MayHear h o → Goes m h n (Shows q h.genesis n) (disks q) notes batch
   pub short : AreShort (disks r) → AreShort (disks q)
 
--- given that, it ends, and each image that a stop may leave of these disks fits
+-- with that input it ends, and each image that a stop may leave of these disks fits
 pub record EndsBy {R : Type 0} (Shows : R → Genesis → ℕ → Holding → Type 0) (disks : R → Side → Disk) (m : Meaning) (n : ℕ) (r : R) (o : Option (List ℕ)) (left : Side → Disk) : Type 0 where
   pub ends : (h : History) → NodeFits m h n (Shows r h.genesis n) (disks r) → MayHear h o → DisksFit m h n left
   pub short : AreShort (disks r) → AreShort left
 
--- it comes up by what its disks have
+-- it restarts from what its disks have
 pub record RisesBy {R : Type 0} (Shows : R → Genesis → ℕ → Holding → Type 0) (disks : R → Side → Disk) (m : Meaning) (genesis : Genesis) (n : ℕ) (old : Side → Disk) (q : R) (notes : List Note) : Type 0 where
   pub goes : (h : History) → h.genesis ≡ genesis → IsLawful m h → DisksFit m h n old → Goes m h n (Shows q h.genesis n) (disks q) notes []
   pub short : AreShort old → AreShort (disks q)
@@ -77,7 +78,7 @@ pub record RestsBy (m : Meaning) (genesis : Genesis) (n : ℕ) (old left : Side 
 
 -- ---- a step
 
--- a node of a new number is there, with two empty disks
+-- a node of a new number appears, with two empty disks
 pub record Appears {R : Type 0} (old new : Scene R) : Type 0 where
   pub seat : Seat R
   pub unused : (k : ℕ) (t : Seat R) → At old.seats k t → t.number ≡ seat.number → ⊥
@@ -87,7 +88,7 @@ pub record Appears {R : Type 0} (old new : Scene R) : Type 0 where
   pub seats : new.seats ≡ old.seats ++ seat ∷ []
   pub adds : Adds old new [] []
 
--- a node that was down has come up
+-- a node that was down has started
 pub record Rises {R : Type 0} (Shows : R → Genesis → ℕ → Holding → Type 0) (disks : R → Side → Disk) (m : Meaning) (old new : Scene R) : Type 0 where
   pub seat : Seat R
   pub next : Seat R
@@ -100,7 +101,7 @@ pub record Rises {R : Type 0} (Shows : R → Genesis → ℕ → Holding → Typ
   pub rises : RisesBy Shows disks m old.genesis seat.number (disk_of device) replica notes
   pub adds : Adds old new notes []
 
--- a node that was down stayed down
+-- a node that was down has stayed down
 pub record Rests {R : Type 0} (m : Meaning) (old new : Scene R) : Type 0 where
   pub seat : Seat R
   pub next : Seat R
@@ -112,7 +113,7 @@ pub record Rests {R : Type 0} (m : Meaning) (old new : Scene R) : Type 0 where
   pub rests : RestsBy m old.genesis seat.number (disk_of device) (disk_of left)
   pub adds : Adds old new [] []
 
--- a node that is up was given a tick, or what may come, and went on
+-- a node that is up took a tick, or what may arrive, and went on
 pub record GoesOn {R : Type 0} (Shows : R → Genesis → ℕ → Holding → Type 0) (disks : R → Side → Disk) (m : Meaning) (old new : Scene R) : Type 0 where
   pub seat : Seat R
   pub next : Seat R
@@ -132,7 +133,7 @@ pub record GoesOn {R : Type 0} (Shows : R → Genesis → ℕ → Holding → Ty
   pub tells : TellsOf batch told
   pub adds : Adds old new ((asked_note request ++ notes) ++ told) batch
 
--- it ended by that
+-- it ended with that
 pub record Ends {R : Type 0} (Shows : R → Genesis → ℕ → Holding → Type 0) (disks : R → Side → Disk) (m : Meaning) (old new : Scene R) : Type 0 where
   pub seat : Seat R
   pub next : Seat R
@@ -148,7 +149,7 @@ pub record Ends {R : Type 0} (Shows : R → Genesis → ℕ → Holding → Type
   pub ends : EndsBy Shows disks m seat.number before came (disk_of left)
   pub adds : Adds old new (asked_note request) []
 
--- a node, up or down, has stopped: each of its disks has what was synced, and a beginning of the rest
+-- a node, up or down, has stopped: each of its disks has what was synced, and a prefix of the rest
 pub record Stops {R : Type 0} (disks : R → Side → Disk) (old new : Scene R) : Type 0 where
   pub seat : Seat R
   pub next : Seat R
@@ -163,7 +164,7 @@ abbrev pub Steps : {R : Type 0} → (R → Genesis → ℕ → Holding → Type 
 Steps Shows disks m old new =
     Appears old new ⊎ Rises Shows disks m old new ⊎ Rests m old new ⊎ GoesOn Shows disks m old new ⊎ Ends Shows disks m old new ⊎ Stops disks old new
 
--- these steps were taken one after another, the last of which came to this
+-- these steps were taken one after another, and the last of them led to this
 abbrev pub StepsAll : {R : Type 0} → (R → Genesis → ℕ → Holding → Type 0) → (R → Side → Disk) → Meaning → Scene R → List (Scene R) → Scene R → Type 0
 StepsAll Shows disks m first [] last = last ≡ first
 StepsAll Shows disks m first (next ∷ scenes) last = Steps Shows disks m first next × StepsAll Shows disks m next scenes last

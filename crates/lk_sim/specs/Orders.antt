@@ -10,7 +10,7 @@ use Rattle.lk_step.specs.declared.note.Note.TheVariants as note
 use Rattle.lk_node.specs.Histories.{Genesis, Datagram, Command, Request, RequestValue}
 use Rattle.lk_sim.specs.Traces.{asked_in}
 
--- the request stands at this position of the list, and takes effect there
+-- the request is at this position of the list, and takes effect there
 abbrev pub IsEffectiveAt : List Command → ℕ → RequestValue → Type 0
 IsEffectiveAt L i r = (command_at L i ≡ Some (Request r)) × (in_effect (take (i - 1) L) (Request r) ≡ Some r)
 
@@ -23,8 +23,8 @@ pub record IsEffectiveBefore (L : List Command) (i client number : ℕ) : Type 0
   pub of_number : request.number ≡ number
   pub effective : IsEffectiveAt L place request
 
--- wherever a trace is separated: what was answered in its front takes effect in each chosen list in front of each request that takes effect
--- there and was not asked in that front
+-- wherever a trace is split: what was answered in the first part takes effect, in each chosen list, before each
+-- request that takes effect there and was not asked in that part
 abbrev pub InOrder : Genesis → List Datagram → List Note → Type 0
 InOrder genesis sent trace =
     (front back : List Note) → trace ≡ front ++ back
@@ -41,7 +41,7 @@ ToldInTime trace =
 
 -- ---- why
 
--- a chosen list bears out the answer, all of whose requests were asked in these notes
+-- a chosen list bears out the answer, and all its requests were asked in these notes
 pub record IsAnsweredBy (m : Meaning) (genesis : Genesis) (sent : List Datagram) (front : List Note) (client number : ℕ) (a : Answer) : Type 0 where
   pub under : List Command
   pub chosen : Chosen genesis sent under

@@ -21,8 +21,8 @@ use Rattle.lk_sim.specs.declared.end.End.{End}
 use Rattle.lk_sim.specs.declared.seat.Seat.{Seat}
 use Rattle.lk_sim.specs.declared.seat.Life.TheVariants.{Up, Down}
 
--- a fault of that kind ended the node: it is down on the disks that it left, its trap is gone, and it noted and sent nothing. An
--- armed stop to which it has come is still to be made
+-- a fault of that kind ended the node: it is down with the disks that it left, its trap is gone, and it noted and sent
+-- nothing. An armed stop that it has reached is still to be carried out
 pub record HasFallen {R : Type 0} (Ends : ℕ → Memory → Type 0) (s : Seat R) (mine : List Note) (batch : List Datagram) (how : Option End) (stop : Option ℕ) : Type 0 where
   pub number : ℕ
   pub left : Memory
@@ -38,7 +38,7 @@ pub record HasFallen {R : Type 0} (Ends : ℕ → Memory → Type 0) (s : Seat R
 abbrev pub IsThis : ℕ → Memory → ℕ → Memory → Type 0
 IsThis number left n d = (n ≡ number) × (d ≡ left)
 
--- a fault of that kind, when out of memory, has stopped it, on the disks that it left, of whose unsynced bytes none is left
+-- running out of memory has stopped it, with the disks that it left, without their unsynced bytes
 pub record HasWanted {R : Type 0} (Ends : ℕ → Memory → Type 0) (s : Seat R) : Type 0 where
   pub number : ℕ
   pub left : Memory
@@ -46,12 +46,12 @@ pub record HasWanted {R : Type 0} (Ends : ℕ → Memory → Type 0) (s : Seat R
   pub want : IsWant number left
   pub down : s.life ≡ Down (stopped_on 0 0 left)
 
--- a node that has come to an armed stop, for so many bytes, was stopped; another one is as it was
+-- a node that has reached an armed stop, for this many bytes, was stopped; any other is unchanged
 abbrev pub Rests : {R : Type 0} → Behaviour R → Option ℕ → Seat R → Seat R → Type 0
 Rests b None s t = t ≡ s
 Rests b (Some bytes) s t = t.life ≡ Down (stopped_on bytes bytes (device_in b s.life))
 
--- its replica took a tick or these bytes; it may have come to an armed stop at a send
+-- its replica took a tick or these bytes; it may have reached an armed stop at a send
 pub record HasTaken {R : Type 0} (b : Behaviour R) (r : R) (o : Option (List ℕ)) (s : Seat R) (mine : List Note) (batch : List Datagram) (how : Option End) (stop : Option ℕ) : Type 0 where
   pub replica : R
   pub all : List Datagram
@@ -63,7 +63,7 @@ pub record HasTaken {R : Type 0} (b : Behaviour R) (r : R) (o : Option (List ℕ
   pub sends : SentUpTo b stop replica after all batch
   pub ended : how ≡ end_at stop s.number
 
--- its replica took these together, whose steps and datagrams these are; it may have come to an armed stop at a send
+-- its replica took these together, with these steps and datagrams; it may have reached an armed stop at a send
 pub record HasTakenTogether {R : Type 0} (b : Behaviour R) (r : R) (given : List (Option (List ℕ))) (s : Seat R) (steps : List Step) (batch : List Datagram) (how : Option End) (stop : Option ℕ) : Type 0 where
   pub replica : R
   pub all : List Datagram
@@ -81,7 +81,7 @@ pub record HasFallenTogether {R : Type 0} (Ends : ℕ → Memory → Type 0) (s 
   pub no_steps : steps ≡ []
   pub fallen : HasFallen Ends s [] batch how stop
 
--- it came up on this device
+-- it restarted from this device
 pub record HasRevived {R : Type 0} (b : Behaviour R) (device : Memory) (header : HeaderValue) (s : Seat R) (mine : List Note) (batch : List Datagram) (how : Option End) (stop : Option ℕ) : Type 0 where
   pub replica : R
   pub up : s.life ≡ Up replica
@@ -103,7 +103,7 @@ pub record HasPacked {R : Type 0} (b : Behaviour R) (r : R) (s : Seat R) (mine :
   pub ended : how ≡ None
   pub no_stop : stop ≡ None
 
--- what it noted and sent was added, after what was just asked, and its answers and passes were noted as they were sent
+-- what it noted and sent was added, after what was just asked, with its answers and passes noted as they were sent
 pub record HasAdded {R : Type 0} (old new : Scene R) (asked mine : List Note) (batch : List Datagram) (how : Option End) : Type 0 where
   pub told : List Note
   pub tells : Tells batch told
@@ -111,7 +111,7 @@ pub record HasAdded {R : Type 0} (old new : Scene R) (asked mine : List Note) (b
   pub adds : Adds old new ((asked ++ mine) ++ told) batch
   pub ended : new.ended ≡ how
 
--- so it was, and the node at this place rests where it has come to an armed stop
+-- it was, and the node at this place has stopped if it has reached an armed stop
 pub record HasSettled {R : Type 0} (Shows : R → Genesis → ℕ → Holding → Type 0) (b : Behaviour R) (m : Meaning) (old : Scene R) (i : ℕ) (new : Scene R) (asked mine : List Note) (batch : List Datagram) (how : Option End) (stop : Option ℕ) : Type 0 where
   pub told : List Note
   pub tells : Tells batch told
@@ -125,7 +125,7 @@ pub record HasSettled {R : Type 0} (Shows : R → Genesis → ℕ → Holding �
   pub adds : Adds old new ((asked ++ mine) ++ told) batch
   pub ended : new.ended ≡ how
 
--- what the steps noted and sent was added, step by step, their answers and passes noted as they were sent
+-- what the steps noted and sent was added, step by step, with their answers and passes noted as they were sent
 pub record HasAddedSteps {R : Type 0} (old new : Scene R) (steps : List Step) (batch : List Datagram) (how : Option End) : Type 0 where
   pub notes : List Note
   pub tells : AreNotesOf (parts_of steps batch) notes
@@ -133,7 +133,7 @@ pub record HasAddedSteps {R : Type 0} (old new : Scene R) (steps : List Step) (b
   pub adds : Adds old new notes batch
   pub ended : new.ended ≡ how
 
--- so it was, and the node at this place rests where it has come to an armed stop
+-- it was, and the node at this place has stopped if it has reached an armed stop
 pub record HasSettledSteps {R : Type 0} (Shows : R → Genesis → ℕ → Holding → Type 0) (b : Behaviour R) (m : Meaning) (old : Scene R) (i : ℕ) (new : Scene R) (steps : List Step) (batch : List Datagram) (how : Option End) (stop : Option ℕ) : Type 0 where
   pub notes : List Note
   pub tells : AreNotesOf (parts_of steps batch) notes

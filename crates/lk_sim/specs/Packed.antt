@@ -13,8 +13,8 @@ use Rattle.lk_sim.specs.declared.event.Event.TheVariants as event
 use Rattle.lk_sim.specs.declared.seat.Seat.{Seat}
 use Rattle.lk_sim.specs.declared.seat.Life.TheVariants.{Up}
 
--- the node of this number is up, and whatever a stop may leave of its disks has a snapshot at the position up to which it has
--- executed: the packed text of a chosen list of that length
+-- the node of this number is up, and whatever a stop may leave of its disks has a snapshot at the position up to which
+-- it has executed: the packed text of a chosen list of that length
 pub record StandsPacked {R : Type 0} (whole : R → WholeValue) (disks : R → Side → Disk) (m : Meaning) (w : Scene R) (n : ℕ) : Type 0 where
   pub place : ℕ
   pub seat : Seat R
@@ -24,7 +24,7 @@ pub record StandsPacked {R : Type 0} (whole : R → WholeValue) (disks : R → S
   pub up : seat.life ≡ Up replica
   pub stands : EveryStanding disks m w.genesis seat (λ x. (x.position ≡ (whole replica).roster.executed) × IsPackedList m w.genesis w.sent x)
 
--- a node that was told to compact stands so, where nothing has ended it
+-- a node that compacted is in this state, unless something has ended it
 abbrev pub LeavesPacked : {R : Type 0} → (R → WholeValue) → (R → Side → Disk) → Meaning → Event → Scene R → Type 0
 LeavesPacked whole disks m (event.Compact n) w = w.ended ≡ None → StandsPacked whole disks m w n
 LeavesPacked whole disks m _ w = Unit {0}

@@ -16,15 +16,15 @@ use Rattle.lk_state.specs.Meanings.{Meaning}
 use Rattle.lk_state.specs.States.{WholeValue}
 
 pub record Promises {R : Type 0} (b : Behaviour R) (whole : R → WholeValue) (m : Meaning) (w : Scene R) : Type 0 where
-  -- one list of no-ops and asked requests is chosen that explains all that was noted and sent
+  -- some chosen list of no-ops and asked requests explains everything that was noted and sent
   pub explained : (L : List Command) × Chosen w.genesis w.sent L × Explains m w.genesis w.sent w.trace L
-  -- of two chosen lists one begins the other
+  -- of two chosen lists one is a prefix of the other
   pub agree : (L K : List Command) → Chosen w.genesis w.sent L → Chosen w.genesis w.sent K → IsBeginning L K ⊎ IsBeginning K L
-  -- the trace tells, in order, of each answer that was sent
+  -- the trace has, in order, each answer that was sent
   pub told : Tells w.sent (told_in w.trace)
   -- each node that is up has executed a chosen list
   pub states : (k : ℕ) (s : Seat R) → At w.seats k s → SumsUpChosen whole (disks_by b) m w.genesis w.sent s
-  -- whatever a stop may leave of a node's disks covers all that the node has sent
+  -- whatever a stop may leave of a node's disks covers everything that the node has sent
   pub covered : (k : ℕ) (s : Seat R) → At w.seats k s → CoversAll (disks_by b) m w.genesis w.sent s
   -- a majority keeps each command of a chosen list, whatever stops may leave
   pub kept : (L : List Command) (i : ℕ) (v : Command) → Chosen w.genesis w.sent L → command_at L i ≡ Some v → IsKeptBy (disks_by b) m w.genesis w.seats w.sent L i v
@@ -32,5 +32,5 @@ pub record Promises {R : Type 0} (b : Behaviour R) (whole : R → WholeValue) (m
   pub order : InOrder w.genesis w.sent w.trace
   -- a greater number of which a client was told was asked before
   pub told_in_time : ToldInTime w.trace
-  -- neither file of a node is ever longer than 262,144 bytes
+  -- no file of a node is ever longer than 262,144 bytes
   pub room : (k : ℕ) (s : Seat R) → At w.seats k s → AreShort (disks_of (disks_by b) s.life)

@@ -1,4 +1,4 @@
--- Why an event is refused, the smallest number first.
+-- Why an event is rejected, the smallest number first.
 use Rattle.std.specs.Prelude.{◌≡◌, ℕ, zero, suc, ◌<◌, ◌≤◌, List, length, Option, Some, None, slice_get}
 use Rattle.std.specs.List.{AllByRecursion}
 use Rattle.lk_history.specs.declared.party.Party.{Party}
@@ -24,41 +24,41 @@ refusal_number Forged = 20
 refusal_number WorldFull = 21
 refusal_number WorldMemory = 22
 
--- more than 99,000 datagrams stand
+-- there are more than 99,000 datagrams
 abbrev pub IsFull : List Datagram → Type 0
 IsFull sent = 99000 < length sent
 
 abbrev pub HasRoom : List Datagram → Type 0
 HasRoom sent = length sent ≤ 99000
 
--- the datagram of this place. Places count from 1
+-- the datagram at this place. Places count from 1
 abbrev pub datagram_at : List Datagram → ℕ → Option Datagram
 datagram_at sent zero = None
 datagram_at sent (suc k) = slice_get sent k
 
--- the datagram of the turn stands there, bound for the node
+-- the datagram of the turn exists, addressed to the node
 abbrev pub IsFor : List Datagram → ℕ → Turn → Type 0
 IsFor sent n turn.Tick = Unit {0}
 IsFor sent n (turn.Deliver k) = (d : Datagram) × (datagram_at sent k ≡ Some d) × (d.to ≡ party.Node n)
 
--- so with each of these
+-- the same of each of these
 abbrev pub AreFor : List Datagram → ℕ → List Turn → Type 0
 AreFor sent n turns = AllByRecursion (IsFor sent n) turns
 
--- ---- why not
+-- ---- the reasons
 
--- a node has to have been started
+-- a node must have been started
 abbrev pub NotStarted : {R : Type 0} → List (Seat R) → ℕ → Refused → Type 0
 NotStarted seats n NoSuchNode = HasNo seats n
 NotStarted seats n _ = ⊥
 
--- it has to be up
+-- it must be up
 abbrev pub NoneUp : {R : Type 0} → List (Seat R) → ℕ → Refused → Type 0
 NoneUp seats n NoSuchNode = HasNo seats n
 NoneUp seats n NotUp = IsDown seats n
 NoneUp seats n _ = ⊥
 
--- and there has to be room for what it sends
+-- and there must be room for what it sends
 abbrev pub NoTurn : {R : Type 0} → List (Seat R) → List Datagram → ℕ → Refused → Type 0
 NoTurn seats sent n NoSuchNode = HasNo seats n
 NoTurn seats sent n NotUp = IsDown seats n
@@ -80,7 +80,7 @@ NoClient seats sent n NoSuchNode = HasNo seats n
 NoClient seats sent n WorldFull = IsStarted seats n × IsFull sent
 NoClient seats sent n _ = ⊥
 
--- no datagram of a client is delivered to it
+-- a client's datagram is not delivered to it
 abbrev pub NoneBound : {R : Type 0} → List (Seat R) → List Datagram → Party → Refused → Type 0
 NoneBound seats sent (party.Node n) e = NoTurn seats sent n e
 NoneBound seats sent (party.Client c) e = e ≡ NoSuchDatagram
@@ -96,7 +96,7 @@ NoInjection seats sent n bytes Forged = IsUp seats n × IsForged bytes
 NoInjection seats sent n bytes WorldFull = IsUp seats n × (IsForged bytes → ⊥) × IsFull sent
 NoInjection seats sent n bytes _ = ⊥
 
--- each datagram of a group has to be bound for its node
+-- each datagram of a group must be addressed to its node
 abbrev pub NoGroup : {R : Type 0} → List (Seat R) → List Datagram → ℕ → List Turn → Refused → Type 0
 NoGroup seats sent n turns NoSuchNode = HasNo seats n
 NoGroup seats sent n turns NotUp = IsDown seats n
@@ -104,7 +104,7 @@ NoGroup seats sent n turns NoSuchDatagram = IsUp seats n × (AreFor sent n turns
 NoGroup seats sent n turns WorldFull = IsUp seats n × AreFor sent n turns × IsFull sent
 NoGroup seats sent n turns _ = ⊥
 
--- the event is refused so, and not when out of memory
+-- the event is rejected for this reason, and not because memory ran out
 abbrev pub MayNot : {R : Type 0} → Scene R → Event → Refused → Type 0
 MayNot w (event.Start n) e = NoStart w.seats n e
 MayNot w (event.Restart n) e = NoRestart w.seats n e
@@ -118,13 +118,13 @@ MayNot w (event.Stop n x y) e = NoneUp w.seats n e
 MayNot w (event.FailAt n count) e = NotStarted w.seats n e
 MayNot w (event.Arm n count bytes) e = NotStarted w.seats n e
 
--- ---- what is not refused so
+-- ---- what is not rejected for it
 
 -- the node is up, and there is room
 abbrev pub MayTurn : {R : Type 0} → Scene R → ℕ → Type 0
 MayTurn w n = IsUp w.seats n × HasRoom w.sent
 
--- the datagram is bound for such a node
+-- the datagram is addressed to such a node
 abbrev pub MayDeliver : {R : Type 0} → Scene R → ℕ → Type 0
 MayDeliver w k = (d : Datagram) × (n : ℕ) × (datagram_at w.sent k ≡ Some d) × (d.to ≡ party.Node n) × MayTurn w n
 

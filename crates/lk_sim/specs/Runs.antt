@@ -12,12 +12,12 @@ abbrev pub Passes : {R : Type 0} → Behaviour R → List Event → Scene R → 
 Passes b [] old new = new ≡ old
 Passes {R = R} b (e ∷ es) old new = (mid : Scene R) × Does b old e mid × Passes b es mid new
 
--- all events were done, or the next one was refused
+-- all events were done, or the next one was rejected
 abbrev pub StopsAt : {R : Type 0} → Behaviour R → List Event → ℕ → Option Refused → Scene R → Scene R → Type 0
 StopsAt b events done None last new = (done ≡ length events) × (new ≡ last)
 StopsAt b events done (Some r) last new = (e : Event) × (slice_get events done ≡ Some e) × IsRefused b last e r new
 
--- so many events were done in order, and then it stopped so
+-- this many events were done in order, and then it ended like this
 pub record Runs {R : Type 0} (b : Behaviour R) (old : Scene R) (events : List Event) (how : RunEnd) (new : Scene R) : Type 0 where
   pub last : Scene R
   pub passes : Passes b (take how.done events) old last

@@ -5,8 +5,8 @@ use Rattle.lk_node.specs.Histories.{Genesis, Datagram}
 use Rattle.lk_sim.specs.declared.end.End.{End}
 use Rattle.lk_sim.specs.declared.seat.Seat.{Seat}
 
--- how it began, the nodes that were ever started, all datagrams that were ever sent, the trace, and how the last event that
--- was done ended a node
+-- its genesis, the nodes that were ever started, all datagrams that were ever sent, the trace, and how the last event
+-- ended a node
 pub record Scene (R : Type 0) : Type 0 where
   pub genesis : Genesis
   pub seats : List (Seat R)

@@ -19,11 +19,11 @@ use Rattle.lk_sim.specs.declared.seat.Seat.{Seat}
 use Rattle.lk_sim.specs.declared.seat.Life.{Life}
 use Rattle.lk_sim.specs.declared.seat.Life.TheVariants.{Up, Down}
 
--- it stands at this place
+-- it is at this place
 abbrev pub At : {X : Type 0} → List X → ℕ → X → Type 0
 At xs k x = (k < length xs) × (get_or xs k x ≡ x)
 
--- the node of this number was started, and is so
+-- the node of this number was started, and is in this state
 abbrev pub Sits : {R : Type 0} → List (Seat R) → ℕ → Life R → Type 0
 Sits {R = R} seats number life = (k : ℕ) × (s : Seat R) × At seats k s × (s.number ≡ number) × (s.life ≡ life)
 
@@ -42,15 +42,15 @@ HasNo {R = R} seats number = (k : ℕ) (s : Seat R) → At seats k s → s.numbe
 
 -- ---- the device of a node that is down
 
--- a stop that keeps up to so many unsynced bytes of each disk has left it, and nothing is pending
+-- a stop that keeps up to this many unsynced bytes of each disk has left it, and nothing is pending
 abbrev pub stopped_on : ℕ → ℕ → Memory → Memory
 stopped_on x y m = record (stopped x y m) { meter = trapped Off (eased m.meter) }
 
--- a fault has left it as it is, and no trap is pending
+-- a fault has left it unchanged, and no trap is pending
 abbrev pub fallen_on : Memory → Memory
 fallen_on m = record m { meter = trapped Off m.meter }
 
--- so it is; or, where the node has come to an armed stop for so many bytes, that stop has left it
+-- a fault has left it; or, if the node has reached an armed stop for this many bytes, that stop has
 abbrev pub rested_on : Option ℕ → Memory → Memory
 rested_on None m = fallen_on m
 rested_on (Some bytes) m = stopped_on bytes bytes m
@@ -66,7 +66,7 @@ IsTrapped {R = R} b s t trap =
     ((r : R) × (s.life ≡ Up r) × (t.life ≡ Up (b.with_trap trap r)))
     ⊎ ((d : Memory) × (s.life ≡ Down d) × (t.life ≡ Down (record d { meter = trapped trap d.meter })))
 
--- ---- how a node fits to what has happened
+-- ---- how a node fits what has happened
 
 -- a replica that is up holds this view and what fits, and so does whatever a stop may leave of it; its files are short
 pub record UpFits {R : Type 0} (Shows : R → Genesis → ℕ → Holding → Type 0) (disks : R → Side → Disk) (m : Meaning) (h : History) (w : View) (n : ℕ) (r : R) : Type 0 where
@@ -77,13 +77,13 @@ pub record UpFits {R : Type 0} (Shows : R → Genesis → ℕ → Holding → Ty
   pub left : DisksFit m h n (disks r)
   pub room : AreShort (disks r)
 
--- a node is up so, or its disks fit
+-- a node is up like this, or its disks fit
 pub record SeatFits {R : Type 0} (Shows : R → Genesis → ℕ → Holding → Type 0) (disks : R → Side → Disk) (m : Meaning) (h : History) (w : View) (s : Seat R) : Type 0 where
   pub up : (r : R) → s.life ≡ Up r → UpFits Shows disks m h w s.number r
   pub down : (d : Memory) → s.life ≡ Down d → DisksFit m h s.number (disk_of d)
   pub room : (d : Memory) → s.life ≡ Down d → AreShort (disk_of d)
 
--- a node has come up, or went on
+-- a node has started, or gone on
 pub record SeatGoes {R : Type 0} (Shows : R → Genesis → ℕ → Holding → Type 0) (disks : R → Side → Disk) (m : Meaning) (h : History) (s : Seat R) (notes : List Note) (batch : List Datagram) : Type 0 where
   pub replica : R
   pub up : s.life ≡ Up replica
@@ -92,7 +92,7 @@ pub record SeatGoes {R : Type 0} (Shows : R → Genesis → ℕ → Holding → 
 
 -- ---- where a node is
 
--- the node of this number stands at this place
+-- the node of this number is at this place
 abbrev pub IsSeatOf : {R : Type 0} → List (Seat R) → ℕ → ℕ → Type 0
 IsSeatOf {R = R} seats i number = (s : Seat R) × At seats i s × (s.number ≡ number)
 

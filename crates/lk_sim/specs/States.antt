@@ -1,4 +1,4 @@
--- The states of the nodes of a world, by chosen lists.
+-- The states of the nodes of a world, in terms of chosen lists.
 use Rattle.std.specs.Prelude.{◌≡◌, ℕ, List, [], length}
 use Rattle.lk_disk.specs.Disk.{Disk}
 use Rattle.lk_disk.specs.Memory.{Memory, disk_of}
@@ -14,7 +14,7 @@ use Rattle.lk_node.specs.Served.{text}
 use Rattle.lk_sim.specs.declared.seat.Seat.{Seat}
 use Rattle.lk_sim.specs.declared.seat.Life.TheVariants.{Up, Down}
 
--- the snapshot is the packed text of a chosen list, as long as its position tells
+-- the snapshot is the packed text of a chosen list, whose length is its position
 abbrev pub IsPackedList : Meaning → Genesis → List Datagram → StandingValue → Type 0
 IsPackedList m genesis sent s = (L : List Command) × Chosen genesis sent L × (length L ≡ s.position) × (s.snapshot ≡ text m genesis L)
 

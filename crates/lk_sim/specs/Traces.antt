@@ -1,4 +1,4 @@
--- What a trace tells of the requests that were asked, and of what was answered.
+-- What a trace says of the requests that were asked, and of what was answered.
 use Rattle.std.specs.Prelude.{◌≡◌, ℕ, List, [], ◌∷◌, ◌++◌, Option, Some, None}
 use Rattle.lk_wire.specs.Grammar.{Spells}
 use Rattle.lk_wire.specs.declared.message.Content.{Content}
@@ -10,7 +10,7 @@ use Rattle.lk_step.specs.declared.note.Note.{Note}
 use Rattle.lk_step.specs.declared.note.Note.TheVariants as note
 use Rattle.lk_node.specs.Histories.{History, Genesis, Datagram, RequestValue}
 
--- the request that the note tells of
+-- the request of the note
 abbrev pub asked_by : Note → List RequestValue
 asked_by (note.Asked r) = r ∷ []
 asked_by (note.Counted node i set v) = []
@@ -23,11 +23,11 @@ abbrev pub asked_in : List Note → List RequestValue
 asked_in [] = []
 asked_in (x ∷ xs) = asked_by x ++ asked_in xs
 
--- what has happened, as far as safety goes
+-- what has happened, as far as safety is concerned
 abbrev pub happened : Genesis → List Datagram → List Note → History
 happened genesis sent trace = record { genesis = genesis; sent = sent; asked = asked_in trace }
 
--- ---- what was answered and told, by the datagrams and by the trace
+-- ---- what was answered and told, in the datagrams and in the trace
 
 -- the note of an answer or a pass
 abbrev pub told_by_node : ℕ → NodeMessage → List Note

@@ -1,4 +1,4 @@
--- What holds of every world that comes about.
+-- What holds of every reachable world.
 use Rattle.std.specs.Prelude.{◌≡◌, ℕ, List, Contains}
 use Rattle.lk_disk.specs.Disk.{Disk}
 use Rattle.lk_disk.specs.declared.device.Side.{Side}
@@ -21,7 +21,7 @@ use Rattle.lk_sim.specs.declared.seat.Seat.{Seat}
 use Rattle.lk_sim.specs.declared.parts.Parts.{Parts}
 
 pub record Holds {R : Type 0} (Shows : R → Genesis → ℕ → Holding → Type 0) (disks : R → Side → Disk) (m : Meaning) (genesis : Genesis) (seats : List (Seat R)) (sent : List Datagram) (trace : List Note) : Type 0 where
-  -- a view for each number, to which all that was sent fits
+  -- a view for each number, which everything that was sent fits
   pub views : ℕ → View
   pub world : WorldFits genesis (record { sent = sent; views = views })
   -- each node that was started fits, one for each number, and nobody else has sent anything
@@ -31,17 +31,17 @@ pub record Holds {R : Type 0} (Shows : R → Genesis → ℕ → Holding → Typ
   -- each request in the list was asked, and so was what was proposed
   pub requests : (d : Datagram) (r : RequestValue) (cluster : ℕ) → Contains sent d → Spells (record { cluster = cluster; content = content.Request r }) d.bytes → Contains (asked_in trace) r
   pub proposed : (x : Vote) → WasSent genesis sent (Accept x) → WasAsked (happened genesis sent trace) x.command
-  -- one chosen list bears out all that was noted and sent
+  -- one chosen list bears out everything that was noted and sent
   pub list : List Command
   pub chosen : Chosen genesis sent list
   pub notes : (x : Note) → Contains trace x → BearsOut m (happened genesis sent trace) list x
   pub messages : (n : ℕ) (x : NodeMessage) → HasSent genesis sent n x → BearsOutMessage m (happened genesis sent trace) list x
   -- what was answered and told was noted, in order
   pub told : Tells sent (told_in trace)
-  -- what was answered is borne out by what was asked by then
+  -- what was answered is borne out by what had been asked by then
   pub in_time : InTime m genesis sent trace
 
--- so of the parts of a world
+-- the same of the parts of a world
 abbrev pub PartsHold : {R : Type 0} → (R → Genesis → ℕ → Holding → Type 0) → (R → Side → Disk) → Meaning → Parts R → Type 0
 PartsHold Shows disks m p = Holds Shows disks m p.genesis p.seats.items p.sent.items p.trace.items
 

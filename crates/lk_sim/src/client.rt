@@ -1,4 +1,4 @@
-// A client asks: its datagram joins the list, bound for a node that was started.
+// A client sends a request: its datagram joins the list, addressed to a node that was started.
 ghost use Rattle.std.specs.Prelude.{◌≡◌, ◌++◌, [], ◌∷◌, IfOk, IfErr, OnOk, OnErr};
 ghost use Rattle.lk_wire.specs.Grammar.{Spells};
 ghost use Rattle.lk_wire.specs.declared.message.Content.TheVariants as content;
@@ -71,7 +71,7 @@ fn ask<R: MemoryReplica>(
     Ok(())
 }
 
-/// A client asks.
+/// A client's request.
 pub fn client<R: MemoryReplica>(
     parts: &mut Parts<R>,
     number: NodeNo,

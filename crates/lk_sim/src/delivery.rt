@@ -1,4 +1,4 @@
-// Nodes are given ticks and datagrams, and clients ask.
+// Nodes take ticks and datagrams, and clients send requests.
 ghost use Rattle.std.specs.Prelude.{◌≡◌, ◌⊎◌, None, Some, IfOk, IfErr, IfSome, OnOk, OnErr};
 ghost use Rattle.lk_history.specs.Datagrams.{Datagram as DatagramValue};
 ghost use Rattle.lk_history.specs.declared.party.Party.TheVariants as party;
@@ -24,7 +24,7 @@ use lk_step::{Input, Note};
 use lk_types::{NoMemory, NodeNo, Request};
 use lk_wire::{ContentRef, view};
 
-// The place of the node of this number, which is up, where there is room for what it sends.
+// The place of the node of this number, which is up, with room for what it sends.
 fn turn_of<R: MemoryReplica>(parts: &Parts<R>, number: NodeNo) -> Result<usize, Refused>
     ensures ok { IfOk result (λ i. IsUpAt parts.now.seats.items i number × HasRoom parts.now.sent.items) }
     ensures err { IfErr result (λ e. NoTurn parts.now.seats.items parts.now.sent.items number e) }
@@ -36,7 +36,7 @@ fn turn_of<R: MemoryReplica>(parts: &Parts<R>, number: NodeNo) -> Result<usize, 
     Ok(i)
 }
 
-/// Some time passes at a node.
+/// A node takes a tick.
 pub fn tick<R: MemoryReplica>(parts: &mut Parts<R>, number: NodeNo) -> Result<(), Refused>
     requires { PartsHold R.Shows (disks_by R.behaves) R.meaning parts.old }
     ensures holds { PartsHold R.Shows (disks_by R.behaves) R.meaning parts.new }
@@ -48,7 +48,7 @@ pub fn tick<R: MemoryReplica>(parts: &mut Parts<R>, number: NodeNo) -> Result<()
     Ok(())
 }
 
-/// The datagram of this place. Places count from 1.
+/// The datagram at this place. Places count from 1.
 pub fn datagram(sent: &[Datagram], k: usize) -> Option<&Datagram>
     ensures some { IfSome result (λ d. datagram_at sent.now k ≡ Some d.now) }
     ensures none { result ≡ None → datagram_at sent.now k ≡ None }
@@ -56,7 +56,7 @@ pub fn datagram(sent: &[Datagram], k: usize) -> Option<&Datagram>
     if k == 0 { None } else { sent.get(k - 1) }
 }
 
-// The node to which the datagram of this place is bound.
+// The node to which the datagram at this place is addressed.
 fn bound<R: MemoryReplica>(parts: &Parts<R>, k: usize) -> Result<NodeNo, Refused>
     ensures ok { IfOk result (λ n. (d : DatagramValue) × (datagram_at parts.now.sent.items k ≡ Some d) × (d.to ≡ party.Node n)) }
     ensures err { IfErr result (λ e. NoDelivery parts.now.seats.items parts.now.sent.items (datagram_at parts.now.sent.items k) e) }
@@ -70,7 +70,7 @@ fn bound<R: MemoryReplica>(parts: &Parts<R>, k: usize) -> Result<NodeNo, Refused
     }
 }
 
-// A copy of the bytes of the datagram of this place.
+// A copy of the bytes of the datagram at this place.
 fn bytes_of<R: MemoryReplica>(parts: &Parts<R>, k: usize) -> Result<Vec<u8>, NoMemory>
     requires { (d : DatagramValue) × (datagram_at parts.now.sent.items k ≡ Some d) }
     ensures { IfOk result (λ b. (d : DatagramValue) × (datagram_at parts.now.sent.items k ≡ Some d) × (b.items ≡ d.bytes)) }
@@ -81,7 +81,7 @@ fn bytes_of<R: MemoryReplica>(parts: &Parts<R>, k: usize) -> Result<Vec<u8>, NoM
     Ok(found.bytes.to_vec(parts.alloc)?)
 }
 
-/// The node to which the datagram of this place was bound takes it.
+/// The node to which the datagram at this place is addressed takes it.
 pub fn deliver<R: MemoryReplica>(parts: &mut Parts<R>, k: usize) -> Result<(), Refused>
     requires { PartsHold R.Shows (disks_by R.behaves) R.meaning parts.old }
     ensures holds { PartsHold R.Shows (disks_by R.behaves) R.meaning parts.new }
@@ -95,7 +95,7 @@ pub fn deliver<R: MemoryReplica>(parts: &mut Parts<R>, k: usize) -> Result<(), R
     Ok(())
 }
 
-// The request that is asked. A message of a node is forged.
+// The request that is asked. A node's message would be forged.
 fn request_of(said: &ContentRef<'_>) -> Result<Request, Refused>
     ensures ok { IfOk result (λ r. shown_content said.now ≡ content.Request r) }
     ensures err { IfErr result (λ e. (e ≡ Refused.Forged) × ((r : RequestValue) → shown_content said.now ≡ content.Request r → ⊥)) }
@@ -106,7 +106,7 @@ fn request_of(said: &ContentRef<'_>) -> Result<Request, Refused>
     }
 }
 
-// The request that the bytes are, if they are one. A datagram of a node is forged.
+// The request that the bytes spell, if they spell one. A node's datagram would be forged.
 fn request_in(bytes: &[u8]) -> Result<Option<Request>, Refused>
     ensures ok { IfOk result (λ o. Asks bytes.now o) }
     ensures err { IfErr result (λ e. (e ≡ Refused.Forged) × IsForged bytes.now) }
@@ -118,7 +118,7 @@ fn request_in(bytes: &[u8]) -> Result<Option<Request>, Refused>
     Ok(Some(request))
 }
 
-// Room for the note of a request that is asked. Where none is asked it takes no memory.
+// Reserves room for the note of a request. Without a request it takes no memory.
 fn make_room(trace: &mut Vec<Note>, asked: &Option<Request>) -> Result<(), NoMemory>
     ensures same { trace.new.items ≡ trace.old.items }
     ensures room { OnOk result (HasNoteRoom asked.now trace.new) }
@@ -130,7 +130,7 @@ fn make_room(trace: &mut Vec<Note>, asked: &Option<Request>) -> Result<(), NoMem
     Ok(())
 }
 
-/// A node is handed bytes that no node has sent. The room for the note of a request is looked for before the node steps.
+/// A node takes bytes that no node has sent. The room for the note of a request is reserved before the node steps.
 pub fn inject<R: MemoryReplica>(
     parts: &mut Parts<R>,
     number: NodeNo,

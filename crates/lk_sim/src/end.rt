@@ -4,14 +4,14 @@ use lk_types::NodeNo;
 /// How an event ended a node.
 #[derive(Clone, Copy)]
 pub enum End {
-    /// The replica of this node, or its revival, ended by the fault of this number. The node went down, with its disks as
-    /// they were.
+    /// The replica of this node, or its restart, ended with the fault of this number. The node went down, with its
+    /// disks as they were.
     Fault(NodeNo, u8),
-    /// An armed stop took place at this node.
+    /// An armed stop happened at this node.
     Stopped(NodeNo),
 }
 
-/// How a run of events ended: how many were done, and what refused the next one, if there is one.
+/// How a run of events ended: how many were done, and why the next one was rejected, if one was.
 #[derive(Clone, Copy)]
 pub struct RunEnd {
     pub done: usize,

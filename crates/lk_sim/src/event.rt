@@ -3,36 +3,36 @@ use lk_types::{NodeNo, Request};
 /// A part of a group.
 #[derive(Clone, Copy)]
 pub enum Turn {
-    /// Some time passes.
+    /// A tick.
     Tick,
-    /// The datagram of this place, which was bound for the node. Places count from 1.
+    /// The datagram at this place, which is addressed to the node. Places count from 1.
     Deliver(usize),
 }
 
-/// What happens in a world.
+/// An event of a world.
 #[derive(Drop)]
 pub enum Event {
-    /// A node with two empty disks is revived.
+    /// A new node starts with two empty disks.
     Start(NodeNo),
-    /// A node that is down is revived on its disks.
+    /// A node that is down restarts from its disks.
     Restart(NodeNo),
-    /// Some time passes at a node.
+    /// A node takes a tick.
     Tick(NodeNo),
-    /// A node that is up writes a snapshot of all that it has executed, in the place of the commands up to there.
+    /// A node that is up writes a snapshot of everything executed, which replaces the commands up to there.
     Compact(NodeNo),
-    /// A client asks: its datagram joins the list, bound for the node.
+    /// A client sends a request: its datagram joins the list, addressed to the node.
     Client(NodeNo, Request),
-    /// The node to which the datagram of this place was bound takes it. Places count from 1.
+    /// The node to which the datagram at this place is addressed takes it. Places count from 1.
     Deliver(usize),
-    /// A node takes these together: what they tell to write is synced once, and nothing is sent before that.
+    /// A node takes these together: their entries are synced once, and nothing is sent before that.
     Group(NodeNo, Vec<Turn>),
-    /// A node is handed bytes that no node has sent.
+    /// A node takes bytes that no node has sent.
     Inject(NodeNo, Vec<u8>),
-    /// A node stops; its disks keep up to so many of their unsynced bytes, those of A first.
+    /// A node stops; its disks keep up to this many of their unsynced bytes, those of A first.
     Stop(NodeNo, usize, usize),
-    /// The count-th append, sync or cut of a node from now fails once.
+    /// The node's count-th append, sync or cut from now fails once.
     FailAt(NodeNo, u64),
-    /// A node stops at its count-th append, sync, cut or send from now. It keeps up to so many unsynced bytes of each disk, and
-    /// up to so many bytes of what that call cuts.
+    /// A node stops at its count-th append, sync, cut or send from now. It keeps up to this many unsynced bytes of
+    /// each disk, and up to this many bytes of what that call cuts.
     Arm(NodeNo, u64, usize),
 }

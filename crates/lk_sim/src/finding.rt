@@ -1,4 +1,4 @@
-// Where the nodes of a world are.
+// Finding the nodes of a world.
 ghost use Rattle.std.specs.Prelude.{◌≡◌, ◌↔◌, None, IsTrue, IfOk, IfErr, IfSome};
 ghost use Rattle.lk_sim.specs.Refusals.{NoneUp, NoRestart, HasRoom};
 ghost use Rattle.lk_sim.specs.Seats.{IsSeatOf, IsUpAt, IsDownAt, HasNo};
@@ -8,7 +8,7 @@ use crate::seat::{Life, Seat};
 use lk_replica::Datagram;
 use lk_types::NodeNo;
 
-// More datagrams than this may stand after a step, but no step begins then.
+// A step may take the list beyond this many datagrams, but no step begins there.
 const MAX_DATAGRAMS: usize = 99_000;
 
 /// The place of the node of this number.

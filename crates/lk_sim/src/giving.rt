@@ -1,4 +1,4 @@
-// A node is given something, or comes up, and what it sends and notes is kept.
+// A node takes an input or restarts, and the world keeps what it sends and notes.
 ghost use Rattle.std.specs.Prelude.{◌≡◌, ℕ, ◌<◌, ◌++◌, List, [], true, false, length, set, IfOk, OnOk, OnErr};
 ghost use Rattle.lk_disk.specs.Memory.{Memory, disk_of};
 ghost use Rattle.lk_history.specs.Nodes.{View};
@@ -22,7 +22,8 @@ use lk_step::{Input, Note};
 use lk_types::{NoMemory, Request};
 use std::alloc::Global;
 
-// All notes of a step: a request that was just asked, what the node noted, and its answers and passes as they are sent.
+// All notes of a step: a request that was just asked, what the node noted, and its answers and passes in the order in
+// which they are sent.
 fn notes_of(
     alloc: Global,
     asked: Option<Request>,
@@ -56,7 +57,7 @@ pub fn join(
     Ok(())
 }
 
-// Whether nothing of what a call came to is to be noted or sent.
+// Whether a call has left nothing to note or send.
 fn is_nothing(outcome: &Outcome) -> bool
     ensures notes { result ≡ true → outcome.now.notes.items ≡ [] }
     ensures sent { result ≡ true → outcome.now.sent.items ≡ [] }
@@ -65,7 +66,7 @@ fn is_nothing(outcome: &Outcome) -> bool
     outcome.notes.is_empty() && outcome.sent.is_empty()
 }
 
-// Notes a request that was just asked, for which there is room: it takes no memory.
+// Notes a request that was just asked. Its room is reserved, so it takes no memory.
 fn note_asked(trace: &mut Vec<Note>, asked: Option<Request>)
     requires room { HasNoteRoom asked trace.old }
     ensures { trace.new.items ≡ trace.old.items ++ asked_note asked }
@@ -75,8 +76,8 @@ fn note_asked(trace: &mut Vec<Note>, asked: Option<Request>)
     }
 }
 
-/// Keeps what a call came to, after a request that was just asked, for whose note there is room, or nothing of it. Where the call
-/// left nothing to keep it takes no memory.
+/// Keeps the result of a call after a request that was just asked, whose note has its room, or nothing of it. If the
+/// call left nothing to keep, it takes no memory.
 pub fn add<R: MemoryReplica>(
     parts: &mut Parts<R>,
     asked: Option<Request>,
@@ -105,8 +106,8 @@ pub fn add<R: MemoryReplica>(
     Ok(())
 }
 
-/// Keeps what a call of the node at this place came to, and makes an armed stop to which it has come; where memory is refused,
-/// the node is stopped.
+/// Keeps the result of a call of the node at this place, and carries out an armed stop that it has reached; if it is
+/// out of memory, the node is stopped.
 pub fn settle<R: MemoryReplica>(
     parts: &mut Parts<R>,
     i: usize,
@@ -132,7 +133,7 @@ pub fn settle<R: MemoryReplica>(
     }
 }
 
-/// The node at this place, which is up, takes the input. A request in it is noted as asked: there is room for that note.
+/// The node at this place, which is up, takes the input. A request in it is noted as asked: its note has its room.
 pub fn give<R: MemoryReplica>(
     parts: &mut Parts<R>,
     i: usize,
@@ -154,7 +155,7 @@ pub fn give<R: MemoryReplica>(
     Ok(())
 }
 
-/// The node at this place, which is down, takes up what its disks have.
+/// The node at this place, which is down, restarts from its disks.
 pub fn come_up<R: MemoryReplica>(parts: &mut Parts<R>, i: usize) -> Result<(), NoMemory>
     requires down { (n : ℕ) × IsDownAt parts.old.seats.items i n }
     requires holds { PartsHold R.Shows (disks_by R.behaves) R.meaning parts.old }

@@ -33,13 +33,13 @@ use lk_step::{Input, Note};
 use lk_types::{NoMemory, NodeNo};
 use std::alloc::Global;
 
-// What a group of a node came to: its steps, what they sent, and how it ended the node, if it did.
+// The result of a node's group: its steps, what they sent, and how it ended the node, if it did.
 #[derive(Drop)]
 struct GroupOutcome {
     steps: Vec<Step>,
     sent: Vec<Datagram>,
     ended: Option<End>,
-    // it has come to an armed stop, for so many bytes, which is still to be made
+    // it has reached an armed stop, for this many bytes, which is still to be carried out
     stop: Option<usize>,
 }
 
@@ -58,7 +58,7 @@ fn fallen(alloc: Global, outcome: Outcome) -> GroupOutcome
     }
 }
 
-// The node, which is up, takes the inputs together. Where its replica ends, it goes down.
+// The node, which is up, takes the inputs together. If its replica ends, it goes down.
 fn step_all<R: MemoryReplica>(
     alloc: Global,
     seat: &mut Seat<R>,
@@ -68,7 +68,7 @@ fn step_all<R: MemoryReplica>(
     ensures number { seat.new.number ≡ seat.old.number }
     ensures goes { (r : R) → seat.old.life ≡ Up r → (genesis : GenesisValue) (held : Holding) → R.Shows r genesis seat.old.number held
         → IfOk result (λ o. (q : R) → seat.new.life ≡ Up q → GoesAll R.Shows (disks_by R.behaves) R.meaning seat.old.number r inputs.entry.items q (parts_of o.steps.items o.sent.items)) }
-    // After any exit whatever a stop may leave of it fits where nothing of the group is sent.
+    // However it ends, whatever a stop may leave of it fits if nothing of the group is sent.
     ensures leaves { (h : History) (w : View) → IsLawful R.meaning h → SeatFits R.Shows (disks_by R.behaves) R.meaning h w seat.old → AllByRecursion (InputFits h) inputs.entry.items
         → DisksFit R.meaning h seat.new.number (disk_of (device_in R.behaves seat.new.life)) × AreShort (disk_of (device_in R.behaves seat.new.life)) }
     ensures exact { (r : R) → seat.old.life ≡ Up r
@@ -100,7 +100,8 @@ fn step_all<R: MemoryReplica>(
     }
 }
 
-// All notes of the steps, one step after another: what the node noted, and its answers and passes as they are sent.
+// All notes of the steps, one step after another: what the node noted, and its answers and passes in the order in
+// which they are sent.
 fn notes_of(alloc: Global, steps: Vec<Step>, sent: &[Datagram]) -> Result<Vec<Note>, NoMemory>
     ensures { IfOk result (λ notes. AreNotesOf (parts_of steps.items sent.now) notes.items) }
 {
@@ -119,7 +120,7 @@ fn notes_of(alloc: Global, steps: Vec<Step>, sent: &[Datagram]) -> Result<Vec<No
     Ok(notes)
 }
 
-// Whether nothing is to be noted or sent.
+// Whether there is nothing to note or send.
 fn is_nothing(outcome: &GroupOutcome) -> bool
     ensures steps { result ≡ true → outcome.now.steps.items ≡ [] }
     ensures sent { result ≡ true → outcome.now.sent.items ≡ [] }
@@ -128,7 +129,7 @@ fn is_nothing(outcome: &GroupOutcome) -> bool
     outcome.steps.is_empty() && outcome.sent.is_empty()
 }
 
-// Keeps what a group came to, or nothing of it. Where there is nothing to keep it takes no memory.
+// Keeps the result of a group, or nothing of it. If there is nothing to keep, it takes no memory.
 fn add_all<R: MemoryReplica>(parts: &mut Parts<R>, outcome: GroupOutcome) -> Result<(), NoMemory>
     ensures ok { OnOk result (HasAddedSteps (scene_of parts.old) (scene_of parts.new) outcome.steps.items outcome.sent.items outcome.ended) }
     ensures err { OnErr result (scene_of parts.new ≡ scene_of parts.old) }
@@ -151,8 +152,8 @@ fn add_all<R: MemoryReplica>(parts: &mut Parts<R>, outcome: GroupOutcome) -> Res
     Ok(())
 }
 
-// Keeps what a group of the node at this place came to, and makes an armed stop to which it has come; where memory is refused,
-// the node is stopped.
+// Keeps the result of a group of the node at this place, and carries out an armed stop that it has reached; if it is
+// out of memory, the node is stopped.
 fn settle_all<R: MemoryReplica>(
     parts: &mut Parts<R>,
     i: usize,
@@ -196,7 +197,7 @@ fn give_all<R: MemoryReplica>(
     Ok(())
 }
 
-// Whether the datagram of the turn stands there, bound for the node.
+// Whether the datagram of the turn exists, addressed to the node.
 fn is_for(sent: &[Datagram], number: NodeNo, turn: Turn) -> bool
     ensures { IsTrue result ↔ IsFor sent.now number turn }
 {
@@ -216,7 +217,7 @@ fn are_for(sent: &[Datagram], number: NodeNo, turns: &[Turn]) -> bool
     turns.iter().all(|turn| is_for(sent, number, *turn))
 }
 
-// A copy of the bytes that the turn brings, none at a tick.
+// A copy of the bytes of the turn; none at a tick.
 fn bytes_for<R: MemoryReplica>(parts: &Parts<R>, turn: Turn) -> Result<Option<Vec<u8>>, NoMemory>
     ensures { IfOk result (λ o. copied o ≡ given_by parts.now.sent.items turn) }
 {
@@ -229,7 +230,7 @@ fn bytes_for<R: MemoryReplica>(parts: &Parts<R>, turn: Turn) -> Result<Option<Ve
     }
 }
 
-// So of each turn.
+// The same of each turn.
 fn bytes_for_all<R: MemoryReplica>(
     parts: &Parts<R>,
     turns: &[Turn],
@@ -244,7 +245,7 @@ fn bytes_for_all<R: MemoryReplica>(
     Ok(all)
 }
 
-// What a node takes of that.
+// The input that this gives a node.
 fn inputs_of<'a>(alloc: Global, all: &'a [Option<Vec<u8>>]) -> Result<Vec<Input<'a>>, NoMemory>
     ensures ok { IfOk result (λ l. map heard_by l.items ≡ map copied all.now) }
     ensures memory { OnErr result (0 < length all.now) }

@@ -38,7 +38,7 @@ pub fn happen<R: MemoryReplica>(parts: &mut Parts<R>, event: &Event) -> Result<(
     }
 }
 
-/// Events happen in order, up to the first that is refused.
+/// Events happen in order, up to the first that is rejected.
 pub fn happen_all<R: MemoryReplica>(parts: &mut Parts<R>, events: &[Event]) -> RunEnd
     requires { PartsHold R.Shows (disks_by R.behaves) R.meaning parts.old }
     ensures holds { PartsHold R.Shows (disks_by R.behaves) R.meaning parts.new }

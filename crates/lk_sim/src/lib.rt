@@ -1,4 +1,4 @@
-//! A world of replicas on disks in memory, whatever is delivered, lost, repeated or stopped.
+//! A world of replicas with disks in memory, whatever is delivered, lost, repeated or stopped.
 #![tactic(auto)]
 
 mod client;

@@ -1,4 +1,4 @@
-// Nodes come up and go down.
+// Nodes start and stop.
 ghost use Rattle.std.specs.Prelude.{◌≡◌, IfErr, OnOk, OnErr};
 ghost use Rattle.lk_replica.specs.Behaviours.{disks_by};
 ghost use Rattle.lk_sim.specs.Events.{Does, IsBegun, IsRefused, StartWants};
@@ -16,17 +16,17 @@ use lk_disk::{MemoryDisk, Trap};
 use lk_replica::MemoryReplica;
 use lk_types::{NoMemory, NodeNo};
 
-// At most so many nodes are ever started.
+// The largest number of nodes that are ever started.
 const MAX_NODES: usize = 16;
 
-// A node that was never started comes up on empty disks, and joins the others.
+// A node that was never started starts with empty disks, and joins the others.
 fn begin<R: MemoryReplica>(parts: &mut Parts<R>, number: NodeNo) -> Result<(), NoMemory>
     requires unused { HasNo parts.old.seats.items number }
     requires holds { PartsHold R.Shows (disks_by R.behaves) R.meaning parts.old }
     ensures holds { PartsHold R.Shows (disks_by R.behaves) R.meaning parts.new }
     ensures ok { OnOk result (IsBegun R.behaves (scene_of parts.old) (scene_of parts.new) number) }
     ensures err { OnErr result (scene_of parts.new ≡ scene_of parts.old) }
-    // Memory was refused for the node's place, before it was revived, or to what its revival came to.
+    // Memory ran out for the node's place, before its start, or for the result of its start.
     ensures wants { OnErr result (StartWants R.behaves parts.old.genesis number parts.old.seats) }
 {
     let life = Life::Down(MemoryDisk::new(parts.alloc));
@@ -40,7 +40,7 @@ fn begin<R: MemoryReplica>(parts: &mut Parts<R>, number: NodeNo) -> Result<(), N
     Ok(())
 }
 
-/// A node with two empty disks is revived.
+/// A new node starts with two empty disks.
 pub fn start<R: MemoryReplica>(parts: &mut Parts<R>, number: NodeNo) -> Result<(), Refused>
     requires { PartsHold R.Shows (disks_by R.behaves) R.meaning parts.old }
     ensures holds { PartsHold R.Shows (disks_by R.behaves) R.meaning parts.new }
@@ -58,7 +58,7 @@ pub fn start<R: MemoryReplica>(parts: &mut Parts<R>, number: NodeNo) -> Result<(
     Ok(())
 }
 
-/// A node that is down is revived on its disks.
+/// A node that is down restarts from its disks.
 pub fn restart<R: MemoryReplica>(parts: &mut Parts<R>, number: NodeNo) -> Result<(), Refused>
     requires { PartsHold R.Shows (disks_by R.behaves) R.meaning parts.old }
     ensures holds { PartsHold R.Shows (disks_by R.behaves) R.meaning parts.new }
@@ -88,7 +88,7 @@ pub fn halt<R: MemoryReplica>(
     Ok(())
 }
 
-/// A changing call of the node's device to come fails once.
+/// A future changing call of the node's device fails once.
 pub fn fail_at<R: MemoryReplica>(
     parts: &mut Parts<R>,
     number: NodeNo,
@@ -105,7 +105,7 @@ pub fn fail_at<R: MemoryReplica>(
     Ok(())
 }
 
-/// A node will stop at a changing call of its device to come, or at a send.
+/// A node will stop at a future changing call of its device, or at a send.
 pub fn arm<R: MemoryReplica>(
     parts: &mut Parts<R>,
     number: NodeNo,

@@ -20,7 +20,7 @@ use lk_replica::MemoryReplica;
 use lk_types::{NoMemory, NodeNo};
 use std::alloc::Global;
 
-// The node, which is up, writes a snapshot of all that it has executed. Where that is refused, it goes down.
+// The node, which is up, writes a snapshot of everything executed. If that fails, it goes down.
 fn pack<R: MemoryReplica>(alloc: Global, seat: &mut Seat<R>) -> Result<Outcome, NoMemory>
     requires up { (r : R) × (seat.old.life ≡ Up r) }
     ensures number { seat.new.number ≡ seat.old.number }
@@ -65,7 +65,7 @@ fn pack_at<R: MemoryReplica>(parts: &mut Parts<R>, i: usize) -> Result<(), NoMem
     Ok(())
 }
 
-/// A node that is up writes a snapshot of all that it has executed.
+/// A node that is up writes a snapshot of everything executed.
 pub fn compact<R: MemoryReplica>(parts: &mut Parts<R>, number: NodeNo) -> Result<(), Refused>
     requires { PartsHold R.Shows (disks_by R.behaves) R.meaning parts.old }
     ensures holds { PartsHold R.Shows (disks_by R.behaves) R.meaning parts.new }

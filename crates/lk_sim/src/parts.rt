@@ -5,8 +5,8 @@ use lk_step::Note;
 use lk_types::Genesis;
 use std::alloc::Global;
 
-/// What a world is made of: the nodes that were ever started, all that was ever sent, the trace, and how the last event
-/// that was done ended a node.
+/// The parts of a world: the nodes that were ever started, everything that was ever sent, the trace, and how the last
+/// event ended a node.
 #[derive(Drop)]
 pub struct Parts<R: Drop> {
     pub alloc: Global,

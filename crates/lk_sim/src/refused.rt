@@ -4,7 +4,7 @@ ghost use Rattle.lk_sim.specs.declared.refused.Refused.TheVariants.{WorldMemory 
 use lk_types::NoMemory;
 use thiserror::Error;
 
-/// Why an event was refused. Of several that fit the smallest number is told, and `WorldMemory` last.
+/// Why an event was rejected. If several reasons apply, it is the smallest number, and `WorldMemory` comes last.
 #[derive(Clone, Copy, Debug, Error)]
 pub enum Refused {
     /// The node was never started.
@@ -14,16 +14,16 @@ pub enum Refused {
     NotUp = 17,
     #[error("the node is up, or was started before")]
     AlreadyUp = 18,
-    /// No datagram stands there, or it is bound for a client.
+    /// There is no such datagram, or it is addressed to a client.
     #[error("no such datagram")]
     NoSuchDatagram = 19,
     /// The bytes are a datagram that only a node sends.
     #[error("only a node sends these bytes")]
     Forged = 20,
-    /// 16 nodes were started, or more than 99,000 datagrams stand.
+    /// 16 nodes were started, or there are more than 99,000 datagrams.
     #[error("the world is full")]
     WorldFull = 21,
-    /// A growth was refused. Where a node was stepping, or was restarted, it may have stopped, and kept none of its unsynced bytes.
+    /// Out of memory. A node that was stepping or restarting may have stopped, and kept none of its unsynced bytes.
     #[error("no memory")]
     WorldMemory = 22,
 }
@@ -31,7 +31,7 @@ pub enum Refused {
 impl Refused {
     ghost use Rattle.lk_sim.specs.Refusals.{refusal_number};
 
-    /// The number of this refusal: 16 to 22.
+    /// The number of this reason: 16 to 22.
     pub fn number(self) -> u8
         ensures { result ≡ refusal_number self }
     {

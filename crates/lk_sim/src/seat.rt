@@ -39,17 +39,17 @@ pub struct Seat<R: Drop> {
     pub life: Life<R>,
 }
 
-/// What a call of a node came to: what it noted and sent, and how it ended the node, if it did.
+/// The result of a node's call: what it noted and sent, and how it ended the node, if it did.
 #[derive(Drop)]
 pub struct Outcome {
     pub notes: Vec<Note>,
     pub sent: Vec<Datagram>,
     pub ended: Option<End>,
-    // it has come to an armed stop, for so many bytes, which is still to be made
+    // it has reached an armed stop, for this many bytes, which is still to be carried out
     pub stop: Option<usize>,
 }
 
-// What stands in the seat, which is left with empty disks.
+// Moves the node out of the seat, which is left with empty disks.
 fn vacate<R: Drop>(alloc: Global, seat: &mut Seat<R>) -> Life<R>
     ensures life { result ≡ seat.old.life }
     ensures number { seat.new.number ≡ seat.old.number }
@@ -57,7 +57,7 @@ fn vacate<R: Drop>(alloc: Global, seat: &mut Seat<R>) -> Life<R>
     mem::replace(&mut seat.life, Life::Down(MemoryDisk::new(alloc)))
 }
 
-/// The device of the node, which is left with empty disks.
+/// Moves the device of the node out, which is left with empty disks.
 pub fn take_device<R: MemoryReplica>(alloc: Global, seat: &mut Seat<R>) -> MemoryDisk
     ensures number { seat.new.number ≡ seat.old.number }
     ensures is { result ≡ device_in R.behaves seat.old.life }
@@ -82,7 +82,7 @@ pub fn stop<R: MemoryReplica>(alloc: Global, seat: &mut Seat<R>, x: usize, y: us
     seat.life = Life::Down(device);
 }
 
-/// The node, where it has come to an armed stop for so many bytes, goes down.
+/// The node goes down if it has reached an armed stop for this many bytes.
 pub fn rest<R: MemoryReplica>(alloc: Global, seat: &mut Seat<R>, at: Option<usize>)
     ensures number { seat.new.number ≡ seat.old.number }
     ensures fits { (h : History) (w : View) → SeatFits R.Shows (disks_by R.behaves) R.meaning h w seat.old → SeatFits R.Shows (disks_by R.behaves) R.meaning h w seat.new }
@@ -93,7 +93,7 @@ pub fn rest<R: MemoryReplica>(alloc: Global, seat: &mut Seat<R>, at: Option<usiz
     }
 }
 
-// Whether the fault is "out of memory": a letter is lost in memory for nothing else.
+// Whether the fault is "out of memory": in memory a letter is lost for no other reason.
 fn is_wanting(fault: &ReplicaFault, device: &MemoryDisk) -> bool
     ensures no_want { result ≡ false → IsNoWant (fault_number fault.now) device.now }
     ensures want { result ≡ true → IsWant (fault_number fault.now) device.now }
@@ -105,8 +105,9 @@ fn is_wanting(fault: &ReplicaFault, device: &MemoryDisk) -> bool
         )
 }
 
-/// A fault leaves the node down, on the disks as they are; being out of memory stops it. Either way the trap is gone, and the
-/// device forgets that it was starved. Where the fault is that of an armed stop, that is told, and still to be made.
+/// A fault leaves the node down, with the disks as they are; running out of memory stops it. Either way the trap is
+/// gone, and the device forgets that it was starved. If the fault is that of an armed stop, that is returned, and
+/// still to be carried out.
 pub fn fall<R: MemoryReplica>(
     alloc: Global,
     seat: &mut Seat<R>,
@@ -137,7 +138,7 @@ pub fn fall<R: MemoryReplica>(
     })
 }
 
-// How a node ended that has come to an armed stop, or else to this fault.
+// How a node ended: with an armed stop if it has reached one, or else with this fault.
 fn ended_by(stop: Option<usize>, node: NodeNo, number: u8) -> End
     ensures { result ≡ end_by stop node number }
 {
@@ -147,7 +148,7 @@ fn ended_by(stop: Option<usize>, node: NodeNo, number: u8) -> End
     }
 }
 
-/// How a node ended that has come to an armed stop at a send, if it has.
+/// How a node ended that has reached an armed stop at a send, if it has.
 pub fn ended_at(stop: Option<usize>, node: NodeNo) -> Option<End>
     ensures { result ≡ end_at stop node }
 {
@@ -157,8 +158,8 @@ pub fn ended_at(stop: Option<usize>, node: NodeNo) -> Option<End>
     }
 }
 
-/// Counts the sends of a call against an armed trap. Where the node stops at one of them, those from it on are not sent, and it
-/// is told for how many bytes.
+/// Counts the sends of a call against an armed trap. If the node stops at one of them, that one and the later ones are
+/// not sent, and it returns for how many bytes.
 pub fn count_sends<R: MemoryReplica>(replica: &mut R, sent: &mut Vec<Datagram>) -> Option<usize>
     ensures sends { SentUpTo R.behaves result replica.old replica.new sent.old.items sent.new.items }
 {
@@ -174,7 +175,7 @@ pub fn count_sends<R: MemoryReplica>(replica: &mut R, sent: &mut Vec<Datagram>) 
     Some(bytes)
 }
 
-/// The node, which is up, takes an input. Where its replica ends, it goes down.
+/// The node, which is up, takes an input. If its replica ends, it goes down.
 pub fn step<R: MemoryReplica>(
     alloc: Global,
     seat: &mut Seat<R>,
@@ -213,7 +214,7 @@ pub fn step<R: MemoryReplica>(
     }
 }
 
-/// The node takes up what its disks have. Where that is refused, it stays down.
+/// The node restarts from its disks. If that fails, it stays down.
 pub fn revive<R: MemoryReplica>(
     alloc: Global,
     seat: &mut Seat<R>,

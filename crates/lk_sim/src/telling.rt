@@ -24,7 +24,7 @@ fn told(message: &Message) -> Option<Note>
     }
 }
 
-/// Adds the note of the datagram, if it has one.
+/// Appends the note of the datagram, if it has one.
 fn tell_one(alloc: Global, notes: &mut Vec<Note>, datagram: &Datagram) -> Result<(), NoMemory>
     ensures { OnOk result ((more : List NoteValue) × (notes.new.items ≡ notes.old.items ++ more) × Tells (datagram.now ∷ []) more) }
 {
@@ -37,7 +37,7 @@ fn tell_one(alloc: Global, notes: &mut Vec<Note>, datagram: &Datagram) -> Result
     Ok(())
 }
 
-/// Adds the notes of the datagrams, in order.
+/// Appends the notes of the datagrams, in order.
 pub fn tell(alloc: Global, notes: &mut Vec<Note>, batch: &[Datagram]) -> Result<(), NoMemory>
     ensures { OnOk result ((more : List NoteValue) × (notes.new.items ≡ notes.old.items ++ more) × Tells batch.now more) }
 {

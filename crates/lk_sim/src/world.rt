@@ -13,7 +13,7 @@ use lk_types::{Genesis, NoMemory, NodeNo};
 use std::alloc::Global;
 use std::marker::Model;
 
-/// Replicas on disks in memory, all datagrams that were ever sent, and the trace of what has happened.
+/// Replicas with disks in memory, all datagrams that were ever sent, and the trace of what has happened.
 #[derive(Drop)]
 pub struct World<R: MemoryReplica> {
     parts: Parts<R>,
@@ -62,16 +62,17 @@ impl<R: MemoryReplica> World<R> {
         }
     }
 
-    /// One event happens. Whatever happens, what is promised of every world holds: one list of no-ops and asked requests is chosen
-    /// that explains all that was noted and sent, and the rest of `Promises`.
+    /// One event happens. Whatever happens, what is promised of every world holds: some chosen list of no-ops and
+    /// asked requests explains everything that was noted and sent, and the rest of `Promises`.
     ///
-    /// A refused event changes nothing, but that under `WorldMemory` the node that was stepping or was restarted may have stopped.
+    /// A rejected event changes nothing, except that under `WorldMemory` a node that was stepping or restarting may
+    /// have stopped.
     pub fn apply(&mut self, event: Event) -> Result<(), Refused>
         ensures does { OnOk result (Does R.behaves self.old event self.new) }
         ensures refused { IfErr result (λ e. IsRefused R.behaves self.old event e self.new) }
         ensures grows { Grows self.old self.new }
         ensures promised { Promises R.behaves R.whole R.meaning self.new }
-        // Where a node compacted, whatever a stop may leave of its disks has a snapshot of all that it has executed.
+        // After a compaction, whatever a stop may leave of the node's disks has a snapshot of everything executed.
         ensures packed { OnOk result (LeavesPacked R.whole (disks_by R.behaves) R.meaning event self.new) }
     {
         let result = happen(&mut self.parts, &event);
@@ -79,7 +80,7 @@ impl<R: MemoryReplica> World<R> {
         result
     }
 
-    /// Events happen in order, up to the first that is refused. Whatever happens, what `apply` promises holds.
+    /// Events happen in order, up to the first that is rejected. Whatever happens, what `apply` promises holds.
     pub fn run(&mut self, events: &[Event]) -> RunEnd
         ensures runs { Runs R.behaves self.old events.now result self.new }
         ensures grows { Grows self.old self.new }
@@ -104,7 +105,7 @@ impl<R: MemoryReplica> World<R> {
         &self.parts.sent
     }
 
-    /// How the last event that was done ended a node, if it did. A fault has the number 7, 9 or 11.
+    /// How the last event ended a node, if it did. A fault has the number 7, 9 or 11.
     pub fn last_end(&self) -> Option<End>
         ensures is { result ≡ self.now.ended }
         ensures told { IsToldEnd result }
@@ -112,7 +113,7 @@ impl<R: MemoryReplica> World<R> {
         self.parts.ended
     }
 
-    /// How many bytes the disks A and B of this node have, synced or not, or `None` where it was never started.
+    /// How many bytes the disks A and B of this node have, synced or not, or `None` if it was never started.
     pub fn lengths(&self, node: NodeNo) -> Option<(usize, usize)>
         ensures some { IfSome result (λ l. (k : ℕ) × (s : SeatValue R) × At self.now.seats k s × (s.number ≡ node)
             × (l.0 ≡ length (contents (disks_of (disks_by R.behaves) s.life A))) × (l.1 ≡ length (contents (disks_of (disks_by R.behaves) s.life B)))) }
@@ -138,7 +139,7 @@ impl<R: MemoryReplica> World<R> {
         all_left(alloc, seats)
     }
 
-    /// What is promised of every world holds of this one. It does nothing.
+    /// What is promised of every world holds of this one. The function does nothing.
     pub fn facts(&self)
         ensures promised { Promises R.behaves R.whole R.meaning self.now }
     {

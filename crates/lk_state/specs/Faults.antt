@@ -1,4 +1,4 @@
--- The numbers of the refusals of `unpack`.
+-- The numbers of the errors of `unpack`.
 use Rattle.std.specs.Prelude.{ℕ}
 use Rattle.lk_state.specs.declared.machine.UnpackFault.{UnpackFault}
 use Rattle.lk_state.specs.declared.machine.UnpackFault.TheVariants as fault

@@ -4,18 +4,18 @@ use Rattle.lk_types.specs.Ranges.{IsClient}
 use Rattle.lk_types.specs.Answers.{IsAnswer}
 use Rattle.lk_types.specs.declared.answer.Answer.{Answer}
 
--- what a request asks of the machine: that it run the body, or that it be raised
+-- a machine's tasks: to execute the body, or to be raised
 pub data Task : Type 0 where
   Running : List ℕ → Task
   Raising : Task
 
--- the text of a machine that has run nothing, the text after a task of a client, and what the client is answered
+-- the text of a machine that has executed nothing, the text after a task of a client, and the answer to the client
 pub record Meaning : Type 0 where
   pub first : List ℕ
   pub next : ℕ → Task → List ℕ → List ℕ
   pub answer : ℕ → Task → List ℕ → Answer
 
--- it begins as a text, a text stays one, and what is answered is in its range
+-- it begins as a text, a text stays one, and each answer is in its range
 pub record KeepsTexts (IsText : List ℕ → Type 0) (m : Meaning) : Type 0 where
   pub first : IsText m.first
   pub next : (client : ℕ) (task : Task) (before : List ℕ) → IsClient client → IsText before → IsText (m.next client task before)

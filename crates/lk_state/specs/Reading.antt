@@ -1,4 +1,4 @@
--- Reading the front of a packed state: all but the machine's text.
+-- Reading the start of a packed state: everything before the machine's text.
 use Rattle.std.specs.Prelude.{ℕ, nat_le, List, Option}
 use Rattle.lk_types.specs.declared.member.Member.{Member}
 use Rattle.lk_types.specs.Rosters.{members_rise}

@@ -1,4 +1,4 @@
--- One command more.
+-- One more command.
 use Rattle.std.specs.Prelude.{ℕ, Bool, true, false, ◌==◌, nat_lt, if◌then◌else◌, Option, Some, None, List}
 use Rattle.std.specs.Option.{option_map}
 use Rattle.lk_types.specs.declared.answer.Answer.{Answer}
@@ -11,16 +11,16 @@ use Rattle.lk_state.specs.States.{WholeValue, next_text, op_answer}
 use Rattle.lk_state.specs.declared.whole.Seen.{Seen}
 use Rattle.lk_state.specs.declared.whole.Seen.TheVariants as seen
 
--- the request that the command is, where it takes effect after these sessions
+-- the request of the command, if it takes effect after these sessions
 abbrev pub in_effect_now : List Session → Command → Option RequestValue
 in_effect_now sessions Noop = None
 in_effect_now sessions (Request r) = if is_new (session_of r.client sessions) r.number then Some r else None
 
--- what it is answered
+-- its answer
 abbrev pub session_for : Meaning → WholeValue → RequestValue → Session
 session_for m w r = record { client = r.client; number = r.number; answer = op_answer m (newest_roster w.roster) w.text r.client r.op }
 
--- one position on, with a request that takes effect or with none
+-- one position further, with a request that takes effect or with none
 abbrev pub served_by : Meaning → WholeValue → Option RequestValue → WholeValue
 served_by m w None = record { roster = moved_unchanged w.roster; sessions = w.sessions; text = w.text }
 served_by m w (Some r) =
@@ -30,11 +30,11 @@ served_by m w (Some r) =
       text = next_text m w.text r.client r.op;
     }
 
--- what stands after the command
+-- the state after the command
 abbrev pub ran : Meaning → Command → WholeValue → WholeValue
 ran m command w = served_by m w (in_effect_now w.sessions command)
 
--- what the command is answered, where it takes effect
+-- the answer to the command, if it takes effect
 abbrev pub run_answer : Meaning → Command → WholeValue → Option Answer
 run_answer m command w = option_map (λ r. (session_for m w r).answer) (in_effect_now w.sessions command)
 
@@ -44,12 +44,12 @@ is_table (Join node port) = false
 is_table (Leave node) = false
 is_table Raise = false
 
--- only a body that the machine runs may need memory
+-- only a body that the machine executes may need memory
 abbrev pub is_body : Option RequestValue → Bool
 is_body None = false
 is_body (Some r) = is_table r.op
 
--- where a request stands to its client's last one
+-- the place of a request relative to its client's last one
 abbrev pub seen_as : Option Session → ℕ → Seen
 seen_as None number = seen.New
 seen_as (Some s) number =

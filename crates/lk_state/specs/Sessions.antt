@@ -1,4 +1,4 @@
--- What is kept of each client: its last request that took effect, and what that was answered.
+-- What is kept of each client: its last request that took effect, and the answer.
 pub use Rattle.lk_state.specs.declared.session.Session.{Session}
 use Rattle.std.specs.Prelude.{ℕ, Bool, true, false, ◌&&◌, ◌==◌, nat_lt, if◌then◌else◌, Option, Some, None, List, [], ◌∷◌, find, IsTrue}
 use Rattle.std.specs.List.{AllByRecursion}
@@ -9,7 +9,7 @@ use Rattle.lk_types.specs.Answers.{IsAnswer}
 abbrev pub session_of : ℕ → List Session → Option Session
 session_of client sessions = find (λ s. s.client == client) sessions
 
--- the session, where it is the client's
+-- the session, if it is the client's
 abbrev pub own : ℕ → Option Session → Option Session
 own client None = None
 own client (Some s) = if s.client == client then Some s else None
@@ -24,7 +24,7 @@ abbrev pub is_new : Option Session → ℕ → Bool
 is_new None number = true
 is_new (Some s) number = nat_lt s.number number
 
--- the sessions with s in the place of an older one of its client
+-- the sessions with s in place of an older one of its client
 abbrev pub with_session : Session → List Session → List Session
 with_session s [] = s ∷ []
 with_session s (t ∷ sessions) =

@@ -1,4 +1,4 @@
--- What stands once a list was run, and what each request of it is answered.
+-- The state after a list, and the answer to each request of it.
 use Rattle.std.specs.Prelude.{◌≡◌, ℕ, ◌&&◌, ◌==◌, if◌then◌else◌, Option, Some, None, List, [], fold, find}
 use Rattle.std.specs.List.{filter_map}
 use Rattle.std.specs.Option.{option_map}
@@ -9,14 +9,14 @@ use Rattle.lk_members.specs.Windows.{RosterValue, roster_after}
 use Rattle.lk_state.specs.Meanings.{Meaning, Running, Raising}
 use Rattle.lk_state.specs.Sessions.{Session, with_session}
 
--- the machine's text after an op: joins and leaves are none of its own
+-- the machine's text after an op: joins and leaves are not its tasks
 abbrev pub next_text : Meaning → List ℕ → ℕ → Op → List ℕ
 next_text m text client (Table body) = m.next client (Running body) text
 next_text m text client (Join node port) = text
 next_text m text client (Leave node) = text
 next_text m text client Raise = m.next client Raising text
 
--- what an op is answered by a roster and a machine
+-- the answer of a roster and a machine to an op
 abbrev pub op_answer : Meaning → PlainRoster → List ℕ → ℕ → Op → Answer
 op_answer m roster text client (Table body) = m.answer client (Running body) text
 op_answer m roster text client (Join node port) = join_answer roster node
@@ -32,7 +32,7 @@ abbrev pub session_in : Meaning → PlainRoster → List ℕ → Option RequestV
 session_in m roster text None = None
 session_in m roster text (Some q) = Some (record { client = q.client; number = q.number; answer = op_answer m roster text q.client q.op })
 
--- what an entry is answered at its place, where it takes effect
+-- the answer to an entry at its place, if it takes effect
 abbrev pub served : Meaning → Genesis → Placed → Option Session
 served m genesis p = session_in m (roster_of genesis p.before) (text_of m p.before) (in_effect p.before p.entry)
 
@@ -40,11 +40,11 @@ served m genesis p = session_in m (roster_of genesis p.before) (text_of m p.befo
 unfoldable pub ledger : Meaning → Genesis → List Command → List Session
 ledger m genesis L = filter_map (λ p. served m genesis p) (placed L)
 
--- what the client's request of this number is answered at the place where it takes effect, none where it does nowhere
+-- the answer to the client's request of this number at the place where it takes effect; none if it never does
 abbrev pub reply : Meaning → Genesis → List Command → ℕ → ℕ → Option Answer
 reply m genesis L client number = option_map (λ s. s.answer) (find (λ s. s.client == client && s.number == number) (ledger m genesis L))
 
--- what the request is answered, none where there is none
+-- the answer to the request; none if there is none
 abbrev pub reply_of : Meaning → Genesis → List Command → Option RequestValue → Option Answer
 reply_of m genesis L None = None
 reply_of m genesis L (Some r) = reply m genesis L r.client r.number
@@ -63,7 +63,7 @@ pub record WholeValue : Type 0 where
   pub sessions : List Session
   pub text : List ℕ
 
--- what stands once the list was run
+-- the roster after the list is executed
 unfoldable pub whole_after : Meaning → Genesis → List Command → WholeValue
 whole_after m genesis L = record { roster = roster_after genesis L; sessions = sessions_of m genesis L; text = text_of m L }
 

@@ -1,4 +1,4 @@
-//! Laws of the definitions alone.
+//! Laws about the definitions alone.
 ghost use Rattle.std.specs.Prelude.{◌≡◌, ◌≤◌, ◌++◌, if◌then◌else◌, true, Some, None, List, length, ℕ, Contains};
 ghost use Rattle.std.specs.List.{list_all, AllByRecursion};
 ghost use Rattle.lk_types.specs.Limits.{max_count};
@@ -14,7 +14,7 @@ ghost use Rattle.lk_state.specs.Packed.{IsWhole};
 
 use crate::machine::Machine;
 
-/// A request takes effect after a list exactly where its number is above that of its client's last one that takes effect.
+/// A request takes effect after a list exactly if its number is above that of its client's last one that takes effect.
 pub fn takes_effect_above_last()
     ensures { (m : Meaning) (genesis : Genesis) (L : List Command) (r : RequestValue) → in_effect L (Request r) ≡ (if is_new (last_served m genesis L r.client) r.number then Some r else None) }
 {}
@@ -29,17 +29,17 @@ pub fn none_is_unused()
     ensures { (m : Meaning) (genesis : Genesis) (L : List Command) (client : ℕ) → last_served m genesis L client ≡ None → list_all (is_of_another client) L ≡ true }
 {}
 
-/// What a client's last request that takes effect was answered is its reply.
+/// The answer of a client's last request that takes effect is its reply.
 pub fn last_is_replied()
     ensures { (m : Meaning) (genesis : Genesis) (L : List Command) (client : ℕ) (s : Session) → last_served m genesis L client ≡ Some s → reply m genesis L client s.number ≡ Some s.answer }
 {}
 
-/// A reply is what an entry that takes effect gets at its place.
+/// A reply is the answer that an entry that takes effect gets at its place.
 pub fn replies_stand()
     ensures { (m : Meaning) (genesis : Genesis) (L : List Command) (client number : ℕ) (a : Answer) → reply m genesis L client number ≡ Some a → (p : Placed) × Contains (placed L) p × (served m genesis p ≡ Some (record { client = client; number = number; answer = a })) }
 {}
 
-/// What an entry that takes effect is answered at its place is the reply of its client's number.
+/// The answer that an entry gets at its place is the reply of its client's number.
 pub fn one_reply()
     ensures { (m : Meaning) (genesis : Genesis) (L : List Command) (p : Placed) (s : Session) → Contains (placed L) p → served m genesis p ≡ Some s → reply m genesis L s.client s.number ≡ Some s.answer }
 {}
@@ -54,7 +54,7 @@ pub fn sessions_are_last()
     ensures { (m : Meaning) (genesis : Genesis) (L : List Command) (s : Session) → Contains (sessions_of m genesis L) s → last_served m genesis L s.client ≡ Some s }
 {}
 
-/// What stands once a list in range was run may be held, and so packed and unpacked again.
+/// The state after a list in range may be held, and so packed and unpacked again.
 pub fn states_fit<M: Machine>()
     ensures { (genesis : Genesis) (L : List Command) → IsGenesis genesis → AllByRecursion IsCommand L → length L ≤ max_count → IsWhole M.IsText (whole_after M.meaning genesis L) }
 {}

@@ -10,13 +10,13 @@ use lk_types::{Answer, ClientNo, NoMemory};
 use std::alloc::{AllocError, AllocFailed, Global};
 use thiserror::Error;
 
-/// Why a packed text was not unpacked.
+/// Why a text does not unpack.
 #[derive(Clone, Copy, Debug, PartialEq, Eq, Error)]
 pub enum UnpackFault {
     /// The bytes are no packed text.
     #[error("not packed")]
     NotPacked = 12,
-    /// Memory was refused.
+    /// Out of memory.
     #[error("no memory")]
     NoMemory = 13,
 }
@@ -52,7 +52,7 @@ impl<T: Drop> From<AllocFailed<T>> for UnpackFault {
 }
 
 impl UnpackFault {
-    /// The number of this refusal.
+    /// The number of this fault.
     pub fn number(self) -> u8
         ensures { result ≡ unpack_number self }
     {
@@ -60,7 +60,7 @@ impl UnpackFault {
     }
 }
 
-/// A state that the bodies of requests change. Its meaning stands over its packed texts: two machines of one text give
+/// A state that the bodies of requests change. It means what its packed text means: two machines with one text give
 /// the same answers for ever.
 pub trait Machine: Sized + Drop {
     // the packed text of a machine
@@ -69,31 +69,31 @@ pub trait Machine: Sized + Drop {
     // which bytes are packed texts
     ghost IsText: { List ℕ → Type 0 };
 
-    // the text of a machine that has run nothing, the text after a task of a client, and what the client is answered
+    // the text of a machine that has executed nothing, the text after a task of a client, and the answer to the client
     ghost meaning: { Meaning };
 
-    /// A machine that has run nothing. It takes no memory.
+    /// A machine that has executed nothing. Takes no memory.
     fn begin(alloc: Global) -> Self
         ensures { text result ≡ meaning.first };
 
-    /// Runs the body of a client's request and answers it.
+    /// Executes the body of a client's request and returns the answer.
     fn apply(&mut self, client: ClientNo, body: &[u8]) -> Result<Answer, NoMemory>
         ensures ok { OnOk result (text self.new ≡ meaning.next client (Running body.now) (text self.old)) }
         ensures answer { IfOk result (λ a. a ≡ meaning.answer client (Running body.now) (text self.old)) }
         ensures err { OnErr result (text self.new ≡ text self.old) };
 
-    /// Raises the machine, and answers whether it was raised before. Who asks does not matter. It takes no memory.
+    /// Raises the machine, and returns whether it was raised before. Who asks does not matter. Takes no memory.
     fn raise(&mut self) -> Answer
         ensures next { (client : ℕ) → text self.new ≡ meaning.next client Raising (text self.old) }
         ensures answer { (client : ℕ) → result ≡ meaning.answer client Raising (text self.old) };
 
-    /// Adds the packed text, or nothing where memory is refused.
+    /// Appends the packed text, or nothing if it is out of memory.
     fn pack(&self, out: &mut BytesMut) -> Result<(), NoMemory>
         ensures ok { OnOk result (out.new.items ≡ out.old.items ++ text self.now) }
         ensures err { OnErr result (out.new.items ≡ out.old.items) };
 
-    /// The machine of this packed text. It is not packed exactly where the bytes are no packed text; memory may be
-    /// refused in either case.
+    /// The machine of this packed text. `Bad` exactly if the bytes are no packed text; it may run out of memory in
+    /// either case.
     fn unpack(alloc: Global, bytes: &[u8]) -> Result<Self, UnpackFault>
         ensures ok { IfOk result (λ m. text m ≡ bytes.now) }
         ensures packed { OnOk result (IsText bytes.now) }
@@ -105,7 +105,7 @@ pub trait Machine: Sized + Drop {
     // a text stays one
     ghost next_is_text: { (client : ℕ) (task : Task) (before : List ℕ) → IsClient client → IsText before → IsText (meaning.next client task before) };
 
-    // what a client is answered is in its range
+    // each answer is in its range
     ghost answer_is_answer: { (client : ℕ) (task : Task) (before : List ℕ) → IsClient client → IsText before → IsAnswer (meaning.answer client task before) };
 
     // no text is long

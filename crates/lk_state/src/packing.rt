@@ -71,7 +71,7 @@ fn put_sessions(out: &mut BytesMut, sessions: &[Session]) -> Result<(), AllocErr
 }
 
 impl<M: Machine> Whole<M> {
-    /// Each part is in its range, and the packed text is not empty and short. It does nothing.
+    /// Each part is in its range, and the packed text is neither empty nor long. The function does nothing.
     pub fn facts(&self)
         ensures fits { IsWhole M.IsText self.now }
         ensures some { 1 ≤ length (packed self.now) }
@@ -80,7 +80,7 @@ impl<M: Machine> Whole<M> {
         let _ = &self.roster;
     }
 
-    /// Adds the packed text: that of equal states is the same. Where memory is refused nothing is added.
+    /// Appends the packed text: equal states have the same text. Out of memory it appends nothing.
     pub fn pack(&self, out: &mut BytesMut) -> Result<(), NoMemory>
         ensures ok { OnOk result (out.new.items ≡ out.old.items ++ packed self.now) }
         ensures err { OnErr result (out.new.items ≡ out.old.items) }

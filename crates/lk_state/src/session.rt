@@ -7,7 +7,7 @@ use arrayvec::ArrayVec;
 use lk_types::{Answer, ClientNo, Request, RequestNumber};
 use std::marker::Model;
 
-/// A client's last request that took effect, and what it was answered.
+/// A client's last request that took effect, and its answer.
 #[derive(Clone, Copy)]
 pub struct Session {
     pub client: ClientNo,
@@ -27,7 +27,7 @@ impl Session {
         }
     }
 
-    /// Each part is in its range. It does nothing.
+    /// Each part is in its range. The function does nothing.
     pub fn facts(self)
         ensures { IsSession self }
     {}
@@ -73,7 +73,7 @@ impl Sessions {
         }
     }
 
-    /// The sessions of this list, or `None` where they do not rise by client.
+    /// The sessions of this list, or `None` if they do not rise by client.
     pub(crate) fn of(list: ArrayVec<Session, 256>) -> Option<Sessions>
         ensures some { IsSome result ↔ IsTrue (are_sessions_above 0 list.items) }
         ensures value { IfSome result (λ s. s ≡ list.items) }
@@ -102,7 +102,7 @@ impl Sessions {
         own_at(sessions, place_of(sessions, client), client)
     }
 
-    /// Puts the session in place of an older one of its client.
+    /// Replaces an older session of the same client with this one.
     pub(crate) fn put(&mut self, session: &Session)
         ensures { self.new ≡ with_session session.now self.old }
     {
@@ -116,7 +116,7 @@ impl Sessions {
     }
 }
 
-/// Each part of the sessions is in its range. It does nothing.
+/// Each part of the sessions is in its range. The function does nothing.
 fn facts_of(sessions: &[Session])
     ensures { AllByRecursion IsSession sessions.now }
 {
@@ -140,7 +140,7 @@ fn are_rising(sessions: &[Session]) -> bool
     true
 }
 
-/// How many sessions of smaller clients stand in front.
+/// How many sessions of smaller clients come first.
 fn place_of(sessions: &[Session], client: ClientNo) -> usize
     requires { IsTrue (are_sessions_above 0 sessions.now) }
     ensures place { result ≡ prefix_len (λ s. nat_lt s.client client) sessions.now }
@@ -149,7 +149,7 @@ fn place_of(sessions: &[Session], client: ClientNo) -> usize
     sessions.partition_point(|session| session.client < client)
 }
 
-/// The session at this index, where it is the client's.
+/// The session at this index, if it is the client's.
 fn own_at(sessions: &[Session], index: usize, client: ClientNo) -> Option<Session>
     ensures { result ≡ own client (slice_get sessions.now index) }
 {

@@ -157,7 +157,7 @@ fn read_sessions(bytes: &[u8]) -> Option<(Sessions, &[u8])>
     Some((sessions, rest))
 }
 
-/// All that stands in front of the machine's text.
+/// Everything before the machine's text.
 #[tactic(auto, unfolding(crate::specs::Reading::read_front))]
 fn read_front(bytes: &[u8]) -> Option<(Roster, Sessions, &[u8])>
     ensures { Finds (λ x. ((x.0, x.1), x.2.now)) result (read_front bytes.now) }
@@ -176,8 +176,7 @@ impl<M: Machine> Whole<M> {
     ghost use Rattle.lk_state.specs.States.{WholeValue};
     ghost use Rattle.lk_state.specs.Packed.{Packs};
 
-    /// The state that the bytes pack. They are not packed exactly where they pack none; memory may be refused in either
-    /// case.
+    /// The state that the bytes pack. It fails exactly if they pack none; it may run out of memory in either case.
     pub fn unpack(alloc: Global, bytes: &[u8]) -> Result<Whole<M>, UnpackFault>
         ensures ok { IfOk result (λ w. Packs M.IsText w bytes.now) }
         ensures only { (w : WholeValue) → Packs M.IsText w bytes.now → (result ≡ Ok w) ⊎ (result ≡ Err UnpackFault.NoMemory) }

@@ -11,19 +11,19 @@ use lk_types::{
 use std::alloc::Global;
 use std::marker::Model;
 
-/// Where a request stands to the last one of its client that took effect.
+/// The place of a request relative to the last one of its client that took effect.
 #[derive(Clone, Copy)]
 pub enum Seen {
     /// Its number is above the client's last one.
     New,
-    /// It has the number of the client's last one, which was answered so.
+    /// It has the number of the client's last one, which got this answer.
     Same(Answer),
     /// The client's last number, which is above it.
     Passed(RequestNumber),
 }
 
 impl Seen {
-    /// Where a number stands to its client's last request that took effect.
+    /// The place of a number relative to its client's last request that took effect.
     pub fn of(last: Option<Session>, number: RequestNumber) -> Seen
         ensures { result ≡ seen_as last number }
     {
@@ -40,16 +40,16 @@ impl Seen {
     }
 }
 
-/// A command was executed.
+/// The result of a command.
 #[derive(Clone, Copy)]
 pub struct Ran {
     /// The position of the command.
     pub position: Position,
-    /// What its request is answered, where it took effect.
+    /// The answer to its request, if it took effect.
     pub answer: Option<Answer>,
 }
 
-/// What the list of commands makes: the roster, each client's last request that took effect, and a machine.
+/// The result of the list of commands: the roster, each client's last request that took effect, and a machine.
 #[derive(Drop)]
 pub struct Whole<M: Machine> {
     pub(crate) alloc: Global,
@@ -80,7 +80,7 @@ impl<M: Machine> Whole<M> {
     ghost use Rattle.lk_state.specs.States.{SumsUp, next_text, op_answer, reply_of, last_served};
     ghost use Rattle.lk_state.specs.Runs.{in_effect_now, served_by, ran, run_answer, is_table, is_body, seen_as};
 
-    /// What stands before any command is executed. It takes no memory.
+    /// The state before any command. Takes no memory.
     pub fn begin(alloc: Global, genesis: &Genesis) -> Whole<M>
         ensures { SumsUp M.meaning genesis.now [] result }
     {
@@ -122,7 +122,7 @@ impl<M: Machine> Whole<M> {
         &self.machine
     }
 
-    /// Where a request of this client stands to its last one that took effect.
+    /// The place of a request of this client relative to its last one that took effect.
     pub fn seen(&self, client: ClientNo, number: RequestNumber) -> Seen
         ensures value { result ≡ seen_as (session_of client self.now.sessions) number }
         ensures last { (genesis : Genesis) (L : List Command) → SumsUp M.meaning genesis L self.now → result ≡ seen_as (last_served M.meaning genesis L client) number }
@@ -140,7 +140,7 @@ impl<M: Machine> Whole<M> {
         }
     }
 
-    /// Executes the next command of the list. Only a body that the machine runs may need memory; a refused call
+    /// Executes the next command of the list. Only a body that the machine executes may need memory; a failed call
     /// changes nothing.
     pub fn run(&mut self, command: &Command) -> Result<Ran, NoMemory>
         requires { self.old.roster.executed < max_count }
@@ -150,7 +150,7 @@ impl<M: Machine> Whole<M> {
         ensures err { OnErr result (self.new ≡ self.old) }
         ensures free { is_body (in_effect_now self.old.sessions command.now) ≡ false → IsOk result }
 
-        // After a list that it sums up it sums up the list with the command at its end, and tells the reply.
+        // If it sums up a list, it then sums up the list with the command at its end, and returns the reply.
         ensures sums { (genesis : Genesis) (L : List Command) → SumsUp M.meaning genesis L self.old
             → OnOk result (SumsUp M.meaning genesis (L ++ command.now ∷ []) self.new) }
         ensures reply { (genesis : Genesis) (L : List Command) → SumsUp M.meaning genesis L self.old
@@ -169,7 +169,7 @@ impl<M: Machine> Whole<M> {
         Position::of(self.executed().get() + 1).unwrap()
     }
 
-    /// One position on with a command, and what it is answered where it takes effect.
+    /// Advances by one position with a command, and returns its answer if it takes effect.
     fn run_command(&mut self, command: &Command) -> Result<Option<Answer>, NoMemory>
         requires { self.old.roster.executed < max_count }
         ensures ok { OnOk result (self.new ≡ ran M.meaning command.now self.old) }
@@ -186,7 +186,7 @@ impl<M: Machine> Whole<M> {
         }
     }
 
-    /// One position on with an op that takes effect, and what it is answered.
+    /// Executes an op that takes effect, advancing by one position, and returns its answer.
     fn run_op(&mut self, client: ClientNo, op: &Op) -> Result<Answer, NoMemory>
         requires { self.old.roster.executed < max_count }
         ensures ok { OnOk result (self.new ≡ record { roster = changed_by op.now self.old.roster; sessions = self.old.sessions; text = next_text M.meaning self.old.text client op.now }) }
@@ -216,7 +216,7 @@ impl<M: Machine> Whole<M> {
         }
     }
 
-    /// One position on with a request, and what it is answered where it takes effect.
+    /// Advances by one position with a request, and returns its answer if it takes effect.
     fn run_request(&mut self, request: &Request) -> Result<Option<Answer>, NoMemory>
         requires { self.old.roster.executed < max_count }
         ensures ok { OnOk result (self.new ≡ ran M.meaning (Command.Request request.now) self.old) }
@@ -234,7 +234,7 @@ impl<M: Machine> Whole<M> {
         Ok(Some(session.answer))
     }
 
-    /// One position on with nothing that takes effect.
+    /// Advances by one position with nothing that takes effect.
     fn pass(&mut self)
         requires { self.old.roster.executed < max_count }
         ensures { self.new ≡ served_by M.meaning self.old None }

@@ -24,7 +24,8 @@ up (m ∷ ms) rs = if has_answered m.node rs then suc (up ms rs) else up ms rs
 abbrev pub has_majority : Report → List Report → Bool
 has_majority r rs = nat_lt (length r.status.members) (2 * up r.status.members rs)
 
--- the cluster is served: somebody leads, a majority of the members of its next position report, and nobody tells another genesis
+-- the cluster is served: somebody leads, a majority of the members of its next position report, and nobody tells
+-- another genesis
 pub record IsServed (rs : List Report) : Type 0 where
   pub leader : Report
   pub is_there : IsAmong leader rs

@@ -3,8 +3,8 @@ ghost use Rattle.lk_status.specs.Rounds.{IsOfRound, AreOfRound};
 
 use crate::target::{Inquiry, report_with};
 use lk_probe::Report;
-use lk_transport::receive_buffer::ReceiveBuffer;
 use lk_transport::fault::ServiceFault;
+use lk_transport::receive_buffer::ReceiveBuffer;
 use lk_transport::socket::DatagramSocket;
 use std::alloc::Global;
 

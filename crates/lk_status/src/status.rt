@@ -12,8 +12,8 @@ use crate::target::Inquiry;
 use crate::verdict::{is_ready, is_served, leader_in};
 use crate::why::write_why;
 use lk_probe::Report;
-use lk_transport::receive_buffer::ReceiveBuffer;
 use lk_transport::fault::ServiceFault;
+use lk_transport::receive_buffer::ReceiveBuffer;
 use lk_transport::socket::DatagramSocket;
 use std::alloc::Global;
 use std::io;
@@ -33,7 +33,8 @@ pub enum Form {
     Prometheus,
 }
 
-/// What is asked, how it is printed, and how many seconds are waited until all are ready, 0 where that is not asked for.
+/// What is asked, how it is printed, and how many seconds are waited until all are ready, 0 where that is not asked
+/// for.
 #[derive(Drop)]
 pub struct Plan {
     pub inquiry: Inquiry,
@@ -86,8 +87,8 @@ fn is_at(goal: Option<u64>, inquiry: &Inquiry, reports: &[Report]) -> bool {
     }
 }
 
-/// Asks again and again until all targets report that they have executed what the leader had when it was first heard of, or
-/// until so many receives brought nothing. The last round.
+/// Asks again and again until all targets report that they have executed what the leader had when it was first heard
+/// of, or until so many receives brought nothing. The last round.
 fn wait_until_ready<S: DatagramSocket>(
     alloc: Global,
     socket: &mut S,
@@ -128,7 +129,11 @@ fn ask_once<S: DatagramSocket>(
 }
 
 /// Asks as the plan says.
-fn round_of<S: DatagramSocket>(alloc: Global, socket: &mut S, plan: &Plan) -> Result<Round, ServiceFault>
+fn round_of<S: DatagramSocket>(
+    alloc: Global,
+    socket: &mut S,
+    plan: &Plan,
+) -> Result<Round, ServiceFault>
     ensures { IfOk result (λ r. AreOfRound plan.now.inquiry r.first r.reports.items) }
 {
     if plan.seconds > 0 {
@@ -156,8 +161,8 @@ fn ask_and_print<S: DatagramSocket, W: Write>(
     }
 }
 
-/// Asks all targets what they tell of themselves, and prints that. The status is 0 where the cluster is served, and ready
-/// where that was waited for; else, and where a fault is told on standard error, it is 1.
+/// Asks all targets what they tell of themselves, and prints that. The status is 0 where the cluster is served, and
+/// ready where that was waited for; else, and where a fault is told on standard error, it is 1.
 pub fn status<S: DatagramSocket, W: Write, E: Write>(
     alloc: Global,
     socket: &mut S,

@@ -2,9 +2,9 @@
 
 ghost use Rattle.std.specs.Prelude.{◌≡◌, None};
 
+use lk_client::destination::Destination;
 use lk_probe::{Probe, Report};
 use lk_transport::fault::ServiceFault;
-use lk_client::destination::Destination;
 use lk_types::{ClientNo, NodeNo, Port};
 use lk_words::member::member_of;
 use lk_words::operation::port_of;
@@ -80,7 +80,8 @@ impl Inquiry {
         SocketAddr::from((known.unwrap_or(self.destination.address), target.port.get()))
     }
 
-    /// The address from which it is asked: any of this machine in the family of the targets, or loopback where they all are there.
+    /// The address from which it is asked: any of this machine in the family of the targets, or loopback where they
+    /// all are there.
     pub fn own_address(&self) -> IpAddr {
         for target in self.targets.as_slice() {
             let address = self.place_of(target).ip();

@@ -3,7 +3,7 @@ use Rattle.std.specs.Prelude.{Bool, true, false}
 use Rattle.lk_wire.specs.declared.message.NodeMessage.{NodeMessage}
 use Rattle.lk_wire.specs.declared.message.NodeMessage.TheVariants as kinds
 
--- a reply of an acceptor that is no refusal
+-- a reply of an acceptor that is no rejection
 abbrev pub is_granted : NodeMessage → Bool
 is_granted (kinds.Nack k) = false
 is_granted _ = true

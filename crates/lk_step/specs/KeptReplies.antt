@@ -1,4 +1,4 @@
--- What a client is told of a request that is not new.
+-- The reply to a client's request that is not new.
 use Rattle.std.specs.Prelude.{ℕ, nat_lt, if◌then◌else◌, Option, Some, None}
 use Rattle.lk_wire.specs.declared.message.NodeMessage.{NodeMessage}
 use Rattle.lk_wire.specs.declared.message.NodeMessage.TheVariants.{Answer, Passed}
@@ -6,7 +6,7 @@ use Rattle.lk_state.specs.declared.session.Session.{Session}
 use Rattle.lk_state.specs.declared.whole.Seen.{Seen}
 use Rattle.lk_state.specs.declared.whole.Seen.TheVariants as seen
 
--- the number of the client's last request gets the answer that is kept, a smaller one the last number, and a new one nothing
+-- the number of the client's last request gets the stored answer, a smaller one the last number, and a new one nothing
 abbrev pub kept_reply : ℕ → ℕ → Seen → Option NodeMessage
 kept_reply client number seen.New = None
 kept_reply client number (seen.Same answer) = Some (Answer (record { client = client; number = number; answer = answer }))
@@ -14,8 +14,8 @@ kept_reply client number (seen.Passed last) =
     if nat_lt number last then Some (Passed (record { client = client; number = number; last = last }))
     else None
 
--- what the waiting request of this number is told, once the session's was executed: where it is that one its answer, where
--- it is smaller the number that passed it
+-- the reply to the waiting request of this number, after the session's was executed: if it is that one, its answer; if
+-- it is smaller, the number that passed it
 abbrev pub told : Session → ℕ → NodeMessage
 told s number =
     if nat_lt number s.number then Passed (record { client = s.client; number = number; last = s.number })

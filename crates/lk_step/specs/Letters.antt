@@ -6,20 +6,20 @@ use Rattle.lk_history.specs.Datagrams.{Datagram}
 use Rattle.lk_step.specs.declared.to.To.{To}
 use Rattle.lk_step.specs.declared.to.To.TheVariants as to
 
--- for whom it is bound, and its bytes
+-- the recipient, and the bytes
 pub record LetterValue : Type 0 where
   pub to : To
   pub bytes : List ℕ
 
--- who that is
+-- the recipient without its port
 abbrev pub party_of : To → Party
 party_of (to.Node n port) = party.Node n
 party_of (to.Client c) = party.Client c
 
--- the datagram that a letter of the node is
+-- the datagram of a node's letter
 abbrev pub datagram_of : ℕ → LetterValue → Datagram
 datagram_of n l = record { from = party.Node n; to = party_of l.to; bytes = l.bytes }
 
--- those that letters of the node are, in order
+-- those of a node's letters, in order
 abbrev pub batch_of : ℕ → List LetterValue → List Datagram
 batch_of n letters = map (datagram_of n) letters

@@ -1,12 +1,12 @@
--- What a contract sees of what a step comes to.
+-- What a contract sees of the result of a step.
 use Rattle.std.specs.Prelude.{Bool, true, false, ◌||◌, Option, Some, None, List, [], ◌∷◌, ◌++◌}
 use Rattle.lk_types.specs.declared.entry.Entry.{Entry}
 use Rattle.lk_types.specs.declared.entry.Entry.TheVariants.{Promise, Vote, Decided}
 use Rattle.lk_step.specs.Letters.{LetterValue}
 use Rattle.lk_step.specs.declared.note.Note.{Note}
 
--- whether the store is rebased on what the node then holds, in place of putting the entries, the entries to write, whether they
--- are synced before anything is sent, what is noted, and what is sent, in order
+-- whether the store is rebased to what the node then holds, in place of the entries, the entries to write, whether
+-- they are synced before anything is sent, the notes, and the letters, in order
 pub record OutboxValue : Type 0 where
   pub rebase : Bool
   pub entries : List Entry
@@ -25,7 +25,7 @@ with_rebase o = record { rebase = true; entries = o.entries; sync = o.sync; note
 abbrev pub with_letter : LetterValue → OutboxValue → OutboxValue
 with_letter l o = record { rebase = o.rebase; entries = o.entries; sync = o.sync; notes = o.notes; letters = o.letters ++ l ∷ [] }
 
--- with these letters more
+-- with these letters added
 abbrev pub with_letters : List LetterValue → OutboxValue → OutboxValue
 with_letters ls o = record { rebase = o.rebase; entries = o.entries; sync = o.sync; notes = o.notes; letters = o.letters ++ ls }
 

@@ -1,8 +1,8 @@
-/// What a node is given.
+/// The input of a node.
 #[derive(Drop)]
 pub enum Input<'a> {
     /// Some time has passed.
     Tick,
-    /// A datagram has come. It may be any bytes.
+    /// A datagram has arrived. It may be any bytes.
     Datagram(&'a [u8]),
 }

@@ -1,7 +1,7 @@
 use crate::to::To;
 use std::marker::Model;
 
-/// What a node sends: for whom it is bound, and its bytes.
+/// A letter of a node: its recipient, and its bytes.
 #[derive(Drop)]
 pub struct Letter {
     pub to: To,

@@ -1,5 +1,5 @@
-//! What a step of a node takes and gives: a tick or a datagram, and the entries, the notes and the letters that come of it. With
-//! them the values and the questions of a step that need no node.
+//! The input and the output of a node's step: a tick or a datagram, and the resulting entries, notes and letters. Also
+//! the values and functions of a step that need no node.
 #![tactic(auto)]
 
 mod input;

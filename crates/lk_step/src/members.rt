@@ -1,4 +1,4 @@
-// The nodes of a set, and whether a node is among some.
+// The nodes of a set, and whether a node is among them.
 ghost use Rattle.std.specs.Prelude.{◌≡◌, ◌==◌, IfOk};
 ghost use Rattle.std.specs.List.{list_any};
 ghost use Rattle.lk_step.specs.Members.{nodes_of};

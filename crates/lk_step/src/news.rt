@@ -6,7 +6,7 @@ use lk_types::{Command, NoMemory, Position};
 use lk_wire::{Decided, NodeMessage};
 use std::alloc::Global;
 
-/// That one command is decided at the position.
+/// One command is decided at the position.
 pub fn news_of(
     alloc: Global,
     position: Position,

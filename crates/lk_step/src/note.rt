@@ -1,6 +1,6 @@
 use lk_types::{Answer, ClientNo, Command, Members, NodeNo, Position, Request, RequestNumber};
 
-/// A line of what has happened.
+/// A line of the trace.
 #[derive(Debug, Drop)]
 pub enum Note {
     /// A client asked.

@@ -7,9 +7,9 @@ use lk_types::{Entry, NoMemory};
 use std::alloc::Global;
 use std::marker::Model;
 
-/// What a step comes to: entries to write, and whether they are synced before anything is sent, what is noted, and
-/// what is sent, in order. Where it says so the store is rebased on what the node then holds, before anything is sent, and the
-/// entries are not put.
+/// The result of a step: the entries to write, whether they are synced before anything is sent, the notes, and the
+/// letters, in order. If it says so, the store is rebased to what the node then holds, before anything is sent, and
+/// the entries are not written.
 #[derive(Drop)]
 pub struct Outbox {
     pub rebase: bool,
@@ -41,7 +41,7 @@ impl Outbox {
         }
     }
 
-    /// One more entry. A promise or a vote is synced, and with it all that is written.
+    /// One more entry. A promise or a vote is synced, together with everything that is written.
     pub fn write(&mut self, entry: Entry) -> Result<(), NoMemory>
         ensures { OnOk result (self.new ≡ with_entry entry self.old) }
     {
@@ -69,7 +69,7 @@ impl Outbox {
 }
 
 impl Outbox {
-    /// These letters more.
+    /// Adds these letters.
     pub fn post(&mut self, letters: Vec<Letter>) -> Result<(), NoMemory>
         ensures { OnOk result (self.new ≡ with_letters letters.items self.old) }
     {

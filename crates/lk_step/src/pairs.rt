@@ -1,4 +1,4 @@
-// Decided pairs, and at which position each command of some lies.
+// Decided pairs, and the positions of some commands.
 ghost use Rattle.std.specs.Prelude.{◌≡◌, ◌+◌, ◌≤◌, IfOk};
 ghost use Rattle.lk_types.specs.Limits.{max_count};
 
@@ -17,7 +17,7 @@ pub fn copied(alloc: Global, pairs: &[Pair]) -> Result<Vec<(Position, Command)>,
     Ok(copies)
 }
 
-/// The position that lies so far after the first.
+/// The position this far after the first.
 pub fn position_behind(first: Position, offset: usize) -> Position
     requires { first + offset ≤ max_count }
     ensures { result ≡ first + offset }

@@ -1,4 +1,4 @@
-// What an acceptor replies, and what a client is told of a request that is not new.
+// An acceptor's reply, and the reply to a client's request that is not new.
 ghost use Rattle.std.specs.Prelude.{◌≡◌, ◌≤◌};
 ghost use Rattle.lk_step.specs.Grants.{is_granted};
 ghost use Rattle.lk_step.specs.KeptReplies.{kept_reply, told};
@@ -14,8 +14,8 @@ pub fn is_granted(reply: &NodeMessage) -> bool
     !matches!(reply, NodeMessage::Nack(_))
 }
 
-/// What a client's request of this number is told, by where it stands to the client's last one: the answer that is kept, or
-/// the number that passed it. Nothing where it is new.
+/// The reply to a client's request of this number, by its place relative to the client's last one: the stored answer,
+/// or the number that passed it. None if it is new.
 pub fn kept_reply(client: ClientNo, number: RequestNumber, seen: Seen) -> Option<NodeMessage>
     ensures { result ≡ kept_reply client number seen }
 {
@@ -33,7 +33,7 @@ pub fn kept_reply(client: ClientNo, number: RequestNumber, seen: Seen) -> Option
     }
 }
 
-/// What the client's waiting request of this number is told, once the session's was executed.
+/// The reply to the client's waiting request of this number, after the session's was executed.
 pub fn told(session: Session, number: RequestNumber) -> NodeMessage
     requires { number ≤ session.number }
     ensures { result ≡ told session number }

@@ -3,7 +3,8 @@ ghost use Rattle.std.specs.Prelude.{◌≡◌, max};
 
 use std::marker::Model;
 
-/// The greatest round of a ballot that was seen in a refusal, a proposal or a leader's notice: 0 to 2^48, 0 where none was.
+/// The greatest round of a ballot that was seen in a rejection, a proposal or a leader's notice: 0 to 2^48, 0 if there
+/// was none.
 #[derive(Clone, Copy)]
 pub struct SeenRound {
     round: u64,
@@ -27,7 +28,7 @@ impl SeenRound {
         SeenRound { round: 0 }
     }
 
-    /// A round was seen.
+    /// Records a round.
     pub fn see(&mut self, round: u64)
         ensures { self.new ≡ max self.old round }
     {

@@ -1,4 +1,4 @@
-// The bytes of what a node says.
+// The bytes of a node's message.
 ghost use Rattle.std.specs.Prelude.{◌≡◌, IfOk};
 ghost use Rattle.lk_wire.specs.Grammar.{spelling, IsMessage};
 ghost use Rattle.lk_step.specs.Saying.{saying};
@@ -9,7 +9,7 @@ use lk_types::NoMemory;
 use lk_wire::{Content, Message, NodeMessage, write};
 use std::alloc::Global;
 
-/// The bytes by which a node of this header says so.
+/// The bytes of this message from a node of this header.
 pub fn spelled(alloc: Global, header: &Header, message: NodeMessage) -> Result<Vec<u8>, NoMemory>
     ensures bytes { IfOk result (λ bytes. bytes.items ≡ spelling (saying header.now message)) }
     ensures fits { IfOk result (λ bytes. IsMessage (saying header.now message)) }

@@ -4,11 +4,11 @@ ghost use Rattle.lk_step.specs.Ticks.{max_ticks};
 
 use std::marker::Model;
 
-/// So many ticks the first member waits for a leader before it begins a ballot, and each other member so many more than the
-/// one in front of it: they seldom begin at once.
+/// How many ticks the first member waits for a leader before it begins a ballot, and how many more each further member
+/// waits: they seldom begin at once.
 pub const TICKS_A_PLACE: u8 = 4;
 
-// So long waits the last of seven members, the most that there are, so no more are counted.
+// How long the last of seven members waits, the most that there are, so no more are counted.
 const MAX_TICKS: u8 = 28;
 
 /// How many ticks have passed since a leader was heard: 0 to 28, where the count stays.
@@ -37,7 +37,7 @@ impl TickCount {
         TickCount { count: 0 }
     }
 
-    /// One more tick has passed.
+    /// Counts one more tick.
     pub fn rise(&mut self)
         ensures { self.new ≡ min (self.old + 1) max_ticks }
     {

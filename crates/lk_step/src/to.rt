@@ -1,9 +1,9 @@
 use lk_types::{ClientNo, NodeNo};
 
-/// For whom a datagram is bound.
+/// The recipient of a datagram.
 #[derive(Clone, Copy)]
 pub enum To {
-    /// A node and its port; port 0 where no set of the window names the node.
+    /// A node and its port; port 0 if no set of the window names the node.
     Node(NodeNo, u16),
     Client(ClientNo),
 }

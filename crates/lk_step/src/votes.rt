@@ -1,4 +1,4 @@
-// The votes that a further file keeps.
+// The votes that another file keeps.
 ghost use Rattle.std.specs.Prelude.{◌≡◌, IfOk};
 ghost use Rattle.lk_acceptor.specs.VoteLists.{votes_above};
 

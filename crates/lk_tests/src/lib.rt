@@ -1,5 +1,5 @@
-//! Tests of the crates below the program, by what each shows to those above it. They stand here, and not in those crates,
-//! since a crate that has tests is proved twice.
+//! Tests of the crates below the program, by what each shows to those above it. They stand here, and not in those
+//! crates, since a crate that has tests is proved twice.
 #![tactic(auto)]
 
 #[cfg(test)]

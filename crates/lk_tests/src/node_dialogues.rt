@@ -88,8 +88,8 @@ const AT_LAST: [&str; 5] = [
     STATE,
 ];
 
-// 256 positions are executed, and (2, 2) is promised. The last request of client 7 that took effect has number 9, and was granted
-// fence 3.
+// 256 positions are executed, and (2, 2) is promised. The last request of client 7 that took effect has number 9, and
+// was granted fence 3.
 pub const SEEN: [&str; 5] = [
     "00000085 01 0000000000000001 02 0000000000000005 00000001 01 03 00000001 1b59 00000002 1b5a 00000003 1b5b",
     "0000000000000002 00000002 0000000000000100",
@@ -331,7 +331,8 @@ const DIALOGUES: [Dialogue; 13] = [
             ),
         ],
     ),
-    // What is wanted after the snapshot is served, to any node; a datagram of another cluster and bytes of none are nothing.
+    // What is wanted after the snapshot is served, to any node; a datagram of another cluster and bytes of none are
+    // nothing.
     (
         Start::TakenUp(&SEEN),
         &[

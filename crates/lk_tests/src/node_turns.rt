@@ -21,7 +21,7 @@ pub enum Heard<'a> {
     Said(&'a str, &'a str, &'a str),
 }
 
-/// For whom a datagram is bound.
+/// The recipient of a datagram.
 #[derive(Clone, Copy)]
 pub enum For {
     Node(u32),

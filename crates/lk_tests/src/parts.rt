@@ -72,7 +72,8 @@ const DIALOGUES: [Dialogue; 6] = [
             ),
         ],
     ),
-    // Parts come from two nodes. What does not go on what is there is dropped, and what is wanted next tells how much is.
+    // Parts come from two nodes. What does not go on what is there is dropped, and what is wanted next tells how much
+    // is.
     (
         Start::Begun,
         &[

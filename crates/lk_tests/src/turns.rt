@@ -4,16 +4,16 @@ ghost use Rattle.std.specs.Prelude.{◌≡◌, [], ⊤};
 use crate::clocks::Stopped;
 use lk_locks::LockTable;
 use lk_replica::{Group, Post, ReplicaFault};
-use lk_transport::receive_buffer::ReceiveBuffer;
-use lk_transport::memory_socket::MemorySocket;
 use lk_server::metronome::Metronome;
 use lk_server::node_replica::NodeReplica;
-use lk_transport::network::Network;
 use lk_server::pace::Pace;
-use lk_server::server::{Server, node_turn};
 use lk_server::replica_status::ReplicaStatus;
+use lk_server::server::{Server, node_turn};
 use lk_service::demo::{Sockets, play};
 use lk_step::{Input, Note, Outbox};
+use lk_transport::memory_socket::MemorySocket;
+use lk_transport::network::Network;
+use lk_transport::receive_buffer::ReceiveBuffer;
 use lk_types::{Ballot, Command, Executed, NodeNo, Position, RealBallot};
 use log::sink::{Discard, Memory};
 use std::alloc::Global;
@@ -87,8 +87,8 @@ impl NodeReplica for Told {
     }
 }
 
-/// The generation, the snapshot's position, how many positions are executed, and where there is one the round of a term of
-/// node 1 and the known leader, else 0.
+/// The generation, the snapshot's position, how many positions are executed, and where there is one the round of a
+/// term of node 1 and the known leader, else 0.
 type Seen = (u64, u64, u64, u64, u32);
 
 const NEW: Seen = (1, 0, 0, 0, 0);
@@ -133,7 +133,12 @@ fn logged(alloc: Global, end: End, before: Seen, after: Seen) -> Result<Vec<u8>,
     let memory = Memory::new(alloc);
     let mut server = server(alloc, end, before, after)?;
     let mut metronome = Metronome::new(Stopped);
-    let _ = node_turn(&mut server, &mut ReceiveBuffer::new(), &mut metronome, &memory);
+    let _ = node_turn(
+        &mut server,
+        &mut ReceiveBuffer::new(),
+        &mut metronome,
+        &memory,
+    );
     let mut text = Vec::new(alloc);
     for line in memory.into_lines().as_slice() {
         text.extend_from_slice(line.as_bytes())?;

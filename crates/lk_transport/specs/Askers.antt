@@ -11,7 +11,8 @@ use Rattle.lk_transport.specs.Hearing.{BufferValue}
 use Rattle.lk_transport.specs.Posts.{Tray, Loses, frame_of, keys_for}
 use Rattle.lk_transport.specs.declared.asked.Asked.{Asked}
 
--- a node names itself in a probe only if it seals it, where the nodes have a key: what was taken of the frame is shorter than it
+-- a node names itself in a probe only if it seals it, where the nodes have a key: what was taken of the frame is
+-- shorter than it
 abbrev pub IsSealedAsNamed : Seals → List ℕ → Probe → Type 0
 IsSealedAsNamed s frame p = IsSome p.node → key_list s.nodes ≢ [] → length frame ≢ length (heard s frame)
 

@@ -8,7 +8,7 @@ use Rattle.lk_replica.specs.declared.fault.ReplicaFault.{ReplicaFault}
 use Rattle.lk_replica.specs.declared.fault.ReplicaFault.TheVariants as replica
 use Rattle.lk_transport.specs.declared.fault.ServiceFault.TheVariants.{Device, NoMemory, Damaged, WrongStore, Failed, Halted, Send}
 
--- the fault that a store's fault is
+-- the fault that reports a store's fault
 abbrev pub fault_of : StoreFault → ServiceFault
 fault_of store.Device = Device
 fault_of store.NoMemory = NoMemory
@@ -16,7 +16,7 @@ fault_of store.Damaged = Damaged
 fault_of store.WrongStore = WrongStore
 fault_of store.Failed = Failed
 
--- the fault that a replica's is
+-- the fault that reports a replica's fault
 abbrev pub replica_fault : ReplicaFault → ServiceFault
 replica_fault replica.Device = Device
 replica_fault replica.NoMemory = NoMemory
@@ -26,7 +26,7 @@ replica_fault replica.Failed = Failed
 replica_fault replica.Halted = Halted
 replica_fault (replica.Send notes) = Send
 
--- the fault that a text which was not unpacked is
+-- the fault that reports a text that does not unpack
 abbrev pub unpack_fault : UnpackFault → ServiceFault
 unpack_fault unpack.NotPacked = Damaged
 unpack_fault unpack.NoMemory = NoMemory

@@ -1,4 +1,4 @@
--- What a place for datagrams has heard.
+-- What a receive buffer holds.
 use Rattle.std.specs.Prelude.{ℕ, List, [], ◌∷◌, take, Option, Some, None}
 use Rattle.std.specs.declared.net.socket_addr.SocketAddr.{SocketAddr}
 use Rattle.lk_transport.specs.declared.asked.Asked.{Asked}
@@ -13,12 +13,12 @@ abbrev pub first_asked : Option Asked → Option Asked → Option Asked
 first_asked None next = next
 first_asked (Some a) next = Some a
 
--- the datagram that came last, of that length and from there: from where it came, and its own bytes
+-- the latest datagram, of this length and from this source: its source and its own bytes
 abbrev pub heard_in : List ℕ → Option (ℕ × SocketAddr) → Option (SocketAddr × List ℕ)
 heard_in buffer None = None
 heard_in buffer (Some l) = Some (l.1, take l.0 buffer)
 
--- the datagram that came, if one did
+-- the datagram that arrived, if one did
 abbrev pub listed : Option (SocketAddr × List ℕ) → List (SocketAddr × List ℕ)
 listed None = []
 listed (Some d) = d ∷ []
@@ -28,6 +28,6 @@ abbrev pub first_of : List (SocketAddr × List ℕ) → Option (SocketAddr × Li
 first_of [] = None
 first_of (d ∷ ds) = Some d
 
--- what comes to a socket next, to which this comes
+-- what arrives next at a socket with these datagrams to come
 abbrev pub next_of : {S : Type 0} → (S → List (SocketAddr × List ℕ)) → S → Option (SocketAddr × List ℕ)
 next_of coming s = first_of (coming s)

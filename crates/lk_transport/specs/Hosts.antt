@@ -1,4 +1,4 @@
--- At which addresses nodes live.
+-- The addresses at which nodes live.
 use Rattle.std.specs.Prelude.{ℕ, ◌==◌, List, [], ◌∷◌, Option, Some, None, if◌then◌else◌}
 use Rattle.std.specs.declared.net.ip_addr.IpAddr.{IpAddr}
 use Rattle.std.specs.declared.net.ip_addr.IpAddr.TheVariants as ip
@@ -9,12 +9,12 @@ use Rattle.lk_transport.specs.declared.hosts.Hosts.TheVariants.{Local, Listed}
 abbrev pub this_machine : IpAddr
 this_machine = ip.V4 (record { octets = 127 ∷ 0 ∷ 0 ∷ 1 ∷ [] })
 
--- the address that the first of the lines of a node has
+-- the address in the first line of a node
 abbrev pub host_in : List (ℕ × IpAddr) → ℕ → Option IpAddr
 host_in [] node = None
 host_in (line ∷ lines) node = if line.0 == node then Some line.1 else host_in lines node
 
--- the address of a node, where it is known
+-- the address of a node, if it is known
 abbrev pub host_of : Hosts → ℕ → Option IpAddr
 host_of Local node = Some this_machine
 host_of (Listed lines) node = host_in lines.items node

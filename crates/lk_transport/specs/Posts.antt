@@ -1,4 +1,4 @@
--- Where a letter goes and as what, and what a contract sees of a post that has a socket.
+-- Where a letter goes and in which form, and what a contract sees of a post with a socket.
 use Rattle.std.specs.Prelude.{◌≡◌, ◌≢◌, ◌⊎◌, ◌==◌, ℕ, Bool, true, false, if◌then◌else◌, List, [], ◌∷◌, ◌++◌, Option, Some, None, MatchBool, MatchOption, IsSomeAnd}
 use Rattle.std.specs.Net.Socket.{socket_ip, socket_port}
 use Rattle.std.specs.declared.net.socket_addr.SocketAddr.{SocketAddr}
@@ -17,8 +17,8 @@ use Rattle.lk_seal.specs.declared.seals.Seals.{Seals}
 use Rattle.lk_transport.specs.Addresses.{AddressBook, client_at, node_at, moved_up, IsSameNetwork}
 use Rattle.lk_transport.specs.Hosts.{host_of}
 
--- whose it is, from where others wrote, the letters of the node to itself that are kept, what the socket has sent, how often a send
--- of the socket has failed and how often in this step, and what comes to the socket, in order
+-- its node, the addresses, the kept letters of the node to itself, what the socket has sent, how many of its sends
+-- have failed overall and in this step, and what is to arrive, in order
 pub record PostValue : Type 0 where
   pub node : ℕ
   pub addresses : AddressBook
@@ -28,7 +28,8 @@ pub record PostValue : Type 0 where
   pub failures : ℕ
   pub coming : List (SocketAddr × List ℕ)
 
--- what a letter may change: the letters of the node to itself that are kept, what the socket has sent, and how many of its sends have failed
+-- what a letter may change: the kept letters of the node to itself, what the socket has sent, and how many of its
+-- sends have failed
 pub record Tray : Type 0 where
   pub own : List LetterValue
   pub sent : List (SocketAddr × List ℕ)
@@ -37,16 +38,17 @@ pub record Tray : Type 0 where
 abbrev pub tray_of : PostValue → Tray
 tray_of p = record { own = p.own; sent = p.sent; failures = p.socket_failures }
 
--- a node gets it at its port, where it lives; where that is not known, where it wrote last
+-- for a node: its port at its address, or, if that is not known, where it last wrote from
 abbrev pub IsPlaceOf : AddressBook → ℕ → ℕ → Option SocketAddr → Type 0
 IsPlaceOf b n port place = MatchOption (host_of b.hosts n) (place ≡ node_at b n) (λ host. IsSomeAnd place (λ a. (socket_port a ≡ port) × (socket_ip a ≡ host)))
 
--- a client gets it where it wrote last, a node where it lives, and where its port is 0 where it wrote last
+-- for a client, where it last wrote from; for a node, where it lives, or, for port 0, where it last wrote from
 abbrev pub IsRoute : AddressBook → To → Option SocketAddr → Type 0
 IsRoute b (Client c) place = place ≡ client_at b c
 IsRoute b (Node n port) place = MatchBool (port == 0) (place ≡ node_at b n) (IsPlaceOf b n port place)
 
--- as what it is sent: to a node by the seal of the nodes for that node, to a client by its own; as it is where they have no key
+-- the form in which it is sent: sealed by the nodes' key for that node, or by the client's key; unchanged if there is
+-- no key
 abbrev pub frame_of : Seals → To → List ℕ → List ℕ
 frame_of s (Client c) bytes = framed_by (client_keys c (key_list s.clients)) (replying s.cluster c) bytes
 frame_of s (Node n port) bytes = framed_by (key_list s.nodes) (to_node s n) bytes
@@ -74,73 +76,73 @@ abbrev pub all_taken_as : Seals → List (SocketAddr × List ℕ) → List (Sock
 all_taken_as s [] = []
 all_taken_as s (d ∷ came) = unless_beside (opened_as s d) ++ all_taken_as s came
 
--- what goes there; nothing where there is no address
+-- what goes there; nothing if there is no address
 abbrev pub carried : Option SocketAddr → List ℕ → List (SocketAddr × List ℕ)
 carried None bytes = []
 carried (Some place) bytes = (place, bytes) ∷ []
 
--- it is bound for that node
+-- it is addressed to that node
 abbrev pub IsBoundFor : ℕ → To → Type 0
 IsBoundFor node (Client c) = ⊥
 IsBoundFor node (Node n port) = n ≡ node
 
--- a letter of the node to itself is kept after those that are, and nothing is sent
+-- a letter of the node to itself is kept after the others, and nothing is sent
 pub record Keeps (node : ℕ) (l : LetterValue) (old new : Tray) : Type 0 where
   pub bound : IsBoundFor node l.to
   pub own : new.own ≡ old.own ++ l ∷ []
   pub sent : new.sent ≡ old.sent
   pub failures : new.failures ≡ old.failures
 
--- its frame is sent where it goes, whole and once, if the socket tells that, and no letter is kept
+-- its frame is sent to its destination, whole and once, if the socket reveals that, and no letter is kept
 pub record Sends (tells : Type 0) (book : AddressBook) (l : LetterValue) (old new : Tray) : Type 0 where
   pub own : new.own ≡ old.own
   pub sent : tells → (place : Option SocketAddr) × IsRoute book l.to place × (new.sent ≡ old.sent ++ carried place (frame_of book.seals l.to l.bytes))
   pub failures : tells → new.failures ≡ old.failures
 
--- it is lost: one more send has failed, if the socket tells that, or memory was refused for its frame, where there is a key; nothing is
--- sent and no letter is kept
+-- it is lost: either one more send has failed, if the socket reveals that, or its frame ran out of memory, if there is
+-- a key; nothing is sent and no letter is kept
 pub record Loses (tells : Type 0) (keys : List (List ℕ)) (old new : Tray) : Type 0 where
   pub own : new.own ≡ old.own
   pub sent : tells → new.sent ≡ old.sent
   pub failures : tells → (new.failures ≡ one_more old.failures) ⊎ ((keys ≢ []) × (new.failures ≡ old.failures))
 
--- what becomes of a letter of that node by these addresses: it is kept or sent, or its send has failed
+-- the fate of a letter of that node with these addresses: kept, sent, or lost by a failed send
 abbrev pub Becomes : Type 0 → ℕ → AddressBook → Tray → LetterValue → Bool → Tray → Type 0
 Becomes tells node book old l true new = Keeps node l old new ⊎ Sends tells book l old new
 Becomes tells node book old l false new = Loses tells (keys_for book.seals l.to) old new
 
--- so at a post, of which nothing else is changed by a letter but how often a send has failed in this step
+-- the same at a post, of which a letter changes nothing else but the count of failed sends in this step
 pub record CarriesLetter (tells : Type 0) (old : PostValue) (l : LetterValue) (is_sent : Bool) (new : PostValue) : Type 0 where
   pub node : new.node ≡ old.node
   pub addresses : new.addresses ≡ old.addresses
   pub becomes : Becomes tells old.node old.addresses (tray_of old) l is_sent (tray_of new)
 
--- that client's address is kept in place of its last one, and no other changes
+-- that client's address replaces its last one, and no other address changes
 pub record HearsClient (client : ℕ) (from : SocketAddr) (old new : AddressBook) : Type 0 where
   pub own : client_at new client ≡ Some from
   pub others : (c : ℕ) → IsClient c → c ≢ client → client_at new c ≡ client_at old c
   pub nodes : new.nodes ≡ old.nodes
   pub network : IsSameNetwork old new
 
--- that node's is kept in place of its last one, the others keep theirs, but for the one that is dropped where all places are
--- taken, and no client's changes
+-- that node's address replaces its last one, no other node's changes, except for the one that is dropped if all
+-- entries are taken, and no client's does
 pub record HearsNode (node : ℕ) (from : SocketAddr) (old new : AddressBook) : Type 0 where
   pub own : node_at new node ≡ Some from
   pub places : new.nodes ≡ moved_up old.nodes node from
   pub clients : new.clients ≡ old.clients
   pub network : IsSameNetwork old new
 
--- the address of whoever says that is kept
+-- the address of the sender of this content is recorded
 abbrev pub HearsContent : Content → SocketAddr → AddressBook → AddressBook → Type 0
 HearsContent (content.Request r) from old new = HearsClient r.client from old new
 HearsContent (content.Node n m) from old new = HearsNode n from old new
 
--- whoever says a message of the cluster is heard, and no address changes at anything else
+-- the sender of a message of the cluster is recorded, and nothing else changes an address
 pub record Hears (cluster : ℕ) (bytes : List ℕ) (from : SocketAddr) (old new : AddressBook) : Type 0 where
   pub message : (m : Message) → Spells m bytes → m.cluster ≡ cluster → HearsContent m.content from old new
   pub other : ((m : Message) → Spells m bytes → m.cluster ≡ cluster → ⊥) → new ≡ old
 
--- so of each of these, one after another
+-- the same for each of these, one after another
 abbrev pub HearsAll : ℕ → List (SocketAddr × List ℕ) → AddressBook → AddressBook → Type 0
 HearsAll cluster [] old new = new ≡ old
 HearsAll cluster (c ∷ came) old new = (mid : AddressBook) × Hears cluster c.1 c.0 old mid × HearsAll cluster came mid new

@@ -1,4 +1,4 @@
-//! Where clients and nodes are: from where they wrote last, where nodes live, and by which keys they are known.
+//! The addresses of clients and nodes: where each last wrote from, where nodes live, and the keys that identify them.
 
 ghost use Rattle.std.specs.Prelude.{◌≡◌, ◌≢◌, ℕ, Some, None, min};
 ghost use Rattle.lk_types.specs.Ranges.{IsClient};
@@ -12,17 +12,17 @@ use lk_types::{ClientNo, NodeNo};
 use std::marker::Model;
 use std::net::{IpAddr, SocketAddr};
 
-/// The clients that may write.
+/// How many clients there are.
 const CLIENTS: usize = 256;
-/// The nodes whose addresses are kept. A node of the window has a port, so these are for the others that ask.
+/// How many nodes' addresses are kept. A node of the window has a known port, so these are for other nodes that ask.
 const NODES: usize = 64;
 
-/// The address from which each client wrote last, and those of the last 64 nodes that wrote. It takes no memory beside
-/// itself, whatever comes in.
+/// The address from which each client last wrote, and those of the last 64 nodes that wrote. Its size is fixed,
+/// whatever arrives.
 #[derive(Drop)]
 pub struct Addresses {
     clients: [Option<SocketAddr>; CLIENTS],
-    // those that wrote last stand first
+    // the most recent first
     nodes: [Option<(NodeNo, SocketAddr)>; NODES],
     hosts: Hosts,
     seals: Seals,
@@ -36,7 +36,7 @@ impl Model for Addresses {
     ghost view = { λ a. record { clients = a.clients; nodes = a.nodes; hosts = a.hosts; seals = a.seals } };
 }
 
-/// The address that the first of the places of a node has.
+/// The address in the first entry of a node.
 fn address_in(places: &[Option<(NodeNo, SocketAddr)>], node: NodeNo) -> Option<SocketAddr>
     ensures { result ≡ node_in places.now node }
 {
@@ -50,7 +50,7 @@ fn address_in(places: &[Option<(NodeNo, SocketAddr)>], node: NodeNo) -> Option<S
 }
 
 impl Addresses {
-    /// Nobody has written.
+    /// Nobody has written yet.
     pub fn new(network: Network) -> Addresses
         ensures clients { (c : ℕ) → IsClient c → client_at result c ≡ None }
         ensures nodes { (n : ℕ) → node_at result n ≡ None }
@@ -66,28 +66,28 @@ impl Addresses {
         }
     }
 
-    /// The address at which a node lives, where it is known.
+    /// The address at which a node lives, if it is known.
     pub fn host(&self, node: NodeNo) -> Option<IpAddr>
         ensures { result ≡ host_of self.now.hosts node }
     {
         self.hosts.address(node)
     }
 
-    /// By which keys nodes and clients are known.
+    /// The keys that identify nodes and clients.
     pub fn seals(&self) -> &Seals
         ensures { result.now ≡ self.now.seals }
     {
         &self.seals
     }
 
-    /// The address from which the client wrote last.
+    /// The address from which the client last wrote.
     pub fn client(&self, client: ClientNo) -> Option<SocketAddr>
         ensures { result ≡ client_at self.now client }
     {
         self.clients[client.get() as usize - 1]
     }
 
-    /// A client wrote.
+    /// Records that a client wrote.
     pub fn hear_client(&mut self, client: ClientNo, from: SocketAddr)
         ensures own { client_at self.new client ≡ Some from }
         ensures others { (c : ℕ) → IsClient c → c ≢ client → client_at self.new c ≡ client_at self.old c }
@@ -97,14 +97,14 @@ impl Addresses {
         self.clients[client.get() as usize - 1] = Some(from);
     }
 
-    /// The address from which the node wrote last, if it is one of the last 64 that did.
+    /// The address from which the node last wrote, if it is among the last 64 that did.
     pub fn node(&self, node: NodeNo) -> Option<SocketAddr>
         ensures { result ≡ node_at self.now node }
     {
         address_in(&self.nodes, node)
     }
 
-    // The place of a node, or the last one.
+    // The index of a node's entry, or of the last entry.
     fn place_of(&self, node: NodeNo) -> usize
         ensures { result ≡ min (place_in self.now.nodes node) 63 }
     {
@@ -118,7 +118,8 @@ impl Addresses {
         NODES - 1
     }
 
-    /// A node wrote: it stands first from now on. Where all places are taken, the node that wrote longest ago is dropped.
+    /// Records that a node wrote: its entry moves to the front. If all entries are taken, the least recent one is
+    /// dropped.
     pub fn hear_node(&mut self, node: NodeNo, from: SocketAddr)
         ensures own { node_at self.new node ≡ Some from }
         ensures places { self.new.nodes ≡ moved_up self.old.nodes node from }

@@ -1,27 +1,27 @@
-//! What came to a server, for its log.
+//! What arrived at a server, for its log.
 
 use lk_types::{ClientNo, NodeNo};
 use lk_wire::{ContentRef, MessageRef, NodeMessageRef, view};
 use std::fmt;
 
-/// What came to a server, as far as it was read.
+/// What arrived at a server, as far as it could be parsed.
 #[derive(Clone, Copy)]
 pub enum Arrival {
     /// Some time has passed.
     Tick,
-    /// A datagram that does not read.
+    /// A datagram that does not parse.
     Bad,
     /// A datagram of another cluster.
     Foreign,
     /// A request of a client.
     Request(ClientNo),
-    /// A node wants to be told what it has missed.
+    /// A node asks for what it has missed.
     Want(NodeNo),
-    /// A node says something else, whose name stands here.
+    /// Any other message of a node, by its name.
     Said(&'static str, NodeNo),
 }
 
-/// The name of what a node says.
+/// The name of a node's message.
 pub fn name_of(message: &NodeMessageRef<'_>) -> &'static str {
     match message {
         NodeMessageRef::Prepare(_, _) => "Prepare",
@@ -40,7 +40,7 @@ pub fn name_of(message: &NodeMessageRef<'_>) -> &'static str {
 }
 
 impl Arrival {
-    /// What a node wrote to itself.
+    /// A letter of the node to itself.
     pub fn own(bytes: &[u8]) -> Arrival {
         match &view(bytes) {
             Ok(
@@ -61,7 +61,7 @@ impl Arrival {
         }
     }
 
-    /// What a node says.
+    /// A message of a node.
     pub fn said(node: NodeNo, message: &NodeMessageRef<'_>) -> Arrival {
         match message {
             NodeMessageRef::Want(_) => Arrival::Want(node),

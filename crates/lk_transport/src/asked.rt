@@ -33,12 +33,7 @@ fn is_sealed_as_named(seals: &Seals, frame: &[u8], datagram: &[u8], probe: &Prob
 
 impl Asked {
     /// The probe to answer that came from there by this frame, of which the datagram was taken.
-    pub fn by(
-        seals: &Seals,
-        from: SocketAddr,
-        frame: &[u8],
-        datagram: &[u8],
-    ) -> Option<Asked>
+    pub fn by(seals: &Seals, from: SocketAddr, frame: &[u8], datagram: &[u8]) -> Option<Asked>
         requires { datagram.now ≡ heard seals.now frame.now }
         ensures { IsKeptOf seals.now (from, frame.now) result }
     {

@@ -10,24 +10,24 @@ use lk_types::NoMemory;
 use std::alloc::{AllocError, AllocFailed};
 use std::io::Write;
 
-/// Why a command ended early. Its text is the last line of standard error.
+/// Why a command ended early. Its text is the last line on standard error.
 #[derive(Clone, Copy, Debug)]
 pub enum ServiceFault {
     /// A folder, a file or a socket did not open.
     CannotOpen,
-    /// Fault 7: the files failed.
+    /// Fault 7: a call of a file failed.
     Device,
-    /// Fault 8: memory was refused.
+    /// Fault 8: out of memory.
     NoMemory,
     /// Fault 9: the store is damaged.
     Damaged,
-    /// Fault 10: the store is another node's or another cluster's.
+    /// Fault 10: the store belongs to another node or another cluster.
     WrongStore,
-    /// Fault 11: the store has failed before.
+    /// Fault 11: the store failed earlier.
     Failed,
-    /// Fault 14: the node was refused memory.
+    /// Fault 14: the node ran out of memory.
     Halted,
-    /// Fault 15: a datagram was not sent. A server passes over it.
+    /// Fault 15: a datagram was not sent. A server ignores it.
     Send,
     /// Fault 24: the output could not be written.
     Write,
@@ -36,7 +36,7 @@ pub enum ServiceFault {
 impl ServiceFault {
     ghost use Rattle.lk_transport.specs.Faults.{replica_fault};
 
-    /// The fault that a replica's is.
+    /// The fault that reports a replica's fault.
     pub fn of_replica(fault: &ReplicaFault) -> ServiceFault
         ensures { result ≡ replica_fault fault.now }
     {
@@ -51,7 +51,7 @@ impl ServiceFault {
         }
     }
 
-    /// Its line.
+    /// The line that reports it.
     pub fn text(self) -> &'static str {
         match self {
             ServiceFault::CannotOpen => "cannot open\n",
@@ -66,7 +66,7 @@ impl ServiceFault {
         }
     }
 
-    /// Tells it in a line of standard error. The status is 1.
+    /// Writes the line to standard error, and returns status 1.
     pub fn tell<E: Write>(self, err: &mut E) -> u8
         ensures { result ≡ 1 }
     {

@@ -1,4 +1,4 @@
-//! Whoever writes is known by the address from which it wrote.
+//! A sender is identified by the address from which it wrote.
 
 ghost use Rattle.lk_transport.specs.Addresses.{IsSameNetwork};
 ghost use Rattle.lk_transport.specs.Posts.{Hears};
@@ -9,8 +9,8 @@ use lk_wire::{ContentRef, view};
 use std::net::SocketAddr;
 
 impl Addresses {
-    /// Keeps from where a datagram of the cluster came: a client's request, or what a node says. All else is passed over.
-    /// What came is told for the log.
+    /// Records the source of a datagram of the cluster if it is a client's request or a node's message, and ignores
+    /// everything else. Returns what arrived, for the log.
     pub fn hear(&mut self, cluster: u64, bytes: &[u8], from: SocketAddr) -> Arrival
         ensures heard { Hears cluster bytes.now from self.old self.new }
         ensures network { IsSameNetwork self.old self.new }

@@ -1,4 +1,4 @@
-//! At which addresses nodes live.
+//! The addresses at which nodes live.
 
 ghost use Rattle.std.specs.Prelude.{◌≡◌, ℕ, Some, None};
 ghost use Rattle.lk_transport.specs.Hosts.{host_in, host_of};
@@ -6,14 +6,14 @@ ghost use Rattle.lk_transport.specs.Hosts.{host_in, host_of};
 use lk_types::NodeNo;
 use std::net::{IpAddr, Ipv4Addr};
 
-/// At which addresses nodes live: all at 127.0.0.1, or each where a list says.
+/// The addresses at which nodes live: all at 127.0.0.1, or each as a list says.
 #[derive(Drop)]
 pub enum Hosts {
     Local,
     Listed(Vec<(NodeNo, IpAddr)>),
 }
 
-/// The address that the first of the lines of a node has.
+/// The address in the first line of a node.
 fn address_in(lines: &[(NodeNo, IpAddr)], node: NodeNo) -> Option<IpAddr>
     ensures { result ≡ host_in lines.now node }
 {
@@ -26,7 +26,7 @@ fn address_in(lines: &[(NodeNo, IpAddr)], node: NodeNo) -> Option<IpAddr>
 }
 
 impl Hosts {
-    /// The address of a node, where it is known.
+    /// The address of a node, if it is known.
     pub fn address(&self, node: NodeNo) -> Option<IpAddr>
         ensures { result ≡ host_of self.now node }
     {

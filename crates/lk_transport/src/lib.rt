@@ -1,15 +1,15 @@
-//! How datagrams come and go: the socket, the buffer into which it receives, where nodes and clients live, the frames that seal what they
-//! say, and the post that sends the letters of a replica.
+//! How datagrams come and go: the socket, the buffer into which it receives, where nodes and clients live, the frames
+//! that seal what they say, and the post that sends the letters of a replica.
 #![tactic(auto)]
 
 pub mod addresses;
-pub mod asked;
 pub mod arrival;
-pub mod receive_buffer;
+pub mod asked;
 pub mod fault;
 mod hearing;
 pub mod hosts;
 pub mod memory_socket;
 pub mod network;
 pub mod post;
+pub mod receive_buffer;
 pub mod socket;

@@ -1,4 +1,4 @@
-//! A socket in memory, for tests: it tells what is sent and what comes.
+//! A socket in memory, for tests: its contract reveals what is sent and what arrives.
 
 ghost use Rattle.std.specs.Prelude.{◌≡◌, ◌++◌, ◌∷◌, [], min, OnOk, OnErr};
 ghost use Rattle.lk_transport.specs.Sockets.{sent_in, coming_in};
@@ -12,14 +12,14 @@ use std::net::SocketAddr;
 use std::time::Duration;
 use std::{io, mem};
 
-/// A datagram of a socket in memory: from where it came, or to where it went.
+/// A datagram of a socket in memory, with its source or destination.
 #[derive(Drop)]
 pub struct Told {
     pub place: SocketAddr,
     pub bytes: Vec<u8>,
 }
 
-/// Datagrams that come one after another, and those that were sent.
+/// Datagrams still to arrive, in order, and those that were sent.
 #[derive(Drop)]
 pub struct MemorySocket {
     alloc: Global,
@@ -29,7 +29,7 @@ pub struct MemorySocket {
     failures: u64,
 }
 
-// How many bytes of so many are heard.
+// How many of these bytes a receive returns.
 fn cut(length: usize) -> usize
     ensures { result ≡ min length 8229 }
 {
@@ -37,7 +37,7 @@ fn cut(length: usize) -> usize
 }
 
 impl MemorySocket {
-    /// The socket of a port, to which nothing comes and from which nothing was sent.
+    /// The socket of a port, with nothing to receive and nothing sent.
     pub fn new(alloc: Global, port: u16) -> MemorySocket
         ensures coming { coming_in result.coming.items ≡ [] }
         ensures sent { result.sent.items ≡ [] }
@@ -51,7 +51,7 @@ impl MemorySocket {
         }
     }
 
-    /// One more datagram comes. Of one that is longer than 8,229 bytes no more are heard.
+    /// Adds a datagram to receive. Bytes beyond 8,229 are cut off.
     pub fn comes(&mut self, from: SocketAddr, bytes: &[u8]) -> Result<(), NoMemory> {
         let kept = bytes.to_vec(self.alloc)?;
         self.coming.push_back(Told {
@@ -61,7 +61,7 @@ impl MemorySocket {
         Ok(())
     }
 
-    /// Takes out what was sent, in order. Nothing is left of it.
+    /// Removes and returns what was sent, in order.
     pub fn take_sent(&mut self) -> Vec<Told>
         ensures taken { result.items ≡ self.old.sent.items }
         ensures rest { self.new ≡ record self.old { sent = self.new.sent } }
@@ -70,7 +70,7 @@ impl MemorySocket {
         mem::replace(&mut self.sent, Vec::new(self.alloc))
     }
 
-    // Keeps what is sent, unless memory is refused for it.
+    // Keeps what is sent, unless it is out of memory.
     fn keep(&mut self, to: SocketAddr, bytes: &[u8]) -> Result<(), NoMemory>
         ensures ok { OnOk result (sent_in self.new.sent.items ≡ sent_in self.old.sent.items ++ (to, bytes.now) ∷ []) }
         ensures err { OnErr result (sent_in self.new.sent.items ≡ sent_in self.old.sent.items) }

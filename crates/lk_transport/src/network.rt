@@ -1,10 +1,10 @@
-//! What a node knows of the machines outside: where the nodes live, and by which keys it knows who wrote.
+//! What a node knows of other machines: where the nodes live, and the keys that identify a sender.
 
 use crate::hosts::Hosts;
 use lk_seal::{DIGEST, Keys, Seals};
 use lk_types::NodeNo;
 
-/// Where the nodes live, and by which keys a node knows who wrote.
+/// Where the nodes live, and the keys that identify a sender.
 #[derive(Drop)]
 pub struct Network {
     pub hosts: Hosts,
@@ -12,7 +12,7 @@ pub struct Network {
 }
 
 impl Network {
-    /// All nodes live at 127.0.0.1, and nobody has a key, so that no seal names the genesis.
+    /// All nodes live at 127.0.0.1 and nobody has a key, so no seal names the genesis.
     pub fn local(cluster: u64, node: NodeNo) -> Network {
         Network {
             hosts: Hosts::Local,

@@ -10,10 +10,10 @@ ghost use Rattle.lk_transport.specs.Posts.{IsRoute, IsBoundFor, Becomes, Hears, 
 ghost use Rattle.lk_transport.specs.Askers.{IsKeptOf, Replies, asker, frame_for, keys_to};
 
 use crate::addresses::Addresses;
-use crate::asked::Asked;
 use crate::arrival::Arrival;
-use crate::receive_buffer::ReceiveBuffer;
+use crate::asked::Asked;
 use crate::network::Network;
+use crate::receive_buffer::ReceiveBuffer;
 use crate::socket::DatagramSocket;
 use lk_replica::{Post, SendFault};
 use lk_seal::{DIGEST, Seals};
@@ -26,47 +26,47 @@ use std::marker::Model;
 use std::net::SocketAddr;
 use std::time::Duration;
 
-/// Where a datagram has its kind, and the kind of a Want.
+/// The offset of a datagram's kind, and the kind of a Want.
 const KIND: usize = 3;
 
 const WANT: u8 = 7;
 
-/// A socket, and from where others wrote to it.
+/// A socket, and the addresses of those who wrote to it.
 ///
-/// What is bound for a client goes to the address from which its last request came, and is dropped without one. What is
-/// bound for a node goes to its port on 127.0.0.1; where that is not known, to the address from which it wrote last. What is
-/// bound for the node whose post it is does not leave it: it is kept, unless memory is refused for it.
+/// A letter for a client goes to the address of its last request, and is dropped if there is none. A letter for a node
+/// goes to its port on 127.0.0.1, or, if that is not known, to the address from which the node last wrote. A letter
+/// for this node stays here, unless it is out of memory.
 #[derive(Drop)]
 pub struct SocketPost<S: DatagramSocket + Drop> {
     alloc: Global,
     node: NodeNo,
     socket: S,
     addresses: Addresses,
-    // the frame that was sent last, if there are keys
+    // the last frame sent, if there are keys
     frame: Vec<u8>,
-    // the letters of the node to itself
+    // letters of the node to itself
     own: VecDeque<Letter>,
-    // how many sends failed in this group
+    // failed sends in this group
     failures: u64,
-    // the last node to which a Want was sent in it
+    // the last node that was sent a Want in this group
     wanted: Option<NodeNo>,
     // the last node to which a send failed in it
     unsent: Option<NodeNo>,
 }
 
-/// What became of the letters of a group, for the log.
+/// The fate of a group's letters, for the log.
 #[derive(Clone, Copy)]
 pub struct Carried {
     /// How many sends failed.
     pub lost: u64,
-    /// The last node to which a Want was sent.
+    /// The last node that was sent a Want.
     pub wanted: Option<NodeNo>,
     /// The last node to which a send failed.
     pub unsent: Option<NodeNo>,
 }
 
 impl Carried {
-    /// Nothing was sent.
+    /// Nothing has been sent.
     pub const NOTHING: Carried = Carried {
         lost: 0,
         wanted: None,
@@ -82,7 +82,7 @@ impl<S: DatagramSocket + Drop> Model for SocketPost<S> {
     ghost view = { λ p. record { node = p.node; addresses = p.addresses; own = p.own.items; sent = S.sent p.socket; socket_failures = S.failures p.socket; failures = p.failures; coming = all_taken_as p.addresses.seals (S.coming p.socket) } };
 }
 
-/// Where a letter goes.
+/// The destination of a letter.
 fn route(addresses: &Addresses, to: &To) -> Option<SocketAddr>
     ensures { IsRoute addresses.now to.now result }
 {
@@ -96,7 +96,7 @@ fn route(addresses: &Addresses, to: &To) -> Option<SocketAddr>
     }
 }
 
-/// As what a datagram is sent. A frame is put in place of what stands there.
+/// The bytes to send for a datagram. A frame overwrites the frame buffer.
 fn framed<'a>(
     seals: &Seals,
     to: &To,
@@ -129,7 +129,7 @@ fn framed_for<'a>(
 }
 
 impl<S: DatagramSocket + Drop> SocketPost<S> {
-    /// The post of a node that has a socket, to which nobody has written.
+    /// The post of a node to which nobody has written yet.
     pub fn new(alloc: Global, node: NodeNo, network: Network, socket: S) -> SocketPost<S>
         ensures node { result.node ≡ node }
         ensures clients { (c : ℕ) → IsClient c → client_at result.addresses c ≡ None }
@@ -155,7 +155,7 @@ impl<S: DatagramSocket + Drop> SocketPost<S> {
         }
     }
 
-    /// Keeps from where a datagram of the cluster came, as `Addresses::hear` does.
+    /// Records the source of a datagram of the cluster, as `Addresses::hear` does.
     pub fn hear(&mut self, cluster: u64, bytes: &[u8], from: SocketAddr) -> Arrival
         ensures heard { Hears cluster bytes.now from self.old.addresses self.new.addresses }
         ensures network { IsSameNetwork self.old.addresses self.new.addresses }
@@ -164,7 +164,7 @@ impl<S: DatagramSocket + Drop> SocketPost<S> {
         self.addresses.hear(cluster, bytes, from)
     }
 
-    /// Takes out the first letter of the node to itself.
+    /// Removes the first letter of the node to itself.
     pub fn next_own(&mut self) -> Option<Letter>
         ensures some { IfSome result (λ l. self.old.own ≡ l ∷ self.new.own) }
         ensures none { IsNone result → self.old.own ≡ [] }
@@ -181,7 +181,7 @@ impl<S: DatagramSocket + Drop> SocketPost<S> {
         self.socket.wait_for(time);
     }
 
-    /// The ear hears the next datagram of the socket, if one comes.
+    /// Receives the next datagram of the socket into the buffer, if one arrives.
     pub fn listen(&mut self, buffer: &mut ReceiveBuffer)
         ensures comes { S.is_telling → self.old.coming ≡ all_taken_as self.old.addresses.seals (listed buffer.new.last) ++ self.new.coming }
         ensures none { S.is_telling → buffer.new.last ≡ None → self.old.coming ≡ [] }
@@ -190,7 +190,7 @@ impl<S: DatagramSocket + Drop> SocketPost<S> {
         buffer.receive(&mut self.socket);
     }
 
-    /// The ear hears the next datagram of the socket that waits there already.
+    /// Receives the next datagram that is already waiting.
     pub fn listen_waiting(&mut self, buffer: &mut ReceiveBuffer)
         ensures comes { S.is_telling → self.old.coming ≡ all_taken_as self.old.addresses.seals (listed buffer.new.last) ++ self.new.coming }
         ensures none { S.is_telling → buffer.new.last ≡ None → self.old.coming ≡ [] }
@@ -233,12 +233,12 @@ impl<S: DatagramSocket + Drop> SocketPost<S> {
         &mut self.socket
     }
 
-    /// Why the last send that failed did, where the system told it.
+    /// Why the last failed send failed, if the system reported it.
     pub fn cause(&self) -> Option<io::Error> {
         self.socket.cause()
     }
 
-    /// A group is sent.
+    /// Begins a group.
     pub fn begin(&mut self)
         ensures { self.new ≡ record self.old { failures = 0 } }
     {
@@ -247,7 +247,7 @@ impl<S: DatagramSocket + Drop> SocketPost<S> {
         self.unsent = None;
     }
 
-    /// What became of what it was given in this group.
+    /// The fate of the letters in this group.
     pub fn carried(&self) -> Carried
         ensures { result.lost ≡ self.now.failures }
     {
@@ -258,7 +258,7 @@ impl<S: DatagramSocket + Drop> SocketPost<S> {
         }
     }
 
-    // Notes for the log that this was sent or kept.
+    // Notes for the log that a letter was sent or kept.
     fn note(&mut self, to: &To, bytes: &[u8])
         ensures { self.new ≡ self.old }
     {
@@ -278,7 +278,7 @@ impl<S: DatagramSocket + Drop> SocketPost<S> {
         }
     }
 
-    // Whether it is bound for the node itself.
+    // Whether it is addressed to this node.
     fn is_own(&self, to: &To) -> bool
         ensures { result ≡ true ↔ IsBoundFor self.now.node to.now }
     {
@@ -288,7 +288,7 @@ impl<S: DatagramSocket + Drop> SocketPost<S> {
         }
     }
 
-    // One more letter of the node to itself.
+    // Keeps one more letter of the node to itself.
     fn keep(&mut self, to: To, bytes: &[u8]) -> Result<(), NoMemory>
         ensures ok { OnOk result (self.new ≡ record self.old { own = self.old.own ++ record { to = to; bytes = bytes.now } ∷ [] }) }
         ensures err { OnErr result (self.new ≡ self.old) }
@@ -299,7 +299,7 @@ impl<S: DatagramSocket + Drop> SocketPost<S> {
         Ok(())
     }
 
-    // Sends a letter through the system, also one of the node to itself.
+    // Sends a letter through the system, even one to this node.
     fn carry(&mut self, to: To, bytes: &[u8]) -> Result<(), SendFault>
         ensures becomes { Becomes S.is_telling self.old.node self.old.addresses (tray_of self.old) (record { to = to; bytes = bytes.now }) (is_ok result) (tray_of self.new) }
         ensures own { self.new.own ≡ self.old.own }

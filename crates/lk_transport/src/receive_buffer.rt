@@ -1,4 +1,4 @@
-//! The place into which datagrams come.
+//! The buffer into which a socket receives.
 
 ghost use Rattle.std.specs.Prelude.{◌≡◌, ◌++◌, Some, None, IfSome, IsNone};
 ghost use Rattle.lk_transport.specs.Hearing.{first_asked, listed, next_of};
@@ -13,9 +13,9 @@ use std::net::SocketAddr;
 /// A place for the datagram that came last, and for a probe that is to be answered. It is made once, for all that come.
 #[derive(Drop)]
 pub struct ReceiveBuffer {
-    // by a byte longer than the frame of the longest datagram, so that one that is cut does not read
+    // one byte longer than the longest frame, so a truncated datagram fails to parse
     buffer: [u8; MAX_DATAGRAM + OVERHEAD + 1],
-    // how long the datagram is that came last, and from where it came, if one did
+    // the length of the latest datagram and its source, if one arrived
     last: Option<(usize, SocketAddr)>,
     asked: Option<Asked>,
 }
@@ -32,7 +32,7 @@ impl Model for ReceiveBuffer {
 }
 
 impl ReceiveBuffer {
-    /// Nothing has come.
+    /// An empty buffer.
     pub fn new() -> ReceiveBuffer
         ensures { result ≡ record { last = None; asked = None } }
     {
@@ -43,7 +43,7 @@ impl ReceiveBuffer {
         }
     }
 
-    /// Hears the next datagram of a socket: its own bytes, and none of an earlier one; or nothing, where none came within 100 ms, or the
+    /// Receives the next datagram of a socket: exactly its bytes, or nothing if none arrived within 100 ms or the
     /// receive failed.
     pub fn receive<S: DatagramSocket>(&mut self, socket: &mut S)
         ensures comes { S.is_telling → S.coming socket.old ≡ listed self.new.last ++ S.coming socket.new }
@@ -55,7 +55,7 @@ impl ReceiveBuffer {
         self.last = socket.receive(&mut self.buffer);
     }
 
-    /// The same of a datagram that waits at the socket already; or nothing, where none does.
+    /// The same for a datagram that is already waiting; nothing if none is.
     pub fn receive_waiting<S: DatagramSocket>(&mut self, socket: &mut S)
         ensures comes { S.is_telling → S.coming socket.old ≡ listed self.new.last ++ S.coming socket.new }
         ensures next { S.is_telling → next_of S.coming socket.old ≡ self.new.last }
@@ -66,7 +66,7 @@ impl ReceiveBuffer {
         self.last = socket.receive_waiting(&mut self.buffer);
     }
 
-    /// What was heard last, and from where it came.
+    /// The latest datagram, and its source.
     pub fn heard(&self) -> Option<(&[u8], SocketAddr)>
         ensures some { IfSome result (λ r. self.now.last ≡ Some (r.1, r.0.now)) }
         ensures none { IsNone result → self.now.last ≡ None }

@@ -1,4 +1,4 @@
-//! Datagrams between addresses of this machine.
+//! Datagrams between addresses.
 
 ghost use Rattle.std.specs.Prelude.{◌≡◌, ◌≤◌, ◌++◌, ◌∷◌, [], List, ℕ, length, take, IfSome, IsNone, OnOk, OnErr};
 ghost use Rattle.std.specs.Net.Socket.{socket_port};
@@ -14,25 +14,26 @@ use std::time::Duration;
 /// How long a receive waits at most if it is not told otherwise, in milliseconds.
 const WAIT: u64 = 100;
 
-/// The address of a port of 127.0.0.1.
+/// The address of a port on 127.0.0.1.
 pub fn local(port: u16) -> SocketAddr
     ensures { socket_port result ≡ port }
 {
     SocketAddr::from((Ipv4Addr::LOCALHOST, port))
 }
 
-/// What carries datagrams: a socket, or what stands for one in a test.
+/// Something that carries datagrams: a socket, or its stand-in in a test.
 pub trait DatagramSocket {
-    /// What was sent, in order: to which address, and the bytes.
+    /// What was sent, in order: each datagram's destination and bytes.
     ghost sent: { Self → List (Address × List ℕ) };
 
-    /// What comes, in order: from which address, and the bytes.
+    /// What arrives, in order: each datagram's source and bytes.
     ghost coming: { Self → List (Address × List ℕ) };
 
-    /// How often a send has failed.
+    /// How many sends have failed.
     ghost failures: { Self → ℕ };
 
-    /// It tells what was sent, how often that failed, and what comes. It is a fact of its kind, so no call can end it.
+    /// Its contract reveals what was sent, how many sends failed, and what arrives. This is a property of its type, so
+    /// no call can change it.
     ghost is_telling: { Type 0 };
 
     /// Sends a datagram. A failed call sends nothing, and is counted.
@@ -50,7 +51,7 @@ pub trait DatagramSocket {
     /// Puts the next datagram into the buffer, and tells its length and from where it came. What does not fit is lost.
     /// `None` where none came in time, or the receive failed.
     fn receive(&mut self, buffer: &mut [u8]) -> Option<(usize, SocketAddr)>
-        // There is room for the frame of the longest datagram, and a byte more.
+        // The buffer has room for the longest frame and one byte more.
         requires room { 8229 ≤ length buffer.old }
         ensures within { IfSome result (λ r. r.0 ≤ length buffer.new) }
         ensures some { is_telling → IfSome result (λ r. coming self.old ≡ (r.1, take r.0 buffer.new) ∷ coming self.new) }
@@ -58,7 +59,7 @@ pub trait DatagramSocket {
         ensures unchanged { sent self.new ≡ sent self.old }
         ensures spares { failures self.new ≡ failures self.old };
 
-    /// The same, but it does not wait: `None` where none has come.
+    /// The same without waiting: `None` if none has arrived.
     fn receive_waiting(&mut self, buffer: &mut [u8]) -> Option<(usize, SocketAddr)>
         requires room { 8229 ≤ length buffer.old }
         ensures within { IfSome result (λ r. r.0 ≤ length buffer.new) }
@@ -67,35 +68,35 @@ pub trait DatagramSocket {
         ensures unchanged { sent self.new ≡ sent self.old }
         ensures spares { failures self.new ≡ failures self.old };
 
-    /// Why the last send that failed did, where the system told it.
+    /// Why the last failed send failed, if the system reported it.
     fn cause(&self) -> Option<io::Error>;
 
-    /// The port at which datagrams come, if that is known.
+    /// The port at which datagrams arrive, if it is known.
     fn port(&self) -> Option<u16>;
 }
 
-/// A UDP socket of 127.0.0.1. What it sends and takes no contract can say.
+/// A UDP socket of the system. No contract can say what it sends and receives.
 #[derive(Drop)]
 pub struct LocalSocket {
     socket: UdpSocket,
-    // its receives wait for what has not come yet
+    // whether its receives wait
     waits: bool,
-    // they never do
+    // whether they never do
     never_waits: bool,
     // how long they are to wait, and how long the system has them wait
     wait: Duration,
     timeout: Duration,
-    // why the last send that failed did
+    // why the last failed send failed
     cause: Option<io::Error>,
 }
 
 impl LocalSocket {
-    /// The socket of a port, or of any free one where the port is 0. It refuses with the system's own error.
+    /// Opens the socket of a port, or of any free port for 0. Returns the system's error.
     pub fn open<R: Net>(rt: &R, port: u16) -> io::Result<LocalSocket> {
         LocalSocket::open_at(rt, local(port))
     }
 
-    /// The socket of an address. It refuses with the system's own error.
+    /// Opens the socket of an address. Returns the system's error.
     pub fn open_at<R: Net>(rt: &R, place: SocketAddr) -> io::Result<LocalSocket> {
         let socket = UdpSocket::bind(rt, place)?;
         let wait = Duration::from_millis(WAIT);
@@ -110,12 +111,12 @@ impl LocalSocket {
         })
     }
 
-    /// The same, which refuses with `CannotOpen`.
+    /// The same, with the error `CannotOpen`.
     pub fn bind<R: Net>(rt: &R, port: u16) -> Result<LocalSocket, ServiceFault> {
         LocalSocket::open(rt, port).map_err(|_| ServiceFault::CannotOpen)
     }
 
-    /// The same, but its receives do not wait.
+    /// The same, with receives that do not wait.
     pub fn without_waiting<R: Net>(rt: &R, port: u16) -> Result<LocalSocket, ServiceFault> {
         let mut socket = LocalSocket::bind(rt, port)?;
         socket.never_waits = true;
@@ -125,7 +126,7 @@ impl LocalSocket {
         Ok(socket)
     }
 
-    // Has its receives wait or not, by a call of the system only where that changes. Whether they do so now.
+    // Makes its receives wait or not, by a system call only if that changes. Returns whether it succeeded.
     fn waits_as(&mut self, waits: bool) -> bool {
         if self.waits == waits {
             return true;

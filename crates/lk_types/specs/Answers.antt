@@ -1,4 +1,4 @@
--- The ranges of what an answer holds, and its text.
+-- The ranges of an answer's parts, and its text.
 use Rattle.lk_types.specs.Ranges.{IsClient, IsCount, IsTotal, IsSharerCount}
 use Rattle.lk_types.specs.declared.answer.Answer.{Answer}
 use Rattle.lk_types.specs.declared.answer.Answer.TheVariants.{Granted, Busy, Released, NotHeld, Free, Held, Valid, Stale, NoRoom, Bad, Spent, Shared, HeldShared, Broken, Joined, Used, Full, Left, NotMember, Last, Raised, AlreadyRaised}

@@ -11,7 +11,7 @@ IsBelow a b = (a.round < b.round) ⊎ ((a.round ≡ b.round) × (a.node < b.node
 abbrev pub IsAtMost : BallotValue → BallotValue → Type 0
 IsAtMost a b = IsBelow a b ⊎ (a ≡ b)
 
--- whether one is below another, for definitions that choose by it
+-- whether one is below another, for definitions that branch on it
 abbrev pub is_below : BallotValue → BallotValue → Bool
 is_below a b = nat_lt a.round b.round || (a.round == b.round && nat_lt a.node b.node)
 

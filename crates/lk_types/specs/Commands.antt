@@ -1,4 +1,4 @@
--- The ranges of what a command holds.
+-- The ranges of a command's parts.
 use Rattle.lk_types.specs.Ranges.{IsNode, IsPort, IsCount, IsClient}
 use Rattle.lk_types.specs.Payloads.{IsPayload}
 use Rattle.lk_types.specs.declared.command.Op.{Op}

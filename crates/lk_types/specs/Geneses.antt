@@ -1,4 +1,4 @@
--- The ranges of what a genesis holds.
+-- The ranges of a genesis' parts.
 use Rattle.std.specs.Prelude.{◌<◌, ◌^◌}
 use Rattle.std.specs.List.{AllByRecursion}
 use Rattle.lk_types.specs.Ranges.{IsAlpha}

@@ -1,4 +1,4 @@
--- When a genesis is refused, and under which number.
+-- When a genesis is invalid, and the number of the fault.
 use Rattle.std.specs.Prelude.{ℕ, nat_lt, ◌||◌, not, List, length, Option, Some, None, if◌then◌else◌}
 use Rattle.lk_types.specs.Limits.{max_members, max_alpha}
 use Rattle.lk_types.specs.Rosters.{members_rise}
@@ -6,7 +6,7 @@ use Rattle.lk_types.specs.declared.member.Member.{Member}
 use Rattle.lk_types.specs.declared.genesis.GenesisFault.{GenesisFault}
 use Rattle.lk_types.specs.declared.genesis.GenesisFault.TheVariants as fault
 
--- the first fault of a genesis, in the order in which they are told
+-- the first fault of a genesis, in order of precedence
 abbrev pub genesis_fault : ℕ → List Member → Option GenesisFault
 genesis_fault alpha ms =
     if nat_lt (length ms) 1 then Some fault.NoMembers

@@ -45,7 +45,7 @@ max_name = 32
 abbrev pub max_votes : ℕ
 max_votes = 2 * max_alpha
 
--- commands that one Decided tells
+-- commands of one Decided
 abbrev pub max_commands : ℕ
 max_commands = max_alpha
 
@@ -61,10 +61,10 @@ max_datagram = 8192
 abbrev pub max_machine : ℕ
 max_machine = 36000
 
--- bytes of a Base with its length in front, and so of the snapshot in it
+-- bytes of a Base including its length field, and so of the snapshot in it
 abbrev pub max_base : ℕ
 max_base = 48 * 1024
 
--- the greatest length that an entry which is not all there may tell
+-- the greatest length that an incomplete entry may state
 abbrev pub max_torn : ℕ
 max_torn = 64 * 1024

@@ -1,4 +1,4 @@
--- What the body of a request to the machine may be.
+-- The body of a request to the machine.
 use Rattle.std.specs.Prelude.{ℕ, ◌≤◌, List, length}
 use Rattle.lk_types.specs.Limits.{max_payload}
 

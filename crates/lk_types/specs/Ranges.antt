@@ -18,11 +18,11 @@ IsPort n = (1 ≤ n) × (n ≤ max_port)
 abbrev pub IsCount : ℕ → Type 0
 IsCount n = (1 ≤ n) × (n ≤ max_count)
 
--- so many positions, or the last fence of a name that may be unknown: 0 to 2^48
+-- a count of positions, or the last fence of a name that may be unknown: 0 to 2^48
 abbrev pub IsTotal : ℕ → Type 0
 IsTotal n = n ≤ max_count
 
--- how many clients share a name that is held so: 1 to 8
+-- how many clients share a name: 1 to 8
 abbrev pub IsSharerCount : ℕ → Type 0
 IsSharerCount n = (1 ≤ n) × (n ≤ max_sharers)
 

@@ -1,4 +1,4 @@
--- The ranges of what a vote holds.
+-- The ranges of a vote's parts.
 use Rattle.lk_types.specs.Ranges.{IsCount}
 use Rattle.lk_types.specs.Ballots.{IsReal}
 use Rattle.lk_types.specs.Commands.{IsCommand}

@@ -6,7 +6,7 @@ use crate::last_fence::LastFence;
 use crate::sharer_count::SharerCount;
 use std::fmt;
 
-/// What a request that takes effect is answered.
+/// The answer to a request that takes effect.
 #[derive(Clone, Copy, Debug)]
 pub enum Answer {
     /// The client holds the name, at this fence.
@@ -27,36 +27,36 @@ pub enum Answer {
     Stale,
     /// The table has no room for another name.
     NoRoom,
-    /// The body is none that the table knows.
+    /// The table does not know this body.
     Bad,
     /// The name's fences are used up.
     Spent,
     /// The client shares the name, at this fence.
     Shared(Fence),
-    /// So many clients share the name, at that fence.
+    /// This many clients share the name, at that fence.
     HeldShared(SharerCount, Fence),
     /// The name is free again, whoever held it.
     Broken,
     /// The node becomes a member.
     Joined,
-    /// The node's number is not above every number that was ever a member.
+    /// The node's number is not above every number that was ever a member's.
     Used,
-    /// Seven members stand.
+    /// There are seven members already.
     Full,
-    /// The node is a member no longer.
+    /// The node is no longer a member.
     Left,
     /// The node is no member.
     NotMember,
     /// The node is the only member.
     Last,
-    /// The machine knows more from now on.
+    /// The machine is raised from now on.
     Raised,
     /// The machine was raised before.
     AlreadyRaised,
 }
 
 impl Answer {
-    /// Each part is in its range. It does nothing.
+    /// Each part is in its range. The function does nothing.
     pub fn facts(self)
         ensures { IsAnswer self }
     {}

@@ -7,7 +7,7 @@ use crate::round::Round;
 use std::marker::Model;
 
 /// A ballot: a round and the node that leads it, ordered by round and then by node, so that no two nodes share one
-/// (Lamport 2001, section 2.4). `ZERO` is below all others and nobody's.
+/// (Lamport 2001, section 2.4). `ZERO` is below all others and belongs to nobody.
 #[derive(Clone, Copy, Debug, PartialEq, Eq, PartialOrd, Ord)]
 pub struct Ballot {
     round: u64,
@@ -28,10 +28,10 @@ impl Model for Ballot {
 }
 
 impl Ballot {
-    /// Below all real ballots: what an acceptor that promised nothing has promised.
+    /// Below all real ballots: the promise of an acceptor that has promised nothing.
     pub const ZERO: Ballot = Ballot { round: 0, node: 0 };
 
-    /// The ballot of a node (1 to 2^31) in a round (1 to 2^48), or `None` where either is out of range.
+    /// The ballot of a node (1 to 2^31) in a round (1 to 2^48), or `None` if either is out of range.
     pub fn of(round: u64, node: u32) -> Option<Ballot>
         ensures some { IsSome result ↔ IsReal (record { round = round; node = node }) }
         ensures value { IfSome result (λ b. b ≡ record { round = round; node = node }) }
@@ -69,7 +69,7 @@ impl Ballot {
     }
 }
 
-/// A ballot that a node can lead: any but `Ballot::ZERO`.
+/// A ballot that a node can lead: any except `Ballot::ZERO`.
 #[derive(Clone, Copy, Debug, PartialEq, Eq)]
 pub struct RealBallot {
     ballot: Ballot,
@@ -111,7 +111,7 @@ impl RealBallot {
         Some(RealBallot { ballot })
     }
 
-    /// The same among all ballots, where it is compared with `Ballot::ZERO` and with what was promised.
+    /// The same as a `Ballot`, to compare with `Ballot::ZERO` and with what was promised.
     pub fn get(self) -> Ballot
         ensures value { result ≡ self }
         ensures real { IsReal self }

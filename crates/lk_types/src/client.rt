@@ -21,7 +21,7 @@ impl Model for ClientNo {
 }
 
 impl ClientNo {
-    /// The number, or `None` where it is out of range.
+    /// The number, or `None` if it is out of range.
     pub fn of(value: u16) -> Option<ClientNo>
         ensures some { IsSome result ↔ IsClient value }
         ensures value { IfSome result (λ n. n ≡ value) }

@@ -30,7 +30,7 @@ impl Model for Payload {
 }
 
 impl Payload {
-    /// The payload, or `None` where there are not 1 to 64 bytes.
+    /// The payload, or `None` if there are not 1 to 64 bytes.
     pub fn of(bytes: &[u8]) -> Option<Payload>
         ensures some { IsSome result ↔ IsPayload bytes.now }
         ensures value { IfSome result (λ b. b ≡ bytes.now) }
@@ -50,7 +50,7 @@ impl Payload {
         self.bytes.as_slice()
     }
 
-    /// The same payload. It takes no memory.
+    /// The same payload. Takes no memory.
     pub fn copy(&self) -> Payload
         ensures { result ≡ self.now }
     {
@@ -62,17 +62,17 @@ impl Payload {
 /// What a request asks for.
 #[derive(Debug, PartialEq, Eq, Drop)]
 pub enum Op {
-    /// Something of the machine.
+    /// An operation of the machine.
     Table(Payload),
-    /// That a node becomes a member, reached at a port.
+    /// A node becomes a member, reached at a port.
     Join(NodeNo, Port),
-    /// That a node is a member no longer.
+    /// A node is no longer a member.
     Leave(NodeNo),
-    /// That the machine know more from then on: what its second version knows.
+    /// The machine is raised: from then on it has the operations of its second version.
     Raise,
 }
 
-/// A client's request. The number makes it take effect once.
+/// A client's request. Its number makes it take effect once.
 #[derive(Debug, PartialEq, Eq, Drop)]
 pub struct Request {
     pub client: ClientNo,
@@ -89,7 +89,7 @@ pub enum Command {
 }
 
 impl Op {
-    /// The same op. It takes no memory.
+    /// The same op. Takes no memory.
     pub fn copy(&self) -> Op
         ensures { result ≡ self.now }
     {
@@ -101,7 +101,7 @@ impl Op {
         }
     }
 
-    /// Each part is in its range. It does nothing.
+    /// Each part is in its range. The function does nothing.
     pub fn facts(&self)
         ensures { IsOp self.now }
     {
@@ -122,7 +122,7 @@ impl Op {
 }
 
 impl Request {
-    /// The same request. It takes no memory.
+    /// The same request. Takes no memory.
     pub fn copy(&self) -> Request
         ensures { result ≡ self.now }
     {
@@ -133,7 +133,7 @@ impl Request {
         }
     }
 
-    /// Each part is in its range. It does nothing.
+    /// Each part is in its range. The function does nothing.
     pub fn facts(&self)
         ensures { IsRequest self.now }
     {
@@ -144,7 +144,7 @@ impl Request {
 }
 
 impl Command {
-    /// The same command. It takes no memory.
+    /// The same command. Takes no memory.
     pub fn copy(&self) -> Command
         ensures { result ≡ self.now }
     {
@@ -154,7 +154,7 @@ impl Command {
         }
     }
 
-    /// Each part is in its range. It does nothing.
+    /// Each part is in its range. The function does nothing.
     pub fn facts(&self)
         ensures { IsCommand self.now }
     {

@@ -3,7 +3,7 @@ use crate::command::Command;
 use crate::position::Position;
 use crate::vote::Vote;
 
-/// What a node writes so that a restart finds it.
+/// What a node saves for a restart.
 #[derive(Drop)]
 pub enum Entry {
     /// It promised, or began, this ballot.

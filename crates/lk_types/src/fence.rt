@@ -4,7 +4,7 @@ ghost use Rattle.lk_types.specs.Ranges.{IsCount};
 use crate::limits::MAX_COUNT;
 use std::marker::Model;
 
-/// A fence: how often a name was granted when this holder got it, from 1 to 2^48.
+/// A fence: the count of the name's grants up to this holder's, from 1 to 2^48.
 #[derive(Clone, Copy, Debug, PartialEq, Eq)]
 pub struct Fence {
     value: u64,
@@ -21,7 +21,7 @@ impl Model for Fence {
 }
 
 impl Fence {
-    /// The number, or `None` where it is out of range.
+    /// The number, or `None` if it is out of range.
     pub fn of(value: u64) -> Option<Fence>
         ensures some { IsSome result ↔ IsCount value }
         ensures value { IfSome result (λ n. n ≡ value) }

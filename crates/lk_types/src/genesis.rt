@@ -6,7 +6,7 @@ use crate::limits::{MAX_ALPHA, MAX_MEMBERS};
 use crate::member::{Member, Members};
 use thiserror::Error;
 
-/// Why there is no such genesis. Where several hold, the first of this order is told.
+/// Why a genesis is invalid. If several reasons apply, it is the first in this order.
 #[derive(Clone, Copy, Debug, Error)]
 pub enum GenesisFault {
     #[error("no members")]
@@ -20,7 +20,7 @@ pub enum GenesisFault {
 }
 
 impl GenesisFault {
-    /// The number of this refusal.
+    /// The number of this fault.
     pub fn number(self) -> u8
         ensures { result ≡ fault_number self }
     {
@@ -40,7 +40,7 @@ pub struct Genesis {
 impl Genesis {
     ghost use Rattle.lk_types.specs.Geneses.{IsGenesis};
 
-    /// The genesis, or why there is none.
+    /// The genesis, or why it is invalid.
     pub fn of(cluster: u64, alpha: u8, members: &[Member]) -> Result<Genesis, GenesisFault>
         ensures ok { IfOk result (λ g. (g.cluster ≡ cluster) × (g.alpha ≡ alpha) × (g.members ≡ members.now)) }
         ensures fault { MatchResult result (λ _. genesis_fault alpha members.now ≡ None) (λ e. genesis_fault alpha members.now ≡ Some e) }
@@ -64,7 +64,7 @@ impl Genesis {
         })
     }
 
-    /// The same genesis. It takes no memory.
+    /// The same genesis. Takes no memory.
     pub fn copy(&self) -> Genesis
         ensures cluster { result.cluster ≡ self.now.cluster }
         ensures alpha { result.alpha ≡ self.now.alpha }
@@ -77,7 +77,7 @@ impl Genesis {
         }
     }
 
-    /// Each part is in its range, and the members rise by node. It does nothing.
+    /// Each part is in its range, and the members rise by node. The function does nothing.
     pub fn facts(&self)
         ensures { IsGenesis self.now }
     {

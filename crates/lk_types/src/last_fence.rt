@@ -21,7 +21,7 @@ impl Model for LastFence {
 }
 
 impl LastFence {
-    /// The number, or `None` where it is out of range.
+    /// The number, or `None` if it is out of range.
     pub fn of(value: u64) -> Option<LastFence>
         ensures some { IsSome result ↔ IsTotal value }
         ensures value { IfSome result (λ n. n ≡ value) }

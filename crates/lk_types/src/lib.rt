@@ -1,5 +1,5 @@
-//! The values that all of `locks` speaks of: numbers in their ranges, ballots, commands, votes, answers, members
-//! and the genesis. Each value is in its range by its type, and no call takes memory.
+//! The values of `locks`: numbers in their ranges, ballots, commands, votes, answers, members and the genesis. The
+//! type of each value keeps it in its range, and no call takes memory.
 #![tactic(auto)]
 
 mod answer;

@@ -16,7 +16,7 @@ pub struct Member {
 }
 
 impl Member {
-    /// Each part is in its range. It does nothing.
+    /// Each part is in its range. The function does nothing.
     pub fn facts(self)
         ensures { IsMember self }
     {}
@@ -58,7 +58,7 @@ fn are_rising(members: &[Member]) -> bool
 }
 
 impl Members {
-    /// The set, or `None` where there are not 1 to 7 members, rising strictly by node.
+    /// The set, or `None` if there are not 1 to 7 members, strictly rising by node.
     pub fn of(members: &[Member]) -> Option<Members>
         ensures some { IsSome result ↔ AreMembers members.now }
         ensures value { IfSome result (λ m. m ≡ members.now) }
@@ -78,7 +78,7 @@ impl Members {
         self.list.as_slice()
     }
 
-    /// Each member is in its ranges, and they rise by node. It does nothing.
+    /// Each member is in its ranges, and they rise by node. The function does nothing.
     pub fn facts(&self)
         ensures members { AreMembers self.now }
         ensures ranges { AllByRecursion IsMember self.now }
@@ -89,7 +89,7 @@ impl Members {
         }
     }
 
-    /// The same set. It takes no memory.
+    /// The same set. Takes no memory.
     pub fn copy(&self) -> Members
         ensures { result ≡ self.now }
     {

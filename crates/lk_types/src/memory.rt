@@ -1,7 +1,7 @@
 use std::alloc::{AllocError, AllocFailed};
 use thiserror::Error;
 
-/// Memory was refused: a growth that was asked for did not happen.
+/// Out of memory: a collection could not grow.
 #[derive(Clone, Copy, Debug, Error)]
 #[error("no memory")]
 pub struct NoMemory;

@@ -21,7 +21,7 @@ impl Model for NodeNo {
 }
 
 impl NodeNo {
-    /// The number, or `None` where it is out of range.
+    /// The number, or `None` if it is out of range.
     pub fn of(value: u32) -> Option<NodeNo>
         ensures some { IsSome result ↔ IsNode value }
         ensures value { IfSome result (λ n. n ≡ value) }

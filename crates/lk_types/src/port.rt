@@ -21,7 +21,7 @@ impl Model for Port {
 }
 
 impl Port {
-    /// The number, or `None` where it is out of range.
+    /// The number, or `None` if it is out of range.
     pub fn of(value: u16) -> Option<Port>
         ensures some { IsSome result ↔ IsPort value }
         ensures value { IfSome result (λ n. n ≡ value) }

@@ -21,7 +21,7 @@ impl Model for Position {
 }
 
 impl Position {
-    /// The number, or `None` where it is out of range.
+    /// The number, or `None` if it is out of range.
     pub fn of(value: u64) -> Option<Position>
         ensures some { IsSome result ↔ IsCount value }
         ensures value { IfSome result (λ n. n ≡ value) }

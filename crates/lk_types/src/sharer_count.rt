@@ -21,7 +21,7 @@ impl Model for SharerCount {
 }
 
 impl SharerCount {
-    /// The number, or `None` where it is out of range.
+    /// The number, or `None` if it is out of range.
     pub fn of(value: u8) -> Option<SharerCount>
         ensures some { IsSome result ↔ IsSharerCount value }
         ensures value { IfSome result (λ n. n ≡ value) }

@@ -14,7 +14,7 @@ pub struct Vote {
 }
 
 impl Vote {
-    /// The same vote. It takes no memory.
+    /// The same vote. Takes no memory.
     pub fn copy(&self) -> Vote
         ensures { result ≡ self.now }
     {
@@ -25,7 +25,7 @@ impl Vote {
         }
     }
 
-    /// Each part is in its range. It does nothing.
+    /// Each part is in its range. The function does nothing.
     pub fn facts(&self)
         ensures { IsVote self.now }
     {

@@ -1,4 +1,4 @@
--- Votes that are kept in the order of their positions.
+-- Votes in order of their positions.
 use Rattle.std.specs.Prelude.{ℕ, suc, nat_lt, ◌==◌, List, [], ◌∷◌, IsTrue, if◌then◌else◌}
 use Rattle.lk_types.specs.Ballots.{is_below}
 use Rattle.lk_types.specs.declared.vote.Vote.{Vote}
@@ -8,7 +8,7 @@ use Rattle.lk_wire.specs.Values.{are_votes_above}
 abbrev pub AreRising : List Vote → Type 0
 AreRising votes = (low : ℕ) × IsTrue (are_votes_above low votes)
 
--- so many votes of smaller positions are in front
+-- this many votes of smaller positions come first
 abbrev pub votes_below : ℕ → List Vote → ℕ
 votes_below i [] = 0
 votes_below i (v ∷ vs) = if nat_lt v.position i then suc (votes_below i vs) else 0

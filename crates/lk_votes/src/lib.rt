@@ -1,5 +1,5 @@
-//! Votes that are kept in the order of their positions, at each position the one of greatest ballot: so an acceptor holds
-//! them, and so a store tells what its entries stand for.
+//! Votes in order of their positions, at each position the one of greatest ballot: an acceptor keeps them like this,
+//! and so does what a store's entries stand for.
 #![tactic(auto)]
 
 ghost use Rattle.std.specs.Prelude.{◌≡◌, ◌≤◌, length, vec_len, vec_capacity, OnOk, OnErr};
@@ -7,7 +7,7 @@ ghost use Rattle.lk_votes.specs.VoteLists.{AreRising, votes_below, votes_with};
 
 use lk_types::{NoMemory, Position, Vote};
 
-/// How many votes of smaller positions are in front.
+/// How many votes of smaller positions come first.
 pub fn votes_below(position: Position, votes: &[Vote]) -> usize
     requires { AreRising votes.now }
     ensures value { result ≡ votes_below position votes.now }
@@ -16,8 +16,8 @@ pub fn votes_below(position: Position, votes: &[Vote]) -> usize
     votes.partition_point(|vote| vote.position < position)
 }
 
-/// Keeps a vote in its place. Of two votes at a position the one of greater ballot is kept, the earlier where they are
-/// equal. Memory is asked for only where there is no room; where it is refused nothing has changed.
+/// Keeps a vote in its place. Of two votes at a position it keeps the one of greater ballot, the earlier if they are
+/// equal. It needs memory only if there is no room; out of memory it changes nothing.
 #[tactic(auto, using(crate::proofs::InOrder::at_end, crate::proofs::InOrder::at_other, crate::proofs::InOrder::at_below, crate::proofs::InOrder::at_above))]
 pub fn keep_vote(votes: &mut Vec<Vote>, vote: Vote) -> Result<(), NoMemory>
     requires { AreRising votes.old.items }

@@ -1,4 +1,4 @@
--- The one spelling of each message, and which messages fit.
+-- The canonical spelling of each message, and which messages are valid.
 use Rattle.std.specs.Prelude.{◌≡◌, ℕ, ◌<◌, ◌^◌, List, ◌∷◌, ◌++◌, length}
 use Rattle.std.specs.List.{flat_map}
 use Rattle.lk_types.specs.Ranges.{IsNode, IsClient, IsCount, IsTotal}
@@ -31,7 +31,7 @@ votes vs = one (length vs) ++ flat_map vote vs
 abbrev pub promise : PromiseValue → List ℕ
 promise p = ballot p.ballot ++ (eight p.first ++ votes p.votes)
 
--- what an Accept proposes or an Accepted tells: here the ballot comes first
+-- what an Accept proposes or an Accepted reports: here the ballot comes first
 abbrev pub proposal : Vote → List ℕ
 proposal v = ballot v.ballot ++ (eight v.position ++ command v.command)
 
@@ -114,7 +114,7 @@ header k cluster from = 76 ∷ 75 ∷ 1 ∷ k ∷ (eight cluster ++ four from)
 abbrev pub spelling : Message → List ℕ
 spelling m = header (kind m.content) m.cluster (sender m.content) ++ fields m.content
 
--- ---- what fits
+-- ---- validity
 
 abbrev pub IsNack : Nack → Type 0
 IsNack n = IsReal n.ballot × IsMark n.promised × IsTotal n.executed

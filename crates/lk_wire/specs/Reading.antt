@@ -62,7 +62,7 @@ read_lead = made (λ l. kinds.Lead l.0 l.1) (both read_ballot read_total)
 
 -- ---- by kind
 
--- the kinds that hold neither a list nor a piece of a snapshot
+-- the kinds with neither a list nor a piece of a snapshot
 unfoldable pub small_of : ℕ → List ℕ → Option (NodeMessage × List ℕ)
 small_of =
     kind 1 read_prepare
@@ -87,7 +87,7 @@ node_of =
 unfoldable pub read_asked : ℕ → List ℕ → Option (Content × List ℕ)
 read_asked from bytes = if from == 0 then made content.Request read_request bytes else None
 
--- what stands after the header
+-- what follows the header
 unfoldable pub content_of : ℕ → ℕ → List ℕ → Option (Content × List ℕ)
 content_of k from bytes =
     if k == 9 then read_asked from bytes

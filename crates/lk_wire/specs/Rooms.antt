@@ -1,4 +1,4 @@
--- How many bytes a datagram takes at most.
+-- The most bytes that a datagram takes.
 use Rattle.std.specs.Prelude.{ℕ, ◌+◌, ◌*◌, length}
 use Rattle.lk_fields.specs.Rooms.{mark_room, request_room, command_room, vote_room}
 use Rattle.lk_wire.specs.declared.message.NodeMessage.{NodeMessage}

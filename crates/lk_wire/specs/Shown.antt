@@ -1,4 +1,4 @@
--- The message that a view shows, and where its slices lie in the datagram.
+-- The message that a view shows, and where its slices are in the datagram.
 use Rattle.std.specs.Prelude.{◌≡◌, ℕ, List, drop}
 use Rattle.std.specs.List.{flat_map}
 use Rattle.lk_wire.specs.declared.message.NodeMessage.{NodeMessage}
@@ -34,7 +34,7 @@ shown_content (seen.Node node m) = content.Node node (shown_node m)
 abbrev pub shown : MessageRef → Message
 shown m = record { cluster = m.cluster; content = shown_content m.content }
 
--- from this place on the datagram is this slice and nothing else
+-- from this place on the datagram is exactly this slice
 abbrev pub LiesAt : ℕ → List ℕ → List ℕ → Type 0
 LiesAt place slice bytes = drop place bytes ≡ slice
 
@@ -46,7 +46,7 @@ NodeSlicesLie (kinds.Decided d) bytes = LiesAt 25 (flat_map command d.commands) 
 NodeSlicesLie (kinds.Part p) bytes = LiesAt 34 p.bytes bytes
 NodeSlicesLie _ bytes = Unit {0}
 
--- what a view hands out as a slice lies at its place: votes, commands, a snapshot's bytes, a client's request
+-- the slices that a view returns are at their places: votes, commands, a snapshot's bytes, a client's request
 abbrev pub LieAtTheirPlaces : Content → List ℕ → Type 0
 LieAtTheirPlaces (content.Request r) bytes = LiesAt 16 (request r) bytes
 LieAtTheirPlaces (content.Node node m) bytes = NodeSlicesLie m bytes

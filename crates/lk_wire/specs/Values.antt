@@ -1,4 +1,4 @@
--- What a contract sees of the parts of a message whose fields are tied to one another.
+-- What a contract sees of messages whose fields depend on one another.
 use Rattle.std.specs.Prelude.{ℕ, ◌+◌, ◌<◌, ◌≤◌, ◌-◌, Bool, true, nat_lt, nat_le, ◌&&◌, List, [], ◌∷◌, length, IsTrue}
 use Rattle.std.specs.List.{AllByRecursion}
 use Rattle.lk_types.specs.Limits.{max_count, max_votes, max_commands, max_part, max_base}
@@ -33,7 +33,7 @@ pub record DecidedValue : Type 0 where
   pub first : ℕ
   pub commands : List Command
 
--- so many commands are 1 to 16, the last for a position of at most 2^48
+-- this is a count of 1 to 16 commands, the last for a position of at most 2^48
 abbrev pub is_run : ℕ → ℕ → Bool
 is_run first count = nat_le 1 count && nat_le count max_commands && nat_le (first + count) (max_count + 1)
 
@@ -43,7 +43,7 @@ are_commands_from first cs = is_run first (length cs)
 abbrev pub IsDecided : DecidedValue → Type 0
 IsDecided d = IsCount d.first × AllByRecursion IsCommand d.commands × IsTrue (are_commands_from d.first d.commands)
 
--- what is wanted: commands from first on, or else a snapshot from offset on
+-- what is wanted: commands from first on, or otherwise a snapshot from offset on
 pub record WantValue : Type 0 where
   pub first : ℕ
   pub offset : ℕ
@@ -51,18 +51,18 @@ pub record WantValue : Type 0 where
 abbrev pub IsWant : WantValue → Type 0
 IsWant w = IsCount w.first × (w.offset ≤ max_base)
 
--- so many bytes of a snapshot at a position, of which it has total
+-- this many bytes of a snapshot at a position, of which it has total
 pub record PartValue : Type 0 where
   pub position : ℕ
   pub total : ℕ
   pub offset : ℕ
   pub bytes : List ℕ
 
--- 1 to 1,024 bytes after the offset lie within the total, which is 1 to 49,152
+-- 1 to 1,024 bytes after the offset are within the total, which is 1 to 49,152
 abbrev pub LieWithin : ℕ → ℕ → ℕ → Type 0
 LieWithin total offset n = (1 ≤ total) × (total ≤ max_base) × (1 ≤ n) × (n ≤ max_part) × (offset + n ≤ total)
 
--- it lies within its total
+-- it is within its total
 abbrev pub IsWithin : PartValue → Type 0
 IsWithin p = LieWithin p.total p.offset (length p.bytes)
 

@@ -33,7 +33,7 @@ impl Model for Decided {
     ghost invariant = { λ d. IsDecided (record { first = d.first; commands = d.commands.items }) };
 }
 
-/// Each command is in its range. It does nothing.
+/// Each command is in its range. The function does nothing.
 fn commands_facts(commands: &[Command])
     ensures { AllByRecursion IsCommand commands.now }
 {
@@ -42,7 +42,7 @@ fn commands_facts(commands: &[Command])
     }
 }
 
-/// Whether so many commands are 1 to 16, the last for a position of at most 2^48.
+/// Whether this is a count of 1 to 16 commands, the last for a position of at most 2^48.
 fn is_run(first: Position, count: usize) -> bool
     ensures { result ≡ is_run first count }
 {
@@ -50,7 +50,7 @@ fn is_run(first: Position, count: usize) -> bool
 }
 
 impl Decided {
-    /// The news, or `None` where there are not 1 to 16 commands or the last one's position is above 2^48.
+    /// The value, or `None` if there are not 1 to 16 commands or the last one's position is above 2^48.
     pub fn of(first: Position, commands: Vec<Command>) -> Option<Decided>
         ensures some { IsSome result ↔ IsTrue (are_commands_from first commands.items) }
         ensures value { IfSome result (λ d. d ≡ record { first = first; commands = commands.items }) }
@@ -63,7 +63,7 @@ impl Decided {
         Some(Decided { first, commands })
     }
 
-    /// Each part is in its range, and no command lies past the last position. It does nothing.
+    /// Each part is in its range, and no command is past the last position. The function does nothing.
     pub fn facts(&self)
         ensures { IsDecided self.now }
     {
@@ -71,7 +71,7 @@ impl Decided {
     }
 }
 
-/// Commands in a datagram, one after another: so many, and the bytes that spell them and nothing else. A contract sees the
+/// Commands in a datagram, one after another: their count, and exactly the bytes that spell them. A contract sees the
 /// list of them.
 #[derive(Drop)]
 pub struct Commands<'a> {
@@ -91,7 +91,7 @@ impl<'a> Model for Commands<'a> {
     ghost invariant = { λ c. AreCommands c.count c.bytes.now };
 }
 
-/// What stands after so many commands.
+/// What follows this many commands.
 fn end_of(count: u8, bytes: &[u8]) -> Option<&[u8]>
     ensures { Finds (λ x. x.now) result (past (many read_command count) bytes.now) }
 {
@@ -102,7 +102,7 @@ fn end_of(count: u8, bytes: &[u8]) -> Option<&[u8]>
     Some(rest)
 }
 
-/// Of bytes that are so many commands: these are so many and in their ranges. It does nothing.
+/// If the bytes are this many commands, there are that many, in their ranges. The function does nothing.
 fn facts_of(count: u8, bytes: &[u8])
     ensures count { AreCommands count bytes.now → length (commands_in count bytes.now) ≡ count }
     ensures in_range { AreCommands count bytes.now → AllByRecursion IsCommand (commands_in count bytes.now) }
@@ -111,7 +111,7 @@ fn facts_of(count: u8, bytes: &[u8])
 }
 
 impl<'a> Commands<'a> {
-    /// So many commands, and what stands after them.
+    /// This many commands, and what follows them.
     fn of(count: u8, bytes: &'a [u8]) -> Option<(Commands<'a>, &'a [u8])>
         ensures { Finds (λ x. (x.0, x.1.now)) result (many read_command count bytes.now) }
     {
@@ -138,7 +138,7 @@ impl<'a> Commands<'a> {
         self.count as usize
     }
 
-    /// The others than the first, where there is one: it is stepped over.
+    /// The commands after the first, if there is one, which is skipped.
     pub fn skip(&self) -> Option<Commands<'a>>
         ensures some { IfSome result (λ others. (c : Command) × (self.now ≡ c ∷ others)) }
         ensures none { result ≡ None → self.now ≡ [] }
@@ -189,7 +189,7 @@ impl<'a> Commands<'a> {
     }
 }
 
-/// A Decided in a datagram. A contract sees what it sees of the Decided.
+/// A Decided in a datagram. A contract sees it as the Decided.
 #[derive(Drop)]
 pub struct DecidedRef<'a> {
     first: Position,
@@ -222,7 +222,7 @@ impl<'a> DecidedRef<'a> {
         &self.commands
     }
 
-    /// Each part is in its range, and no command lies past the last position. It does nothing.
+    /// Each part is in its range, and no command is past the last position. The function does nothing.
     pub fn facts(&self)
         ensures { IsDecided self.now }
     {
@@ -230,7 +230,7 @@ impl<'a> DecidedRef<'a> {
         facts_of(self.commands.count, self.commands.bytes);
     }
 
-    /// The same Decided, which owns its commands.
+    /// The same Decided, owning its commands.
     pub fn copy(&self, alloc: Global) -> Result<Decided, NoMemory>
         ensures { IfOk result (λ d. d ≡ self.now) }
     {

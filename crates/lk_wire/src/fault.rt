@@ -2,7 +2,7 @@ ghost use Rattle.std.specs.Prelude.{◌≡◌};
 
 use thiserror::Error;
 
-/// The bytes are no datagram: refusal 5.
+/// The bytes are no datagram: error 5.
 #[derive(Clone, Copy, Debug, Error)]
 #[error("the bytes are no datagram")]
 pub struct Bad;
@@ -19,7 +19,7 @@ pub enum ReadFault {
 impl ReadFault {
     ghost use Rattle.lk_wire.specs.Faults.{fault_number};
 
-    /// The number of this refusal.
+    /// The number of this fault.
     pub fn number(self) -> u8
         ensures { result ≡ fault_number self }
     {

@@ -11,7 +11,7 @@ ghost use Rattle.lk_fields.specs.Fields.{request, command, vote, pair, answer};
 ghost use Rattle.lk_wire.specs.declared.message.Message.{Message};
 ghost use Rattle.lk_wire.specs.Grammar.{Spells, spelling, IsMessage};
 
-/// A message has one spelling, and each message that fits has it.
+/// A message has one spelling, and each valid message has it.
 pub fn one_spelling()
     ensures only { (m : Message) (a b : List ℕ) → Spells m a → Spells m b → a ≡ b }
     ensures some { (m : Message) → IsMessage m → Spells m (spelling m) }
@@ -27,7 +27,7 @@ pub fn prefix_free()
     ensures { (m n : Message) (rest : List ℕ) → IsMessage m → IsMessage n → spelling m ++ rest ≡ spelling n → (m ≡ n) × (rest ≡ []) }
 {}
 
-/// How many bytes a spelling has at most. A datagram that long is a Promise with thirty-two votes.
+/// The most bytes of a spelling. A datagram of that length is a Promise with thirty-two votes.
 pub fn lengths()
     ensures of_request { (r : Request) → IsRequest r → length (request r) ≤ 76 }
     ensures of_command { (c : Command) → IsCommand c → length (command c) ≤ 77 }

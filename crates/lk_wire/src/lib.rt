@@ -1,4 +1,4 @@
-//! Datagrams as bytes: each message has one spelling, `view` and `read` take these spellings and nothing else, the one in
+//! Datagrams as bytes: each message has one spelling, and `view` and `read` accept exactly these spellings, the one in
 //! place and the other into memory.
 #![tactic(auto)]
 

@@ -12,8 +12,8 @@ use lk_types::{
 };
 use std::marker::Model;
 
-/// What a node that lies behind asks for: the commands from a position on, or, where these are gone, a snapshot from
-/// an offset on.
+/// What a node that is behind asks for: the commands from a position on, or, if these are gone, a snapshot from an
+/// offset on.
 #[derive(Clone, Copy, Debug)]
 pub struct Want {
     first: Position,
@@ -33,7 +33,7 @@ impl Model for Want {
 }
 
 impl Want {
-    /// The wish, or `None` where the offset is above 49,152.
+    /// The value, or `None` if the offset is above 49,152.
     pub fn of(first: Position, offset: u32) -> Option<Want>
         ensures some { IsSome result ↔ (offset ≤ max_base) }
         ensures value { IfSome result (λ w. w ≡ record { first = first; offset = offset }) }
@@ -52,20 +52,20 @@ impl Want {
         self.first
     }
 
-    /// How many bytes of a snapshot are there already.
+    /// How many bytes of a snapshot the node has already.
     pub fn offset(self) -> u32
         ensures { result ≡ self.offset }
     {
         self.offset
     }
 
-    /// Each part is in its range. It does nothing.
+    /// Each part is in its range. The function does nothing.
     pub fn facts(self)
         ensures { IsWant self }
     {}
 }
 
-/// What a node tells a client whose number lies below its last one: it is never answered.
+/// What a node tells a client whose number is below its last one: the request is never answered.
 #[derive(Clone, Copy, Debug)]
 pub struct Passed {
     client: ClientNo,
@@ -86,7 +86,7 @@ impl Model for Passed {
 }
 
 impl Passed {
-    /// The news for that client and number, or `None` where the last number is not above it.
+    /// The value for that client and number, or `None` if the last number is not above it.
     pub fn of(client: ClientNo, number: RequestNumber, last: RequestNumber) -> Option<Passed>
         ensures some { IsSome result ↔ (number < last) }
         ensures value { IfSome result (λ p. p ≡ record { client = client; number = number; last = last }) }
@@ -102,7 +102,7 @@ impl Passed {
         })
     }
 
-    /// The client that is told.
+    /// The client.
     pub fn client(self) -> ClientNo
         ensures { result ≡ self.client }
     {
@@ -123,13 +123,13 @@ impl Passed {
         self.last
     }
 
-    /// Each part is in its range, and the last number above the other. It does nothing.
+    /// Each part is in its range, and the last number is above the other. The function does nothing.
     pub fn facts(self)
         ensures { IsPassed self }
     {}
 }
 
-/// A refusal: the ballot that was refused, the one that is promised, and how many positions its sender has executed.
+/// A rejection: the rejected ballot, the promised one, and how many positions its sender has executed.
 #[derive(Clone, Copy, Debug)]
 pub struct Nack {
     pub ballot: RealBallot,
@@ -137,7 +137,7 @@ pub struct Nack {
     pub executed: Executed,
 }
 
-/// What a client's request is answered.
+/// The answer to a client's request.
 #[derive(Clone, Copy, Debug)]
 pub struct Answered {
     pub client: ClientNo,
@@ -145,7 +145,7 @@ pub struct Answered {
     pub answer: Answer,
 }
 
-/// Where a client had better ask.
+/// Where a client should ask instead.
 #[derive(Clone, Copy, Debug)]
 pub struct Elsewhere {
     pub client: ClientNo,
@@ -153,7 +153,7 @@ pub struct Elsewhere {
     pub member: Member,
 }
 
-/// What a node sends.
+/// A node's message.
 #[derive(Debug, Drop)]
 pub enum NodeMessage {
     /// It asks for promises of a ballot, from a position on (Lamport 2001, section 2.2, phase 1a).
@@ -161,7 +161,7 @@ pub enum NodeMessage {
     Promise(Promise),
     /// It proposes a command for a position in a ballot (phase 2a).
     Accept(Vote),
-    /// It voted so (phase 2b).
+    /// It voted for that (phase 2b).
     Accepted(Vote),
     Nack(Nack),
     Decided(Decided),
@@ -170,16 +170,16 @@ pub enum NodeMessage {
     Answer(Answered),
     Elsewhere(Elsewhere),
     Passed(Passed),
-    /// It leads in this ballot, and has executed so many positions.
+    /// It leads in this ballot, and has executed this many positions.
     Lead(RealBallot, Executed),
 }
 
-/// What a datagram says, and who says it.
+/// The content of a datagram, and its sender.
 #[derive(Debug, Drop)]
 pub enum Content {
     /// A client asks. No node is its sender.
     Request(Request),
-    /// That node says so.
+    /// That node says this.
     Node(NodeNo, NodeMessage),
 }
 
@@ -193,7 +193,7 @@ pub struct Message {
 impl NodeMessage {
     ghost use Rattle.lk_wire.specs.Grammar.{IsNodeMessage};
 
-    /// Each part is in its range. It does nothing.
+    /// Each part is in its range. The function does nothing.
     pub fn facts(&self)
         ensures { IsNodeMessage self.now }
     {
@@ -228,7 +228,7 @@ impl NodeMessage {
 impl Content {
     ghost use Rattle.lk_wire.specs.Grammar.{IsContent};
 
-    /// Each part is in its range. It does nothing.
+    /// Each part is in its range. The function does nothing.
     pub fn facts(&self)
         ensures { IsContent self.now }
     {
@@ -245,7 +245,7 @@ impl Content {
 impl Message {
     ghost use Rattle.lk_wire.specs.Grammar.{IsMessage};
 
-    /// Each part is in its range. It does nothing.
+    /// Each part is in its range. The function does nothing.
     pub fn facts(&self)
         ensures { IsMessage self.now }
     {

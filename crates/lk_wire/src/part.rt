@@ -13,7 +13,7 @@ use lk_types::{NoMemory, Position};
 use std::alloc::Global;
 use std::marker::Model;
 
-/// A piece of a packed snapshot: the snapshot's position and length, where in it the piece stands, and its bytes.
+/// A piece of a packed snapshot: the snapshot's position and length, the offset of the piece, and its bytes.
 #[derive(Debug, Drop)]
 pub struct Part {
     pub(crate) position: Position,
@@ -32,7 +32,7 @@ impl Model for Part {
     ghost invariant = { λ p. IsPart (record { position = p.position; total = p.total; offset = p.offset; bytes = p.bytes.items }) };
 }
 
-/// Whether so many bytes after the offset lie within the total, which is 1 to 49,152, and are 1 to 1,024.
+/// Whether the total is 1 to 49,152 bytes, the piece has 1 to 1,024, and it ends within the total.
 fn is_within(total: u32, offset: u32, length: usize) -> bool
     ensures { IsTrue result ↔ LieWithin total offset length }
 {
@@ -44,7 +44,7 @@ fn is_within(total: u32, offset: u32, length: usize) -> bool
 }
 
 impl Part {
-    /// The piece, or `None` where the total is not 1 to 49,152, there are not 1 to 1,024 bytes, or they end past the
+    /// The piece, or `None` if the total is not 1 to 49,152, there are not 1 to 1,024 bytes, or they end past the
     /// total.
     pub fn of(position: Position, total: u32, offset: u32, bytes: Vec<u8>) -> Option<Part>
         ensures some { IsSome result ↔ IsWithin (record { position = position; total = total; offset = offset; bytes = bytes.items }) }
@@ -62,7 +62,7 @@ impl Part {
         })
     }
 
-    /// Each part is in its range, and the piece within its total. It does nothing.
+    /// Each part is in its range, and the piece within its total. The function does nothing.
     pub fn facts(&self)
         ensures { IsPart self.now }
     {
@@ -70,7 +70,7 @@ impl Part {
     }
 }
 
-/// A Part in a datagram. A contract sees what it sees of the Part.
+/// A Part in a datagram. A contract sees it as the Part.
 #[derive(Drop)]
 pub struct PartRef<'a> {
     position: Position,
@@ -104,7 +104,7 @@ impl<'a> PartRef<'a> {
         self.total
     }
 
-    /// How many of them stand before this piece.
+    /// How many of them precede this piece.
     pub fn offset(&self) -> u32
         ensures { result ≡ self.now.offset }
     {
@@ -118,14 +118,14 @@ impl<'a> PartRef<'a> {
         self.bytes
     }
 
-    /// Each part is in its range, and the piece within its total. It does nothing.
+    /// Each part is in its range, and the piece within its total. The function does nothing.
     pub fn facts(&self)
         ensures { IsPart self.now }
     {
         let _ = self.position.get();
     }
 
-    /// The same Part, which owns its bytes.
+    /// The same Part, owning its bytes.
     pub fn copy(&self, alloc: Global) -> Result<Part, NoMemory>
         ensures { IfOk result (λ p. p ≡ self.now) }
     {
@@ -134,7 +134,7 @@ impl<'a> PartRef<'a> {
     }
 }
 
-/// The length of some bytes and then these.
+/// The length of some bytes and then the bytes.
 fn read_slice(bytes: &[u8]) -> Option<(&[u8], &[u8])>
     ensures { Finds (λ x. (x.0.now, x.1.now)) result (sized read_two bytes.now) }
 {

@@ -16,7 +16,7 @@ use lk_types::{NoMemory, Position, RealBallot, Vote};
 use std::alloc::Global;
 use std::marker::Model;
 
-/// What an acceptor answers to a Prepare: it will take part in no smaller ballot, and these are the votes that it keeps
+/// An acceptor's reply to a Prepare: it will take part in no smaller ballot, and these are the votes that it keeps
 /// from `first` on (Lamport 2001, section 2.2, phase 1b).
 #[derive(Debug, Drop)]
 pub struct Promise {
@@ -35,7 +35,7 @@ impl Model for Promise {
     ghost invariant = { λ p. IsPromise (record { ballot = p.ballot; first = p.first; votes = p.votes.items }) };
 }
 
-/// Each vote is in its range. It does nothing.
+/// Each vote is in its range. The function does nothing.
 fn votes_facts(votes: &[Vote])
     ensures { AllByRecursion IsVote votes.now }
 {
@@ -63,7 +63,8 @@ fn are_from(first: Position, votes: &[Vote]) -> bool
 }
 
 impl Promise {
-    /// The promise, or `None` where the votes are more than 32, do not rise strictly by position or begin below `first`.
+    /// The promise, or `None` if there are more than 32 votes, or they do not rise strictly by position or begin below
+    /// `first`.
     pub fn of(ballot: RealBallot, first: Position, votes: Vec<Vote>) -> Option<Promise>
         ensures some { IsSome result ↔ IsTrue (are_votes_from first votes.items) }
         ensures value { IfSome result (λ p. p ≡ record { ballot = ballot; first = first; votes = votes.items }) }
@@ -80,7 +81,7 @@ impl Promise {
         })
     }
 
-    /// Each part is in its range, and the votes rise from `first` on. It does nothing.
+    /// Each part is in its range, and the votes rise from `first` on. The function does nothing.
     pub fn facts(&self)
         ensures { IsPromise self.now }
     {
@@ -88,7 +89,7 @@ impl Promise {
     }
 }
 
-/// Votes in a datagram, one after another: so many, and the bytes that spell them and nothing else. A contract sees the
+/// Votes in a datagram, one after another: their count, and exactly the bytes that spell them. A contract sees the
 /// list of them.
 #[derive(Drop)]
 pub struct Votes<'a> {
@@ -108,7 +109,7 @@ impl<'a> Model for Votes<'a> {
     ghost invariant = { λ v. AreVotes v.count v.bytes.now };
 }
 
-/// Whether so many votes rise strictly by position, the first above `low`, and what stands after them.
+/// Whether this many votes rise strictly by position, the first above `low`, and what follows them.
 fn end_of(count: u8, low: u64, bytes: &[u8]) -> Option<(bool, &[u8])>
     ensures { Finds (λ x. (x.0, x.1.now)) result (made (are_votes_above low) (many read_vote count) bytes.now) }
 {
@@ -128,7 +129,7 @@ fn end_of(count: u8, low: u64, bytes: &[u8]) -> Option<(bool, &[u8])>
 }
 
 impl<'a> Votes<'a> {
-    /// So many votes, whether they rise strictly by position, the first above `low`, and what stands after them.
+    /// This many votes, whether they rise strictly by position, the first above `low`, and what follows them.
     fn of(count: u8, low: u64, bytes: &'a [u8]) -> Option<(Votes<'a>, bool, &'a [u8])>
         ensures found { Finds (λ x. (x.0, x.2.now)) result (many read_vote count bytes.now) }
         ensures rising { IfSome result (λ x. x.1 ≡ are_votes_above low x.0) }
@@ -157,7 +158,7 @@ impl<'a> Votes<'a> {
     }
 }
 
-/// A Promise in a datagram. A contract sees what it sees of the Promise.
+/// A Promise in a datagram. A contract sees it as the Promise.
 #[derive(Drop)]
 pub struct PromiseRef<'a> {
     ballot: RealBallot,
@@ -177,14 +178,14 @@ impl<'a> Model for PromiseRef<'a> {
 }
 
 impl<'a> PromiseRef<'a> {
-    /// The ballot that is promised.
+    /// The promised ballot.
     pub fn ballot(&self) -> RealBallot
         ensures { result ≡ self.now.ballot }
     {
         self.ballot
     }
 
-    /// The first position of which it tells.
+    /// The first position on which it reports.
     pub fn first(&self) -> Position
         ensures { result ≡ self.now.first }
     {
@@ -198,7 +199,7 @@ impl<'a> PromiseRef<'a> {
         &self.votes
     }
 
-    /// The same Promise, which owns its votes.
+    /// The same Promise, owning its votes.
     pub fn copy(&self, alloc: Global) -> Result<Promise, NoMemory>
         ensures { IfOk result (λ p. p ≡ self.now) }
     {
@@ -212,7 +213,7 @@ impl<'a> PromiseRef<'a> {
 pub fn read_promise(bytes: &[u8]) -> Option<(NodeMessageRef<'_>, &[u8])>
     ensures { Finds (λ x. (shown_node x.0, x.1.now)) result (made kinds.Promise read_promise bytes.now) }
 {
-    // From just below `first`, so that `first` itself passes.
+    // Starts just below `first`, so that `first` itself passes.
     if let Some((ballot, rest)) = read_ballot(bytes)
         && let Some((first, rest)) = read_position(rest)
         && let Some((count, rest)) = read_u8(rest)

@@ -1,5 +1,4 @@
-//! Bytes seen as a message: nothing is copied, and no memory is taken. Bytes are read as a message by a view that is
-//! copied.
+//! Viewing bytes as a message: nothing is copied, and no memory is taken. To read a message is to copy a view of it.
 
 ghost use Rattle.std.specs.Prelude.{◌≡◌, ◌⊎◌, List, ℕ, Ok, Err, IfOk, IsOkAnd};
 ghost use Rattle.lk_wire.specs.declared.message.Message.{Message};
@@ -148,7 +147,7 @@ fn read_lead(bytes: &[u8]) -> Option<(NodeMessageRef<'_>, &[u8])>
     None
 }
 
-/// What a node says, by the kind.
+/// A node's message, by its kind.
 #[tactic(auto, unfolding(crate::specs::Reading::node_of, crate::specs::Reading::small_of))]
 fn node_of(kind: u8, bytes: &[u8]) -> Option<(NodeMessageRef<'_>, &[u8])>
     ensures { Finds (λ x. (shown_node x.0, x.1.now)) result (node_of kind bytes.now) }
@@ -199,7 +198,7 @@ fn read_asked(sender: u32, bytes: &[u8]) -> Option<(ContentRef<'_>, &[u8])>
     None
 }
 
-/// What stands after the header.
+/// What follows the header.
 #[tactic(auto, unfolding(crate::specs::Reading::content_of))]
 fn content_of(kind: u8, sender: u32, bytes: &[u8]) -> Option<(ContentRef<'_>, &[u8])>
     ensures { Finds (λ x. (shown_content x.0, x.1.now)) result (content_of kind sender bytes.now) }
@@ -229,14 +228,14 @@ fn all_of(bytes: &[u8]) -> Option<MessageRef<'_>>
     Some(MessageRef { cluster, content })
 }
 
-/// The message that the bytes spell, where it stands: its votes, its commands, its request and its piece of a snapshot are
-/// slices of the bytes. The bytes are bad exactly where no message is spelled so.
+/// The message that the bytes spell, in place: its votes, its commands, its request and its piece of a snapshot are
+/// slices of the bytes. The bytes are bad exactly if they spell no message.
 pub fn view(bytes: &[u8]) -> Result<MessageRef<'_>, Bad>
-    // What is seen is spelled so.
+    // What is viewed is spelled there.
     ensures found { IfOk result (λ m. Spells (shown m) bytes.now) }
-    // What is spelled so is seen.
+    // What is spelled there is viewed.
     ensures only { (m : Message) → Spells m bytes.now → IsOkAnd result (λ r. shown r ≡ m) }
-    // Each slice lies at its place in the bytes.
+    // Each slice is at its place in the bytes.
     ensures places { IfOk result (λ m. LieAtTheirPlaces (shown m).content bytes.now) }
 {
     let Some(message) = all_of(bytes) else {
@@ -247,11 +246,11 @@ pub fn view(bytes: &[u8]) -> Result<MessageRef<'_>, Bad>
 
 /// The message that the bytes spell.
 pub fn read(alloc: Global, bytes: &[u8]) -> Result<Message, ReadFault>
-    // What is read is spelled so.
+    // What is read is spelled there.
     ensures found { IfOk result (λ m. Spells m bytes.now) }
-    // What is spelled so is read, unless memory was refused.
+    // What is spelled there is read, unless it is out of memory.
     ensures only { (m : Message) → Spells m bytes.now → (result ≡ Ok m) ⊎ (result ≡ Err ReadFault.NoMemory) }
-    // The bytes are bad exactly where no message is spelled so.
+    // The bytes are bad exactly if they spell no message.
     ensures bad { result ≡ Err ReadFault.Bad → (m : Message) → Spells m bytes.now → ⊥ }
 {
     let Ok(message) = view(bytes) else {

@@ -89,7 +89,7 @@ fn put_part(out: &mut BytesMut, value: &Part) -> Result<(), AllocError>
     out.put_slice(bytes)
 }
 
-/// The byte that says which message it is.
+/// The tag of a message's kind.
 fn kind_of(message: &NodeMessage) -> u8
     ensures { result ≡ node_kind message.now }
 {
@@ -175,10 +175,10 @@ fn put_message(out: &mut BytesMut, message: &Message) -> Result<(), AllocError>
     Ok(())
 }
 
-/// How many bytes a header takes: two letters and the version, the kind, the cluster and the sender.
+/// The length of a header: two letters and the version, the kind, the cluster and the sender.
 const HEADER_ROOM: usize = 3 + 1 + 8 + 4;
 
-/// How many bytes the fields of a message take at most.
+/// The most bytes that the fields of a message take.
 fn room_of(content: &Content) -> usize
     ensures { result ≡ fields_room content.now }
 {
@@ -201,8 +201,8 @@ fn room_of(content: &Content) -> usize
     }
 }
 
-/// Adds the one spelling of the message. It asks for its room before it begins, once; where memory is refused nothing is
-/// added.
+/// Appends the canonical spelling of the message. It reserves its room once, before it begins; out of memory it
+/// appends nothing.
 pub fn write(message: &Message, out: &mut BytesMut) -> Result<(), NoMemory>
     ensures ok { OnOk result (out.new.items ≡ out.old.items ++ spelling message.now) }
     ensures spells { Spells message.now (spelling message.now) }

@@ -1,4 +1,4 @@
--- What a client asks, in words.
+-- A client's operation, in words.
 use Rattle.std.specs.Prelude.{◌≡◌, ◌≤◌, ℕ, List, [], ◌∷◌, ◌++◌, length, Ok, codes}
 use Rattle.std.specs.Fmt.{decimal}
 use Rattle.hex.specs.Hex.{decode_of}
@@ -20,21 +20,21 @@ IsNameWord word = (1 ≤ length word) × (length word ≤ 54) × HasNoSpace word
 abbrev pub body : ℕ → List ℕ → List ℕ → List ℕ
 body kind name rest = kind ∷ length name ∷ (name ++ rest)
 
--- a name asks for the body with this first byte
+-- an operation on a name is the body with this first byte
 abbrev pub AsksOfName : ℕ → List ℕ → Op → Type 0
 AsksOfName kind words o = IsNameWord words × (o ≡ Table (body kind words []))
 
--- so do a name and a fence, which may be 0, though that is never granted
+-- so is one on a name and a fence, which may be 0, though that is never granted
 abbrev pub AsksOfFence : ℕ → List ℕ → Op → Type 0
 AsksOfFence kind words o = (name : List ℕ) × (fence : ℕ) × (words ≡ name ++ 32 ∷ decimal fence)
     × IsNameWord name × IsTotal fence × (o ≡ Table (body kind name (eight fence)))
 
--- a node and its port ask to join
+-- a join of a node and its port
 abbrev pub AsksToJoin : List ℕ → Op → Type 0
 AsksToJoin words o = (node : ℕ) × (port : ℕ) × (words ≡ decimal node ++ 32 ∷ decimal port)
     × IsNode node × IsPort port × (o ≡ Join node port)
 
--- a node asks to leave
+-- a leave of a node
 abbrev pub AsksToLeave : List ℕ → Op → Type 0
 AsksToLeave words o = (node : ℕ) × (words ≡ decimal node) × IsNode node × (o ≡ Leave node)
 
@@ -42,11 +42,11 @@ AsksToLeave words o = (node : ℕ) × (words ≡ decimal node) × IsNode node ×
 abbrev pub AsksToRaise : List ℕ → Op → Type 0
 AsksToRaise words o = (words ≡ codes "2") × (o ≡ Raise)
 
--- hex digits in either case, two a byte, ask for the body that they spell
+-- hex digits in either case, two a byte, spell the body
 abbrev pub AsksInHex : List ℕ → Op → Type 0
 AsksInHex digits o = (bytes : List ℕ) × (decode_of digits ≡ Ok bytes) × IsPayload bytes × (o ≡ Table bytes)
 
--- what the words after a verb ask for
+-- the operation of the words after a verb
 abbrev pub Asks : Verb → List ℕ → Op → Type 0
 Asks verb.Acquire = AsksOfName 1
 Asks verb.Release = AsksOfFence 2

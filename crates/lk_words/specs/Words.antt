@@ -2,7 +2,7 @@
 use Rattle.std.specs.Prelude.{◌≡◌, ◌==◌, ◌&&◌, not, ℕ, Bool, List, [], ◌∷◌, false}
 use Rattle.std.specs.List.{list_any}
 
--- this byte does not stand in it
+-- it does not have this byte
 abbrev pub HasNo : ℕ → List ℕ → Type 0
 HasNo sign text = list_any (λ b. b == sign) text ≡ false
 
@@ -10,7 +10,7 @@ HasNo sign text = list_any (λ b. b == sign) text ≡ false
 abbrev pub HasNoSpace : List ℕ → Type 0
 HasNoSpace word = HasNo 32 word
 
--- it has a byte and begins with no plus, and with no zero but where that is all
+-- it has a byte and begins with no plus, and with no zero unless that is the only byte
 abbrev pub is_plain : List ℕ → Bool
 is_plain [] = false
 is_plain (b ∷ []) = not (b == 43)

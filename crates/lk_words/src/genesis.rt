@@ -10,8 +10,8 @@ use crate::word::split_at;
 use lk_types::Genesis;
 use lk_types::limits::MAX_ALPHA;
 
-/// The genesis that a text tells, as `CLUSTER,ALPHA,NODE:PORT,..`, or `None` where it tells none or one that is refused. It
-/// takes no memory.
+/// The genesis that a text spells, as `CLUSTER,ALPHA,NODE:PORT,..`, or `None` if it spells none or an invalid one.
+/// Takes no memory.
 pub fn read_genesis(text: &[u8]) -> Option<Genesis>
     ensures some { IfSome result (λ g. SpellsGenesis text.now g.cluster g.alpha g.members) }
     ensures none { IsNone result → (cluster alpha : ℕ) (ms : List MemberValue) → SpellsGenesis text.now cluster alpha ms → ⊥ }

@@ -10,7 +10,7 @@ use arrayvec::ArrayVec;
 use lk_types::Member;
 use lk_types::limits::MAX_MEMBERS;
 
-/// The member that a word tells, as `NODE:PORT`, or `None` where it tells none.
+/// The member that a word spells, as `NODE:PORT`, or `None` if it spells none.
 pub fn member_of(word: &[u8]) -> Option<Member>
     ensures some { IfSome result (λ m. IsMemberWord m word.now) }
     ensures none { IsNone result → (m : MemberValue) → IsMemberWord m word.now → ⊥ }
@@ -25,7 +25,7 @@ pub fn member_of(word: &[u8]) -> Option<Member>
     }
 }
 
-/// The members that words tell, which a sign below the digits parts. `None` where one of them tells none, and where they
+/// The members that words spell, separated by `sign`, a byte below '0'. `None` if one of them spells none, or if there
 /// are more than seven.
 pub fn read_members(words: &[u8], sign: u8) -> Option<ArrayVec<Member, MAX_MEMBERS>>
     requires { sign < 48 }

@@ -4,7 +4,7 @@ ghost use Rattle.std.specs.Prelude.{◌≡◌, ◌≤◌, ◌↔◌, ℕ, ◌<�
 ghost use Rattle.std.specs.Fmt.{decimal};
 ghost use Rattle.lk_words.specs.Words.{is_plain};
 
-/// Whether digits begin with no sign, and with no zero but where it is all.
+/// Whether digits have no sign, and no leading zero unless it is the only digit.
 fn is_plain(digits: &[u8]) -> bool
     ensures { result ≡ is_plain digits.now }
 {
@@ -15,7 +15,7 @@ fn is_plain(digits: &[u8]) -> bool
     }
 }
 
-/// The number that a word tells in decimal digits without leading zeros, or `None` where it tells none up to `most`.
+/// The number that a word spells in decimal digits without leading zeros, or `None` if it spells none up to `most`.
 pub fn read_number(word: &[u8], most: u64) -> Option<u64>
     ensures some { IfSome result (λ n. (n ≤ most) × (word.now ≡ decimal n)) }
     ensures none { IsNone result → (n : ℕ) → n ≤ most → word.now ≡ decimal n → ⊥ }

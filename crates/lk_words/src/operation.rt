@@ -1,4 +1,4 @@
-//! What a client asks, in words.
+//! A client's operation, in words.
 
 ghost use Rattle.std.specs.Prelude.{◌≡◌, ◌≤◌, ℕ, List, [], length, IfSome, IsNone};
 ghost use Rattle.std.specs.Fmt.{decimal};
@@ -16,7 +16,7 @@ use lk_types::{NodeNo, Op, Payload, Port};
 /// The most bytes of a name: with its length, a fence and a first byte it fits a body.
 const MAX_NAME_WORD: usize = 54;
 
-/// The body with this first byte, a name and at most eight bytes after it. `None` where the word is no name.
+/// The body with this first byte, a name and at most eight bytes after it. `None` if the word is no name.
 fn body_of(kind: u8, name: &[u8], rest: &[u8]) -> Option<Payload>
     requires { length rest.now ≤ 8 }
     ensures some { IfSome result (λ b. IsNameWord name.now × (b ≡ body kind name.now rest.now)) }
@@ -33,7 +33,7 @@ fn body_of(kind: u8, name: &[u8], rest: &[u8]) -> Option<Payload>
     Payload::of(bytes.as_slice())
 }
 
-/// What a name asks for, as a body with this first byte.
+/// An operation on a name, as a body with this first byte.
 fn of_name(kind: u8, words: &[u8]) -> Option<Op>
     ensures some { IfSome result (AsksOfName kind words.now) }
     ensures none { IsNone result → (o : OpValue) → AsksOfName kind words.now o → ⊥ }
@@ -44,7 +44,7 @@ fn of_name(kind: u8, words: &[u8]) -> Option<Op>
     }
 }
 
-/// What a name and a fence ask for, as a body with this first byte.
+/// An operation on a name and a fence, as a body with this first byte.
 #[tactic(auto, unfolding(lk_fields::specs::Fields::eight))]
 fn of_fence(kind: u8, words: &[u8]) -> Option<Op>
     ensures some { IfSome result (AsksOfFence kind words.now) }
@@ -58,7 +58,7 @@ fn of_fence(kind: u8, words: &[u8]) -> Option<Op>
     }
 }
 
-/// The node of the number that a word tells, or `None` where it tells none.
+/// The node whose number a word spells, or `None` if it spells none.
 pub fn node_of(word: &[u8]) -> Option<NodeNo>
     ensures some { IfSome result (λ n. IsNode n × (word.now ≡ decimal n)) }
     ensures none { IsNone result → (n : ℕ) → IsNode n → word.now ≡ decimal n → ⊥ }
@@ -67,7 +67,7 @@ pub fn node_of(word: &[u8]) -> Option<NodeNo>
     NodeNo::of(number as u32)
 }
 
-/// The port of the number that a word tells, or `None` where it tells none.
+/// The port whose number a word spells, or `None` if it spells none.
 pub fn port_of(word: &[u8]) -> Option<Port>
     ensures some { IfSome result (λ n. IsPort n × (word.now ≡ decimal n)) }
     ensures none { IsNone result → (n : ℕ) → IsPort n → word.now ≡ decimal n → ⊥ }
@@ -76,7 +76,7 @@ pub fn port_of(word: &[u8]) -> Option<Port>
     Port::of(number as u16)
 }
 
-/// The node and the port that ask to join.
+/// A join of the node and the port.
 fn to_join(words: &[u8]) -> Option<Op>
     ensures some { IfSome result (AsksToJoin words.now) }
     ensures none { IsNone result → (o : OpValue) → AsksToJoin words.now o → ⊥ }
@@ -91,7 +91,7 @@ fn to_join(words: &[u8]) -> Option<Op>
     }
 }
 
-/// The node that asks to leave.
+/// A leave of the node.
 fn to_leave(words: &[u8]) -> Option<Op>
     ensures some { IfSome result (AsksToLeave words.now) }
     ensures none { IsNone result → (o : OpValue) → AsksToLeave words.now o → ⊥ }
@@ -146,12 +146,12 @@ fn asked(verb: Verb, words: &[u8]) -> Option<Op>
     }
 }
 
-/// What a client asks by words that are separated by one space: `acquire NAME`, `release NAME FENCE`, `ask NAME`,
-/// `check NAME FENCE`, `share NAME`, `break NAME FENCE`, `join NODE PORT`, `leave NODE`, `raise 2` or `raw HEX`, or `None`
-/// where they are none of these.
+/// The operation that words separated by one space spell: `acquire NAME`, `release NAME FENCE`, `ask NAME`, `check
+/// NAME FENCE`, `share NAME`, `break NAME FENCE`, `join NODE PORT`, `leave NODE`, `raise 2` or `raw HEX`, or `None` if
+/// they are none of these.
 ///
-/// A name has 1 to 54 bytes, none of them a space, and goes into the body as it stands: the lock table judges it. A fence
-/// is 0 to 2^48. Numbers are decimal without leading zeros, and the bytes of a raw body are 1 to 64.
+/// A name has 1 to 54 bytes, none of them a space, and enters the body unchanged: the lock table checks it. A fence is
+/// 0 to 2^48. Numbers are decimal without leading zeros, and the bytes of a raw body are 1 to 64.
 pub fn read_operation(text: &[u8]) -> Option<Op>
     ensures some { IfSome result (SpellsOp text.now) }
     ensures none { IsNone result → (o : OpValue) → SpellsOp text.now o → ⊥ }

@@ -1,9 +1,9 @@
-// What is asked, by its word.
+// Operations, by their words.
 ghost use Rattle.std.specs.Prelude.{◌≡◌, IfSome, IsNone};
 ghost use Rattle.lk_words.specs.Verbs.{word_of};
 ghost use Rattle.lk_words.specs.declared.verb.Verb.{Verb};
 
-/// What a client asks of the locks or of the members.
+/// A client's operation on the locks or on the members.
 #[derive(Clone, Copy)]
 pub enum Verb {
     Acquire,
