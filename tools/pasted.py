@@ -6,7 +6,7 @@ that ends in a backslash goes on. A comment behind a command is what it prints, 
 begins with ```text is what the last command prints; a # behind two spaces explains a line of it, and below the comment
 <!-- numbers differ --> the command may print other numbers. A command without either may print anything. Each command
 has to end with status 0, and the page has to stop all that it starts. A block below the comment <!-- not pasted: REASON
---> is skipped. README.md is pasted twice.
+--> is skipped, with what its last command prints. README.md is pasted twice.
 
 A port that is taken is replaced by another one. The last line is `N passed, M failed`, and the status is 1 if one
 failed."""
@@ -60,11 +60,12 @@ def pattern_of(lines, is_any_number=False):
 
 def commands(page):
     """The commands of a page."""
-    found = []
+    found, is_skipped = [], False
     for how, kind, body in BLOCK.findall(page):
-        if kind == "sh" and how != "not pasted":
-            found += commands_of(body)
-        elif kind == "text" and found:
+        if kind == "sh":
+            is_skipped = how == "not pasted"
+            found += [] if is_skipped else commands_of(body)
+        elif found and not is_skipped:
             lines = [re.sub(r"  +# .*", "", line) for line in body.splitlines()]
             found[-1].pattern = pattern_of(lines, how == "numbers differ")
     return found
