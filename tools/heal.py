@@ -3,9 +3,10 @@
 
 `locks fuzz --groups --script` draws schedules of three nodes: datagrams that are lost, late and repeated, stops, failed
 and cut writes, groups, joins and leaves. After each of them every node is restarted, each member that never started is
-started, and nothing is lost any more. A round is a tick of each node and then all deliveries, in order, until nothing
-is left; in each round a client asks another node. A new request has to be answered within 60 rounds. Then a minority of
-the members stops, and the request of another client has to be answered within 60 rounds too.
+started, also one that joins meanwhile, and nothing is lost any more. A round is a tick of each node and then all
+deliveries, in order, until nothing is left; in each round a client asks another node. A new request has to be answered
+within 60 rounds. Then a minority of the members stops, and the request of another client has to be answered within 60
+rounds too.
 
 This is a test and no theorem. The last line is `N passed, M failed`, of schedules, and the status is 1 if one failed.
 The line in front of it has the slowest rounds."""
@@ -22,7 +23,7 @@ CLIENTS = (201, 202)  # no schedule draws them
 AHEAD = 64  # numbers of datagrams that are tried before it is known whether they are sent
 LATER = 1 << 40  # a call that no run comes to
 SENT = re.compile(r"(?m)^sent (\d+) \w+ (\w+) \w+$")
-WRONG = re.compile(r"(?m)^(?:fault \d+ (?:9|11) |refused (?!1[79] )).*$")
+WRONG = re.compile(r"(?m)^(?:fault \d+ (?:9|11) |refused (?!1[679] )).*$")
 
 
 class Unhealed(Exception):
@@ -54,17 +55,23 @@ class Cluster:
             yield node, life == "up", int(executed[1]) if executed else -1, sets
 
     def restart(self):
-        """Every node is up, and no trap is set."""
+        """Every node that was started is up, and no trap is set."""
         left = [*self.left()]
-        started = {node for node, *_ in left}
+        self.lines += [f"fail {node} {LATER}" for node, *_ in left]
+        self.lines += [f"restart {node}" for node, is_up, *_ in left if not is_up]
+        self.up = {node for node, *_ in left}
+
+    def start_members(self):
+        """Starts each member that never started, also one whose join was executed only now."""
+        left = [*self.left()]
         members = {member for *_, sets in left for it in sets for member in it}
-        calm = [f"fail {node} {LATER}" for node in sorted(started)]
-        again = [f"restart {node}" for node, is_up, *_ in left if not is_up]
-        self.lines += [*calm, *again, *(f"start {node}" for node in sorted(members - started))]
-        self.up = started | members
+        new = sorted(members - {node for node, *_ in left})
+        self.lines += [f"start {node}" for node in new]
+        self.up |= {*new}
 
     def stop_minority(self, first):
         """As many members stop as leave a majority at each next position. Whether any did."""
+        self.start_members()
         _, _, _, sets = max(self.left(), key=lambda it: it[2])
         members, stopped = sorted(set().union(*sets)), set()
         for node in members[first % len(members):] + members[:first % len(members)]:
@@ -98,8 +105,9 @@ class Cluster:
 
     def rounds(self, client):
         """In which round a new request of a client is answered."""
-        nodes = sorted(self.up)
         for turn in range(1, ROUNDS + 1):
+            self.start_members()
+            nodes = sorted(self.up)
             asked = f"client {nodes[turn % len(nodes)]} {client} 1 acquire healed"
             self.lines += [asked, *(f"tick {node}" for node in nodes)]
             self.deliver()

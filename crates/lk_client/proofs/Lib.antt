@@ -1,3 +1,4 @@
 mod Receiving
 mod Replying
 mod Sending
+mod Trying

@@ -23,7 +23,7 @@ use Rattle.lk_server.specs.Probes.{IsShown, AnswersKept}
 use Rattle.lk_transport.specs.declared.asked.Asked.{Asked}
 use Rattle.lk_server.specs.Servers.{ServerValue, HandsOn, Given, IsIdle, one_more, inputs, all_inputs, datagrams_in, IsFront, tray_at}
 use Rattle.lk_server.specs.declared.pace.Pace.{Pace}
-use Rattle.lk_server.specs.declared.pace.Pace.TheVariants.{DatagramSocket, Clock}
+use Rattle.lk_server.specs.declared.pace.Pace.TheVariants.{Datagrams, Clock}
 use Rattle.lk_sim.specs.Events.{Turns, Adds}
 use Rattle.lk_sim.specs.Networks.{MayCome, Steps, Appears, Rests, Stops, nothing}
 use Rattle.lk_sim.specs.Rooms.{AreShort}
@@ -125,7 +125,7 @@ module _ (genesis : Genesis) (sent : List Datagram) where
 
   -- a tick may always come
   ticks_may : (pace : Pace) (ticks : List (Option (List ℕ))) → MayFollow pace ticks → AllMay genesis sent ticks
-  ticks_may DatagramSocket ticks none = subst (λ (l : List (Option (List ℕ))). AllMay genesis sent l) (sym none) tt
+  ticks_may Datagrams ticks none = subst (λ (l : List (Option (List ℕ))). AllMay genesis sent l) (sym none) tt
   ticks_may Clock ticks (inl none) = subst (λ (l : List (Option (List ℕ))). AllMay genesis sent l) (sym none) tt
   ticks_may Clock ticks (inr one) = subst (λ (l : List (Option (List ℕ))). AllMay genesis sent l) (sym one) (tt, tt)
 
@@ -275,12 +275,13 @@ module _ (May : Network) (Metered tells : Type 0) (unforged : Unforged May) wher
     -- an idle turn, or the answer to a probe
     idles : Idles tells old new → IsSound new
     idles a =
-        let as_was : {X : Type 0} (f : ServerValue ReplicaValue → X) → f (at_rest a.server a.after) ≡ f a.server = λ f. ap f (at_rest_by a.server a.after a.idle) in
-        let mine : record a.after { replica = a.server.replica } ≡ a.after = λ i. record a.after { replica = sym (as_was (λ s. s.replica)) i } in
+        let replica : a.after.replica ≡ a.server.replica = ap (λ (s : ServerValue ReplicaValue). s.replica) (at_rest_by a.server a.after a.idle) in
+        let waits : a.after.own ≡ a.server.own = ap (λ (s : ServerValue ReplicaValue). s.own) (at_rest_by a.server a.after a.idle) in
+        let mine : record a.after { replica = a.server.replica } ≡ a.after = λ i. record a.after { replica = sym replica i } in
         let kept = w.own a.turns.place a.node a.turns.at a.server a.was in
         let still : IsKept (old.sent ++ []) a.node.number a.after = record {
-          alive = ap (λ (r : ReplicaValue). r.failed) (as_was (λ s. s.replica)) ∙ kept.alive;
-          own = λ l c. Contains-append_left old.sent [] (datagram_of a.node.number l) (kept.own l (subst (λ (ls : List LetterValue). Contains ls l) (as_was (λ s. s.own)) c));
+          alive = ap (λ (r : ReplicaValue). r.failed) replica ∙ kept.alive;
+          own = λ l c. Contains-append_left old.sent [] (datagram_of a.node.number l) (kept.own l (subst (λ (ls : List LetterValue). Contains ls l) waits c));
         } in
         record {
           holds = moved (set old.seats a.turns.place a.next) [] [] a.turns.seats a.adds

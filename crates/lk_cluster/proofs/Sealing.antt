@@ -1,5 +1,6 @@
 -- What only nodes seal is not forged.
 use Rattle.std.proofs.Common.{◌≡◌, ◌≢◌, ℕ, inl, inr, Option, Some, List, [], ◌∷◌, ◌++◌, ap, sym, ◌∙◌, subst}
+use Rattle.std.proofs.lemmas.Bool.{cases_Bool}
 use Rattle.std.specs.List.{AllByRecursion}
 use Rattle.std.specs.declared.net.socket_addr.SocketAddr.{SocketAddr}
 use Rattle.lk_types.specs.declared.command.Request.{Request}
@@ -13,7 +14,7 @@ use Rattle.lk_node.specs.Histories.{Genesis, Datagram}
 use Rattle.lk_replica.specs.ReplicaValue.{ReplicaValue}
 use Rattle.lk_seal.specs.Seals.{key_list, heard}
 use Rattle.lk_seal.specs.declared.seals.Seals.{Seals}
-use Rattle.lk_transport.specs.Posts.{all_taken_as}
+use Rattle.lk_transport.specs.Posts.{all_taken_as, is_beside}
 use Rattle.lk_server.specs.Premises.{IsToldByANode}
 use Rattle.lk_server.specs.Servers.{ServerValue}
 use Rattle.lk_transport.specs.Chains.{Chain}
@@ -38,7 +39,10 @@ module _ (told : (s : Seals) (frame : List ℕ) → key_list s.nodes ≢ [] → 
   what_comes : (c : Cluster) → IsSound c → (s : Seals) → key_list s.nodes ≢ [] → (frames : List (SocketAddr × List ℕ)) → OnlyNodesSealWhatComes c.sent s frames
       → AllByRecursion (λ (d : SocketAddr × List ℕ). MayCome c.genesis c.sent (Some d.1)) (all_taken_as s frames)
   what_comes c w s key [] only = tt
-  what_comes c w s key (frame ∷ frames) only = (taken_unforged c w s frame.1 (told s frame.1 key) only.0, what_comes c w s key frames only.1)
+  what_comes c w s key (frame ∷ frames) only = elim (cases_Bool (is_beside (heard s frame.1))) [
+    | inl e ↦ rw e (what_comes c w s key frames only.1)
+    | inr e ↦ rw e (taken_unforged c w s frame.1 (told s frame.1 key) only.0, what_comes c w s key frames only.1)
+  ]
 
   pub seals_forge_nothing : Unforged IsSealed
   seals_forge_nothing c w server came may =

@@ -13,7 +13,7 @@ use Rattle.lk_entries.specs.declared.stored.Stored.TheVariants.{Base, Plain}
 abbrev pub IsFormat : ℕ → Type 0
 IsFormat n = (1 ≤ n) × (n ≤ 2)
 
--- Laws about the input of a server.
+-- that of the Base at the start; 0 if there is none
 abbrev pub format : List Stored → ℕ
 format [] = 0
 format (Base b ∷ es) = b.format

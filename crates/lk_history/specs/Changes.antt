@@ -1,4 +1,4 @@
--- the entry tells of a decided command
+-- How a node may change.
 use Rattle.std.specs.Prelude.{◌≡◌, ℕ, suc, ◌+◌, ◌≤◌, List, [], ◌∷◌, ◌++◌, length, Contains, Option, Some, None}
 use Rattle.lk_members.specs.Rosters.{members}
 use Rattle.lk_members.specs.Majorities.{IsMajority}

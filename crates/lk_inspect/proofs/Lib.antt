@@ -1,1 +1,3 @@
 mod Standing
+mod Leaving
+mod Printing

@@ -1,6 +1,6 @@
 //! What the disks of the nodes hold when the world of a script ends.
 
-ghost use Rattle.std.specs.Prelude.{◌≡◌, ◌⊎◌, ◌++◌, ℕ, List, map, IfOk, IfErr, IfSome, OnOk};
+ghost use Rattle.std.specs.Prelude.{◌≡◌, ◌⊎◌, ◌++◌, ℕ, List, map, IfOk, IfSome, OnOk};
 ghost use Rattle.std.specs.Io.KnownBytes.{Appends};
 ghost use Rattle.lk_sim.specs.Left.{left_of};
 ghost use Rattle.lk_script.specs.Endings.{PrintsAll};

@@ -109,8 +109,7 @@ impl Sharers {
         SharerCount::of(self.as_slice().len() as u8).unwrap()
     }
 
-    /// what a letter may change: the kept letters of the node to itself, what the socket has sent, and how many of its
-    /// sends have failed
+    /// The least of them.
     pub fn least(&self) -> ClientNo
         ensures { result ≡ least self.now }
     {

@@ -50,23 +50,27 @@ const WANTED: [(&str, &str); 13] = [
     ("until", "it is ready SECONDS, 1 to 86400"),
 ];
 
-/// A word of an argument that is not understood.
-pub fn misread_word<'a>(argument: &'a str, value: &'a str) -> Misread<'a> {
-    let mut wanted = "it is not understood";
+/// What the word of that argument has to be.
+fn wanted_of(argument: &str) -> &'static str {
     for (name, text) in WANTED {
         if name == argument {
-            wanted = text;
+            return text;
         }
     }
+    "it is not understood"
+}
+
+/// A word of an argument that is not understood.
+pub fn misread_word<'a>(argument: &'a str, value: &'a str) -> Misread<'a> {
     Misread {
         argument,
         value,
-        wanted,
+        wanted: wanted_of(argument),
     }
 }
 
 /// The word that was given for an argument, which is not understood.
-pub fn misread<'a>(matches: &ArgMatches<'a>, argument: &'a str) -> Misread<'a> {
+pub fn misread_argument<'a>(matches: &ArgMatches<'a>, argument: &'a str) -> Misread<'a> {
     misread_word(argument, matches.get_str(argument).unwrap_or(""))
 }
 

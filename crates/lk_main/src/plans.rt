@@ -1,6 +1,6 @@
 //! What the words of a subcommand ask for, if they are valid.
 
-use crate::misread::{Misread, misread, misread_genesis, misread_word};
+use crate::misread::{Misread, misread_argument, misread_genesis, misread_word};
 use crate::wants::misread_operation;
 use clap::ArgMatches;
 use lk_client::destination::Destination;
@@ -33,7 +33,7 @@ pub fn number_in<'a>(
 ) -> Result<u64, Misread<'a>> {
     match read_number(word(matches, name).as_bytes(), greatest) {
         Some(number) => Ok(number),
-        None => Err(misread(matches, name)),
+        None => Err(misread_argument(matches, name)),
     }
 }
 
@@ -44,7 +44,7 @@ fn address_in<'a>(matches: &ArgMatches<'a>, name: &'a str) -> Result<Option<IpAd
     };
     match IpAddr::parse_ascii(word.as_bytes()) {
         Ok(address) => Ok(Some(address)),
-        Err(_) => Err(misread(matches, name)),
+        Err(_) => Err(misread_argument(matches, name)),
     }
 }
 
@@ -80,7 +80,7 @@ fn genesis_in<'a>(matches: &ArgMatches<'a>) -> Result<Genesis, Misread<'a>> {
 fn node_in<'a>(matches: &ArgMatches<'a>) -> Result<NodeNo, Misread<'a>> {
     match node_of(word(matches, "number").as_bytes()) {
         Some(node) => Ok(node),
-        None => Err(misread(matches, "number")),
+        None => Err(misread_argument(matches, "number")),
     }
 }
 
@@ -102,10 +102,10 @@ fn pace_in<'a>(matches: &ArgMatches<'a>) -> Result<Pace, Misread<'a>> {
     let has_key = matches.get_str("key").is_some();
     match matches.get_str("ticks") {
         None if has_key => Ok(Pace::Clock),
-        None => Ok(Pace::DatagramSocket),
+        None => Ok(Pace::Datagrams),
         Some("clock") => Ok(Pace::Clock),
-        Some("datagrams") if !has_key => Ok(Pace::DatagramSocket),
-        Some(_) => Err(misread(matches, "ticks")),
+        Some("datagrams") if !has_key => Ok(Pace::Datagrams),
+        Some(_) => Err(misread_argument(matches, "ticks")),
     }
 }
 
@@ -128,7 +128,7 @@ pub fn fuzz_plan<'a>(matches: &ArgMatches<'a>) -> Result<Plan, Misread<'a>> {
     let events = number_in(matches, "events", MAX_EVENTS)?;
     Ok(Plan {
         start,
-        count: events as u32,
+        count: u32::try_from(events).unwrap_or(0),
         groups: matches.get_flag("groups"),
     })
 }
@@ -136,9 +136,9 @@ pub fn fuzz_plan<'a>(matches: &ArgMatches<'a>) -> Result<Plan, Misread<'a>> {
 /// The client.
 pub fn client_in<'a>(matches: &ArgMatches<'a>) -> Result<ClientNo, Misread<'a>> {
     let number = number_in(matches, "client", u64::from(MAX_CLIENT))?;
-    match ClientNo::of(number as u16) {
+    match ClientNo::of(u16::try_from(number).unwrap_or(0)) {
         Some(client) => Ok(client),
-        None => Err(misread(matches, "client")),
+        None => Err(misread_argument(matches, "client")),
     }
 }
 
@@ -152,7 +152,7 @@ fn request_in<'a>(matches: &ArgMatches<'a>) -> Result<RequestNumber, Misread<'a>
     let number = number_in(matches, "request", MAX_COUNT)?;
     match RequestNumber::of(number) {
         Some(number) => Ok(number),
-        None => Err(misread(matches, "request")),
+        None => Err(misread_argument(matches, "request")),
     }
 }
 
@@ -235,7 +235,8 @@ pub fn ask_plan<'a>(
 ) -> Result<Result<AskPlan<'a>, Misread<'a>>, AllocError> {
     let words = matches.get_strs("op").unwrap_or(&[]);
     let Some(op) = operation_of(alloc, words)? else {
-        return Ok(Err(misread_operation(words)));
+        let first = matches.get_str("op").unwrap_or("");
+        return Ok(Err(misread_operation(first)));
     };
     match turns_of(alloc, matches)? {
         Ok(turns) => Ok(ask_plan_of(matches, op, turns)),

@@ -1,6 +1,6 @@
 //! What the words of `locks status` ask for.
 
-use crate::misread::{Misread, misread, misread_word};
+use crate::misread::{Misread, misread_argument, misread_word};
 use crate::plans::{client_in, number_in};
 use clap::ArgMatches;
 use lk_client::destination::Destination;
@@ -28,7 +28,7 @@ fn patience_in<'a>(matches: &ArgMatches<'a>) -> Result<u32, Misread<'a>> {
         return Ok(PATIENCE);
     }
     let wait = number_in(matches, "wait", MOST_WAIT)?;
-    Ok(wait.div_ceil(A_RECEIVE).max(1) as u32)
+    Ok(u32::try_from(wait.div_ceil(A_RECEIVE).max(1)).unwrap_or(PATIENCE))
 }
 
 /// The seconds in the words after `--until`: `ready SECONDS`.
@@ -68,7 +68,7 @@ fn asker_in<'a>(matches: &ArgMatches<'a>) -> Result<Option<ClientNo>, Misread<'a
     match (matches.get_str("client"), matches.get_str("client-key")) {
         (None, None) => Ok(None),
         (Some(_), _) => Ok(Some(client_in(matches)?)),
-        (None, Some(_)) => Err(misread(matches, "client")),
+        (None, Some(_)) => Err(misread_argument(matches, "client")),
     }
 }
 
@@ -98,6 +98,6 @@ pub fn status_plan<'a>(
 ) -> Result<Result<Plan, Misread<'a>>, ServiceFault> {
     match targets_of(alloc, matches.get_strs("port").unwrap_or(&[]))? {
         Some(targets) => Ok(plan_of(matches, targets)),
-        None => Ok(Err(misread(matches, "port"))),
+        None => Ok(Err(misread_argument(matches, "port"))),
     }
 }

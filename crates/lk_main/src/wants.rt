@@ -22,19 +22,22 @@ const FORMS: [(&str, &str, bool); 10] = [
 /// What a name is.
 const NAME: &str = "a name has 1 to 32 bytes, of a-z 0-9 - . /";
 
-/// An operation that is not understood.
-pub fn misread_operation<'a>(words: &[&'a str]) -> Misread<'a> {
-    let first = words.first().copied().unwrap_or("");
-    let mut wanted = "it is acquire, release, ask, check, share, break, join, leave, raise or raw";
+/// What an operation with that first word has to be.
+fn form_of(first: &str) -> &'static str {
     for (word, form, _) in FORMS {
         if word == first {
-            wanted = form;
+            return form;
         }
     }
+    "it is acquire, release, ask, check, share, break, join, leave, raise or raw"
+}
+
+/// An operation that is not understood, by its first word.
+pub fn misread_operation<'a>(first: &'a str) -> Misread<'a> {
     Misread {
         argument: "op",
         value: first,
-        wanted,
+        wanted: form_of(first),
     }
 }
 

@@ -13,7 +13,7 @@ fn is_among(nodes: &[NodeNo], node: NodeNo) -> bool
     nodes.iter().any(|n| *n == node)
 }
 
-/// The group takes the first letter of the node to itself. Returns whether one was waiting.
+/// How many of the members are among the nodes.
 fn count_among(members: &[Member], nodes: &[NodeNo]) -> usize
     ensures count { result ≡ count_by (λ m. list_any (λ n. n == m.node) nodes.now) members.now }
     ensures bound { result ≤ length members.now }

@@ -28,9 +28,8 @@ pub fn apart()
     ensures both { (p : Probe) (r : Report) (bytes : List ℕ) → SpellsProbe p bytes → SpellsReport r bytes → ⊥ }
 {}
 
-/// Writes what the node holds as the Base of the other file, and switches to that file: a snapshot of everything
-/// executed replaces the commands and the votes up to there. Sends nothing. At generation 2^48 it writes nothing and
-/// fails with `Failed` (11), even if it is out of memory.
+/// A node that serves clients takes a probe out of its frame as it takes a request: by the key of the client that it
+/// names.
 pub fn is_heard_as_a_request()
     ensures kind { (p : Probe) (bytes : List ℕ) → SpellsProbe p bytes → only_request bytes ≡ bytes }
     ensures client { (p : Probe) (bytes : List ℕ) → SpellsProbe p bytes → client_in bytes ≡ or_zero p.client }

@@ -28,13 +28,13 @@ pub const PROGRAM: Version = Version {
 /// Which genesis, program, store and table a node has.
 #[derive(Clone, Copy)]
 pub struct Identity {
-    /// the replica, by its parts, is that of the node in the cluster with this genesis, and holds this
+    /// The SHA-256 digest of its genesis.
     pub genesis: [u8; DIGEST],
     /// The version of its program.
     pub program: Version,
     /// The format of its store.
     pub format: u8,
-    /// The version of its lock table: 2 once that is raised, and else 1.
+    /// The version of its lock table: 2 once that is raised, 1 before, 0 if the node does not tell it.
     pub table: u8,
 }
 

@@ -19,7 +19,7 @@ use Rattle.lk_server.specs.Servers.{ServerValue, HandsOn, HandsNothing, HasWaite
 use Rattle.lk_server.specs.declared.found.Found.{Found}
 use Rattle.lk_server.specs.declared.found.Found.TheVariants.{Nothing, Beside, Something}
 use Rattle.lk_server.specs.declared.pace.Pace.{Pace}
-use Rattle.lk_server.specs.declared.pace.Pace.TheVariants.{DatagramSocket, Clock}
+use Rattle.lk_server.specs.declared.pace.Pace.TheVariants.{Datagrams, Clock}
 use Rattle.lk_server.proofs.Gatherings.{takes_more, ends_more, long_as, taken_first}
 
 -- a fault that tells of no lost letter is told as none
@@ -34,7 +34,7 @@ not_send (fault.Send notes) other is = other refl
 
 -- no tick may follow, however they go
 no_tick : (pace : Pace) → MayFollow pace []
-no_tick DatagramSocket = refl
+no_tick Datagrams = refl
 no_tick Clock = inl refl
 
 -- by the clock one may
@@ -312,17 +312,17 @@ module _ {R : Type 0} (S : Sayings R) (G : Gatherings R) (tells : Type 0) where
     }
 
   -- no tick is due, and nothing waits that a replica is given
-  by_clock : (pace : Pace) (found : Found) (frames : List (SocketAddr × List ℕ)) (due : Bool) → due ≡ false → (pace ≡ DatagramSocket → found ≡ Nothing → due ≡ true) → (found ≡ Beside → frames ≢ []) → (found ≡ Something → ⊥)
+  by_clock : (pace : Pace) (found : Found) (frames : List (SocketAddr × List ℕ)) (due : Bool) → due ≡ false → (pace ≡ Datagrams → found ≡ Nothing → due ≡ true) → (found ≡ Beside → frames ≢ []) → (found ≡ Something → ⊥)
       → frames ≡ [] → pace ≡ Clock
   by_clock Clock found frames due isnt nothing some apart empty = refl
-  by_clock DatagramSocket Nothing frames due isnt nothing some apart empty = absurd (cc (isnt, nothing refl refl))
-  by_clock DatagramSocket Beside frames due isnt nothing some apart empty = absurd (some refl empty)
-  by_clock DatagramSocket Something frames due isnt nothing some apart empty = absurd (apart refl)
+  by_clock Datagrams Nothing frames due isnt nothing some apart empty = absurd (cc (isnt, nothing refl refl))
+  by_clock Datagrams Beside frames due isnt nothing some apart empty = absurd (some refl empty)
+  by_clock Datagrams Something frames due isnt nothing some apart empty = absurd (apart refl)
 
   -- a tick is due behind what waits by the clock alone
-  clock_of : (pace : Pace) (due : Bool) → due ≡ true → (pace ≡ DatagramSocket → due ≡ false) → pace ≡ Clock
+  clock_of : (pace : Pace) (due : Bool) → due ≡ true → (pace ≡ Datagrams → due ≡ false) → pace ≡ Clock
   clock_of Clock due is_so given = refl
-  clock_of DatagramSocket due is_so given = absurd (cc (is_so, given refl))
+  clock_of Datagrams due is_so given = absurd (cc (is_so, given refl))
 
   -- this was found, and nothing of it was taken
   abbrev pub HasFound : Found → GroupValue → GroupValue → ServerValue R → ServerValue R → Type 0
@@ -332,7 +332,7 @@ module _ {R : Type 0} (S : Sayings R) (G : Gatherings R) (tells : Type 0) where
   pub untimely_takes : (group one : GroupValue) (old mid : ServerValue R) → (frames : List (SocketAddr × List ℕ)) × TakesWaiting G tells frames group one old mid → (frames : List (SocketAddr × List ℕ)) × TakesGroup G tells frames group one old mid
   untimely_takes group one old mid t = (t.0, without_tick t.0 group one old mid t.1)
 
-  pub untimely_rests : (found : Found) (due : Bool) (group one : GroupValue) (old mid : ServerValue R) → mid.pace ≡ old.pace → due ≡ false → (mid.pace ≡ DatagramSocket → found ≡ Nothing → due ≡ true) → (found ≡ Something → ⊥)
+  pub untimely_rests : (found : Found) (due : Bool) (group one : GroupValue) (old mid : ServerValue R) → mid.pace ≡ old.pace → due ≡ false → (mid.pace ≡ Datagrams → found ≡ Nothing → due ≡ true) → (found ≡ Something → ⊥)
       → HasFound found group one old mid → (frames : List (SocketAddr × List ℕ)) × HasWaited tells frames old × IsIdle tells frames old mid
   untimely_rests found due group one old mid pace isnt nothing apart n = (
     n.1,
@@ -343,14 +343,14 @@ module _ {R : Type 0} (S : Sayings R) (G : Gatherings R) (tells : Type 0) where
   -- one is
   module _ (due : Bool) (group one : GroupValue) (old mid new : ServerValue R) (pace : mid.pace ≡ old.pace) (is_so : due ≡ true) (same : new ≡ record mid { replica = new.replica; failed = new.failed }) where
     pub tick_turn : (found : Found) (now : GroupValue) → (found ≡ Something → (frames : List (SocketAddr × List ℕ)) × TakesWaiting G tells frames group one old mid) → ((found ≡ Something → ⊥) → HasFound found group one old mid)
-        → (mid.pace ≡ DatagramSocket → found ≡ Something → due ≡ false) → GathersMore G (None ∷ []) one now mid.replica new.replica → (frames : List (SocketAddr × List ℕ)) × TakesGroup G tells frames group now old new
+        → (mid.pace ≡ Datagrams → found ≡ Something → due ≡ false) → GathersMore G (None ∷ []) one now mid.replica new.replica → (frames : List (SocketAddr × List ℕ)) × TakesGroup G tells frames group now old new
     tick_turn Something now takes none given ticks =
         let t = takes refl in (t.0, tick_behind t.0 group one old mid new (sym pace ∙ clock_of mid.pace due is_so (λ is. given is refl)) t.1 same now ticks)
     tick_turn Nothing now takes none given ticks = let n = none (λ is. cc is) in (n.1, tick_alone Nothing n.1 group one old mid new n.0 n.2 n.3 same now ticks)
     tick_turn Beside now takes none given ticks = let n = none (λ is. cc is) in (n.1, tick_alone Beside n.1 group one old mid new n.0 n.2 n.3 same now ticks)
 
     pub tick_turn_ends : (found : Found) → (found ≡ Something → (frames : List (SocketAddr × List ℕ)) × TakesWaiting G tells frames group one old mid) → ((found ≡ Something → ⊥) → HasFound found group one old mid)
-        → (mid.pace ≡ DatagramSocket → found ≡ Something → due ≡ false) → SaysNoMore S G (None ∷ []) one mid.replica new.replica → (frames : List (SocketAddr × List ℕ)) × EndsGroup S G tells frames group old new
+        → (mid.pace ≡ Datagrams → found ≡ Something → due ≡ false) → SaysNoMore S G (None ∷ []) one mid.replica new.replica → (frames : List (SocketAddr × List ℕ)) × EndsGroup S G tells frames group old new
     tick_turn_ends Something takes none given silent =
         let t = takes refl in (t.0, tick_ends_behind t.0 group one old mid new (sym pace ∙ clock_of mid.pace due is_so (λ is. given is refl)) t.1 same silent)
     tick_turn_ends Nothing takes none given silent = let n = none (λ is. cc is) in (n.1, tick_ends_alone Nothing n.1 group one old mid new n.0 n.2 n.3 same silent)

@@ -41,7 +41,7 @@ impl<R: NodeReplica, S: DatagramSocket + Drop> Server<R, S> {
         self.post.next_own()
     }
 
-    // From now on the ear waits so long at most for the next datagram.
+    // From now on a receive waits at most this long for the next datagram.
     fn wait_for(&mut self, time: Duration)
         ensures { self.new ≡ self.old }
     {
@@ -176,7 +176,7 @@ impl<R: NodeReplica, S: DatagramSocket + Drop> Server<R, S> {
         Ok(())
     }
 
-    // The group takes what the ear has heard, out of its frame. What stands beside the protocol it is not given: of
+    // The group takes the datagram in the buffer, out of its frame, unless it is beside the protocol: of
     // that the first probe is kept. What was found.
     fn gather_heard<L: Log>(
         &mut self,

@@ -1,5 +1,5 @@
-//! A node that serves on a socket: what arrives, who sent it, the post that sends the replica's letters, and the
-//! server's turns. Folders and files belong to the crates above.
+//! A node that serves on a socket: the server, its turns, and the probes that it answers. Folders and files belong to
+//! the crates above.
 #![tactic(auto)]
 
 pub mod found;

@@ -14,7 +14,7 @@ const DATAGRAMS_PER_TICK: u64 = 64;
 #[derive(Clone, Copy, Debug, PartialEq, Eq)]
 pub enum Pace {
     /// Datagrams: a tick after every 64th, and after each 100 ms in which none came.
-    DatagramSocket,
+    Datagrams,
     /// The clock: a tick each 100 ms, whatever comes.
     Clock,
 }
@@ -25,7 +25,7 @@ impl Pace {
         ensures { result ≡ ticks_after self number }
     {
         match self {
-            Pace::DatagramSocket => number % DATAGRAMS_PER_TICK == 0,
+            Pace::Datagrams => number % DATAGRAMS_PER_TICK == 0,
             Pace::Clock => false,
         }
     }
@@ -33,15 +33,15 @@ impl Pace {
     /// Whether a tick is due in a turn in which this was found. The next one is then 100 ms away.
     pub(crate) fn is_due<C: Clock>(self, found: Found, metronome: &mut Metronome<C>) -> bool
         // By datagrams it is due where nothing came, and not where its replica was given something.
-        ensures none { self ≡ Pace.DatagramSocket → found ≡ Found.Nothing → result ≡ true }
-        ensures given { self ≡ Pace.DatagramSocket → found ≡ Found.Something → result ≡ false }
+        ensures none { self ≡ Pace.Datagrams → found ≡ Found.Nothing → result ≡ true }
+        ensures given { self ≡ Pace.Datagrams → found ≡ Found.Something → result ≡ false }
     {
         match (self, found) {
-            (Pace::DatagramSocket, Found::Nothing) => {
+            (Pace::Datagrams, Found::Nothing) => {
                 metronome.rest();
                 true
             }
-            (Pace::DatagramSocket, Found::Something) => {
+            (Pace::Datagrams, Found::Something) => {
                 metronome.rest();
                 false
             }

@@ -49,7 +49,7 @@ impl<R: NodeReplica, S: DatagramSocket + Drop> Server<R, S> {
             .datagram()
     }
 
-    /// Answers the probe that the ear keeps, if it keeps one: by a report that goes to where the probe came from.
+    /// Answers the probe that the buffer keeps, if it keeps one, by a report to where the probe came from.
     pub fn answer(&mut self, buffer: &mut ReceiveBuffer)
         ensures answers { AnswersKept R.Shows S.is_telling buffer.old.asked self.old self.new }
         ensures kept { buffer.new ≡ record buffer.old { asked = None } }

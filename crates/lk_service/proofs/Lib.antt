@@ -1,2 +1,1 @@
-mod Trying
 mod Turning

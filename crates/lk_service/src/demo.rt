@@ -100,7 +100,7 @@ fn start<M: Machine, S: DatagramSocket + Drop>(
         device: MemoryDisk::new(alloc),
         socket,
         network: Network::local(genesis.cluster, node),
-        pace: Pace::DatagramSocket,
+        pace: Pace::Datagrams,
     };
     revive::<M, _, _, _>(alloc, &header, resources, &Discard).map_err(
         |refused| ServiceFault::of_replica(&refused.fault),

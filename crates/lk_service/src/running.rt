@@ -6,7 +6,6 @@ ghost use Rattle.lk_replica.specs.Faults.{fault_number};
 ghost use Rattle.lk_replica.specs.ReplicaValue.{ReplicaValue};
 ghost use Rattle.lk_replica.specs.Revivals.{MayGoOn};
 ghost use Rattle.lk_transport.specs.Addresses.{IsSameNetwork};
-ghost use Rattle.lk_transport.specs.Faults.{replica_fault};
 ghost use Rattle.lk_transport.specs.Posts.{all_taken_as};
 ghost use Rattle.lk_server.specs.Servers.{ServerValue, HasWaited, ServesOn, LastTurn};
 ghost use Rattle.lk_transport.specs.Chains.{Repeats};

@@ -51,7 +51,7 @@ left_over k [] = k
 left_over zero (x ∷ xs) = zero
 left_over (suc k) (x ∷ xs) = left_over k xs
 
--- the same for each of these
+-- with this many datagrams sent, and no more
 abbrev pub cut_short : ℕ → List Said → List Said
 cut_short k [] = []
 cut_short k (x ∷ xs) = (x.0, take k x.1) ∷ cut_short (left_over k x.1) xs

@@ -35,7 +35,7 @@ pub const FIELDS: [Row; 14] = [
     (Field::Members, "members", "gauge", "Members of the next position, as it knows them."),
     (Field::Pending, "pending_changes", "gauge", "Changes of the members that are not yet in force."),
     (Field::Waiting, "waiting_requests", "gauge", "Requests that wait to be proposed."),
-    (Field::Unread, "unread_datagrams_total", "counter", "DatagramSocket that could not be read, since its start."),
+    (Field::Unread, "unread_datagrams_total", "counter", "Datagrams that could not be read, since its start."),
     (Field::Unsent, "failed_sends_total", "counter", "Sends that failed, since its start."),
     (Field::Ticks, "ticks_total", "counter", "Ticks since its start."),
     (Field::Format, "store_format", "gauge", "Format of its store."),

@@ -34,15 +34,12 @@ pub struct Inquiry {
 }
 
 /// A place: `PORT` or `NODE:PORT`.
-fn target_of(word: &[u8]) -> Option<Target> {
+fn place_in(word: &[u8]) -> Option<(Option<NodeNo>, Port)> {
     if let Some(member) = member_of(word) {
-        return Some(Target {
-            node: Some(member.node),
-            port: member.port,
-        });
+        return Some((Some(member.node), member.port));
     }
     match port_of(word) {
-        Some(port) => Some(Target { node: None, port }),
+        Some(port) => Some((None, port)),
         None => None,
     }
 }
@@ -54,10 +51,10 @@ pub fn targets_of(alloc: Global, words: &[&str]) -> Result<Option<Vec<Target>>, 
     }
     let mut targets = Vec::new(alloc);
     for word in words {
-        match target_of(word.as_bytes()) {
-            Some(target) => targets.push(target)?,
-            None => return Ok(None),
-        }
+        let Some((node, port)) = place_in(word.as_bytes()) else {
+            return Ok(None);
+        };
+        targets.push(Target { node, port })?;
     }
     Ok(Some(targets))
 }

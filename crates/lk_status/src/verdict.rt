@@ -1,7 +1,6 @@
 //! What the reports of nodes come to.
 
 ghost use Rattle.std.specs.Prelude.{◌≡◌, ◌↔◌, ◌≤◌, IsTrue, length};
-ghost use Rattle.lk_types.specs.Limits.{max_members};
 ghost use Rattle.lk_status.specs.Verdicts.{IsServed, has_answered, up, has_majority, some_leads, tells, one_genesis, is_served, all_have, is_ready};
 
 use lk_probe::{DIGEST, Report};

@@ -41,7 +41,7 @@ fn begun(alloc: Global, node: u32, port: u16) -> Result<LockServer, Fail> {
         device: MemoryDisk::new(alloc),
         socket: MemorySocket::new(alloc, port),
         network: Network::local(header.genesis().cluster, header.node()),
-        pace: Pace::DatagramSocket,
+        pace: Pace::Datagrams,
     };
     match revive::<LockTable, _, _, _>(alloc, &header, resources, &Discard) {
         Ok(server) => Ok(server),

@@ -6,7 +6,6 @@ use crate::node_dialogues::{
 use crate::node_turns::For::{Client, Node};
 use crate::node_turns::Heard::{Said, Tick};
 use crate::node_turns::{Heard, NOTHING, Turn};
-use std::alloc::Global;
 use std::test::Fail;
 
 // The packed text of 63 bytes after 256 positions, in one part, in two, and from its byte 32 on.

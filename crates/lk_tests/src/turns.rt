@@ -2,6 +2,7 @@
 ghost use Rattle.std.specs.Prelude.{◌≡◌, [], ⊤};
 
 use crate::clocks::Stopped;
+use crate::node_turns::{Locks, begun};
 use lk_locks::LockTable;
 use lk_replica::{Group, Post, ReplicaFault};
 use lk_server::metronome::Metronome;
@@ -9,13 +10,14 @@ use lk_server::node_replica::NodeReplica;
 use lk_server::pace::Pace;
 use lk_server::replica_status::ReplicaStatus;
 use lk_server::server::{Server, node_turn};
+use lk_server::shown::Shown;
 use lk_service::demo::{Sockets, play};
 use lk_step::{Input, Note, Outbox};
 use lk_transport::memory_socket::MemorySocket;
 use lk_transport::network::Network;
 use lk_transport::receive_buffer::ReceiveBuffer;
 use lk_types::{Ballot, Command, Executed, NodeNo, Position, RealBallot};
-use log::sink::{Discard, Memory};
+use log::sink::Memory;
 use std::alloc::Global;
 use std::test::Fail;
 
@@ -23,7 +25,6 @@ use std::test::Fail;
 #[derive(Clone, Copy)]
 enum End {
     Notes,
-    Lost,
     Broken,
 }
 
@@ -36,6 +37,8 @@ struct Told {
     status: ReplicaStatus,
     // what is seen once it has taken something
     after: ReplicaStatus,
+    // the replica whose state a probe is shown
+    probed: Locks,
 }
 
 // A step that notes position 3.
@@ -57,6 +60,8 @@ impl NodeReplica for Told {
 
     ghost Gathers = { λ _ _ _ _. ⊤ };
 
+    ghost Shows = { λ _ _. ⊤ };
+
     fn begin(&self, alloc: Global) -> Group {
         Group::new(alloc)
     }
@@ -77,13 +82,16 @@ impl NodeReplica for Told {
         self.failed = self.end == End::Broken;
         match self.end {
             End::Notes => Ok(true),
-            End::Lost => Ok(false),
             End::Broken => Err(ReplicaFault::Device),
         }
     }
 
     fn status(&self) -> ReplicaStatus {
         self.status
+    }
+
+    fn show(&self) -> Shown {
+        Shown::of(&self.probed)
     }
 }
 
@@ -93,7 +101,7 @@ type Seen = (u64, u64, u64, u64, u32);
 
 const NEW: Seen = (1, 0, 0, 0, 0);
 
-fn sight_of(seen: Seen) -> Result<ReplicaStatus, Fail> {
+fn status_of(seen: Seen) -> Result<ReplicaStatus, Fail> {
     let (generation, snapshot, executed, round, known) = seen;
     Ok(ReplicaStatus {
         generation,
@@ -119,13 +127,14 @@ fn server(
         alloc,
         end,
         failed: false,
-        status: sight_of(before)?,
-        after: sight_of(after)?,
+        status: status_of(before)?,
+        after: status_of(after)?,
+        probed: begun(alloc, 1, 1, 3)?,
     };
     let node = NodeNo::of(1).ok_or("node")?;
     let socket = MemorySocket::new(alloc, 7001);
     let network = Network::local(5, node);
-    Ok(Server::new(alloc, 5, node, Pace::DatagramSocket, network, told, socket))
+    Ok(Server::new(alloc, 5, node, Pace::Datagrams, network, told, socket))
 }
 
 // What a turn logs whose replica ends so, and is seen so before and after it.
@@ -197,10 +206,9 @@ fn what_changes_by_a_turn_is_logged(rt: HostRuntime) -> Result<(), Fail> {
 }
 
 #[test]
-fn notes_are_logged_also_where_datagrams_were_lost(rt: HostRuntime) -> Result<(), Fail> {
+fn notes_are_logged_unless_the_replica_ends(rt: HostRuntime) -> Result<(), Fail> {
     for (end, text) in [
         (End::Notes, b"[INFO  lk_server::notes] ran 3\n".as_slice()),
-        (End::Lost, b"[INFO  lk_server::notes] ran 3\n".as_slice()),
         (End::Broken, b"".as_slice()),
     ] {
         assert_eq!(rt; logged(rt.alloc(), end, NEW, NEW)?.as_slice(), text);

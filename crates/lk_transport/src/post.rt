@@ -174,7 +174,7 @@ impl<S: DatagramSocket + Drop> SocketPost<S> {
         self.own.pop_front()
     }
 
-    /// From now on the ear waits so long at most for the next datagram.
+    /// From now on a receive waits at most this long for the next datagram.
     pub fn wait_for(&mut self, time: Duration)
         ensures { self.new ≡ self.old }
     {

@@ -10,7 +10,7 @@ pub const MAX_CLIENT: u16 = 256;
 pub const MAX_PORT: u16 = 65_535;
 /// How many positions ahead of the executed ones the members are known.
 pub const MAX_ALPHA: u8 = 16;
-/// The notes of the steps, in order.
+/// Members of a position, of which any four are a majority.
 pub const MAX_MEMBERS: usize = 7;
 /// Bytes of a payload.
 pub const MAX_PAYLOAD: usize = 64;

@@ -1,5 +1,5 @@
 -- The ports of a client that asks several, one after another.
-use Rattle.std.proofs.Common.{◌≡◌, ◌++◌, List, ℕ, true, false, Option, Some, None, [], ◌∷◌, take, refl, subst}
+use Rattle.std.proofs.Common.{◌≡◌, ◌++◌, List, ℕ, true, false, Option, Some, None, [], ◌∷◌, take, refl, subst, sym}
 use Rattle.std.specs.Prelude.{is_some, slice_get}
 use Rattle.std.specs.declared.net.socket_addr.SocketAddr.{SocketAddr}
 use Rattle.lk_client.specs.Questions.{Asker, Tries, TriesInVain, TriesUntil}
@@ -19,14 +19,16 @@ module _ {S : Type 0} {sent : S → List (SocketAddr × List ℕ)} {failures : S
   vain_more (first ∷ ports) port old mid new passed more = (passed.0, passed.1, vain_more ports port passed.0 mid new passed.2 more)
 
   -- one more that told nothing
-  pub tries_more : {said ports further : List ℕ} {port : ℕ} {old mid new : Asker S} (told : Option Reply) → is_some told ≡ false → said ≡ bytes → further ≡ ports ++ port ∷ []
-      → TriesInVain sent failures next q ports bytes old mid → Tries sent failures next q port said told mid new → TriesInVain sent failures next q further bytes old new
-  tries_more {ports = ports} {port = port} {old = old} {mid = mid} {new = new} None none same is passed more =
-      subst (λ (ps : List ℕ). TriesInVain sent failures next q ps bytes old new) (cc is) (vain_more ports port old mid new passed (by_bytes same more))
-  tries_more (Some reply) none same is passed more = absurd (cc none)
+  pub tries_more : {said further : List ℕ} {port : ℕ} {mid new : Asker S} (ports : List ℕ) (old : Asker S) (told : Option Reply) → is_some told ≡ false → said ≡ bytes
+      → further ≡ ports ++ port ∷ [] → TriesInVain sent failures next q ports bytes old mid → Tries sent failures next q port said told mid new
+      → TriesInVain sent failures next q further bytes old new
+  tries_more {port = port} {mid = mid} {new = new} ports old None none same is passed more =
+      subst (λ (ps : List ℕ). TriesInVain sent failures next q ps bytes old new) (sym is) (vain_more ports port old mid new passed (by_bytes same more))
+  tries_more ports old (Some reply) none same is passed more = absurd (cc none)
 
   -- one that told something
-  pub tries_told : {said ports : List ℕ} {count port : ℕ} {old mid new : Asker S} (told : Option Reply) → is_some told ≡ true → said ≡ bytes → slice_get ports count ≡ Some port
-      → TriesInVain sent failures next q (take count ports) bytes old mid → Tries sent failures next q port said told mid new → TriesUntil sent failures next q ports bytes told old new
-  tries_told None some same at passed more = absurd (cc some)
-  tries_told {count = count} {port = port} {mid = mid} (Some reply) some same at passed more = (count, port, at, mid, passed, by_bytes same more)
+  pub tries_told : {said : List ℕ} {port : ℕ} {mid new : Asker S} (ports : List ℕ) (count : ℕ) (old : Asker S) (told : Option Reply) → is_some told ≡ true → said ≡ bytes
+      → slice_get ports count ≡ Some port → TriesInVain sent failures next q (take count ports) bytes old mid → Tries sent failures next q port said told mid new
+      → TriesUntil sent failures next q ports bytes told old new
+  tries_told ports count old None some same at passed more = absurd (cc some)
+  tries_told {port = port} {mid = mid} ports count old (Some reply) some same at passed more = (count, port, at, mid, passed, by_bytes same more)
