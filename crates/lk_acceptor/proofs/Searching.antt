@@ -12,7 +12,7 @@ use Rattle.lk_types.specs.Ballots.{is_below}
 use Rattle.lk_types.specs.Votes.{IsVote}
 use Rattle.lk_types.specs.declared.vote.Vote.{Vote}
 use Rattle.lk_wire.specs.Values.{are_votes_above}
-use Rattle.lk_history.proofs.Histories.{cons_cases, contains_more, filter_from}
+use Rattle.lk_agreement.proofs.Histories.{cons_cases, contains_more, filter_from}
 use Rattle.lk_votes.specs.VoteLists.{AreRising, votes_below, votes_with}
 use Rattle.lk_votes.proofs.Votes.{rising_parts}
 use Rattle.lk_acceptor.specs.Answers.{Agrees}

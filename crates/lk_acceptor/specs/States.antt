@@ -9,8 +9,8 @@ use Rattle.lk_types.specs.declared.entry.Entry.{Entry}
 use Rattle.lk_types.specs.declared.entry.Entry.TheVariants as entry
 use Rattle.lk_types.specs.declared.vote.Vote.{Vote}
 use Rattle.lk_wire.specs.Values.{are_votes_above}
-use Rattle.lk_history.specs.Acceptors.{AcceptorState}
-use Rattle.lk_history.specs.Changes.{with_promise}
+use Rattle.lk_agreement.specs.Acceptors.{AcceptorState}
+use Rattle.lk_agreement.specs.Changes.{with_promise}
 use Rattle.lk_acceptor.specs.AcceptorValue.{AcceptorValue}
 use Rattle.lk_votes.specs.VoteLists.{votes_with}
 use Rattle.lk_acceptor.specs.VoteLists.{votes_above}

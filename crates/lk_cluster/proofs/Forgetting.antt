@@ -15,7 +15,7 @@ use Rattle.lk_entries.specs.declared.stored.Stored.{Stored}
 use Rattle.lk_entries.specs.declared.stored.Stored.TheVariants.{Base}
 use Rattle.lk_log.specs.Stores.{first_base}
 use Rattle.lk_log.proofs.StoreLaws.{empty_image, first_stands, not_both, one_standing}
-use Rattle.lk_history.specs.Datagrams.{HasSent}
+use Rattle.lk_agreement.specs.Datagrams.{HasSent}
 use Rattle.lk_replica.specs.ReplicaValue.{ReplicaValue}
 use Rattle.lk_server.specs.Servers.{ServerValue}
 use Rattle.lk_sim.specs.declared.seat.Life.{Life}

@@ -11,8 +11,8 @@ use Rattle.lk_log.specs.Rooms.{StaysWithin}
 use Rattle.lk_log.specs.StoreValue.{disks, device_of}
 use Rattle.lk_log.proofs.Room.{never_longer}
 use Rattle.lk_wire.specs.declared.message.NodeMessage.TheVariants as kinds
-use Rattle.lk_history.specs.Snapshots.{IsSlice}
-use Rattle.lk_history.proofs.Histories.{beginning_slice, still_sent}
+use Rattle.lk_agreement.specs.Snapshots.{IsSlice}
+use Rattle.lk_agreement.proofs.Histories.{beginning_slice, still_sent}
 use Rattle.lk_step.specs.Letters.{LetterValue, batch_of, datagram_of}
 use Rattle.lk_step.specs.declared.input.Input.{Input}
 use Rattle.lk_step.specs.declared.input.Input.TheVariants.{Tick, Datagram as Heard}

@@ -9,7 +9,7 @@ use Rattle.lk_disk.specs.Memory.{Memory, disk_of}
 use Rattle.lk_disk.specs.declared.device.Side.{Side}
 use Rattle.lk_locks.specs.Meaning.{table_meaning}
 use Rattle.lk_log.specs.StoreValue.{device_of}
-use Rattle.lk_history.proofs.Histories.{heard_was_sent, cons_cases, contains_more}
+use Rattle.lk_agreement.proofs.Histories.{heard_was_sent, cons_cases, contains_more}
 use Rattle.lk_step.specs.Letters.{LetterValue, batch_of, datagram_of}
 use Rattle.lk_step.specs.declared.note.Note.{Note}
 use Rattle.lk_node.specs.Histories.{Genesis, Datagram}

@@ -7,7 +7,7 @@ use Rattle.lk_disk.specs.declared.device.Side.{Side}
 use Rattle.lk_disk.specs.declared.device.Side.TheVariants.{A, B}
 use Rattle.lk_locks.specs.Meaning.{table_meaning}
 use Rattle.lk_log.specs.StoreValue.{StoreValue, disks, device_of}
-use Rattle.lk_history.specs.Nodes.{View}
+use Rattle.lk_agreement.specs.Nodes.{View}
 use Rattle.lk_step.specs.declared.note.Note.{Note}
 use Rattle.lk_node.specs.Histories.{History, Genesis, Datagram}
 use Rattle.lk_node.specs.Holdings.{Holding}

@@ -12,7 +12,7 @@ use Rattle.lk_wire.specs.Grammar.{Spells, spelling}
 use Rattle.lk_wire.specs.declared.message.Content.TheVariants as content
 use Rattle.lk_wire.specs.declared.message.Message.{Message}
 use Rattle.lk_wire.proofs.Spellings.{one_message}
-use Rattle.lk_history.proofs.Histories.{contains_more}
+use Rattle.lk_agreement.proofs.Histories.{contains_more}
 use Rattle.lk_step.specs.declared.note.Note.{Note}
 use Rattle.lk_node.specs.Histories.{Datagram, RequestValue}
 use Rattle.lk_sim.specs.Networks.{IsRequestIn, AreAsking, TellsOf}

@@ -7,8 +7,8 @@ use Rattle.lk_types.specs.declared.command.Request.{Request}
 use Rattle.lk_wire.specs.Grammar.{Spells}
 use Rattle.lk_wire.specs.declared.message.Content.TheVariants as content
 use Rattle.lk_wire.specs.declared.message.NodeMessage.{NodeMessage}
-use Rattle.lk_history.specs.Datagrams.{said_by}
-use Rattle.lk_history.proofs.Histories.{heard_was_sent}
+use Rattle.lk_agreement.specs.Datagrams.{said_by}
+use Rattle.lk_agreement.proofs.Histories.{heard_was_sent}
 use Rattle.lk_step.specs.Letters.{LetterValue, batch_of}
 use Rattle.lk_node.specs.Histories.{Genesis, Datagram}
 use Rattle.lk_replica.specs.ReplicaValue.{ReplicaValue}

@@ -3,7 +3,7 @@ use Rattle.std.proofs.Common.{ℕ, ◌⊎◌, Option, List, [], ◌∷◌, ◌++
 use Rattle.std.specs.Prelude.{map}
 use Rattle.lk_locks.specs.Meaning.{table_meaning}
 use Rattle.lk_locks.specs.Packed.{IsTableText}
-use Rattle.lk_history.specs.Datagrams.{said_by}
+use Rattle.lk_agreement.specs.Datagrams.{said_by}
 use Rattle.lk_step.specs.Letters.{LetterValue, batch_of}
 use Rattle.lk_step.specs.declared.input.Input.{Input}
 use Rattle.lk_step.specs.declared.note.Note.{Note}

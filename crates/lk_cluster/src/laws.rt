@@ -8,7 +8,7 @@ ghost use Rattle.lk_disk.specs.declared.device.Side.{Side};
 ghost use Rattle.lk_wire.specs.declared.message.NodeMessage.{NodeMessage};
 ghost use Rattle.lk_locks.specs.Meaning.{table_meaning};
 ghost use Rattle.lk_locks.specs.Packed.{IsTableText};
-ghost use Rattle.lk_history.specs.Datagrams.{HasSent};
+ghost use Rattle.lk_agreement.specs.Datagrams.{HasSent};
 ghost use Rattle.lk_step.specs.Letters.{batch_of};
 ghost use Rattle.lk_node.specs.Leavings.{header_of};
 ghost use Rattle.lk_seal.specs.Seals.{key_list, heard};

@@ -8,7 +8,7 @@ ghost use Rattle.lk_inspect.specs.WorldStates.{IsStateOf, AreStatesOf};
 
 use crate::inspect::{inspect_device, write_found};
 use crate::inspection::Inspection;
-use lk_history::Party;
+use lk_agreement::Party;
 use lk_replica::{Datagram, MemoryReplica};
 use lk_script::ending::end;
 use lk_script::fault::ScriptFault;

@@ -12,9 +12,9 @@ use Rattle.lk_members.specs.Rosters.{Genesis, is_member, members}
 use Rattle.lk_members.specs.Majorities.{IsMajority}
 use Rattle.lk_members.specs.Windows.{RosterValue, RosterSumsUp, roster_after}
 use Rattle.lk_members.proofs.Memberships.{length_of_window, set_of_window}
-use Rattle.lk_history.specs.Soundness.{IsReported, IsReporter}
-use Rattle.lk_history.specs.Nodes.{Term, new_term, Acceptance}
-use Rattle.lk_history.specs.Changes.{MayPropose, with_report, with_proposal, with_acceptance}
+use Rattle.lk_agreement.specs.Soundness.{IsReported, IsReporter}
+use Rattle.lk_agreement.specs.Nodes.{Term, new_term, Acceptance}
+use Rattle.lk_agreement.specs.Changes.{MayPropose, with_report, with_proposal, with_acceptance}
 use Rattle.lk_leader.specs.Terms as terms
 use Rattle.lk_leader.specs.Terms.{Report, ProposalValue, TermValue, proposal_at, in_window, with_proposals, begun}
 use Rattle.lk_leader.specs.Values.{Told, IsNotAbove, told_by, told_at, speaks_at, reports_at, IsLeadersValue, highest, first_new, fills}

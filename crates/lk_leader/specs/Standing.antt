@@ -1,6 +1,6 @@
 -- For which terms of a history a leader stands.
 use Rattle.std.specs.Prelude.{◌≡◌, ℕ, ◌+◌, ◌<◌, ◌≤◌, Contains}
-use Rattle.lk_history.specs.Nodes.{Term}
+use Rattle.lk_agreement.specs.Nodes.{Term}
 use Rattle.lk_leader.specs.Terms.{Command, Report, ProposalValue, TermValue}
 
 -- a leader that keeps this much stands for the term, with this many executed positions and a window of this size. The

@@ -18,7 +18,7 @@ pub(crate) struct Report {
 }
 
 impl Model for Report {
-    ghost use Rattle.lk_history.specs.Soundness.{Report as ReportValue};
+    ghost use Rattle.lk_agreement.specs.Soundness.{Report as ReportValue};
 
     ghost Value = { ReportValue };
 

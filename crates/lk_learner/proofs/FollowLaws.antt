@@ -3,12 +3,12 @@ use Rattle.std.proofs.Common.{Bool, true, false, cond, ltb, filter, ◌⊎◌, �
 use Rattle.std.specs.Prelude.{slice_get}
 use Rattle.std.proofs.lemmas.List.{drop-append-le, take-append-le}
 use Rattle.std.proofs.lemmas.List.Elements.{Contains-append_left, Contains-push, Contains-push_cases}
-use Rattle.lk_history.specs.Datagrams.{Genesis, Datagram}
-use Rattle.lk_history.specs.Chosen.{command_at, Chosen, ChosenAt, AreChosenFrom}
-use Rattle.lk_history.specs.Soundness.{Sound}
-use Rattle.lk_history.specs.Nodes.{View, Stems}
-use Rattle.lk_history.specs.Changes.{AreAmong, with_done, Changes, learns, executes}
-use Rattle.lk_history.proofs.Histories.{entry_chosen, chosen_push, cons_cases, contains_more, filter_from, filter_passes_at}
+use Rattle.lk_agreement.specs.Datagrams.{Genesis, Datagram}
+use Rattle.lk_agreement.specs.Chosen.{command_at, Chosen, ChosenAt, AreChosenFrom}
+use Rattle.lk_agreement.specs.Soundness.{Sound}
+use Rattle.lk_agreement.specs.Nodes.{View, Stems}
+use Rattle.lk_agreement.specs.Changes.{AreAmong, with_done, Changes, learns, executes}
+use Rattle.lk_agreement.proofs.Histories.{entry_chosen, chosen_push, cons_cases, contains_more, filter_from, filter_passes_at}
 use Rattle.lk_members.specs.Windows.{roster_after}
 use Rattle.lk_state.specs.Meanings.{Meaning}
 use Rattle.lk_state.specs.Packed.{packed}

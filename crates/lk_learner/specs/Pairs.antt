@@ -1,6 +1,6 @@
 -- Decided pairs in order of their positions.
-pub use Rattle.lk_history.specs.Chosen.{Command}
-pub use Rattle.lk_history.specs.Nodes.{Pair}
+pub use Rattle.lk_agreement.specs.Chosen.{Command}
+pub use Rattle.lk_agreement.specs.Nodes.{Pair}
 use Rattle.std.specs.Prelude.{ℕ, ◌+◌, ◌*◌, ◌≤◌, Bool, true, not, ◌==◌, nat_lt, ◌&&◌, if◌then◌else◌, List, [], ◌∷◌, filter, Contains, IsTrue}
 
 -- the positions rise strictly, the first above low

@@ -1,13 +1,13 @@
 //! What follows from a learner's steps: laws about the definitions alone. A function without a body ensures each of
 //! them.
 ghost use Rattle.std.specs.Prelude.{◌≡◌, ◌+◌, ◌-◌, ◌*◌, ◌<◌, ◌≤◌, ℕ, suc, List, [], ◌∷◌, ◌++◌, length, take, drop, Contains, Option, Some, slice_get};
-ghost use Rattle.lk_history.specs.Datagrams.{Genesis, Datagram, Decided};
-ghost use Rattle.lk_history.specs.Chosen.{command_at, Chosen, ChosenAt};
-ghost use Rattle.lk_history.specs.Soundness.{Sound};
-ghost use Rattle.lk_history.specs.Snapshots.{IsSlice};
+ghost use Rattle.lk_agreement.specs.Datagrams.{Genesis, Datagram, Decided};
+ghost use Rattle.lk_agreement.specs.Chosen.{command_at, Chosen, ChosenAt};
+ghost use Rattle.lk_agreement.specs.Soundness.{Sound};
+ghost use Rattle.lk_agreement.specs.Snapshots.{IsSlice};
 ghost use Rattle.lk_wire.specs.Values.{PartValue};
-ghost use Rattle.lk_history.specs.Nodes.{View, Stems, MaySend};
-ghost use Rattle.lk_history.specs.Changes.{with_done, Changes};
+ghost use Rattle.lk_agreement.specs.Nodes.{View, Stems, MaySend};
+ghost use Rattle.lk_agreement.specs.Changes.{with_done, Changes};
 ghost use Rattle.lk_state.specs.Meanings.{Meaning};
 ghost use Rattle.lk_state.specs.States.{SumsUp};
 ghost use Rattle.lk_learner.specs.Pairs.{AreKept, without};

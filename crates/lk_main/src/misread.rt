@@ -2,9 +2,9 @@
 
 use clap::ArgMatches;
 use lk_types::limits::MAX_ALPHA;
-use lk_words::member::{member_of, read_members};
-use lk_words::number::read_number;
-use lk_words::word::split_at;
+use lk_arguments::member::{member_of, read_members};
+use lk_arguments::number::read_number;
+use lk_arguments::word::split_at;
 use std::fmt;
 
 /// A value that is not understood, its argument, and what it has to be.

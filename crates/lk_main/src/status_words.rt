@@ -8,7 +8,7 @@ use lk_status::status::{Form, Plan};
 use lk_status::target::{Inquiry, Target, targets_of};
 use lk_transport::fault::ServiceFault;
 use lk_types::ClientNo;
-use lk_words::number::read_number;
+use lk_arguments::number::read_number;
 use std::alloc::Global;
 
 /// The milliseconds of a receive, and the most that are waited in all.

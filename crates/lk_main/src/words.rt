@@ -13,7 +13,7 @@ use clap::{ArgMatches, Error};
 use lk_client::question::ask;
 use lk_disk::MemoryDisk;
 use lk_events::line::{Events, Observer, Unobserved};
-use lk_fuzz::fuzzing::{print_script, run_fuzz};
+use lk_schedules::fuzzing::{print_script, run_fuzz};
 use lk_inspect::inspect::inspect;
 use lk_inspect::world_state::run_to_state;
 use lk_locks::LockTable;

@@ -11,12 +11,12 @@ use Rattle.lk_wire.specs.Grammar.{IsMessage}
 use Rattle.lk_wire.specs.declared.message.NodeMessage.{NodeMessage}
 use Rattle.lk_wire.specs.declared.message.NodeMessage.TheVariants as kinds
 use Rattle.lk_state.specs.Meanings.{Meaning}
-use Rattle.lk_history.specs.Acceptors.{AcceptorState, Covers, TakesVote}
-use Rattle.lk_history.specs.Changes.{promises, accepts, view_with, with_promise}
-use Rattle.lk_history.specs.Chosen.{Command}
-use Rattle.lk_history.specs.Datagrams.{HasSent, WasSent}
-use Rattle.lk_history.specs.Nodes.{View, ViewFits, MaySend}
-use Rattle.lk_history.proofs.Histories.{change_fits}
+use Rattle.lk_agreement.specs.Acceptors.{AcceptorState, Covers, TakesVote}
+use Rattle.lk_agreement.specs.Changes.{promises, accepts, view_with, with_promise}
+use Rattle.lk_agreement.specs.Chosen.{Command}
+use Rattle.lk_agreement.specs.Datagrams.{HasSent, WasSent}
+use Rattle.lk_agreement.specs.Nodes.{View, ViewFits, MaySend}
+use Rattle.lk_agreement.proofs.Histories.{change_fits}
 use Rattle.lk_acceptor.specs.AcceptorValue.{AcceptorValue}
 use Rattle.lk_acceptor.specs.Answers.{Promises, Votes, Agrees, AnswersPrepare, AnswersAccept}
 use Rattle.lk_acceptor.specs.States.{IsOrdered, with_vote, with_state, with_written}

@@ -7,10 +7,10 @@ use Rattle.lk_wire.specs.Grammar.{IsMessage}
 use Rattle.lk_wire.specs.declared.message.NodeMessage.TheVariants as kinds
 use Rattle.lk_entries.specs.Values.{HeaderValue}
 use Rattle.lk_state.specs.Meanings.{Meaning}
-use Rattle.lk_history.specs.Acceptors.{AcceptorState}
-use Rattle.lk_history.specs.Changes.{begins, view_with, view_in, with_promise}
-use Rattle.lk_history.specs.Nodes.{Term, Pair, new_term}
-use Rattle.lk_history.proofs.Histories.{change_fits}
+use Rattle.lk_agreement.specs.Acceptors.{AcceptorState}
+use Rattle.lk_agreement.specs.Changes.{begins, view_with, view_in, with_promise}
+use Rattle.lk_agreement.specs.Nodes.{Term, Pair, new_term}
+use Rattle.lk_agreement.proofs.Histories.{change_fits}
 use Rattle.lk_acceptor.specs.States.{acceptor_with}
 use Rattle.lk_acceptor.proofs.Acceptors.{own_written}
 use Rattle.lk_leader.specs.Terms.{TermValue, begun}

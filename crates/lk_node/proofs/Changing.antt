@@ -6,8 +6,8 @@ use Rattle.lk_types.specs.Ballots.{IsAtMost}
 use Rattle.lk_types.specs.declared.entry.Entry.{Entry}
 use Rattle.lk_wire.specs.declared.message.NodeMessage.{NodeMessage}
 use Rattle.lk_wire.specs.declared.message.NodeMessage.TheVariants as kinds
-use Rattle.lk_history.specs.Acceptors.{AcceptorState}
-use Rattle.lk_history.specs.Nodes.{Pair, Term, View, MayPromise, MaySend}
+use Rattle.lk_agreement.specs.Acceptors.{AcceptorState}
+use Rattle.lk_agreement.specs.Nodes.{Pair, Term, View, MayPromise, MaySend}
 use Rattle.lk_entries.specs.Values.{HeaderValue}
 use Rattle.lk_state.specs.Meanings.{Meaning}
 use Rattle.lk_acceptor.specs.AcceptorValue.{AcceptorValue}

@@ -14,11 +14,11 @@ use Rattle.lk_wire.specs.declared.message.NodeMessage.TheVariants as kinds
 use Rattle.lk_members.specs.Rosters.{Genesis, members}
 use Rattle.lk_members.specs.Windows.{RosterValue, RosterSumsUp, roster_after}
 use Rattle.lk_members.proofs.Memberships.{length_of_window, set_of_window}
-use Rattle.lk_history.specs.Changes.{counts, view_in, with_acceptance}
-use Rattle.lk_history.specs.Chosen.{Command, ChosenAt}
-use Rattle.lk_history.specs.Datagrams.{HasSent}
-use Rattle.lk_history.specs.Nodes.{Pair, Acceptance, Term, View, ViewFits}
-use Rattle.lk_history.proofs.Histories.{change_fits, accepted_is_chosen}
+use Rattle.lk_agreement.specs.Changes.{counts, view_in, with_acceptance}
+use Rattle.lk_agreement.specs.Chosen.{Command, ChosenAt}
+use Rattle.lk_agreement.specs.Datagrams.{HasSent}
+use Rattle.lk_agreement.specs.Nodes.{Pair, Acceptance, Term, View, ViewFits}
+use Rattle.lk_agreement.proofs.Histories.{change_fits, accepted_is_chosen}
 use Rattle.lk_entries.specs.Values.{HeaderValue}
 use Rattle.lk_state.specs.Meanings.{Meaning}
 use Rattle.lk_state.specs.Runs.{run_answer}

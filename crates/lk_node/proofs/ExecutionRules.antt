@@ -8,12 +8,12 @@ use Rattle.lk_wire.specs.Grammar.{spelling, IsMessage}
 use Rattle.lk_wire.specs.declared.message.NodeMessage.{NodeMessage}
 use Rattle.lk_wire.specs.declared.message.NodeMessage.TheVariants as kinds
 use Rattle.lk_members.specs.Effects.{RequestValue, Noop, Request}
-use Rattle.lk_history.specs.Changes.{with_done}
-use Rattle.lk_history.specs.Chosen.{Command, command_at}
-use Rattle.lk_history.specs.Datagrams.{Genesis, Datagram}
-use Rattle.lk_history.specs.Nodes.{Pair, View, Stems}
-use Rattle.lk_history.specs.Soundness.{Sound}
-use Rattle.lk_history.proofs.Histories.{change_fits, cons_cases, contains_more, one_chosen}
+use Rattle.lk_agreement.specs.Changes.{with_done}
+use Rattle.lk_agreement.specs.Chosen.{Command, command_at}
+use Rattle.lk_agreement.specs.Datagrams.{Genesis, Datagram}
+use Rattle.lk_agreement.specs.Nodes.{Pair, View, Stems}
+use Rattle.lk_agreement.specs.Soundness.{Sound}
+use Rattle.lk_agreement.proofs.Histories.{change_fits, cons_cases, contains_more, one_chosen}
 use Rattle.lk_state.specs.Meanings.{Meaning}
 use Rattle.lk_state.specs.Runs.{ran, run_answer, session_for}
 use Rattle.lk_state.specs.Sessions.{session_of, is_new, with_session}

@@ -13,7 +13,7 @@ use Rattle.lk_state.specs.Meanings.{Meaning}
 use Rattle.lk_state.specs.declared.session.Session.{Session}
 use Rattle.lk_entries.specs.Values.{HeaderValue}
 use Rattle.lk_learner.specs.Learners.{Command, Pair}
-use Rattle.lk_history.specs.Ballots.{BallotValue}
+use Rattle.lk_agreement.specs.Ballots.{BallotValue}
 use Rattle.lk_step.specs.Outboxes.{OutboxValue, nothing, with_rebase, with_entry, with_optional}
 use Rattle.lk_step.specs.declared.input.Input.{Input}
 use Rattle.lk_step.specs.declared.input.Input.TheVariants as input

@@ -9,13 +9,13 @@ use Rattle.lk_types.specs.declared.entry.Entry.{Entry}
 use Rattle.lk_types.specs.declared.entry.Entry.TheVariants as entry
 use Rattle.lk_wire.specs.Values.{PartValue}
 use Rattle.lk_wire.specs.declared.message.NodeMessage.TheVariants as kinds
-use Rattle.lk_history.specs.Changes.{with_done, installs}
-use Rattle.lk_history.specs.Chosen.{Command, command_at, Chosen, ChosenAt}
-use Rattle.lk_history.specs.Datagrams.{HasSent}
-use Rattle.lk_history.specs.Nodes.{Pair, View}
-use Rattle.lk_history.specs.Snapshots.{IsSlice}
-use Rattle.lk_history.specs.Soundness.{Sound}
-use Rattle.lk_history.proofs.Histories.{command_within, entry_chosen, one_chosen, chosen_at_fits, chosen_fits, chosen_short, change_fits, filter_from, whole_slice}
+use Rattle.lk_agreement.specs.Changes.{with_done, installs}
+use Rattle.lk_agreement.specs.Chosen.{Command, command_at, Chosen, ChosenAt}
+use Rattle.lk_agreement.specs.Datagrams.{HasSent}
+use Rattle.lk_agreement.specs.Nodes.{Pair, View}
+use Rattle.lk_agreement.specs.Snapshots.{IsSlice}
+use Rattle.lk_agreement.specs.Soundness.{Sound}
+use Rattle.lk_agreement.proofs.Histories.{command_within, entry_chosen, one_chosen, chosen_at_fits, chosen_fits, chosen_short, change_fits, filter_from, whole_slice}
 use Rattle.lk_entries.specs.Values.{HeaderValue}
 use Rattle.lk_state.specs.Meanings.{Meaning, KeepsTexts}
 use Rattle.lk_state.specs.States.{WholeValue, SumsUp, whole_after}

@@ -14,12 +14,12 @@ use Rattle.lk_types.specs.declared.entry.Entry.TheVariants as entry
 use Rattle.lk_wire.specs.Values.{DecidedValue, IsDecided}
 use Rattle.lk_wire.specs.declared.message.NodeMessage.TheVariants as kinds
 use Rattle.lk_state.specs.Meanings.{Meaning}
-use Rattle.lk_history.specs.Acceptors.{AcceptorState}
-use Rattle.lk_history.specs.Changes.{with_done}
-use Rattle.lk_history.specs.Chosen.{ChosenAt}
-use Rattle.lk_history.specs.Datagrams.{HasSent}
-use Rattle.lk_history.specs.Nodes.{Pair, View}
-use Rattle.lk_history.proofs.Histories.{change_fits}
+use Rattle.lk_agreement.specs.Acceptors.{AcceptorState}
+use Rattle.lk_agreement.specs.Changes.{with_done}
+use Rattle.lk_agreement.specs.Chosen.{ChosenAt}
+use Rattle.lk_agreement.specs.Datagrams.{HasSent}
+use Rattle.lk_agreement.specs.Nodes.{Pair, View}
+use Rattle.lk_agreement.proofs.Histories.{change_fits}
 use Rattle.lk_acceptor.specs.States.{acceptor_with}
 use Rattle.lk_learner.specs.Learners.{IsWanted, keeping}
 use Rattle.lk_learner.proofs.Learnerships.{with_has, keeping_follows, learning_changes}

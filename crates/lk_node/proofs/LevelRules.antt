@@ -8,8 +8,8 @@ use Rattle.lk_wire.specs.Values.{PartValue}
 use Rattle.lk_wire.specs.declared.message.Nack.{Nack}
 use Rattle.lk_wire.specs.declared.message.NodeMessage.{NodeMessage}
 use Rattle.lk_wire.specs.declared.message.NodeMessage.TheVariants as kinds
-use Rattle.lk_history.specs.Acceptors.{Covers}
-use Rattle.lk_history.specs.Nodes.{Pair, View, MaySend}
+use Rattle.lk_agreement.specs.Acceptors.{Covers}
+use Rattle.lk_agreement.specs.Nodes.{Pair, View, MaySend}
 use Rattle.lk_state.specs.Meanings.{Meaning}
 use Rattle.lk_learner.specs.Following.{Follows}
 use Rattle.lk_learner.specs.Learners.{LearnerValue, news_from, wanted}

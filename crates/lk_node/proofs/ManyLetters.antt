@@ -3,8 +3,8 @@ use Rattle.std.proofs.Common.{◌≡◌, ℕ, Bool, true, List, [], ◌∷◌, �
 use Rattle.lk_types.specs.declared.entry.Entry.{Entry}
 use Rattle.lk_wire.specs.Grammar.{IsMessage}
 use Rattle.lk_wire.specs.declared.message.NodeMessage.{NodeMessage}
-use Rattle.lk_history.specs.Acceptors.{Covers}
-use Rattle.lk_history.specs.Nodes.{MaySend}
+use Rattle.lk_agreement.specs.Acceptors.{Covers}
+use Rattle.lk_agreement.specs.Nodes.{MaySend}
 use Rattle.lk_members.specs.Ports.{IsNextAbove, AreAllAbove}
 use Rattle.lk_state.specs.Meanings.{Meaning}
 use Rattle.lk_step.specs.Letters.{LetterValue}

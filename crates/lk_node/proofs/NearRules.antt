@@ -2,8 +2,8 @@
 use Rattle.std.proofs.Common.{◌≡◌, ℕ, ◌+◌, ◌*◌, ◌≤◌, inl, inr, Bool, true, false, List, [], ◌∷◌, ltb, ◌&&◌, length, Contains, Option, Some, None, refl, sym, ◌∙◌, ap, subst, arith}
 use Rattle.lk_types.specs.BallotValue.{BallotValue}
 use Rattle.lk_types.specs.declared.vote.Vote.{Vote}
-use Rattle.lk_history.specs.Acceptors.{AcceptorState}
-use Rattle.lk_history.specs.Changes.{with_promise}
+use Rattle.lk_agreement.specs.Acceptors.{AcceptorState}
+use Rattle.lk_agreement.specs.Changes.{with_promise}
 use Rattle.lk_entries.specs.Entries.{are_pairs_above}
 use Rattle.lk_log.specs.Stores.{MayBegin}
 use Rattle.lk_state.specs.Meanings.{Meaning}

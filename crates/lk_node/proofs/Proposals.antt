@@ -18,11 +18,11 @@ use Rattle.lk_wire.specs.declared.message.NodeMessage.TheVariants as kinds
 use Rattle.lk_state.specs.Meanings.{Meaning}
 use Rattle.lk_state.specs.States.{WholeValue, whole_after, SumsUp}
 use Rattle.lk_members.specs.Windows.{RosterValue, RosterSumsUp}
-use Rattle.lk_history.specs.Changes as changes
-use Rattle.lk_history.specs.Changes.{proposes}
-use Rattle.lk_history.specs.Datagrams.{Genesis}
-use Rattle.lk_history.specs.Nodes.{Pair, Term, MaySend}
-use Rattle.lk_history.specs.Soundness.{IsReported}
+use Rattle.lk_agreement.specs.Changes as changes
+use Rattle.lk_agreement.specs.Changes.{proposes}
+use Rattle.lk_agreement.specs.Datagrams.{Genesis}
+use Rattle.lk_agreement.specs.Nodes.{Pair, Term, MaySend}
+use Rattle.lk_agreement.specs.Soundness.{IsReported}
 use Rattle.lk_acceptor.specs.AcceptorValue.{AcceptorValue}
 use Rattle.lk_leader.specs.Proposing.{AreMembersAt, LeaderProposes, proposed}
 use Rattle.lk_leader.specs.Terms.{ProposalValue, TermValue, LeaderValue, RequestValue, with_term, proposal_at, in_window}

@@ -6,7 +6,7 @@ use Rattle.lk_types.specs.Ballots.{IsAtMost}
 use Rattle.lk_types.specs.declared.member.Member.{Member}
 use Rattle.lk_wire.specs.declared.message.NodeMessage.TheVariants as kinds
 use Rattle.lk_state.specs.Meanings.{Meaning}
-use Rattle.lk_history.specs.Acceptors.{AcceptorState}
+use Rattle.lk_agreement.specs.Acceptors.{AcceptorState}
 use Rattle.std.proofs.lemmas.Option.{slice_get_within}
 use Rattle.lk_members.specs.Effects.{Command}
 use Rattle.lk_members.specs.Windows.{RosterValue}

@@ -12,11 +12,11 @@ use Rattle.lk_wire.specs.declared.message.NodeMessage.TheVariants as kinds
 use Rattle.lk_state.specs.Meanings.{Meaning}
 use Rattle.lk_members.specs.Ports.{is_named}
 use Rattle.lk_members.specs.Windows.{RosterValue}
-use Rattle.lk_history.specs.Changes as changes
-use Rattle.lk_history.specs.Changes.{Changes, hears}
-use Rattle.lk_history.specs.Datagrams.{HasSent}
-use Rattle.lk_history.specs.Nodes.{Pair, Term, View}
-use Rattle.lk_history.proofs.Histories.{change_fits}
+use Rattle.lk_agreement.specs.Changes as changes
+use Rattle.lk_agreement.specs.Changes.{Changes, hears}
+use Rattle.lk_agreement.specs.Datagrams.{HasSent}
+use Rattle.lk_agreement.specs.Nodes.{Pair, Term, View}
+use Rattle.lk_agreement.proofs.Histories.{change_fits}
 use Rattle.lk_acceptor.specs.AcceptorValue.{AcceptorValue}
 use Rattle.lk_leader.specs.Standing.{LeadsTerm}
 use Rattle.lk_leader.specs.Terms.{Report, TermValue, LeaderValue, with_term, with_report, is_promiser, IsFirstOf}

@@ -5,7 +5,7 @@ use Rattle.lk_types.specs.Limits.{max_count}
 use Rattle.lk_types.specs.declared.entry.Entry.TheVariants.{Promise}
 use Rattle.lk_wire.specs.Grammar.{IsMessage}
 use Rattle.lk_wire.specs.declared.message.NodeMessage.TheVariants as kinds
-use Rattle.lk_history.specs.Changes.{with_promise}
+use Rattle.lk_agreement.specs.Changes.{with_promise}
 use Rattle.lk_acceptor.specs.States.{with_state}
 use Rattle.lk_leader.specs.Terms.{begun, with_term}
 use Rattle.lk_learner.specs.Learners.{executed}

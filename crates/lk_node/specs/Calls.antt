@@ -5,9 +5,9 @@ use Rattle.lk_wire.specs.declared.message.NodeMessage.{NodeMessage}
 use Rattle.lk_disk.specs.Disk.{Disk}
 use Rattle.lk_disk.specs.declared.device.Side.{Side}
 use Rattle.lk_state.specs.Meanings.{Meaning}
-use Rattle.lk_history.specs.declared.party.Party.TheVariants as party
-use Rattle.lk_history.specs.Datagrams.{said_by}
-use Rattle.lk_history.specs.Nodes.{View, MaySend}
+use Rattle.lk_agreement.specs.declared.party.Party.TheVariants as party
+use Rattle.lk_agreement.specs.Datagrams.{said_by}
+use Rattle.lk_agreement.specs.Nodes.{View, MaySend}
 use Rattle.lk_step.specs.declared.note.Note.{Note}
 use Rattle.lk_step.specs.declared.input.Input.{Input}
 use Rattle.lk_step.specs.declared.input.Input.TheVariants.{Tick, Datagram as Heard}

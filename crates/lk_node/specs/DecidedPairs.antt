@@ -1,7 +1,7 @@
 -- How a node handles decided pairs.
 use Rattle.std.specs.Prelude.{◌≡◌, ℕ, ◌+◌, Some, List, ◌∷◌, slice_get}
 use Rattle.lk_state.specs.Meanings.{Meaning}
-use Rattle.lk_history.specs.Chosen.{ChosenAt}
+use Rattle.lk_agreement.specs.Chosen.{ChosenAt}
 use Rattle.lk_learner.specs.Learners.{Command, Pair}
 use Rattle.lk_step.specs.Outboxes.{OutboxValue}
 use Rattle.lk_node.specs.Executing.{RunsAll}

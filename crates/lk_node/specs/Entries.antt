@@ -6,10 +6,10 @@ use Rattle.lk_entries.specs.Values.{StandingValue}
 use Rattle.lk_entries.specs.Standings.{HasHeader, StandsFor}
 use Rattle.lk_entries.specs.declared.stored.Stored.{Stored}
 use Rattle.lk_state.specs.Meanings.{Meaning}
-use Rattle.lk_history.specs.Datagrams.{Accept, WasSent}
-use Rattle.lk_history.specs.Chosen.{ChosenAt}
-use Rattle.lk_history.specs.Acceptors.{CoversSent}
-use Rattle.lk_history.specs.Nodes.{Stems}
+use Rattle.lk_agreement.specs.Datagrams.{Accept, WasSent}
+use Rattle.lk_agreement.specs.Chosen.{ChosenAt}
+use Rattle.lk_agreement.specs.Acceptors.{CoversSent}
+use Rattle.lk_agreement.specs.Nodes.{Stems}
 use Rattle.lk_node.specs.Histories.{History, Command}
 use Rattle.lk_node.specs.Served.{text}
 use Rattle.lk_node.specs.Leavings.{header_of, acceptor_of, view_of}

@@ -1,8 +1,8 @@
 -- What a node that is up holds.
 use Rattle.std.specs.Prelude.{◌≡◌, ℕ, List, Contains, Option, Some}
 use Rattle.lk_state.specs.Meanings.{Meaning}
-use Rattle.lk_history.specs.Nodes.{Term, View, ViewFits}
-use Rattle.lk_history.specs.Snapshots.{IsSlice}
+use Rattle.lk_agreement.specs.Nodes.{Term, View, ViewFits}
+use Rattle.lk_agreement.specs.Snapshots.{IsSlice}
 use Rattle.lk_learner.specs.Learners.{GatheredValue}
 use Rattle.lk_node.specs.Histories.{History, Command, RequestValue, WasAsked}
 use Rattle.lk_node.specs.Served.{text}

@@ -10,9 +10,9 @@ use Rattle.lk_entries.specs.declared.stored.Stored.{Stored}
 use Rattle.lk_log.specs.StoreValue.{StoreValue}
 use Rattle.lk_log.specs.Stores.{Holds}
 use Rattle.lk_state.specs.Meanings.{Meaning}
-use Rattle.lk_history.specs.Acceptors.{AcceptorState}
-use Rattle.lk_history.specs.Chosen.{command_at}
-use Rattle.lk_history.specs.Nodes.{Term, View}
+use Rattle.lk_agreement.specs.Acceptors.{AcceptorState}
+use Rattle.lk_agreement.specs.Chosen.{command_at}
+use Rattle.lk_agreement.specs.Nodes.{Term, View}
 use Rattle.lk_leader.specs.Terms.{TermValue, LeaderValue}
 use Rattle.lk_learner.specs.Following.{Follows}
 use Rattle.lk_learner.specs.Learners.{LearnerValue}

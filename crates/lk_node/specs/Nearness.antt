@@ -1,6 +1,6 @@
 -- An acceptor and a learner of one node.
 use Rattle.std.specs.Prelude.{◌≡◌, ◌≤◌, ◌+◌, ◌*◌, Contains}
-use Rattle.lk_history.specs.Datagrams.{Vote}
+use Rattle.lk_agreement.specs.Datagrams.{Vote}
 use Rattle.lk_acceptor.specs.AcceptorValue.{AcceptorValue}
 use Rattle.lk_learner.specs.Learners.{LearnerValue, executed, alpha}
 

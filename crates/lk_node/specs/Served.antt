@@ -10,7 +10,7 @@ use Rattle.lk_wire.specs.declared.message.NodeMessage.TheVariants as kinds
 use Rattle.lk_members.specs.Rosters.{members}
 use Rattle.lk_state.specs.Meanings.{Meaning}
 use Rattle.lk_state.specs.States.{reply}
-use Rattle.lk_history.specs.Chosen.{command_at, Chosen, ChosenAt}
+use Rattle.lk_agreement.specs.Chosen.{command_at, Chosen, ChosenAt}
 use Rattle.lk_node.specs.Histories.{History, Genesis, Command}
 
 -- the list bears out the note

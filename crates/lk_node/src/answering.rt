@@ -3,7 +3,7 @@ ghost use Rattle.std.specs.Prelude.{◌≡◌, IfOk, OnOk};
 ghost use Rattle.lk_wire.specs.Grammar.{IsMessage};
 ghost use Rattle.lk_wire.specs.declared.message.NodeMessage.TheVariants as kinds;
 ghost use Rattle.lk_acceptor.specs.Answers.{AnswersPrepare, AnswersAccept};
-ghost use Rattle.lk_history.specs.Datagrams.{HasSent};
+ghost use Rattle.lk_agreement.specs.Datagrams.{HasSent};
 ghost use Rattle.lk_step.specs.Outboxes.{nothing};
 ghost use Rattle.lk_step.specs.Saying.{saying};
 ghost use Rattle.lk_node.specs.Answering.{replied, reply_to, Responds};

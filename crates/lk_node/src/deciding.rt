@@ -1,8 +1,8 @@
 // How a node decides a position: by the votes that it hears.
 ghost use Rattle.std.specs.Prelude.{IfOk, OnOk};
 ghost use Rattle.lk_wire.specs.declared.message.NodeMessage.TheVariants as kinds;
-ghost use Rattle.lk_history.specs.Chosen.{ChosenAt};
-ghost use Rattle.lk_history.specs.Datagrams.{HasSent};
+ghost use Rattle.lk_agreement.specs.Chosen.{ChosenAt};
+ghost use Rattle.lk_agreement.specs.Datagrams.{HasSent};
 ghost use Rattle.lk_leader.specs.Proposing.{AreMembersAt};
 ghost use Rattle.lk_step.specs.Outboxes.{nothing};
 ghost use Rattle.lk_node.specs.Deciding.{HearsVote, AreNews, Decides, HearsAccepted};

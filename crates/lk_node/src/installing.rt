@@ -1,7 +1,7 @@
 // How a node handles a part of another node's snapshot.
 ghost use Rattle.std.specs.Prelude.{◌≡◌, ℕ, IfOk, OnOk};
 ghost use Rattle.lk_wire.specs.declared.message.NodeMessage.TheVariants as kinds;
-ghost use Rattle.lk_history.specs.Datagrams.{HasSent};
+ghost use Rattle.lk_agreement.specs.Datagrams.{HasSent};
 ghost use Rattle.lk_step.specs.Outboxes.{nothing};
 ghost use Rattle.lk_node.specs.Installing.{Gathers, SettlesAll, TakesUp, HearsPart};
 ghost use Rattle.lk_node.specs.Serving.{GoesOn};

@@ -3,7 +3,7 @@ ghost use Rattle.std.specs.Prelude.{◌≡◌, ◌⊎◌, List, IfOk, OnOk, Matc
 ghost use Rattle.lk_types.specs.declared.member.Member.{Member as MemberValue};
 ghost use Rattle.lk_wire.specs.Grammar.{IsMessage};
 ghost use Rattle.lk_wire.specs.declared.message.NodeMessage.TheVariants as kinds;
-ghost use Rattle.lk_history.specs.Datagrams.{HasSent};
+ghost use Rattle.lk_agreement.specs.Datagrams.{HasSent};
 ghost use Rattle.lk_leader.specs.Proposing.{AreMembersAt};
 ghost use Rattle.lk_step.specs.Members.{nodes_of};
 ghost use Rattle.lk_step.specs.Outboxes.{nothing};

@@ -1,8 +1,8 @@
 // What a node learns of the list.
 ghost use Rattle.std.specs.Prelude.{◌≡◌, ℕ, None, [], length, IfOk, IfSome, OnOk};
 ghost use Rattle.lk_wire.specs.declared.message.NodeMessage.TheVariants as kinds;
-ghost use Rattle.lk_history.specs.Chosen.{ChosenAt};
-ghost use Rattle.lk_history.specs.Datagrams.{HasSent};
+ghost use Rattle.lk_agreement.specs.Chosen.{ChosenAt};
+ghost use Rattle.lk_agreement.specs.Datagrams.{HasSent};
 ghost use Rattle.lk_step.specs.Outboxes.{nothing};
 ghost use Rattle.lk_node.specs.DecidedPairs.{TakesPair, TakesFirst, TakesPairs};
 ghost use Rattle.lk_node.specs.Learning.{Learns};

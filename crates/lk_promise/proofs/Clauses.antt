@@ -5,8 +5,8 @@ use Rattle.lk_types.specs.declared.genesis.Genesis.{Genesis}
 use Rattle.lk_wire.specs.declared.message.NodeMessage.TheVariants as message
 use Rattle.lk_members.specs.Effects.{Command, RequestValue, Request, is_older}
 use Rattle.lk_members.proofs.Memberships.{in_effect_after}
-use Rattle.lk_history.specs.Datagrams.{Datagram}
-use Rattle.lk_history.specs.Chosen.{Chosen}
+use Rattle.lk_agreement.specs.Datagrams.{Datagram}
+use Rattle.lk_agreement.specs.Chosen.{Chosen}
 use Rattle.lk_locks.specs.Meaning.{table_meaning}
 use Rattle.lk_step.specs.declared.note.Note.{Note}
 use Rattle.lk_sim.specs.Explained.{Explains}

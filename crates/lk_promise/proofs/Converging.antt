@@ -6,7 +6,7 @@ use Rattle.lk_types.specs.declared.command.Command.TheVariants.{Request}
 use Rattle.lk_types.specs.declared.command.Request.{Request as Asking}
 use Rattle.lk_types.specs.declared.genesis.Genesis.{Genesis}
 use Rattle.lk_types.specs.declared.member.Member.{Member}
-use Rattle.lk_history.proofs.Histories.{cons_cases, contains_more}
+use Rattle.lk_agreement.proofs.Histories.{cons_cases, contains_more}
 use Rattle.lk_replica.specs.ReplicaValue.{ReplicaValue}
 use Rattle.lk_sim.specs.Scenes.{Scene}
 use Rattle.lk_state.specs.declared.session.Session.{Session}

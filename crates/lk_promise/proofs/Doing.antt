@@ -9,7 +9,7 @@ use Rattle.lk_replica.specs.Taking.{ComesTo}
 use Rattle.lk_wire.specs.declared.message.Content.{Content}
 use Rattle.lk_wire.specs.declared.message.Content.TheVariants as content
 use Rattle.lk_wire.specs.declared.message.NodeMessage.TheVariants as message
-use Rattle.lk_history.specs.declared.party.Party.TheVariants as party
+use Rattle.lk_agreement.specs.declared.party.Party.TheVariants as party
 use Rattle.lk_step.specs.declared.note.Note.{Note}
 use Rattle.lk_step.specs.declared.note.Note.TheVariants as note
 use Rattle.lk_node.specs.Histories.{Datagram, RequestValue}

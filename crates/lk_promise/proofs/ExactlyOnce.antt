@@ -6,8 +6,8 @@ use Rattle.lk_types.specs.declared.answer.Answer.{Answer}
 use Rattle.lk_types.specs.declared.command.Command.{Command}
 use Rattle.lk_types.specs.declared.command.Request.{Request as Asking}
 use Rattle.lk_types.specs.declared.genesis.Genesis.{Genesis}
-use Rattle.lk_history.specs.Datagrams.{Datagram}
-use Rattle.lk_history.proofs.Histories.{cons_cases}
+use Rattle.lk_agreement.specs.Datagrams.{Datagram}
+use Rattle.lk_agreement.proofs.Histories.{cons_cases}
 use Rattle.lk_step.specs.declared.note.Note.{Note}
 use Rattle.lk_step.specs.declared.note.Note.TheVariants as note
 use Rattle.lk_promise.specs.ExactlyOnce.{Asks, WasAnswered, AsksAfter, FollowsRule, IsServedOnce, AreServedOnce}

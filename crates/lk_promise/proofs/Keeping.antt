@@ -10,9 +10,9 @@ use Rattle.lk_log.specs.Images.{Image, MayLeaveBoth}
 use Rattle.lk_log.specs.StoreValue.{device_of}
 use Rattle.lk_wire.specs.declared.message.NodeMessage.{NodeMessage}
 use Rattle.lk_wire.specs.declared.message.NodeMessage.TheVariants as message
-use Rattle.lk_history.specs.Acceptors.{CoversSent, Covers}
-use Rattle.lk_history.specs.Chosen.{Command, command_at, Chosen}
-use Rattle.lk_history.specs.Datagrams.{Datagram}
+use Rattle.lk_agreement.specs.Acceptors.{CoversSent, Covers}
+use Rattle.lk_agreement.specs.Chosen.{Command, command_at, Chosen}
+use Rattle.lk_agreement.specs.Datagrams.{Datagram}
 use Rattle.lk_locks.specs.Meaning.{table_meaning}
 use Rattle.lk_node.specs.Leavings.{header_of, acceptor_of, StandsAs}
 use Rattle.lk_node.specs.Served.{text}

@@ -4,7 +4,7 @@ use Rattle.std.specs.List.{list_all}
 use Rattle.std.proofs.lemmas.Bool.{and_parts, cases_lt}
 use Rattle.lk_types.specs.declared.genesis.Genesis.{Genesis}
 use Rattle.lk_members.specs.Effects.{Command, RequestValue, Request, is_older}
-use Rattle.lk_history.proofs.Histories.{cons_cases, contains_more}
+use Rattle.lk_agreement.proofs.Histories.{cons_cases, contains_more}
 use Rattle.lk_promise.specs.Plain.{at, TakesEffectAt, TakesEffectOnce}
 use Rattle.lk_promise.proofs.Effects.{leaves}
 

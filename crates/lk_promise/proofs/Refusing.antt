@@ -12,9 +12,9 @@ use Rattle.lk_wire.specs.Grammar.{Spells}
 use Rattle.lk_wire.specs.declared.message.Content.{Content}
 use Rattle.lk_wire.specs.declared.message.Content.TheVariants as content
 use Rattle.lk_wire.specs.declared.message.Message.{Message}
-use Rattle.lk_history.specs.declared.party.Party.{Party}
-use Rattle.lk_history.specs.declared.party.Party.TheVariants as party
-use Rattle.lk_history.proofs.Histories.{contains_more}
+use Rattle.lk_agreement.specs.declared.party.Party.{Party}
+use Rattle.lk_agreement.specs.declared.party.Party.TheVariants as party
+use Rattle.lk_agreement.proofs.Histories.{contains_more}
 use Rattle.lk_step.specs.declared.note.Note.{Note}
 use Rattle.lk_node.specs.Histories.{Datagram, RequestValue}
 use Rattle.lk_replica.specs.Behaviours.{Behaviour}

@@ -9,8 +9,8 @@ use Rattle.lk_wire.specs.declared.message.Content.TheVariants as content
 use Rattle.lk_wire.specs.declared.message.Message.{Message}
 use Rattle.lk_wire.specs.declared.message.NodeMessage.TheVariants as message
 use Rattle.lk_wire.proofs.Spellings.{one_message}
-use Rattle.lk_history.specs.Datagrams.{Datagram}
-use Rattle.lk_history.proofs.Histories.{cons_cases, contains_more}
+use Rattle.lk_agreement.specs.Datagrams.{Datagram}
+use Rattle.lk_agreement.proofs.Histories.{cons_cases, contains_more}
 use Rattle.lk_step.specs.declared.note.Note.{Note}
 use Rattle.lk_step.specs.declared.note.Note.TheVariants as note
 use Rattle.lk_sim.specs.Traces.{told_by}

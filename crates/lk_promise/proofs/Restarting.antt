@@ -7,7 +7,7 @@ use Rattle.lk_entries.specs.Formats.{format}
 use Rattle.lk_entries.specs.Standings.{HasHeader, StandsFor}
 use Rattle.lk_entries.specs.Values.{HeaderValue, StandingValue}
 use Rattle.lk_entries.specs.declared.stored.Stored.{Stored}
-use Rattle.lk_history.proofs.Histories.{cons_cases}
+use Rattle.lk_agreement.proofs.Histories.{cons_cases}
 use Rattle.lk_locks.specs.Meaning.{table_meaning}
 use Rattle.lk_locks.specs.Packed.{IsTableText}
 use Rattle.lk_log.specs.Images.{Image, MayLeaveBoth, IsLive, seen}

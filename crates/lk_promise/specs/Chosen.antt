@@ -8,8 +8,8 @@ use Rattle.lk_wire.specs.Grammar.{Spells}
 use Rattle.lk_wire.specs.declared.message.Content.TheVariants as content
 use Rattle.lk_wire.specs.declared.message.NodeMessage.{NodeMessage}
 use Rattle.lk_wire.specs.declared.message.NodeMessage.TheVariants as message
-use Rattle.lk_history.specs.Datagrams.{Datagram}
-use Rattle.lk_history.specs.declared.party.Party.TheVariants as party
+use Rattle.lk_agreement.specs.Datagrams.{Datagram}
+use Rattle.lk_agreement.specs.declared.party.Party.TheVariants as party
 use Rattle.lk_promise.specs.Plain.{at, members}
 
 -- the node has sent the message, in the cluster of the genesis

@@ -20,7 +20,7 @@ use Rattle.lk_entries.specs.declared.stored.Stored.TheVariants.{Base}
 use Rattle.lk_log.specs.Images.{IsLive, IsEmpty}
 use Rattle.lk_log.specs.StoreValue.{device_of}
 use Rattle.lk_log.specs.Stores.{first_base}
-use Rattle.lk_history.specs.Datagrams.{Datagram}
+use Rattle.lk_agreement.specs.Datagrams.{Datagram}
 use Rattle.lk_replica.specs.ReplicaValue.{ReplicaValue}
 use Rattle.lk_sim.specs.declared.seat.Life.{Life}
 use Rattle.lk_sim.specs.declared.seat.Life.TheVariants.{Up, Down}

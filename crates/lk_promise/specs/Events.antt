@@ -12,8 +12,8 @@ use Rattle.lk_wire.specs.Grammar.{Spells}
 use Rattle.lk_wire.specs.declared.message.Content.TheVariants as content
 use Rattle.lk_wire.specs.declared.message.NodeMessage.{NodeMessage}
 use Rattle.lk_log.specs.StoreValue.{device_of}
-use Rattle.lk_history.specs.Datagrams.{Datagram}
-use Rattle.lk_history.specs.declared.party.Party.TheVariants as party
+use Rattle.lk_agreement.specs.Datagrams.{Datagram}
+use Rattle.lk_agreement.specs.declared.party.Party.TheVariants as party
 use Rattle.lk_step.specs.declared.note.Note.{Note}
 use Rattle.lk_step.specs.declared.note.Note.TheVariants as note
 use Rattle.lk_locks.specs.Meaning.{table_meaning}

@@ -6,7 +6,7 @@
 --
 -- All of that is stated here a second time, in words of its own. Of the crates below, these files import the values,
 -- the order of ballots, the grammar of bytes, bodies and files, the packed text of a lock table, and what a world
--- shows (its genesis, its nodes, its datagrams, its trace). Of the definitions of lk_members, lk_history, lk_state and
+-- shows (its genesis, its nodes, its datagrams, its trace). Of the definitions of lk_members, lk_agreement, lk_state and
 -- lk_sim they import none but such values: so a definition that is weakened there breaks a proof of this crate.
 --
 -- Not restated: what is named above, the contract of a replica (`ComesTo`), what a revival revives, and what a trap
@@ -25,7 +25,7 @@ use Rattle.lk_wire.specs.declared.message.Content.{Content}
 use Rattle.lk_wire.specs.declared.message.Content.TheVariants as content
 use Rattle.lk_wire.specs.declared.message.Message.{Message}
 use Rattle.lk_wire.specs.declared.message.NodeMessage.TheVariants as message
-use Rattle.lk_history.specs.Datagrams.{Datagram}
+use Rattle.lk_agreement.specs.Datagrams.{Datagram}
 use Rattle.lk_step.specs.declared.note.Note.{Note}
 use Rattle.lk_step.specs.declared.note.Note.TheVariants as note
 use Rattle.lk_replica.specs.ReplicaValue.{ReplicaValue}

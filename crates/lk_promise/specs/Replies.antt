@@ -6,7 +6,7 @@ use Rattle.lk_types.specs.declared.genesis.Genesis.{Genesis}
 use Rattle.lk_wire.specs.Values.{PassedValue}
 use Rattle.lk_wire.specs.declared.message.Answered.{Answered}
 use Rattle.lk_wire.specs.declared.message.NodeMessage.TheVariants as message
-use Rattle.lk_history.specs.Datagrams.{Datagram}
+use Rattle.lk_agreement.specs.Datagrams.{Datagram}
 use Rattle.lk_promise.specs.Chosen.{Says}
 use Rattle.lk_promise.specs.Plain.{IsAnswered}
 

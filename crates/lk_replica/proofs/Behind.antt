@@ -9,11 +9,11 @@ use Rattle.lk_log.specs.StoreValue.{StoreValue, disks}
 use Rattle.lk_log.specs.Stores.{Holds, MayBegin, next_base}
 use Rattle.lk_log.proofs.StoreLaws.{one_standing}
 use Rattle.lk_state.specs.Meanings.{Meaning}
-use Rattle.lk_history.specs.Acceptors.{Covers, CoversSent}
-use Rattle.lk_history.specs.Changes.{view_with}
-use Rattle.lk_history.specs.Datagrams.{said_by}
-use Rattle.lk_history.specs.Nodes.{View, MaySend}
-use Rattle.lk_history.proofs.Histories.{still_stems, covers_both}
+use Rattle.lk_agreement.specs.Acceptors.{Covers, CoversSent}
+use Rattle.lk_agreement.specs.Changes.{view_with}
+use Rattle.lk_agreement.specs.Datagrams.{said_by}
+use Rattle.lk_agreement.specs.Nodes.{View, MaySend}
+use Rattle.lk_agreement.proofs.Histories.{still_stems, covers_both}
 use Rattle.lk_acceptor.specs.States.{without_votes_to}
 use Rattle.lk_acceptor.proofs.Acceptors.{takes_snapshot}
 use Rattle.lk_learner.specs.Learners.{executed}

@@ -14,10 +14,10 @@ use Rattle.lk_log.specs.StoreValue.{StoreValue, disks}
 use Rattle.lk_log.specs.Stores.{Holds, KeepsAtLeast}
 use Rattle.lk_log.proofs.StoreLaws.{all_stand, header_more, one_standing, plain_append}
 use Rattle.lk_state.specs.Meanings.{Meaning}
-use Rattle.lk_history.specs.Acceptors.{AcceptorState, Covers, CoversSent}
-use Rattle.lk_history.specs.Datagrams.{said_by}
-use Rattle.lk_history.specs.Nodes.{View, ViewFits}
-use Rattle.lk_history.proofs.Histories.{said_alike, still_stems, still_was, still_chosen_at, covers_both, entry_chosen}
+use Rattle.lk_agreement.specs.Acceptors.{AcceptorState, Covers, CoversSent}
+use Rattle.lk_agreement.specs.Datagrams.{said_by}
+use Rattle.lk_agreement.specs.Nodes.{View, ViewFits}
+use Rattle.lk_agreement.proofs.Histories.{said_alike, still_stems, still_was, still_chosen_at, covers_both, entry_chosen}
 use Rattle.lk_step.specs.Letters.{LetterValue, datagram_of, batch_of}
 use Rattle.lk_step.specs.Outboxes.{OutboxValue, nothing}
 use Rattle.lk_step.specs.declared.input.Input.{Input}

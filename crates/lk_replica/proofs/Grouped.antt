@@ -29,9 +29,9 @@ use Rattle.lk_log.specs.StoreValue.{StoreValue, pick, disks}
 use Rattle.lk_log.specs.Stores.{Holds, IsOlder, KeepsAtLeast, KeepsItsFile, MayBegin, next_base}
 use Rattle.lk_log.proofs.StoreLaws.{all_stand, header_more, plain_append, holds_keeps, synced_live, of_every}
 use Rattle.lk_state.specs.Meanings.{Meaning}
-use Rattle.lk_history.specs.Acceptors.{AcceptorState}
-use Rattle.lk_history.specs.Datagrams.{said_by}
-use Rattle.lk_history.specs.Nodes.{View}
+use Rattle.lk_agreement.specs.Acceptors.{AcceptorState}
+use Rattle.lk_agreement.specs.Datagrams.{said_by}
+use Rattle.lk_agreement.specs.Nodes.{View}
 use Rattle.lk_step.specs.Letters.{LetterValue, datagram_of, batch_of}
 use Rattle.lk_step.specs.Outboxes.{OutboxValue, nothing}
 use Rattle.lk_step.specs.declared.input.Input.{Input}

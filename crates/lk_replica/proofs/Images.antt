@@ -14,8 +14,8 @@ use Rattle.lk_log.specs.StoreValue.{StoreValue, disks}
 use Rattle.lk_log.specs.Stores.{Holds, KeepsAtLeast, NarrowsOrBegins}
 use Rattle.lk_log.proofs.StoreLaws.{plain_stands, header_more, holds_keeps, of_every, keeps_every, put_keeps_every, opening_every}
 use Rattle.lk_state.specs.Meanings.{Meaning}
-use Rattle.lk_history.specs.Datagrams.{NodeMessage}
-use Rattle.lk_history.specs.Acceptors.{Covers}
+use Rattle.lk_agreement.specs.Datagrams.{NodeMessage}
+use Rattle.lk_agreement.specs.Acceptors.{Covers}
 use Rattle.lk_node.specs.Entries.{EntriesFit, Rests}
 use Rattle.lk_node.specs.Histories.{History, Genesis}
 use Rattle.lk_node.specs.Leavings.{header_of, acceptor_of, DisksFit, AllCover}

@@ -12,7 +12,7 @@ use Rattle.lk_entries.specs.Standings.{greater, greatest_of, ballot_of, ballots_
 use Rattle.lk_entries.specs.Values.{StandingValue}
 use Rattle.lk_entries.specs.declared.stored.Stored.{Stored}
 use Rattle.lk_entries.specs.declared.stored.Stored.TheVariants.{Base, Plain}
-use Rattle.lk_history.proofs.Histories.{at_most_trans}
+use Rattle.lk_agreement.proofs.Histories.{at_most_trans}
 use Rattle.lk_acceptor.specs.States.{IsOrdered}
 use Rattle.lk_node.specs.Leavings.{acceptor_of}
 use Rattle.lk_node.proofs.Nodes.{cons_cases, contains_more}

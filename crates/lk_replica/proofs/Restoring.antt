@@ -16,7 +16,7 @@ use Rattle.lk_step.specs.declared.note.Note.{Note}
 use Rattle.lk_node.specs.Leavings.{acceptor_of}
 use Rattle.lk_node.specs.NodeValue.{NodeValue}
 use Rattle.lk_replica.specs.Revivals.{run_from, notes_of, relearned, reached, Unpacks, MayRevive, Restores}
-use Rattle.lk_history.specs.Acceptors.{AcceptorState}
+use Rattle.lk_agreement.specs.Acceptors.{AcceptorState}
 use Rattle.lk_learner.specs.Learners.{executed}
 use Rattle.lk_node.specs.Nearness as nearness
 use Rattle.lk_node.proofs.Nodes.{cons_cases, contains_more}

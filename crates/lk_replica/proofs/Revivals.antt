@@ -20,11 +20,11 @@ use Rattle.lk_state.specs.Meanings.{Meaning, KeepsTexts}
 use Rattle.lk_state.specs.Packed.{packed}
 use Rattle.lk_state.specs.States.{WholeValue, whole_after}
 use Rattle.lk_state.proofs.Wholes.{ran-whole_after, states_fit}
-use Rattle.lk_history.specs.Acceptors.{CoversSent}
-use Rattle.lk_history.specs.Datagrams.{NodeMessage}
-use Rattle.lk_history.specs.Chosen.{command_at, Chosen, ChosenAt}
-use Rattle.lk_history.specs.Nodes.{Stems, View}
-use Rattle.lk_history.proofs.Histories.{chosen_push, chosen_fits, chosen_short}
+use Rattle.lk_agreement.specs.Acceptors.{CoversSent}
+use Rattle.lk_agreement.specs.Datagrams.{NodeMessage}
+use Rattle.lk_agreement.specs.Chosen.{command_at, Chosen, ChosenAt}
+use Rattle.lk_agreement.specs.Nodes.{Stems, View}
+use Rattle.lk_agreement.proofs.Histories.{chosen_push, chosen_fits, chosen_short}
 use Rattle.lk_learner.specs.Following.{Follows}
 use Rattle.lk_learner.specs.Learners.{Pair}
 use Rattle.lk_learner.proofs.Learnerships.{executed_is}

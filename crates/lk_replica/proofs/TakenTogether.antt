@@ -17,7 +17,7 @@ use Rattle.lk_log.specs.StoreValue.{StoreValue, disks, device_of}
 use Rattle.lk_state.specs.Meanings.{Meaning}
 use Rattle.lk_wire.specs.Grammar.{Spells}
 use Rattle.lk_entries.specs.Values.{HeaderValue}
-use Rattle.lk_history.specs.Datagrams.{NodeMessage, said_by}
+use Rattle.lk_agreement.specs.Datagrams.{NodeMessage, said_by}
 use Rattle.lk_step.specs.Letters.{LetterValue, datagram_of, batch_of}
 use Rattle.lk_step.specs.declared.input.Input.{Input}
 use Rattle.lk_step.specs.declared.note.Note.{Note}

@@ -16,8 +16,8 @@ use Rattle.lk_log.specs.StoreValue.{StoreValue, disks}
 use Rattle.lk_log.specs.Stores.{Holds}
 use Rattle.lk_state.specs.Meanings.{Meaning}
 use Rattle.lk_wire.specs.Grammar.{Spells}
-use Rattle.lk_history.specs.Acceptors.{AcceptorState}
-use Rattle.lk_history.specs.Datagrams.{NodeMessage, said_by}
+use Rattle.lk_agreement.specs.Acceptors.{AcceptorState}
+use Rattle.lk_agreement.specs.Datagrams.{NodeMessage, said_by}
 use Rattle.lk_step.specs.Letters.{LetterValue, batch_of}
 use Rattle.lk_step.specs.Outboxes.{OutboxValue}
 use Rattle.lk_step.specs.declared.input.Input.{Input}

@@ -8,8 +8,8 @@ use Rattle.lk_log.specs.Rooms.{StaysWithin}
 use Rattle.lk_log.specs.StoreValue.{StoreValue, disks}
 use Rattle.lk_log.specs.Stores.{KeepsItsFile, MayBegin}
 use Rattle.lk_state.specs.Meanings.{Meaning}
-use Rattle.lk_history.specs.Acceptors.{Covers}
-use Rattle.lk_history.specs.Datagrams.{NodeMessage}
+use Rattle.lk_agreement.specs.Acceptors.{Covers}
+use Rattle.lk_agreement.specs.Datagrams.{NodeMessage}
 use Rattle.lk_learner.specs.Learners.{executed}
 use Rattle.lk_node.specs.Calls.{NodeFits, Goes}
 use Rattle.lk_node.specs.Executing.{NothingToRun}

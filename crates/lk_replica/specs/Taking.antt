@@ -11,7 +11,7 @@ use Rattle.lk_log.specs.Stores.{Holds}
 use Rattle.lk_state.specs.Meanings.{Meaning}
 use Rattle.lk_disk.specs.Disk.{Disk, contents}
 use Rattle.lk_disk.specs.declared.device.Side.{Side}
-use Rattle.lk_history.specs.Datagrams.{NodeMessage, said_by}
+use Rattle.lk_agreement.specs.Datagrams.{NodeMessage, said_by}
 use Rattle.lk_wire.specs.Grammar.{Spells}
 use Rattle.lk_log.specs.Rooms.{StaysWithin}
 use Rattle.lk_step.specs.Letters.{LetterValue, batch_of}

@@ -4,7 +4,7 @@ ghost use Rattle.lk_step.specs.Letters.{LetterValue, party_of, datagram_of, batc
 
 use crate::datagram::Datagram;
 use crate::post::{Post, SendFault};
-use lk_history::Party;
+use lk_agreement::Party;
 use lk_step::{Letter, To};
 use lk_types::{NoMemory, NodeNo};
 use std::alloc::Global;

@@ -1,4 +1,4 @@
-use lk_history::Party;
+use lk_agreement::Party;
 use std::marker::Model;
 
 /// A datagram: its sender, its recipient, and its bytes.
@@ -10,7 +10,7 @@ pub struct Datagram {
 }
 
 impl Model for Datagram {
-    ghost use Rattle.lk_history.specs.Datagrams.{Datagram};
+    ghost use Rattle.lk_agreement.specs.Datagrams.{Datagram};
 
     ghost Value = { Datagram };
 

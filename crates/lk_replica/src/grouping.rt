@@ -8,7 +8,7 @@ ghost use Rattle.lk_log.specs.Rooms.{StaysWithin};
 ghost use Rattle.lk_log.specs.StoreValue.{disks};
 ghost use Rattle.lk_log.specs.Stores.{Holds, KeepsAtLeast, KeepsItsFile};
 ghost use Rattle.lk_wire.specs.Grammar.{Spells};
-ghost use Rattle.lk_history.specs.Datagrams.{NodeMessage, Datagram as DatagramValue, said_by};
+ghost use Rattle.lk_agreement.specs.Datagrams.{NodeMessage, Datagram as DatagramValue, said_by};
 ghost use Rattle.lk_step.specs.Letters.{LetterValue, batch_of};
 ghost use Rattle.lk_node.specs.Calls.{InputFits, NodeFits, Goes};
 ghost use Rattle.lk_node.specs.Executing.{NothingToRun};

@@ -10,7 +10,7 @@ ghost use Rattle.lk_log.specs.Rooms.{StaysWithin};
 ghost use Rattle.lk_state.specs.Meanings.{Meaning};
 ghost use Rattle.lk_state.specs.States.{WholeValue, SumsUp};
 ghost use Rattle.lk_wire.specs.Grammar.{Spells};
-ghost use Rattle.lk_history.specs.Datagrams.{NodeMessage, Datagram as DatagramValue, said_by};
+ghost use Rattle.lk_agreement.specs.Datagrams.{NodeMessage, Datagram as DatagramValue, said_by};
 ghost use Rattle.lk_node.specs.Histories.{History, Genesis, IsLawful};
 ghost use Rattle.lk_node.specs.Holdings.{Holding};
 ghost use Rattle.lk_node.specs.Leavings.{header_of, DisksFit, AllCover};

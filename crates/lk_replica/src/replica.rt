@@ -9,7 +9,7 @@ ghost use Rattle.lk_step.specs.Letters.{LetterValue, batch_of};
 ghost use Rattle.lk_node.specs.NodeValue.{NodeValue};
 ghost use Rattle.lk_replica.specs.Compacting.{AreLeft, AreSame, IsDue, KeepsFileOrGoesOver, RebasesWhereDue};
 ghost use Rattle.lk_wire.specs.Grammar.{Spells};
-ghost use Rattle.lk_history.specs.Datagrams.{NodeMessage, Datagram as DatagramValue, said_by};
+ghost use Rattle.lk_agreement.specs.Datagrams.{NodeMessage, Datagram as DatagramValue, said_by};
 ghost use Rattle.lk_node.specs.Calls.{InputFits, NodeFits, Goes};
 ghost use Rattle.lk_node.specs.Executing.{NothingToRun};
 ghost use Rattle.lk_node.specs.Histories.{History, Genesis};

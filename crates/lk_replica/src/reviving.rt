@@ -8,7 +8,7 @@ ghost use Rattle.lk_log.specs.Rooms.{StaysWithin};
 ghost use Rattle.lk_types.specs.Limits.{max_base};
 ghost use Rattle.lk_state.specs.Packed.{Packs};
 ghost use Rattle.lk_state.specs.States.{WholeValue};
-ghost use Rattle.lk_history.specs.Datagrams.{NodeMessage};
+ghost use Rattle.lk_agreement.specs.Datagrams.{NodeMessage};
 ghost use Rattle.lk_node.specs.Calls.{Goes};
 ghost use Rattle.lk_replica.specs.Remembering.{Remembers};
 ghost use Rattle.lk_replica.specs.Faults.{fault_number, failures_by, RefusedAfter};

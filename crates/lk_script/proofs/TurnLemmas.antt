@@ -5,8 +5,8 @@ use Rattle.lk_types.specs.Limits.{max_count}
 use Rattle.std.proofs.lemmas.Fmt.{decimal_by_steps}
 use Rattle.std.proofs.lemmas.Grind.{common_steps}
 use Rattle.std.proofs.lemmas.List.Folds.{list_any-append}
-use Rattle.lk_words.specs.Words.{HasNo, HasNoSpace}
-use Rattle.lk_words.proofs.Splits.{one_parting, has_sign, number_has_no_space}
+use Rattle.lk_arguments.specs.Words.{HasNo, HasNoSpace}
+use Rattle.lk_arguments.proofs.Splits.{one_parting, has_sign, number_has_no_space}
 use Rattle.lk_sim.specs.declared.event.Turn.{Turn}
 use Rattle.lk_sim.specs.declared.event.Turn.TheVariants as turn
 use Rattle.lk_script.specs.WorldLines.{IsTurnWord, SpellsTurns}

@@ -4,7 +4,7 @@ use Rattle.std.specs.Fmt.{decimal}
 use Rattle.hex.specs.Hex.{decode_of}
 use Rattle.lk_types.specs.Limits.{max_count, max_node, max_client}
 use Rattle.lk_members.specs.Effects.{RequestValue}
-use Rattle.lk_words.specs.Operations.{SpellsOp}
+use Rattle.lk_arguments.specs.Operations.{SpellsOp}
 use Rattle.lk_sim.specs.declared.event.Event.{Event}
 use Rattle.lk_sim.specs.declared.event.Event.TheVariants as event
 use Rattle.lk_sim.specs.declared.event.Turn.{Turn}

@@ -9,8 +9,8 @@ use crate::fault::LineFault;
 use crate::world_words::first_number;
 use lk_types::Genesis;
 use lk_types::limits::MAX_ALPHA;
-use lk_words::member::read_members;
-use lk_words::word::split_word;
+use lk_arguments::member::read_members;
+use lk_arguments::word::split_word;
 
 const LAST_ALPHA: u64 = MAX_ALPHA as u64;
 

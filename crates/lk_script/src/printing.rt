@@ -3,7 +3,7 @@
 ghost use Rattle.std.specs.Prelude.{◌≡◌, ◌++◌, OnOk};
 ghost use Rattle.lk_script.specs.Worlds.{refusal_name, refused_line};
 
-use lk_history::Party;
+use lk_agreement::Party;
 use lk_replica::Datagram;
 use lk_sim::{End, Refused};
 use lk_step::Note;

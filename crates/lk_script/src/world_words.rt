@@ -2,8 +2,8 @@
 ghost use Rattle.std.specs.Prelude.{ℕ, List, IfSome, IsNone};
 ghost use Rattle.lk_script.specs.WorldLines.{IsWord, Leads};
 
-use lk_words::number::read_number;
-use lk_words::word::split_word;
+use lk_arguments::number::read_number;
+use lk_arguments::word::split_word;
 
 /// The number in that range that a word spells.
 pub fn number_of(word: &[u8], least: u64, most: u64) -> Option<u64>

@@ -10,7 +10,7 @@ use Rattle.lk_log.specs.Rooms.{StaysWithin}
 use Rattle.lk_log.specs.StoreValue.{StoreValue, disks}
 use Rattle.lk_log.proofs.Room.{within_same, within_more, within_still, within_first}
 use Rattle.lk_state.specs.Meanings.{Meaning}
-use Rattle.lk_history.specs.Datagrams.{NodeMessage, said_by}
+use Rattle.lk_agreement.specs.Datagrams.{NodeMessage, said_by}
 use Rattle.lk_step.specs.Letters.{LetterValue, batch_of}
 use Rattle.lk_step.specs.declared.input.Input.{Input}
 use Rattle.lk_step.specs.declared.note.Note.{Note}

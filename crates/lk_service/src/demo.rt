@@ -18,7 +18,7 @@ use lk_transport::network::Network;
 use lk_transport::receive_buffer::ReceiveBuffer;
 use lk_transport::socket::{DatagramSocket, LocalSocket, local};
 use lk_types::{ClientNo, Genesis, Member, NodeNo, Port, Request, RequestNumber};
-use lk_words::operation::read_operation;
+use lk_arguments::operation::read_operation;
 use log::sink::Discard;
 use std::alloc::Global;
 use std::io::Write;

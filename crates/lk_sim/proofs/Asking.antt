@@ -8,13 +8,13 @@ use Rattle.lk_wire.specs.Grammar.{Spells}
 use Rattle.lk_wire.specs.declared.message.Content.TheVariants as content
 use Rattle.lk_wire.proofs.Spellings.{one_message}
 use Rattle.lk_state.specs.Meanings.{Meaning}
-use Rattle.lk_history.specs.Datagrams.{NodeMessage, Accept, said_by, HasSent}
-use Rattle.lk_history.specs.Nodes.{ViewFits}
-use Rattle.lk_history.specs.Worlds.{IsClientRequest, WorldFits}
-use Rattle.lk_history.proofs.Histories.{still_chosen, still_stems}
-use Rattle.lk_history.proofs.Histories.{only}
-use Rattle.lk_history.proofs.Histories.{sent_cases, asked_is_no_saying}
-use Rattle.lk_history.proofs.Histories.{asked_fits}
+use Rattle.lk_agreement.specs.Datagrams.{NodeMessage, Accept, said_by, HasSent}
+use Rattle.lk_agreement.specs.Nodes.{ViewFits}
+use Rattle.lk_agreement.specs.Worlds.{IsClientRequest, WorldFits}
+use Rattle.lk_agreement.proofs.Histories.{still_chosen, still_stems}
+use Rattle.lk_agreement.proofs.Histories.{only}
+use Rattle.lk_agreement.proofs.Histories.{sent_cases, asked_is_no_saying}
+use Rattle.lk_agreement.proofs.Histories.{asked_fits}
 use Rattle.lk_step.specs.declared.note.Note.{Note}
 use Rattle.lk_step.specs.declared.note.Note.TheVariants as note
 use Rattle.lk_node.specs.Histories.{History, Genesis, Datagram, RequestValue}

@@ -7,10 +7,10 @@ use Rattle.lk_wire.specs.Values.{PartValue}
 use Rattle.lk_members.proofs.Memberships.{members_stay}
 use Rattle.lk_state.specs.Meanings.{Meaning}
 use Rattle.lk_state.proofs.Wholes.{replies_stay}
-use Rattle.lk_history.specs.Chosen.{command_at, Chosen, IsBeginning}
-use Rattle.lk_history.specs.Soundness.{Sound}
-use Rattle.lk_history.proofs.Histories.{chosen_agree}
-use Rattle.lk_history.proofs.Histories.{cons_cases, contains_more}
+use Rattle.lk_agreement.specs.Chosen.{command_at, Chosen, IsBeginning}
+use Rattle.lk_agreement.specs.Soundness.{Sound}
+use Rattle.lk_agreement.proofs.Histories.{chosen_agree}
+use Rattle.lk_agreement.proofs.Histories.{cons_cases, contains_more}
 use Rattle.lk_step.specs.declared.note.Note.{Note}
 use Rattle.lk_step.specs.declared.note.Note.TheVariants as note
 use Rattle.lk_node.specs.Histories.{History, Genesis, Datagram, Command}

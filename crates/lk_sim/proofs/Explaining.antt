@@ -8,11 +8,11 @@ use Rattle.lk_disk.specs.declared.device.Side.{Side}
 use Rattle.lk_wire.specs.declared.message.NodeMessage.TheVariants as kinds
 use Rattle.lk_state.specs.Meanings.{Meaning}
 use Rattle.lk_state.specs.States.{WholeValue, SumsUp}
-use Rattle.lk_history.specs.Chosen.{command_at, Chosen, ChosenAt, IsBeginning}
-use Rattle.lk_history.specs.Snapshots.{IsSlice}
-use Rattle.lk_history.specs.Soundness.{Sound}
-use Rattle.lk_history.proofs.Histories.{entry_chosen, one_chosen, chosen_agree, chosen_was_accepted, beginning_slice}
-use Rattle.lk_history.proofs.Histories.{only, contains_more}
+use Rattle.lk_agreement.specs.Chosen.{command_at, Chosen, ChosenAt, IsBeginning}
+use Rattle.lk_agreement.specs.Snapshots.{IsSlice}
+use Rattle.lk_agreement.specs.Soundness.{Sound}
+use Rattle.lk_agreement.proofs.Histories.{entry_chosen, one_chosen, chosen_agree, chosen_was_accepted, beginning_slice}
+use Rattle.lk_agreement.proofs.Histories.{only, contains_more}
 use Rattle.lk_step.specs.declared.note.Note.{Note}
 use Rattle.lk_step.specs.declared.note.Note.TheVariants as note
 use Rattle.lk_node.specs.Histories.{Genesis, Datagram, Command, Request, RequestValue, WasAsked, IsLawful, text}

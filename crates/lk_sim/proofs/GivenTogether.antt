@@ -11,7 +11,7 @@ use Rattle.lk_disk.specs.declared.trap.Trap.{Trap}
 use Rattle.lk_log.specs.Rooms.{StaysWithin}
 use Rattle.lk_log.proofs.Room.{within_same, within_still}
 use Rattle.lk_state.specs.Meanings.{Meaning}
-use Rattle.lk_history.specs.Nodes.{View}
+use Rattle.lk_agreement.specs.Nodes.{View}
 use Rattle.lk_step.specs.declared.input.Input.{Input}
 use Rattle.lk_step.specs.declared.input.Input.TheVariants.{Tick, Datagram as Heard}
 use Rattle.lk_step.specs.declared.note.Note.{Note}

@@ -3,10 +3,10 @@ use Rattle.std.proofs.Common.{◌≡◌, ℕ, List, ◌++◌, take, Contains, su
 use Rattle.lk_disk.specs.Disk.{Disk}
 use Rattle.lk_disk.specs.declared.device.Side.{Side}
 use Rattle.lk_state.specs.Meanings.{Meaning}
-use Rattle.lk_history.specs.Acceptors.{AcceptorState, CoversSent}
-use Rattle.lk_history.specs.Nodes.{View, Stems, ViewFits}
-use Rattle.lk_history.proofs.Histories.{still_chosen_at}
-use Rattle.lk_history.proofs.Histories.{still_slice}
+use Rattle.lk_agreement.specs.Acceptors.{AcceptorState, CoversSent}
+use Rattle.lk_agreement.specs.Nodes.{View, Stems, ViewFits}
+use Rattle.lk_agreement.proofs.Histories.{still_chosen_at}
+use Rattle.lk_agreement.proofs.Histories.{still_slice}
 use Rattle.lk_step.specs.declared.note.Note.{Note}
 use Rattle.lk_step.specs.declared.note.Note.TheVariants as note
 use Rattle.lk_node.specs.Histories.{History, Genesis, Datagram, Command, Noop, Request, RequestValue, WasAsked}

@@ -7,8 +7,8 @@ use Rattle.lk_wire.specs.declared.message.Message.{Message}
 use Rattle.lk_wire.specs.declared.message.Content.TheVariants as content
 use Rattle.lk_wire.proofs.Spellings.{one_message}
 use Rattle.lk_state.specs.Meanings.{Meaning}
-use Rattle.lk_history.specs.Datagrams.{NodeMessage, said_by}
-use Rattle.lk_history.proofs.Histories.{heard_was_sent, contains_more}
+use Rattle.lk_agreement.specs.Datagrams.{NodeMessage, said_by}
+use Rattle.lk_agreement.proofs.Histories.{heard_was_sent, contains_more}
 use Rattle.lk_step.specs.declared.note.Note.{Note}
 use Rattle.lk_step.specs.declared.note.Note.TheVariants as note
 use Rattle.lk_node.specs.Histories.{History, Genesis, Datagram, RequestValue, IsHeard}

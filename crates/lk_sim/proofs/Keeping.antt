@@ -3,10 +3,10 @@ use Rattle.std.proofs.Common.{◌≡◌, ℕ, List, Some, refl, subst, inl, inr}
 use Rattle.lk_disk.specs.Disk.{Disk}
 use Rattle.lk_disk.specs.declared.device.Side.{Side}
 use Rattle.lk_state.specs.Meanings.{Meaning}
-use Rattle.lk_history.specs.Acceptors.{CoversSent}
-use Rattle.lk_history.specs.Datagrams.{Accepted}
-use Rattle.lk_history.specs.Chosen.{command_at, Chosen}
-use Rattle.lk_history.proofs.Histories.{chosen_agree, kept_by_majority}
+use Rattle.lk_agreement.specs.Acceptors.{CoversSent}
+use Rattle.lk_agreement.specs.Datagrams.{Accepted}
+use Rattle.lk_agreement.specs.Chosen.{command_at, Chosen}
+use Rattle.lk_agreement.proofs.Histories.{chosen_agree, kept_by_majority}
 use Rattle.lk_step.specs.declared.note.Note.{Note}
 use Rattle.lk_node.specs.Histories.{Genesis, Datagram, Command}
 use Rattle.lk_node.specs.Holdings.{Holding}

@@ -5,8 +5,8 @@ use Rattle.lk_disk.specs.Memory.{disk_of}
 use Rattle.lk_disk.specs.declared.device.Side.{Side}
 use Rattle.lk_wire.specs.Grammar.{Spells}
 use Rattle.lk_state.specs.Meanings.{Meaning}
-use Rattle.lk_history.specs.Datagrams.{said_by}
-use Rattle.lk_history.proofs.Histories.{contains_more}
+use Rattle.lk_agreement.specs.Datagrams.{said_by}
+use Rattle.lk_agreement.proofs.Histories.{contains_more}
 use Rattle.lk_step.specs.declared.note.Note.{Note}
 use Rattle.lk_node.specs.Calls.{Goes, NodeFits}
 use Rattle.lk_node.specs.Histories.{History, Genesis, Datagram, RequestValue, IsHeard}

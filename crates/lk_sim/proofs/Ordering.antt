@@ -15,9 +15,9 @@ use Rattle.lk_state.specs.Meanings.{Meaning}
 use Rattle.lk_state.specs.declared.session.Session.{Session}
 use Rattle.lk_state.specs.States.{session_in, text_of, ledger, reply}
 use Rattle.lk_state.proofs.Wholes.{by_pushes, ledger-push}
-use Rattle.lk_history.specs.Chosen.{command_at, Chosen, IsBeginning}
-use Rattle.lk_history.specs.Soundness.{Sound}
-use Rattle.lk_history.proofs.Histories.{command_within, entry_chosen, one_chosen, chosen_agree, still_chosen}
+use Rattle.lk_agreement.specs.Chosen.{command_at, Chosen, IsBeginning}
+use Rattle.lk_agreement.specs.Soundness.{Sound}
+use Rattle.lk_agreement.proofs.Histories.{command_within, entry_chosen, one_chosen, chosen_agree, still_chosen}
 use Rattle.lk_step.specs.declared.note.Note.{Note}
 use Rattle.lk_step.specs.declared.note.Note.TheVariants as note
 use Rattle.lk_node.specs.Histories.{Genesis, Datagram, Command, Noop, Request, RequestValue}

@@ -11,13 +11,13 @@ use Rattle.lk_wire.specs.Grammar.{Spells}
 use Rattle.lk_wire.specs.declared.message.Content.TheVariants as content
 use Rattle.lk_wire.proofs.Spellings.{one_message}
 use Rattle.lk_state.specs.Meanings.{Meaning}
-use Rattle.lk_history.specs.Datagrams.{NodeMessage, Vote, Accept, said_by, HasSent, WasSent}
-use Rattle.lk_history.specs.Nodes.{View, ViewFits, MaySend, MayPostAll}
-use Rattle.lk_history.specs.Chosen.{Chosen}
-use Rattle.lk_history.specs.Worlds.{World, with_view, with_sent, WorldFits}
-use Rattle.lk_history.proofs.Histories.{still_chosen, still_stems}
-use Rattle.lk_history.proofs.Histories.{said_alike, sent_cases}
-use Rattle.lk_history.proofs.Histories.{with_view_fits, batch_fits, covers_elsewhere}
+use Rattle.lk_agreement.specs.Datagrams.{NodeMessage, Vote, Accept, said_by, HasSent, WasSent}
+use Rattle.lk_agreement.specs.Nodes.{View, ViewFits, MaySend, MayPostAll}
+use Rattle.lk_agreement.specs.Chosen.{Chosen}
+use Rattle.lk_agreement.specs.Worlds.{World, with_view, with_sent, WorldFits}
+use Rattle.lk_agreement.proofs.Histories.{still_chosen, still_stems}
+use Rattle.lk_agreement.proofs.Histories.{said_alike, sent_cases}
+use Rattle.lk_agreement.proofs.Histories.{with_view_fits, batch_fits, covers_elsewhere}
 use Rattle.lk_step.specs.declared.note.Note.{Note}
 use Rattle.lk_step.specs.declared.note.Note.TheVariants as note
 use Rattle.lk_node.specs.Histories.{History, Genesis, Datagram, Command, RequestValue, WasAsked, later}

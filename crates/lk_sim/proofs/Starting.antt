@@ -7,10 +7,10 @@ use Rattle.lk_state.specs.Meanings.{Meaning}
 use Rattle.lk_entries.specs.declared.stored.Stored.TheVariants.{Base}
 use Rattle.lk_log.specs.Stores.{first_base}
 use Rattle.lk_log.proofs.StoreLaws.{empty_image, first_stands}
-use Rattle.lk_history.specs.Datagrams.{NodeMessage, HasSent}
-use Rattle.lk_history.specs.Nodes.{fresh}
-use Rattle.lk_history.proofs.Histories.{still_stems}
-use Rattle.lk_history.proofs.Histories.{start_fits}
+use Rattle.lk_agreement.specs.Datagrams.{NodeMessage, HasSent}
+use Rattle.lk_agreement.specs.Nodes.{fresh}
+use Rattle.lk_agreement.proofs.Histories.{still_stems}
+use Rattle.lk_agreement.proofs.Histories.{start_fits}
 use Rattle.lk_step.specs.declared.note.Note.{Note}
 use Rattle.lk_node.specs.Histories.{History, Genesis, Datagram}
 use Rattle.lk_node.specs.Served.{text}

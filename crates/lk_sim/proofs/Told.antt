@@ -8,8 +8,8 @@ use Rattle.lk_wire.specs.declared.message.Message.{Message}
 use Rattle.lk_wire.specs.declared.message.NodeMessage.{NodeMessage}
 use Rattle.lk_wire.specs.declared.message.NodeMessage.TheVariants as kinds
 use Rattle.lk_state.specs.Meanings.{Meaning}
-use Rattle.lk_history.specs.Datagrams.{said_by}
-use Rattle.lk_history.proofs.Histories.{only, contains_more}
+use Rattle.lk_agreement.specs.Datagrams.{said_by}
+use Rattle.lk_agreement.proofs.Histories.{only, contains_more}
 use Rattle.lk_sim.proofs.Lists.{take_next}
 use Rattle.lk_step.specs.declared.note.Note.{Note}
 use Rattle.lk_step.specs.declared.note.Note.TheVariants as note

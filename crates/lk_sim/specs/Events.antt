@@ -10,7 +10,7 @@ use Rattle.lk_entries.specs.Values.{HeaderValue}
 use Rattle.lk_log.specs.Causes.{rebase_calls}
 use Rattle.lk_wire.specs.Grammar.{Spells}
 use Rattle.lk_wire.specs.declared.message.Content.TheVariants as content
-use Rattle.lk_history.specs.declared.party.Party.TheVariants as party
+use Rattle.lk_agreement.specs.declared.party.Party.TheVariants as party
 use Rattle.lk_step.specs.declared.note.Note.{Note}
 use Rattle.lk_step.specs.declared.note.Note.TheVariants as note
 use Rattle.lk_node.specs.Histories.{Datagram, Genesis, RequestValue}

@@ -5,7 +5,7 @@ use Rattle.lk_disk.specs.Meters.{Passes, stopping}
 use Rattle.lk_entries.specs.Values.{HeaderValue}
 use Rattle.lk_log.specs.Causes.{rebase_calls}
 use Rattle.lk_state.specs.Meanings.{Meaning}
-use Rattle.lk_history.specs.Nodes.{View}
+use Rattle.lk_agreement.specs.Nodes.{View}
 use Rattle.lk_step.specs.declared.note.Note.{Note}
 use Rattle.lk_node.specs.Histories.{History, Genesis, Datagram}
 use Rattle.lk_node.specs.Holdings.{Holding}

@@ -1,6 +1,6 @@
 -- What is promised of every world, whatever has happened in it.
 use Rattle.std.specs.Prelude.{◌≡◌, ℕ, ◌⊎◌, Some, List}
-use Rattle.lk_history.specs.Chosen.{command_at, Chosen, IsBeginning}
+use Rattle.lk_agreement.specs.Chosen.{command_at, Chosen, IsBeginning}
 use Rattle.lk_node.specs.Histories.{Command}
 use Rattle.lk_replica.specs.Behaviours.{Behaviour, disks_by}
 use Rattle.lk_sim.specs.Explained.{Explains}

@@ -1,8 +1,8 @@
 -- Why an event is rejected, the smallest number first.
 use Rattle.std.specs.Prelude.{◌≡◌, ℕ, zero, suc, ◌<◌, ◌≤◌, List, length, Option, Some, None, slice_get}
 use Rattle.std.specs.List.{AllByRecursion}
-use Rattle.lk_history.specs.declared.party.Party.{Party}
-use Rattle.lk_history.specs.declared.party.Party.TheVariants as party
+use Rattle.lk_agreement.specs.declared.party.Party.{Party}
+use Rattle.lk_agreement.specs.declared.party.Party.TheVariants as party
 use Rattle.lk_node.specs.Histories.{Datagram}
 use Rattle.lk_sim.specs.Heard.{IsForged}
 use Rattle.lk_sim.specs.Scenes.{Scene}

@@ -7,7 +7,7 @@ use Rattle.lk_entries.specs.Values.{StandingValue}
 use Rattle.lk_log.specs.Images.{Image, MayLeaveBoth}
 use Rattle.lk_state.specs.Meanings.{Meaning}
 use Rattle.lk_state.specs.States.{WholeValue, SumsUp}
-use Rattle.lk_history.specs.Chosen.{Chosen}
+use Rattle.lk_agreement.specs.Chosen.{Chosen}
 use Rattle.lk_node.specs.Histories.{Genesis, Datagram, Command}
 use Rattle.lk_node.specs.Leavings.{header_of, StandsAs}
 use Rattle.lk_node.specs.Served.{text}

@@ -5,10 +5,10 @@ use Rattle.lk_disk.specs.declared.device.Side.{Side}
 use Rattle.lk_wire.specs.Grammar.{Spells}
 use Rattle.lk_wire.specs.declared.message.Content.TheVariants as content
 use Rattle.lk_state.specs.Meanings.{Meaning}
-use Rattle.lk_history.specs.Datagrams.{NodeMessage, Vote, Accept, HasSent, WasSent}
-use Rattle.lk_history.specs.Chosen.{Chosen}
-use Rattle.lk_history.specs.Nodes.{View}
-use Rattle.lk_history.specs.Worlds.{WorldFits}
+use Rattle.lk_agreement.specs.Datagrams.{NodeMessage, Vote, Accept, HasSent, WasSent}
+use Rattle.lk_agreement.specs.Chosen.{Chosen}
+use Rattle.lk_agreement.specs.Nodes.{View}
+use Rattle.lk_agreement.specs.Worlds.{WorldFits}
 use Rattle.lk_step.specs.declared.note.Note.{Note}
 use Rattle.lk_node.specs.Histories.{Genesis, Datagram, Command, RequestValue, WasAsked}
 use Rattle.lk_node.specs.Served.{BearsOut, BearsOutMessage}

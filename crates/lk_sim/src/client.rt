@@ -11,7 +11,7 @@ use crate::finding::{find, has_room};
 use crate::parts::Parts;
 use crate::refused::Refused;
 use bytes::BytesMut;
-use lk_history::Party;
+use lk_agreement::Party;
 use lk_replica::{Datagram, MemoryReplica};
 use lk_step::Note;
 use lk_types::{NoMemory, NodeNo, Request};

@@ -1,7 +1,7 @@
 // Nodes take ticks and datagrams, and clients send requests.
 ghost use Rattle.std.specs.Prelude.{◌≡◌, ◌⊎◌, None, Some, IfOk, IfErr, IfSome, OnOk, OnErr};
-ghost use Rattle.lk_history.specs.Datagrams.{Datagram as DatagramValue};
-ghost use Rattle.lk_history.specs.declared.party.Party.TheVariants as party;
+ghost use Rattle.lk_agreement.specs.Datagrams.{Datagram as DatagramValue};
+ghost use Rattle.lk_agreement.specs.declared.party.Party.TheVariants as party;
 ghost use Rattle.lk_wire.specs.Shown.{shown_content};
 ghost use Rattle.lk_wire.specs.declared.message.Content.TheVariants as content;
 ghost use Rattle.lk_node.specs.Histories.{RequestValue};
@@ -18,7 +18,7 @@ use crate::finding::{find_up, has_room};
 use crate::giving::give;
 use crate::parts::Parts;
 use crate::refused::Refused;
-use lk_history::Party;
+use lk_agreement::Party;
 use lk_replica::{Datagram, MemoryReplica};
 use lk_step::{Input, Note};
 use lk_types::{NoMemory, NodeNo, Request};

@@ -1,7 +1,7 @@
 // A node takes an input or restarts, and the world keeps what it sends and notes.
 ghost use Rattle.std.specs.Prelude.{◌≡◌, ℕ, ◌<◌, ◌++◌, List, [], true, false, length, set, IfOk, OnOk, OnErr};
 ghost use Rattle.lk_disk.specs.Memory.{Memory, disk_of};
-ghost use Rattle.lk_history.specs.Nodes.{View};
+ghost use Rattle.lk_agreement.specs.Nodes.{View};
 ghost use Rattle.lk_step.specs.declared.note.Note.{Note as NoteValue};
 ghost use Rattle.lk_node.specs.Calls.{heard_by, InputFits};
 ghost use Rattle.lk_node.specs.Histories.{History};

@@ -2,7 +2,7 @@
 ghost use Rattle.std.specs.Prelude.{◌≡◌, ◌↔◌, ℕ, ◌<◌, ◌⊎◌, [], true, false, length, map, IsTrue, IfOk, IfErr, OnOk, OnErr};
 ghost use Rattle.std.specs.List.{AllByRecursion};
 ghost use Rattle.lk_disk.specs.Memory.{Memory, disk_of};
-ghost use Rattle.lk_history.specs.Nodes.{View};
+ghost use Rattle.lk_agreement.specs.Nodes.{View};
 ghost use Rattle.lk_node.specs.Calls.{heard_by, InputFits};
 ghost use Rattle.lk_node.specs.Histories.{History, Genesis as GenesisValue, IsLawful};
 ghost use Rattle.lk_node.specs.Holdings.{Holding};
@@ -27,7 +27,7 @@ use crate::parts::Parts;
 use crate::refused::Refused;
 use crate::seat::{Life, Outcome, Seat, count_sends, ended_at, fall, rest, stop, take_device};
 use crate::telling::tell;
-use lk_history::Party;
+use lk_agreement::Party;
 use lk_replica::{Datagram, MemoryReplica, Step, TakenAll};
 use lk_step::{Input, Note};
 use lk_types::{NoMemory, NodeNo};

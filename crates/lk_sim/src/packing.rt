@@ -1,7 +1,7 @@
 // Nodes compact.
 ghost use Rattle.std.specs.Prelude.{◌≡◌, ℕ, ◌⊎◌, IfOk, IfErr, OnOk, OnErr};
 ghost use Rattle.lk_disk.specs.Memory.{Memory};
-ghost use Rattle.lk_history.specs.Nodes.{View};
+ghost use Rattle.lk_agreement.specs.Nodes.{View};
 ghost use Rattle.lk_node.specs.Histories.{History, IsLawful};
 ghost use Rattle.lk_replica.specs.Behaviours.{disks_by};
 ghost use Rattle.lk_sim.specs.Events.{Does, FailsToPack, IsCompacted, IsHalted, IsRefused, IsToldEnd, LeftByPacking};

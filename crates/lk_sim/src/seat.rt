@@ -3,7 +3,7 @@ ghost use Rattle.std.specs.Prelude.{◌≡◌, ℕ, ◌⊎◌, length, true, fal
 ghost use Rattle.lk_disk.specs.Disk.{contents};
 ghost use Rattle.lk_disk.specs.Memory.{Memory, disk_of};
 ghost use Rattle.lk_disk.specs.declared.device.Side.TheVariants.{A, B};
-ghost use Rattle.lk_history.specs.Nodes.{View};
+ghost use Rattle.lk_agreement.specs.Nodes.{View};
 ghost use Rattle.lk_node.specs.Histories.{History, Genesis as GenesisValue, IsLawful};
 ghost use Rattle.lk_node.specs.Leavings.{header_of, DisksFit};
 ghost use Rattle.lk_node.specs.Calls.{heard_by, InputFits};

@@ -1,8 +1,8 @@
 -- What a contract sees of what a node sends.
 use Rattle.std.specs.Prelude.{ℕ, List, map}
-use Rattle.lk_history.specs.declared.party.Party.{Party}
-use Rattle.lk_history.specs.declared.party.Party.TheVariants as party
-use Rattle.lk_history.specs.Datagrams.{Datagram}
+use Rattle.lk_agreement.specs.declared.party.Party.{Party}
+use Rattle.lk_agreement.specs.declared.party.Party.TheVariants as party
+use Rattle.lk_agreement.specs.Datagrams.{Datagram}
 use Rattle.lk_step.specs.declared.to.To.{To}
 use Rattle.lk_step.specs.declared.to.To.TheVariants as to
 

@@ -3,7 +3,7 @@
 use crate::digits::bytes_of;
 use lk_disk::{LogDisk, MemoryDisk, Side};
 use lk_entries::Header;
-use lk_history::Party;
+use lk_agreement::Party;
 use lk_locks::LockTable;
 use lk_replica::{Datagram, MemoryReplica, Replica, ReviveFault};
 use lk_step::Input;

@@ -1,6 +1,6 @@
 use Rattle.std.proofs.Common.{rules, ℕ, List, refl, sym, subst}
 use Rattle.std.specs.Prelude.{codes}
-use Rattle.lk_words.proofs.Splits.{one_way}
+use Rattle.lk_arguments.proofs.Splits.{one_way}
 use Rattle.lk_script.specs.GenesisLines.{SpellsGenesis}
 use Rattle.lk_script.proofs.genesis_line.read_genesis.Goals as goal
 

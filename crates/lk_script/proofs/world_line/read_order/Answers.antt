@@ -1,6 +1,6 @@
 use Rattle.std.proofs.Common.{refl}
-use Rattle.lk_words.specs.Words.{HasNoSpace}
-use Rattle.lk_words.proofs.Splits.{one_way}
+use Rattle.lk_arguments.specs.Words.{HasNoSpace}
+use Rattle.lk_arguments.proofs.Splits.{one_way}
 use Rattle.lk_script.specs.WorldLines.{word_of}
 use Rattle.lk_script.specs.declared.event_verb.EventVerb.{EventVerb}
 use Rattle.lk_script.specs.declared.event_verb.EventVerb.TheVariants.{Start, Restart, Tick, Compact, Deliver, Group, Client, Inject, Stop, Fail, Arm}

@@ -1,6 +1,6 @@
 use Rattle.std.proofs.Common.{ℕ, List, refl, sym, subst, arith}
 use Rattle.lk_types.specs.Limits.{max_count, max_client}
-use Rattle.lk_words.specs.Operations.{SpellsOp}
+use Rattle.lk_arguments.specs.Operations.{SpellsOp}
 use Rattle.lk_script.specs.WorldLines.{Leads}
 use Rattle.lk_script.proofs.WordLemmas.{leads_once}
 use Rattle.lk_script.proofs.world_line.request.Goals as goal

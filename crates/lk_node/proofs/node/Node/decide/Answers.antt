@@ -1,6 +1,6 @@
 use Rattle.std.proofs.Common.{◌≡◌, ◌∙◌, ap, sym, subst}
 use Rattle.lk_state.specs.Meanings.{Meaning}
-use Rattle.lk_history.specs.Chosen.{Command, ChosenAt}
+use Rattle.lk_agreement.specs.Chosen.{Command, ChosenAt}
 use Rattle.lk_step.specs.Outboxes.{OutboxValue, with_note}
 use Rattle.lk_step.specs.declared.note.Note.TheVariants as note
 use Rattle.lk_node.specs.Learning.{Learns}

@@ -1,8 +1,8 @@
 use Rattle.std.proofs.Common.{sym, subst}
 use Rattle.lk_wire.specs.declared.message.NodeMessage.TheVariants as kinds
 use Rattle.lk_state.specs.Meanings.{Meaning}
-use Rattle.lk_history.specs.Chosen.{ChosenAt}
-use Rattle.lk_history.specs.Datagrams.{HasSent}
+use Rattle.lk_agreement.specs.Chosen.{ChosenAt}
+use Rattle.lk_agreement.specs.Datagrams.{HasSent}
 use Rattle.lk_step.specs.Outboxes.{OutboxValue, nothing}
 use Rattle.lk_node.specs.Deciding.{Decides}
 use Rattle.lk_node.specs.Serving.{GoesOn}

@@ -2,7 +2,7 @@ use Rattle.std.proofs.Common.{◌≡◌, ◌∙◌, ℕ, ◌+◌, List, length, 
 use Rattle.lk_types.specs.declared.command.Command.{Command}
 use Rattle.lk_wire.specs.declared.message.NodeMessage.TheVariants as kinds
 use Rattle.lk_state.specs.Meanings.{Meaning}
-use Rattle.lk_history.specs.Datagrams.{HasSent}
+use Rattle.lk_agreement.specs.Datagrams.{HasSent}
 use Rattle.lk_step.specs.Outboxes.{OutboxValue, nothing}
 use Rattle.lk_node.specs.DecidedPairs.{TakesFirst, TakesPairs, none_yet}
 use Rattle.lk_node.specs.Serving.{GoesOn}

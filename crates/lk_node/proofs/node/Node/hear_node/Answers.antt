@@ -2,7 +2,7 @@ use Rattle.std.proofs.Common.{sym, subst}
 use Rattle.std.specs.Prelude.{IfOk}
 use Rattle.lk_wire.specs.Shown.{shown_node}
 use Rattle.lk_wire.specs.declared.viewing.message.NodeMessageRef.{NodeMessageRef}
-use Rattle.lk_history.specs.Datagrams.{HasSent}
+use Rattle.lk_agreement.specs.Datagrams.{HasSent}
 use Rattle.lk_state.specs.Meanings.{Meaning}
 use Rattle.lk_types.specs.declared.vote.Vote.{Vote}
 use Rattle.lk_step.specs.Outboxes.{nothing}

@@ -1,6 +1,6 @@
 use Rattle.std.proofs.Common.{◌∙◌, ap, sym, subst}
 use Rattle.lk_wire.specs.declared.message.NodeMessage.TheVariants as kinds
-use Rattle.lk_history.specs.Datagrams.{HasSent}
+use Rattle.lk_agreement.specs.Datagrams.{HasSent}
 use Rattle.lk_state.specs.Meanings.{Meaning, KeepsTexts}
 use Rattle.lk_step.specs.Outboxes.{OutboxValue, nothing}
 use Rattle.lk_node.specs.Histories.{History}

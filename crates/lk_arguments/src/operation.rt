@@ -1,0 +1,162 @@
+//! A client's operation, in words.
+
+ghost use Rattle.std.specs.Prelude.{◌≡◌, ◌≤◌, ℕ, List, [], length, IfSome, IsNone};
+ghost use Rattle.std.specs.Fmt.{decimal};
+ghost use Rattle.lk_types.specs.Ranges.{IsNode, IsPort};
+ghost use Rattle.lk_types.specs.declared.command.Op.{Op as OpValue};
+ghost use Rattle.lk_arguments.specs.Operations.{IsNameWord, body, AsksOfName, AsksOfFence, AsksToJoin, AsksToLeave, AsksToRaise, AsksInHex, Asks, SpellsOp};
+
+use crate::number::read_number;
+use crate::verb::Verb;
+use crate::word::split_word;
+use arrayvec::ArrayVec;
+use lk_types::limits::{MAX_COUNT, MAX_NODE, MAX_PAYLOAD, MAX_PORT};
+use lk_types::{NodeNo, Op, Payload, Port};
+
+/// The most bytes of a name: with its length, a fence and a first byte it fits a body.
+const MAX_NAME_WORD: usize = 54;
+
+/// The body with this first byte, a name and at most eight bytes after it. `None` if the word is no name.
+fn body_of(kind: u8, name: &[u8], rest: &[u8]) -> Option<Payload>
+    requires { length rest.now ≤ 8 }
+    ensures some { IfSome result (λ b. IsNameWord name.now × (b ≡ body kind name.now rest.now)) }
+    ensures none { IsNone result → IsNameWord name.now → ⊥ }
+{
+    if name.is_empty() || name.len() > MAX_NAME_WORD || name.contains(&b' ') {
+        return None;
+    }
+    let mut bytes = ArrayVec::<u8, MAX_PAYLOAD>::new();
+    bytes.push(kind);
+    bytes.push(name.len() as u8);
+    bytes.try_extend_from_slice(name).unwrap();
+    bytes.try_extend_from_slice(rest).unwrap();
+    Payload::of(bytes.as_slice())
+}
+
+/// An operation on a name, as a body with this first byte.
+fn of_name(kind: u8, words: &[u8]) -> Option<Op>
+    ensures some { IfSome result (AsksOfName kind words.now) }
+    ensures none { IsNone result → (o : OpValue) → AsksOfName kind words.now o → ⊥ }
+{
+    match body_of(kind, words, &[]) {
+        Some(body) => Some(Op::Table(body)),
+        None => None,
+    }
+}
+
+/// An operation on a name and a fence, as a body with this first byte.
+#[tactic(auto, unfolding(lk_fields::specs::Fields::eight))]
+fn of_fence(kind: u8, words: &[u8]) -> Option<Op>
+    ensures some { IfSome result (AsksOfFence kind words.now) }
+    ensures none { IsNone result → (o : OpValue) → AsksOfFence kind words.now o → ⊥ }
+{
+    let (name, word) = split_word(words)?;
+    let fence = read_number(word, MAX_COUNT)?;
+    match body_of(kind, name, &fence.to_be_bytes()) {
+        Some(body) => Some(Op::Table(body)),
+        None => None,
+    }
+}
+
+/// The node whose number a word spells, or `None` if it spells none.
+pub fn node_of(word: &[u8]) -> Option<NodeNo>
+    ensures some { IfSome result (λ n. IsNode n × (word.now ≡ decimal n)) }
+    ensures none { IsNone result → (n : ℕ) → IsNode n → word.now ≡ decimal n → ⊥ }
+{
+    let number = read_number(word, u64::from(MAX_NODE))?;
+    NodeNo::of(number as u32)
+}
+
+/// The port whose number a word spells, or `None` if it spells none.
+pub fn port_of(word: &[u8]) -> Option<Port>
+    ensures some { IfSome result (λ n. IsPort n × (word.now ≡ decimal n)) }
+    ensures none { IsNone result → (n : ℕ) → IsPort n → word.now ≡ decimal n → ⊥ }
+{
+    let number = read_number(word, u64::from(MAX_PORT))?;
+    Port::of(number as u16)
+}
+
+/// A join of the node and the port.
+fn to_join(words: &[u8]) -> Option<Op>
+    ensures some { IfSome result (AsksToJoin words.now) }
+    ensures none { IsNone result → (o : OpValue) → AsksToJoin words.now o → ⊥ }
+{
+    let (node, port) = split_word(words)?;
+    let Some(node) = node_of(node) else {
+        return None;
+    };
+    match port_of(port) {
+        Some(port) => Some(Op::Join(node, port)),
+        None => None,
+    }
+}
+
+/// A leave of the node.
+fn to_leave(words: &[u8]) -> Option<Op>
+    ensures some { IfSome result (AsksToLeave words.now) }
+    ensures none { IsNone result → (o : OpValue) → AsksToLeave words.now o → ⊥ }
+{
+    match node_of(words) {
+        Some(node) => Some(Op::Leave(node)),
+        None => None,
+    }
+}
+
+/// The version to which the machine is raised.
+fn to_raise(words: &[u8]) -> Option<Op>
+    ensures some { IfSome result (AsksToRaise words.now) }
+    ensures none { IsNone result → (o : OpValue) → AsksToRaise words.now o → ⊥ }
+{
+    match words {
+        b"2" => Some(Op::Raise),
+        _ => None,
+    }
+}
+
+/// The body that hex digits spell.
+fn in_hex(digits: &[u8]) -> Option<Op>
+    ensures some { IfSome result (AsksInHex digits.now) }
+    ensures none { IsNone result → (o : OpValue) → AsksInHex digits.now o → ⊥ }
+{
+    let mut bytes = [0; MAX_PAYLOAD];
+    let room = bytes.get_mut(..digits.len() / 2)?;
+    hex::decode_to_slice(digits, room).ok()?;
+    match Payload::of(room) {
+        Some(body) => Some(Op::Table(body)),
+        None => None,
+    }
+}
+
+/// What the words after a verb ask for.
+fn asked(verb: Verb, words: &[u8]) -> Option<Op>
+    ensures some { IfSome result (Asks verb words.now) }
+    ensures none { IsNone result → (o : OpValue) → Asks verb words.now o → ⊥ }
+{
+    match verb {
+        Verb::Acquire => of_name(1, words),
+        Verb::Release => of_fence(2, words),
+        Verb::Ask => of_name(3, words),
+        Verb::Check => of_fence(4, words),
+        Verb::Share => of_name(5, words),
+        Verb::Break => of_fence(6, words),
+        Verb::Join => to_join(words),
+        Verb::Leave => to_leave(words),
+        Verb::Raise => to_raise(words),
+        Verb::Raw => in_hex(words),
+    }
+}
+
+/// The operation that words separated by one space spell: `acquire NAME`, `release NAME FENCE`, `ask NAME`, `check
+/// NAME FENCE`, `share NAME`, `break NAME FENCE`, `join NODE PORT`, `leave NODE`, `raise 2` or `raw HEX`, or `None` if
+/// they are none of these.
+///
+/// A name has 1 to 54 bytes, none of them a space, and enters the body unchanged: the lock table checks it. A fence is
+/// 0 to 2^48. Numbers are decimal without leading zeros, and the bytes of a raw body are 1 to 64.
+pub fn read_operation(text: &[u8]) -> Option<Op>
+    ensures some { IfSome result (SpellsOp text.now) }
+    ensures none { IsNone result → (o : OpValue) → SpellsOp text.now o → ⊥ }
+{
+    let (word, words) = split_word(text)?;
+    let verb = Verb::of(word)?;
+    asked(verb, words)
+}

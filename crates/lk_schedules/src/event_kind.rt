@@ -1,0 +1,37 @@
+// Kinds of events.
+ghost use Rattle.std.specs.Prelude.{Bool};
+ghost use Rattle.lk_schedules.specs.Drawn.{IsKind};
+
+/// The kinds of events that are drawn.
+#[derive(Clone, Copy)]
+pub enum EventKind {
+    Restart,
+    Tick,
+    Compact,
+    Client,
+    Deliver,
+    Group,
+    Inject,
+    Stop,
+    FailAt,
+    Arm,
+}
+
+impl EventKind {
+    /// The kind of that one of 256 cases, never a group.
+    pub fn of(case: u8) -> EventKind
+        ensures { (groups : Bool) → IsKind groups result }
+    {
+        match case {
+            0..=183 => EventKind::Deliver,
+            184..=219 => EventKind::Client,
+            220..=233 => EventKind::Tick,
+            234..=240 => EventKind::Restart,
+            241..=249 => EventKind::Inject,
+            250 => EventKind::Compact,
+            251..=252 => EventKind::Stop,
+            253 => EventKind::FailAt,
+            254..=255 => EventKind::Arm,
+        }
+    }
+}
