@@ -12,7 +12,7 @@ use Rattle.lk_wire.specs.Values.{are_votes_above}
 use Rattle.lk_agreement.specs.Acceptors.{AcceptorState}
 use Rattle.lk_agreement.specs.Changes.{with_promise}
 use Rattle.lk_acceptor.specs.AcceptorValue.{AcceptorValue}
-use Rattle.lk_votes.specs.VoteLists.{votes_with}
+use Rattle.lk_entries.specs.VoteLists.{votes_with}
 use Rattle.lk_acceptor.specs.VoteLists.{votes_above}
 
 -- the votes are above the snapshot, strictly rising by position, and none is in a ballot above the promised one

@@ -9,3 +9,4 @@ mod votes;
 
 pub use acceptor::Acceptor;
 pub use response::Response;
+pub use votes::votes_above;

@@ -3,11 +3,11 @@ ghost use Rattle.std.specs.Prelude.{◌≡◌, ◌↔◌, nat_lt, Contains, IsTr
 ghost use Rattle.std.specs.List.{list_all};
 ghost use Rattle.lk_types.specs.declared.vote.Vote.{Vote as VoteValue};
 ghost use Rattle.lk_acceptor.specs.Answers.{Agrees};
-ghost use Rattle.lk_votes.specs.VoteLists.{AreRising};
+ghost use Rattle.lk_entries.specs.VoteLists.{AreRising};
 ghost use Rattle.lk_acceptor.specs.VoteLists.{IsVoteAt, votes_from, votes_above, HasVoteFrom};
 
 use lk_types::{Executed, NoMemory, Position, Vote};
-use lk_votes::votes_below;
+use lk_entries::votes_below;
 use std::alloc::Global;
 
 // The vote at a position.
@@ -31,6 +31,19 @@ pub fn votes_from(alloc: Global, votes: &[Vote], first: Position) -> Result<Vec<
         from.push(vote.copy())?;
     }
     Ok(from)
+}
+
+/// The votes above a position.
+pub fn votes_above(alloc: Global, votes: &[Vote], executed: Executed) -> Result<Vec<Vote>, NoMemory>
+    ensures { IfOk result (λ vs. vs.items ≡ votes_above executed votes.now) }
+{
+    let mut above = Vec::new(alloc);
+    for vote in votes {
+        if vote.position.get() > executed.get() {
+            above.push(vote.copy())?;
+        }
+    }
+    Ok(above)
 }
 
 /// Whether each vote is below the end.

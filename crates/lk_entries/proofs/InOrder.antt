@@ -9,7 +9,7 @@ use Rattle.lk_types.specs.declared.vote.Vote.{Vote}
 use Rattle.lk_wire.specs.Values.{are_votes_above}
 use Rattle.lk_entries.specs.Entries.{are_pairs_above}
 use Rattle.lk_types.specs.Ballots.{is_below}
-use Rattle.lk_votes.specs.VoteLists.{votes_below, votes_with}
+use Rattle.lk_entries.specs.VoteLists.{votes_below, votes_with}
 use Rattle.lk_entries.specs.Standings.{better, best_from, vote_at, decided_at, pairs_below, with_pair}
 
 -- the two ways of a test

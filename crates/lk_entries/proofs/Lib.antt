@@ -8,3 +8,6 @@ pub mod InOrder
 pub mod Halving
 pub mod StandingLaws
 pub mod OneStanding
+mod VotesInOrder
+mod VotesHalved
+pub mod Votes

@@ -13,7 +13,7 @@ use Rattle.lk_types.specs.declared.vote.Vote.{Vote as VoteValue}
 use Rattle.lk_wire.specs.Values.{are_votes_above}
 use Rattle.lk_entries.specs.Entries.{are_pairs_above, IsBase, IsStored}
 use Rattle.lk_entries.specs.Bases.{has_base, is_misplaced, generation}
-use Rattle.lk_votes.specs.VoteLists.{votes_with}
+use Rattle.lk_entries.specs.VoteLists.{votes_with}
 use Rattle.lk_entries.specs.Standings.{greater, greatest_of, ballot_of, ballots_in, ballots, votes_in, all_votes, pairs_in, all_pairs, best_vote, vote_at, decided_at, HasSnapshot, StandsFor, Rises, with_pair, with_plain, of_base}
 use Rattle.lk_entries.specs.Values.{StandingValue, BaseValue}
 use Rattle.lk_entries.specs.declared.stored.Stored.{Stored}

@@ -6,3 +6,4 @@ pub mod Entries
 pub mod Parsing
 pub mod Files
 pub mod Standings
+pub mod VoteLists

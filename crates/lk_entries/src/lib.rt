@@ -10,6 +10,7 @@ mod reading;
 mod standing;
 mod stored;
 mod unread;
+mod votes;
 mod writing;
 
 pub use base::Base;
@@ -19,4 +20,5 @@ pub use reading::first_entry;
 pub use standing::Standing;
 pub use stored::Stored;
 pub use unread::Unread;
+pub use votes::{keep_vote, votes_below};
 pub use writing::{entries_facts, put_members, spelled, spelled_base, spelled_parts};

@@ -13,4 +13,4 @@ mod snapshot;
 
 pub use gathered::Gathered;
 pub use learner::Learner;
-pub use pair::Pair;
+pub use pair::{Pair, copied_pairs, position_behind};

@@ -1,8 +1,10 @@
-ghost use Rattle.std.specs.Prelude.{◌≡◌, ◌≤◌, ◌↔◌, nat_lt, length, Contains, IsTrue};
+ghost use Rattle.std.specs.Prelude.{◌≡◌, ◌+◌, ◌≤◌, ◌↔◌, nat_lt, length, Contains, IsTrue, IfOk};
 ghost use Rattle.std.specs.List.{prefix_len};
+ghost use Rattle.lk_types.specs.Limits.{max_count};
 ghost use Rattle.lk_learner.specs.Pairs.{Command as CommandValue, are_pairs_above};
 
-use lk_types::{Command, Position};
+use lk_types::{Command, NoMemory, Position};
+use std::alloc::Global;
 use std::marker::Model;
 
 /// A decided command and its position, kept until it is executed.
@@ -67,4 +69,23 @@ pub fn place_of(pairs: &[Pair], position: Position, low: u64) -> usize
     ensures within { result ≤ length pairs.now }
 {
     pairs.partition_point(|pair| pair.position < position)
+}
+
+/// The same pairs.
+pub fn copied_pairs(alloc: Global, pairs: &[Pair]) -> Result<Vec<(Position, Command)>, NoMemory>
+    ensures { IfOk result (λ ps. ps.items ≡ pairs.now) }
+{
+    let mut copies = Vec::new(alloc);
+    for pair in pairs {
+        copies.push((pair.position(), pair.command().copy()))?;
+    }
+    Ok(copies)
+}
+
+/// The position this far after the first.
+pub fn position_behind(first: Position, offset: usize) -> Position
+    requires { first + offset ≤ max_count }
+    ensures { result ≡ first + offset }
+{
+    Position::of(first.get() + offset as u64).unwrap()
 }

@@ -8,7 +8,7 @@ ghost use Rattle.lk_log.specs.declared.fault.StoreFault.TheVariants.{NoMemory as
 use crate::fault::StoreFault;
 use lk_entries::{Base, Standing, Stored};
 use lk_types::{Ballot, Command, Entry, Executed, Position, Vote};
-use lk_votes::keep_vote;
+use lk_entries::keep_vote;
 use std::alloc::{AllocFailed, Global};
 
 fn greater(a: Ballot, b: Ballot) -> Ballot

@@ -17,6 +17,11 @@ abbrev pub port_of : ℕ → List (List Member) → Option ℕ
 port_of node [] = None
 port_of node (set ∷ sets) = if is_member node set then port_in node set else port_of node sets
 
+-- a port's number, or 0 if there is none
+abbrev pub number_or_zero : Option ℕ → ℕ
+number_or_zero None = 0
+number_or_zero (Some port) = port
+
 -- the least number above this one with the property
 pub record IsLeastAbove (is : ℕ → Bool) (low n : ℕ) : Type 0 where
   pub above : low < n

@@ -3,10 +3,12 @@
 
 pub mod laws;
 mod majority;
+mod nodes;
 mod roster;
 mod set;
 mod window;
 
 pub use majority::is_majority;
+pub use nodes::{is_among, nodes_of};
 pub use roster::Roster;
 pub use window::{Place, Window};

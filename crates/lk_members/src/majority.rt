@@ -3,15 +3,9 @@ ghost use Rattle.std.specs.List.{list_any, list_all};
 ghost use Rattle.lk_members.specs.Rosters.{is_member as is_one};
 ghost use Rattle.lk_members.specs.Majorities.{IsMajority};
 
+use crate::nodes::is_among;
 use crate::set::is_member;
 use lk_types::{Member, Members, NodeNo};
-
-/// Whether the node is among them.
-fn is_among(nodes: &[NodeNo], node: NodeNo) -> bool
-    ensures { result ≡ list_any (λ n. n == node) nodes.now }
-{
-    nodes.iter().any(|n| *n == node)
-}
 
 /// How many of the members are among the nodes.
 fn count_among(members: &[Member], nodes: &[NodeNo]) -> usize

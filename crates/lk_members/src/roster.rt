@@ -39,7 +39,7 @@ impl Roster {
     ghost use Rattle.lk_members.specs.Rosters.{Genesis, Op as OpValue, Join, Leave, IsChange, members, roster_of, roster_answer, join_answer, leave_answer, is_granted_change};
     ghost use Rattle.lk_members.specs.Sets.{newest, are_at_most};
     ghost use Rattle.lk_members.specs.Windows.{RosterSumsUp, IsRoster, newest_roster, moved, moved_unchanged, changed_by};
-    ghost use Rattle.lk_members.specs.Ports.{is_named, port_of, IsNextAbove};
+    ghost use Rattle.lk_members.specs.Ports.{is_named, port_of, number_or_zero, IsNextAbove};
 
     /// The roster of these parts, or `None` if there is no set or the greatest number is below one of their nodes.
     pub fn of(
@@ -158,6 +158,16 @@ impl Roster {
         ensures some { IsSome result ↔ IsTrue (is_named node self.now.sets) }
     {
         self.window.port_of(node)
+    }
+
+    /// The number of that port, or 0 if no set of the window names the node.
+    pub fn port_number_of(&self, node: NodeNo) -> u16
+        ensures { result ≡ number_or_zero (port_of node self.now.sets) }
+    {
+        match self.port_of(node) {
+            Some(port) => port.get(),
+            None => 0,
+        }
     }
 
     /// The same roster. Takes no memory.

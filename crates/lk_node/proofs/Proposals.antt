@@ -27,7 +27,7 @@ use Rattle.lk_acceptor.specs.AcceptorValue.{AcceptorValue}
 use Rattle.lk_leader.specs.Proposing.{AreMembersAt, LeaderProposes, proposed}
 use Rattle.lk_leader.specs.Terms.{ProposalValue, TermValue, LeaderValue, RequestValue, with_term, proposal_at, in_window}
 use Rattle.lk_leader.proofs.Leaderships.{proposes_allowed, proposes_asked, proposed_stands}
-use Rattle.lk_step.specs.Members.{nodes_of}
+use Rattle.lk_members.specs.Nodes.{nodes_of}
 use Rattle.lk_step.specs.Outboxes.{OutboxValue}
 use Rattle.lk_step.specs.Saying.{saying}
 use Rattle.lk_node.specs.Histories.{History, IsLawful, WasAsked}

@@ -11,7 +11,7 @@ use Rattle.lk_wire.specs.declared.message.NodeMessage.TheVariants as kinds
 use Rattle.lk_leader.specs.Acceptances.{IsOpen}
 use Rattle.lk_leader.specs.Terms.{ProposalValue, TermValue, LeaderValue, is_promiser}
 use Rattle.lk_learner.specs.Learners.{executed, alpha}
-use Rattle.lk_step.specs.Members.{nodes_of}
+use Rattle.lk_members.specs.Nodes.{nodes_of}
 use Rattle.lk_step.specs.Outboxes.{OutboxValue, nothing}
 use Rattle.lk_step.specs.Saying.{saying}
 use Rattle.lk_node.specs.NodeValue.{NodeValue}

@@ -5,7 +5,7 @@ ghost use Rattle.lk_wire.specs.Grammar.{IsMessage};
 ghost use Rattle.lk_wire.specs.declared.message.NodeMessage.TheVariants as kinds;
 ghost use Rattle.lk_agreement.specs.Datagrams.{HasSent};
 ghost use Rattle.lk_leader.specs.Proposing.{AreMembersAt};
-ghost use Rattle.lk_step.specs.Members.{nodes_of};
+ghost use Rattle.lk_members.specs.Nodes.{nodes_of};
 ghost use Rattle.lk_step.specs.Outboxes.{nothing};
 ghost use Rattle.lk_step.specs.Saying.{saying};
 ghost use Rattle.lk_node.specs.Leading.{KeepsPromise, DropsPromise, HearsPromise, ProposesVote, having_proposed, NothingOpen, ProposesNext, ProposesOpen};
@@ -14,8 +14,9 @@ ghost use Rattle.lk_node.specs.Serving.{GoesOn};
 ghost use Rattle.lk_node.specs.Telling.{telling};
 
 use crate::node::Node;
+use lk_members::nodes_of;
 use lk_state::Machine;
-use lk_step::{Outbox, nodes_of};
+use lk_step::Outbox;
 use lk_types::{NoMemory, NodeNo, Vote};
 use lk_wire::{NodeMessage, PromiseRef};
 

@@ -9,8 +9,9 @@ ghost use Rattle.lk_node.specs.Learning.{Learns};
 ghost use Rattle.lk_node.specs.Serving.{GoesOn};
 
 use crate::node::Node;
+use lk_learner::position_behind;
 use lk_state::Machine;
-use lk_step::{Outbox, position_behind};
+use lk_step::Outbox;
 use lk_types::{Command, Entry, NoMemory, Position};
 use lk_wire::{Commands, DecidedRef};
 

@@ -13,7 +13,7 @@ use lk_leader::Leader;
 use lk_learner::Learner;
 use lk_members::Roster;
 use lk_state::Machine;
-use lk_step::{Letter, Outbox, SeenRound, TickCount, To, port_in, spelled};
+use lk_step::{Letter, Outbox, SeenRound, TickCount, To, spelled};
 use lk_types::{NoMemory, NodeNo};
 use lk_wire::NodeMessage;
 use std::alloc::Global;
@@ -111,7 +111,7 @@ impl<M: Machine> Node<M> {
         ensures said { OnOk result (out.new ≡ with_letter (record { to = to_node self.now node; bytes = spelling (saying self.now.header message) }) out.old) }
         ensures fits { OnOk result (IsMessage (saying self.now.header message)) }
     {
-        let to = To::Node(node, port_in(self.roster(), node));
+        let to = To::Node(node, self.roster().port_number_of(node));
         self.say(to, message, out)?;
         Ok(())
     }

@@ -7,9 +7,10 @@ ghost use Rattle.lk_node.specs.Nearness.{AreNear};
 ghost use Rattle.lk_node.specs.Packing.{standing_of, standing_here};
 
 use crate::node::Node;
+use lk_acceptor::votes_above;
 use lk_entries::Standing;
+use lk_learner::copied_pairs;
 use lk_state::Machine;
-use lk_step::{copied, votes_above};
 use lk_types::NoMemory;
 
 impl<M: Machine> Node<M> {
@@ -25,7 +26,7 @@ impl<M: Machine> Node<M> {
         let executed = self.learner.whole().executed();
         let snapshot = self.learner.pack_now()?.as_slice().to_vec(self.alloc)?;
         let votes = votes_above(self.alloc, self.acceptor.votes(), executed)?;
-        let pairs = copied(self.alloc, self.learner.pairs())?;
+        let pairs = copied_pairs(self.alloc, self.learner.pairs())?;
         Ok(Standing {
             promised: self.acceptor.promised(),
             position: executed,

@@ -6,8 +6,9 @@ ghost use Rattle.lk_node.specs.Reminding.{IsTermOf, keeps_promise, AreSilent, As
 ghost use Rattle.lk_node.specs.Serving.{GoesOn};
 
 use crate::node::Node;
+use lk_members::{is_among, nodes_of};
 use lk_state::Machine;
-use lk_step::{Outbox, is_heard, nodes_of};
+use lk_step::Outbox;
 use lk_types::{Members, NoMemory, NodeNo, Position, RealBallot, Vote};
 use lk_wire::NodeMessage;
 
@@ -62,7 +63,7 @@ impl<M: Machine> Node<M> {
         ensures { IfOk result (λ ns. ns.items ≡ unheard set.now accepted.now) }
     {
         let mut nodes = nodes_of(self.alloc, set)?;
-        nodes.retain(|node| !is_heard(accepted, *node));
+        nodes.retain(|node| !is_among(accepted, *node));
         Ok(nodes)
     }
 

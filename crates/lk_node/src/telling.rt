@@ -8,7 +8,7 @@ ghost use Rattle.lk_node.specs.Telling.{AreWindowNodes, AreOthers, telling};
 
 use crate::node::Node;
 use lk_state::Machine;
-use lk_step::{Letter, Outbox, To, port_in, spelled};
+use lk_step::{Letter, Outbox, To, spelled};
 use lk_types::{NoMemory, NodeNo};
 use lk_wire::NodeMessage;
 
@@ -45,7 +45,7 @@ impl<M: Machine> Node<M> {
     fn post(&self, node: NodeNo, bytes: &[u8], out: &mut Outbox) -> Result<(), NoMemory>
         ensures { OnOk result (out.new ≡ with_letter (record { to = to_node self.now node; bytes = bytes.now }) out.old) }
     {
-        let to = To::Node(node, port_in(self.roster(), node));
+        let to = To::Node(node, self.roster().port_number_of(node));
         let bytes = bytes.to_vec(self.alloc)?;
         out.letters.push(Letter { to, bytes })?;
         Ok(())

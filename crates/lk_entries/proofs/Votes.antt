@@ -1,2 +1,2 @@
 -- The lemmas that other crates cite: of this folder nothing else is for them.
-pub use Rattle.lk_votes.proofs.Halving.{rising_parts}
+pub use Rattle.lk_entries.proofs.VotesHalved.{rising_parts}

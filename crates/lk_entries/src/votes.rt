@@ -1,9 +1,7 @@
-//! Votes in order of their positions, at each position the one of greatest ballot: an acceptor keeps them like this,
-//! and so does what a store's entries stand for.
-#![tactic(auto)]
-
+// Votes in order of their positions, at each position the one of greatest ballot: an acceptor keeps them like this,
+// and so does what a store's entries stand for.
 ghost use Rattle.std.specs.Prelude.{◌≡◌, ◌≤◌, length, vec_len, vec_capacity, OnOk, OnErr};
-ghost use Rattle.lk_votes.specs.VoteLists.{AreRising, votes_below, votes_with};
+ghost use Rattle.lk_entries.specs.VoteLists.{AreRising, votes_below, votes_with};
 
 use lk_types::{NoMemory, Position, Vote};
 
@@ -18,7 +16,7 @@ pub fn votes_below(position: Position, votes: &[Vote]) -> usize
 
 /// Keeps a vote in its place. Of two votes at a position it keeps the one of greater ballot, the earlier if they are
 /// equal. It needs memory only if there is no room; out of memory it changes nothing.
-#[tactic(auto, using(crate::proofs::InOrder::at_end, crate::proofs::InOrder::at_other, crate::proofs::InOrder::at_below, crate::proofs::InOrder::at_above))]
+#[tactic(auto, using(crate::proofs::VotesInOrder::at_end, crate::proofs::VotesInOrder::at_other, crate::proofs::VotesInOrder::at_below, crate::proofs::VotesInOrder::at_above))]
 pub fn keep_vote(votes: &mut Vec<Vote>, vote: Vote) -> Result<(), NoMemory>
     requires { AreRising votes.old.items }
     ensures ok { OnOk result (votes.new.items ≡ votes_with vote votes.old.items) }

@@ -1,6 +1,6 @@
 -- The pairs so far.
 use Rattle.std.proofs.Common.{◌≡◌, take}
-use Rattle.lk_step.proofs.pairs.copied.Given as goal
+use Rattle.lk_learner.proofs.pair.copied_pairs.Given as goal
 
 abbrev pub invariant-loop-pair : goal.invariant-loop-pair
 invariant-loop-pair l = l.copies.items ≡ take l.pair-index l.pairs

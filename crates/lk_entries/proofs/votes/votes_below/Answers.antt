@@ -2,8 +2,8 @@
 use Rattle.std.proofs.Common.{rules, nat_lt}
 use Rattle.std.proofs.lemmas.List.Sorted.{IsPartitionPoint-from_clause, IsPartitionedBy-ltb}
 use Rattle.lk_types.specs.declared.vote.Vote.{Vote}
-use Rattle.lk_votes.proofs.Halving.{rising_votes_rise, point_is_below}
-use Rattle.lk_votes.proofs.votes_below.Goals as goal
+use Rattle.lk_entries.proofs.VotesHalved.{rising_votes_rise, point_is_below}
+use Rattle.lk_entries.proofs.votes.votes_below.Goals as goal
 
 pub returns-clause-value : goal.returns-clause-value
 returns-clause-value c =

@@ -1,7 +1,7 @@
 // The nodes of a set, and whether a node is among them.
 ghost use Rattle.std.specs.Prelude.{◌≡◌, ◌==◌, IfOk};
 ghost use Rattle.std.specs.List.{list_any};
-ghost use Rattle.lk_step.specs.Members.{nodes_of};
+ghost use Rattle.lk_members.specs.Nodes.{nodes_of};
 
 use lk_types::{Members, NoMemory, NodeNo};
 use std::alloc::Global;
@@ -19,8 +19,8 @@ pub fn nodes_of(alloc: Global, set: &Members) -> Result<Vec<NodeNo>, NoMemory>
 }
 
 /// Whether the node is among these.
-pub fn is_heard(accepted: &[NodeNo], node: NodeNo) -> bool
-    ensures { result ≡ list_any (λ n. n == node) accepted.now }
+pub fn is_among(nodes: &[NodeNo], node: NodeNo) -> bool
+    ensures { result ≡ list_any (λ n. n == node) nodes.now }
 {
-    accepted.iter().any(|heard| *heard == node)
+    nodes.iter().any(|other| *other == node)
 }

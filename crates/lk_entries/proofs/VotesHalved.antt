@@ -4,7 +4,7 @@ use Rattle.std.specs.List.Sorted.{IsNonDecreasingBy, IsPartitionPoint}
 use Rattle.std.proofs.lemmas.Bool.{and_parts, ltb-true}
 use Rattle.lk_types.specs.declared.vote.Vote.{Vote}
 use Rattle.lk_wire.specs.Values.{are_votes_above}
-use Rattle.lk_votes.specs.VoteLists.{AreRising, votes_below}
+use Rattle.lk_entries.specs.VoteLists.{AreRising, votes_below}
 
 pub rising_parts : (low : ℕ) (v : Vote) (vs : List Vote) → are_votes_above low (v ∷ vs) ≡ true → (low < v.position) × (are_votes_above v.position vs ≡ true)
 rising_parts low v vs e = let b = and_parts (ltb low v.position) (are_votes_above v.position vs) e in (ltb-true low v.position b.0, b.1)

@@ -6,7 +6,7 @@ use Rattle.std.proofs.lemmas.Bool.Decides.{nat_tests}
 use Rattle.std.proofs.lemmas.Bool.{eq-eqb}
 use Rattle.lk_types.specs.Ballots.{is_below}
 use Rattle.lk_types.specs.declared.vote.Vote.{Vote}
-use Rattle.lk_votes.specs.VoteLists.{votes_below, votes_with}
+use Rattle.lk_entries.specs.VoteLists.{votes_below, votes_with}
 
 -- the two ways of a test
 bool_cases : (b : Bool) → (b ≡ true) ⊎ (b ≡ false)

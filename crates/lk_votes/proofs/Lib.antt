@@ -1,3 +1,0 @@
-mod InOrder
-mod Halving
-pub mod Votes
