@@ -10,4 +10,4 @@ pub mod StandingLaws
 pub mod OneStanding
 mod VotesInOrder
 mod VotesHalved
-pub mod Votes
+pub mod VoteParts
