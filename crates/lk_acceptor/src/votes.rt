@@ -6,8 +6,8 @@ ghost use Rattle.lk_acceptor.specs.Answers.{Agrees};
 ghost use Rattle.lk_entries.specs.VoteLists.{AreRising};
 ghost use Rattle.lk_acceptor.specs.VoteLists.{IsVoteAt, votes_from, votes_above, HasVoteFrom};
 
-use lk_types::{Executed, NoMemory, Position, Vote};
 use lk_entries::votes_below;
+use lk_types::{Executed, NoMemory, Position, Vote};
 use std::alloc::Global;
 
 // The vote at a position.

@@ -6,9 +6,8 @@ ghost use Rattle.lk_types.specs.declared.entry.Entry.TheVariants.{Vote as vote_e
 ghost use Rattle.lk_log.specs.declared.fault.StoreFault.TheVariants.{NoMemory as memory_fault};
 
 use crate::fault::StoreFault;
-use lk_entries::{Base, Standing, Stored};
+use lk_entries::{Base, Standing, Stored, keep_vote};
 use lk_types::{Ballot, Command, Entry, Executed, Position, Vote};
-use lk_entries::keep_vote;
 use std::alloc::{AllocFailed, Global};
 
 fn greater(a: Ballot, b: Ballot) -> Ballot

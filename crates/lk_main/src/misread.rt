@@ -1,10 +1,10 @@
 //! Words of a command line that are not understood, and what was wrong with them.
 
 use clap::ArgMatches;
-use lk_types::limits::MAX_ALPHA;
 use lk_arguments::member::{member_of, read_members};
 use lk_arguments::number::read_number;
 use lk_arguments::word::split_at;
+use lk_types::limits::MAX_ALPHA;
 use std::fmt;
 
 /// A value that is not understood, its argument, and what it has to be.

@@ -3,6 +3,9 @@
 use crate::misread::{Misread, misread_argument, misread_genesis, misread_word};
 use crate::wants::misread_operation;
 use clap::ArgMatches;
+use lk_arguments::genesis::read_genesis;
+use lk_arguments::number::read_number;
+use lk_arguments::operation::{node_of, port_of};
 use lk_client::destination::Destination;
 use lk_client::question::Question;
 use lk_entries::Header;
@@ -14,9 +17,6 @@ use lk_service::network::NetworkOptions;
 use lk_service::resources::NodePlan;
 use lk_types::limits::{MAX_CLIENT, MAX_COUNT};
 use lk_types::{ClientNo, Genesis, NodeNo, Op, Port, Request, RequestNumber};
-use lk_arguments::genesis::read_genesis;
-use lk_arguments::number::read_number;
-use lk_arguments::operation::{node_of, port_of};
 use std::alloc::{AllocError, Global};
 use std::net::IpAddr;
 

@@ -3,12 +3,12 @@
 use crate::misread::{Misread, misread_argument, misread_word};
 use crate::plans::{client_in, number_in};
 use clap::ArgMatches;
+use lk_arguments::number::read_number;
 use lk_client::destination::Destination;
 use lk_status::status::{Form, Plan};
 use lk_status::target::{Inquiry, Target, targets_of};
 use lk_transport::fault::ServiceFault;
 use lk_types::ClientNo;
-use lk_arguments::number::read_number;
 use std::alloc::Global;
 
 /// The milliseconds of a receive, and the most that are waited in all.

@@ -5,9 +5,9 @@ ghost use Rattle.lk_sim.specs.declared.event.Turn.{Turn as TurnValue};
 
 use crate::fault::LineFault;
 use crate::world_words::number_of;
+use lk_arguments::word::split_word;
 use lk_sim::Turn;
 use lk_types::limits::MAX_COUNT;
-use lk_arguments::word::split_word;
 use std::alloc::Global;
 
 /// The part that a word names: `t`, or the number of a datagram.

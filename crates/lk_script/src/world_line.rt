@@ -13,11 +13,11 @@ use crate::fault::LineFault;
 use crate::order::Order;
 use crate::turn_words::read_turns;
 use crate::world_words::{first_number, number_of};
+use lk_arguments::operation::read_operation;
+use lk_arguments::word::split_word;
 use lk_sim::Event;
 use lk_types::limits::{MAX_CLIENT, MAX_COUNT, MAX_NODE};
 use lk_types::{ClientNo, NodeNo, Request, RequestNumber};
-use lk_arguments::operation::read_operation;
-use lk_arguments::word::split_word;
 use std::alloc::Global;
 
 const LAST_NODE: u64 = MAX_NODE as u64;

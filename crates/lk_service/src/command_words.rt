@@ -1,7 +1,7 @@
 //! The words of an operation on a command line.
 
-use lk_types::Op;
 use lk_arguments::operation::read_operation;
+use lk_types::Op;
 use std::alloc::{AllocError, Global};
 
 /// Appends a word, separated by a space. Returns whether it is a single word, without a space in it.

@@ -4,6 +4,7 @@ ghost use Rattle.std.specs.Prelude.{◌≤◌};
 
 use crate::resources::Resources;
 use crate::running::revive;
+use lk_arguments::operation::read_operation;
 use lk_client::destination::Destination;
 use lk_client::question::{Heard, Question, datagram, next_reply, write_reply};
 use lk_client::reply::Reply;
@@ -18,7 +19,6 @@ use lk_transport::network::Network;
 use lk_transport::receive_buffer::ReceiveBuffer;
 use lk_transport::socket::{DatagramSocket, LocalSocket, local};
 use lk_types::{ClientNo, Genesis, Member, NodeNo, Port, Request, RequestNumber};
-use lk_arguments::operation::read_operation;
 use log::sink::Discard;
 use std::alloc::Global;
 use std::io::Write;

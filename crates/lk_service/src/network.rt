@@ -8,6 +8,8 @@ ghost use Rattle.lk_service.specs.Turns.{AreSealsOf};
 
 use crate::causes::tell_cause;
 use crate::digest::genesis_digest;
+use lk_arguments::operation::node_of;
+use lk_arguments::word::split_word;
 use lk_client::destination::Destination;
 use lk_entries::Header;
 use lk_seal::{AskerSeals, Keys, Seals};
@@ -15,8 +17,6 @@ use lk_transport::fault::ServiceFault;
 use lk_transport::hosts::Hosts;
 use lk_transport::network::Network;
 use lk_types::{NodeNo, Port};
-use lk_arguments::operation::node_of;
-use lk_arguments::word::split_word;
 use std::alloc::Global;
 use std::fs::{File, Files, OpenOptions};
 use std::io;

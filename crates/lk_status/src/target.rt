@@ -2,12 +2,12 @@
 
 ghost use Rattle.std.specs.Prelude.{◌≡◌, None};
 
+use lk_arguments::member::member_of;
+use lk_arguments::operation::port_of;
 use lk_client::destination::Destination;
 use lk_probe::{Probe, Report};
 use lk_transport::fault::ServiceFault;
 use lk_types::{ClientNo, NodeNo, Port};
-use lk_arguments::member::member_of;
-use lk_arguments::operation::port_of;
 use std::alloc::Global;
 use std::net::{IpAddr, Ipv4Addr, Ipv6Addr, SocketAddr};
 

@@ -1,9 +1,9 @@
 //! A replica on disks in memory, and what it sends for what it hears, turn by turn.
 
 use crate::digits::bytes_of;
+use lk_agreement::Party;
 use lk_disk::{LogDisk, MemoryDisk, Side};
 use lk_entries::Header;
-use lk_agreement::Party;
 use lk_locks::LockTable;
 use lk_replica::{Datagram, MemoryReplica, Replica, ReviveFault};
 use lk_step::Input;
