@@ -23,9 +23,9 @@ use Rattle.lk_node.specs.Keeping.{Stands}
 use Rattle.lk_node.specs.Leavings.{DisksFit}
 use Rattle.lk_replica.specs.Groups.{StepSaid, letters_of, GoesThrough}
 use Rattle.lk_replica.specs.Posts.{AreOf}
-use Rattle.lk_replica.specs.Remembering.{Remembers}
+use Rattle.lk_recovery.specs.Remembering.{Remembers}
 use Rattle.lk_replica.specs.ReplicaValue.{ReplicaValue}
-use Rattle.lk_replica.specs.Rooms.{max_after}
+use Rattle.lk_recovery.specs.Rooms.{max_after}
 use Rattle.lk_server.specs.Sayings.{SaysByGroup, IsSilenced, SaysOf}
 use Rattle.lk_server.specs.Servers.{ServerValue}
 use Rattle.lk_sim.specs.Events.{Turns}

@@ -12,7 +12,7 @@ use Rattle.lk_state.specs.States.{WholeValue, whole_after, text_of, sessions_of}
 use Rattle.lk_state.proofs.Wholes.{ran-whole_after}
 use Rattle.lk_learner.specs.Learners.{Pair}
 use Rattle.lk_learner.proofs.Learnerships.{ran_moves}
-use Rattle.lk_replica.specs.Revivals.{run_from, all_ran}
+use Rattle.lk_recovery.specs.Revivals.{run_from, all_ran}
 use Rattle.lk_locks.specs.Lists.{table_of}
 use Rattle.lk_locks.specs.Meaning.{table_meaning}
 use Rattle.lk_locks.specs.Packed.{IsTable, table_text, table_in}

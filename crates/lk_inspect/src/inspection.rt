@@ -7,7 +7,7 @@ ghost use Rattle.lk_members.specs.Effects.{Command as CommandValue};
 ghost use Rattle.lk_members.specs.Rosters.{Genesis as GenesisValue};
 ghost use Rattle.lk_state.specs.Packed.{Packs};
 ghost use Rattle.lk_state.specs.States.{whole_after};
-ghost use Rattle.lk_replica.specs.Revivals.{run_from};
+ghost use Rattle.lk_recovery.specs.Revivals.{run_from};
 ghost use Rattle.lk_locks.specs.Meaning.{table_meaning};
 ghost use Rattle.lk_locks.specs.Packed.{IsTableText};
 ghost use Rattle.lk_inspect.specs.Inspections.{CannotStand, Tells};

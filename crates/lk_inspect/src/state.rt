@@ -7,7 +7,7 @@ ghost use Rattle.lk_types.specs.Limits.{max_count};
 ghost use Rattle.lk_state.specs.Packed.{Packs};
 ghost use Rattle.lk_state.specs.Runs.{ran};
 ghost use Rattle.lk_state.specs.States.{WholeValue, SumsUp, whole_after};
-ghost use Rattle.lk_replica.specs.Revivals.{run_from, all_ran};
+ghost use Rattle.lk_recovery.specs.Revivals.{run_from, all_ran};
 ghost use Rattle.lk_locks.specs.Meaning.{table_meaning};
 ghost use Rattle.lk_locks.specs.Packed.{IsTableText};
 ghost use Rattle.lk_inspect.specs.Inspections.{CannotStand};

@@ -18,7 +18,7 @@ use Rattle.lk_locks.specs.Packed.{IsTableText}
 use Rattle.lk_replica.specs.Behaviours.{Behaviour, disks_by}
 use Rattle.lk_replica.specs.Compacted.{CompactsTo}
 use Rattle.lk_replica.specs.ReplicaValue.{ReplicaValue}
-use Rattle.lk_replica.specs.Revivals.{RevivesTo}
+use Rattle.lk_replica.specs.Revived.{RevivesTo}
 use Rattle.lk_replica.specs.Taking.{ComesTo}
 use Rattle.lk_replica.specs.Together.{ComesToAll}
 use Rattle.lk_sim.specs.Events.{Does}

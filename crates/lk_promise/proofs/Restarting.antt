@@ -16,7 +16,8 @@ use Rattle.lk_log.specs.Stores.{Found, Holds}
 use Rattle.lk_log.proofs.StoreLaws.{found_live, found_sound, one_standing, synced_live}
 use Rattle.lk_node.specs.Served.{text}
 use Rattle.lk_replica.specs.ReplicaValue.{ReplicaValue}
-use Rattle.lk_replica.specs.Revivals.{MayRevive, Revives, revived, notes_of, run_from}
+use Rattle.lk_recovery.specs.Revivals.{MayRevive, revived, notes_of, run_from}
+use Rattle.lk_replica.specs.Revived.{Revives}
 use Rattle.lk_state.specs.Packed.{Packs}
 use Rattle.lk_state.specs.States.{WholeValue}
 use Rattle.lk_step.specs.declared.note.Note.{Note}

@@ -12,7 +12,7 @@ use Rattle.lk_locks.specs.Packed.{IsTableText}
 use Rattle.lk_log.specs.Images.{IsLive, seen}
 use Rattle.lk_log.specs.StoreValue.{device_of}
 use Rattle.lk_replica.specs.ReplicaValue.{ReplicaValue}
-use Rattle.lk_replica.specs.Revivals.{RevivesTo}
+use Rattle.lk_replica.specs.Revived.{RevivesTo}
 use Rattle.lk_step.specs.declared.note.Note.{Note}
 use Rattle.lk_promise.specs.Events.{remaining}
 

@@ -32,10 +32,9 @@ use Rattle.lk_node.specs.Packing.{standing_of, standing_here}
 use Rattle.lk_node.specs.Served.{IsOfNode, IsBorneOut}
 use Rattle.lk_node.specs.Serving.{IsLight, Tells, Serves, GoesOn}
 use Rattle.lk_replica.specs.Posts.{AreOf}
-use Rattle.lk_replica.specs.Remembering.{Remembers}
+use Rattle.lk_recovery.specs.Remembering.{Remembers}
 use Rattle.lk_replica.proofs.Going.{said_covered, said_light, batch_covered, bound, serves}
-use Rattle.lk_replica.proofs.Images.{fit_disks}
-use Rattle.lk_replica.proofs.Rebasing.{snapshot_covers, base_stands, here, rebase_stands, base_fits, here_fits}
+use Rattle.lk_recovery.proofs.Recoveries.{fit_disks, snapshot_covers, base_stands, here, rebase_stands, base_fits, here_fits}
 use Rattle.lk_replica.proofs.Thinning.{batch_among}
 
 -- all but promises and votes may still be sent

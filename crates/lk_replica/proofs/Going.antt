@@ -1,8 +1,13 @@
 -- What a call leaves that steps, puts what the step writes, and then sends.
-use Rattle.std.proofs.Common.{◌≡◌, ℕ, Bool, true, false, inl, inr, List, [], ◌∷◌, ◌++◌, take, Contains, refl, sym, ◌∙◌, ap, subst, arith}
+use Rattle.std.proofs.Common.{◌≡◌, ℕ, Bool, true, false, List, [], ◌∷◌, ◌++◌, take, Contains, refl, sym, ◌∙◌, ap, subst, subst₂, arith}
 use Rattle.std.specs.List.{AllByRecursion}
 use Rattle.lk_types.specs.declared.entry.Entry.{Entry}
 use Rattle.lk_types.specs.declared.entry.Entry.TheVariants.{Promise, Vote, Decided}
+use Rattle.std.specs.Prelude.{if◌then◌else◌}
+use Rattle.lk_disk.specs.Meters.{Passes}
+use Rattle.lk_disk.specs.declared.meter.Meter.{Meter}
+use Rattle.lk_log.specs.Causes.{put_calls, rebase_calls}
+use Rattle.lk_replica.specs.Taking.{write_calls}
 use Rattle.lk_wire.specs.Grammar.{Spells}
 use Rattle.lk_wire.specs.declared.message.NodeMessage.{NodeMessage}
 use Rattle.lk_wire.specs.declared.message.NodeMessage.TheVariants as kinds
@@ -16,8 +21,8 @@ use Rattle.lk_log.proofs.StoreLaws.{all_stand, header_more, one_standing, plain_
 use Rattle.lk_state.specs.Meanings.{Meaning}
 use Rattle.lk_agreement.specs.Acceptors.{AcceptorState, Covers, CoversSent}
 use Rattle.lk_agreement.specs.Datagrams.{said_by}
-use Rattle.lk_agreement.specs.Nodes.{View, ViewFits}
-use Rattle.lk_agreement.proofs.Histories.{said_alike, still_stems, still_was, still_chosen_at, covers_both, entry_chosen}
+use Rattle.lk_agreement.specs.Nodes.{View}
+use Rattle.lk_agreement.proofs.Histories.{said_alike, still_stems, still_was, still_chosen_at, covers_both}
 use Rattle.lk_step.specs.Letters.{LetterValue, datagram_of, batch_of}
 use Rattle.lk_step.specs.Outboxes.{OutboxValue, nothing}
 use Rattle.lk_step.specs.declared.input.Input.{Input}
@@ -28,10 +33,10 @@ use Rattle.lk_node.specs.Holdings.{Holding}
 use Rattle.lk_node.specs.Keeping.{TellsDecided, IsKnown, Keeps, Stands}
 use Rattle.lk_node.specs.Leavings.{header_of, acceptor_of, view_of, DisksFit, AllCover}
 use Rattle.lk_replica.specs.Posts.{AreOf}
-use Rattle.lk_replica.specs.Remembering.{Remembers}
+use Rattle.lk_recovery.specs.Remembering.{Remembers}
 use Rattle.lk_node.specs.NodeValue.{NodeValue}
 use Rattle.lk_node.specs.Serving.{IsLight, with_entries, Tells, Binds, Serves, GoesOn}
-use Rattle.lk_replica.proofs.Images.{held_fit, fit_disks, cover_disks, put_fits, put_covers}
+use Rattle.lk_recovery.proofs.Recoveries.{known_rests, held_fit, fit_disks, cover_disks, put_fits, put_covers}
 use Rattle.lk_node.proofs.Nodes.{take_contains, map_contains}
 use Rattle.lk_node.proofs.Nodes.{letter_spelled}
 use Rattle.lk_replica.proofs.Standings.{entries_are, decided_leave, entries_behind}
@@ -84,13 +89,7 @@ put_keeps whose old new a b es true k written decided added synced = record {
   known = λ w old' new'. tt;
 }
 
--- ---- what is known was chosen
-
-pub known_rests : (h : History) (n : ℕ) (w : View) → ViewFits h.genesis h.sent n w → (e : Entry) → IsKnown w e → Rests h e
-known_rests h n w f (Promise b) k = absurd k
-known_rests h n w f (Vote x) k = absurd k
-known_rests h n w f (Decided i c) (inl pair) = f.stems.pairs i c pair
-known_rests h n w f (Decided i c) (inr at) = entry_chosen h.genesis h.sent w.done f.stems.done i c at
+-- ---- what rests on what was sent
 
 still_rests : (h : History) (more : List Datagram) (e : Entry) → Rests h e → Rests (later h more) e
 still_rests h more (Promise b) r = tt
@@ -226,3 +225,12 @@ module _ (m : Meaning) (genesis : Genesis) (n : ℕ) (node new : NodeValue) (old
 
   pub step_covers : KeepsAtLeast store shown.keeps.entries (plain shown.keeps.loose ++ plain out.entries) → (x : NodeMessage) → AllCover m genesis n (disks old) x → AllCover m genesis n (disks store) x
   step_covers keeps x c = put_covers m genesis n old store shown.keeps.entries shown.keeps.loose out.entries x shown.keeps.holds keeps c
+
+-- ---- the calls in which a step is written
+
+pub put_written : (m n : Meter) (o : OutboxValue) (entries : List Entry) (sync : Bool) → entries ≡ o.entries → sync ≡ o.sync → o.rebase ≡ false → Passes m n (put_calls entries sync) → Passes m n (write_calls o)
+put_written m n o entries sync these said not_so calls =
+    subst (λ (b : Bool). Passes m n (if b then rebase_calls else put_calls o.entries o.sync)) (sym not_so) (subst₂ (λ (es : List Entry) (b : Bool). Passes m n (put_calls es b)) these said calls)
+
+pub base_written : (m n : Meter) (o : OutboxValue) → o.rebase ≡ true → Passes m n rebase_calls → Passes m n (write_calls o)
+base_written m n o so calls = subst (λ (b : Bool). Passes m n (if b then rebase_calls else put_calls o.entries o.sync)) (sym so) calls

@@ -47,22 +47,19 @@ use Rattle.lk_node.specs.NodeValue.{NodeValue}
 use Rattle.lk_node.specs.Packing.{standing_of, standing_here}
 use Rattle.lk_node.specs.Served.{text}
 use Rattle.lk_node.specs.Serving.{with_entries, GoesOn}
-use Rattle.lk_replica.specs.Compacting.{IsDue, IsSameStore, Rebases}
+use Rattle.lk_recovery.specs.Compacting.{IsDue, IsSameStore, Rebases}
 use Rattle.lk_replica.specs.Groups.{as_synced, as_sent, waits_after, Gathers, Recalls, Gathered, GroupFits, GroupGoes, GroupStays, Settles, GroupValue, Adds, IsCovered, IsRefusedInGroup, LeavesInGroup, IsSettled, MakesRoom, settle_calls, gather_calls}
-use Rattle.lk_replica.specs.Compacted.{IsStoreFault}
-use Rattle.lk_replica.specs.Faults.{fault_number, failures_by, WantsNoMemory}
+use Rattle.lk_recovery.specs.Faults.{IsStoreFault, fault_number, failures_by, WantsNoMemory}
 use Rattle.lk_replica.specs.Posts.{AreOf}
 use Rattle.lk_replica.specs.ReplicaValue.{ReplicaValue}
 use Rattle.lk_replica.specs.Taking.{IsCutShort}
-use Rattle.lk_replica.specs.declared.fault.ReplicaFault.{ReplicaFault}
-use Rattle.lk_replica.proofs.Calling.{err_as, number_of_calls, halted_alone}
-use Rattle.lk_replica.proofs.Compactions.{failed_alone}
+use Rattle.lk_recovery.specs.declared.fault.ReplicaFault.{ReplicaFault}
+use Rattle.lk_recovery.proofs.Recoveries.{err_as, failed_alone, known_rests, EntriesCover, held_fit, fit_disks, cover_entries, cover_disks, put_fits, put_covers, same_holds}
+use Rattle.lk_replica.proofs.Refusals.{number_of_calls, halted_alone}
 use Rattle.lk_replica.proofs.NoSend.{sends_not}
-use Rattle.lk_replica.specs.Remembering.{Remembers}
+use Rattle.lk_recovery.specs.Remembering.{Remembers}
 use Rattle.lk_replica.proofs.Behind.{installed_goes}
-use Rattle.lk_replica.proofs.Going.{KeepsToo, put_leaves, put_goes, serves, bound, step_syncs, step_covers, known_rests}
-use Rattle.lk_replica.proofs.Images.{EntriesCover, held_fit, fit_disks, cover_entries, cover_disks, put_fits, put_covers}
-use Rattle.lk_replica.proofs.Rebasing.{same_holds}
+use Rattle.lk_replica.proofs.Going.{KeepsToo, put_leaves, put_goes, serves, bound, step_syncs, step_covers}
 use Rattle.lk_replica.proofs.Standings.{entries_are, decided_leave, entries_behind}
 use Rattle.lk_replica.proofs.Thinning.{batch_among}
 

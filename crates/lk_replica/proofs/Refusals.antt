@@ -3,17 +3,34 @@ use Rattle.std.proofs.Common.{◌≡◌, ℕ, ◌<◌, inl, inr, arith, true, fa
 use Rattle.std.specs.Prelude.{IfErr}
 use Rattle.lk_log.specs.StoreValue.{StoreValue, disks}
 use Rattle.lk_node.specs.NodeValue.{NodeValue}
-use Rattle.lk_replica.specs.Compacted.{IsStoreFault, IsNotCompacted}
-use Rattle.lk_replica.specs.Compacting.{AreLeft, AreSame, KeepsFileOrGoesOver}
-use Rattle.lk_replica.specs.Faults.{fault_number, failures_by, IsOfCalls, IfSend}
-use Rattle.lk_replica.specs.Rebased.{IsNotRebased}
+use Rattle.lk_recovery.specs.Faults.{IsStoreFault, fault_number, failures_by, IsOfCalls, IsNumberOfCalls, IfSend}
+use Rattle.lk_replica.specs.Compacted.{IsNotCompacted}
+use Rattle.lk_recovery.specs.Compacting.{AreLeft, AreSame, KeepsFileOrGoesOver}
+use Rattle.lk_recovery.specs.Rebased.{IsNotRebased}
 use Rattle.lk_replica.specs.ReplicaValue.{ReplicaValue}
 use Rattle.lk_replica.specs.Taking.{IsCutShort, IsRefused}
-use Rattle.lk_replica.specs.declared.fault.ReplicaFault.{ReplicaFault}
-use Rattle.lk_replica.specs.declared.fault.ReplicaFault.TheVariants as fault
-use Rattle.lk_replica.proofs.Calling.{err_as, number_of_calls, halted_alone}
-use Rattle.lk_replica.proofs.Compactions.{failed_alone}
-use Rattle.lk_replica.proofs.Spared.{spared_number}
+use Rattle.lk_recovery.specs.declared.fault.ReplicaFault.{ReplicaFault}
+use Rattle.lk_recovery.specs.declared.fault.ReplicaFault.TheVariants as fault
+use Rattle.lk_recovery.proofs.Recoveries.{err_as, failed_alone, spared_number}
+
+-- a fault of a call, by its number
+pub number_of_calls : (f : ReplicaFault) → IsOfCalls f → IsNumberOfCalls (fault_number f)
+number_of_calls fault.Device of = inl refl
+number_of_calls fault.NoMemory of = inr (inl refl)
+number_of_calls fault.Damaged of = absurd of
+number_of_calls fault.WrongStore of = absurd of
+number_of_calls fault.Failed of = inr (inr (inl refl))
+number_of_calls fault.Halted of = inr (inr (inr (inl refl)))
+number_of_calls (fault.Send notes) of = inr (inr (inr (inr refl)))
+
+pub halted_alone : (e : ReplicaFault) → fault_number e ≡ 14 → e ≡ fault.Halted
+halted_alone fault.Device is = absurd (omega (arith, is))
+halted_alone fault.NoMemory is = absurd (omega (arith, is))
+halted_alone fault.Damaged is = absurd (omega (arith, is))
+halted_alone fault.WrongStore is = absurd (omega (arith, is))
+halted_alone fault.Failed is = absurd (omega (arith, is))
+halted_alone fault.Halted is = refl
+halted_alone (fault.Send notes) is = absurd (omega (arith, is))
 
 -- a call of a replica that had not failed, by what it did to the node and the store
 pub refused_by_parts : {T : Type 0} (Honest Metered : Type 0) (r : Result T ReplicaFault) (f : ReplicaFault) (old : ReplicaValue) (node : NodeValue) (store : StoreValue)

@@ -29,13 +29,13 @@ use Rattle.lk_node.specs.Leavings.{DisksFit, AllCover}
 use Rattle.lk_node.specs.NodeValue.{NodeValue}
 use Rattle.lk_replica.specs.Groups.{GroupValue, Adds, IsCovered, KeepsGroup, LeavesInGroup, IsGathered, IsSettled, IsRefusedInGroup, StepSaid, letters_of, GoesThrough, as_sent, with_step, gather_calls, Recalls, GroupStays}
 use Rattle.lk_replica.specs.Posts.{AreOf}
-use Rattle.lk_replica.specs.Remembering.{Remembers}
+use Rattle.lk_recovery.specs.Remembering.{Remembers}
 use Rattle.lk_replica.specs.ReplicaValue.{ReplicaValue}
-use Rattle.lk_replica.specs.Rooms.{max_after}
-use Rattle.lk_replica.specs.Faults.{RefusedAfter}
+use Rattle.lk_recovery.specs.Rooms.{max_after}
+use Rattle.lk_recovery.specs.Faults.{RefusedAfter}
 use Rattle.lk_replica.specs.Together.{Said, sent_of, parts_of, said_by_steps, GoesAll, GathersAll, IsGatheredFrom, IsTakenTogether, IsNotKept, IsNotSent, IsTogetherRefused}
 use Rattle.lk_replica.specs.declared.taken.Step.{Step}
-use Rattle.lk_replica.proofs.Calling.{refused_on}
+use Rattle.lk_recovery.proofs.Recoveries.{refused_on}
 use Rattle.lk_replica.proofs.Grouped.{begun, begin_fits, room_as_sent, settled_node_fits, settled_covers}
 
 -- ---- steps

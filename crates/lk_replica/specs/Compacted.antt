@@ -1,5 +1,5 @@
 -- What a call of `compact` has done.
-use Rattle.std.specs.Prelude.{◌≡◌, ℕ, ◌<◌, ◌≤◌, ◌⊎◌, ⊤, true, false, Result, Ok, Err}
+use Rattle.std.specs.Prelude.{◌≡◌, ℕ, ◌<◌, ◌≤◌, ⊤, true, false, Result, Ok, Err}
 use Rattle.lk_types.specs.Limits.{max_count}
 use Rattle.lk_disk.specs.Memory.{disk_of}
 use Rattle.lk_disk.specs.Meters.{Passes}
@@ -10,8 +10,8 @@ use Rattle.lk_learner.specs.Learners.{executed}
 use Rattle.lk_node.specs.Histories.{Genesis}
 use Rattle.lk_node.specs.Holdings.{Holding}
 use Rattle.lk_node.specs.Keeping.{Stands}
-use Rattle.lk_replica.specs.Compacting.{AllStandAt, AreSame, Rebases}
-use Rattle.lk_replica.specs.Faults.{RefusedAfter}
+use Rattle.lk_recovery.specs.Compacting.{AllStandAt, AreSame, Rebases}
+use Rattle.lk_recovery.specs.Faults.{RefusedAfter, IsStoreFault}
 use Rattle.lk_replica.specs.ReplicaValue.{ReplicaValue}
 use Rattle.lk_replica.specs.Taking.{IsRefused}
 use Rattle.lk_state.specs.Meanings.{Meaning}
@@ -25,10 +25,6 @@ pub record IsCompacted (m : Meaning) (old new : ReplicaValue) : Type 0 where
   pub calls : Passes old.store.meter new.store.meter rebase_calls
   pub alive : new.failed ≡ false
   pub store_alive : new.store.failed ≡ false
-
--- the device has failed, memory ran out, or it failed earlier
-abbrev pub IsStoreFault : ℕ → Type 0
-IsStoreFault number = (number ≡ 7) ⊎ (number ≡ 8) ⊎ (number ≡ 11)
 
 -- the call failed with the fault of this number, for its cause: 11 only after an earlier error, after which there is
 -- no other and nothing changes, or if no generation is left. It has ended the replica, whose node is unchanged and

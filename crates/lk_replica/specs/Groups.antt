@@ -24,10 +24,10 @@ use Rattle.lk_step.specs.declared.input.Input.{Input}
 use Rattle.lk_step.specs.declared.note.Note.{Note}
 use Rattle.lk_node.specs.Steps.{Steps}
 use Rattle.lk_types.specs.Limits.{max_count}
-use Rattle.lk_replica.specs.Compacting.{IsDue, Rebases, RebasesWhereDue}
-use Rattle.lk_replica.specs.Faults.{failures_by, RefusedAfter, IsNumberOfCalls}
+use Rattle.lk_recovery.specs.Compacting.{IsDue, Rebases, RebasesWhereDue}
+use Rattle.lk_recovery.specs.Faults.{failures_by, RefusedAfter, IsNumberOfCalls}
 use Rattle.lk_replica.specs.Posts.{AreOf}
-use Rattle.lk_replica.specs.Rooms.{GrowsByStep, max_after}
+use Rattle.lk_recovery.specs.Rooms.{GrowsByStep, max_after}
 use Rattle.lk_replica.specs.ReplicaValue.{ReplicaValue}
 use Rattle.lk_node.specs.Calls.{InputFits, NodeFits, Goes}
 use Rattle.lk_node.specs.Entries.{Rests}

@@ -1,14 +1,8 @@
-pub mod Faults
 pub mod Taking
-pub mod Revivals
 pub mod ReplicaValue
+pub mod Revived
 pub mod Posts
 pub mod Behaviours
-pub mod Compacting
 pub mod Compacted
-pub mod Rebased
-pub mod Rooms
-pub mod Remembering
-pub mod Renewals
 pub mod Groups
 pub mod Together

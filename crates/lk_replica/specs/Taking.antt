@@ -23,12 +23,12 @@ use Rattle.lk_node.specs.Executing.{NothingToRun}
 use Rattle.lk_node.specs.Histories.{Datagram, History, Genesis}
 use Rattle.lk_node.specs.Keeping.{Stands}
 use Rattle.lk_node.specs.Leavings.{DisksFit, AllCover}
-use Rattle.lk_replica.specs.Remembering.{Remembers}
-use Rattle.lk_replica.specs.Rooms.{GrowsByStep, GrowsFromBase}
-use Rattle.lk_replica.specs.Compacting.{AreLeft, IsDue, KeepsFileOrGoesOver, Rebases, RebasesWhereDue, CallsWhereDue}
-use Rattle.lk_replica.specs.Faults.{fault_number, failures_by, RefusedAfter, IfGoesOn, IfSend, IfSpared, IsOfCalls, IsNumberOfCalls, WantsNoMemory}
-use Rattle.lk_replica.specs.declared.fault.ReplicaFault.{ReplicaFault}
-use Rattle.lk_replica.specs.declared.fault.ReplicaFault.TheVariants as fault
+use Rattle.lk_recovery.specs.Remembering.{Remembers}
+use Rattle.lk_recovery.specs.Rooms.{GrowsByStep, GrowsFromBase}
+use Rattle.lk_recovery.specs.Compacting.{AreLeft, IsDue, KeepsFileOrGoesOver, Rebases, RebasesWhereDue, CallsWhereDue}
+use Rattle.lk_recovery.specs.Faults.{fault_number, failures_by, RefusedAfter, IfGoesOn, IfSend, IfSpared, IsOfCalls, IsNumberOfCalls, WantsNoMemory}
+use Rattle.lk_recovery.specs.declared.fault.ReplicaFault.{ReplicaFault}
+use Rattle.lk_recovery.specs.declared.fault.ReplicaFault.TheVariants as fault
 use Rattle.lk_replica.specs.ReplicaValue.{ReplicaValue}
 use Rattle.lk_node.specs.NodeValue.{NodeValue}
 use Rattle.lk_node.specs.Steps.{Steps}
@@ -136,15 +136,6 @@ pub record IsCutShort (Honest Metered : Type 0) (most : ℕ) (node : NodeValue) 
   pub stays : Honest → IfSpared Left e
   pub halts : e ≡ fault.Halted → new.halted ≡ true
   pub awake : node.halted ≡ false → (fault_number e ≡ 14 → ⊥) → new.halted ≡ false
-
--- what a call leaves on the disks, however it ends: if the history has the call's input, each image that a stop may
--- leave fits the earlier history; each covers what every image covered; and neither file has grown, except up to this
--- many bytes, nor by more than a step except by a Base
-pub record LeavesDisks (m : Meaning) (Hears : History → Type 0) (most : ℕ) (node : NodeValue) (store : StoreValue) (after : Side → Disk) : Type 0 where
-  pub ends : (h : History) (n : ℕ) → NodeFits m h n (Stands m node store h.genesis n) (disks store) → Hears h → DisksFit m h n after
-  pub covers : (genesis : Genesis) (n : ℕ) (x : NodeMessage) → Remembers node store genesis n → AllCover m genesis n (disks store) x → AllCover m genesis n after x
-  pub room : StaysWithin most (disks store) after
-  pub grows : GrowsFromBase (disks store) after
 
 -- the same of a step alone: the files are no longer than that if the live one was shorter than what makes a rebase due
 pub record StepLeavesDisks (m : Meaning) (Hears : History → Type 0) (most : ℕ) (node : NodeValue) (store : StoreValue) (after : Side → Disk) : Type 0 where

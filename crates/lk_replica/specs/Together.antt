@@ -14,7 +14,7 @@ use Rattle.lk_node.specs.Holdings.{Holding}
 use Rattle.lk_node.specs.NodeValue.{NodeValue}
 use Rattle.lk_replica.specs.Groups.{GroupValue, IsGathered, IsRefusedInGroup, IsSettled, StepSaid}
 use Rattle.lk_replica.specs.ReplicaValue.{ReplicaValue}
-use Rattle.lk_replica.specs.Rooms.{max_after}
+use Rattle.lk_recovery.specs.Rooms.{max_after}
 use Rattle.lk_replica.specs.declared.taken.Step.{Step}
 use Rattle.lk_replica.specs.declared.taken.TakenAll.{TakenAll}
 

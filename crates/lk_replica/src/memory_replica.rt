@@ -4,7 +4,6 @@ ghost use Rattle.lk_types.specs.Limits.{max_base};
 ghost use Rattle.lk_disk.specs.Memory.{disk_of};
 ghost use Rattle.lk_disk.specs.Meters.{Passes};
 ghost use Rattle.lk_disk.specs.declared.trap.Trap.{Trap as TrapValue};
-ghost use Rattle.lk_entries.specs.Values.{HeaderValue};
 ghost use Rattle.lk_log.specs.Causes.{rebase_calls};
 ghost use Rattle.lk_log.specs.Rooms.{StaysWithin};
 ghost use Rattle.lk_state.specs.Meanings.{Meaning};
@@ -16,16 +15,15 @@ ghost use Rattle.lk_node.specs.Holdings.{Holding};
 ghost use Rattle.lk_node.specs.Leavings.{header_of, DisksFit, AllCover};
 ghost use Rattle.lk_node.specs.Calls.{heard_by, InputFits, NodeFits, Goes};
 ghost use Rattle.lk_replica.specs.Behaviours.{Behaviour, TrapsAlone, disks_by};
-ghost use Rattle.lk_replica.specs.Compacted.{IsStoreFault};
-ghost use Rattle.lk_replica.specs.Compacting.{AllStandAt};
-ghost use Rattle.lk_replica.specs.Faults.{fault_number, RefusedAfter, IsNumberOfCalls, IsNumberOfRevival};
-ghost use Rattle.lk_replica.specs.Rooms.{max_after};
+ghost use Rattle.lk_recovery.specs.Faults.{IsStoreFault, fault_number, RefusedAfter, IsNumberOfCalls, IsNumberOfRevival};
+ghost use Rattle.lk_recovery.specs.Compacting.{AllStandAt};
+ghost use Rattle.lk_recovery.specs.Rooms.{max_after};
 ghost use Rattle.lk_replica.specs.Together.{GoesAll, said_in, sent_of};
 
-use crate::fault::ReplicaFault;
 use crate::taken::{Taken, TakenAll};
 use lk_disk::{MemoryDisk, Trap};
 use lk_entries::Header;
+use lk_recovery::{ReplicaFault, ReviveFault};
 use lk_step::{Input, Note};
 use std::alloc::Global;
 
@@ -34,13 +32,6 @@ use std::alloc::Global;
 pub struct Revived<R: Drop> {
     pub replica: R,
     pub notes: Vec<Note>,
-}
-
-/// Why there is none, and the device.
-#[derive(Drop)]
-pub struct ReviveFault<D: Drop> {
-    pub fault: ReplicaFault,
-    pub device: D,
 }
 
 /// A replica with disks in memory, as a world of replicas runs it: the world rests on these clauses alone.

@@ -1,174 +1,26 @@
-// Restarting from what a stop has left.
-ghost use Rattle.std.specs.Prelude.{◌≡◌, ◌⊎◌, ℕ, ◌+◌, ◌*◌, ◌≤◌, [], length, nat_le, Contains, IfOk, IfErr, IsErrOf, MatchResult};
-ghost use Rattle.std.specs.List.{list_all};
-ghost use Rattle.lk_disk.specs.declared.device.Side.{Side};
-ghost use Rattle.lk_log.specs.Stores.{NarrowsOrBegins, StandsForSome};
+// Restarting a replica from what a stop has left.
+ghost use Rattle.std.specs.Prelude.{◌≡◌, ℕ, ◌+◌, ◌≤◌, [], IfOk, IfErr, MatchResult};
 ghost use Rattle.lk_log.specs.StoreValue.{disks};
 ghost use Rattle.lk_log.specs.Rooms.{StaysWithin};
 ghost use Rattle.lk_types.specs.Limits.{max_base};
-ghost use Rattle.lk_state.specs.Packed.{Packs};
-ghost use Rattle.lk_state.specs.States.{WholeValue};
 ghost use Rattle.lk_agreement.specs.Datagrams.{NodeMessage};
 ghost use Rattle.lk_node.specs.Calls.{Goes};
-ghost use Rattle.lk_replica.specs.Remembering.{Remembers};
-ghost use Rattle.lk_replica.specs.Faults.{fault_number, failures_by, RefusedAfter};
-ghost use Rattle.lk_node.specs.Executing.{NothingToRun};
+ghost use Rattle.lk_recovery.specs.Remembering.{Remembers};
+ghost use Rattle.lk_recovery.specs.Faults.{fault_number, failures_by, RefusedAfter};
 ghost use Rattle.lk_node.specs.Histories.{History, Genesis as GenesisValue, IsLawful};
 ghost use Rattle.lk_node.specs.Keeping.{Stands};
 ghost use Rattle.lk_node.specs.Leavings.{header_of, DisksFit, AllCover};
-ghost use Rattle.lk_replica.specs.Revivals.{Unpacks, MayRevive, Restores, TakesUp, IsTakenUp, Revives, MayGoOn, IsRefusedFor, CallsOfOpening, CallsOfRevival, NarrowsOrRenews};
+ghost use Rattle.lk_recovery.specs.Revivals.{IsRefusedFor, CallsOfRevival, NarrowsOrRenews};
+ghost use Rattle.lk_replica.specs.Revived.{Revives, MayGoOn};
 ghost use Rattle.lk_node.specs.Served.{text};
 
-use crate::fault::ReplicaFault;
-use crate::memory_replica::{ReviveFault, Revived};
-use crate::relearning::relearn;
-use crate::renewing::renew;
+use crate::memory_replica::Revived;
 use crate::replica::Replica;
-use bytes::BytesMut;
-use lk_acceptor::Acceptor;
 use lk_disk::LogDisk;
-use lk_entries::{Header, Standing};
-use lk_log::{Store, reopen};
-use lk_node::Node;
-use lk_state::{Machine, Whole};
-use lk_step::Note;
-use lk_types::{Executed, Genesis, NoMemory, Vote};
+use lk_entries::Header;
+use lk_recovery::{ReviveFault, TakenUp, renew, take_up};
+use lk_state::Machine;
 use std::alloc::Global;
-
-// The packed text of the state before any command is executed.
-fn zero_text<M: Machine>(alloc: Global, genesis: &Genesis) -> Result<BytesMut, NoMemory>
-    ensures text { IfOk result (λ t. t.items ≡ text M.meaning genesis.now []) }
-    ensures some { IfOk result (λ t. 1 ≤ length t.items) }
-    ensures room { IfOk result (λ t. length t.items ≤ 42087) }
-{
-    let whole: Whole<M> = Whole::begin(alloc, genesis);
-    whole.facts();
-    let mut out = BytesMut::new(alloc);
-    whole.pack(&mut out)?;
-    Ok(out)
-}
-
-// The state of a snapshot, at its position and with this alpha.
-fn unpacked<M: Machine>(
-    alloc: Global,
-    alpha: u8,
-    position: Executed,
-    snapshot: &[u8],
-) -> Result<Whole<M>, ReplicaFault>
-    ensures unpacks { IfOk result (λ w. Unpacks M.IsText alpha position snapshot.now w) }
-    ensures one { (w : WholeValue) → Packs M.IsText w snapshot.now → IfOk result (λ v. v ≡ w) }
-    ensures damaged { IsErrOf result ReplicaFault.Damaged → (w : WholeValue) → Unpacks M.IsText alpha position snapshot.now w → ⊥ }
-    ensures only { IfErr result (λ e. (e ≡ ReplicaFault.Damaged) ⊎ (e ≡ ReplicaFault.NoMemory)) }
-{
-    let whole: Whole<M> = Whole::unpack(alloc, snapshot)?;
-    if whole.executed() != position || whole.roster().alpha() != alpha {
-        return Err(ReplicaFault::Damaged);
-    }
-    Ok(whole)
-}
-
-// Whether no vote is more than twice alpha above what is executed.
-fn are_near(votes: &[Vote], executed: Executed, alpha: u8) -> bool
-    ensures { result ≡ list_all (λ v. nat_le v.position (executed + 2 * alpha)) votes.now }
-{
-    let farthest = executed.get() + 2 * u64::from(alpha);
-    votes.iter().all(|vote| vote.position.get() <= farthest)
-}
-
-// The node for this standing, and the notes of what it executed.
-fn restored<M: Machine>(
-    alloc: Global,
-    header: &Header,
-    standing: Standing,
-) -> Result<(Node<M>, Vec<Note>), ReplicaFault>
-    requires stands { StandsForSome standing }
-    ensures runs { IfOk result (λ r. NothingToRun r.0) }
-    ensures restores { IfOk result (λ r. Restores M.meaning M.IsText header.now standing r.0 r.1.items) }
-    ensures damaged { IsErrOf result ReplicaFault.Damaged → (w : WholeValue) → MayRevive M.IsText header.now standing w → ⊥ }
-    ensures only { IfErr result (λ e. (e ≡ ReplicaFault.Damaged) ⊎ (e ≡ ReplicaFault.NoMemory)) }
-{
-    let Standing {
-        promised,
-        position,
-        snapshot,
-        votes,
-        pairs,
-    } = standing;
-    let alpha = header.genesis().alpha;
-    let whole: Whole<M> = unpacked(alloc, alpha, position, &snapshot)?;
-    let (learner, notes) = relearn(alloc, header.node(), whole, snapshot, &pairs)?;
-    if !are_near(&votes, learner.whole().executed(), alpha) {
-        return Err(ReplicaFault::Damaged);
-    }
-    let acceptor = Acceptor::new(alloc, alpha, promised, votes, position);
-    Ok((Node::new(alloc, header.copy(), acceptor, learner), notes))
-}
-
-// A restarted replica, whatever the format of its file.
-#[derive(Drop)]
-struct TakenUp<M: Machine, D: LogDisk + Drop> {
-    node: Node<M>,
-    store: Store<D>,
-    notes: Vec<Note>,
-}
-
-// Restarts from what a stop has left on these disks, or begins a store if there is none. A file of format 1 keeps its
-// format.
-fn take_up<M: Machine, D: LogDisk + Drop>(
-    alloc: Global,
-    device: D,
-    header: &Header,
-) -> Result<TakenUp<M, D>, ReviveFault<D>>
-    // If the disks fit a history, the restarted replica goes on in it, and what an error leaves fits it.
-    ensures fits { D.is_honest → (h : History) (n : ℕ) → header.now ≡ header_of h.genesis n → IsLawful M.meaning h → DisksFit M.meaning h n (D.disk device)
-        → MatchResult result
-        (λ r. Goes M.meaning h n (Stands M.meaning r.node r.store h.genesis n) (disks r.store) r.notes.items [])
-        (λ e. DisksFit M.meaning h n (D.disk e.device)) }
-    // Every image covers whatever every image covered before.
-    ensures covers { D.is_honest → (genesis : GenesisValue) (n : ℕ) (x : NodeMessage) → header.now ≡ header_of genesis n → AllCover M.meaning genesis n (D.disk device) x
-        → MatchResult result (λ r. AllCover M.meaning genesis n (disks r.store) x) (λ e. AllCover M.meaning genesis n (D.disk e.device) x) }
-    // Its store keeps what its acceptor holds, whatever has happened to the disks.
-    ensures remembers { D.is_honest → (genesis : GenesisValue) (n : ℕ) → header.now ≡ header_of genesis n → IfOk result (λ r. Remembers r.node r.store genesis n) }
-    // It restarts exactly what the disks stand for, and executes nothing else.
-    ensures exact { D.is_honest → IfOk result (λ r. TakesUp M.meaning M.IsText (D.disk device) header.now r.node r.store r.notes.items) }
-    // Nothing of it has failed, and it has executed what it can.
-    ensures ready { IfOk result (λ r. IsTakenUp header.now r.node r.store) }
-    // An error has its cause. A damaged store and another's are unchanged.
-    ensures refused { D.is_honest → IfErr result (λ e. IsRefusedFor M.meaning M.IsText (D.disk device) header.now (fault_number e.fault) (D.disk e.device)) }
-    // After an error every image amounts to what an image before it did, or to a new store.
-    ensures stays_err { D.is_honest → (genesis : GenesisValue) → header.now ≡ header_of genesis header.now.node
-        → IfErr result (λ e. NarrowsOrBegins (D.disk device) (D.disk e.device) header.now (text M.meaning genesis [])) }
-    // It fails with 7 to 10, and with `Device` exactly if a call of the device has failed.
-    ensures cause { MatchResult result
-        (λ r. r.store.failures ≡ D.failures device)
-        (λ e. (7 ≤ fault_number e.fault) × (fault_number e.fault ≤ 10) × (D.failures e.device ≡ failures_by (fault_number e.fault) (D.failures device))) }
-    ensures metered { D.is_metered → D.is_honest → MatchResult result
-        (λ r. CallsOfOpening (D.disk device) (D.meter device) r.store.meter)
-        (λ e. RefusedAfter (fault_number e.fault) (D.meter device) (D.meter e.device)) }
-    // However it ends, neither file has grown, except up to the size of a Base.
-    ensures room { D.is_honest → MatchResult result (λ r. StaysWithin max_base (D.disk device) (disks r.store)) (λ e. StaysWithin max_base (D.disk device) (D.disk e.device)) }
-{
-    header.genesis().facts();
-    let Ok(zero) = zero_text::<M>(alloc, header.genesis()) else {
-        return Err(ReviveFault {
-            fault: ReplicaFault::NoMemory,
-            device,
-        });
-    };
-    match reopen(alloc, device, header, zero.as_slice()) {
-        Ok((store, standing)) => match restored(alloc, header, standing) {
-            Ok((node, notes)) => Ok(TakenUp { node, store, notes }),
-            Err(fault) => Err(ReviveFault {
-                fault,
-                device: store.into_disks(),
-            }),
-        },
-        Err(e) => Err(ReviveFault {
-            fault: ReplicaFault::from(e.fault),
-            device: e.device,
-        }),
-    }
-}
 
 impl<M: Machine, D: LogDisk + Drop> Replica<M, D> {
     /// Takes up what a stop left on these disks, or begins where nothing stands. It gives the notes of what it

@@ -1,15 +1,15 @@
 // The end of a group whose letters the caller sends, and what remains of its steps.
 ghost use Rattle.std.specs.Prelude.{◌≡◌, ◌∷◌, ◌++◌, [], false, IfErr, OnOk, ⊤};
 ghost use Rattle.lk_log.specs.StoreValue.{disks};
-ghost use Rattle.lk_replica.specs.Faults.{RaisesFailures, fault_number};
+ghost use Rattle.lk_recovery.specs.Faults.{RaisesFailures, fault_number};
 ghost use Rattle.lk_replica.specs.Groups.{IsRefusedInGroup, IsSettled, LeavesInGroup};
 ghost use Rattle.lk_replica.specs.Together.{IsNotKept};
 
-use crate::fault::ReplicaFault;
 use crate::grouping::settle;
 use crate::replica::Replica;
 use crate::taken::Step;
 use lk_disk::LogDisk;
+use lk_recovery::ReplicaFault;
 use lk_state::Machine;
 
 impl<M: Machine, D: LogDisk + Drop> Replica<M, D> {

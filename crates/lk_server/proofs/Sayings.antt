@@ -19,13 +19,13 @@ use Rattle.lk_node.specs.Histories.{History, Genesis, Datagram}
 use Rattle.lk_node.specs.Keeping.{Stands}
 use Rattle.lk_node.specs.Leavings.{AllCover}
 use Rattle.lk_node.specs.NodeValue.{NodeValue}
-use Rattle.lk_replica.specs.Faults.{fault_number}
+use Rattle.lk_recovery.specs.Faults.{fault_number}
 use Rattle.lk_replica.specs.Groups.{Adds, GroupValue, StepSaid, letters_of, KeepsGroup, LeavesInGroup, MakesRoom, IsGathered, IsSettled, IsRefusedInGroup, GoesThrough, IsCovered, Recalls, as_sent, with_step}
 use Rattle.lk_replica.specs.Posts.{AreOf, CarriesAll, GivesLetters}
 use Rattle.lk_replica.specs.ReplicaValue.{ReplicaValue}
-use Rattle.lk_replica.specs.Rooms.{GrowsFromBase, GrowsBySteps}
-use Rattle.lk_replica.specs.declared.fault.ReplicaFault.{ReplicaFault}
-use Rattle.lk_replica.specs.declared.fault.ReplicaFault.TheVariants as fault
+use Rattle.lk_recovery.specs.Rooms.{GrowsFromBase, GrowsBySteps}
+use Rattle.lk_recovery.specs.declared.fault.ReplicaFault.{ReplicaFault}
+use Rattle.lk_recovery.specs.declared.fault.ReplicaFault.TheVariants as fault
 use Rattle.lk_replica.proofs.Replicas.{begun, begin_fits, room_as_sent}
 use Rattle.lk_server.specs.Sayings.{nothing_taken, AreGathered, GroupLeaves, SaysOf, GathersOf}
 

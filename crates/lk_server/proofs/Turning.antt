@@ -4,9 +4,9 @@ use Rattle.std.specs.Prelude.{Result, Ok, Err, OnOk, OnErr}
 use Rattle.std.specs.declared.net.socket_addr.SocketAddr.{SocketAddr}
 use Rattle.lk_step.specs.Letters.{LetterValue}
 use Rattle.lk_replica.specs.Groups.{GroupValue}
-use Rattle.lk_replica.specs.declared.fault.ReplicaFault.{ReplicaFault}
-use Rattle.lk_replica.specs.declared.fault.ReplicaFault.TheVariants as fault
-use Rattle.lk_replica.specs.Faults.{fault_number}
+use Rattle.lk_recovery.specs.declared.fault.ReplicaFault.{ReplicaFault}
+use Rattle.lk_recovery.specs.declared.fault.ReplicaFault.TheVariants as fault
+use Rattle.lk_recovery.specs.Faults.{fault_number}
 use Rattle.lk_transport.specs.Addresses.{AddressBook, IsSameNetwork}
 use Rattle.lk_transport.specs.Faults.{replica_fault}
 use Rattle.lk_transport.specs.declared.fault.ServiceFault.TheVariants.{Send}

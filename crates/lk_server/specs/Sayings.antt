@@ -18,9 +18,9 @@ use Rattle.lk_node.specs.Keeping.{Stands}
 use Rattle.lk_node.specs.Leavings.{DisksFit, AllCover}
 use Rattle.lk_node.specs.NodeValue.{NodeValue}
 use Rattle.lk_replica.specs.Groups.{GroupValue, StepSaid, letters_of, IsGathered, GoesThrough, GroupStays, IsCovered, Recalls, Settles, as_sent, settle_calls}
-use Rattle.lk_replica.specs.Remembering.{Remembers}
+use Rattle.lk_recovery.specs.Remembering.{Remembers}
 use Rattle.lk_replica.specs.ReplicaValue.{ReplicaValue}
-use Rattle.lk_replica.specs.Rooms.{GrowsBySteps, max_after}
+use Rattle.lk_recovery.specs.Rooms.{GrowsBySteps, max_after}
 
 -- a group that has taken nothing
 abbrev pub nothing_taken : GroupValue

@@ -3,7 +3,7 @@
 ghost use Rattle.std.specs.Prelude.{◌≡◌, ℕ, List, [], ◌∷◌, ◌++◌, Option, Bool, true, false, IfOk, OnOk, OnErr, IfErr};
 ghost use Rattle.lk_step.specs.Letters.{LetterValue};
 ghost use Rattle.lk_node.specs.Calls.{heard_by};
-ghost use Rattle.lk_replica.specs.Faults.{fault_number};
+ghost use Rattle.lk_recovery.specs.Faults.{fault_number};
 ghost use Rattle.lk_replica.specs.Groups.{GroupValue};
 ghost use Rattle.lk_replica.specs.Posts.{GivesLetters, TellsSends};
 ghost use Rattle.lk_server.specs.Sayings.{GathersOf, SaysOf};
@@ -15,7 +15,8 @@ ghost use Rattle.lk_server.specs.declared.shown.Shown.{Shown as ShownValue};
 use crate::replica_status::ReplicaStatus;
 use crate::shown::Shown;
 use lk_disk::LogDisk;
-use lk_replica::{Group, Post, Replica, ReplicaFault};
+use lk_recovery::ReplicaFault;
+use lk_replica::{Group, Post, Replica};
 use lk_state::Machine;
 use lk_step::Input;
 use std::alloc::Global;

@@ -3,7 +3,7 @@
 ghost use Rattle.std.specs.Prelude.{◌≡◌, ℕ, List, ◌∷◌, [], None, true, false, OnOk, OnErr, IfOk, IfErr};
 ghost use Rattle.std.specs.declared.net.socket_addr.SocketAddr.{SocketAddr as Address};
 ghost use Rattle.lk_types.specs.Ranges.{IsClient};
-ghost use Rattle.lk_replica.specs.Faults.{fault_number};
+ghost use Rattle.lk_recovery.specs.Faults.{fault_number};
 ghost use Rattle.lk_transport.specs.Addresses.{client_at, node_at, IsSameNetwork};
 ghost use Rattle.lk_server.specs.Gatherings.{Finds, HandsOnAll, SaysNothing};
 ghost use Rattle.lk_transport.specs.Posts.{all_taken_as};
@@ -17,7 +17,8 @@ use crate::node_replica::NodeReplica;
 use crate::notes::log_notes;
 use crate::pace::Pace;
 use crate::watching::log_carried;
-use lk_replica::{Group, ReplicaFault};
+use lk_recovery::ReplicaFault;
+use lk_replica::Group;
 use lk_transport::fault::ServiceFault;
 use lk_transport::network::Network;
 use lk_transport::post::SocketPost;

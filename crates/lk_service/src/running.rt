@@ -2,9 +2,9 @@
 
 ghost use Rattle.std.specs.Prelude.{◌≡◌, ◌≤◌, ◌^◌, ◌⊎◌, ℕ, List, IfOk, IfErr, OnOk, OnErr};
 ghost use Rattle.std.specs.declared.net.socket_addr.SocketAddr.{SocketAddr as Address};
-ghost use Rattle.lk_replica.specs.Faults.{fault_number};
+ghost use Rattle.lk_recovery.specs.Faults.{fault_number};
 ghost use Rattle.lk_replica.specs.ReplicaValue.{ReplicaValue};
-ghost use Rattle.lk_replica.specs.Revivals.{MayGoOn};
+ghost use Rattle.lk_replica.specs.Revived.{MayGoOn};
 ghost use Rattle.lk_transport.specs.Addresses.{IsSameNetwork};
 ghost use Rattle.lk_transport.specs.Posts.{all_taken_as};
 ghost use Rattle.lk_server.specs.Servers.{ServerValue, HasWaited, ServesOn, LastTurn};
@@ -20,7 +20,8 @@ use lk_disk::LogDisk;
 use lk_entries::Header;
 use lk_events::line::Observer;
 use lk_log::look;
-use lk_replica::{Replica, ReviveFault};
+use lk_recovery::ReviveFault;
+use lk_replica::Replica;
 use lk_server::metronome::Metronome;
 use lk_server::node_replica::NodeReplica;
 use lk_server::notes::log_notes;

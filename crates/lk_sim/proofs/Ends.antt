@@ -3,10 +3,9 @@ use Rattle.std.proofs.Common.{◌≡◌, ℕ, Option, Some, None, refl, sym, sub
 use Rattle.std.specs.Prelude.{List, [], ◌∷◌, map, take}
 use Rattle.lk_disk.specs.Memory.{Memory, empty}
 use Rattle.lk_replica.specs.Behaviours.{Behaviour}
-use Rattle.lk_replica.specs.Compacted.{IsStoreFault}
-use Rattle.lk_replica.specs.Faults.{fault_number, IsNumberOfCalls, IsNumberOfRevival}
-use Rattle.lk_replica.specs.declared.fault.ReplicaFault.{ReplicaFault}
-use Rattle.lk_replica.specs.declared.fault.ReplicaFault.TheVariants as fault
+use Rattle.lk_recovery.specs.Faults.{IsStoreFault, fault_number, IsNumberOfCalls, IsNumberOfRevival}
+use Rattle.lk_recovery.specs.declared.fault.ReplicaFault.{ReplicaFault}
+use Rattle.lk_recovery.specs.declared.fault.ReplicaFault.TheVariants as fault
 use Rattle.lk_step.specs.declared.note.Note.{Note}
 use Rattle.lk_sim.specs.Events.{IsNoWant, IsNumberOfEnd, IsToldEnd, end_by, end_at, IsGiven, IsGivenTogether, ComesUp, Brings, Does, Wants, IsRefused}
 use Rattle.lk_sim.specs.Groups.{given_by}

@@ -9,7 +9,7 @@ use Rattle.lk_node.specs.Holdings.{Holding}
 use Rattle.lk_node.specs.Leavings.{header_of, StandsAs}
 use Rattle.lk_node.specs.Served.{text}
 use Rattle.lk_replica.specs.Behaviours.{Behaviour, disks_by}
-use Rattle.lk_replica.specs.Compacting.{AllStandAt}
+use Rattle.lk_recovery.specs.Compacting.{AllStandAt}
 use Rattle.lk_sim.specs.Events.{Does, IsCompacted, IsPacked}
 use Rattle.lk_sim.specs.Kept.{disks_of}
 use Rattle.lk_sim.specs.Packed.{StandsPacked, LeavesPacked}

@@ -17,7 +17,7 @@ use Rattle.lk_node.specs.Histories.{Datagram, Genesis, RequestValue}
 use Rattle.lk_node.specs.Leavings.{header_of}
 use Rattle.lk_node.specs.Served.{IsOfNode}
 use Rattle.lk_replica.specs.Behaviours.{Behaviour}
-use Rattle.lk_replica.specs.Faults.{RefusedAfter}
+use Rattle.lk_recovery.specs.Faults.{RefusedAfter}
 use Rattle.lk_replica.specs.Together.{Said, sent_of}
 use Rattle.lk_sim.specs.Groups.{AreNotesOf, cut_short, given_by}
 use Rattle.lk_sim.specs.Heard.{Asks}

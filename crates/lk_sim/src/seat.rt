@@ -8,7 +8,7 @@ ghost use Rattle.lk_node.specs.Histories.{History, Genesis as GenesisValue, IsLa
 ghost use Rattle.lk_node.specs.Leavings.{header_of, DisksFit};
 ghost use Rattle.lk_node.specs.Calls.{heard_by, InputFits};
 ghost use Rattle.lk_replica.specs.Behaviours.{disks_by};
-ghost use Rattle.lk_replica.specs.Faults.{fault_number};
+ghost use Rattle.lk_recovery.specs.Faults.{fault_number};
 ghost use Rattle.lk_sim.specs.Events.{Breaks, StaysDown, IsNoWant, IsToldEnd, IsWant, SentUpTo, end_by, end_at};
 ghost use Rattle.lk_sim.specs.Rooms.{AreShort};
 ghost use Rattle.lk_sim.specs.Seats.{SeatFits, SeatGoes, IsTrapped, device_in, stopped_on};
@@ -19,7 +19,8 @@ ghost use Rattle.lk_sim.specs.declared.seat.Life.TheVariants.{Up, Down};
 use crate::end::End;
 use lk_disk::{MemoryDisk, Trap, Trapped};
 use lk_entries::Header;
-use lk_replica::{Datagram, MemoryReplica, ReplicaFault, Taken};
+use lk_recovery::ReplicaFault;
+use lk_replica::{Datagram, MemoryReplica, Taken};
 use lk_step::{Input, Note};
 use lk_types::{Genesis, NoMemory, NodeNo};
 use std::alloc::Global;

@@ -5,7 +5,7 @@ use crate::digits::bytes_of;
 use crate::node_turns::{Locks, header};
 use lk_disk::MemoryDisk;
 use lk_locks::LockTable;
-use lk_replica::ReviveFault;
+use lk_recovery::ReviveFault;
 use lk_server::metronome::Metronome;
 use lk_server::node_replica::NodeReplica;
 use lk_server::pace::Pace;

@@ -4,7 +4,7 @@ ghost use Rattle.std.specs.Prelude.{◌≡◌};
 
 use lk_disk::CannotOpen;
 use lk_log::StoreFault;
-use lk_replica::ReplicaFault;
+use lk_recovery::ReplicaFault;
 use lk_state::UnpackFault;
 use lk_types::NoMemory;
 use std::alloc::{AllocError, AllocFailed};

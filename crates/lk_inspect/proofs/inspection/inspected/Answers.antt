@@ -2,7 +2,7 @@ use Rattle.std.proofs.Common.{◌∙◌, ◌++◌, List, length, ap}
 use Rattle.std.specs.FinMap as map
 use Rattle.lk_members.specs.Effects.{Command}
 use Rattle.lk_state.specs.States.{WholeValue}
-use Rattle.lk_replica.specs.Revivals.{run_from}
+use Rattle.lk_recovery.specs.Revivals.{run_from}
 use Rattle.lk_locks.specs.Held.{held_in}
 use Rattle.lk_locks.specs.Meaning.{table_meaning}
 use Rattle.lk_locks.specs.Plain.{Table}

@@ -1,5 +1,5 @@
 use Rattle.std.proofs.Common.{◌≡◌, drop}
-use Rattle.lk_replica.specs.Revivals.{run_from, all_ran}
+use Rattle.lk_recovery.specs.Revivals.{run_from, all_ran}
 use Rattle.lk_locks.specs.Meaning.{table_meaning}
 use Rattle.lk_inspect.proofs.state.run_on.Given as goal
 

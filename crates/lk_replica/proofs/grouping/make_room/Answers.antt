@@ -4,11 +4,9 @@ use Rattle.lk_log.specs.StoreValue.{disks}
 use Rattle.lk_state.specs.Meanings.{Meaning}
 use Rattle.lk_replica.proofs.Grouped.{of_store_too, no_room_made, room_made, begin_fits, begun, settled_keeps, settled_fits, settled_covers, settle_leaves, settle_covers, same_recalls, same_group_fits, same_group_stays, same_group_covers}
 use Rattle.lk_log.proofs.Room.{within_first, within_more}
-use Rattle.lk_replica.proofs.Rebasing.{goes_fits, same_room}
-use Rattle.lk_replica.specs.Compacting.{IsDue}
-use Rattle.lk_replica.proofs.Calling.{err_as, refused_on}
+use Rattle.lk_recovery.proofs.Recoveries.{goes_fits, same_room, err_as, refused_on, spared_all, kept_then}
+use Rattle.lk_recovery.specs.Compacting.{IsDue}
 use Rattle.lk_replica.proofs.Refusals.{store_told, store_only, store_awake}
-use Rattle.lk_replica.proofs.Spared.{spared_all, kept_then}
 use Rattle.lk_replica.proofs.grouping.make_room.Goals as goal
 
 -- ---- none is due

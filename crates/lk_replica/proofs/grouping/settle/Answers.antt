@@ -3,8 +3,7 @@ use Rattle.lk_log.specs.StoreValue.{disks}
 use Rattle.lk_log.proofs.Room.{within_same}
 use Rattle.lk_log.proofs.StoreLaws.{holds_keeps}
 use Rattle.lk_replica.proofs.Grouped.{settled_none, settled_once}
-use Rattle.lk_replica.proofs.Calling.{err_as, refused_after}
-use Rattle.lk_replica.proofs.Spared.{sync_refused, sync_spares, sync_not_failed}
+use Rattle.lk_recovery.proofs.Recoveries.{err_as, refused_after, sync_refused, sync_spares, sync_not_failed}
 use Rattle.lk_replica.proofs.grouping.settle.Goals as goal
 
 pub returns-then-not-waits-clause-any : goal.returns-then-not-waits-clause-any

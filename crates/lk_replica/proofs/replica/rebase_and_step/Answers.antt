@@ -3,10 +3,8 @@ use Rattle.lk_log.specs.StoreValue.{disks}
 use Rattle.lk_log.proofs.Room.{within_first, refused_room}
 use Rattle.lk_replica.proofs.replica.rebase_and_step.Goals as goal
 use Rattle.lk_disk.proofs.Devices.{passes_on}
-use Rattle.lk_replica.proofs.Calling.{err_as, refused_on}
-use Rattle.lk_replica.proofs.Growing.{grown_then}
+use Rattle.lk_recovery.proofs.Recoveries.{err_as, refused_on, grown_then, spared_more, left_after, file_after, second_after}
 use Rattle.lk_replica.proofs.Refusals.{store_told, store_only, store_awake}
-use Rattle.lk_replica.proofs.Spared.{spared_more, left_after, file_after, second_after}
 
 pub returns-clause-goes : goal.returns-clause-goes
 returns-clause-goes g c honest h n f heard =

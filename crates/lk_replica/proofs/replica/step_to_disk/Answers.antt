@@ -11,16 +11,13 @@ use Rattle.lk_node.specs.Calls.{Goes}
 use Rattle.lk_node.specs.Keeping.{Stands}
 use Rattle.lk_node.specs.NodeValue.{NodeValue}
 use Rattle.lk_replica.proofs.Behind.{still_keeps, still_remembers, sent_is_covered, stepped_fits, installed_goes}
-use Rattle.lk_replica.proofs.Going.{put_leaves, put_goes, remembered, step_keeps, step_remembers, step_syncs, step_covers}
+use Rattle.lk_replica.proofs.Going.{put_leaves, put_goes, remembered, step_keeps, step_remembers, step_syncs, step_covers, put_written, base_written}
 use Rattle.lk_replica.proofs.replica.step_to_disk.Goals as goal
 use Rattle.lk_node.proofs.Nodes.{few_entries}
 use Rattle.lk_disk.specs.Meters.{start}
-use Rattle.lk_replica.specs.declared.fault.ReplicaFault.TheVariants as fault
-use Rattle.lk_replica.proofs.Calling.{err_as, refused_after, put_written, base_written}
-use Rattle.lk_replica.proofs.Compactions.{put_refused}
-use Rattle.lk_replica.proofs.Growing.{grown_none, grown_base, grown_put, grown_less}
+use Rattle.lk_recovery.specs.declared.fault.ReplicaFault.TheVariants as fault
+use Rattle.lk_recovery.proofs.Recoveries.{err_as, refused_after, put_refused, grown_none, grown_base, grown_put, grown_less, put_spares, not_failed_so}
 use Rattle.lk_replica.proofs.Refusals.{store_told, store_only, store_awake}
-use Rattle.lk_replica.proofs.Spared.{put_spares, not_failed_so}
 
 -- ---- a step whose entries were put
 

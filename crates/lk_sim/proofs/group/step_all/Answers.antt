@@ -4,7 +4,7 @@ use Rattle.lk_node.specs.Calls.{heard_by}
 use Rattle.lk_node.specs.Leavings.{DisksFit}
 use Rattle.lk_replica.specs.Behaviours.{disks_by}
 use Rattle.lk_replica.specs.Together.{GoesAll, parts_of}
-use Rattle.lk_replica.specs.Faults.{fault_number, RefusedAfter}
+use Rattle.lk_recovery.specs.Faults.{fault_number, RefusedAfter}
 use Rattle.lk_sim.specs.Events.{BreaksTogether}
 use Rattle.lk_sim.specs.Outcomes.{HasWanted}
 use Rattle.lk_sim.specs.Rooms.{AreShort}

@@ -7,7 +7,7 @@ use Rattle.lk_state.specs.Meanings.{Meaning}
 use Rattle.lk_node.specs.Calls.{NodeFits, Goes}
 use Rattle.lk_node.specs.Keeping.{Stands}
 use Rattle.lk_node.specs.Leavings.{DisksFit, AllCover}
-use Rattle.lk_replica.specs.Compacting.{AllStandAt}
+use Rattle.lk_recovery.specs.Compacting.{AllStandAt}
 use Rattle.lk_replica.proofs.Compactions.{compacted, refused, told, calls_ok, calls_err}
 use Rattle.lk_replica.proofs.Going.{remembered}
 use Rattle.lk_replica.proofs.OnDevices.{on_device, off_device}

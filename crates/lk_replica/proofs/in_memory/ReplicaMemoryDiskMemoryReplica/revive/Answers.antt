@@ -19,8 +19,9 @@ use Rattle.lk_node.specs.Keeping.{Stands}
 use Rattle.lk_node.specs.Histories.{History}
 use Rattle.lk_node.specs.Leavings.{header_of, DisksFit, AllCover}
 use Rattle.lk_node.specs.Served.{text}
-use Rattle.lk_replica.specs.Faults.{fault_number, failures_by, RefusedAfter, IsNumberOfRevival}
-use Rattle.lk_replica.specs.Revivals.{IsRefusedFor, IsNotRevived, CallsOfRevival}
+use Rattle.lk_recovery.specs.Faults.{fault_number, failures_by, RefusedAfter, IsNumberOfRevival}
+use Rattle.lk_recovery.specs.Revivals.{IsRefusedFor, CallsOfRevival}
+use Rattle.lk_replica.specs.Revived.{IsNotRevived}
 use Rattle.lk_replica.proofs.OnDevices.{on_device}
 use Rattle.lk_replica.proofs.in_memory.ReplicaMemoryDiskMemoryReplica.revive.Goals as goal
 

@@ -9,10 +9,10 @@ use Rattle.lk_node.specs.Calls.{NodeFits, Goes}
 use Rattle.lk_node.specs.Histories.{Datagram}
 use Rattle.lk_node.specs.Keeping.{Stands}
 use Rattle.lk_node.specs.Leavings.{DisksFit, AllCover}
-use Rattle.lk_replica.specs.Faults.{fault_number, IsNumberOfCalls}
+use Rattle.lk_recovery.specs.Faults.{fault_number, IsNumberOfCalls}
 use Rattle.lk_replica.specs.Posts.{CollectedValue}
 use Rattle.lk_replica.specs.Taking.{IsOfLast, IsRefused}
-use Rattle.lk_replica.proofs.Calling.{err_as}
+use Rattle.lk_recovery.proofs.Recoveries.{err_as}
 use Rattle.lk_replica.proofs.Going.{remembered}
 use Rattle.lk_replica.proofs.OnDevices.{on_device, off_device}
 use Rattle.lk_replica.proofs.in_memory.ReplicaMemoryDiskMemoryReplica.take.Goals as goal

@@ -14,12 +14,12 @@ use Rattle.lk_step.specs.declared.input.Input.{Input}
 use Rattle.lk_node.specs.Calls.{heard_by, InputFits, NodeFits}
 use Rattle.lk_node.specs.Keeping.{Stands}
 use Rattle.lk_node.specs.Leavings.{DisksFit, AllCover}
-use Rattle.lk_replica.specs.Faults.{fault_number, RefusedAfter, IsNumberOfCalls}
+use Rattle.lk_recovery.specs.Faults.{fault_number, RefusedAfter, IsNumberOfCalls}
 use Rattle.lk_replica.specs.Groups.{GroupValue, IsSettled, LeavesInGroup, gather_calls, settle_calls}
 use Rattle.lk_replica.specs.ReplicaValue.{ReplicaValue}
 use Rattle.lk_replica.specs.Together.{IsTogetherRefused}
 use Rattle.lk_replica.specs.declared.taken.Step.{Step}
-use Rattle.lk_replica.proofs.Calling.{err_as}
+use Rattle.lk_recovery.proofs.Recoveries.{err_as}
 use Rattle.lk_replica.proofs.Going.{remembered}
 use Rattle.lk_replica.proofs.OnDevices.{on_device, off_device}
 use Rattle.lk_replica.proofs.TakenTogether.{TakenSoFar, taken_nothing, one_taken, refused_further, refused_in_all, taken_in_all, gone_in_all, covered_in_all}

@@ -5,12 +5,10 @@ use Rattle.lk_state.specs.Meanings.{Meaning}
 use Rattle.lk_log.proofs.Room.{within_same}
 use Rattle.lk_disk.specs.Meters.{start}
 use Rattle.lk_replica.specs.Compacted.{IsNotCompacted}
-use Rattle.lk_replica.specs.Faults.{fault_number}
-use Rattle.lk_replica.specs.Rebased.{StandsOnBase, HasGoneOver}
+use Rattle.lk_recovery.specs.Faults.{fault_number}
+use Rattle.lk_recovery.specs.Rebased.{StandsOnBase, HasGoneOver, LeavesDisks}
 use Rattle.lk_replica.specs.ReplicaValue.{ReplicaValue}
-use Rattle.lk_replica.specs.Taking.{LeavesDisks}
-use Rattle.lk_replica.proofs.Growing.{grown_none}
-use Rattle.lk_replica.proofs.Rebasing.{leaves_safe}
+use Rattle.lk_recovery.proofs.Recoveries.{grown_none, leaves_safe}
 use Rattle.lk_replica.proofs.Refusals.{not_compacted_by_parts}
 use Rattle.lk_replica.proofs.replica.Replica.compact.Goals as goal
 

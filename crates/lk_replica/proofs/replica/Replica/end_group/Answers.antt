@@ -3,12 +3,12 @@ use Rattle.std.specs.Prelude.{IfErr, ⊤}
 use Rattle.lk_disk.specs.Meters.{start}
 use Rattle.lk_log.specs.StoreValue.{disks}
 use Rattle.lk_log.proofs.Room.{within_same}
-use Rattle.lk_replica.specs.Faults.{fault_number}
+use Rattle.lk_recovery.specs.Faults.{fault_number}
 use Rattle.lk_replica.specs.Groups.{IsRefusedInGroup, IsSettled, LeavesInGroup}
 use Rattle.lk_replica.specs.ReplicaValue.{ReplicaValue}
 use Rattle.lk_replica.proofs.Grouped.{ended_in_group, group_refused}
 use Rattle.lk_replica.proofs.Refusals.{store_told, store_only, store_awake}
-use Rattle.lk_replica.proofs.Spared.{spared_all}
+use Rattle.lk_recovery.proofs.Recoveries.{spared_all}
 use Rattle.lk_replica.proofs.replica.Replica.end_group.Goals as goal
 
 pub invariant_of-self-2 : goal.invariant_of-self-2

@@ -1,7 +1,7 @@
 use Rattle.std.proofs.Common.{◌≡◌, inl, inr, true, false, refl, sym, ap, subst, ◌∙◌, arith}
 use Rattle.std.specs.Prelude.{IfErr}
 use Rattle.lk_disk.specs.Meters.{start}
-use Rattle.lk_replica.specs.Faults.{fault_number}
+use Rattle.lk_recovery.specs.Faults.{fault_number}
 use Rattle.lk_log.specs.StoreValue.{disks}
 use Rattle.lk_log.proofs.Room.{within_same}
 use Rattle.lk_step.specs.Letters.{batch_of}
@@ -9,8 +9,8 @@ use Rattle.lk_node.specs.Calls.{InputFits, NodeFits}
 use Rattle.lk_node.specs.Keeping.{Stands}
 use Rattle.lk_replica.specs.Groups.{IsGathered, IsRefusedInGroup, KeepsGroup, LeavesInGroup, as_sent, Recalls}
 use Rattle.lk_replica.specs.ReplicaValue.{ReplicaValue}
-use Rattle.lk_replica.specs.Rooms.{GrowsFromBase}
-use Rattle.lk_replica.proofs.Growing.{grown_none}
+use Rattle.lk_recovery.specs.Rooms.{GrowsFromBase}
+use Rattle.lk_recovery.proofs.Recoveries.{grown_none}
 use Rattle.lk_replica.proofs.Grouped.{group_refused, as_gathered, goes_as_sent}
 use Rattle.lk_replica.proofs.replica.Replica.gather.Goals as goal
 

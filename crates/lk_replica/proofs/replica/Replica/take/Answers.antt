@@ -7,16 +7,17 @@ use Rattle.lk_node.specs.Calls.{InputFits, NodeFits, Goes}
 use Rattle.lk_node.specs.Keeping.{Stands}
 use Rattle.lk_replica.specs.Posts.{CarriesAll, SendsSome}
 use Rattle.lk_replica.specs.ReplicaValue.{ReplicaValue}
-use Rattle.lk_replica.specs.Compacting.{RebasesWhereDue}
-use Rattle.lk_replica.specs.Taking.{CallsOfStep, IsRefused, LeavesDisks}
+use Rattle.lk_recovery.specs.Compacting.{RebasesWhereDue}
+use Rattle.lk_replica.specs.Taking.{CallsOfStep, IsRefused}
+use Rattle.lk_recovery.specs.Rebased.{LeavesDisks}
 use Rattle.lk_replica.proofs.NoSend.{goes_not}
-use Rattle.lk_replica.proofs.Growing.{grown_none}
+use Rattle.lk_recovery.proofs.Recoveries.{grown_none}
 use Rattle.lk_replica.proofs.Refusals.{refused_by_parts}
 use Rattle.lk_log.proofs.Room.{within_same}
 use Rattle.lk_replica.proofs.replica.Replica.take.Goals as goal
 use Rattle.lk_disk.specs.Meters.{start}
-use Rattle.lk_replica.specs.Remembering.{Remembers}
-use Rattle.lk_replica.specs.Faults.{fault_number}
+use Rattle.lk_recovery.specs.Remembering.{Remembers}
+use Rattle.lk_recovery.specs.Faults.{fault_number}
 
 pub returns-then-self-clause-gives : goal.returns-then-self-clause-gives
 returns-then-self-clause-gives g c = record {

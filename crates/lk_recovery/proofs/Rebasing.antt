@@ -1,0 +1,375 @@
+-- What a rebase leaves of a node and its store: the new Base covers what the old entries covered, and fits as they did.
+use Rattle.std.proofs.Common.{◌≡◌, ℕ, ◌+◌, ◌<◌, ◌≤◌, inl, inr, Bool, true, false, cond, List, [], ◌∷◌, map, length, Contains, refl, sym, ◌∙◌, ap, subst, subst₂, arith}
+use Rattle.std.specs.Prelude.{⊤}
+use Rattle.lk_types.specs.BallotValue.{BallotValue}
+use Rattle.lk_types.specs.Ballots.{IsAtMost, is_below}
+use Rattle.lk_types.specs.declared.vote.Vote.{Vote}
+use Rattle.lk_types.proofs.Values.{below_by_test}
+use Rattle.lk_wire.specs.declared.message.NodeMessage.{NodeMessage}
+use Rattle.lk_wire.specs.declared.message.NodeMessage.TheVariants as kinds
+use Rattle.lk_disk.specs.Disk.{Disk, contents}
+use Rattle.lk_disk.specs.Meters.{Passes}
+use Rattle.lk_disk.proofs.Devices.{passes_on}
+use Rattle.lk_entries.specs.Standings.{greater, greatest_of, ballot_of, of_base, HasHeader, StandsFor}
+use Rattle.lk_entries.specs.Entries.{plain}
+use Rattle.lk_entries.specs.Values.{BaseValue}
+use Rattle.lk_entries.specs.declared.stored.Stored.{Stored}
+use Rattle.lk_entries.specs.declared.stored.Stored.TheVariants.{Base}
+use Rattle.lk_log.specs.Causes.{rebase_calls}
+use Rattle.lk_log.specs.StoreValue.{StoreValue, pick, disks}
+use Rattle.lk_log.specs.Stores.{HoldsOn, Holds, MayBegin, next_base, KeepsOrIs}
+use Rattle.lk_log.specs.Rooms.{StaysWithin}
+use Rattle.lk_log.proofs.Room.{within_same, within_first}
+use Rattle.lk_log.proofs.StoreLaws.{rising_stands, one_standing, one_header, of_every, synced_live, rebase_every}
+use Rattle.lk_state.specs.Meanings.{Meaning}
+use Rattle.lk_state.specs.Packed.{packed}
+use Rattle.lk_agreement.specs.Acceptors.{AcceptorState, Covers, AreProposed, TakesSnapshot}
+use Rattle.lk_agreement.specs.Changes.{view_with, packs}
+use Rattle.lk_agreement.proofs.Histories.{at_most_below, below_self, change_fits}
+use Rattle.lk_acceptor.specs.States.{IsOrdered, without_votes_to}
+use Rattle.lk_acceptor.proofs.Acceptors.{takes_snapshot}
+use Rattle.lk_learner.specs.Learners.{executed}
+use Rattle.lk_learner.proofs.Learnerships.{executed_is, here_follows}
+use Rattle.lk_node.specs.Calls.{NodeFits, Goes}
+use Rattle.lk_node.specs.Entries.{EntriesFit}
+use Rattle.lk_node.specs.Histories.{History, Genesis, IsLawful}
+use Rattle.lk_node.specs.Holdings.{Holding, HoldingFits}
+use Rattle.lk_node.specs.Keeping.{IsKnown, Keeps, Stands}
+use Rattle.lk_node.specs.Leavings.{header_of, acceptor_of, DisksFit, AllCover}
+use Rattle.lk_node.specs.NodeValue.{NodeValue}
+use Rattle.lk_node.specs.Packing.{standing_of, standing_here}
+use Rattle.lk_node.specs.Served.{text}
+use Rattle.lk_node.proofs.Nodes.{contains_more}
+use Rattle.lk_recovery.proofs.Growing.{grown_base}
+use Rattle.lk_recovery.specs.Compacting.{AllStandAt, IsDue, IsSameStore}
+use Rattle.lk_recovery.specs.Rebased.{HasGoneOver, StaysSafe, IsReadyToStep, LeavesDisks}
+use Rattle.lk_recovery.specs.Remembering.{Remembers}
+use Rattle.lk_recovery.proofs.Adding.{adds}
+use Rattle.lk_recovery.proofs.Images.{known_rests, EntriesCover, fit_entries, entries_fit, cover_entries, entries_cover, cover_disks, none_asked, cover_more}
+use Rattle.lk_recovery.proofs.Ordered.{standing_ordered}
+use Rattle.lk_recovery.proofs.Revivals.{nothing_later}
+
+-- ---- ballots
+
+greater_stays : (b c : BallotValue) → IsAtMost c b → greater b c ≡ b
+greater_stays b c most = by_test (is_below b c) refl
+  where
+    by_test : (t : Bool) → is_below b c ≡ t → cond t c b ≡ b
+    by_test true e = absurd (below_self c (at_most_below c b c most (below_by_test b c e)))
+    by_test false e = refl
+
+-- no vote is in a greater ballot than the promised one
+greatest_stays : (b : BallotValue) (vs : List Vote) → ((v : Vote) → Contains vs v → IsAtMost v.ballot b) → greatest_of b (map ballot_of vs) ≡ b
+greatest_stays b [] all = refl
+greatest_stays b (v ∷ vs) all =
+    ap (λ (g : BallotValue). greatest_of g (map ballot_of vs)) (greater_stays b v.ballot (all v (0, omega arith, refl)))
+    ∙ greatest_stays b vs (λ w c. all w (contains_more v vs w c))
+
+base_is : (b : BaseValue) → ((v : Vote) → Contains b.standing.votes v → IsAtMost v.ballot b.standing.promised) → of_base b ≡ b.standing
+base_is b all = ap (λ (g : BallotValue). record b.standing { promised = g }) (greatest_stays b.standing.promised b.standing.votes all)
+
+-- ---- a snapshot covers what the votes covered whose place it takes
+
+pub snapshot_covers : (old new : AcceptorState) (i : ℕ) → TakesSnapshot old i new → (x : NodeMessage) → Covers old x → Covers new x
+snapshot_covers old new i t (kinds.Prepare b first) c = subst (IsAtMost b) (sym t.promised) c
+snapshot_covers old new i t (kinds.Promise p) c = subst (IsAtMost p.ballot) (sym t.promised) c
+snapshot_covers old new i t (kinds.Accept v) c = subst (IsAtMost v.ballot) (sym t.promised) c
+snapshot_covers old new i t (kinds.Accepted v) c = (
+  subst (IsAtMost v.ballot) (sym t.promised) c.0,
+  elim c.1 [
+    | inl under ↦ inl (omega (arith, under, t.later, t.snapshot))
+    | inr y ↦ elim (t.above y.0 y.1) [ inl under ↦ inl (omega (arith, under, y.2, t.snapshot)) | inr kept ↦ inr (y.0, kept, y.2, y.3) ]
+  ],
+)
+snapshot_covers old new i t (kinds.Nack k) c = c
+snapshot_covers old new i t (kinds.Decided d) c = c
+snapshot_covers old new i t (kinds.Want k) c = c
+snapshot_covers old new i t (kinds.Part p) c = c
+snapshot_covers old new i t (kinds.Answer k) c = c
+snapshot_covers old new i t (kinds.Elsewhere k) c = c
+snapshot_covers old new i t (kinds.Passed p) c = c
+snapshot_covers old new i t (kinds.Lead b k) c = c
+
+-- ---- the new Base
+
+module _ (m : Meaning) (genesis : Genesis) (n : ℕ) (node : NodeValue) (old new : StoreValue) (keeps : Keeps (header_of genesis n) old node.acceptor.state)
+    (may : MayBegin (standing_of node)) (within : node.acceptor.state.snapshot_position ≤ executed node.learner) where
+  abbrev base : BaseValue
+  base = next_base old (standing_of node)
+
+  takes : TakesSnapshot node.acceptor.state (executed node.learner) (without_votes_to node.acceptor.state (executed node.learner))
+  takes = takes_snapshot node.acceptor.state (executed node.learner) within
+
+  ordered : (v : Vote) → Contains node.acceptor.state.votes v → IsAtMost v.ballot node.acceptor.state.promised
+  ordered = (subst IsOrdered keeps.remembers (standing_ordered keeps.entries keeps.standing keeps.stands)).promised
+
+  pub base_stands : StandsFor (Base base ∷ []) (standing_of node)
+  base_stands = subst (StandsFor (Base base ∷ [])) (base_is base (λ v c. ordered v (takes.only v c))) (rising_stands base may.votes_rise may.pairs_rise)
+
+  base_header : base.header ≡ header_of genesis n
+  base_header = one_header keeps.entries old.header (header_of genesis n) keeps.holds.header_is keeps.header
+
+  -- ---- whatever has happened
+
+  pub base_covers : (y : NodeMessage) → Covers node.acceptor.state y → EntriesCover genesis n y (Base base ∷ [])
+  base_covers y c = (base_header, (standing_of node, base_stands, snapshot_covers node.acceptor.state (without_votes_to node.acceptor.state (executed node.learner)) (executed node.learner) takes y c))
+
+  -- after any exit of a rebase every image covers what every image covered
+  pub rebase_covers : KeepsOrIs (disks new) keeps.entries (plain keeps.loose) base → (y : NodeMessage) → AllCover m genesis n (disks old) y → AllCover m genesis n (disks new) y
+  rebase_covers left y c =
+      let every = cover_entries m genesis n (disks old) y c in
+      let ks : EntriesCover genesis n y keeps.entries = of_every (EntriesCover genesis n y) old keeps.entries (plain keeps.loose) (header_of genesis n) (text m genesis []) keeps.holds every in
+      let same : acceptor_of ks.1.0 ≡ node.acceptor.state = ap acceptor_of (one_standing keeps.entries ks.1.0 keeps.standing ks.1.1 keeps.stands) ∙ keeps.remembers in
+      entries_cover m genesis n (disks new) y
+      (rebase_every (EntriesCover genesis n y) (λ e. Unit {0}) old new keeps.entries (plain keeps.loose) keeps.loose base (header_of genesis n) (text m genesis []) keeps.holds refl left
+      (cover_more genesis n y) (none_asked keeps.loose) (base_covers y (subst (λ (a : AcceptorState). Covers a y) same ks.1.2)) every)
+
+  -- where it was made every image covers what the node does
+  pub rebase_syncs : Holds new (Base base ∷ []) [] → (y : NodeMessage) → Covers node.acceptor.state y → AllCover m genesis n (disks new) y
+  rebase_syncs holds y c = cover_disks m genesis n new (Base base ∷ []) [] y holds (base_covers y c)
+
+  -- and the store keeps what the acceptor then holds
+  pub rebase_keeps : node.header ≡ header_of genesis n → Holds new (Base base ∷ []) [] → Remembers (standing_here node) new genesis n
+  rebase_keeps whose holds = record {
+    whose = whose;
+    keeps = record {
+      entries = Base base ∷ [];
+      loose = [];
+      holds = holds;
+      decided = tt;
+      header = base_header;
+      standing = standing_of node;
+      stands = base_stands;
+      remembers = refl;
+    };
+  }
+
+module _ (m : Meaning) (genesis : Genesis) (n : ℕ) (node : NodeValue) (old new : StoreValue) (x : Holding) (shown : Stands m node old genesis n x)
+    (may : MayBegin (standing_of node)) (within : node.acceptor.state.snapshot_position ≤ executed node.learner) where
+  -- what the node then holds
+  abbrev pub here : Holding
+  here = record { view = view_with x.view (without_votes_to x.view.acceptor (executed node.learner)); waiting = x.waiting; gathered = x.gathered }
+
+  pub rebase_stands : Holds new (Base (next_base old (standing_of node)) ∷ []) [] → Stands m (standing_here node) new genesis n here
+  unfolding rebase_keeps
+  rebase_stands holds = record {
+    whose = shown.whose;
+    keeps = (rebase_keeps m genesis n node old new shown.keeps may within shown.whose holds).keeps;
+    known = tt;
+    held = record {
+      acceptor = ap (λ (a : AcceptorState). without_votes_to a (executed node.learner)) shown.held.acceptor;
+      follows = here_follows m genesis x.view.done x.view.pairs node.learner shown.held.follows;
+      leads = shown.held.leads;
+      waiting = shown.held.waiting;
+      gathered = shown.held.gathered;
+    };
+  }
+
+-- ---- in a history
+
+module _ (m : Meaning) (h : History) (n : ℕ) (node : NodeValue) (old new : StoreValue) (x : Holding) (shown : Stands m node old h.genesis n x)
+    (may : MayBegin (standing_of node)) (within : node.acceptor.state.snapshot_position ≤ executed node.learner) (lawful : IsLawful m h) (fits : HoldingFits m h n x) where
+  far : executed node.learner ≡ length x.view.done
+  far = executed_is m h.genesis x.view.done node.learner.whole shown.held.follows.sums
+
+  -- the snapshot and the votes above it fit
+  pub base_fits : EntriesFit m h n (Base (next_base old (standing_of node)) ∷ [])
+  base_fits = record {
+    standing = standing_of node;
+    header = base_header m h.genesis n node old new shown.keeps may within;
+    stands = base_stands m h.genesis n node old new shown.keeps may within;
+    under = x.view.done;
+    position = sym far;
+    snapshot = ap packed shown.held.follows.sums;
+    covers = λ y sent. snapshot_covers node.acceptor.state (without_votes_to node.acceptor.state (executed node.learner)) (executed node.learner) (takes m h.genesis n node old new shown.keeps may within) y
+        (subst (λ (a : AcceptorState). Covers a y) shown.held.acceptor (fits.view.covers y sent));
+    stems = record {
+      votes = λ v c. subst (AreProposed h.genesis h.sent) shown.held.acceptor fits.view.stems.votes v ((takes m h.genesis n node old new shown.keeps may within).only v c);
+      done = fits.view.stems.done;
+      snapshot = omega (arith, far);
+      pairs = λ i v c. fits.view.stems.pairs i v (shown.held.follows.known (i, v) c);
+    };
+  }
+
+  -- after any exit of a rebase every image fits
+  pub rebase_fits : KeepsOrIs (disks new) shown.keeps.entries (plain shown.keeps.loose) (next_base old (standing_of node)) → DisksFit m h n (disks old) → DisksFit m h n (disks new)
+  rebase_fits keeps left =
+      entries_fit m h n (disks new)
+      (rebase_every (EntriesFit m h n) (IsKnown x.view) old new shown.keeps.entries (plain shown.keeps.loose) shown.keeps.loose (next_base old (standing_of node)) (header_of h.genesis n) (text m h.genesis []) shown.keeps.holds refl keeps
+      (λ es e k f. adds m h n es e (known_rests h n x.view fits.view e k) f) shown.known base_fits (fit_entries m h n (disks old) left))
+
+  pub here_fits : HoldingFits m h n (here m h.genesis n node old new x shown may within)
+  here_fits = record {
+    view = change_fits h.genesis h.sent lawful.sound n x.view (view_with x.view (without_votes_to x.view.acceptor (executed node.learner))) fits.view
+        (packs (executed node.learner) (without_votes_to x.view.acceptor (executed node.learner)) (omega (arith, far))
+        (takes_snapshot x.view.acceptor (executed node.learner) (omega (arith, far, fits.view.stems.snapshot))));
+    waiting = fits.waiting;
+    proposals = fits.proposals;
+    gathered = fits.gathered;
+  }
+
+  -- where it was made the node goes on, with nothing noted and nothing sent
+  pub rebase_goes : Holds new (Base (next_base old (standing_of node)) ∷ []) [] → DisksFit m h n (disks new) → Goes m h n (Stands m (standing_here node) new h.genesis n) (disks new) [] []
+  rebase_goes holds left = record {
+    holding = here m h.genesis n node old new x shown may within;
+    shown = rebase_stands m h.genesis n node old new x shown may within holds;
+    fits = here_fits;
+    may = λ d c. absurd (omega (arith, c.1));
+    noted = λ y c. absurd (omega (arith, c.1));
+    left = nothing_later m h n (disks new) left;
+  }
+
+-- each image then stands for the snapshot
+module _ (m : Meaning) (genesis : Genesis) (n : ℕ) (node : NodeValue) (old new : StoreValue) (x : Holding) (shown : Stands m node old genesis n x)
+    (may : MayBegin (standing_of node)) (within : node.acceptor.state.snapshot_position ≤ executed node.learner) where
+  pub all_stand : Holds new (Base (next_base old (standing_of node)) ∷ []) [] → AllStandAt m genesis n (disks new) (executed node.learner) x.view.done
+  all_stand holds image left =
+      let live = synced_live new (Base (next_base old (standing_of node)) ∷ []) holds image left in (
+        standing_of node,
+        record { entries = Base (next_base old (standing_of node)) ∷ []; found = inl live; header = base_header m genesis n node old new shown.keeps may within; stands = base_stands m genesis n node old new shown.keeps may within },
+        refl,
+        sym (executed_is m genesis x.view.done node.learner.whole shown.held.follows.sums),
+        ap packed shown.held.follows.sums,
+      )
+
+-- ---- a store that stays as it was
+
+module _ (m : Meaning) (old new : StoreValue) (same : IsSameStore old new) where
+  same_disks : disks new ≡ disks old
+  same_disks = λ i. pick (same.live i) (same.live_disk i) (same.other_disk i)
+
+  pub same_holds : (ks ls : List Stored) → Holds old ks ls → Holds new ks ls
+  same_holds ks ls h = record {
+    on = subst₂ (λ (d o : Disk). HoldsOn d o ks ls) (sym same.live_disk) (sym same.other_disk) h.on;
+    generation_is = same.generation ∙ h.generation_is;
+    format_is = same.format ∙ h.format_is;
+    header_is = subst (HasHeader ks) (sym same.header) h.header_is;
+  }
+
+  abbrev pub same_remembers : (node : NodeValue) (genesis : Genesis) (n : ℕ) → Remembers node old genesis n → Remembers node new genesis n
+  same_remembers node genesis n s = record {
+    whose = s.whose;
+    keeps = record {
+      entries = s.keeps.entries;
+      loose = s.keeps.loose;
+      holds = same_holds s.keeps.entries (plain s.keeps.loose) s.keeps.holds;
+      decided = s.keeps.decided;
+      header = s.keeps.header;
+      standing = s.keeps.standing;
+      stands = s.keeps.stands;
+      remembers = s.keeps.remembers;
+    };
+  }
+
+  pub same_stands : (node : NodeValue) (genesis : Genesis) (n : ℕ) (x : Holding) → Stands m node old genesis n x → Stands m node new genesis n x
+  same_stands node genesis n x s = record {
+    whose = s.whose;
+    keeps = (same_remembers node genesis n (record { whose = s.whose; keeps = s.keeps })).keeps;
+    known = s.known;
+    held = s.held;
+  }
+
+  pub same_fit : (h : History) (n : ℕ) → DisksFit m h n (disks old) → DisksFit m h n (disks new)
+  same_fit h n = subst (DisksFit m h n) (sym same_disks)
+
+  pub same_cover : (genesis : Genesis) (n : ℕ) (x : NodeMessage) → AllCover m genesis n (disks old) x → AllCover m genesis n (disks new) x
+  same_cover genesis n x = subst (λ d. AllCover m genesis n d x) (sym same_disks)
+
+  pub same_room : StaysWithin 49152 (disks old) (disks new)
+  same_room = subst (λ d. StaysWithin 49152 (disks old) d) (sym same_disks) (within_same 49152 (disks old) (disks old) (λ s. refl))
+
+  pub same_node_fits : (node : NodeValue) (h : History) (n : ℕ) → NodeFits m h n (Stands m node old h.genesis n) (disks old) → NodeFits m h n (Stands m node new h.genesis n) (disks new)
+  same_node_fits node h n f = record { lawful = f.lawful; holding = f.holding; shown = same_stands node h.genesis n f.holding f.shown; fits = f.fits; left = same_fit h n f.left }
+
+-- a node that went on with nothing noted and nothing sent fits again
+pub goes_fits : (m : Meaning) (h : History) (n : ℕ) (node : NodeValue) (store : StoreValue) → IsLawful m h → DisksFit m h n (disks store) → Goes m h n (Stands m node store h.genesis n) (disks store) [] [] → NodeFits m h n (Stands m node store h.genesis n) (disks store)
+goes_fits m h n node store lawful left g = record { lawful = lawful; holding = g.holding; shown = g.shown; fits = g.fits; left = left }
+
+-- ---- what a rebase comes to
+
+module _ (m : Meaning) (node : NodeValue) (old new : StoreValue) (may : MayBegin (standing_of node)) (within : node.acceptor.state.snapshot_position ≤ executed node.learner)
+    (any : (ks ls : List Stored) → Holds old ks ls → KeepsOrIs (disks new) ks ls (next_base old (standing_of node))) where
+  -- after any exit
+  pub stays_safe : StaysWithin 49152 (disks old) (disks new) → StaysSafe m node old new
+  stays_safe room = record {
+    fits = λ h n f. rebase_fits m h n node old new f.holding f.shown may within f.lawful f.fits (any f.shown.keeps.entries (plain f.shown.keeps.loose) f.shown.keeps.holds) f.left;
+    covers = λ genesis n x keeps every. rebase_covers m genesis n node old new keeps may within (any keeps.entries (plain keeps.loose) keeps.holds) x every;
+    room = room;
+  }
+
+  -- where it was made
+  pub gone_over : (Metered : Type 0) → (new.generation ≡ old.generation + 1) → ((ks ls : List Stored) → Holds old ks ls → Holds new (Base (next_base old (standing_of node)) ∷ []) []) → (Metered → Passes old.meter new.meter rebase_calls) → length (contents new.live_disk) ≤ 49152
+      → HasGoneOver m Metered node old (standing_here node) new
+  gone_over Metered further writes calls short = record {
+    rebases = record { becomes = refl; generation = further; writes = writes };
+    calls = calls;
+    short = short;
+    goes = λ h n f.
+        rebase_goes m h n node old new f.holding f.shown may within f.lawful f.fits (writes f.shown.keeps.entries (plain f.shown.keeps.loose) f.shown.keeps.holds)
+        (rebase_fits m h n node old new f.holding f.shown may within f.lawful f.fits (any f.shown.keeps.entries (plain f.shown.keeps.loose) f.shown.keeps.holds) f.left);
+    shows = λ genesis n held shown. (
+      here m genesis n node old new held shown may within,
+      rebase_stands m genesis n node old new held shown may within (writes shown.keeps.entries (plain shown.keeps.loose) shown.keeps.holds),
+    );
+    remembers = λ genesis n shown. rebase_keeps m genesis n node old new shown.keeps may within shown.whose (writes shown.keeps.entries (plain shown.keeps.loose) shown.keeps.holds);
+    syncs = λ genesis n x keeps covers. rebase_syncs m genesis n node old new keeps may within (writes keeps.entries (plain keeps.loose) keeps.holds) x covers;
+    stands = λ genesis n held shown. all_stand m genesis n node old new held shown may within (writes shown.keeps.entries (plain shown.keeps.loose) shown.keeps.holds);
+  }
+
+-- what it leaves on the disks
+pub leaves_safe : (m : Meaning) (node : NodeValue) (old new : StoreValue) → StaysSafe m node old new → LeavesDisks m (λ h. ⊤) 49152 node old (disks new)
+leaves_safe m node old new safe = record {
+  ends = λ h n f heard. safe.fits h n f;
+  covers = λ genesis n x shown every. safe.covers genesis n x shown.keeps every;
+  room = safe.room;
+  grows = grown_base (disks old) (disks new) safe.room;
+}
+
+-- ---- one that is made where it is due, once the store was asked how long its live file is
+
+module _ (m : Meaning) (node : NodeValue) (old mid : StoreValue) (same : IsSameStore old mid) where
+  pub ready_as_was : (Metered : Type 0) → (IsDue node old → ⊥) → (Metered → Passes old.meter mid.meter 0) → length (contents mid.live_disk) < 131072 → IsReadyToStep m Metered node old node mid
+  ready_as_was Metered none calls short = record {
+    rebases = record { due = λ due. absurd (none due); rests = λ other. (refl, same) };
+    calls = λ metered. (0, record { due = λ due. absurd (none due); rests = λ other. refl }, calls metered);
+    short = short;
+    fits = λ h n f. same_node_fits m old mid same node h n f;
+    shows = λ genesis n held shown. (held, same_stands m old mid same node genesis n held shown);
+    remembers = λ genesis n shown. same_remembers m old mid same node genesis n shown;
+  }
+
+  pub leaves_as_was : LeavesDisks m (λ h. ⊤) 49152 node old (disks mid)
+  leaves_as_was = record {
+    ends = λ h n f heard. same_fit m old mid same h n f.left;
+    covers = λ genesis n x shown every. same_cover m old mid same genesis n x every;
+    room = same_room m old mid same;
+    grows = grown_base (disks old) (disks mid) (same_room m old mid same);
+  }
+
+  same_base : next_base mid (standing_of node) ≡ next_base old (standing_of node)
+  same_base = λ i. record { generation = same.generation i + 1; format = 2; header = same.header i; standing = standing_of node }
+
+  pub ready_by_rebase : (Metered : Type 0) (new : NodeValue) (after : StoreValue) → IsDue node old → (Metered → Passes old.meter mid.meter 0) → HasGoneOver m Metered node mid new after → StaysSafe m node mid after → IsReadyToStep m Metered node old new after
+  ready_by_rebase Metered new after due calls done safe = record {
+    rebases = record {
+      due = λ _. record {
+        becomes = done.rebases.becomes;
+        generation = omega (arith, done.rebases.generation, same.generation);
+        writes = λ ks ls h. subst (λ (b : BaseValue). Holds after (Base b ∷ []) []) same_base (done.rebases.writes ks ls (same_holds m old mid same ks ls h));
+      };
+      rests = λ other. absurd (other due);
+    };
+    calls = λ metered. (rebase_calls, record { due = λ _. refl; rests = λ other. absurd (other due) }, passes_on 0 (calls metered) rebase_calls (done.calls metered));
+    short = omega (arith, done.short);
+    fits = λ h n f. let between = same_node_fits m old mid same node h n f in goes_fits m h n new after f.lawful (safe.fits h n between) (done.goes h n between);
+    shows = λ genesis n held shown. done.shows genesis n held (same_stands m old mid same node genesis n held shown);
+    remembers = λ genesis n shown. done.remembers genesis n (same_remembers m old mid same node genesis n shown);
+  }
+
+  pub leaves_by_rebase : (after : StoreValue) → StaysSafe m node mid after → LeavesDisks m (λ h. ⊤) 49152 node old (disks after)
+  leaves_by_rebase after safe = record {
+    ends = λ h n f heard. safe.fits h n (same_node_fits m old mid same node h n f);
+    covers = λ genesis n x shown every. safe.covers genesis n x (same_remembers m old mid same node genesis n shown).keeps (same_cover m old mid same genesis n x every);
+    room = within_first 49152 (disks old) (disks mid) (disks after) (same_room m old mid same) safe.room;
+    grows = grown_base (disks old) (disks after) (within_first 49152 (disks old) (disks mid) (disks after) (same_room m old mid same) safe.room);
+  }

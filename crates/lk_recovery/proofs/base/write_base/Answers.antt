@@ -1,0 +1,140 @@
+use Rattle.std.proofs.Common.{◌≡◌, rules, arith, [], ◌∷◌, refl, sym, ap, subst, inl, inr}
+use Rattle.lk_entries.specs.Values.{StandingValue}
+use Rattle.lk_entries.specs.declared.stored.Stored.TheVariants.{Base}
+use Rattle.lk_log.specs.StoreValue.{disks}
+use Rattle.lk_log.specs.Stores.{Holds, MayBegin, next_base, KeepsOrIs}
+use Rattle.lk_state.specs.Meanings.{Meaning}
+use Rattle.lk_learner.specs.Learners.{Command, IsNext}
+use Rattle.lk_node.specs.NodeValue.{NodeValue}
+use Rattle.lk_node.specs.Packing.{standing_of}
+use Rattle.lk_recovery.specs.Rebased.{HasGoneOver}
+use Rattle.lk_log.proofs.Room.{within_same}
+use Rattle.lk_log.proofs.StoreLaws.{holds_keeps}
+use Rattle.lk_recovery.proofs.Rebasing.{stays_safe, gone_over}
+use Rattle.lk_recovery.proofs.base.write_base.Goals as goal
+use Rattle.lk_disk.specs.Meters.{start}
+use Rattle.lk_recovery.specs.declared.fault.ReplicaFault.TheVariants as fault
+use Rattle.lk_recovery.proofs.Calling.{err_as, refused_after}
+use Rattle.lk_recovery.proofs.Refusing.{rebase_refused}
+use Rattle.lk_recovery.proofs.Spared.{rebase_spares, not_failed_so}
+
+-- ---- where it has gone over
+
+pub returns-clause-done : goal.returns-clause-done
+returns-clause-done g c honest =
+    let m : Meaning = g.M.Machine.meaning in
+    let is : c.in_ok-standing.standing ≡ standing_of c.args.node.now = search rules in
+    let fits : MayBegin c.in_ok-standing.standing = search rules in
+    let may = subst MayBegin is fits in
+    subst (λ (k : NodeValue). HasGoneOver m g.D.LogDisk.is_metered c.args.node.now c.args.store.now k c.rebase.new.self) (sym c.stand_here.ensures)
+    (gone_over m c.args.node.now c.args.store.now c.rebase.new.self may c.standing-packed.ensures.near.snapshot
+    (λ ks ls holds. subst (λ (s : StandingValue). KeepsOrIs (disks c.rebase.new.self) ks ls (next_base c.args.store.now s)) is (c.rebase.ensures.any honest ks ls holds)) g.D.LogDisk.is_metered c.in_ok-rebase.ensures.file.0
+    (λ ks ls holds. subst (λ (s : StandingValue). Holds c.rebase.new.self (Base (next_base c.args.store.now s) ∷ []) []) is (c.in_ok-rebase.ensures.base honest ks ls holds))
+    (λ metered. c.in_ok-rebase.ensures.metered metered honest) (c.in_ok-rebase.ensures.left honest).1)
+
+pub returns-clause-becomes : goal.returns-clause-becomes
+returns-clause-becomes g c =
+    let is : c.in_ok-standing.standing ≡ standing_of c.args.node.now = search rules in
+    let fits : MayBegin c.in_ok-standing.standing = search rules in
+    record {
+      becomes = c.stand_here.ensures;
+      begins = subst MayBegin is fits;
+      runs = λ none. subst (λ (k : NodeValue). (v : Command) → IsNext k.learner v → ⊥) (sym c.stand_here.ensures) none;
+      generation = c.in_ok-rebase.ensures.file.0;
+      format = c.in_ok-rebase.ensures.file.1;
+      store_alive = c.in_ok-rebase.ensures.failing;
+    }
+
+pub returns-clause-wakes : goal.returns-clause-wakes
+returns-clause-wakes g c = ap (λ (k : NodeValue). k.halted) c.stand_here.ensures
+
+-- ---- at every exit
+
+pub returns-then-generation-ge-MAX_COUNT-clause-disks : goal.returns-then-generation-ge-MAX_COUNT-clause-disks
+returns-then-generation-ge-MAX_COUNT-clause-disks g c honest = record {
+  fits = λ h n f. f.left;
+  covers = λ genesis n x keeps every. every;
+  room = within_same 49152 (disks c.args.store.now) (disks c.args.store.now) (λ s. refl);
+}
+
+pub returns-in_err-standing-clause-disks : goal.returns-in_err-standing-clause-disks
+returns-in_err-standing-clause-disks g c honest = record {
+  fits = λ h n f. f.left;
+  covers = λ genesis n x keeps every. every;
+  room = within_same 49152 (disks c.args.store.now) (disks c.args.store.now) (λ s. refl);
+}
+
+pub returns-in_err-rebase-clause-disks : goal.returns-in_err-rebase-clause-disks
+returns-in_err-rebase-clause-disks g c honest =
+    let m : Meaning = g.M.Machine.meaning in
+    let is : c.in_ok-standing.standing ≡ standing_of c.args.node.now = search rules in
+    let fits : MayBegin c.in_ok-standing.standing = search rules in
+    let may = subst MayBegin is fits in
+    stays_safe m c.args.node.now c.args.store.now c.rebase.new.self may c.standing-packed.ensures.near.snapshot
+    (λ ks ls holds. subst (λ (s : StandingValue). KeepsOrIs (disks c.rebase.new.self) ks ls (next_base c.args.store.now s)) is (c.rebase.ensures.any honest ks ls holds)) (c.rebase.ensures.room honest)
+
+pub returns-clause-disks : goal.returns-clause-disks
+returns-clause-disks g c honest =
+    let m : Meaning = g.M.Machine.meaning in
+    let is : c.in_ok-standing.standing ≡ standing_of c.args.node.now = search rules in
+    let fits : MayBegin c.in_ok-standing.standing = search rules in
+    let may = subst MayBegin is fits in
+    stays_safe m c.args.node.now c.args.store.now c.rebase.new.self may c.standing-packed.ensures.near.snapshot
+    (λ ks ls holds. subst (λ (s : StandingValue). KeepsOrIs (disks c.rebase.new.self) ks ls (next_base c.args.store.now s)) is (c.rebase.ensures.any honest ks ls holds)) (c.rebase.ensures.room honest)
+
+pub returns-then-generation-ge-MAX_COUNT-clause-any : goal.returns-then-generation-ge-MAX_COUNT-clause-any
+returns-then-generation-ge-MAX_COUNT-clause-any g c honest ks ls holds image left = inl (holds_keeps c.args.store.now ks ls holds image left)
+
+pub returns-in_err-standing-clause-any : goal.returns-in_err-standing-clause-any
+returns-in_err-standing-clause-any g c honest ks ls holds image left = inl (holds_keeps c.args.store.now ks ls holds image left)
+
+pub returns-in_err-rebase-clause-any : goal.returns-in_err-rebase-clause-any
+returns-in_err-rebase-clause-any g c honest ks ls holds =
+    let is : c.in_ok-standing.standing ≡ standing_of c.args.node.now = search rules in
+    subst (λ (s : StandingValue). KeepsOrIs (disks c.rebase.new.self) ks ls (next_base c.args.store.now s)) is (c.rebase.ensures.any honest ks ls holds)
+
+pub returns-clause-any : goal.returns-clause-any
+returns-clause-any g c honest ks ls holds =
+    let is : c.in_ok-standing.standing ≡ standing_of c.args.node.now = search rules in
+    subst (λ (s : StandingValue). KeepsOrIs (disks c.rebase.new.self) ks ls (next_base c.args.store.now s)) is (c.rebase.ensures.any honest ks ls holds)
+
+-- ---- where it was refused
+
+pub returns-then-generation-ge-MAX_COUNT-clause-refused : goal.returns-then-generation-ge-MAX_COUNT-clause-refused
+returns-then-generation-ge-MAX_COUNT-clause-refused g c = record {
+  rests = refl;
+  why = record {
+    of_store = inr (inr refl);
+    calls = λ metered honest. (0, start);
+    earlier = λ is alive less. omega (arith, less, c.if-generation-ge-MAX_COUNT.true, c.generation.ensures);
+    file = (refl, refl, refl, refl);
+    stays = λ honest s. refl;
+  };
+}
+
+pub returns-in_err-standing-clause-refused : goal.returns-in_err-standing-clause-refused
+returns-in_err-standing-clause-refused g c =
+    err_as _ _ fault.NoMemory c.from_residual.ensures.1 (record {
+      rests = refl;
+      why = record {
+        of_store = inr (inl refl);
+        calls = λ metered honest. (0, start);
+        earlier = λ is alive less. cc is;
+        file = (refl, refl, refl, refl);
+        stays = λ honest s. refl;
+      };
+    })
+
+pub returns-in_err-rebase-clause-refused : goal.returns-in_err-rebase-clause-refused
+returns-in_err-rebase-clause-refused g c =
+    let was = c.in_err-rebase.ensures in
+    err_as _ _ _ c.from_residual-in_err-rebase.ensures.1 (record {
+      rests = refl;
+      why = record {
+        of_store = rebase_refused c.args.store.now _ (λ dead. (was.refuses.0 dead).1) (λ last. (was.refuses.1 last).1) was.refuses.2;
+        calls = λ metered honest. refused_after _ _ _ (was.metered metered honest);
+        earlier = λ is alive less. not_failed_so _ (was.refuses.2 alive less) is;
+        file = was.file;
+        stays = λ honest. rebase_spares c.args.store.now c.rebase.new.self _ (was.no_memory honest) (λ dead. (c.rebase.ensures.refuses.0 dead).0) (λ last. (was.refuses.1 last).0) was.refuses.2;
+      };
+    })

@@ -1,0 +1,97 @@
+// Writing everything that a node holds as the Base of the other file.
+ghost use Rattle.std.specs.Prelude.{◌≡◌, ◌+◌, ◌≤◌, ◌<◌, length, List, false, ◌↔◌, IsTrue, OnOk, IfOk, IfErr, IsErrAnd, IsErrOf, ⊤};
+ghost use Rattle.lk_types.specs.Limits.{max_base, max_count};
+ghost use Rattle.lk_disk.specs.Disk.{contents};
+ghost use Rattle.lk_entries.specs.declared.stored.Stored.{Stored};
+ghost use Rattle.lk_log.specs.StoreValue.{disks};
+ghost use Rattle.lk_log.specs.Stores.{Holds, KeepsItsFile, KeepsOrIs, next_base};
+ghost use Rattle.lk_learner.specs.Learners.{executed};
+ghost use Rattle.lk_node.specs.Packing.{standing_of};
+ghost use Rattle.lk_recovery.specs.Compacting.{IsDue, IsSameStore};
+ghost use Rattle.lk_recovery.specs.Rebased.{StandsOnBase, HasGoneOver, StaysSafe, IsNotRebased, StaysAlive, IsReadyToStep, LeavesDisks};
+ghost use Rattle.lk_recovery.specs.Faults.{fault_number, RaisesFailures, PassesOr, WantsNoMemory};
+
+use crate::fault::ReplicaFault;
+use lk_disk::LogDisk;
+use lk_log::Store;
+use lk_node::Node;
+use lk_state::Machine;
+use lk_types::limits::MAX_COUNT;
+
+/// Writes what the node holds as the Base of the other file, and switches to that file: a snapshot of everything
+/// executed replaces the commands and the votes up to there. Sends nothing. At generation 2^48 it writes nothing and
+/// fails with `Failed` (11), even if it is out of memory.
+pub fn write_base<M: Machine, D: LogDisk + Drop>(
+    node: &mut Node<M>,
+    store: &mut Store<D>,
+) -> Result<(), ReplicaFault>
+    // At Ok it has switched: the Base alone is in the file, the node matches it, and goes on.
+    ensures done { D.is_honest → OnOk result (HasGoneOver M.meaning D.is_metered node.old store.old node.new store.new) }
+    ensures becomes { OnOk result (StandsOnBase node.old store.old node.new store.new) }
+    // However it ends, every image that a stop may leave fits and covers what every image covered before, and neither
+    // file has grown, except up to the size of a Base.
+    ensures disks { D.is_honest → StaysSafe M.meaning node.old store.old store.new }
+    // However it ends, every image has what it had before, or the Base alone.
+    ensures any { D.is_honest → (ks ls : List Stored) → Holds store.old ks ls → KeepsOrIs (disks store.new) ks ls (next_base store.old (standing_of node.old)) }
+    ensures within { node.old.acceptor.state.snapshot_position ≤ executed node.old.learner }
+    ensures wakes { node.new.halted ≡ node.old.halted }
+    ensures format_stays { store.old.format ≡ 2 → store.new.format ≡ 2 }
+    // An error leaves the node unchanged, and the same file live.
+    ensures refused { IfErr result (IsNotRebased D.is_honest D.is_metered node.old store.old node.new store.new) }
+    ensures last { max_count ≤ store.old.generation → (store.new ≡ store.old) × IsErrOf result ReplicaFault.Failed }
+    ensures cause { RaisesFailures store.old.failures store.new.failures result }
+{
+    let packed = node.standing();
+    if store.generation() >= MAX_COUNT {
+        return Err(ReplicaFault::Failed);
+    }
+    let standing = packed?;
+    store.rebase(&standing)?;
+    node.stand_here(standing.snapshot);
+    Ok(())
+}
+
+/// Whether a rebase is due: the live file has grown to half of its maximum, or 256 positions are executed above the
+/// snapshot.
+pub fn is_due<M: Machine, D: LogDisk + Drop>(
+    node: &Node<M>,
+    store: &mut Store<D>,
+) -> Result<bool, ReplicaFault>
+    ensures value { D.is_honest → IfOk result (λ due. IsTrue due ↔ IsDue node.now store.old) }
+    ensures same { D.is_honest → IsSameStore store.old store.new }
+    ensures file { KeepsItsFile store.old store.new }
+    ensures alive { OnOk result (store.new.failed ≡ false) }
+    ensures memory { IfErr result (λ e. WantsNoMemory (fault_number e)) }
+    ensures failed_before { store.old.failed ≡ false → IsErrOf result ReplicaFault.Failed → ⊥ }
+    ensures cause { RaisesFailures store.old.failures store.new.failures result }
+    ensures metered { D.is_metered → PassesOr store.old.meter store.new.meter 0 result }
+    ensures small { D.is_honest → IfOk result (λ due. due ≡ false → length (contents store.new.live_disk) < 131072) }
+{
+    let length = store.live_length()?;
+    Ok(length >= 131_072 || node.is_far())
+}
+
+/// Writes the node's Base if that is due.
+pub fn rebase_where_due<M: Machine, D: LogDisk + Drop>(
+    node: &mut Node<M>,
+    store: &mut Store<D>,
+) -> Result<(), ReplicaFault>
+    ensures done { D.is_honest → OnOk result (IsReadyToStep M.meaning D.is_metered node.old store.old node.new store.new) }
+    ensures alive { OnOk result (StaysAlive node.old store.old node.new store.new) }
+    // What is on the disks, however it ends: neither file has grown, except up to the size of a Base.
+    ensures disks { D.is_honest → LeavesDisks M.meaning (λ h. ⊤) max_base node.old store.old (disks store.new) }
+    ensures wakes { node.new.halted ≡ node.old.halted }
+    ensures format_stays { store.old.format ≡ 2 → store.new.format ≡ 2 }
+    ensures refused { IfErr result (IsNotRebased D.is_honest D.is_metered node.old store.old node.new store.new) }
+    // If a rebase is due at generation 2^48, it fails with `Failed`, even if it is out of memory, or with `Device` if
+    // the device fails.
+    ensures last { D.is_honest → max_count ≤ store.old.generation → IsDue node.old store.old → IsErrAnd result (λ e. WantsNoMemory (fault_number e)) }
+    ensures cause { RaisesFailures store.old.failures store.new.failures result }
+{
+    let due = is_due(node, store)?;
+    if !due {
+        return Ok(());
+    }
+    write_base(node, store)?;
+    Ok(())
+}
