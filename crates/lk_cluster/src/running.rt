@@ -8,10 +8,10 @@ ghost use Rattle.lk_cluster.specs.Running.{IsDownOn, ServesIn, EndsIn, RestsIn};
 
 use lk_disk::LogDisk;
 use lk_events::line::Observer;
+use lk_folder::causes::FailureCause;
 use lk_locks::LockTable;
 use lk_replica::Replica;
 use lk_server::node_replica::NodeReplica;
-use lk_service::causes::FailureCause;
 use lk_service::resources::{NodePlan, Resources};
 use lk_service::running::run_node;
 use lk_transport::socket::DatagramSocket;

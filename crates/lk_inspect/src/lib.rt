@@ -1,6 +1,7 @@
 //! What a store amounts to: its members, how far it is, and which names are held.
 #![tactic(auto)]
 
+pub mod dump;
 pub mod inspect;
 pub mod inspection;
 mod lines;

@@ -1,15 +1,11 @@
 //! The service over files and sockets: what the program does besides scripts.
 #![tactic(auto)]
 
-pub mod causes;
 pub mod client_key;
 pub mod command_words;
 pub mod demo;
 pub mod digest;
-pub mod dump;
-pub mod folder;
 pub mod network;
 mod observing;
-pub mod refusals;
 pub mod resources;
 pub mod running;

@@ -6,12 +6,12 @@ ghost use Rattle.lk_seal.specs.Seals.{key_list};
 ghost use Rattle.lk_service.specs.Guards.{IsReachedWithKey};
 ghost use Rattle.lk_service.specs.Turns.{AreSealsOf};
 
-use crate::causes::tell_cause;
 use crate::digest::genesis_digest;
 use lk_arguments::operation::node_of;
 use lk_arguments::word::split_word;
 use lk_client::destination::Destination;
 use lk_entries::Header;
+use lk_folder::causes::tell_cause;
 use lk_seal::{AskerSeals, Keys, Seals};
 use lk_transport::fault::ServiceFault;
 use lk_transport::hosts::Hosts;

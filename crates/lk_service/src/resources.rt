@@ -5,11 +5,11 @@ ghost use Rattle.lk_members.specs.Ports.{port_in};
 ghost use Rattle.lk_seal.specs.Seals.{key_list};
 ghost use Rattle.lk_service.specs.Turns.{AreSealsOf};
 
-use crate::causes::open_socket_at;
-use crate::folder::{FolderLock, open_device};
 use crate::network::{NetworkOptions, network_of};
 use lk_disk::{FileDisk, SystemFile};
 use lk_entries::Header;
+use lk_folder::causes::open_socket_at;
+use lk_folder::folder::{FolderLock, open_device};
 use lk_seal::{Keys, Seals};
 use lk_server::pace::Pace;
 use lk_transport::fault::ServiceFault;

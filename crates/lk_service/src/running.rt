@@ -12,13 +12,13 @@ ghost use Rattle.lk_transport.specs.Chains.{Repeats};
 ghost use Rattle.lk_service.specs.Revivals.{ComesUp, IsBegun, IsNotTakenUp, IsRefusedWith};
 ghost use Rattle.lk_service.specs.Turns.{TakesTurn, BreaksOff, AreSealsOf, Serves, EndsEarly, TellsFailure};
 
-use crate::causes::{FailureCause, tell_device};
 use crate::observing::{observe_start, observe_turn};
-use crate::refusals::tell_refusal;
 use crate::resources::{NodePlan, Resources};
 use lk_disk::LogDisk;
 use lk_entries::Header;
 use lk_events::line::Observer;
+use lk_folder::causes::{FailureCause, tell_device};
+use lk_folder::refusals::tell_refusal;
 use lk_log::look;
 use lk_recovery::ReviveFault;
 use lk_replica::Replica;

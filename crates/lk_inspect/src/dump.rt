@@ -3,9 +3,9 @@
 ghost use Rattle.std.specs.Prelude.{◌≡◌, ◌≤◌};
 ghost use Rattle.lk_disk.specs.declared.device.Side.{Side};
 
-use crate::folder::look_at_device;
-use crate::refusals::tell_refusal;
 use lk_disk::LogDisk;
+use lk_folder::folder::look_at_device;
+use lk_folder::refusals::tell_refusal;
 use lk_log::{LiveFile, look};
 use lk_transport::fault::ServiceFault;
 use lk_types::Ballot;
