@@ -11,7 +11,7 @@ use crate::inspection::Inspection;
 use lk_agreement::Party;
 use lk_replica::{Datagram, MemoryReplica};
 use lk_script::ending::end;
-use lk_script::fault::ScriptFault;
+use lk_lines::fault::ScriptFault;
 use lk_script::mode::Mode;
 use lk_script::script::run_script;
 use lk_sim::{LeftNode, World};

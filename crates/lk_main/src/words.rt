@@ -21,7 +21,7 @@ use lk_locks::LockTable;
 use lk_replica::Replica;
 use lk_schedules::fuzzing::{print_script, run_fuzz};
 use lk_script::ending::{end, tell};
-use lk_script::fault::ScriptFault;
+use lk_lines::fault::ScriptFault;
 use lk_script::script::run_to_end;
 use lk_service::client_key::client_key;
 use lk_service::demo::demo;

@@ -2,7 +2,7 @@
 use Rattle.std.proofs.Common.{◌≡◌, ◌∙◌, refl, sym, ap, subst, append_assoc, append-nil, take, length, Bool, true, false, ℕ, List, [], ◌∷◌, ◌++◌}
 use Rattle.std.proofs.Math.Seq.{take-append_seam}
 use Rattle.lk_replica.specs.Behaviours.{Behaviour}
-use Rattle.lk_script.specs.EventLines.{line_of, lines_for}
+use Rattle.lk_lines.specs.EventLines.{line_of, lines_for}
 use Rattle.lk_sim.specs.Runs.{Passes}
 use Rattle.lk_sim.specs.Scenes.{Scene}
 use Rattle.lk_sim.specs.declared.event.Event.{Event}

@@ -4,7 +4,7 @@ use Rattle.std.specs.Fmt.{decimal}
 use Rattle.lk_step.specs.declared.note.Note.{Note}
 use Rattle.lk_step.specs.declared.note.Note.TheVariants.{Ran}
 use Rattle.lk_replica.specs.Behaviours.{Behaviour}
-use Rattle.lk_script.specs.EventLines.{lines_for}
+use Rattle.lk_lines.specs.EventLines.{lines_for}
 use Rattle.lk_sim.specs.Runs.{Passes}
 use Rattle.lk_sim.specs.Scenes.{Scene}
 use Rattle.lk_sim.specs.declared.event.Event.{Event}

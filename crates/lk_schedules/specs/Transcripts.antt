@@ -1,7 +1,7 @@
 -- The script of what has happened in a world.
 use Rattle.std.specs.Prelude.{◌≡◌, ℕ, Bool, true, false, List, [], ◌++◌}
 use Rattle.lk_replica.specs.Behaviours.{Behaviour}
-use Rattle.lk_script.specs.EventLines.{lines_for}
+use Rattle.lk_lines.specs.EventLines.{lines_for}
 use Rattle.lk_sim.specs.Runs.{Passes}
 use Rattle.lk_sim.specs.Scenes.{Scene}
 use Rattle.lk_sim.specs.declared.event.Event.{Event}

@@ -15,7 +15,7 @@ use crate::schedule::Schedule;
 use crate::transcript::Transcript;
 use lk_replica::MemoryReplica;
 use lk_script::ending::end;
-use lk_script::fault::ScriptFault;
+use lk_lines::fault::ScriptFault;
 use lk_script::printing::print_refusal;
 use lk_sim::{Event, Refused, World};
 use lk_step::Note;

@@ -1,8 +1,3 @@
-pub mod HexSpelling
-pub mod WordLemmas
-pub mod TurnLemmas
-pub mod GenesisLemmas
-pub mod LineLemmas
 pub mod TableServerLemmas
 pub mod PrintLemmas
 pub mod Following

@@ -7,22 +7,22 @@ use Rattle.lk_members.specs.Effects.{Command}
 use Rattle.lk_replica.specs.Behaviours.{Behaviour}
 use Rattle.lk_sim.specs.Runs.{Passes}
 use Rattle.lk_sim.specs.declared.refused.Refused.{Refused}
-use Rattle.lk_script.specs.HexLines.{SpellsBytes}
-use Rattle.lk_script.specs.Lines.{lines_of, TakesLine, TakesWithinLine}
+use Rattle.lk_lines.specs.HexLines.{SpellsBytes}
+use Rattle.lk_lines.specs.Lines.{lines_of, TakesLine, TakesWithinLine}
 use Rattle.lk_script.specs.TableMode.{Prints, IsTableLine}
-use Rattle.lk_script.specs.GenesisLines.{IsGenesisLine}
-use Rattle.lk_script.specs.WorldLines.{SpellsOrder}
+use Rattle.lk_lines.specs.GenesisLines.{IsGenesisLine}
+use Rattle.lk_lines.specs.WorldLines.{SpellsOrder}
 use Rattle.lk_script.specs.Worlds.{events_of, Follows, refused_line}
 use Rattle.lk_script.specs.Scripts.{Script, begun, table, world, IsFirstLine, IsUnderstood, Takes, Refuses, Stop, at_end, at_line, at_refusal, Runs, last_line}
 use Rattle.lk_script.specs.Scripts.Takes.{prints, happens}
 use Rattle.lk_script.specs.Scripts.Runs.{ends, skips, takes, stops, refuses}
 use Rattle.lk_script.specs.Endings.{SetsUp, BreaksOff, EndsBy}
-use Rattle.lk_script.specs.Faults.{fault_of_line}
-use Rattle.lk_script.specs.declared.order.Order.{Order}
-use Rattle.lk_script.specs.declared.fault.ScriptFault.{ScriptFault}
-use Rattle.lk_script.specs.declared.fault.ScriptFault.TheVariants.{Read, Write, ScriptMemory, Ended}
-use Rattle.lk_script.specs.declared.fault.LineFault.{LineFault}
-use Rattle.lk_script.specs.declared.fault.LineFault.TheVariants.{NoMemory, NotUnderstood}
+use Rattle.lk_lines.specs.Faults.{fault_of_line}
+use Rattle.lk_lines.specs.declared.order.Order.{Order}
+use Rattle.lk_lines.specs.declared.fault.ScriptFault.{ScriptFault}
+use Rattle.lk_lines.specs.declared.fault.ScriptFault.TheVariants.{Read, Write, ScriptMemory, Ended}
+use Rattle.lk_lines.specs.declared.fault.LineFault.{LineFault}
+use Rattle.lk_lines.specs.declared.fault.LineFault.TheVariants.{NoMemory, NotUnderstood}
 use Rattle.lk_script.specs.TableServers.{HasServed, Fits}
 use Rattle.lk_script.specs.declared.mode.Mode.{Mode}
 use Rattle.lk_script.specs.declared.mode.Mode.TheVariants as mode

@@ -1,12 +1,6 @@
-pub mod Lines
-pub mod HexLines
 pub mod Replies
 pub mod TableMode
-pub mod WorldLines
-pub mod EventLines
-pub mod GenesisLines
 pub mod Worlds
 pub mod Scripts
 pub mod TableServers
-pub mod Faults
 pub mod Endings

@@ -10,8 +10,8 @@ use Rattle.lk_sim.specs.declared.event.Event.{Event}
 use Rattle.lk_sim.specs.declared.event.Event.TheVariants.{Tick}
 use Rattle.lk_sim.specs.declared.refused.Refused.{Refused}
 use Rattle.lk_sim.specs.declared.refused.Refused.TheVariants.{NoSuchNode, NotUp, AlreadyUp, NoSuchDatagram, Forged, WorldFull, WorldMemory}
-use Rattle.lk_script.specs.declared.order.Order.{Order}
-use Rattle.lk_script.specs.declared.order.Order.TheVariants.{Ticks, Once}
+use Rattle.lk_lines.specs.declared.order.Order.{Order}
+use Rattle.lk_lines.specs.declared.order.Order.TheVariants.{Ticks, Once}
 
 -- a world in which nothing has happened
 abbrev pub new_world : {R : Type 0} → Genesis → Scene R

@@ -3,7 +3,7 @@
 ghost use Rattle.std.specs.Prelude.{◌≡◌, ◌⊎◌, Ok};
 ghost use Rattle.std.specs.Io.KnownBytes.{Keeps};
 
-use crate::fault::ScriptFault;
+use lk_lines::fault::ScriptFault;
 use std::io::Write;
 
 /// Reports a fault in a line on standard error. Returns status 1.

@@ -1,7 +1,7 @@
 //! Laws of the rules of a script alone.
 
 ghost use Rattle.std.specs.Prelude.{◌≡◌, List, ℕ};
-ghost use Rattle.lk_script.specs.Lines.{lines_of};
+ghost use Rattle.lk_lines.specs.Lines.{lines_of};
 ghost use Rattle.lk_script.specs.Scripts.{Runs, Stop, begun, OpensWorld};
 
 use lk_replica::MemoryReplica;

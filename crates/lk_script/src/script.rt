@@ -12,12 +12,12 @@ ghost use Rattle.lk_script.specs.TableServers.{Fits, done_in};
 
 use crate::buffers::Buffers;
 use crate::ending::end;
-use crate::fault::{LineFault, ScriptFault};
-use crate::genesis_line::read_genesis;
-use crate::lines::next_line;
 use crate::mode::Mode;
 use crate::table_server::TableServer;
 use crate::world_run::WorldRun;
+use lk_lines::fault::{LineFault, ScriptFault};
+use lk_lines::genesis_line::read_genesis;
+use lk_lines::lines::next_line;
 use lk_replica::MemoryReplica;
 use lk_sim::Refused;
 use lk_types::Genesis;

@@ -9,8 +9,8 @@ ghost use Rattle.lk_wire.specs.declared.message.Message.{Message as MessageValue
 ghost use Rattle.lk_script.specs.TableMode.{from_client, is_request_to, is_for_table};
 
 use crate::buffers::Buffers;
-use crate::fault::LineFault;
-use crate::hex_line::read_bytes;
+use lk_lines::fault::LineFault;
+use lk_lines::hex_line::read_bytes;
 use lk_locks::LockTable;
 use lk_state::Whole;
 use lk_step::kept_reply;
@@ -62,7 +62,7 @@ impl TableServer {
     ghost use Rattle.lk_state.specs.Sessions.{session_of, is_new};
     ghost use Rattle.lk_script.specs.Replies.{with_request};
     ghost use Rattle.lk_script.specs.TableMode.{Replies, Prints};
-    ghost use Rattle.lk_script.specs.HexLines.{SpellsBytes};
+    ghost use Rattle.lk_lines.specs.HexLines.{SpellsBytes};
     ghost use Rattle.lk_script.specs.TableServers.{HasServed, executed_of};
 
     /// The server of a cluster before any request.

@@ -1,0 +1,5 @@
+pub mod HexSpelling
+mod WordLemmas
+mod TurnLemmas
+mod GenesisLemmas
+pub mod LineLemmas

@@ -1,0 +1,13 @@
+//! The lines of a script of `locks sim`: how each is read, and what it asks for.
+#![tactic(auto)]
+
+pub mod event_line;
+mod event_verb;
+pub mod fault;
+pub mod genesis_line;
+pub mod hex_line;
+pub mod lines;
+pub mod order;
+mod turn_words;
+pub mod world_line;
+mod world_words;

@@ -1,0 +1,28 @@
+// Words of numbers in a line of world mode.
+ghost use Rattle.std.specs.Prelude.{ℕ, List, IfSome, IsNone};
+ghost use Rattle.lk_lines.specs.WorldLines.{IsWord, Leads};
+
+use lk_arguments::number::read_number;
+use lk_arguments::word::split_word;
+
+/// The number in that range that a word spells.
+pub fn number_of(word: &[u8], least: u64, most: u64) -> Option<u64>
+    ensures some { IfSome result (λ n. IsWord least most n word.now) }
+    ensures none { IsNone result → (n : ℕ) → IsWord least most n word.now → ⊥ }
+{
+    let number = read_number(word, most)?;
+    if number < least {
+        return None;
+    }
+    Some(number)
+}
+
+/// The number in that range that the first word spells, and what follows the space after it.
+pub fn first_number(words: &[u8], least: u64, most: u64) -> Option<(u64, &[u8])>
+    ensures some { IfSome result (λ p. Leads least most p.0 p.1.now words.now) }
+    ensures none { IsNone result → (n : ℕ) (rest : List ℕ) → Leads least most n rest words.now → ⊥ }
+{
+    let (word, rest) = split_word(words)?;
+    let number = number_of(word, least, most)?;
+    Some((number, rest))
+}
