@@ -13,9 +13,9 @@ ghost use Rattle.lk_schedules.specs.Lines.{ran_at, IsFurthest, done_line, Report
 use crate::plan::Plan;
 use crate::schedule::Schedule;
 use crate::transcript::Transcript;
+use lk_lines::fault::ScriptFault;
 use lk_replica::MemoryReplica;
 use lk_script::ending::end;
-use lk_lines::fault::ScriptFault;
 use lk_script::printing::print_refusal;
 use lk_sim::{Event, Refused, World};
 use lk_step::Note;

@@ -7,8 +7,8 @@ ghost use Rattle.lk_sim.specs.declared.refused.Refused.{Refused as RefusedValue}
 ghost use Rattle.lk_schedules.specs.Schedules.{IsPassedBy};
 ghost use Rattle.lk_schedules.specs.Transcripts.{Adds, kept_lines};
 
-use lk_replica::MemoryReplica;
 use lk_lines::event_line::print_line;
+use lk_replica::MemoryReplica;
 use lk_sim::{Event, Refused, World};
 use lk_types::NoMemory;
 use std::alloc::Global;
