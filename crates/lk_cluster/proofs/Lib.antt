@@ -8,4 +8,5 @@ mod Serving
 mod Outcomes
 mod Sealing
 mod Forgetting
+mod ComingBack
 mod Saying

@@ -18,10 +18,11 @@ ghost use Rattle.lk_transport.specs.Posts.{all_taken_as};
 ghost use Rattle.lk_server.specs.Servers.{ServerValue, Turn, LastTurn, IsIdle};
 ghost use Rattle.lk_transport.specs.declared.fault.ServiceFault.{ServiceFault};
 ghost use Rattle.lk_transport.specs.Chains.{Repeats};
-ghost use Rattle.lk_service.specs.Revivals.{IsBegun as IsTakenUp, IsRefusedWith};
+ghost use Rattle.lk_service.specs.Revivals.{IsBegun as IsTakenUp, IsNotTakenUp, IsRefusedWith};
 ghost use Rattle.lk_service.specs.Turns.{EndsEarly, Serves, TakesTurn};
 ghost use Rattle.lk_sim.specs.Networks.{MayCome};
 ghost use Rattle.lk_sim.specs.declared.seat.Life.TheVariants.{Up, Down};
+ghost use Rattle.lk_promise.specs.ComingBack.{IsExcused};
 ghost use Rattle.lk_promise.specs.Converging.{Converges};
 ghost use Rattle.lk_promise.specs.ExactlyOnce.{AreServedOnce};
 ghost use Rattle.lk_promise.specs.Linear.{IsLinearizable};
@@ -229,6 +230,17 @@ pub fn a_sealed_service_that_breaks_off_continues_a_cluster<D: LogDisk + Drop, S
 {
     is_told_by_a_node();
 }
+
+/// A node of a cluster that is down comes back: whatever it was doing when it stopped, and whatever the stop left of its
+/// files, a restart is refused for nothing but memory or a call of the device that failed, or because a file of format 1
+/// has no generation left. What a crash may leave is what recovery takes (Chen et al., FSCQ, 2015).
+pub fn a_restart_comes_back<D: LogDisk, S: DatagramSocket>()
+    ensures { D.is_honest → (genesis : GenesisValue) (cluster : Cluster) → IsReachable ForgesNothing D.is_metered S.is_telling genesis cluster
+        → (place n : ℕ) (device : Memory) → HasNode cluster place n (Down device)
+        → (disks : Side → Disk) → ((s : Side) → disk_of device s ≡ disks s)
+        → (number : ℕ) (left : Side → Disk) → IsNotTakenUp table_meaning IsTableText D.is_honest disks (header_of cluster.genesis n) number left
+        → IsExcused disks number }
+{}
 
 /// No node of a cluster restarts with empty disks: a node that has sent a Prepare, a Promise, an Accept or an Accepted
 /// never has two empty ones (an acceptor must remember, even if it fails and restarts: Lamport, Paxos Made Simple,

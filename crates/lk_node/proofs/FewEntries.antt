@@ -55,7 +55,7 @@ settled_same : (o : Option Session) (old new : NodeValue) (before after : Outbox
 settled_same None old new before after s = ap (λ (b : OutboxValue). b.entries) s.1
 settled_same (Some s) old new before after k = ap (λ (b : OutboxValue). b.entries) k.comes_to ∙ told_same old.header s (waiting_number s old) before
 
-ran_same : (m : Meaning) (old : NodeValue) (before : OutboxValue) (new : NodeValue) (after : OutboxValue) → Runs m old before new after → after.entries ≡ before.entries
+pub ran_same : (m : Meaning) (old : NodeValue) (before : OutboxValue) (new : NodeValue) (after : OutboxValue) → Runs m old before new after → after.entries ≡ before.entries
 ran_same m old before new after stays = refl
 ran_same m old before new after (goes_on {mid = mid} {between = between} r e) = settled_same _ _ _ _ after e.settles ∙ ran_same m old before mid between r
 
@@ -71,7 +71,7 @@ pairs_few m first commands old before n new after (one_more {k = k} {mid = mid} 
 
 -- ---- what is proposed and told again
 
-proposed_same : (xs : List Vote) (old new : NodeValue) (before out : OutboxValue) → ProposesAll xs old new before out → out.entries ≡ before.entries
+pub proposed_same : (xs : List Vote) (old new : NodeValue) (before out : OutboxValue) → ProposesAll xs old new before out → out.entries ≡ before.entries
 proposed_same [] old new before out p = ap (λ (o : OutboxValue). o.entries) p.2
 proposed_same (x ∷ xs) old new before out p = proposed_same xs _ new _ out p.1
 
@@ -81,7 +81,7 @@ offered_again_same node b i before out k = elim k [ inl a ↦ ap (λ (o : Outbox
 offered_ahead_same : (node : NodeValue) (b : BallotValue) (i : ℕ) (before out : OutboxValue) → OffersAhead node b i before out → out.entries ≡ before.entries
 offered_ahead_same node b i before out k = elim k [ inl a ↦ offered_again_same node b _ before out a | inr c ↦ ap (λ (o : OutboxValue). o.entries) c.1 ]
 
-offered_same : (node : NodeValue) (b : BallotValue) (before : OutboxValue) (k : ℕ) (out : OutboxValue) → OffersFirst node b before k out → out.entries ≡ before.entries
+pub offered_same : (node : NodeValue) (b : BallotValue) (before : OutboxValue) (k : ℕ) (out : OutboxValue) → OffersFirst node b before k out → out.entries ≡ before.entries
 offered_same node b before k out none_offered = refl
 offered_same node b before n out (one_offered {k = k} {mid = mid} so_far more) = offered_ahead_same node b k mid out more ∙ offered_same node b before k mid so_far
 
@@ -105,7 +105,7 @@ part_same m IsText old p new out (inl k) =
     ran_same m (while_named t.told) t.said new out t.runs.0 ∙ all_settled_same k.0.learner.whole.sessions k.0 (with_rebase nothing) (length k.0.learner.whole.sessions) t.told t.said t.settles
 part_same m IsText old p new out (inr k) = ap (λ (o : OutboxValue). o.entries) k.1
 
-fed_same : (node : NodeValue) (other first offset : ℕ) (out : OutboxValue) → Feeds node other first offset out → out.entries ≡ []
+pub fed_same : (node : NodeValue) (other first offset : ℕ) (out : OutboxValue) → Feeds node other first offset out → out.entries ≡ []
 fed_same node other first offset out (inl served) = ap (λ (o : OutboxValue). o.entries) served.1.1
 fed_same node other first offset out (inr (inl parts)) = ap (λ (o : OutboxValue). o.entries) parts.1.comes_to
 fed_same node other first offset out (inr (inr none)) = ap (λ (o : OutboxValue). o.entries) none.1
@@ -138,7 +138,7 @@ heard_few m IsText old from (kinds.Answer a) new out short h = none_written out 
 heard_few m IsText old from (kinds.Elsewhere e) new out short h = none_written out (ap (λ (o : OutboxValue). o.entries) h.1)
 heard_few m IsText old from (kinds.Passed p) new out short h = none_written out (ap (λ (o : OutboxValue). o.entries) h.1)
 
-asked_few : (old : NodeValue) (r : RequestValue) (new : NodeValue) (out : OutboxValue) → HearsRequest old r new out → out.entries ≡ []
+pub asked_few : (old : NodeValue) (r : RequestValue) (new : NodeValue) (out : OutboxValue) → HearsRequest old r new out → out.entries ≡ []
 asked_few old r new out = at (seen_as (session_of r.client old.learner.whole.sessions) r.number)
   where
     pointed : (o : Option Member) → PointsTo o old r new out → out.entries ≡ []

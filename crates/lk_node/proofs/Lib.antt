@@ -21,4 +21,6 @@ mod Settling
 mod NoneOpen
 mod Waking
 mod FewEntries
+mod ReachLaws
+mod ToldRules
 pub mod Nodes

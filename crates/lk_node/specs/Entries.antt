@@ -11,6 +11,7 @@ use Rattle.lk_agreement.specs.Chosen.{ChosenAt}
 use Rattle.lk_agreement.specs.Acceptors.{CoversSent}
 use Rattle.lk_agreement.specs.Nodes.{Stems}
 use Rattle.lk_node.specs.Histories.{History, Command}
+use Rattle.lk_node.specs.Reaching.{AllLieNear}
 use Rattle.lk_node.specs.Served.{text}
 use Rattle.lk_node.specs.Leavings.{header_of, acceptor_of, view_of}
 
@@ -24,6 +25,7 @@ pub record EntriesFit (m : Meaning) (h : History) (n : ℕ) (es : List Stored) :
   pub snapshot : standing.snapshot ≡ text m h.genesis under
   pub covers : CoversSent h.genesis h.sent n (acceptor_of standing)
   pub stems : Stems h.genesis h.sent (view_of standing under)
+  pub near : AllLieNear h.genesis.alpha standing
 
 -- a vote rests on its Accept, which was sent, a decided command on being chosen, and a promise on nothing
 abbrev pub Rests : History → Entry → Type 0

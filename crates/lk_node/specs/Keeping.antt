@@ -1,5 +1,5 @@
 -- What ties what a replica holds in memory to its store.
-use Rattle.std.specs.Prelude.{◌≡◌, ◌⊎◌, ℕ, List, length, Some, Contains}
+use Rattle.std.specs.Prelude.{◌≡◌, ◌⊎◌, ℕ, ◌≤◌, List, length, Some, Contains}
 use Rattle.std.specs.List.{AllByRecursion}
 use Rattle.lk_types.specs.declared.entry.Entry.{Entry}
 use Rattle.lk_types.specs.declared.entry.Entry.TheVariants.{Promise, Vote, Decided}
@@ -21,6 +21,7 @@ use Rattle.lk_node.specs.Histories.{Genesis}
 use Rattle.lk_node.specs.Holdings.{Holding}
 use Rattle.lk_node.specs.Leavings.{header_of, acceptor_of}
 use Rattle.lk_node.specs.NodeValue.{NodeValue}
+use Rattle.lk_node.specs.Reaching.{EntriesLieNear, IsTold}
 
 -- the entry tells of a decided command
 abbrev pub TellsDecided : Entry → Type 0
@@ -59,9 +60,20 @@ pub record IsHeld (m : Meaning) (node : NodeValue) (genesis : Genesis) (x : Hold
   pub waiting : x.waiting ≡ node.leader.waiting
   pub gathered : x.gathered ≡ node.learner.gathered
 
--- the replica, by its parts, is that of the node in the cluster with this genesis, and holds this
+-- the replica, by its parts, is that of the node in the cluster with this genesis, and holds this; its store tells what
+-- the node has executed, and what it holds lies near that
 pub record Stands (m : Meaning) (node : NodeValue) (store : StoreValue) (genesis : Genesis) (n : ℕ) (x : Holding) : Type 0 where
   pub whose : node.header ≡ header_of genesis n
   pub keeps : Keeps (header_of genesis n) store node.acceptor.state
   pub known : AllByRecursion (IsKnown x.view) keeps.loose
   pub held : IsHeld m node genesis x
+  pub told : IsTold genesis.alpha keeps.standing keeps.loose node
+
+-- The same in the middle of a step that has installed a snapshot: the store does not tell of that yet.
+pub record StandsBefore (m : Meaning) (node : NodeValue) (store : StoreValue) (genesis : Genesis) (n : ℕ) (x : Holding) : Type 0 where
+  pub whose : node.header ≡ header_of genesis n
+  pub keeps : Keeps (header_of genesis n) store node.acceptor.state
+  pub known : AllByRecursion (IsKnown x.view) keeps.loose
+  pub held : IsHeld m node genesis x
+  pub some : 1 ≤ genesis.alpha
+  pub near : EntriesLieNear genesis.alpha keeps.standing keeps.loose

@@ -12,6 +12,7 @@ use Rattle.lk_agreement.specs.Datagrams.{NodeMessage}
 use Rattle.lk_agreement.specs.Acceptors.{AcceptorState, Covers, CoversSent}
 use Rattle.lk_agreement.specs.Nodes.{View, Stems}
 use Rattle.lk_node.specs.Histories.{History, Genesis, Command}
+use Rattle.lk_node.specs.Reaching.{AllLieNear}
 use Rattle.lk_node.specs.Served.{text}
 
 -- whose store it is
@@ -34,7 +35,7 @@ pub record StandsAs (whose : HeaderValue) (zero : List ℕ) (image : Image) (s :
   pub stands : StandsFor entries s
 
 -- The image has a standing that covers everything that the node has sent; the snapshot is the packed text of a chosen
--- list, and votes and pairs stem from what was sent.
+-- list, votes and pairs stem from what was sent, and they lie near enough for a restart.
 pub record ImageFits (m : Meaning) (h : History) (n : ℕ) (image : Image) : Type 0 where
   pub standing : StandingValue
   pub stands : StandsAs (header_of h.genesis n) (text m h.genesis []) image standing
@@ -43,6 +44,7 @@ pub record ImageFits (m : Meaning) (h : History) (n : ℕ) (image : Image) : Typ
   pub snapshot : standing.snapshot ≡ text m h.genesis under
   pub covers : CoversSent h.genesis h.sent n (acceptor_of standing)
   pub stems : Stems h.genesis h.sent (view_of standing under)
+  pub near : AllLieNear h.genesis.alpha standing
 
 -- each image that a stop may leave of these disks does
 abbrev pub DisksFit : Meaning → History → ℕ → (Side → Disk) → Type 0

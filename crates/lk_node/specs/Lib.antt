@@ -21,6 +21,7 @@ pub mod Telling
 pub mod Promised
 pub mod Nearness
 pub mod Packing
+pub mod Reaching
 pub mod Leading
 pub mod DecidedPairs
 pub mod Deciding

@@ -3,8 +3,8 @@ ghost use Rattle.std.specs.Prelude.{◌≡◌, ◌+◌, ◌≤◌, ◌↔◌, Is
 ghost use Rattle.lk_learner.specs.Learners.{executed};
 ghost use Rattle.lk_log.specs.Stores.{MayBegin};
 ghost use Rattle.lk_state.specs.Packed.{packed};
-ghost use Rattle.lk_node.specs.Nearness.{AreNear};
 ghost use Rattle.lk_node.specs.Packing.{standing_of, standing_here};
+ghost use Rattle.lk_node.specs.Reaching.{HoldsNear};
 
 use crate::node::Node;
 use lk_acceptor::votes_above;
@@ -19,7 +19,7 @@ impl<M: Machine> Node<M> {
     pub fn standing(&self) -> Result<Standing, NoMemory>
         ensures value { IfOk result (λ s. s ≡ standing_of self.now) }
         ensures may { IfOk result MayBegin }
-        ensures near { AreNear self.now.acceptor self.now.learner }
+        ensures near { HoldsNear self.now }
     {
         self.acceptor.facts();
         self.learner.facts();

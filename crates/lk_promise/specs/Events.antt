@@ -217,10 +217,10 @@ abbrev pub ended_node : End → ℕ
 ended_node (Fault n number) = n
 ended_node (Stopped n) = n
 
--- a fault that ends a node is one of its device (7), its files (9), or that it has failed before or has no generation
--- left (11)
+-- a fault that ends a node is one of its device (7), or that its store has failed before or has no generation left
+-- (11): its files are never damaged (9) or another's (10), and so a restart always comes back
 abbrev pub IsEnding : End → Type 0
-IsEnding (Fault n number) = (number ≡ 7) ⊎ (number ≡ 9) ⊎ (number ≡ 11)
+IsEnding (Fault n number) = (number ≡ 7) ⊎ (number ≡ 11)
 IsEnding (Stopped n) = Unit {0}
 
 -- where it ended a node, that is the one that it is for, and it is down

@@ -8,4 +8,5 @@ pub mod Guarded
 pub mod ExactlyOnce
 pub mod Converging
 pub mod Restarting
+pub mod ComingBack
 pub mod Replies

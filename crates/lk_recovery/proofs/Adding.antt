@@ -21,9 +21,10 @@ use Rattle.lk_agreement.specs.Datagrams.{Accept, WasSent}
 use Rattle.lk_agreement.specs.Chosen.{ChosenAt}
 use Rattle.lk_agreement.specs.Acceptors.{Covers, CoversVote}
 use Rattle.lk_agreement.proofs.Histories.{at_most_trans, below_at_most}
-use Rattle.lk_node.proofs.Nodes.{cons_cases, contains_more}
+use Rattle.lk_node.proofs.Nodes.{cons_cases, contains_more, all_near_more}
 use Rattle.lk_node.specs.Histories.{History}
 use Rattle.lk_node.specs.Leavings.{acceptor_of}
+use Rattle.lk_node.specs.Reaching.{EntryLiesNear}
 use Rattle.lk_node.specs.Entries.{EntriesFit, Rests}
 
 -- ---- ballots
@@ -192,8 +193,8 @@ module _ (m : Meaning) (h : History) (n : ℕ) where
       ]
       by_test false k = old i v k
 
-  pub adds : (es : List Stored) (e : Entry) → Rests h e → EntriesFit m h n es → EntriesFit m h n (es ++ Plain e ∷ [])
-  adds es e rests f = record {
+  pub adds : (es : List Stored) (e : Entry) → Rests h e → (f : EntriesFit m h n es) → EntryLiesNear h.genesis.alpha f.standing e → EntriesFit m h n (es ++ Plain e ∷ [])
+  adds es e rests f near = record {
     standing = with_plain e f.standing;
     header = header_more es (Plain e ∷ []) _ f.header;
     stands = plain_stands es f.standing e f.stands;
@@ -207,4 +208,5 @@ module _ (m : Meaning) (h : History) (n : ℕ) where
       snapshot = omega (arith, f.stems.snapshot, position_more f.standing e);
       pairs = pairs_stem f.standing e rests f.stems.pairs;
     };
+    near = all_near_more h.genesis.alpha f.standing e f.near near;
   }

@@ -1,5 +1,5 @@
 -- What fits to the history in every image, and what every image covers: both are facts about the entries of each image.
-use Rattle.std.proofs.Common.{ℕ, zero, suc, inl, inr, List, [], ◌∷◌, ◌++◌, take, refl, sym, subst, append_assoc, append-nil}
+use Rattle.std.proofs.Common.{◌≡◌, ℕ, zero, suc, inl, inr, List, [], ◌∷◌, ◌++◌, take, refl, sym, subst, append_assoc, append-nil}
 use Rattle.std.specs.List.{AllByRecursion}
 use Rattle.lk_types.specs.declared.entry.Entry.{Entry}
 use Rattle.lk_types.specs.declared.entry.Entry.TheVariants.{Promise, Vote, Decided}
@@ -13,7 +13,7 @@ use Rattle.lk_entries.specs.declared.stored.Stored.TheVariants.{Plain}
 use Rattle.lk_log.specs.EveryImage.{EveryFound}
 use Rattle.lk_log.specs.StoreValue.{StoreValue, disks}
 use Rattle.lk_log.specs.Stores.{Holds, KeepsAtLeast, NarrowsOrBegins}
-use Rattle.lk_log.proofs.StoreLaws.{plain_stands, header_more, holds_keeps, of_every, keeps_every, put_keeps_every, opening_every}
+use Rattle.lk_log.proofs.StoreLaws.{plain_stands, plain_append, header_more, holds_keeps, one_standing, of_every, keeps_every, put_keeps_every, opening_every}
 use Rattle.lk_state.specs.Meanings.{Meaning}
 use Rattle.lk_agreement.specs.Datagrams.{NodeMessage}
 use Rattle.lk_agreement.specs.Acceptors.{Covers}
@@ -23,6 +23,7 @@ use Rattle.lk_node.specs.Entries.{EntriesFit, Rests}
 use Rattle.lk_node.specs.Histories.{History, Genesis}
 use Rattle.lk_node.specs.Keeping.{IsKnown}
 use Rattle.lk_node.specs.Leavings.{header_of, acceptor_of, DisksFit, AllCover}
+use Rattle.lk_node.specs.Reaching.{EntryLiesNear, EntriesLieNear}
 use Rattle.lk_node.specs.Served.{text}
 use Rattle.lk_recovery.proofs.Adding.{adds, covers_more}
 
@@ -46,6 +47,7 @@ fit_entries m h n disks f image left =
         snapshot = i.snapshot;
         covers = i.covers;
         stems = i.stems;
+        near = i.near;
       },
     )
 
@@ -60,6 +62,7 @@ entries_fit m h n disks every image left =
       snapshot = e.2.snapshot;
       covers = e.2.covers;
       stems = e.2.stems;
+      near = e.2.near;
     }
 
 pub cover_entries : (m : Meaning) (genesis : Genesis) (n : ℕ) (disks : Side → Disk) (x : NodeMessage) → AllCover m genesis n disks x → EveryFound disks (header_of genesis n) (text m genesis []) (EntriesCover genesis n x)
@@ -91,12 +94,23 @@ grown P Q ks [] grows all p (suc k) = subst P (sym (append-nil ks)) p
 grown P Q ks (e ∷ more) grows all p (suc k) =
     subst P (append_assoc ks (Plain e ∷ []) (plain (take k more))) (grown P Q (ks ++ Plain e ∷ []) more grows all.1 (grows ks e all.0 p) k)
 
+-- what fits, fits with more entries that rest on what was sent and lie near, each after those before it
+pub grown_fit : (m : Meaning) (h : History) (n : ℕ) (ks : List Stored) (s : StandingValue) (more : List Entry) → StandsFor ks s → EntriesFit m h n ks → AllByRecursion (Rests h) more → EntriesLieNear h.genesis.alpha s more
+    → (k : ℕ) → EntriesFit m h n (ks ++ plain (take k more))
+grown_fit m h n ks s more stands f rests near zero = subst (EntriesFit m h n) (sym (append-nil ks)) f
+grown_fit m h n ks s [] stands f rests near (suc k) = subst (EntriesFit m h n) (sym (append-nil ks)) f
+grown_fit m h n ks s (e ∷ more) stands f rests near (suc k) =
+    let same : s ≡ f.standing = one_standing ks s f.standing stands f.stands in
+    subst (EntriesFit m h n) (append_assoc ks (Plain e ∷ []) (plain (take k more)))
+    (grown_fit m h n (ks ++ Plain e ∷ []) (with_plain e s) more (plain_stands ks s e stands) (adds m h n ks e rests.0 f (subst (λ (t : StandingValue). EntryLiesNear h.genesis.alpha t e) same near.0)) rests.1 near.1 k)
+
 pub held_fit : (m : Meaning) (h : History) (n : ℕ) (store : StoreValue) (ks ls : List Stored) → Holds store ks ls → DisksFit m h n (disks store) → EntriesFit m h n ks
 held_fit m h n store ks ls holds f = of_every (EntriesFit m h n) store ks ls (header_of h.genesis n) (text m h.genesis []) holds (fit_entries m h n (disks store) f)
 
-pub fit_disks : (m : Meaning) (h : History) (n : ℕ) (store : StoreValue) (ks : List Stored) (loose : List Entry) → Holds store ks (plain loose) → AllByRecursion (Rests h) loose → EntriesFit m h n ks → DisksFit m h n (disks store)
-fit_disks m h n store ks loose holds rests f =
-    entries_fit m h n (disks store) (keeps_every (EntriesFit m h n) store ks loose (header_of h.genesis n) (text m h.genesis []) (holds_keeps store ks (plain loose) holds) (grown (EntriesFit m h n) (Rests h) ks loose (adds m h n) rests f))
+pub fit_disks : (m : Meaning) (h : History) (n : ℕ) (store : StoreValue) (ks : List Stored) (s : StandingValue) (loose : List Entry) → Holds store ks (plain loose) → StandsFor ks s → AllByRecursion (Rests h) loose → EntriesLieNear h.genesis.alpha s loose → EntriesFit m h n ks
+    → DisksFit m h n (disks store)
+fit_disks m h n store ks s loose holds stands rests near f =
+    entries_fit m h n (disks store) (keeps_every (EntriesFit m h n) store ks loose (header_of h.genesis n) (text m h.genesis []) (holds_keeps store ks (plain loose) holds) (grown_fit m h n ks s loose stands f rests near))
 
 -- any entries at all
 pub none_asked : (es : List Entry) → AllByRecursion (λ e. Unit {0}) es
@@ -112,10 +126,12 @@ cover_disks m genesis n store ks loose x holds c =
 
 -- ---- after any exit of a put
 
-pub put_fits : (m : Meaning) (h : History) (n : ℕ) (old new : StoreValue) (ks : List Stored) (loose given : List Entry) → Holds old ks (plain loose) → KeepsAtLeast new ks (plain loose ++ plain given)
-    → AllByRecursion (Rests h) (loose ++ given) → DisksFit m h n (disks old) → DisksFit m h n (disks new)
-put_fits m h n old new ks loose given holds keeps rests f =
-    entries_fit m h n (disks new) (put_keeps_every (EntriesFit m h n) (Rests h) old new ks (plain loose) loose given (header_of h.genesis n) (text m h.genesis []) holds refl keeps (adds m h n) rests (fit_entries m h n (disks old) f))
+pub put_fits : (m : Meaning) (h : History) (n : ℕ) (old new : StoreValue) (ks : List Stored) (s : StandingValue) (loose given : List Entry) → Holds old ks (plain loose) → StandsFor ks s → KeepsAtLeast new ks (plain loose ++ plain given)
+    → AllByRecursion (Rests h) (loose ++ given) → EntriesLieNear h.genesis.alpha s (loose ++ given) → DisksFit m h n (disks old) → DisksFit m h n (disks new)
+put_fits m h n old new ks s loose given holds stands keeps rests near f =
+    let k = held_fit m h n old ks (plain loose) holds f in
+    entries_fit m h n (disks new) (keeps_every (EntriesFit m h n) new ks (loose ++ given) (header_of h.genesis n) (text m h.genesis []) (subst (KeepsAtLeast new ks) (sym (plain_append loose given)) keeps)
+    (grown_fit m h n ks s (loose ++ given) stands k rests near))
 
 pub put_covers : (m : Meaning) (genesis : Genesis) (n : ℕ) (old new : StoreValue) (ks : List Stored) (loose given : List Entry) (x : NodeMessage) → Holds old ks (plain loose) → KeepsAtLeast new ks (plain loose ++ plain given)
     → AllCover m genesis n (disks old) x → AllCover m genesis n (disks new) x
@@ -129,3 +145,7 @@ known_rests h n w f (Promise b) k = absurd k
 known_rests h n w f (Vote x) k = absurd k
 known_rests h n w f (Decided i c) (inl pair) = f.stems.pairs i c pair
 known_rests h n w f (Decided i c) (inr at) = entry_chosen h.genesis h.sent w.done f.stems.done i c at
+
+pub known_rest : (h : History) (n : ℕ) (w : View) → ViewFits h.genesis h.sent n w → (es : List Entry) → AllByRecursion (IsKnown w) es → AllByRecursion (Rests h) es
+known_rest h n w f [] all = tt
+known_rest h n w f (e ∷ es) all = (known_rests h n w f e all.0, known_rest h n w f es all.1)

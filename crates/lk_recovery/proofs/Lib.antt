@@ -9,5 +9,6 @@ mod Calling
 mod Spared
 mod Growing
 mod Rerunning
+mod Reaching
 mod Restoring
 pub mod Recoveries

@@ -1,5 +1,5 @@
 -- What a rebase leaves of a node and its store: the new Base covers what the old entries covered, and fits as they did.
-use Rattle.std.proofs.Common.{◌≡◌, ℕ, ◌+◌, ◌<◌, ◌≤◌, inl, inr, Bool, true, false, cond, List, [], ◌∷◌, map, length, Contains, refl, sym, ◌∙◌, ap, subst, subst₂, arith}
+use Rattle.std.proofs.Common.{◌≡◌, ℕ, ◌+◌, ◌*◌, ◌<◌, ◌≤◌, inl, inr, Bool, true, false, cond, List, [], ◌∷◌, ◌++◌, map, length, take, Contains, refl, sym, ◌∙◌, ap, subst, subst₂, arith}
 use Rattle.std.specs.Prelude.{⊤}
 use Rattle.lk_types.specs.BallotValue.{BallotValue}
 use Rattle.lk_types.specs.Ballots.{IsAtMost, is_below}
@@ -16,11 +16,12 @@ use Rattle.lk_entries.specs.Values.{BaseValue}
 use Rattle.lk_entries.specs.declared.stored.Stored.{Stored}
 use Rattle.lk_entries.specs.declared.stored.Stored.TheVariants.{Base}
 use Rattle.lk_log.specs.Causes.{rebase_calls}
+use Rattle.lk_log.specs.Images.{IsLive}
 use Rattle.lk_log.specs.StoreValue.{StoreValue, pick, disks}
 use Rattle.lk_log.specs.Stores.{HoldsOn, Holds, MayBegin, next_base, KeepsOrIs}
 use Rattle.lk_log.specs.Rooms.{StaysWithin}
 use Rattle.lk_log.proofs.Room.{within_same, within_first}
-use Rattle.lk_log.proofs.StoreLaws.{rising_stands, one_standing, one_header, of_every, synced_live, rebase_every}
+use Rattle.lk_log.proofs.StoreLaws.{rising_stands, one_standing, one_header, of_every, plain_take, synced_live, rebase_every}
 use Rattle.lk_state.specs.Meanings.{Meaning}
 use Rattle.lk_state.specs.Packed.{packed}
 use Rattle.lk_agreement.specs.Acceptors.{AcceptorState, Covers, AreProposed, TakesSnapshot}
@@ -34,18 +35,18 @@ use Rattle.lk_node.specs.Calls.{NodeFits, Goes}
 use Rattle.lk_node.specs.Entries.{EntriesFit}
 use Rattle.lk_node.specs.Histories.{History, Genesis, IsLawful}
 use Rattle.lk_node.specs.Holdings.{Holding, HoldingFits}
-use Rattle.lk_node.specs.Keeping.{IsKnown, Keeps, Stands}
+use Rattle.lk_node.specs.Keeping.{Keeps, Stands, StandsBefore}
 use Rattle.lk_node.specs.Leavings.{header_of, acceptor_of, DisksFit, AllCover}
 use Rattle.lk_node.specs.NodeValue.{NodeValue}
 use Rattle.lk_node.specs.Packing.{standing_of, standing_here}
+use Rattle.lk_node.specs.Reaching.{HoldsNear}
 use Rattle.lk_node.specs.Served.{text}
-use Rattle.lk_node.proofs.Nodes.{contains_more}
+use Rattle.lk_node.proofs.Nodes.{contains_more, window_is}
 use Rattle.lk_recovery.proofs.Growing.{grown_base}
 use Rattle.lk_recovery.specs.Compacting.{AllStandAt, IsDue, IsSameStore}
 use Rattle.lk_recovery.specs.Rebased.{HasGoneOver, StaysSafe, IsReadyToStep, LeavesDisks}
 use Rattle.lk_recovery.specs.Remembering.{Remembers}
-use Rattle.lk_recovery.proofs.Adding.{adds}
-use Rattle.lk_recovery.proofs.Images.{known_rests, EntriesCover, fit_entries, entries_fit, cover_entries, entries_cover, cover_disks, none_asked, cover_more}
+use Rattle.lk_recovery.proofs.Images.{known_rest, grown_fit, held_fit, EntriesCover, entries_fit, cover_entries, entries_cover, cover_disks, none_asked, cover_more}
 use Rattle.lk_recovery.proofs.Ordered.{standing_ordered}
 use Rattle.lk_recovery.proofs.Revivals.{nothing_later}
 
@@ -144,8 +145,18 @@ module _ (m : Meaning) (genesis : Genesis) (n : ℕ) (node : NodeValue) (old new
     };
   }
 
-module _ (m : Meaning) (genesis : Genesis) (n : ℕ) (node : NodeValue) (old new : StoreValue) (x : Holding) (shown : Stands m node old genesis n x)
-    (may : MayBegin (standing_of node)) (within : node.acceptor.state.snapshot_position ≤ executed node.learner) where
+-- a node that stands, stands in the middle of a step
+abbrev pub before_step : (m : Meaning) (node : NodeValue) (store : StoreValue) (genesis : Genesis) (n : ℕ) (x : Holding) → Stands m node store genesis n x → StandsBefore m node store genesis n x
+before_step m node store genesis n x s = record { whose = s.whose; keeps = s.keeps; known = s.known; held = s.held; some = s.told.tells.some; near = s.told.near }
+
+abbrev pub before_fits : (m : Meaning) (h : History) (n : ℕ) (node : NodeValue) (store : StoreValue) → NodeFits m h n (Stands m node store h.genesis n) (disks store) → NodeFits m h n (StandsBefore m node store h.genesis n) (disks store)
+before_fits m h n node store f = record { lawful = f.lawful; holding = f.holding; shown = before_step m node store h.genesis n f.holding f.shown; fits = f.fits; left = f.left }
+
+module _ (m : Meaning) (genesis : Genesis) (n : ℕ) (node : NodeValue) (old new : StoreValue) (x : Holding) (shown : StandsBefore m node old genesis n x)
+    (may : MayBegin (standing_of node)) (close : HoldsNear node) where
+  window : length node.learner.whole.roster.sets ≡ genesis.alpha
+  window = window_is m genesis x.view.done node.learner.whole shown.held.follows.sums
+
   -- what the node then holds
   abbrev pub here : Holding
   here = record { view = view_with x.view (without_votes_to x.view.acceptor (executed node.learner)); waiting = x.waiting; gathered = x.gathered }
@@ -154,7 +165,7 @@ module _ (m : Meaning) (genesis : Genesis) (n : ℕ) (node : NodeValue) (old new
   unfolding rebase_keeps
   rebase_stands holds = record {
     whose = shown.whose;
-    keeps = (rebase_keeps m genesis n node old new shown.keeps may within shown.whose holds).keeps;
+    keeps = (rebase_keeps m genesis n node old new shown.keeps may close.0.snapshot shown.whose holds).keeps;
     known = tt;
     held = record {
       acceptor = ap (λ (a : AcceptorState). without_votes_to a (executed node.learner)) shown.held.acceptor;
@@ -163,12 +174,23 @@ module _ (m : Meaning) (genesis : Genesis) (n : ℕ) (node : NodeValue) (old new
       waiting = shown.held.waiting;
       gathered = shown.held.gathered;
     };
+    told = record {
+      near = tt;
+      tells = record {
+        some = shown.some;
+        votes_ahead = close.0.alpha_is ∙ window;
+        window = window;
+        above = omega arith;
+        reached = λ i low most. absurd (omega (arith, low, most));
+        kept = λ p c. (p.1, c);
+      };
+    };
   }
 
 -- ---- in a history
 
-module _ (m : Meaning) (h : History) (n : ℕ) (node : NodeValue) (old new : StoreValue) (x : Holding) (shown : Stands m node old h.genesis n x)
-    (may : MayBegin (standing_of node)) (within : node.acceptor.state.snapshot_position ≤ executed node.learner) (lawful : IsLawful m h) (fits : HoldingFits m h n x) where
+module _ (m : Meaning) (h : History) (n : ℕ) (node : NodeValue) (old new : StoreValue) (x : Holding) (shown : StandsBefore m node old h.genesis n x)
+    (may : MayBegin (standing_of node)) (close : HoldsNear node) (lawful : IsLawful m h) (fits : HoldingFits m h n x) where
   far : executed node.learner ≡ length x.view.done
   far = executed_is m h.genesis x.view.done node.learner.whole shown.held.follows.sums
 
@@ -176,29 +198,44 @@ module _ (m : Meaning) (h : History) (n : ℕ) (node : NodeValue) (old new : Sto
   pub base_fits : EntriesFit m h n (Base (next_base old (standing_of node)) ∷ [])
   base_fits = record {
     standing = standing_of node;
-    header = base_header m h.genesis n node old new shown.keeps may within;
-    stands = base_stands m h.genesis n node old new shown.keeps may within;
+    header = base_header m h.genesis n node old new shown.keeps may close.0.snapshot;
+    stands = base_stands m h.genesis n node old new shown.keeps may close.0.snapshot;
     under = x.view.done;
     position = sym far;
     snapshot = ap packed shown.held.follows.sums;
-    covers = λ y sent. snapshot_covers node.acceptor.state (without_votes_to node.acceptor.state (executed node.learner)) (executed node.learner) (takes m h.genesis n node old new shown.keeps may within) y
+    covers = λ y sent. snapshot_covers node.acceptor.state (without_votes_to node.acceptor.state (executed node.learner)) (executed node.learner) (takes m h.genesis n node old new shown.keeps may close.0.snapshot) y
         (subst (λ (a : AcceptorState). Covers a y) shown.held.acceptor (fits.view.covers y sent));
     stems = record {
-      votes = λ v c. subst (AreProposed h.genesis h.sent) shown.held.acceptor fits.view.stems.votes v ((takes m h.genesis n node old new shown.keeps may within).only v c);
+      votes = λ v c. subst (AreProposed h.genesis h.sent) shown.held.acceptor fits.view.stems.votes v ((takes m h.genesis n node old new shown.keeps may close.0.snapshot).only v c);
       done = fits.view.stems.done;
       snapshot = omega (arith, far);
       pairs = λ i v c. fits.view.stems.pairs i v (shown.held.follows.known (i, v) c);
+    };
+    near = record {
+      votes = λ v c. (
+        executed node.learner,
+        λ i low most. absurd (omega (arith, low, most)),
+        omega (arith, close.0.votes v ((takes m h.genesis n node old new shown.keeps may close.0.snapshot).only v c), window m h.genesis n node old new x shown may close),
+      );
+      pairs = λ p c. (executed node.learner, λ i low most. absurd (omega (arith, low, most)), omega (arith, close.1.near p c, window m h.genesis n node old new x shown may close));
     };
   }
 
   -- after any exit of a rebase every image fits
   pub rebase_fits : KeepsOrIs (disks new) shown.keeps.entries (plain shown.keeps.loose) (next_base old (standing_of node)) → DisksFit m h n (disks old) → DisksFit m h n (disks new)
   rebase_fits keeps left =
-      entries_fit m h n (disks new)
-      (rebase_every (EntriesFit m h n) (IsKnown x.view) old new shown.keeps.entries (plain shown.keeps.loose) shown.keeps.loose (next_base old (standing_of node)) (header_of h.genesis n) (text m h.genesis []) shown.keeps.holds refl keeps
-      (λ es e k f. adds m h n es e (known_rests h n x.view fits.view e k) f) shown.known base_fits (fit_entries m h n (disks old) left))
+      let k = shown.keeps in
+      let rests = known_rest h n x.view fits.view k.loose shown.known in
+      entries_fit m h n (disks new) (λ image kept. elim (keeps image kept) [
+        | inl at ↦ (
+          k.entries ++ plain (take at.0 k.loose),
+          inl (subst (λ (l : List Stored). IsLive image (k.entries ++ l)) (plain_take at.0 k.loose) at.1),
+          grown_fit m h n k.entries k.standing k.loose k.stands (held_fit m h n old k.entries (plain k.loose) k.holds left) rests shown.near at.0,
+        )
+        | inr alone ↦ (Base (next_base old (standing_of node)) ∷ [], inl alone, base_fits)
+      ])
 
-  pub here_fits : HoldingFits m h n (here m h.genesis n node old new x shown may within)
+  pub here_fits : HoldingFits m h n (here m h.genesis n node old new x shown may close)
   here_fits = record {
     view = change_fits h.genesis h.sent lawful.sound n x.view (view_with x.view (without_votes_to x.view.acceptor (executed node.learner))) fits.view
         (packs (executed node.learner) (without_votes_to x.view.acceptor (executed node.learner)) (omega (arith, far))
@@ -211,8 +248,8 @@ module _ (m : Meaning) (h : History) (n : ℕ) (node : NodeValue) (old new : Sto
   -- where it was made the node goes on, with nothing noted and nothing sent
   pub rebase_goes : Holds new (Base (next_base old (standing_of node)) ∷ []) [] → DisksFit m h n (disks new) → Goes m h n (Stands m (standing_here node) new h.genesis n) (disks new) [] []
   rebase_goes holds left = record {
-    holding = here m h.genesis n node old new x shown may within;
-    shown = rebase_stands m h.genesis n node old new x shown may within holds;
+    holding = here m h.genesis n node old new x shown may close;
+    shown = rebase_stands m h.genesis n node old new x shown may close holds;
     fits = here_fits;
     may = λ d c. absurd (omega (arith, c.1));
     noted = λ y c. absurd (omega (arith, c.1));
@@ -267,6 +304,7 @@ module _ (m : Meaning) (old new : StoreValue) (same : IsSameStore old new) where
     keeps = (same_remembers node genesis n (record { whose = s.whose; keeps = s.keeps })).keeps;
     known = s.known;
     held = s.held;
+    told = s.told;
   }
 
   pub same_fit : (h : History) (n : ℕ) → DisksFit m h n (disks old) → DisksFit m h n (disks new)
@@ -287,13 +325,13 @@ goes_fits m h n node store lawful left g = record { lawful = lawful; holding = g
 
 -- ---- what a rebase comes to
 
-module _ (m : Meaning) (node : NodeValue) (old new : StoreValue) (may : MayBegin (standing_of node)) (within : node.acceptor.state.snapshot_position ≤ executed node.learner)
+module _ (m : Meaning) (node : NodeValue) (old new : StoreValue) (may : MayBegin (standing_of node)) (close : HoldsNear node)
     (any : (ks ls : List Stored) → Holds old ks ls → KeepsOrIs (disks new) ks ls (next_base old (standing_of node))) where
   -- after any exit
   pub stays_safe : StaysWithin 49152 (disks old) (disks new) → StaysSafe m node old new
   stays_safe room = record {
-    fits = λ h n f. rebase_fits m h n node old new f.holding f.shown may within f.lawful f.fits (any f.shown.keeps.entries (plain f.shown.keeps.loose) f.shown.keeps.holds) f.left;
-    covers = λ genesis n x keeps every. rebase_covers m genesis n node old new keeps may within (any keeps.entries (plain keeps.loose) keeps.holds) x every;
+    fits = λ h n f. rebase_fits m h n node old new f.holding f.shown may close f.lawful f.fits (any f.shown.keeps.entries (plain f.shown.keeps.loose) f.shown.keeps.holds) f.left;
+    covers = λ genesis n x keeps every. rebase_covers m genesis n node old new keeps may close.0.snapshot (any keeps.entries (plain keeps.loose) keeps.holds) x every;
     room = room;
   }
 
@@ -305,21 +343,21 @@ module _ (m : Meaning) (node : NodeValue) (old new : StoreValue) (may : MayBegin
     calls = calls;
     short = short;
     goes = λ h n f.
-        rebase_goes m h n node old new f.holding f.shown may within f.lawful f.fits (writes f.shown.keeps.entries (plain f.shown.keeps.loose) f.shown.keeps.holds)
-        (rebase_fits m h n node old new f.holding f.shown may within f.lawful f.fits (any f.shown.keeps.entries (plain f.shown.keeps.loose) f.shown.keeps.holds) f.left);
+        rebase_goes m h n node old new f.holding (before_step m node old h.genesis n f.holding f.shown) may close f.lawful f.fits (writes f.shown.keeps.entries (plain f.shown.keeps.loose) f.shown.keeps.holds)
+        (rebase_fits m h n node old new f.holding (before_step m node old h.genesis n f.holding f.shown) may close f.lawful f.fits (any f.shown.keeps.entries (plain f.shown.keeps.loose) f.shown.keeps.holds) f.left);
     shows = λ genesis n held shown. (
-      here m genesis n node old new held shown may within,
-      rebase_stands m genesis n node old new held shown may within (writes shown.keeps.entries (plain shown.keeps.loose) shown.keeps.holds),
+      here m genesis n node old new held (before_step m node old genesis n held shown) may close,
+      rebase_stands m genesis n node old new held (before_step m node old genesis n held shown) may close (writes shown.keeps.entries (plain shown.keeps.loose) shown.keeps.holds),
     );
-    remembers = λ genesis n shown. rebase_keeps m genesis n node old new shown.keeps may within shown.whose (writes shown.keeps.entries (plain shown.keeps.loose) shown.keeps.holds);
-    syncs = λ genesis n x keeps covers. rebase_syncs m genesis n node old new keeps may within (writes keeps.entries (plain keeps.loose) keeps.holds) x covers;
-    stands = λ genesis n held shown. all_stand m genesis n node old new held shown may within (writes shown.keeps.entries (plain shown.keeps.loose) shown.keeps.holds);
+    remembers = λ genesis n shown. rebase_keeps m genesis n node old new shown.keeps may close.0.snapshot shown.whose (writes shown.keeps.entries (plain shown.keeps.loose) shown.keeps.holds);
+    syncs = λ genesis n x keeps covers. rebase_syncs m genesis n node old new keeps may close.0.snapshot (writes keeps.entries (plain keeps.loose) keeps.holds) x covers;
+    stands = λ genesis n held shown. all_stand m genesis n node old new held shown may close.0.snapshot (writes shown.keeps.entries (plain shown.keeps.loose) shown.keeps.holds);
   }
 
 -- what it leaves on the disks
 pub leaves_safe : (m : Meaning) (node : NodeValue) (old new : StoreValue) → StaysSafe m node old new → LeavesDisks m (λ h. ⊤) 49152 node old (disks new)
 leaves_safe m node old new safe = record {
-  ends = λ h n f heard. safe.fits h n f;
+  ends = λ h n f heard. safe.fits h n (before_fits m h n node old f);
   covers = λ genesis n x shown every. safe.covers genesis n x shown.keeps every;
   room = safe.room;
   grows = grown_base (disks old) (disks new) safe.room;
@@ -361,14 +399,14 @@ module _ (m : Meaning) (node : NodeValue) (old mid : StoreValue) (same : IsSameS
     };
     calls = λ metered. (rebase_calls, record { due = λ _. refl; rests = λ other. absurd (other due) }, passes_on 0 (calls metered) rebase_calls (done.calls metered));
     short = omega (arith, done.short);
-    fits = λ h n f. let between = same_node_fits m old mid same node h n f in goes_fits m h n new after f.lawful (safe.fits h n between) (done.goes h n between);
+    fits = λ h n f. let between = same_node_fits m old mid same node h n f in goes_fits m h n new after f.lawful (safe.fits h n (before_fits m h n node mid between)) (done.goes h n between);
     shows = λ genesis n held shown. done.shows genesis n held (same_stands m old mid same node genesis n held shown);
     remembers = λ genesis n shown. done.remembers genesis n (same_remembers m old mid same node genesis n shown);
   }
 
   pub leaves_by_rebase : (after : StoreValue) → StaysSafe m node mid after → LeavesDisks m (λ h. ⊤) 49152 node old (disks after)
   leaves_by_rebase after safe = record {
-    ends = λ h n f heard. safe.fits h n (same_node_fits m old mid same node h n f);
+    ends = λ h n f heard. safe.fits h n (before_fits m h n node mid (same_node_fits m old mid same node h n f));
     covers = λ genesis n x shown every. safe.covers genesis n x (same_remembers m old mid same node genesis n shown).keeps (same_cover m old mid same genesis n x every);
     room = within_first 49152 (disks old) (disks mid) (disks after) (same_room m old mid same) safe.room;
     grows = grown_base (disks old) (disks after) (within_first 49152 (disks old) (disks mid) (disks after) (same_room m old mid same) safe.room);

@@ -1,5 +1,5 @@
 -- What a node holds that has just been revived: what its standing stands for, and what it ran of it.
-use Rattle.std.proofs.Common.{◌≡◌, ℕ, zero, suc, ◌+◌, ◌⊎◌, inl, inr, eqb, List, [], ◌∷◌, ◌++◌, take, drop, length, Some, None, slice_get, Contains, refl, ap, sym, ◌∙◌, subst, arith, append_assoc, append-nil, length-append}
+use Rattle.std.proofs.Common.{◌≡◌, ℕ, zero, suc, ◌+◌, ◌<◌, ◌⊎◌, inl, inr, eqb, List, [], ◌∷◌, ◌++◌, take, drop, length, Some, None, slice_get, Contains, refl, ap, sym, ◌∙◌, subst, arith, append_assoc, append-nil, length-append}
 use Rattle.std.specs.List.{AllByRecursion}
 use Rattle.std.proofs.lemmas.Bool.{cases_Bool, eqb-true}
 use Rattle.lk_types.specs.Commands.{IsCommand}
@@ -8,14 +8,16 @@ use Rattle.lk_types.proofs.Values.{same_genesis}
 use Rattle.lk_disk.specs.Disk.{Disk, other}
 use Rattle.lk_disk.specs.declared.device.Side.{Side}
 use Rattle.lk_disk.specs.declared.device.Side.TheVariants.{A, B}
+use Rattle.lk_entries.specs.Standings.{HasHeader, StandsFor}
 use Rattle.lk_entries.specs.Values.{HeaderValue, StandingValue}
-use Rattle.lk_log.specs.Images.{Image, seen}
+use Rattle.lk_entries.specs.declared.stored.Stored.{Stored}
+use Rattle.lk_log.specs.Images.{Image, IsDamaged, seen}
 use Rattle.lk_log.specs.Rooms.{StaysWithin}
 use Rattle.lk_log.specs.StoreValue.{StoreValue, pick, disks}
-use Rattle.lk_log.specs.Stores.{Opens, NarrowsOrBegins}
+use Rattle.lk_log.specs.Stores.{Opens, NarrowsOrBegins, IsWrong}
 use Rattle.lk_log.specs.declared.fault.StoreFault.{StoreFault}
 use Rattle.lk_log.specs.declared.fault.StoreFault.TheVariants as store
-use Rattle.lk_log.proofs.StoreLaws.{one_standing, opens_found, opens_holds}
+use Rattle.lk_log.proofs.StoreLaws.{found_live, found_sound, one_standing, opens_found, opens_holds, seen_left}
 use Rattle.lk_state.specs.Meanings.{Meaning, KeepsTexts}
 use Rattle.lk_state.specs.Packed.{packed}
 use Rattle.lk_state.specs.States.{WholeValue, whole_after}
@@ -30,7 +32,7 @@ use Rattle.lk_learner.specs.Learners.{Pair}
 use Rattle.lk_learner.proofs.Learnerships.{executed_is}
 use Rattle.lk_step.specs.declared.note.Note.{Note}
 use Rattle.lk_node.specs.Entries.{EntriesFit}
-use Rattle.lk_recovery.specs.Faults.{fault_number, fault_of}
+use Rattle.lk_recovery.specs.Faults.{fault_number, fault_of, IsNumberOfRevival}
 use Rattle.lk_recovery.specs.declared.fault.ReplicaFault.{ReplicaFault}
 use Rattle.lk_recovery.specs.declared.fault.ReplicaFault.TheVariants as fault
 use Rattle.lk_node.specs.Histories.{History, Genesis, Command, Datagram, later, IsLawful}
@@ -40,10 +42,12 @@ use Rattle.lk_node.specs.Leavings.{header_of, acceptor_of, view_of, ImageFits, D
 use Rattle.lk_node.specs.Calls.{Goes, NodeFits}
 use Rattle.lk_node.specs.NodeValue.{NodeValue}
 use Rattle.lk_recovery.specs.Remembering.{Remembers}
-use Rattle.lk_recovery.specs.Revivals.{run_from, all_ran, notes_of, relearned, Restores}
+use Rattle.lk_recovery.specs.Revivals.{run_from, all_ran, notes_of, relearned, revived, MayRevive, Restores}
+use Rattle.lk_recovery.proofs.Reaching.{run_decided, near_revives}
 use Rattle.lk_node.specs.Served.{text, IsOfNode, IsBorneOut}
 use Rattle.lk_recovery.proofs.Images.{fit_entries, opening_fits, opening_covers}
-use Rattle.lk_node.proofs.Nodes.{cons_cases, contains_more}
+use Rattle.lk_node.proofs.Nodes.{cons_cases, contains_more, window_is}
+use Rattle.lk_node.specs.Reaching.{IsTold}
 
 -- nothing more was sent
 pub nothing_later : (m : Meaning) (h : History) (n : ℕ) (disks : Side → Disk) → DisksFit m h n disks → (k : ℕ) → DisksFit m (later h (take k [])) n disks
@@ -219,12 +223,33 @@ module _ (m : Meaning) (IsText : List ℕ → Type 0) (keeps : KeepsTexts IsText
         gathered = λ g is. absurd (cc is);
       }
 
+  -- what the pairs reach is executed
+  told : IsTold h.genesis.alpha s [] (revived m (header_of h.genesis n) s r.whole)
+  told =
+      let sums = (follows_again m h.genesis under r.whole s.pairs unpacked).sums in
+      let far : (relearned m r.whole s.pairs).whole.roster.executed ≡ length (under ++ ran) = executed_is m h.genesis (under ++ ran) (relearned m r.whole s.pairs).whole sums in
+      let longer : length (under ++ ran) ≡ length under + length ran = length-append under ran in
+      record {
+        near = tt;
+        tells = record {
+          some = fits.1.0;
+          votes_ahead = refl;
+          window = window_is m h.genesis (under ++ ran) (relearned m r.whole s.pairs).whole sums;
+          above = omega (arith, far, longer, place);
+          reached = λ i low most.
+              let from : r.whole.roster.executed < i = omega (arith, low, at, place) in
+              run_decided r.whole.roster.executed s.pairs i from (omega (arith, most, far, longer, at));
+          kept = λ p c. (p.1, among_all (length ran) s.pairs p c);
+        };
+      }
+
   shown : Stands m node store h.genesis n holding
   shown = subst (λ (k : NodeValue). Stands m k store h.genesis n holding) (sym r.node_is) (record {
     whose = refl;
     keeps = record { entries = o.entries; loose = []; holds = opens_holds (seen old) (header_of h.genesis n) (text m h.genesis []) store s o named; decided = tt; header = o.header; standing = s; stands = o.stands; remembers = refl };
     known = tt;
     held = record { acceptor = refl; follows = follows_again m h.genesis under r.whole s.pairs unpacked; leads = λ k is. absurd (cc is); waiting = refl; gathered = refl };
+    told = told;
   })
 
   pub revived_goes : DisksFit m h n (disks store) → Goes m h n (Stands m node store h.genesis n) (disks store) notes []
@@ -290,6 +315,54 @@ given_cover m genesis n x store d here there = subst (λ (e : Side → Disk). Al
 
 pub given_room : (most : ℕ) (old : Side → Disk) (store : StoreValue) (d : Side → Disk) → d store.live ≡ store.live_disk → d (other store.live) ≡ store.other_disk → StaysWithin most old (disks store) → StaysWithin most old d
 given_room most old store d here there = subst (StaysWithin most old) (λ i s. sym (picked store.live d store.live_disk store.other_disk here there s) i)
+
+-- ---- disks that fit restart
+
+-- a node may restart from what fits
+pub fit_revives : (m : Meaning) (IsText : List ℕ → Type 0) (keeps : KeepsTexts IsText m) (h : History) (n : ℕ) (es : List Stored) (s : StandingValue) → IsGenesis h.genesis → EntriesFit m h n es → StandsFor es s
+    → (w : WholeValue) × MayRevive IsText (header_of h.genesis n) s w
+fit_revives m IsText keeps h n es s fits f stands =
+    let same : f.standing ≡ s = one_standing es f.standing s f.stands stands in
+    let w : WholeValue = whole_after m h.genesis f.under in
+    let whole = states_fit IsText m keeps h.genesis f.under fits (all_at IsCommand f.under (λ i v at. (chosen_fits h.genesis h.sent f.under f.stems.done i v at).1)) (chosen_short h.genesis h.sent f.under f.stems.done) in
+    (
+      w,
+      subst (λ (t : StandingValue). MayRevive IsText (header_of h.genesis n) t w) same
+      (near_revives IsText (header_of h.genesis n) f.standing w
+      (record { packs = (whole, f.snapshot); executed = executed_is m h.genesis f.under w refl ∙ f.position; sets = window_is m h.genesis f.under w refl }) f.stands.pairs_rise f.near),
+    )
+
+-- so what was opened does not refuse as damaged
+pub restored_number : (m : Meaning) (IsText : List ℕ → Type 0) (keeps : KeepsTexts IsText m) (h : History) (n : ℕ) (old : Side → Disk) (whose : HeaderValue) (store : StoreValue) (s : StandingValue) (f : ReplicaFault) → IsGenesis h.genesis
+    → whose ≡ header_of h.genesis n → Opens (seen old) (header_of h.genesis n) (text m h.genesis []) store s → DisksFit m h n old → (f ≡ fault.Damaged) ⊎ (f ≡ fault.NoMemory)
+    → (f ≡ fault.Damaged → (w : WholeValue) → MayRevive IsText whose s w → ⊥) → IsNumberOfRevival (fault_number f)
+restored_number m IsText keeps h n old whose store s f fits is o before only none = elim only [
+  | inl damaged ↦
+      let mine : EntriesFit m h n o.entries = opens_found (EntriesFit m h n) old (header_of h.genesis n) (text m h.genesis []) store s o (fit_entries m h n old before) in
+      let may = fit_revives m IsText keeps h n o.entries s fits mine o.stands in
+      absurd (none damaged may.0 (subst (λ (w : HeaderValue). MayRevive IsText w s may.0) (sym is) may.1))
+  | inr memory ↦ inr (inl (ap fault_number memory))
+]
+
+-- they are not damaged
+pub never_damaged : (m : Meaning) (h : History) (n : ℕ) (disks : Side → Disk) → DisksFit m h n disks → IsDamaged (seen disks) → ⊥
+never_damaged m h n disks fits damaged =
+    let f = (fits (seen disks) (seen_left disks)).stands in
+    found_sound (seen disks) (header_of h.genesis n) (text m h.genesis []) f.entries f.found damaged
+
+-- nor another's
+pub never_wrong : (m : Meaning) (h : History) (n : ℕ) (disks : Side → Disk) → DisksFit m h n disks → IsWrong (seen disks) (header_of h.genesis n) → ⊥
+never_wrong m h n disks fits wrong =
+    let f = (fits (seen disks) (seen_left disks)).stands in
+    wrong.2 (subst (λ (es : List Stored). HasHeader es (header_of h.genesis n)) (found_live (seen disks) (header_of h.genesis n) (text m h.genesis []) f.entries wrong.0 wrong.1 f.found) f.header)
+
+-- any other error of a store is one of these
+pub store_number : (f : StoreFault) → (f ≡ store.Damaged → ⊥) → (f ≡ store.WrongStore → ⊥) → (f ≡ store.Failed → ⊥) → IsNumberOfRevival (fault_number (fault_of f))
+store_number store.Device sound own last = inl refl
+store_number store.NoMemory sound own last = inr (inl refl)
+store_number store.Damaged sound own last = absurd (sound refl)
+store_number store.WrongStore sound own last = absurd (own refl)
+store_number store.Failed sound own last = absurd (last refl)
 
 -- ---- which refusal it is
 

@@ -70,9 +70,9 @@ IsStoreFault number = (number ≡ 7) ⊎ (number ≡ 8) ⊎ (number ≡ 11)
 abbrev pub IsNumberOfCalls : ℕ → Type 0
 IsNumberOfCalls number = (number ≡ 7) ⊎ (number ≡ 8) ⊎ (number ≡ 11) ⊎ (number ≡ 14) ⊎ (number ≡ 15)
 
--- a restart from disks that fit fails with one of these: such disks are not another's
+-- a restart from disks that fit fails with one of these: such disks are neither damaged nor another's
 abbrev pub IsNumberOfRevival : ℕ → Type 0
-IsNumberOfRevival number = (number ≡ 7) ⊎ (number ≡ 8) ⊎ (number ≡ 9) ⊎ (number ≡ 11)
+IsNumberOfRevival number = (number ≡ 7) ⊎ (number ≡ 8) ⊎ (number ≡ 11)
 
 -- the device has failed, or the store failed earlier, or it has no generation left: an error other than out of memory
 abbrev pub WantsNoMemory : ℕ → Type 0

@@ -16,7 +16,7 @@ use Rattle.lk_node.specs.Calls.{NodeFits, Goes}
 use Rattle.lk_node.specs.Executing.{NothingToRun}
 use Rattle.lk_node.specs.Histories.{History, Genesis}
 use Rattle.lk_node.specs.Holdings.{Holding}
-use Rattle.lk_node.specs.Keeping.{Keeps, Stands}
+use Rattle.lk_node.specs.Keeping.{Keeps, Stands, StandsBefore}
 use Rattle.lk_node.specs.Leavings.{header_of, DisksFit, AllCover}
 use Rattle.lk_node.specs.NodeValue.{NodeValue}
 use Rattle.lk_node.specs.Packing.{standing_of, standing_here}
@@ -56,7 +56,7 @@ pub record HasGoneOver (m : Meaning) (Metered : Type 0) (node : NodeValue) (stor
 -- each image that a stop may leave of the store fits each history that the node fitted, and covers what every image
 -- covered; neither file has grown, except up to the size of a Base
 pub record StaysSafe (m : Meaning) (node : NodeValue) (store after : StoreValue) : Type 0 where
-  pub fits : (h : History) (n : ℕ) → NodeFits m h n (Stands m node store h.genesis n) (disks store) → DisksFit m h n (disks after)
+  pub fits : (h : History) (n : ℕ) → NodeFits m h n (StandsBefore m node store h.genesis n) (disks store) → DisksFit m h n (disks after)
   pub covers : (genesis : Genesis) (n : ℕ) (x : NodeMessage) → Keeps (header_of genesis n) store node.acceptor.state → AllCover m genesis n (disks store) x → AllCover m genesis n (disks after) x
   pub room : StaysWithin max_base (disks store) (disks after)
 

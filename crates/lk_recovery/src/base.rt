@@ -5,8 +5,8 @@ ghost use Rattle.lk_disk.specs.Disk.{contents};
 ghost use Rattle.lk_entries.specs.declared.stored.Stored.{Stored};
 ghost use Rattle.lk_log.specs.StoreValue.{disks};
 ghost use Rattle.lk_log.specs.Stores.{Holds, KeepsItsFile, KeepsOrIs, next_base};
-ghost use Rattle.lk_learner.specs.Learners.{executed};
 ghost use Rattle.lk_node.specs.Packing.{standing_of};
+ghost use Rattle.lk_node.specs.Reaching.{HoldsNear};
 ghost use Rattle.lk_recovery.specs.Compacting.{IsDue, IsSameStore};
 ghost use Rattle.lk_recovery.specs.Rebased.{StandsOnBase, HasGoneOver, StaysSafe, IsNotRebased, StaysAlive, IsReadyToStep, LeavesDisks};
 ghost use Rattle.lk_recovery.specs.Faults.{fault_number, RaisesFailures, PassesOr, WantsNoMemory};
@@ -33,7 +33,8 @@ pub fn write_base<M: Machine, D: LogDisk + Drop>(
     ensures disks { D.is_honest → StaysSafe M.meaning node.old store.old store.new }
     // However it ends, every image has what it had before, or the Base alone.
     ensures any { D.is_honest → (ks ls : List Stored) → Holds store.old ks ls → KeepsOrIs (disks store.new) ks ls (next_base store.old (standing_of node.old)) }
-    ensures within { node.old.acceptor.state.snapshot_position ≤ executed node.old.learner }
+    // What the node holds above what it has executed lies near.
+    ensures near { HoldsNear node.old }
     ensures wakes { node.new.halted ≡ node.old.halted }
     ensures format_stays { store.old.format ≡ 2 → store.new.format ≡ 2 }
     // An error leaves the node unchanged, and the same file live.

@@ -10,7 +10,7 @@ ghost use Rattle.lk_state.specs.States.{WholeValue};
 ghost use Rattle.lk_agreement.specs.Datagrams.{NodeMessage};
 ghost use Rattle.lk_node.specs.Calls.{Goes};
 ghost use Rattle.lk_recovery.specs.Remembering.{Remembers};
-ghost use Rattle.lk_recovery.specs.Faults.{fault_number, failures_by, RefusedAfter};
+ghost use Rattle.lk_recovery.specs.Faults.{fault_number, failures_by, RefusedAfter, IsNumberOfRevival};
 ghost use Rattle.lk_node.specs.Executing.{NothingToRun};
 ghost use Rattle.lk_node.specs.Histories.{History, Genesis as GenesisValue, IsLawful};
 ghost use Rattle.lk_node.specs.Keeping.{Stands};
@@ -117,11 +117,12 @@ pub fn take_up<M: Machine, D: LogDisk + Drop>(
     device: D,
     header: &Header,
 ) -> Result<TakenUp<M, D>, ReviveFault<D>>
-    // If the disks fit a history, the restarted replica goes on in it, and what an error leaves fits it.
+    // If the disks fit a history, the restarted replica goes on in it, and what an error leaves fits it; they are
+    // neither damaged nor another's.
     ensures fits { D.is_honest → (h : History) (n : ℕ) → header.now ≡ header_of h.genesis n → IsLawful M.meaning h → DisksFit M.meaning h n (D.disk device)
         → MatchResult result
         (λ r. Goes M.meaning h n (Stands M.meaning r.node r.store h.genesis n) (disks r.store) r.notes.items [])
-        (λ e. DisksFit M.meaning h n (D.disk e.device)) }
+        (λ e. IsNumberOfRevival (fault_number e.fault) × DisksFit M.meaning h n (D.disk e.device)) }
     // Every image covers whatever every image covered before.
     ensures covers { D.is_honest → (genesis : GenesisValue) (n : ℕ) (x : NodeMessage) → header.now ≡ header_of genesis n → AllCover M.meaning genesis n (D.disk device) x
         → MatchResult result (λ r. AllCover M.meaning genesis n (disks r.store) x) (λ e. AllCover M.meaning genesis n (D.disk e.device) x) }

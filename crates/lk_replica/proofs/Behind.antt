@@ -25,10 +25,11 @@ use Rattle.lk_node.specs.Calls.{InputFits, MayGo, NodeFits, Goes}
 use Rattle.lk_node.specs.Entries.{EntriesFit}
 use Rattle.lk_node.specs.Histories.{History, Genesis, Datagram, later, IsLawful}
 use Rattle.lk_node.specs.Holdings.{Holding, HoldingFits}
-use Rattle.lk_node.specs.Keeping.{Keeps, Stands}
+use Rattle.lk_node.specs.Keeping.{Keeps, Stands, StandsBefore}
 use Rattle.lk_node.specs.Leavings.{header_of, acceptor_of, view_of}
 use Rattle.lk_node.specs.NodeValue.{NodeValue}
 use Rattle.lk_node.specs.Packing.{standing_of, standing_here}
+use Rattle.lk_node.specs.Reaching.{HoldsNear}
 use Rattle.lk_node.specs.Served.{IsOfNode, IsBorneOut}
 use Rattle.lk_node.specs.Serving.{IsLight, Tells, Serves, GoesOn}
 use Rattle.lk_replica.specs.Posts.{AreOf}
@@ -53,21 +54,21 @@ light_may h w i (kinds.Passed p) light may = may
 light_may h w i (kinds.Lead b k) light may = may
 
 -- The node stands on the store as it was before the step, since the step has left its acceptor and what is unsynced known.
-module _ (m : Meaning) (h : History) (n : ℕ) (node : NodeValue) (old new : StoreValue) (x : Holding) (shown : Stands m node old h.genesis n x)
-    (may : MayBegin (standing_of node)) (within : node.acceptor.state.snapshot_position ≤ executed node.learner) (lawful : IsLawful m h) (fits : HoldingFits m h n x)
+module _ (m : Meaning) (h : History) (n : ℕ) (node : NodeValue) (old new : StoreValue) (x : Holding) (shown : StandsBefore m node old h.genesis n x)
+    (may : MayBegin (standing_of node)) (close : HoldsNear node) (lawful : IsLawful m h) (fits : HoldingFits m h n x)
     (out : OutboxValue) (tells : (l : LetterValue) → Contains out.letters l → Tells node.header node.acceptor.state out.rebase l)
     (goes : (d : Datagram) → Contains (batch_of n out.letters) d → MayGo m h n x.view d) (light : (d : Datagram) (c : Contains (batch_of n out.letters) d) → IsLight (goes d c).message)
     (noted : (k : Note) → Contains out.notes k → IsOfNode k × IsBorneOut m h k) (holds : Holds new (Base (next_base old (standing_of node)) ∷ []) [])
     (sent : List LetterValue) (among : AreOf sent out.letters) where
   base : EntriesFit m h n (Base (next_base old (standing_of node)) ∷ [])
-  base = base_fits m h n node old new x shown may within lawful fits
+  base = base_fits m h n node old new x shown may close lawful fits
 
   same : standing_of node ≡ base.standing
-  same = one_standing (Base (next_base old (standing_of node)) ∷ []) (standing_of node) base.standing (base_stands m h.genesis n node old new shown.keeps may within) base.stands
+  same = one_standing (Base (next_base old (standing_of node)) ∷ []) (standing_of node) base.standing (base_stands m h.genesis n node old new shown.keeps may close.0.snapshot) base.stands
 
   sent_covered : (k : ℕ) → CoversSent h.genesis (take k (batch_of n sent)) n (acceptor_of (standing_of node))
   sent_covered k y c =
-      snapshot_covers node.acceptor.state (without_votes_to node.acceptor.state (executed node.learner)) (executed node.learner) (takes_snapshot node.acceptor.state (executed node.learner) within) y
+      snapshot_covers node.acceptor.state (without_votes_to node.acceptor.state (executed node.learner)) (executed node.learner) (takes_snapshot node.acceptor.state (executed node.learner) close.0.snapshot) y
       (batch_covered h.genesis n node out.rebase sent shown.whose (λ l d. tells l (among l d)) k y c)
 
   sent_fit : (k : ℕ) → EntriesFit m (later h (take k (batch_of n sent))) n (Base (next_base old (standing_of node)) ∷ [])
@@ -81,19 +82,21 @@ module _ (m : Meaning) (h : History) (n : ℕ) (node : NodeValue) (old new : Sto
     covers = covers_both h.genesis h.sent (take k (batch_of n sent)) n (acceptor_of base.standing) base.covers
         (subst (λ (s : StandingValue). CoversSent h.genesis (take k (batch_of n sent)) n (acceptor_of s)) same (sent_covered k));
     stems = still_stems h.genesis h.sent (take k (batch_of n sent)) (view_of base.standing base.under) base.stems;
+    near = base.near;
   }
 
   pub rebased_goes : Goes m h n (Stands m (standing_here node) new h.genesis n) (disks new) out.notes (batch_of n sent)
   rebased_goes = record {
-    holding = here m h.genesis n node old new x shown may within;
-    shown = rebase_stands m h.genesis n node old new x shown may within holds;
-    fits = here_fits m h n node old new x shown may within lawful fits;
+    holding = here m h.genesis n node old new x shown may close;
+    shown = rebase_stands m h.genesis n node old new x shown may close holds;
+    fits = here_fits m h n node old new x shown may close lawful fits;
     may = λ d c.
         let listed = batch_among n sent out.letters among d c in
         let k = goes d listed in
         record { message = k.message; from = k.from; spelled = k.spelled; may = light_may h x.view (executed node.learner) k.message (light d listed) k.may; served = k.served };
     noted = noted;
-    left = λ k. fit_disks m (later h (take k (batch_of n sent))) n new (Base (next_base old (standing_of node)) ∷ []) [] holds tt (sent_fit k);
+    left = λ k. fit_disks m (later h (take k (batch_of n sent))) n new (Base (next_base old (standing_of node)) ∷ []) (standing_of node) [] holds
+        (base_stands m h.genesis n node old new shown.keeps may close.0.snapshot) tt tt (sent_fit k);
   }
 
 -- ---- the call
@@ -129,7 +132,7 @@ module _ (m : Meaning) (h : History) (n : ℕ) (node stepped : NodeValue) (old :
   served = serves m h n node stepped old old i out f heard g
 
   -- it fits on the store as it was
-  abbrev pub stepped_fits : NodeFits m h n (Stands m stepped old h.genesis n) (disks old)
+  abbrev pub stepped_fits : NodeFits m h n (StandsBefore m stepped old h.genesis n) (disks old)
   stepped_fits = record {
     lawful = f.lawful;
     holding = served.holding;
@@ -138,15 +141,17 @@ module _ (m : Meaning) (h : History) (n : ℕ) (node stepped : NodeValue) (old :
       keeps = still_keeps m (λ k. InputFits k i) h.genesis n node stepped old f.shown.whose f.shown.keeps out g is;
       known = served.known;
       held = served.held;
+      some = f.shown.told.tells.some;
+      near = f.shown.told.near;
     };
     fits = served.fits;
     left = f.left;
   }
 
   -- where its Base was written, these letters of it are sent
-  pub installed_goes : (new : StoreValue) → MayBegin (standing_of stepped) → stepped.acceptor.state.snapshot_position ≤ executed stepped.learner → Holds new (Base (next_base old (standing_of stepped)) ∷ []) []
+  pub installed_goes : (new : StoreValue) → MayBegin (standing_of stepped) → HoldsNear stepped → Holds new (Base (next_base old (standing_of stepped)) ∷ []) []
       → (sent : List LetterValue) → AreOf sent out.letters → Goes m h n (Stands m (standing_here stepped) new h.genesis n) (disks new) out.notes (batch_of n sent)
-  installed_goes new may within holds sent among =
+  installed_goes new may close holds sent among =
       let b = bound m (λ k. InputFits k i) node stepped out g in
-      rebased_goes m h n stepped old new served.holding stepped_fits.shown may within f.lawful served.fits out b.tells served.may
+      rebased_goes m h n stepped old new served.holding stepped_fits.shown may close f.lawful served.fits out b.tells served.may
       (λ d c. let k = served.may d c in said_light h.genesis n stepped out.rebase out.letters served.whose b.tells is k.message d c n k.spelled) served.noted holds sent among

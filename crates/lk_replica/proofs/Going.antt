@@ -13,7 +13,7 @@ use Rattle.lk_wire.specs.declared.message.NodeMessage.{NodeMessage}
 use Rattle.lk_wire.specs.declared.message.NodeMessage.TheVariants as kinds
 use Rattle.lk_entries.specs.Standings.{with_all}
 use Rattle.lk_entries.specs.Entries.{plain}
-use Rattle.lk_entries.specs.Values.{HeaderValue}
+use Rattle.lk_entries.specs.Values.{HeaderValue, StandingValue}
 use Rattle.lk_entries.specs.declared.stored.Stored.{Stored}
 use Rattle.lk_log.specs.StoreValue.{StoreValue, disks}
 use Rattle.lk_log.specs.Stores.{Holds, KeepsAtLeast}
@@ -31,14 +31,14 @@ use Rattle.lk_node.specs.Entries.{EntriesFit, Rests}
 use Rattle.lk_node.specs.Histories.{History, Genesis, Datagram, later}
 use Rattle.lk_node.specs.Holdings.{Holding}
 use Rattle.lk_node.specs.Keeping.{TellsDecided, IsKnown, Keeps, Stands}
+use Rattle.lk_node.specs.Reaching.{IsTold, TellsOn}
 use Rattle.lk_node.specs.Leavings.{header_of, acceptor_of, view_of, DisksFit, AllCover}
 use Rattle.lk_replica.specs.Posts.{AreOf}
 use Rattle.lk_recovery.specs.Remembering.{Remembers}
 use Rattle.lk_node.specs.NodeValue.{NodeValue}
 use Rattle.lk_node.specs.Serving.{IsLight, with_entries, Tells, Binds, Serves, GoesOn}
 use Rattle.lk_recovery.proofs.Recoveries.{known_rests, held_fit, fit_disks, cover_disks, put_fits, put_covers}
-use Rattle.lk_node.proofs.Nodes.{take_contains, map_contains}
-use Rattle.lk_node.proofs.Nodes.{letter_spelled}
+use Rattle.lk_node.proofs.Nodes.{take_contains, map_contains, letter_spelled, told_behind, told_synced}
 use Rattle.lk_replica.proofs.Standings.{entries_are, decided_leave, entries_behind}
 use Rattle.lk_replica.proofs.Thinning.{batch_among}
 
@@ -56,12 +56,13 @@ all_map P Q (x ∷ xs) f a = (f x a.0, all_map P Q xs f a.1)
 
 -- a store that keeps what it kept, and the entries: those that are not synced are the old ones and, where nothing was
 -- synced, these
-pub record KeepsToo (whose : HeaderValue) (new : StoreValue) (b : AcceptorState) (loose es : List Entry) (sync : Bool) : Type 0 where
+pub record KeepsToo (whose : HeaderValue) (new : StoreValue) (b : AcceptorState) (standing : StandingValue) (loose es : List Entry) (sync : Bool) : Type 0 where
   pub keeps : Keeps whose new b
   pub known : (w : View) → AllByRecursion (IsKnown w) loose → (sync ≡ false → AllByRecursion (IsKnown w) es) → AllByRecursion (IsKnown w) keeps.loose
+  pub told : (ahead : ℕ) (node now : NodeValue) → IsTold ahead standing loose node → TellsOn node now es → IsTold ahead keeps.standing keeps.loose now
 
 pub put_keeps : (whose : HeaderValue) (old new : StoreValue) (a b : AcceptorState) (es : List Entry) (sync : Bool) (k : Keeps whose old a) → b ≡ with_entries es a → (sync ≡ false → AllByRecursion TellsDecided es)
-    → (sync ≡ false → Holds new k.entries (plain k.loose ++ plain es)) → (sync ≡ true → Holds new (k.entries ++ (plain k.loose ++ plain es)) []) → KeepsToo whose new b k.loose es sync
+    → (sync ≡ false → Holds new k.entries (plain k.loose ++ plain es)) → (sync ≡ true → Holds new (k.entries ++ (plain k.loose ++ plain es)) []) → KeepsToo whose new b k.standing k.loose es sync
 put_keeps whose old new a b es false k written decided added synced = record {
   keeps = record {
     entries = k.entries;
@@ -74,6 +75,7 @@ put_keeps whose old new a b es false k written decided added synced = record {
     remembers = k.remembers ∙ sym (decided_leave es a (decided refl)) ∙ sym written;
   };
   known = λ w old' new'. all_append (IsKnown w) k.loose es old' (new' refl);
+  told = λ ahead node now t on. told_behind ahead k.standing k.loose es node now t on;
 }
 put_keeps whose old new a b es true k written decided added synced = record {
   keeps = record {
@@ -87,6 +89,7 @@ put_keeps whose old new a b es true k written decided added synced = record {
     remembers = entries_are k.standing (k.loose ++ es) ∙ ap (with_entries (k.loose ++ es)) k.remembers ∙ entries_behind k.loose es a ∙ ap (with_entries es) (decided_leave k.loose a k.decided) ∙ sym written;
   };
   known = λ w old' new'. tt;
+  told = λ ahead node now t on. told_synced ahead k.standing (k.loose ++ es) now (told_behind ahead k.standing k.loose es node now t on);
 }
 
 -- ---- what rests on what was sent
@@ -150,19 +153,28 @@ module _ (m : Meaning) (h : History) (n : ℕ) (node new : NodeValue) (old store
         noted = λ x c. absurd (omega (arith, c.1));
       }) heard
 
+module _ (m : Meaning) (h : History) (n : ℕ) (node new : NodeValue) (old store : StoreValue) (i : Input) (out : OutboxValue)
+    (f : NodeFits m h n (Stands m node old h.genesis n) (disks old)) (heard : InputFits h i) (g : GoesOn m (λ k. InputFits k i) node new nothing out) (on : TellsOn node new out.entries) where
+  abbrev unsynced : List Entry
+  unsynced = f.shown.keeps.loose
+
+  abbrev served : Serves m h n unsynced new out
+  served = serves m h n node new old store i out f heard g
+
   -- after any exit of the put every image fits
-  pub put_leaves : KeepsAtLeast store f.shown.keeps.entries (plain loose ++ plain out.entries) → DisksFit m h n (disks store)
+  pub put_leaves : KeepsAtLeast store f.shown.keeps.entries (plain unsynced ++ plain out.entries) → DisksFit m h n (disks store)
   put_leaves keeps =
-      put_fits m h n old store f.shown.keeps.entries loose out.entries f.shown.keeps.holds keeps
-      (all_append (Rests h) loose out.entries (all_map (IsKnown f.holding.view) (Rests h) loose (known_rests h n f.holding.view f.fits.view) f.shown.known) serves.rests) f.left
+      put_fits m h n old store f.shown.keeps.entries f.shown.keeps.standing unsynced out.entries f.shown.keeps.holds f.shown.keeps.stands keeps
+      (all_append (Rests h) unsynced out.entries (all_map (IsKnown f.holding.view) (Rests h) unsynced (known_rests h n f.holding.view f.fits.view) f.shown.known) served.rests)
+      (told_behind h.genesis.alpha f.shown.keeps.standing unsynced out.entries node new f.shown.told on).near f.left
 
   -- these letters of it are sent
-  module _ (k : KeepsToo (header_of h.genesis n) store new.acceptor.state loose out.entries out.sync) (left : DisksFit m h n (disks store)) (sent : List LetterValue) (among : AreOf sent out.letters) where
+  module _ (k : KeepsToo (header_of h.genesis n) store new.acceptor.state f.shown.keeps.standing unsynced out.entries out.sync) (left : DisksFit m h n (disks store)) (sent : List LetterValue) (among : AreOf sent out.letters) where
     tells : (l : LetterValue) → Contains sent l → Tells new.header new.acceptor.state out.rebase l
     tells l c = (bound m (λ k. InputFits k i) node new out g).tells l (among l c)
 
-    known : AllByRecursion (IsKnown serves.holding.view) k.keeps.loose
-    known = k.known serves.holding.view serves.known serves.news
+    known : AllByRecursion (IsKnown served.holding.view) k.keeps.loose
+    known = k.known served.holding.view served.known served.news
 
     entries : EntriesFit m h n k.keeps.entries
     entries = held_fit m h n store k.keeps.entries (plain k.keeps.loose) k.keeps.holds left
@@ -179,22 +191,26 @@ module _ (m : Meaning) (h : History) (n : ℕ) (node new : NodeValue) (old store
       position = entries.position;
       snapshot = entries.snapshot;
       covers = covers_both h.genesis h.sent (take j (batch_of n sent)) n (acceptor_of entries.standing) entries.covers
-          (subst (CoversSent h.genesis (take j (batch_of n sent)) n) (sym remembers) (batch_covered h.genesis n new out.rebase sent serves.whose tells j));
+          (subst (CoversSent h.genesis (take j (batch_of n sent)) n) (sym remembers) (batch_covered h.genesis n new out.rebase sent served.whose tells j));
       stems = still_stems h.genesis h.sent (take j (batch_of n sent)) (view_of entries.standing entries.under) entries.stems;
+      near = entries.near;
     }
 
+    told : IsTold h.genesis.alpha k.keeps.standing k.keeps.loose new
+    told = k.told h.genesis.alpha node new f.shown.told on
+
     loose_rest : (j : ℕ) → AllByRecursion (Rests (later h (take j (batch_of n sent)))) k.keeps.loose
-    loose_rest j = all_map (IsKnown serves.holding.view) (Rests (later h (take j (batch_of n sent)))) k.keeps.loose
-        (λ e is. still_rests h (take j (batch_of n sent)) e (known_rests h n serves.holding.view serves.fits.view e is)) known
+    loose_rest j = all_map (IsKnown served.holding.view) (Rests (later h (take j (batch_of n sent)))) k.keeps.loose
+        (λ e is. still_rests h (take j (batch_of n sent)) e (known_rests h n served.holding.view served.fits.view e is)) known
 
     pub put_goes : Goes m h n (Stands m new store h.genesis n) (disks store) out.notes (batch_of n sent)
     put_goes = record {
-      holding = serves.holding;
-      shown = record { whose = serves.whose; keeps = k.keeps; known = known; held = serves.held };
-      fits = serves.fits;
-      may = λ d c. serves.may d (batch_among n sent out.letters among d c);
-      noted = serves.noted;
-      left = λ j. fit_disks m (later h (take j (batch_of n sent))) n store k.keeps.entries k.keeps.loose k.keeps.holds (loose_rest j) (sent_fit j);
+      holding = served.holding;
+      shown = record { whose = served.whose; keeps = k.keeps; known = known; held = served.held; told = told };
+      fits = served.fits;
+      may = λ d c. served.may d (batch_among n sent out.letters among d c);
+      noted = served.noted;
+      left = λ j. fit_disks m (later h (take j (batch_of n sent))) n store k.keeps.entries k.keeps.standing k.keeps.loose k.keeps.holds k.keeps.stands (loose_rest j) told.near (sent_fit j);
     }
 
 -- ---- sync before send, whatever has happened
@@ -207,13 +223,13 @@ module _ (m : Meaning) (genesis : Genesis) (n : ℕ) (node new : NodeValue) (old
     (shown : Remembers node old genesis n) (g : GoesOn m Heard node new nothing out) where
   -- what was put the store keeps
   pub step_keeps : (out.sync ≡ false → Holds store shown.keeps.entries (plain shown.keeps.loose ++ plain out.entries)) → (out.sync ≡ true → Holds store (shown.keeps.entries ++ (plain shown.keeps.loose ++ plain out.entries)) [])
-      → KeepsToo (header_of genesis n) store new.acceptor.state shown.keeps.loose out.entries out.sync
+      → KeepsToo (header_of genesis n) store new.acceptor.state shown.keeps.standing shown.keeps.loose out.entries out.sync
   step_keeps added synced =
       let b = bound m Heard node new out g in
       put_keeps (header_of genesis n) old store node.acceptor.state new.acceptor.state out.entries out.sync shown.keeps b.written b.unsynced added synced
 
   -- and so it remembers
-  pub step_remembers : KeepsToo (header_of genesis n) store new.acceptor.state shown.keeps.loose out.entries out.sync → Remembers new store genesis n
+  pub step_remembers : KeepsToo (header_of genesis n) store new.acceptor.state shown.keeps.standing shown.keeps.loose out.entries out.sync → Remembers new store genesis n
   step_remembers k = record { whose = (bound m Heard node new out g).header ∙ shown.whose; keeps = k.keeps }
 
   pub step_syncs : (k : Keeps (header_of genesis n) store new.acceptor.state) (x : NodeMessage) (d : Datagram) → Contains (batch_of n out.letters) d → Spells (said_by genesis n x) d.bytes

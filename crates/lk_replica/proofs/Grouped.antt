@@ -1,5 +1,5 @@
 -- What a step of a group leaves, and the sync after it.
-use Rattle.std.proofs.Common.{◌≡◌, ℕ, ◌+◌, ◌<◌, ◌≤◌, ◌||◌, Bool, true, false, List, [], ◌∷◌, ◌++◌, length, map, Contains, inl, inr, Result, IsErrAnd, refl, sym, ◌∙◌, ap, subst, append_assoc, append-nil, arith}
+use Rattle.std.proofs.Common.{◌≡◌, ℕ, ◌+◌, ◌<◌, ◌≤◌, ◌||◌, Bool, true, false, List, [], ◌∷◌, ◌++◌, length, length-append, map, Contains, inl, inr, Result, IsErrAnd, refl, sym, ◌∙◌, ap, subst, append_assoc, append-nil, arith}
 use Rattle.std.specs.Prelude.{⊤, IfErr, if◌then◌else◌}
 use Rattle.std.specs.List.{AllByRecursion}
 use Rattle.std.proofs.Math.Seq.{take-length}
@@ -16,18 +16,18 @@ use Rattle.lk_log.specs.Causes.{put_calls, rebase_calls}
 use Rattle.lk_wire.specs.Grammar.{Spells}
 use Rattle.lk_wire.specs.declared.message.NodeMessage.{NodeMessage}
 use Rattle.lk_entries.specs.Bases.{is_misplaced, generation}
-use Rattle.lk_entries.specs.Entries.{plain, IsStored}
+use Rattle.lk_entries.specs.Entries.{plain, spelling, spelling_of_all, IsStored}
 use Rattle.lk_entries.specs.Formats.{is_mixed}
-use Rattle.lk_entries.specs.Standings.{with_all}
+use Rattle.lk_entries.specs.Standings.{HasHeader, StandsFor, with_all}
 use Rattle.lk_entries.specs.Values.{HeaderValue, StandingValue, BaseValue}
 use Rattle.lk_entries.specs.declared.stored.Stored.{Stored}
 use Rattle.lk_entries.specs.declared.stored.Stored.TheVariants.{Base, Plain}
 use Rattle.lk_entries.proofs.Mixed.{format-append}
-use Rattle.lk_entries.proofs.Spelling.{spelled-append, all-append}
-use Rattle.lk_log.specs.Images.{IsLive}
+use Rattle.lk_entries.proofs.Spelling.{spelled-append, spelled_long, all-append}
+use Rattle.lk_log.specs.Images.{Image, IsLive, MayLeaveBoth, seen}
 use Rattle.lk_log.specs.StoreValue.{StoreValue, pick, disks}
 use Rattle.lk_log.specs.Stores.{Holds, IsOlder, KeepsAtLeast, KeepsItsFile, MayBegin, next_base}
-use Rattle.lk_log.proofs.StoreLaws.{all_stand, header_more, plain_append, holds_keeps, synced_live, of_every}
+use Rattle.lk_log.proofs.StoreLaws.{all_stand, header_more, plain_append, holds_keeps, live_unique, one_standing, seen_left, synced_live, of_every}
 use Rattle.lk_state.specs.Meanings.{Meaning}
 use Rattle.lk_agreement.specs.Acceptors.{AcceptorState}
 use Rattle.lk_agreement.specs.Datagrams.{said_by}
@@ -45,8 +45,10 @@ use Rattle.lk_node.specs.Keeping.{TellsDecided, IsKnown, Keeps, Stands}
 use Rattle.lk_node.specs.Leavings.{header_of, acceptor_of, DisksFit, AllCover}
 use Rattle.lk_node.specs.NodeValue.{NodeValue}
 use Rattle.lk_node.specs.Packing.{standing_of, standing_here}
+use Rattle.lk_node.specs.Reaching.{EntriesLieNear, TellsOf, TellsOn, IsTold, HoldsNear}
 use Rattle.lk_node.specs.Served.{text}
 use Rattle.lk_node.specs.Serving.{with_entries, GoesOn}
+use Rattle.lk_node.proofs.Nodes.{with_all_behind, near_behind, told_behind, told_synced}
 use Rattle.lk_recovery.specs.Compacting.{IsDue, IsSameStore, Rebases}
 use Rattle.lk_replica.specs.Groups.{as_synced, as_sent, waits_after, Gathers, Recalls, Gathered, GroupFits, GroupGoes, GroupStays, Settles, GroupValue, Adds, IsCovered, IsRefusedInGroup, LeavesInGroup, IsSettled, MakesRoom, settle_calls, gather_calls}
 use Rattle.lk_recovery.specs.Faults.{IsStoreFault, fault_number, failures_by, WantsNoMemory}
@@ -131,8 +133,8 @@ group_begins whose s a k = record {
 }
 
 abbrev pub group_stands : (m : Meaning) (node : NodeValue) (s : StoreValue) (waits : Bool) (genesis : Genesis) (n : ℕ) (x : Holding) → Gathered m node s waits genesis n x → Stands m node (as_sent waits s) genesis n x
-group_stands m node s false genesis n x g = record { whose = g.whose; keeps = group_keeps (header_of genesis n) s false node.acceptor.state g.keeps; known = g.known refl; held = g.held }
-group_stands m node s true genesis n x g = record { whose = g.whose; keeps = group_keeps (header_of genesis n) s true node.acceptor.state g.keeps; known = tt; held = g.held }
+group_stands m node s false genesis n x g = record { whose = g.whose; keeps = group_keeps (header_of genesis n) s false node.acceptor.state g.keeps; known = g.known refl; held = g.held; told = record { near = g.near refl; tells = g.tells } }
+group_stands m node s true genesis n x g = record { whose = g.whose; keeps = group_keeps (header_of genesis n) s true node.acceptor.state g.keeps; known = tt; held = g.held; told = record { near = tt; tells = g.tells } }
 
 abbrev pub group_fits : (m : Meaning) (h : History) (n : ℕ) (node : NodeValue) (s : StoreValue) (waits : Bool) → GroupFits m h n node s waits → NodeFits m h n (Stands m node (as_sent waits s) h.genesis n) (disks (as_sent waits s))
 group_fits m h n node s waits f = record { lawful = f.lawful; holding = f.holding; shown = group_stands m node s waits h.genesis n f.holding f.shown; fits = f.fits; left = f.left }
@@ -142,11 +144,19 @@ begin_fits m h n node s f = record {
   fits = record {
     lawful = f.lawful;
     holding = f.holding;
-    shown = record { whose = f.shown.whose; keeps = group_begins (header_of h.genesis n) s node.acceptor.state f.shown.keeps; known = λ none. f.shown.known; held = f.shown.held };
+    shown = record {
+      whose = f.shown.whose;
+      keeps = group_begins (header_of h.genesis n) s node.acceptor.state f.shown.keeps;
+      known = λ none. f.shown.known;
+      held = f.shown.held;
+      tells = f.shown.told.tells;
+      near = λ none. f.shown.told.near;
+    };
     fits = f.fits;
     left = f.left;
   };
   rests = all_known h n f.holding.view f.shown.keeps.loose f.shown.known (known_rests h n f.holding.view f.fits.view);
+  near = f.shown.told.near;
   left = f.left;
 }
   where
@@ -192,11 +202,26 @@ module _ (whose : HeaderValue) (old store : StoreValue) (a b : AcceptorState) (o
 
   -- so it keeps too
   pub keeps_too : (waits after : Bool) (e : after ≡ waits_after waits out) (k : Gathers whose old waits a) (added : Holds store k.entries (plain k.loose ++ plain out.entries))
-      → KeepsToo whose (as_sent after store) b (group_keeps whose old waits a k).loose out.entries out.sync
-  keeps_too false false e k added = record { keeps = group_keeps whose store false b (gathers_more false false e k added); known = λ w known news. known_more w false false e k.loose (λ none. known) news refl }
+      → KeepsToo whose (as_sent after store) b (group_keeps whose old waits a k).standing (group_keeps whose old waits a k).loose out.entries out.sync
+  keeps_too false false e k added = record {
+    keeps = group_keeps whose store false b (gathers_more false false e k added);
+    known = λ w known news. known_more w false false e k.loose (λ none. known) news refl;
+    told = λ ahead node now t on. told_behind ahead k.standing k.loose out.entries node now t on;
+  }
   keeps_too true false e k added = absurd (let z = none_waits out.rebase true out.sync is e in cc (z.0))
-  keeps_too false true e k added = record { keeps = group_keeps whose store true b (gathers_more false true e k added); known = λ w known news. tt }
-  keeps_too true true e k added = record { keeps = group_keeps whose store true b (gathers_more true true e k added); known = λ w known news. tt }
+  keeps_too false true e k added = record {
+    keeps = group_keeps whose store true b (gathers_more false true e k added);
+    known = λ w known news. tt;
+    told = λ ahead node now t on. told_synced ahead k.standing (k.loose ++ out.entries) now (told_behind ahead k.standing k.loose out.entries node now t on);
+  }
+  keeps_too true true e k added = record {
+    keeps = group_keeps whose store true b (gathers_more true true e k added);
+    known = λ w known news. tt;
+    told = λ ahead node now t on. record {
+      near = tt;
+      tells = subst (λ (z : StandingValue). TellsOf ahead z now) (sym (with_all_behind k.loose out.entries k.standing)) (on ahead (with_all k.loose k.standing) t.tells).1;
+    };
+  }
 
 -- what it knew unsynced as it will be, it knew unsynced
 known_before : (m : Meaning) (h : History) (n : ℕ) (node : NodeValue) (s : StoreValue) (waits : Bool) (f : GroupFits m h n node s waits) (w : View)
@@ -205,7 +230,7 @@ known_before m h n node s false f w known none = known
 known_before m h n node s true f w known none = absurd (cc none)
 
 module _ (m : Meaning) (h : History) (n : ℕ) (node new : NodeValue) (old store : StoreValue) (waits : Bool) (i : Input) (out : OutboxValue)
-    (f : GroupFits m h n node old waits) (heard : InputFits h i) (g : GoesOn m (λ k. InputFits k i) node new nothing out) (is : out.rebase ≡ false)
+    (f : GroupFits m h n node old waits) (heard : InputFits h i) (g : GoesOn m (λ k. InputFits k i) node new nothing out) (on : TellsOn node new out.entries) (is : out.rebase ≡ false)
     (added : Holds store f.shown.keeps.entries (plain f.shown.keeps.loose ++ plain out.entries)) where
   abbrev mine : HeaderValue
   mine = header_of h.genesis n
@@ -228,31 +253,44 @@ module _ (m : Meaning) (h : History) (n : ℕ) (node new : NodeValue) (old store
       by_waits written unsynced false k added = keeps_more mine old store node.acceptor.state new.acceptor.state out is written unsynced false (waits_after false out) refl k.shown.keeps added
       by_waits written unsynced true k added = keeps_more mine old store node.acceptor.state new.acceptor.state out is written unsynced true (waits_after true out) refl k.shown.keeps added
 
-  too : KeepsToo mine (as_sent after store) new.acceptor.state fits.shown.keeps.loose out.entries out.sync
+  too : KeepsToo mine (as_sent after store) new.acceptor.state fits.shown.keeps.standing fits.shown.keeps.loose out.entries out.sync
   too = let b = bound m (λ k. InputFits k i) node new out g in by_waits b.written b.unsynced waits f added
     where
       by_waits : new.acceptor.state ≡ with_entries out.entries node.acceptor.state → (out.sync ≡ false → AllByRecursion TellsDecided out.entries) → (w : Bool) (k : GroupFits m h n node old w)
           → Holds store k.shown.keeps.entries (plain k.shown.keeps.loose ++ plain out.entries)
-          → KeepsToo mine (as_sent (waits_after w out) store) new.acceptor.state (group_fits m h n node old w k).shown.keeps.loose out.entries out.sync
+          → KeepsToo mine (as_sent (waits_after w out) store) new.acceptor.state (group_fits m h n node old w k).shown.keeps.standing (group_fits m h n node old w k).shown.keeps.loose out.entries out.sync
       by_waits written unsynced false k added = keeps_too mine old store node.acceptor.state new.acceptor.state out is written unsynced false (waits_after false out) refl k.shown.keeps added
       by_waits written unsynced true k added = keeps_too mine old store node.acceptor.state new.acceptor.state out is written unsynced true (waits_after true out) refl k.shown.keeps added
 
   pub leaves_as_sent : DisksFit m h n (disks (as_sent after store))
-  leaves_as_sent = put_leaves m h n node new (as_sent waits old) (as_sent after store) i out fits heard g at_least
+  leaves_as_sent = put_leaves m h n node new (as_sent waits old) (as_sent after store) i out fits heard g on at_least
 
   known_now : (w : View) → AllByRecursion (IsKnown w) fits.shown.keeps.loose → (out.sync ≡ false → AllByRecursion (IsKnown w) out.entries) → after ≡ false → AllByRecursion (IsKnown w) (f.shown.keeps.loose ++ out.entries)
   known_now w known news =
       let b = bound m (λ k. InputFits k i) node new out g in
       known_more mine old store node.acceptor.state new.acceptor.state out is b.written b.unsynced w waits after refl f.shown.keeps.loose (known_before m h n node old waits f w known) news
 
+  tells_now : TellsOf h.genesis.alpha (with_all (f.shown.keeps.loose ++ out.entries) f.shown.keeps.standing) new
+  tells_now =
+      let k = f.shown.keeps in
+      subst (λ (z : StandingValue). TellsOf h.genesis.alpha z new) (sym (with_all_behind k.loose out.entries k.standing)) (on h.genesis.alpha (with_all k.loose k.standing) f.shown.tells).1
+
+  near_now : EntriesLieNear h.genesis.alpha f.shown.keeps.standing f.shown.keeps.loose → EntriesLieNear h.genesis.alpha f.shown.keeps.standing (f.shown.keeps.loose ++ out.entries)
+  near_now near =
+      let k = f.shown.keeps in
+      near_behind h.genesis.alpha k.standing k.loose out.entries near (on h.genesis.alpha (with_all k.loose k.standing) f.shown.tells).0
+
+  near_after : after ≡ false → EntriesLieNear h.genesis.alpha f.shown.keeps.standing (f.shown.keeps.loose ++ out.entries)
+  near_after none = near_now (f.shown.near (none_waits out.rebase waits out.sync is (sym none)).0)
+
   -- it goes on, and says these of its letters
   pub gather_goes : (sent : List LetterValue) → AreOf sent out.letters → GroupGoes m h n new store after out.notes (batch_of n sent)
   gather_goes sent among =
       let s = serves m h n node new (as_sent waits old) (as_sent after store) i out fits heard g in
-      let p = put_goes m h n node new (as_sent waits old) (as_sent after store) i out fits heard g too leaves_as_sent sent among in
+      let p = put_goes m h n node new (as_sent waits old) (as_sent after store) i out fits heard g on too leaves_as_sent sent among in
       record {
         holding = s.holding;
-        shown = record { whose = s.whose; keeps = gathered_more; known = known_now s.holding.view s.known s.news; held = s.held };
+        shown = record { whose = s.whose; keeps = gathered_more; known = known_now s.holding.view s.known s.news; held = s.held; tells = tells_now; near = near_after };
         fits = s.fits;
         may = λ d c. s.may d (batch_among n sent out.letters among d c);
         noted = s.noted;
@@ -262,7 +300,7 @@ module _ (m : Meaning) (h : History) (n : ℕ) (node new : NodeValue) (old store
 -- ---- the same in a history in which nothing of it is sent
 
 module _ (m : Meaning) (h : History) (n : ℕ) (node new : NodeValue) (old store : StoreValue) (waits : Bool) (i : Input) (out : OutboxValue)
-    (s : GroupStays m h n node old waits) (heard : InputFits h i) (g : GoesOn m (λ k. InputFits k i) node new nothing out) where
+    (s : GroupStays m h n node old waits) (heard : InputFits h i) (g : GoesOn m (λ k. InputFits k i) node new nothing out) (on : TellsOn node new out.entries) where
   abbrev pretended : NodeFits m h n (Stands m node (as_sent waits old) h.genesis n) (disks (as_sent waits old))
   pretended = group_fits m h n node old waits s.fits
 
@@ -270,9 +308,16 @@ module _ (m : Meaning) (h : History) (n : ℕ) (node new : NodeValue) (old store
   rests_too : AllByRecursion (Rests h) (s.fits.shown.keeps.loose ++ out.entries)
   rests_too = all-append (Rests h) s.fits.shown.keeps.loose out.entries s.rests (serves m h n node new (as_sent waits old) old i out pretended heard g).rests
 
+  near_too : EntriesLieNear h.genesis.alpha s.fits.shown.keeps.standing (s.fits.shown.keeps.loose ++ out.entries)
+  near_too =
+      let k = s.fits.shown.keeps in
+      near_behind h.genesis.alpha k.standing k.loose out.entries s.near (on h.genesis.alpha (with_all k.loose k.standing) s.fits.shown.tells).0
+
   -- after any exit of the put whatever a stop may leave of the files fits
   pub group_leaves : KeepsAtLeast store s.fits.shown.keeps.entries (plain s.fits.shown.keeps.loose ++ plain out.entries) → DisksFit m h n (disks store)
-  group_leaves keeps = put_fits m h n old store s.fits.shown.keeps.entries s.fits.shown.keeps.loose out.entries s.fits.shown.keeps.holds keeps rests_too s.left
+  group_leaves keeps =
+      let k = s.fits.shown.keeps in
+      put_fits m h n old store k.entries k.standing k.loose out.entries k.holds k.stands keeps rests_too near_too s.left
 
   pub group_stays : out.rebase ≡ false → KeepsAtLeast store s.fits.shown.keeps.entries (plain s.fits.shown.keeps.loose ++ plain out.entries)
       → Holds store s.fits.shown.keeps.entries (plain s.fits.shown.keeps.loose ++ plain out.entries) → GroupStays m h n new store (waits_after waits out)
@@ -284,14 +329,17 @@ module _ (m : Meaning) (h : History) (n : ℕ) (node new : NodeValue) (old store
           holding = v.holding;
           shown = record {
             whose = v.whose;
-            keeps = gathered_more m h n node new old store waits i out s.fits heard g is added;
-            known = known_now m h n node new old store waits i out s.fits heard g is added v.holding.view v.known v.news;
+            keeps = gathered_more m h n node new old store waits i out s.fits heard g on is added;
+            known = known_now m h n node new old store waits i out s.fits heard g on is added v.holding.view v.known v.news;
             held = v.held;
+            tells = tells_now m h n node new old store waits i out s.fits heard g on is added;
+            near = near_after m h n node new old store waits i out s.fits heard g on is added;
           };
           fits = v.fits;
-          left = leaves_as_sent m h n node new old store waits i out s.fits heard g is added;
+          left = leaves_as_sent m h n node new old store waits i out s.fits heard g on is added;
         };
         rests = rests_too;
+        near = near_too;
         left = group_leaves keeps;
       }
 
@@ -368,9 +416,10 @@ settled_fits m h n node old new true synced f =
         };
         known = tt;
         held = f.shown.held;
+        told = record { near = tt; tells = f.shown.tells };
       };
       fits = f.fits;
-      left = fit_disks m h n new all [] (synced k.entries (plain k.loose) k.holds) tt
+      left = fit_disks m h n new all (with_all k.loose k.standing) [] (synced k.entries (plain k.loose) k.holds) (all_stand k.entries k.standing k.loose k.stands) tt tt
           (held_fit m h n (as_synced old) all [] (as_synced_holds old k.entries (plain k.loose) k.holds) f.left);
     }
 
@@ -389,8 +438,8 @@ pub settle_leaves : (m : Meaning) (h : History) (n : ℕ) (node : NodeValue) (ol
     → KeepsAtLeast new s.fits.shown.keeps.entries (plain s.fits.shown.keeps.loose) → DisksFit m h n (disks new)
 settle_leaves m h n node old new waits s keeps =
     let k = s.fits.shown.keeps in
-    put_fits m h n old new k.entries k.loose [] k.holds (subst (KeepsAtLeast new k.entries) (sym (append-nil (plain k.loose))) keeps)
-    (subst (AllByRecursion (Rests h)) (sym (append-nil k.loose)) s.rests) s.left
+    put_fits m h n old new k.entries k.standing k.loose [] k.holds k.stands (subst (KeepsAtLeast new k.entries) (sym (append-nil (plain k.loose))) keeps)
+    (subst (AllByRecursion (Rests h)) (sym (append-nil k.loose)) s.rests) (subst (EntriesLieNear h.genesis.alpha k.standing) (sym (append-nil k.loose)) s.near) s.left
 
 pub settle_covers : (m : Meaning) (genesis : Genesis) (n : ℕ) (node : NodeValue) (old new : StoreValue) (waits : Bool) (r : Recalls node old waits genesis n)
     → KeepsAtLeast new r.keeps.entries (plain r.keeps.loose) → (x : NodeMessage) → AllCover m genesis n (disks old) x → AllCover m genesis n (disks new) x
@@ -409,7 +458,14 @@ rebased_waits waits out is = by_rebase out.rebase is
 begin_goes : (m : Meaning) (h : History) (n : ℕ) (node : NodeValue) (s : StoreValue) (notes : List Note) (batch : List Datagram) → Goes m h n (Stands m node s h.genesis n) (disks s) notes batch → GroupGoes m h n node s false notes batch
 begin_goes m h n node s notes batch g = record {
   holding = g.holding;
-  shown = record { whose = g.shown.whose; keeps = group_begins (header_of h.genesis n) s node.acceptor.state g.shown.keeps; known = λ none. g.shown.known; held = g.shown.held };
+  shown = record {
+    whose = g.shown.whose;
+    keeps = group_begins (header_of h.genesis n) s node.acceptor.state g.shown.keeps;
+    known = λ none. g.shown.known;
+    held = g.shown.held;
+    tells = g.shown.told.tells;
+    near = λ none. g.shown.told.near;
+  };
   fits = g.fits;
   may = g.may;
   noted = g.noted;
@@ -429,15 +485,15 @@ based_cover m genesis n s waits out x is c = subst (λ (w : Bool). AllCover m ge
 
 module _ (m : Meaning) (h : History) (n : ℕ) (node stepped : NodeValue) (mid new : StoreValue) (waits : Bool) (i : Input) (out : OutboxValue)
     (f : NodeFits m h n (Stands m node mid h.genesis n) (disks mid)) (heard : InputFits h i) (g : GoesOn m (λ k. InputFits k i) node stepped nothing out) (is : out.rebase ≡ true)
-    (may : MayBegin (standing_of stepped)) (within : stepped.acceptor.state.snapshot_position ≤ executed stepped.learner) (holds : Holds new (Base (next_base mid (standing_of stepped)) ∷ []) []) where
+    (may : MayBegin (standing_of stepped)) (close : HoldsNear stepped) (holds : Holds new (Base (next_base mid (standing_of stepped)) ∷ []) []) where
   pub based_goes : (sent : List LetterValue) → AreOf sent out.letters → GroupGoes m h n (standing_here stepped) new (waits_after waits out) out.notes (batch_of n sent)
   based_goes sent among =
       subst (λ (w : Bool). GroupGoes m h n (standing_here stepped) new w out.notes (batch_of n sent)) (sym (rebased_waits waits out is))
-      (begin_goes m h n (standing_here stepped) new out.notes (batch_of n sent) (installed_goes m h n node stepped mid i out f heard g is new may within holds sent among))
+      (begin_goes m h n (standing_here stepped) new out.notes (batch_of n sent) (installed_goes m h n node stepped mid i out f heard g is new may close holds sent among))
 
   pub based_stays : DisksFit m h n (disks new) → GroupStays m h n (standing_here stepped) new (waits_after waits out)
   based_stays left =
-      let q = installed_goes m h n node stepped mid i out f heard g is new may within holds [] (λ l c. absurd (omega (arith, c.1))) in
+      let q = installed_goes m h n node stepped mid i out f heard g is new may close holds [] (λ l c. absurd (omega (arith, c.1))) in
       subst (λ (w : Bool). GroupStays m h n (standing_here stepped) new w) (sym (rebased_waits waits out is))
       (begin_fits m h n (standing_here stepped) new (record { lawful = f.lawful; holding = q.holding; shown = q.shown; fits = q.fits; left = left }))
 
@@ -467,35 +523,75 @@ module _ (m : Meaning) (old new : StoreValue) (same : IsSameStore old new) where
   same_group_fits h n node waits f = record {
     lawful = f.lawful;
     holding = f.holding;
-    shown = record { whose = f.shown.whose; keeps = same_gathers (header_of h.genesis n) waits node.acceptor.state f.shown.keeps; known = f.shown.known; held = f.shown.held };
+    shown = record {
+      whose = f.shown.whose;
+      keeps = same_gathers (header_of h.genesis n) waits node.acceptor.state f.shown.keeps;
+      known = f.shown.known;
+      held = f.shown.held;
+      tells = f.shown.tells;
+      near = f.shown.near;
+    };
     fits = f.fits;
     left = subst (DisksFit m h n) (sym (same_as_sent waits)) f.left;
   }
 
   pub same_group_stays : (h : History) (n : ℕ) (node : NodeValue) (waits : Bool) → GroupStays m h n node old waits → GroupStays m h n node new waits
-  same_group_stays h n node waits s = record { fits = same_group_fits h n node waits s.fits; rests = s.rests; left = subst (DisksFit m h n) (sym (same_as_sent false)) s.left }
+  same_group_stays h n node waits s = record { fits = same_group_fits h n node waits s.fits; rests = s.rests; near = s.near; left = subst (DisksFit m h n) (sym (same_as_sent false)) s.left }
 
   pub same_group_covers : (genesis : Genesis) (n : ℕ) (x : NodeMessage) (waits : Bool) → AllCover m genesis n (disks (as_sent waits old)) x → AllCover m genesis n (disks (as_sent waits new)) x
   same_group_covers genesis n x waits = subst (λ d. AllCover m genesis n d x) (sym (same_as_sent waits))
 
 -- ---- a group, in the words of single calls
 
+-- where all bytes are synced no entry is unsynced
+none_unsynced : (s : StoreValue) (ks : List Stored) (loose : List Entry) → Holds (as_synced s) ks (plain loose) → loose ≡ []
+none_unsynced s ks [] h = refl
+none_unsynced s ks (e ∷ loose) h =
+    let none = ap (λ (l : List ℕ). length l) h.on.unsynced in
+    absurd (omega (arith, none, length-append (spelling (Plain e)) (spelling_of_all (plain loose)), spelled_long (Plain e)))
+
+-- and what a store holds of it stands for one thing
+one_told : (s : StoreValue) (ks fs : List Stored) (loose more : List Entry) (t u : StandingValue) → Holds (as_synced s) ks (plain loose) → StandsFor ks t → Holds s fs (plain more) → StandsFor fs u → with_all loose t ≡ with_all more u
+one_told s ks fs loose more t u h stands k others =
+    let none = none_unsynced s ks loose h in
+    let alone : Holds (as_synced s) ks [] = subst (λ (l : List Entry). Holds (as_synced s) ks (plain l)) none h in
+    let image : Image = seen (disks (as_synced s)) in
+    let left : MayLeaveBoth (disks (as_synced s)) image = seen_left (disks (as_synced s)) in
+    let same : ks ≡ fs ++ plain more =
+    live_unique image ks (fs ++ plain more) (synced_live (as_synced s) ks alone image left) (synced_live (as_synced s) (fs ++ plain more) (as_synced_holds s fs (plain more) k) image left) in
+    ap (λ (l : List Entry). with_all l t) none ∙ one_standing (fs ++ plain more) t (with_all more u) (subst (λ (es : List Stored). StandsFor es t) same stands) (all_stand fs u more others)
+
 -- what fits as it will be fits as it is
 pub as_gathered : (m : Meaning) (genesis : Genesis) (k : ℕ) (node : NodeValue) (s : StoreValue) (waits : Bool) → Recalls node s waits genesis k → (h : History) (n : ℕ)
     → NodeFits m h n (Stands m node (as_sent waits s) h.genesis n) (disks (as_sent waits s)) → GroupFits m h n node s waits
 as_gathered m genesis k node s false r h n f = (begin_fits m h n node s f).fits
-as_gathered m genesis k node s true r h n f = record {
-  lawful = f.lawful;
-  holding = f.holding;
-  shown = record {
-    whose = f.shown.whose;
-    keeps = subst (λ (w : HeaderValue). Gathers w s true node.acceptor.state) (sym r.whose ∙ f.shown.whose) r.keeps;
-    known = λ none. absurd (cc none);
-    held = f.shown.held;
-  };
-  fits = f.fits;
-  left = f.left;
-}
+as_gathered m genesis k node s true r h n f =
+    let was = r.keeps in
+    let now = f.shown.keeps in
+    record {
+      lawful = f.lawful;
+      holding = f.holding;
+      shown = record {
+        whose = f.shown.whose;
+        keeps = record {
+          entries = was.entries;
+          loose = was.loose;
+          holds = was.holds;
+          decided = was.decided;
+          header = subst (HasHeader was.entries) (sym r.whose ∙ f.shown.whose) was.header;
+          standing = was.standing;
+          stands = was.stands;
+          remembers = was.remembers;
+        };
+        known = λ none. absurd (cc none);
+        held = f.shown.held;
+        tells = subst (λ (z : StandingValue). TellsOf h.genesis.alpha z node)
+            (one_told s now.entries was.entries now.loose was.loose now.standing was.standing now.holds now.stands was.holds was.stands) f.shown.told.tells;
+        near = λ none. absurd (cc none);
+      };
+      fits = f.fits;
+      left = f.left;
+    }
 
 pub goes_as_sent : (m : Meaning) (h : History) (n : ℕ) (node : NodeValue) (s : StoreValue) (waits : Bool) (notes : List Note) (batch : List Datagram) → GroupGoes m h n node s waits notes batch
     → Goes m h n (Stands m node (as_sent waits s) h.genesis n) (disks (as_sent waits s)) notes batch

@@ -8,7 +8,7 @@ use Rattle.lk_disk.specs.declared.device.Side.{Side}
 use Rattle.lk_disk.specs.Meters.{Passes}
 use Rattle.lk_log.specs.Causes.{put_calls, rebase_calls}
 use Rattle.lk_entries.specs.Entries.{plain}
-use Rattle.lk_entries.specs.Standings.{HasHeader, StandsFor}
+use Rattle.lk_entries.specs.Standings.{HasHeader, StandsFor, with_all}
 use Rattle.lk_entries.specs.Values.{HeaderValue, StandingValue}
 use Rattle.lk_entries.specs.declared.stored.Stored.{Stored}
 use Rattle.lk_log.specs.Rooms.{StaysWithin}
@@ -36,6 +36,7 @@ use Rattle.lk_node.specs.Holdings.{Holding}
 use Rattle.lk_node.specs.Keeping.{TellsDecided, IsKnown, IsHeld, Stands}
 use Rattle.lk_node.specs.Leavings.{header_of, acceptor_of, DisksFit, AllCover}
 use Rattle.lk_node.specs.NodeValue.{NodeValue}
+use Rattle.lk_node.specs.Reaching.{EntriesLieNear, TellsOf}
 use Rattle.lk_node.specs.Serving.{with_entries}
 
 -- the store, with all bytes of its live file synced
@@ -69,12 +70,15 @@ pub record Recalls (node : NodeValue) (store : StoreValue) (waits : Bool) (genes
   pub whose : node.header ≡ header_of genesis n
   pub keeps : Gathers (header_of genesis n) store waits node.acceptor.state
 
--- it is, and holds this
+-- it is, and holds this; its store tells what the node has executed, and if nothing waits for a sync, all of it lies
+-- near
 pub record Gathered (m : Meaning) (node : NodeValue) (store : StoreValue) (waits : Bool) (genesis : Genesis) (n : ℕ) (x : Holding) : Type 0 where
   pub whose : node.header ≡ header_of genesis n
   pub keeps : Gathers (header_of genesis n) store waits node.acceptor.state
   pub known : waits ≡ false → AllByRecursion (IsKnown x.view) keeps.loose
   pub held : IsHeld m node genesis x
+  pub tells : TellsOf genesis.alpha (with_all keeps.loose keeps.standing) node
+  pub near : waits ≡ false → EntriesLieNear genesis.alpha keeps.standing keeps.loose
 
 -- in this history, which contains what the group has said so far, the node fits as if everything that waits were
 -- synced
@@ -86,10 +90,11 @@ abbrev pub GroupGoes : Meaning → History → ℕ → NodeValue → StoreValue 
 GroupGoes m h n node store waits notes batch = Goes m h n (Gathered m node store waits h.genesis n) (disks (as_sent waits store)) notes batch
 
 -- in this history, which contains nothing of what the group has said, the node fits, what it has written rests on what
--- was sent, and whatever a stop may leave of the files as they are fits
+-- was sent and lies near, and whatever a stop may leave of the files as they are fits
 pub record GroupStays (m : Meaning) (h : History) (n : ℕ) (node : NodeValue) (store : StoreValue) (waits : Bool) : Type 0 where
   pub fits : GroupFits m h n node store waits
   pub rests : AllByRecursion (Rests h) fits.shown.keeps.loose
+  pub near : EntriesLieNear h.genesis.alpha fits.shown.keeps.standing fits.shown.keeps.loose
   pub left : DisksFit m h n (disks store)
 
 -- the effect of a sync, if something waits for it

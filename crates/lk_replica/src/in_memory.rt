@@ -130,6 +130,7 @@ impl<M: Machine> MemoryReplica for Replica<M, MemoryDisk> {
       };
       known = shown.known;
       held = shown.held;
+      told = shown.told;
     } };
 
     ghost whole_stays = { λ t r. refl };

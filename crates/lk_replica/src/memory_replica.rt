@@ -54,8 +54,8 @@ pub trait MemoryReplica: Sized + Drop {
     /// Restarts from what a stop has left, or begins a store if there is none.
     ///
     /// It fails with `Device` (7), `NoMemory` (8), `Damaged` (9) and `WrongStore` (10), and for a file of format 1 at
-    /// generation 2^48 with `Failed` (11), after the checks for 9, and returns the device. Disks that fit are not
-    /// another's: 10 does not occur.
+    /// generation 2^48 with `Failed` (11), after the checks for 9, and returns the device. Disks that fit are
+    /// neither damaged nor another's: 9 and 10 do not occur.
     fn revive(
         alloc: Global,
         device: MemoryDisk,

@@ -6,7 +6,7 @@ ghost use Rattle.lk_types.specs.Limits.{max_base};
 ghost use Rattle.lk_agreement.specs.Datagrams.{NodeMessage};
 ghost use Rattle.lk_node.specs.Calls.{Goes};
 ghost use Rattle.lk_recovery.specs.Remembering.{Remembers};
-ghost use Rattle.lk_recovery.specs.Faults.{fault_number, failures_by, RefusedAfter};
+ghost use Rattle.lk_recovery.specs.Faults.{fault_number, failures_by, RefusedAfter, IsNumberOfRevival};
 ghost use Rattle.lk_node.specs.Histories.{History, Genesis as GenesisValue, IsLawful};
 ghost use Rattle.lk_node.specs.Keeping.{Stands};
 ghost use Rattle.lk_node.specs.Leavings.{header_of, DisksFit, AllCover};
@@ -35,11 +35,12 @@ impl<M: Machine, D: LogDisk + Drop> Replica<M, D> {
         device: D,
         header: &Header,
     ) -> Result<Revived<Replica<M, D>>, ReviveFault<D>>
-        // If the disks fit a history, the replica goes on in it, and what an error leaves fits it.
+        // If the disks fit a history, the replica goes on in it, and what an error leaves fits it; they are neither
+        // damaged nor another's, and so the error is 7, 8 or 11.
         ensures fits { D.is_honest → (h : History) (n : ℕ) → header.now ≡ header_of h.genesis n → IsLawful M.meaning h → DisksFit M.meaning h n (D.disk device)
             → MatchResult result
             (λ r. Goes M.meaning h n (Stands M.meaning r.replica.node r.replica.store h.genesis n) (disks r.replica.store) r.notes.items [])
-            (λ e. DisksFit M.meaning h n (D.disk e.device)) }
+            (λ e. IsNumberOfRevival (fault_number e.fault) × DisksFit M.meaning h n (D.disk e.device)) }
         // Every image covers whatever every image covered before.
         ensures covers { D.is_honest → (genesis : GenesisValue) (n : ℕ) (x : NodeMessage) → header.now ≡ header_of genesis n → AllCover M.meaning genesis n (D.disk device) x
             → MatchResult result (λ r. AllCover M.meaning genesis n (disks r.replica.store) x) (λ e. AllCover M.meaning genesis n (D.disk e.device) x) }

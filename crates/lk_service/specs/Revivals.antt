@@ -12,7 +12,7 @@ use Rattle.lk_node.specs.Calls.{Goes}
 use Rattle.lk_node.specs.Histories.{History, IsLawful}
 use Rattle.lk_node.specs.Keeping.{Stands}
 use Rattle.lk_node.specs.Leavings.{header_of, DisksFit}
-use Rattle.lk_recovery.specs.Faults.{fault_number}
+use Rattle.lk_recovery.specs.Faults.{fault_number, IsNumberOfRevival}
 use Rattle.lk_replica.specs.ReplicaValue.{ReplicaValue}
 use Rattle.lk_replica.specs.Revived.{MayGoOn}
 use Rattle.lk_recovery.specs.Revivals.{IsRefusedFor}
@@ -50,11 +50,12 @@ module _ (m : Meaning) (honest : Type 0) (old : Side → Disk) (header : HeaderV
 module _ (m : Meaning) (IsText : List ℕ → Type 0) (honest : Type 0) (old : Side → Disk) (header : HeaderValue) where
   -- the restart from what the device had failed with the fault of this number, and the device now has these disks,
   -- which fit as those did. The faults for damage, for another's store and for a store at its last generation have
-  -- exactly that cause
+  -- exactly that cause, and disks that fit a history have neither damage nor another's store
   pub record IsNotTakenUp (number : ℕ) (left : Side → Disk) : Type 0 where
     pub among : (7 ≤ number) × (number ≤ 11)
     pub cause : honest → IsRefusedFor m IsText old header number left
     pub stays_down : honest → StaysDown m header old left
+    pub comes_back : honest → (h : History) (n : ℕ) → header ≡ header_of h.genesis n → IsLawful m h → DisksFit m h n old → IsNumberOfRevival number
 
   -- the restart failed, and this fault reports it
   pub record IsRefusedWith (told : ServiceFault) : Type 0 where

@@ -28,6 +28,7 @@ disks_move m genesis sent now asked since n disks covers stems f image may =
       snapshot = i.snapshot;
       covers = covers _ i.covers;
       stems = stems _ i.stems;
+      near = i.near;
     }
 
 -- so with other disks that are the same

@@ -1,7 +1,7 @@
 -- What holds of each world holds of each network of processes.
 use Rattle.std.proofs.Common.{◌≡◌, ℕ, Option, Some, None, List, [], ◌∷◌, ◌++◌, Contains, refl, ap, sym, ◌∙◌, subst, subst₂, inl, inr, append_assoc, append-nil, set, arith}
 use Rattle.lk_disk.specs.Disk.{Disk, kept_by}
-use Rattle.lk_disk.specs.Memory.{disk_of}
+use Rattle.lk_disk.specs.Memory.{Memory, disk_of}
 use Rattle.lk_disk.specs.declared.device.Side.{Side}
 use Rattle.lk_wire.specs.Grammar.{Spells}
 use Rattle.lk_state.specs.Meanings.{Meaning}
@@ -9,7 +9,7 @@ use Rattle.lk_agreement.specs.Datagrams.{said_by}
 use Rattle.lk_agreement.proofs.Histories.{contains_more}
 use Rattle.lk_step.specs.declared.note.Note.{Note}
 use Rattle.lk_node.specs.Calls.{Goes, NodeFits}
-use Rattle.lk_node.specs.Histories.{History, Genesis, Datagram, RequestValue, IsHeard}
+use Rattle.lk_node.specs.Histories.{History, Genesis, Datagram, RequestValue, IsHeard, IsLawful}
 use Rattle.lk_node.specs.Holdings.{Holding}
 use Rattle.lk_node.specs.Leavings.{DisksFit}
 use Rattle.lk_sim.specs.Rooms.{AreShort}
@@ -94,6 +94,11 @@ module _ {R : Type 0} (Shows : R → Genesis → ℕ → Holding → Type 0) (di
       let went = went_on Shows disks m old.genesis old.seats old.sent old.trace w a.turns.place a.seat a.next a.turns.at a.turns.number a.notes [] [] seat_goes refl in
       moved old new (set old.seats a.turns.place a.next) a.notes [] a.turns.seats a.adds
       (subst (λ l. Holds Shows disks m old.genesis (set old.seats a.turns.place a.next) (old.sent ++ []) (old.trace ++ l)) (append-nil a.notes) went)
+
+  -- of a node that is down, the history is lawful, and its disks fit it
+  pub holds_down : (c : Scene R) → HoldsOf c → (place : ℕ) (s : Seat R) → At c.seats place s → (d : Memory) → s.life ≡ Down d
+      → IsLawful m (happened c.genesis c.sent c.trace) × DisksFit m (happened c.genesis c.sent c.trace) s.number (disk_of d)
+  holds_down c w place s at d down = (lawful Shows disks m c.genesis c.seats c.sent c.trace w, (w.seated place s at).down d down)
 
   rests : (old new : Scene R) → HoldsOf old → Rests m old new → HoldsOf new
   rests old new w a =

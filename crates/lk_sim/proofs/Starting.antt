@@ -39,6 +39,7 @@ empty_fits m h n disks empty silent image may = record {
   snapshot = refl;
   covers = λ x c. absurd (silent x c);
   stems = still_stems h.genesis [] h.sent fresh ((start_fits h.genesis).views n).stems;
+  near = record { votes = λ v c. absurd (omega (arith, c.1)); pairs = λ p c. absurd (omega (arith, c.1)) };
 }
   where
     none : (k : ℕ) → ◌≡◌ {A = List ℕ} (take k []) []

@@ -76,10 +76,13 @@ pub record IsNoWant (number : ℕ) (left : Memory) : Type 0 where
 abbrev pub IsWant : ℕ → Memory → Type 0
 IsWant number left = (number ≡ 8) ⊎ (number ≡ 14) ⊎ (number ≡ 15) ⊎ (left.meter.starved ≡ true)
 
--- only such a fault ends a node: the device has failed, its store is damaged, it failed earlier, or it has no
--- generation left
+-- the fault is neither that of a damaged store nor that of another's
+abbrev pub IsSound : ℕ → Type 0
+IsSound number = (number ≡ 9 → ⊥) × (number ≡ 10 → ⊥)
+
+-- only such a fault ends a node: the device has failed, or the store failed earlier or has no generation left
 abbrev pub IsNumberOfEnd : ℕ → Type 0
-IsNumberOfEnd number = (number ≡ 7) ⊎ (number ≡ 9) ⊎ (number ≡ 11)
+IsNumberOfEnd number = (number ≡ 7) ⊎ (number ≡ 11)
 
 -- the same of an end that reports a fault
 abbrev pub IsToldEnd : Option End → Type 0

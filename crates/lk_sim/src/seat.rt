@@ -9,7 +9,7 @@ ghost use Rattle.lk_node.specs.Leavings.{header_of, DisksFit};
 ghost use Rattle.lk_node.specs.Calls.{heard_by, InputFits};
 ghost use Rattle.lk_replica.specs.Behaviours.{disks_by};
 ghost use Rattle.lk_recovery.specs.Faults.{fault_number};
-ghost use Rattle.lk_sim.specs.Events.{Breaks, StaysDown, IsNoWant, IsToldEnd, IsWant, SentUpTo, end_by, end_at};
+ghost use Rattle.lk_sim.specs.Events.{Breaks, StaysDown, IsNoWant, IsSound, IsToldEnd, IsWant, SentUpTo, end_by, end_at};
 ghost use Rattle.lk_sim.specs.Rooms.{AreShort};
 ghost use Rattle.lk_sim.specs.Seats.{SeatFits, SeatGoes, IsTrapped, device_in, stopped_on};
 ghost use Rattle.lk_sim.specs.Kept.{disks_of};
@@ -118,7 +118,7 @@ pub fn fall<R: MemoryReplica>(
     ensures number { seat.new.number ≡ seat.old.number }
     ensures fits { (h : History) (w : View) → DisksFit R.meaning h seat.old.number (disk_of device) → AreShort (disk_of device) → SeatFits R.Shows (disks_by R.behaves) R.meaning h w seat.new }
     ensures fallen { IfOk result (λ o. HasFallen (IsThis (fault_number fault) device) seat.new o.notes.items o.sent.items o.ended o.stop) }
-    ensures told { (fault_number fault ≡ 10 → ⊥) → IfOk result (λ o. IsToldEnd o.ended) }
+    ensures told { IsSound (fault_number fault) → IfOk result (λ o. IsToldEnd o.ended) }
     ensures halted { OnErr result (seat.new.life ≡ Down (stopped_on 0 0 device)) }
     ensures want { OnErr result (IsWant (fault_number fault) device) }
 {

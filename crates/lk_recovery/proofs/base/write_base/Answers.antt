@@ -27,7 +27,7 @@ returns-clause-done g c honest =
     let fits : MayBegin c.in_ok-standing.standing = search rules in
     let may = subst MayBegin is fits in
     subst (λ (k : NodeValue). HasGoneOver m g.D.LogDisk.is_metered c.args.node.now c.args.store.now k c.rebase.new.self) (sym c.stand_here.ensures)
-    (gone_over m c.args.node.now c.args.store.now c.rebase.new.self may c.standing-packed.ensures.near.snapshot
+    (gone_over m c.args.node.now c.args.store.now c.rebase.new.self may c.standing-packed.ensures.near
     (λ ks ls holds. subst (λ (s : StandingValue). KeepsOrIs (disks c.rebase.new.self) ks ls (next_base c.args.store.now s)) is (c.rebase.ensures.any honest ks ls holds)) g.D.LogDisk.is_metered c.in_ok-rebase.ensures.file.0
     (λ ks ls holds. subst (λ (s : StandingValue). Holds c.rebase.new.self (Base (next_base c.args.store.now s) ∷ []) []) is (c.in_ok-rebase.ensures.base honest ks ls holds))
     (λ metered. c.in_ok-rebase.ensures.metered metered honest) (c.in_ok-rebase.ensures.left honest).1)
@@ -70,7 +70,7 @@ returns-in_err-rebase-clause-disks g c honest =
     let is : c.in_ok-standing.standing ≡ standing_of c.args.node.now = search rules in
     let fits : MayBegin c.in_ok-standing.standing = search rules in
     let may = subst MayBegin is fits in
-    stays_safe m c.args.node.now c.args.store.now c.rebase.new.self may c.standing-packed.ensures.near.snapshot
+    stays_safe m c.args.node.now c.args.store.now c.rebase.new.self may c.standing-packed.ensures.near
     (λ ks ls holds. subst (λ (s : StandingValue). KeepsOrIs (disks c.rebase.new.self) ks ls (next_base c.args.store.now s)) is (c.rebase.ensures.any honest ks ls holds)) (c.rebase.ensures.room honest)
 
 pub returns-clause-disks : goal.returns-clause-disks
@@ -79,7 +79,7 @@ returns-clause-disks g c honest =
     let is : c.in_ok-standing.standing ≡ standing_of c.args.node.now = search rules in
     let fits : MayBegin c.in_ok-standing.standing = search rules in
     let may = subst MayBegin is fits in
-    stays_safe m c.args.node.now c.args.store.now c.rebase.new.self may c.standing-packed.ensures.near.snapshot
+    stays_safe m c.args.node.now c.args.store.now c.rebase.new.self may c.standing-packed.ensures.near
     (λ ks ls holds. subst (λ (s : StandingValue). KeepsOrIs (disks c.rebase.new.self) ks ls (next_base c.args.store.now s)) is (c.rebase.ensures.any honest ks ls holds)) (c.rebase.ensures.room honest)
 
 pub returns-then-generation-ge-MAX_COUNT-clause-any : goal.returns-then-generation-ge-MAX_COUNT-clause-any

@@ -12,7 +12,7 @@ use Rattle.lk_recovery.specs.Compacting.{renew_calls}
 use Rattle.lk_recovery.specs.Faults.{fault_number}
 use Rattle.lk_recovery.specs.Renewals.{IsNotRenewed}
 use Rattle.lk_recovery.proofs.Refusing.{failed_alone}
-use Rattle.lk_recovery.proofs.Rebasing.{goes_fits}
+use Rattle.lk_recovery.proofs.Rebasing.{before_fits, goes_fits}
 use Rattle.lk_recovery.proofs.Renewals.{if_errs_as, on_err}
 use Rattle.lk_recovery.proofs.renewing.renew.Goals as goal
 
@@ -53,7 +53,7 @@ returns-clause-renewed g c honest =
     let done = c.in_ok-write_base.ensures.done honest in
     record {
       renews = record { rebases = λ one. done.rebases; rests = λ is. absurd (omega (arith, is, c.if-format-eq2.false, c.format.ensures)) };
-      goes = λ h n f. goes_fits m h n c.write_base.new.node c.write_base.new.store f.lawful ((c.write_base.ensures.disks honest).fits h n f) (done.goes h n f);
+      goes = λ h n f. goes_fits m h n c.write_base.new.node c.write_base.new.store f.lawful ((c.write_base.ensures.disks honest).fits h n (before_fits m h n c.args.node.now c.args.store.now f)) (done.goes h n f);
       remembers = done.remembers;
     }
 

@@ -1,7 +1,7 @@
 use Rattle.std.proofs.Common.{◌≡◌, List, ℕ, [], inl, inr, Err, ◌∙◌, ap, subst, sym, refl, arith}
 use Rattle.lk_types.specs.Geneses.{IsGenesis}
 use Rattle.lk_disk.specs.Meters.{Passes, start}
-use Rattle.lk_recovery.specs.Faults.{fault_number, RefusedAfter}
+use Rattle.lk_recovery.specs.Faults.{fault_number, RefusedAfter, IsNumberOfRevival}
 use Rattle.lk_entries.specs.Values.{HeaderValue}
 use Rattle.lk_log.specs.Images.{seen}
 use Rattle.lk_log.specs.StoreValue.{disks}
@@ -13,9 +13,9 @@ use Rattle.lk_node.specs.Leavings.{DisksFit, AllCover}
 use Rattle.lk_node.specs.NodeValue.{NodeValue}
 use Rattle.lk_recovery.specs.Revivals.{Restores}
 use Rattle.lk_node.specs.Served.{text}
-use Rattle.lk_recovery.proofs.Revivals.{revived_goes, revived_remembers, began, own_header, opened, opening_fits_as, opening_covers_as, given_fit, given_cover, given_room, wrong_only, damaged_only}
+use Rattle.lk_recovery.proofs.Revivals.{revived_goes, revived_remembers, began, own_header, opened, opening_fits_as, opening_covers_as, given_fit, given_cover, given_room, restored_number, store_number, never_damaged, never_wrong, wrong_only, damaged_only}
 use Rattle.lk_recovery.proofs.restart.take_up.Goals as goal
-use Rattle.lk_log.specs.Stores.{NarrowsOrBegins}
+use Rattle.lk_log.specs.Stores.{IsWrong, NarrowsOrBegins}
 use Rattle.lk_log.proofs.StoreLaws.{found_sound}
 use Rattle.lk_recovery.proofs.Spared.{given_narrow, damage_only, failed_only, not_wrong, not_failed}
 
@@ -52,14 +52,23 @@ returns-in-Ok-restored-clause-exact g c honest =
       restores = c.in-Ok-restored.ensures.restores;
     }
 
+pub returns-in_default-clause-fits : goal.returns-in_default-clause-fits
+returns-in_default-clause-fits g c honest h n is lawful before = (inr (inl refl), before)
+
 pub returns-in-Ok-reopen-clause-fits : goal.returns-in-Ok-reopen-clause-fits
 returns-in-Ok-reopen-clause-fits g c honest h n is lawful before =
     let m : Meaning = g.M.Machine.meaning in
+    let keeps : KeepsTexts g.M.Machine.IsText m = record { first = g.met.M.Machine.first_is_text; next = g.met.M.Machine.next_is_text; answer = g.met.M.Machine.answer_is_answer } in
     let same = began c.genesis-2.result.now h.genesis c.args.header.now n c.genesis-2.ensures.cluster c.genesis-2.ensures.alpha c.genesis-2.ensures.members is in
+    let fits = subst IsGenesis (began c.genesis.result.now h.genesis c.args.header.now n c.genesis.ensures.cluster c.genesis.ensures.alpha c.genesis.ensures.members is) c.facts.ensures in
     let begins : c.as_slice.result.now ≡ text m h.genesis [] = c.as_slice.ensures ∙ c.in-Ok.ensures.text ∙ ap (λ (k : Genesis). text m k []) same in
-    let after : DisksFit m h n (disks c.in-Ok-reopen.store) =
-    opening_fits_as m h n c.args.header.now c.as_slice.result.now is begins (g.D.LogDisk.disk c.args.device) (disks c.in-Ok-reopen.store) (c.in-Ok-reopen.ensures.stays honest) before in
-    given_fit m h n c.in-Ok-reopen.store (g.D.LogDisk.disk c.into_disks.result) c.into_disks.ensures.live_disk c.into_disks.ensures.other_disk after
+    let old = g.D.LogDisk.disk c.args.device in
+    let after : DisksFit m h n (disks c.in-Ok-reopen.store) = opening_fits_as m h n c.args.header.now c.as_slice.result.now is begins old (disks c.in-Ok-reopen.store) (c.in-Ok-reopen.ensures.stays honest) before in
+    let number : IsNumberOfRevival (fault_number c.in-Err-restored.fault) =
+    restored_number m g.M.Machine.IsText keeps h n old c.args.header.now c.in-Ok-reopen.store c.in-Ok-reopen.standing c.in-Err-restored.fault fits is
+    (opened m h.genesis n c.args.header.now c.as_slice.result.now is begins old c.in-Ok-reopen.store c.in-Ok-reopen.standing (c.in-Ok-reopen.ensures.ok honest)) before c.in-Err-restored.ensures.only
+    (λ damaged. c.in-Err-restored.ensures.damaged (ap (λ (f : ReplicaFault). Err f) damaged)) in
+    (number, given_fit m h n c.in-Ok-reopen.store (g.D.LogDisk.disk c.into_disks.result) c.into_disks.ensures.live_disk c.into_disks.ensures.other_disk after)
 
 pub returns-in-Ok-reopen-clause-covers : goal.returns-in-Ok-reopen-clause-covers
 returns-in-Ok-reopen-clause-covers g c honest genesis n x is every =
@@ -75,7 +84,13 @@ returns-clause-fits g c honest h n is lawful before =
     let m : Meaning = g.M.Machine.meaning in
     let same = began c.genesis-2.result.now h.genesis c.args.header.now n c.genesis-2.ensures.cluster c.genesis-2.ensures.alpha c.genesis-2.ensures.members is in
     let begins : c.as_slice.result.now ≡ text m h.genesis [] = c.as_slice.ensures ∙ c.in-Ok.ensures.text ∙ ap (λ (k : Genesis). text m k []) same in
-    opening_fits_as m h n c.args.header.now c.as_slice.result.now is begins (g.D.LogDisk.disk c.args.device) (g.D.LogDisk.disk c.in-Err.e.device) (c.in-Err.ensures.stays honest) before
+    let old = g.D.LogDisk.disk c.args.device in
+    let e = c.in-Err.ensures in
+    let number : IsNumberOfRevival (fault_number c.from.result) =
+    subst IsNumberOfRevival (sym (ap fault_number c.from.ensures))
+    (store_number c.in-Err.e.fault (λ damaged. never_damaged m h n old before (e.damaged honest damaged).0)
+    (λ wrong. never_wrong m h n old before (subst (IsWrong (seen old)) is (e.wrong honest wrong).0)) e.failed) in
+    (number, opening_fits_as m h n c.args.header.now c.as_slice.result.now is begins old (g.D.LogDisk.disk c.in-Err.e.device) (e.stays honest) before)
 
 pub returns-clause-covers : goal.returns-clause-covers
 returns-clause-covers g c honest genesis n x is every =

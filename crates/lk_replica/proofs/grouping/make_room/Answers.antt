@@ -4,7 +4,7 @@ use Rattle.lk_log.specs.StoreValue.{disks}
 use Rattle.lk_state.specs.Meanings.{Meaning}
 use Rattle.lk_replica.proofs.Grouped.{of_store_too, no_room_made, room_made, begin_fits, begun, settled_keeps, settled_fits, settled_covers, settle_leaves, settle_covers, same_recalls, same_group_fits, same_group_stays, same_group_covers}
 use Rattle.lk_log.proofs.Room.{within_first, within_more}
-use Rattle.lk_recovery.proofs.Recoveries.{goes_fits, same_room, err_as, refused_on, spared_all, kept_then}
+use Rattle.lk_recovery.proofs.Recoveries.{before_fits, goes_fits, same_room, err_as, refused_on, spared_all, kept_then}
 use Rattle.lk_recovery.specs.Compacting.{IsDue}
 use Rattle.lk_replica.proofs.Refusals.{store_told, store_only, store_awake}
 use Rattle.lk_replica.proofs.grouping.make_room.Goals as goal
@@ -43,7 +43,7 @@ returns-clause-fits g c honest h n f =
     let mine = same_group_fits m c.args.store.now c.is_due.new.store (c.is_due.ensures.same honest) h n c.args.node.now c.args.waits f in
     let mid = settled_fits m h n c.args.node.now c.is_due.new.store c.settle.new.store c.args.waits (c.in_ok-settle.ensures.settles honest) mine in
     (begin_fits m h n c.write_base.new.node c.write_base.new.store
-    (goes_fits m h n c.write_base.new.node c.write_base.new.store f.lawful ((c.write_base.ensures.disks honest).fits h n mid) ((c.in_ok-write_base.ensures.done honest).goes h n mid))).fits
+    (goes_fits m h n c.write_base.new.node c.write_base.new.store f.lawful ((c.write_base.ensures.disks honest).fits h n (before_fits m h n c.args.node.now c.settle.new.store mid)) ((c.in_ok-write_base.ensures.done honest).goes h n mid))).fits
 
 pub returns-clause-stays : goal.returns-clause-stays
 returns-clause-stays g c honest h n s =
@@ -51,21 +51,21 @@ returns-clause-stays g c honest h n s =
     let mine = same_group_fits m c.args.store.now c.is_due.new.store (c.is_due.ensures.same honest) h n c.args.node.now c.args.waits s.fits in
     let mid = settled_fits m h n c.args.node.now c.is_due.new.store c.settle.new.store c.args.waits (c.in_ok-settle.ensures.settles honest) mine in
     begin_fits m h n c.write_base.new.node c.write_base.new.store
-    (goes_fits m h n c.write_base.new.node c.write_base.new.store s.fits.lawful ((c.write_base.ensures.disks honest).fits h n mid) ((c.in_ok-write_base.ensures.done honest).goes h n mid))
+    (goes_fits m h n c.write_base.new.node c.write_base.new.store s.fits.lawful ((c.write_base.ensures.disks honest).fits h n (before_fits m h n c.args.node.now c.settle.new.store mid)) ((c.in_ok-write_base.ensures.done honest).goes h n mid))
 
 pub returns-clause-ends : goal.returns-clause-ends
 returns-clause-ends g c honest h n s =
     let m : Meaning = g.M.Machine.meaning in
     let mine = same_group_fits m c.args.store.now c.is_due.new.store (c.is_due.ensures.same honest) h n c.args.node.now c.args.waits s.fits in
     let mid = settled_fits m h n c.args.node.now c.is_due.new.store c.settle.new.store c.args.waits (c.in_ok-settle.ensures.settles honest) mine in
-    (c.write_base.ensures.disks honest).fits h n mid
+    (c.write_base.ensures.disks honest).fits h n (before_fits m h n c.args.node.now c.settle.new.store mid)
 
 pub returns-in_err-write_base-clause-ends : goal.returns-in_err-write_base-clause-ends
 returns-in_err-write_base-clause-ends g c honest h n s =
     let m : Meaning = g.M.Machine.meaning in
     let mine = same_group_fits m c.args.store.now c.is_due.new.store (c.is_due.ensures.same honest) h n c.args.node.now c.args.waits s.fits in
     let mid = settled_fits m h n c.args.node.now c.is_due.new.store c.settle.new.store c.args.waits (c.in_ok-settle.ensures.settles honest) mine in
-    (c.write_base.ensures.disks honest).fits h n mid
+    (c.write_base.ensures.disks honest).fits h n (before_fits m h n c.args.node.now c.settle.new.store mid)
 
 pub returns-in_err-settle-clause-ends : goal.returns-in_err-settle-clause-ends
 returns-in_err-settle-clause-ends g c honest h n s =

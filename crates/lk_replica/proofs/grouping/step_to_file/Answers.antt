@@ -4,7 +4,7 @@ use Rattle.lk_entries.specs.Entries.{plain}
 use Rattle.lk_log.specs.StoreValue.{disks}
 use Rattle.lk_log.specs.Stores.{Holds, KeepsAtLeast}
 use Rattle.lk_log.proofs.Room.{within_same, within_first, within_more, behind_room, refused_room}
-use Rattle.lk_node.proofs.Nodes.{few_entries}
+use Rattle.lk_node.proofs.Nodes.{few_entries, step_told}
 use Rattle.lk_state.specs.Meanings.{Meaning}
 use Rattle.lk_step.specs.Letters.{batch_of}
 use Rattle.lk_step.specs.Outboxes.{OutboxValue}
@@ -24,14 +24,15 @@ pub returns-clause-goes : goal.returns-clause-goes
 returns-clause-goes g c honest h n f heard =
     let is : c.deref.result.now ≡ c.in_ok-outbox.outbox.entries = c.deref.ensures.value ∙ ap (λ (o : OutboxValue). o.entries) c.outbox.view_is in
     let not_so : c.in_ok-outbox.outbox.rebase ≡ false = sym (ap (λ (o : OutboxValue). o.rebase) c.outbox.view_is) ∙ c.if-outbox.false in
-    gather_goes _ h n c.args.node.now c.step.new.self c.args.store.now c.put.new.self c.args.waits c.args.input c.in_ok-outbox.outbox f heard c.in_ok-outbox.ensures.goes_on not_so
+    gather_goes _ h n c.args.node.now c.step.new.self c.args.store.now c.put.new.self c.args.waits c.args.input c.in_ok-outbox.outbox f heard c.in_ok-outbox.ensures.goes_on (step_told _ _ c.args.node.now _ c.step.new.self c.in_ok-outbox.outbox c.in_ok-outbox.ensures.steps not_so) not_so
     (subst (λ (es : List Entry). Holds c.put.new.self f.shown.keeps.entries (plain f.shown.keeps.loose ++ plain es)) is (c.in_ok-put.ensures.added honest refl f.shown.keeps.entries (plain f.shown.keeps.loose) f.shown.keeps.holds))
 
 pub returns-clause-ends : goal.returns-clause-ends
 returns-clause-ends g c honest h n s heard =
     let is : c.deref.result.now ≡ c.in_ok-outbox.outbox.entries = c.deref.ensures.value ∙ ap (λ (o : OutboxValue). o.entries) c.outbox.view_is in
     let k = s.fits.shown.keeps in
-    group_leaves _ h n c.args.node.now c.step.new.self c.args.store.now c.put.new.self c.args.waits c.args.input c.in_ok-outbox.outbox s heard c.in_ok-outbox.ensures.goes_on
+    let not_so : c.in_ok-outbox.outbox.rebase ≡ false = sym (ap (λ (o : OutboxValue). o.rebase) c.outbox.view_is) ∙ c.if-outbox.false in
+    group_leaves _ h n c.args.node.now c.step.new.self c.args.store.now c.put.new.self c.args.waits c.args.input c.in_ok-outbox.outbox s heard c.in_ok-outbox.ensures.goes_on (step_told _ _ c.args.node.now _ c.step.new.self c.in_ok-outbox.outbox c.in_ok-outbox.ensures.steps not_so)
     (subst (λ (es : List Entry). KeepsAtLeast c.put.new.self k.entries (plain k.loose ++ plain es)) is (c.put.ensures.any honest k.entries (plain k.loose) k.holds))
 
 pub returns-clause-stays : goal.returns-clause-stays
@@ -39,7 +40,7 @@ returns-clause-stays g c honest h n s heard =
     let is : c.deref.result.now ≡ c.in_ok-outbox.outbox.entries = c.deref.ensures.value ∙ ap (λ (o : OutboxValue). o.entries) c.outbox.view_is in
     let not_so : c.in_ok-outbox.outbox.rebase ≡ false = sym (ap (λ (o : OutboxValue). o.rebase) c.outbox.view_is) ∙ c.if-outbox.false in
     let k = s.fits.shown.keeps in
-    group_stays _ h n c.args.node.now c.step.new.self c.args.store.now c.put.new.self c.args.waits c.args.input c.in_ok-outbox.outbox s heard c.in_ok-outbox.ensures.goes_on not_so
+    group_stays _ h n c.args.node.now c.step.new.self c.args.store.now c.put.new.self c.args.waits c.args.input c.in_ok-outbox.outbox s heard c.in_ok-outbox.ensures.goes_on (step_told _ _ c.args.node.now _ c.step.new.self c.in_ok-outbox.outbox c.in_ok-outbox.ensures.steps not_so) not_so
     (subst (λ (es : List Entry). KeepsAtLeast c.put.new.self k.entries (plain k.loose ++ plain es)) is (c.put.ensures.any honest k.entries (plain k.loose) k.holds))
     (subst (λ (es : List Entry). Holds c.put.new.self k.entries (plain k.loose ++ plain es)) is (c.in_ok-put.ensures.added honest refl k.entries (plain k.loose) k.holds))
 
@@ -79,7 +80,7 @@ returns-then-outbox-clause-goes g c honest h n f heard sent among =
     let base = c.in_ok-write_base.ensures.becomes in
     let mid = settled_fits m h n c.args.node.now c.args.store.now c.settle.new.store c.args.waits (c.in_ok-settle.ensures.settles honest) f in
     subst (λ (k : NodeValue). GroupGoes m h n k c.write_base.new.store (waits_after c.args.waits c.in_ok-outbox.outbox) c.in_ok-outbox.outbox.notes (batch_of n sent)) (sym base.becomes)
-    (based_goes m h n c.args.node.now c.step.new.self c.settle.new.store c.write_base.new.store c.args.waits c.args.input c.in_ok-outbox.outbox mid heard c.in_ok-outbox.ensures.goes_on is base.begins c.write_base.ensures.within
+    (based_goes m h n c.args.node.now c.step.new.self c.settle.new.store c.write_base.new.store c.args.waits c.args.input c.in_ok-outbox.outbox mid heard c.in_ok-outbox.ensures.goes_on is base.begins c.write_base.ensures.near
     ((c.in_ok-write_base.ensures.done honest).rebases.writes mid.shown.keeps.entries (plain mid.shown.keeps.loose) mid.shown.keeps.holds) sent among)
 
 pub returns-then-outbox-clause-ends : goal.returns-then-outbox-clause-ends
@@ -96,7 +97,7 @@ returns-then-outbox-clause-stays g c honest h n s heard =
     let base = c.in_ok-write_base.ensures.becomes in
     let mid = settled_fits m h n c.args.node.now c.args.store.now c.settle.new.store c.args.waits (c.in_ok-settle.ensures.settles honest) s.fits in
     subst (λ (k : NodeValue). GroupStays m h n k c.write_base.new.store (waits_after c.args.waits c.in_ok-outbox.outbox)) (sym base.becomes)
-    (based_stays m h n c.args.node.now c.step.new.self c.settle.new.store c.write_base.new.store c.args.waits c.args.input c.in_ok-outbox.outbox mid heard c.in_ok-outbox.ensures.goes_on is base.begins c.write_base.ensures.within
+    (based_stays m h n c.args.node.now c.step.new.self c.settle.new.store c.write_base.new.store c.args.waits c.args.input c.in_ok-outbox.outbox mid heard c.in_ok-outbox.ensures.goes_on is base.begins c.write_base.ensures.near
     ((c.in_ok-write_base.ensures.done honest).rebases.writes mid.shown.keeps.entries (plain mid.shown.keeps.loose) mid.shown.keeps.holds)
     ((c.write_base.ensures.disks honest).fits h n (stepped_fits m h n c.args.node.now c.step.new.self c.settle.new.store c.args.input c.in_ok-outbox.outbox mid heard c.in_ok-outbox.ensures.goes_on is)))
 
@@ -143,7 +144,8 @@ pub returns-in_err-put-clause-ends : goal.returns-in_err-put-clause-ends
 returns-in_err-put-clause-ends g c honest h n s heard =
     let is : c.deref.result.now ≡ c.in_ok-outbox.outbox.entries = c.deref.ensures.value ∙ ap (λ (o : OutboxValue). o.entries) c.outbox.view_is in
     let k = s.fits.shown.keeps in
-    group_leaves _ h n c.args.node.now c.step.new.self c.args.store.now c.put.new.self c.args.waits c.args.input c.in_ok-outbox.outbox s heard c.in_ok-outbox.ensures.goes_on
+    let not_so : c.in_ok-outbox.outbox.rebase ≡ false = sym (ap (λ (o : OutboxValue). o.rebase) c.outbox.view_is) ∙ c.if-outbox.false in
+    group_leaves _ h n c.args.node.now c.step.new.self c.args.store.now c.put.new.self c.args.waits c.args.input c.in_ok-outbox.outbox s heard c.in_ok-outbox.ensures.goes_on (step_told _ _ c.args.node.now _ c.step.new.self c.in_ok-outbox.outbox c.in_ok-outbox.ensures.steps not_so)
     (subst (λ (es : List Entry). KeepsAtLeast c.put.new.self k.entries (plain k.loose ++ plain es)) is (c.put.ensures.any honest k.entries (plain k.loose) k.holds))
 
 pub returns-in_err-settle-clause-ends : goal.returns-in_err-settle-clause-ends

@@ -13,7 +13,7 @@ use Rattle.lk_node.specs.NodeValue.{NodeValue}
 use Rattle.lk_replica.proofs.Behind.{still_keeps, still_remembers, sent_is_covered, stepped_fits, installed_goes}
 use Rattle.lk_replica.proofs.Going.{put_leaves, put_goes, remembered, step_keeps, step_remembers, step_syncs, step_covers, put_written, base_written}
 use Rattle.lk_replica.proofs.replica.step_to_disk.Goals as goal
-use Rattle.lk_node.proofs.Nodes.{few_entries}
+use Rattle.lk_node.proofs.Nodes.{few_entries, step_told}
 use Rattle.lk_disk.specs.Meters.{start}
 use Rattle.lk_recovery.specs.declared.fault.ReplicaFault.TheVariants as fault
 use Rattle.lk_recovery.proofs.Recoveries.{err_as, refused_after, put_refused, grown_none, grown_base, grown_put, grown_less, put_spares, not_failed_so}
@@ -24,11 +24,12 @@ use Rattle.lk_replica.proofs.Refusals.{store_told, store_only, store_awake}
 pub returns-clause-goes : goal.returns-clause-goes
 returns-clause-goes g c honest h n f heard =
     let is : c.deref.result.now ≡ c.in_ok-outbox.outbox.entries = c.deref.ensures.value ∙ ap (λ (o : OutboxValue). o.entries) c.outbox.view_is in
-    put_goes _ h n c.args.node.now c.step.new.self c.args.store.now c.put.new.self c.args.input c.in_ok-outbox.outbox f heard c.in_ok-outbox.ensures.goes_on
+    let not_so : c.in_ok-outbox.outbox.rebase ≡ false = sym (ap (λ (o : OutboxValue). o.rebase) c.outbox.view_is) ∙ c.if-outbox.false in
+    put_goes _ h n c.args.node.now c.step.new.self c.args.store.now c.put.new.self c.args.input c.in_ok-outbox.outbox f heard c.in_ok-outbox.ensures.goes_on (step_told _ _ c.args.node.now _ c.step.new.self c.in_ok-outbox.outbox c.in_ok-outbox.ensures.steps not_so)
     (step_keeps _ h.genesis n c.args.node.now c.step.new.self c.args.store.now c.put.new.self _ c.in_ok-outbox.outbox (remembered _ h.genesis n f.holding c.args.node.now c.args.store.now f.shown) c.in_ok-outbox.ensures.goes_on
     (λ no'. subst (λ (es : List Entry). Holds c.put.new.self f.shown.keeps.entries (plain f.shown.keeps.loose ++ plain es)) is (c.in_ok-put.ensures.added honest (ap (λ (o : OutboxValue). o.sync) c.outbox.view_is ∙ no') f.shown.keeps.entries (plain f.shown.keeps.loose) f.shown.keeps.holds))
     (λ yes'. subst (λ (es : List Entry). Holds c.put.new.self (f.shown.keeps.entries ++ (plain f.shown.keeps.loose ++ plain es)) []) is (c.in_ok-put.ensures.synced honest (ap (λ (o : OutboxValue). o.sync) c.outbox.view_is ∙ yes') f.shown.keeps.entries (plain f.shown.keeps.loose) f.shown.keeps.holds)))
-    (put_leaves _ h n c.args.node.now c.step.new.self c.args.store.now c.put.new.self c.args.input c.in_ok-outbox.outbox f heard c.in_ok-outbox.ensures.goes_on
+    (put_leaves _ h n c.args.node.now c.step.new.self c.args.store.now c.put.new.self c.args.input c.in_ok-outbox.outbox f heard c.in_ok-outbox.ensures.goes_on (step_told _ _ c.args.node.now _ c.step.new.self c.in_ok-outbox.outbox c.in_ok-outbox.ensures.steps not_so)
     (subst (λ (es : List Entry). KeepsAtLeast c.put.new.self f.shown.keeps.entries (plain f.shown.keeps.loose ++ plain es)) is (c.put.ensures.any honest f.shown.keeps.entries (plain f.shown.keeps.loose) f.shown.keeps.holds)))
 
 pub returns-clause-syncs : goal.returns-clause-syncs
@@ -85,7 +86,7 @@ returns-then-outbox-clause-goes g c honest h n f heard sent among =
     let base = c.in_ok-write_base.ensures.becomes in
     let holds = (c.in_ok-write_base.ensures.done honest).rebases.writes f.shown.keeps.entries (plain f.shown.keeps.loose) f.shown.keeps.holds in
     subst (λ (k : NodeValue). Goes m h n (Stands m k c.write_base.new.store h.genesis n) (disks c.write_base.new.store) c.in_ok-outbox.outbox.notes (batch_of n sent)) (sym base.becomes)
-    (installed_goes m h n c.args.node.now c.step.new.self c.args.store.now c.args.input c.in_ok-outbox.outbox f heard c.in_ok-outbox.ensures.goes_on is c.write_base.new.store base.begins c.write_base.ensures.within holds sent among)
+    (installed_goes m h n c.args.node.now c.step.new.self c.args.store.now c.args.input c.in_ok-outbox.outbox f heard c.in_ok-outbox.ensures.goes_on is c.write_base.new.store base.begins c.write_base.ensures.near holds sent among)
 
 pub returns-then-outbox-clause-syncs : goal.returns-then-outbox-clause-syncs
 returns-then-outbox-clause-syncs g c honest genesis n x shown d listed said =
@@ -132,10 +133,11 @@ returns-in_err-outbox-clause-disks g c honest = record {
 pub returns-in_err-put-clause-disks : goal.returns-in_err-put-clause-disks
 returns-in_err-put-clause-disks g c honest =
     let is : c.deref.result.now ≡ c.in_ok-outbox.outbox.entries = c.deref.ensures.value ∙ ap (λ (o : OutboxValue). o.entries) c.outbox.view_is in
+    let not_so : c.in_ok-outbox.outbox.rebase ≡ false = sym (ap (λ (o : OutboxValue). o.rebase) c.outbox.view_is) ∙ c.if-outbox.false in
     let few : length c.in_ok-outbox.outbox.entries ≤ 16 = few_entries _ _ c.args.node.now _ c.step.new.self c.in_ok-outbox.outbox c.in_ok-outbox.ensures.steps in
     record {
       ends = λ h n f heard.
-          put_leaves _ h n c.args.node.now c.step.new.self c.args.store.now c.put.new.self c.args.input c.in_ok-outbox.outbox f heard c.in_ok-outbox.ensures.goes_on
+          put_leaves _ h n c.args.node.now c.step.new.self c.args.store.now c.put.new.self c.args.input c.in_ok-outbox.outbox f heard c.in_ok-outbox.ensures.goes_on (step_told _ _ c.args.node.now _ c.step.new.self c.in_ok-outbox.outbox c.in_ok-outbox.ensures.steps not_so)
           (subst (λ (es : List Entry). KeepsAtLeast c.put.new.self f.shown.keeps.entries (plain f.shown.keeps.loose ++ plain es)) is (c.put.ensures.any honest f.shown.keeps.entries (plain f.shown.keeps.loose) f.shown.keeps.holds));
       covers = λ genesis n x shown every.
           step_covers _ genesis n c.args.node.now c.step.new.self c.args.store.now c.put.new.self _ c.in_ok-outbox.outbox shown c.in_ok-outbox.ensures.goes_on
@@ -148,10 +150,11 @@ returns-in_err-put-clause-disks g c honest =
 pub returns-clause-disks : goal.returns-clause-disks
 returns-clause-disks g c honest =
     let is : c.deref.result.now ≡ c.in_ok-outbox.outbox.entries = c.deref.ensures.value ∙ ap (λ (o : OutboxValue). o.entries) c.outbox.view_is in
+    let not_so : c.in_ok-outbox.outbox.rebase ≡ false = sym (ap (λ (o : OutboxValue). o.rebase) c.outbox.view_is) ∙ c.if-outbox.false in
     let few : length c.in_ok-outbox.outbox.entries ≤ 16 = few_entries _ _ c.args.node.now _ c.step.new.self c.in_ok-outbox.outbox c.in_ok-outbox.ensures.steps in
     record {
       ends = λ h n f heard.
-          put_leaves _ h n c.args.node.now c.step.new.self c.args.store.now c.put.new.self c.args.input c.in_ok-outbox.outbox f heard c.in_ok-outbox.ensures.goes_on
+          put_leaves _ h n c.args.node.now c.step.new.self c.args.store.now c.put.new.self c.args.input c.in_ok-outbox.outbox f heard c.in_ok-outbox.ensures.goes_on (step_told _ _ c.args.node.now _ c.step.new.self c.in_ok-outbox.outbox c.in_ok-outbox.ensures.steps not_so)
           (subst (λ (es : List Entry). KeepsAtLeast c.put.new.self f.shown.keeps.entries (plain f.shown.keeps.loose ++ plain es)) is (c.put.ensures.any honest f.shown.keeps.entries (plain f.shown.keeps.loose) f.shown.keeps.holds));
       covers = λ genesis n x shown every.
           step_covers _ genesis n c.args.node.now c.step.new.self c.args.store.now c.put.new.self _ c.in_ok-outbox.outbox shown c.in_ok-outbox.ensures.goes_on

@@ -29,5 +29,6 @@ returns-in_err-revived-clause-refused g c =
     if_err_is _ c.from_residual.result left c.from_residual.ensures.1 (record {
       among = (looked.cause.0, looked.cause.1);
       cause = λ honest. refused_as m.meaning m.IsText (disk c.look.new.device) (disk c.args.device) c.args.header.now (fault_number left.fault) (disk left.device) (λ i s. c.look.ensures.unchanged honest s i) (looked.refused honest);
-      stays_down = λ honest. down_as m.meaning (disk c.look.new.device) (disk c.args.device) c.args.header.now (disk left.device) (λ i s. c.look.ensures.unchanged honest s i) (record { fits = looked.fits honest; room = looked.room honest });
+      stays_down = λ honest. down_as m.meaning (disk c.look.new.device) (disk c.args.device) c.args.header.now (disk left.device) (λ i s. c.look.ensures.unchanged honest s i) (record { fits = λ h n whose lawful fit. (looked.fits honest h n whose lawful fit).1; room = looked.room honest });
+      comes_back = λ honest h n whose lawful fit. (looked.fits honest h n whose lawful (subst (λ (d : Side → Disk). DisksFit m.meaning h n d) (λ i s. sym (c.look.ensures.unchanged honest s) i) fit)).0;
     })

@@ -3,7 +3,7 @@ use Rattle.lk_disk.specs.Memory.{Memory, disk_of}
 use Rattle.lk_node.specs.Leavings.{DisksFit}
 use Rattle.lk_replica.specs.Behaviours.{disks_by}
 use Rattle.lk_sim.specs.Rooms.{AreShort}
-use Rattle.lk_sim.proofs.Ends.{not_wrong_packed}
+use Rattle.lk_sim.proofs.Ends.{sound_packed}
 use Rattle.lk_sim.proofs.Shortness.{based_short}
 use Rattle.lk_sim.proofs.Given.{node_fits}
 use Rattle.lk_sim.proofs.packing.pack.Goals as goal
@@ -30,4 +30,4 @@ returns-in-Err-clause-falls g c h w lawful f d down =
     (based_short (disks_by g.R.MemoryReplica.behaves c.in-Up.replica) (disks_by g.R.MemoryReplica.behaves c.compact.new.self) c.compact.ensures.room (f.up c.in-Up.replica is).room))
 
 pub returns-in-Err-clause-told : goal.returns-in-Err-clause-told
-returns-in-Err-clause-told g c = c.fall.ensures.told (not_wrong_packed _ c.in-Err.ensures.told)
+returns-in-Err-clause-told g c = c.fall.ensures.told (sound_packed _ c.in-Err.ensures.told)

@@ -32,6 +32,6 @@ pub returns-then-is_wanting-clause-halted : goal.returns-then-is_wanting-clause-
 returns-then-is_wanting-clause-halted g c = ap Down (c.trap.ensures ∙ ap (λ (d : Memory). record d { meter = trapped Off d.meter }) c.stop.ensures.after)
 
 pub returns-clause-told : goal.returns-clause-told
-returns-clause-told g c not_wrong =
+returns-clause-told g c sound =
     told_as _ _ (ap Some c.ended_by.ensures)
-    (told_by c.stopping-stop.result _ c.number.result (subst IsNumberOfEnd (sym c.number.ensures) (told_fault c.args.fault c.args.device (c.is_wanting.ensures.no_want c.if-is_wanting.false) not_wrong)))
+    (told_by c.stopping-stop.result _ c.number.result (subst IsNumberOfEnd (sym c.number.ensures) (told_fault c.args.fault c.args.device (c.is_wanting.ensures.no_want c.if-is_wanting.false) sound)))

@@ -2,7 +2,7 @@ use Rattle.std.proofs.Common.{◌≡◌, refl, sym, subst}
 use Rattle.lk_disk.specs.Memory.{disk_of}
 use Rattle.lk_node.specs.Leavings.{header_of, DisksFit}
 use Rattle.lk_replica.specs.Behaviours.{disks_by}
-use Rattle.lk_sim.proofs.Ends.{not_wrong_back}
+use Rattle.lk_sim.proofs.Ends.{sound_back}
 use Rattle.lk_sim.proofs.Given.{same_header}
 use Rattle.lk_sim.proofs.Shortness.{based_short}
 use Rattle.lk_sim.proofs.seat.revive.Goals as goal
@@ -35,4 +35,4 @@ returns-in-Err-clause-told g c h w same lawful f =
     let whose : c.new.result ≡ header_of h.genesis n = same_header c.new.result h.genesis c.args.genesis.now n _ _ _ c.new.ensures c.copy.ensures.cluster c.copy.ensures.alpha c.copy.ensures.members same in
     let left : DisksFit g.R.MemoryReplica.meaning h n (disk_of c.take_device-device.result) =
     subst (λ k. DisksFit g.R.MemoryReplica.meaning h k (disk_of c.take_device-device.result)) (sym c.take_device-device.ensures.number) (c.take_device-device.ensures.fits h w f) in
-    c.fall.ensures.told (not_wrong_back _ (c.in-Err.ensures.down h n whose lawful left).0)
+    c.fall.ensures.told (sound_back _ (c.in-Err.ensures.down h n whose lawful left).0)

@@ -4,7 +4,7 @@ use Rattle.lk_node.specs.Leavings.{DisksFit}
 use Rattle.lk_sim.proofs.Given.{node_fits}
 use Rattle.lk_replica.specs.Behaviours.{disks_by}
 use Rattle.lk_sim.specs.Rooms.{AreShort}
-use Rattle.lk_sim.proofs.Ends.{told_as, told_at, not_wrong_up}
+use Rattle.lk_sim.proofs.Ends.{told_as, told_at, sound_up}
 use Rattle.lk_sim.proofs.Shortness.{stepped_short}
 use Rattle.lk_sim.proofs.Stopping.{goes_up_to, sent_short}
 use Rattle.lk_sim.proofs.seat.step.Goals as goal
@@ -38,4 +38,4 @@ pub returns-in-Ok-clause-told : goal.returns-in-Ok-clause-told
 returns-in-Ok-clause-told g c = told_as _ _ c.ended_at.ensures (told_at c.count_sends-stop.result _)
 
 pub returns-in-Err-clause-told : goal.returns-in-Err-clause-told
-returns-in-Err-clause-told g c = c.fall.ensures.told (not_wrong_up _ c.in-Err.ensures.told)
+returns-in-Err-clause-told g c = c.fall.ensures.told (sound_up _ c.in-Err.ensures.told)

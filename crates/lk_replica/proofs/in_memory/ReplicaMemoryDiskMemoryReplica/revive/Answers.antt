@@ -1,12 +1,6 @@
 use Rattle.std.proofs.Common.{◌≡◌, ℕ, ◌+◌, ◌≤◌, ◌⊎◌, inl, inr, List, [], Result, Ok, Err, IfOk, MatchResult, subst, arith}
 use Rattle.std.specs.Prelude.{IfErr}
-use Rattle.std.proofs.lemmas.Bool.{cases_lt}
-use Rattle.lk_entries.specs.Standings.{HasHeader}
 use Rattle.lk_entries.specs.Values.{HeaderValue}
-use Rattle.lk_entries.specs.declared.stored.Stored.{Stored}
-use Rattle.lk_log.specs.Images.{seen}
-use Rattle.lk_log.specs.Stores.{IsWrong}
-use Rattle.lk_log.proofs.StoreLaws.{found_live, seen_left}
 use Rattle.lk_log.specs.Rooms.{StaysWithin}
 use Rattle.lk_disk.specs.Disk.{Disk}
 use Rattle.lk_disk.specs.Memory.{Memory, disk_of}
@@ -16,32 +10,12 @@ use Rattle.lk_disk.specs.declared.meter.Meter.{Meter}
 use Rattle.lk_state.specs.Meanings.{Meaning}
 use Rattle.lk_node.specs.Calls.{Goes}
 use Rattle.lk_node.specs.Keeping.{Stands}
-use Rattle.lk_node.specs.Histories.{History}
-use Rattle.lk_node.specs.Leavings.{header_of, DisksFit, AllCover}
-use Rattle.lk_node.specs.Served.{text}
-use Rattle.lk_recovery.specs.Faults.{fault_number, failures_by, RefusedAfter, IsNumberOfRevival}
+use Rattle.lk_node.specs.Leavings.{AllCover}
+use Rattle.lk_recovery.specs.Faults.{fault_number, failures_by, RefusedAfter}
 use Rattle.lk_recovery.specs.Revivals.{IsRefusedFor, CallsOfRevival}
 use Rattle.lk_replica.specs.Revived.{IsNotRevived}
 use Rattle.lk_replica.proofs.OnDevices.{on_device}
 use Rattle.lk_replica.proofs.in_memory.ReplicaMemoryDiskMemoryReplica.revive.Goals as goal
-
-cases_number : (n : ℕ) → 7 ≤ n → n ≤ 11 → ((n ≡ 7) ⊎ (n ≡ 8)) ⊎ (n ≡ 9) ⊎ (n ≡ 10) ⊎ (n ≡ 11)
-cases_number n least most = elim (cases_lt n 8) [
-  | inl a ↦ inl (inl (omega (arith, a, least)))
-  | inr a ↦ elim (cases_lt n 9) [
-    | inl b ↦ inl (inr (omega (arith, a, b)))
-    | inr b ↦ elim (cases_lt n 10) [
-      | inl d ↦ inr (inl (omega (arith, b, d)))
-      | inr d ↦ elim (cases_lt n 11) [ inl e ↦ inr (inr (inl (omega (arith, d, e)))) | inr e ↦ inr (inr (inr (omega (arith, e, most)))) ]
-    ]
-  ]
-]
-
--- disks that fit are not another's
-never_wrong : (m : Meaning) (h : History) (n : ℕ) (disks : Side → Disk) → DisksFit m h n disks → IsWrong (seen disks) (header_of h.genesis n) → ⊥
-never_wrong m h n disks fits wrong =
-    let f = (fits (seen disks) (seen_left disks)).stands in
-    wrong.2 (subst (λ (es : List Stored). HasHeader es (header_of h.genesis n)) (found_live (seen disks) (header_of h.genesis n) (text m h.genesis []) f.entries wrong.0 wrong.1 f.found) f.header)
 
 -- what follows of what stands at Ok
 if_ok : {A E : Type 0} (P Q : A → Type 0) (X : E → Type 0) (r : Result A E) → ((x : A) → P x → Q x) → MatchResult r P X → IfOk r Q
@@ -65,23 +39,6 @@ not_revived : {A E : Type 0} (m : Meaning) (IsText : List ℕ → Type 0) (devic
 not_revived m IsText device whose (Ok x) number left X Y cause calls refused = tt
 not_revived m IsText device whose (Err e) number left X Y cause calls refused = record { failures = cause.2; calls = calls; cause = refused; only = (cause.0, cause.1) }
 
--- which numbers come where the disks fit: they are not another's
-told_number : (m : Meaning) (IsText : List ℕ → Type 0) (h : History) (n number : ℕ) (device : Memory) (whose : HeaderValue) (left : Side → Disk) → whose ≡ header_of h.genesis n → DisksFit m h n (disk_of device) → 7 ≤ number → number ≤ 11
-    → IsRefusedFor m IsText (disk_of device) whose number left → IsNumberOfRevival number
-told_number m IsText h n number device whose left is fits least most why = elim (cases_number number least most) [
-  | inl (inl seven) ↦ inl seven
-  | inl (inr eight) ↦ inr (inl eight)
-  | inr (inl nine) ↦ inr (inr (inl nine))
-  | inr (inr (inl ten)) ↦ absurd (never_wrong m h n (disk_of device) fits (subst (λ (w : HeaderValue). IsWrong (seen (disk_of device)) w) is (why.wrong ten)))
-  | inr (inr (inr eleven)) ↦ inr (inr (inr eleven))
-]
-
-told_fits : {A E : Type 0} (m : Meaning) (IsText : List ℕ → Type 0) (h : History) (n : ℕ) (device : Memory) (whose : HeaderValue) (r : Result A E) (number : E → ℕ) (left : E → Memory) (X : A → Type 0) (Y : E → Type 0) → whose ≡ header_of h.genesis n → DisksFit m h n (disk_of device)
-    → MatchResult r X (λ e. (7 ≤ number e) × (number e ≤ 11) × Y e) → IfErr r (λ e. IsRefusedFor m IsText (disk_of device) whose (number e) (disk_of (left e))) → IfErr r (λ e. DisksFit m h n (disk_of (left e)))
-    → IfErr r (λ e. IsNumberOfRevival (number e) × DisksFit m h n (disk_of (left e)))
-told_fits m IsText h n device whose (Ok x) number left X Y is fits cause refused after = tt
-told_fits m IsText h n device whose (Err e) number left X Y is fits cause refused after = (told_number m IsText h n (number e) device whose (disk_of (left e)) is fits cause.0 cause.1 refused, after)
-
 -- so many calls of its device have passed
 passed : {A E : Type 0} (d : Side → Disk) (l : Meter) (now : A → Meter) (Y : E → Type 0) (r : Result A E) → MatchResult r (λ x. CallsOfRevival d l (now x)) Y → IfOk r (λ x. (k : ℕ) × Passes l (now x) k)
 passed d l now Y (Ok x) c = (c.0 + c.1, c.4)
@@ -98,10 +55,7 @@ returns-clause-up g c h n whose lawful fits =
     (c.revive.ensures.fits tt h n whose lawful fits)
 
 pub returns-clause-down : goal.returns-clause-down
-returns-clause-down g c h n whose lawful fits =
-    let e = c.revive.ensures in
-    let m : Meaning = g.M.Machine.meaning in
-    told_fits m g.M.Machine.IsText h n c.args.device c.args.header.now c.revive.result (λ e. fault_number e.fault) (λ e. e.device) _ _ whose fits e.cause (e.refused tt) (if_err _ _ c.revive.result (e.fits tt h n whose lawful fits))
+returns-clause-down g c h n whose lawful fits = if_err _ _ c.revive.result (c.revive.ensures.fits tt h n whose lawful fits)
 
 pub returns-clause-covers : goal.returns-clause-covers
 returns-clause-covers g c genesis n x whose every =

@@ -11,7 +11,7 @@ use Rattle.lk_node.specs.Keeping.{Stands}
 use Rattle.lk_node.specs.Packing.{standing_of}
 use Rattle.lk_node.specs.Served.{text}
 use Rattle.lk_recovery.specs.Faults.{fault_number, RefusedAfter}
-use Rattle.lk_recovery.proofs.Recoveries.{refused_on, goes_fit, then_goes, taken_keeps, revival_calls, renew_left, given_renew, last_old, of_last_old, not_of_store, given_fit, given_cover, given_room}
+use Rattle.lk_recovery.proofs.Recoveries.{before_fits, refused_on, goes_fit, then_goes, taken_keeps, revival_calls, renew_left, given_renew, last_old, of_last_old, not_of_store, given_fit, given_cover, given_room}
 use Rattle.lk_replica.proofs.replica.Replica.revive.Goals as goal
 
 pub invariant_of-result : goal.invariant_of-result
@@ -73,7 +73,11 @@ pub returns-in-Err-renew-clause-fits : goal.returns-in-Err-renew-clause-fits
 returns-in-Err-renew-clause-fits g c honest h n is lawful before =
     let m : Meaning = g.M.Machine.meaning in
     let fits = goes_fit m h n (Stands m c.in-Ok.up.node c.in-Ok.up.store h.genesis n) (disks c.in-Ok.up.store) c.in-Ok.up.notes.items lawful (c.in-Ok.ensures.fits honest h n is lawful before) in
-    given_fit m h n c.renew.new.store (g.D.LogDisk.disk c.into_disks.result) c.into_disks.ensures.live_disk c.into_disks.ensures.other_disk ((c.renew.ensures.safe honest).fits h n fits)
+    (
+      c.in-Err-renew.ensures.refused.of_store,
+      given_fit m h n c.renew.new.store (g.D.LogDisk.disk c.into_disks.result) c.into_disks.ensures.live_disk c.into_disks.ensures.other_disk
+      ((c.renew.ensures.safe honest).fits h n (before_fits m h n c.in-Ok.up.node c.in-Ok.up.store fits)),
+    )
 
 pub returns-in-Err-renew-clause-covers : goal.returns-in-Err-renew-clause-covers
 returns-in-Err-renew-clause-covers g c honest genesis n x is every =
