@@ -324,12 +324,11 @@ pub fit_revives : (m : Meaning) (IsText : List ℕ → Type 0) (keeps : KeepsTex
 fit_revives m IsText keeps h n es s fits f stands =
     let same : f.standing ≡ s = one_standing es f.standing s f.stands stands in
     let w : WholeValue = whole_after m h.genesis f.under in
-    let whole = states_fit IsText m keeps h.genesis f.under fits (all_at IsCommand f.under (λ i v at. (chosen_fits h.genesis h.sent f.under f.stems.done i v at).1)) (chosen_short h.genesis h.sent f.under f.stems.done) in
-    (
+    let whole = states_fit IsText m keeps h.genesis f.under fits (all_at IsCommand f.under (λ i v at. (chosen_fits h.genesis h.sent f.under f.stems.done i v at).1)) (chosen_short h.genesis h.sent f.under f.stems.done) in (
       w,
       subst (λ (t : StandingValue). MayRevive IsText (header_of h.genesis n) t w) same
-      (near_revives IsText (header_of h.genesis n) f.standing w
-      (record { packs = (whole, f.snapshot); executed = executed_is m h.genesis f.under w refl ∙ f.position; sets = window_is m h.genesis f.under w refl }) f.stands.pairs_rise f.near),
+          (near_revives IsText (header_of h.genesis n) f.standing w
+          (record { packs = (whole, f.snapshot); executed = executed_is m h.genesis f.under w refl ∙ f.position; sets = window_is m h.genesis f.under w refl }) f.stands.pairs_rise f.near),
     )
 
 -- so what was opened does not refuse as damaged

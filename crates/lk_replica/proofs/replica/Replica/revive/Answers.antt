@@ -72,11 +72,10 @@ returns-in-Ok-renew-clause-ready g c = record {
 pub returns-in-Err-renew-clause-fits : goal.returns-in-Err-renew-clause-fits
 returns-in-Err-renew-clause-fits g c honest h n is lawful before =
     let m : Meaning = g.M.Machine.meaning in
-    let fits = goes_fit m h n (Stands m c.in-Ok.up.node c.in-Ok.up.store h.genesis n) (disks c.in-Ok.up.store) c.in-Ok.up.notes.items lawful (c.in-Ok.ensures.fits honest h n is lawful before) in
-    (
+    let fits = goes_fit m h n (Stands m c.in-Ok.up.node c.in-Ok.up.store h.genesis n) (disks c.in-Ok.up.store) c.in-Ok.up.notes.items lawful (c.in-Ok.ensures.fits honest h n is lawful before) in (
       c.in-Err-renew.ensures.refused.of_store,
       given_fit m h n c.renew.new.store (g.D.LogDisk.disk c.into_disks.result) c.into_disks.ensures.live_disk c.into_disks.ensures.other_disk
-      ((c.renew.ensures.safe honest).fits h n (before_fits m h n c.in-Ok.up.node c.in-Ok.up.store fits)),
+          ((c.renew.ensures.safe honest).fits h n (before_fits m h n c.in-Ok.up.node c.in-Ok.up.store fits)),
     )
 
 pub returns-in-Err-renew-clause-covers : goal.returns-in-Err-renew-clause-covers
