@@ -56,6 +56,7 @@ def arguments():
     made.add_argument("--seconds", type=float, default=3, help="how long each load lasts, 3 if not given")
     made.add_argument("--program", type=a_program, help="the program of locks; what ./locks runs if not given")
     made.add_argument("--before", type=a_program, help="an older program of locks, beside the other")
+    made.add_argument("--sealed", action="store_true", help="the clusters of locks with keys too, beside those without")
     made.add_argument("--dir", help="where the folders of the nodes are made")
     return made.parse_args()
 

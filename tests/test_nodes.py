@@ -44,6 +44,16 @@ class NodesTest(unittest.TestCase):
         self.start(self.ports[0])
         self.wait_until_up()
 
+    def test_a_decided_command_is_in_the_file_before_it_is_answered(self):
+        self.start(self.ports[0])
+        self.wait_until_up()
+        with Client(5, 2, self.ports[:1], first=milliseconds(), patience=30.0) as client:
+            for _ in range(8):
+                fence = client.acquire("db")
+                told = subprocess.run([PROGRAM, "inspect", "--dir", self.folder], stdout=subprocess.PIPE, text=True)
+                self.assertIn(f"held db 2 {fence}", told.stdout.splitlines())
+                client.release("db", fence)
+
     def test_a_port_that_is_taken_cannot_be_opened(self):
         with socket.socket(socket.AF_INET, socket.SOCK_DGRAM) as taken:
             taken.bind(("127.0.0.1", self.ports[0]))

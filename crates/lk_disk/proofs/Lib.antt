@@ -1,2 +1,3 @@
 mod Keep
+mod Buffering
 pub mod Devices

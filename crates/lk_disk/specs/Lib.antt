@@ -3,3 +3,4 @@ pub mod Memory
 pub mod Meters
 pub mod Traps
 pub mod Files
+pub mod Buffers

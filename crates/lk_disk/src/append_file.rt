@@ -45,6 +45,12 @@ pub trait AppendFile {
         ensures err { is_honest → IsWhole (file self.old) → OnErr result (AppendsSome piece.now (left_of (file self.old)) (left_of (file self.new))) }
         ensures cause { HasCause (failures self.old) (failures self.new) result };
 
+    /// Gives what was appended to the system, so that a process that is killed then loses none of it. A stop may leave
+    /// what it could leave before, at Ok and after an `Err`.
+    fn flush(&mut self) -> Result<(), FileFault>
+        ensures unchanged { is_honest → file self.new ≡ file self.old }
+        ensures cause { HasCause (failures self.old) (failures self.new) result };
+
     /// Makes its content outlast a stop. A failed call changes nothing of what a stop may leave.
     fn sync(&mut self) -> Result<(), FileFault>
         ensures ok { is_honest → IsWhole (file self.old) → OnOk result (file self.new ≡ whole (flushed (left_of (file self.old)))) }

@@ -1,5 +1,5 @@
 // A device of two disks, each seen as its synced bytes and the unsynced bytes after them.
-ghost use Rattle.std.specs.Prelude.{◌≡◌, ◌≤◌, ◌<◌, ◌+◌, ℕ, length, slice_range, OnOk, OnErr, IfOk};
+ghost use Rattle.std.specs.Prelude.{◌≡◌, ◌≤◌, ◌<◌, ◌+◌, ℕ, length, slice_range, IsOk, OnOk, OnErr, IfOk};
 ghost use Rattle.lk_disk.specs.Disk.{Disk, other, contents, appended, flushed, cut_to, AppendsSome, CutShort, HasCause};
 ghost use Rattle.lk_disk.specs.Meters.{Calls, Reads};
 ghost use Rattle.lk_disk.specs.declared.device.Side.{Side};
@@ -72,6 +72,14 @@ pub trait LogDisk {
         ensures err { is_honest → OnErr result (AppendsSome piece.now (disk self.old side) (disk self.new side)) }
         ensures beside { is_honest → disk self.new (other side) ≡ disk self.old (other side) }
         ensures metered { is_metered → Calls (meter self.old) (meter self.new) result }
+        ensures cause { HasCause (failures self.old) (failures self.new) result };
+
+    /// Gives what was appended to the system, so that a process that is killed then loses none of it. It changes no
+    /// disk, whatever its result. No device counts it, and one that is metered does not fail.
+    fn flush(&mut self, side: Side) -> Result<(), DeviceFault>
+        ensures unchanged { is_honest → (s : Side) → disk self.new s ≡ disk self.old s }
+        ensures uncounted { meter self.new ≡ meter self.old }
+        ensures metered { is_metered → IsOk result }
         ensures cause { HasCause (failures self.old) (failures self.new) result };
 
     /// Syncs all bytes. A failed call changes nothing.

@@ -148,6 +148,23 @@ impl<F: AppendFile + Drop> LogDisk for FileDisk<F> {
         }
     }
 
+    fn flush(&mut self, side: Side) -> Result<(), DeviceFault>
+        ensures unchanged { F.is_honest → (s : Side) → disk_at self.new s ≡ disk_at self.old s }
+        ensures cause { HasCause self.old.failures self.new.failures result }
+        // It fails only if the file's call did, or had failed before.
+        ensures file { IsCaused (used_at self.old side) (used_at self.new side) result }
+        ensures apart { used_at self.new (other side) ≡ used_at self.old (other side) }
+    {
+        let flushed = match side {
+            Side::A => self.a.flush(),
+            Side::B => self.b.flush(),
+        };
+        match flushed {
+            Ok(()) => Ok(()),
+            Err(FileFault) => Err(self.fail()),
+        }
+    }
+
     fn sync(&mut self, side: Side) -> Result<(), DeviceFault>
         ensures ok { F.is_honest → OnOk result (disk_at self.new side ≡ flushed (disk_at self.old side)) }
         ensures err { F.is_honest → OnErr result (disk_at self.new side ≡ disk_at self.old side) }

@@ -95,6 +95,13 @@ impl AppendFile for FileInMemory {
         Ok(())
     }
 
+    fn flush(&mut self) -> Result<(), FileFault>
+        ensures unchanged { self.new ≡ self.old }
+        ensures ok { IsOk result }
+    {
+        Ok(())
+    }
+
     fn sync(&mut self) -> Result<(), FileFault>
         ensures ok { IsOk result }
         ensures whole { IsWhole self.old.file → self.new.file ≡ whole (flushed (left_of self.old.file)) }

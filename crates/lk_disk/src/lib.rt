@@ -3,6 +3,7 @@
 #![tactic(auto)]
 
 mod append_file;
+mod buffered_file;
 mod device;
 mod file_disk;
 mod file_in_memory;
@@ -14,9 +15,10 @@ mod trap;
 mod used_file;
 
 pub use append_file::{AppendFile, FileFault};
+pub use buffered_file::BufferedFile;
 pub use device::{DeviceFault, LogDisk, Side};
 pub use file_disk::FileDisk;
 pub use file_in_memory::FileInMemory;
 pub use memory::MemoryDisk;
-pub use system_file::{CannotOpen, SystemFile};
+pub use system_file::{CannotOpen, SystemDisk, SystemFile};
 pub use trap::{Trap, Trapped};

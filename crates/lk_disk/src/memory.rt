@@ -167,7 +167,7 @@ impl MemoryDisk {
         }
     }
 
-    fn flush(&mut self, side: Side)
+    fn make_synced(&mut self, side: Side)
         ensures { self.new ≡ with_disk side (flushed (disk_of self.old side)) self.old }
     {
         match side {
@@ -243,6 +243,13 @@ impl LogDisk for MemoryDisk {
         }
     }
 
+    fn flush(&mut self, _side: Side) -> Result<(), DeviceFault>
+        ensures unchanged { self.new ≡ self.old }
+        ensures ok { IsOk result }
+    {
+        Ok(())
+    }
+
     fn sync(&mut self, side: Side) -> Result<(), DeviceFault>
         ensures refused { IsTrue (is_refused self.old.meter) → IsErr result × (self.new ≡ refused self.old) }
         ensures stopped { IsFalse (is_refused self.old.meter) → (bytes : ℕ) → stops_next self.old.meter.trap ≡ Some bytes → IsErr result × (self.new ≡ refused self.old) }
@@ -252,7 +259,7 @@ impl LogDisk for MemoryDisk {
         match self.begin()? {
             Some(_) => Err(self.fail()),
             None => {
-                self.flush(side);
+                self.make_synced(side);
                 Ok(())
             }
         }

@@ -4,6 +4,7 @@ ghost use Rattle.lk_disk.specs.Disk.{one_more, HasCause};
 ghost use Rattle.lk_disk.specs.Files.{unknown};
 
 use crate::append_file::{AppendFile, FileFault};
+use crate::buffered_file::BufferedFile;
 use crate::device::Side;
 use crate::file_disk::FileDisk;
 use std::alloc::Global;
@@ -82,6 +83,10 @@ impl<F: OpenFile + Read + Write + Seek> AppendFile for SystemFile<F> {
         self.told(made)
     }
 
+    fn flush(&mut self) -> Result<(), FileFault> {
+        Ok(())
+    }
+
     fn sync(&mut self) -> Result<(), FileFault> {
         let made = self.file.sync_data();
         self.told(made)
@@ -105,7 +110,7 @@ fn open_one<R: Files>(
     how: &OpenOptions,
     folder: &str,
     name: &str,
-) -> Result<SystemFile<R::File>, CannotOpen>
+) -> Result<BufferedFile<SystemFile<R::File>>, CannotOpen>
     ensures { IfOk result (λ f. f.failures ≡ 0) }
 {
     let Ok(path) = Path::new(folder).join(alloc, name) else {
@@ -114,11 +119,15 @@ fn open_one<R: Files>(
     let Ok(file) = how.open(rt, path.as_path()) else {
         return Err(CannotOpen);
     };
-    Ok(SystemFile {
+    let file = SystemFile {
         file,
         failures: 0,
         cause: None,
-    })
+    };
+    match BufferedFile::of(alloc, file) {
+        Ok(file) => Ok(file),
+        Err(FileFault) => Err(CannotOpen),
+    }
 }
 
 /// Makes the names of files that were created in a folder outlast a stop of the machine.
@@ -126,13 +135,17 @@ fn sync_folder<F: OpenFile>(folder: &F) -> Result<(), CannotOpen> {
     folder.sync_all().map_err(|_| CannotOpen)
 }
 
-impl<F: OpenFile + Read + Write + Seek + Drop> FileDisk<SystemFile<F>> {
+/// Two files of the system as a device. What is appended to one of them waits for a flush or a sync, and then gets to
+/// the system in one write.
+pub type SystemDisk<F> = FileDisk<BufferedFile<SystemFile<F>>>;
+
+impl<F: OpenFile + Read + Write + Seek + Drop> FileDisk<BufferedFile<SystemFile<F>>> {
     /// Opens the files `a` and `b` of a folder to read and to write. It creates a missing file, but not a folder.
     pub fn open<R: Files<File = F>>(
         rt: &R,
         alloc: Global,
         folder: &str,
-    ) -> Result<FileDisk<SystemFile<F>>, CannotOpen>
+    ) -> Result<SystemDisk<F>, CannotOpen>
         ensures failures { IfOk result (λ d. d.failures ≡ 0) }
         ensures failures_a { IfOk result (λ d. d.a.failures ≡ 0) }
         ensures failures_b { IfOk result (λ d. d.b.failures ≡ 0) }
@@ -156,7 +169,7 @@ impl<F: OpenFile + Read + Write + Seek + Drop> FileDisk<SystemFile<F>> {
         rt: &R,
         alloc: Global,
         folder: &str,
-    ) -> Result<FileDisk<SystemFile<F>>, CannotOpen>
+    ) -> Result<SystemDisk<F>, CannotOpen>
         ensures failures { IfOk result (λ d. d.failures ≡ 0) }
         ensures failures_a { IfOk result (λ d. d.a.failures ≡ 0) }
         ensures failures_b { IfOk result (λ d. d.b.failures ≡ 0) }
@@ -172,6 +185,6 @@ impl<F: OpenFile + Read + Write + Seek + Drop> FileDisk<SystemFile<F>> {
 
     /// What the system reported for the last failed call at a side, if there was one.
     pub fn cause(&self, side: Side) -> Option<io::Error> {
-        self.file(side).cause
+        self.file(side).below().cause
     }
 }

@@ -135,6 +135,17 @@ impl<F: AppendFile + Drop> UsedFile<F> {
         Ok(())
     }
 
+    /// Gives what was appended to the system. If it fails, the file rejects every later call.
+    pub fn flush(&mut self) -> Result<(), FileFault>
+        ensures unchanged { F.is_honest → self.new.file ≡ self.old.file }
+        ensures cause { IsCaused self.old self.new result }
+    {
+        let length = self.begin()?;
+        self.file.flush()?;
+        self.end(length);
+        Ok(())
+    }
+
     /// Syncs what the file has. If it fails, the file rejects every later call.
     pub fn sync(&mut self) -> Result<(), FileFault>
         ensures ok { F.is_honest → OnOk result (left_of self.new.file ≡ flushed (left_of self.old.file)) }

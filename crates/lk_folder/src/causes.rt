@@ -2,7 +2,7 @@
 
 ghost use Rattle.std.specs.Prelude.{◌≡◌};
 
-use lk_disk::{FileDisk, MemoryDisk, Side, SystemFile};
+use lk_disk::{FileDisk, MemoryDisk, Side, SystemDisk};
 use lk_transport::fault::ServiceFault;
 use lk_transport::socket::{LocalSocket, local};
 use std::alloc::Global;
@@ -82,7 +82,7 @@ pub trait FailureCause {
     fn cause(&self, side: Side) -> Option<io::Error>;
 }
 
-impl<F: OpenFile + Read + Write + Seek + Drop> FailureCause for FileDisk<SystemFile<F>> {
+impl<F: OpenFile + Read + Write + Seek + Drop> FailureCause for SystemDisk<F> {
     fn cause(&self, side: Side) -> Option<io::Error> {
         FileDisk::cause(self, side)
     }

@@ -1,7 +1,7 @@
 //! The files of a folder, from which only one process serves.
 
 use crate::causes::{open_file, tell_cause, tell_closed};
-use lk_disk::{FileDisk, SystemFile};
+use lk_disk::{FileDisk, SystemDisk};
 use lk_transport::fault::ServiceFault;
 use std::alloc::Global;
 use std::fs::{File, Files, OpenOptions, TryLockError};
@@ -48,7 +48,7 @@ pub fn open_device<R: Files, E: Write>(
     alloc: Global,
     folder: &str,
     err: &mut E,
-) -> Result<FileDisk<SystemFile<R::File>>, ServiceFault> {
+) -> Result<SystemDisk<R::File>, ServiceFault> {
     match FileDisk::open(rt, alloc, folder) {
         Ok(device) => Ok(device),
         Err(_) => Err(tell_closed(rt, alloc, &to_write(), folder, err)),
@@ -61,7 +61,7 @@ pub fn look_at_device<R: Files, E: Write>(
     alloc: Global,
     folder: &str,
     err: &mut E,
-) -> Result<FileDisk<SystemFile<R::File>>, ServiceFault> {
+) -> Result<SystemDisk<R::File>, ServiceFault> {
     match FileDisk::look_at(rt, alloc, folder) {
         Ok(device) => Ok(device),
         Err(_) => {

@@ -22,10 +22,12 @@ use Rattle.lk_entries.proofs.StandingLaws as standings
 use Rattle.lk_log.specs.EveryImage.{AllMean, EveryFound, NarrowsOrBeganSome}
 use Rattle.lk_log.specs.Images.{Image, MayLeaveBoth, Means, IsLive, IsEmpty, IsDamaged, SameMeaning, seen}
 use Rattle.lk_log.specs.StoreValue.{StoreValue, pick, disks}
-use Rattle.lk_log.specs.Stores.{Holds, KeepsAtLeast, KeepsOrIs, first_base, Found, NarrowsOrBegins, Opens}
+use Rattle.lk_log.specs.Rooms.{StaysWithin}
+use Rattle.lk_log.specs.Stores.{Holds, KeepsAtLeast, KeepsAtLeastOn, KeepsBothDisks, KeepsOrIs, first_base, Found, NarrowsOrBegins, Opens}
 use Rattle.lk_log.specs.declared.verdict.Verdict.{Verdict}
 use Rattle.lk_log.specs.declared.verdict.Verdict.TheVariants.{Live, Empty, Damaged}
 use Rattle.lk_log.proofs.ImageLaws as images
+use Rattle.lk_log.proofs.Room.{within_same}
 use Rattle.lk_log.proofs.Settle.{whole_left}
 use Rattle.lk_log.proofs.Steps.{keeps_at}
 
@@ -204,6 +206,16 @@ take_nothing (suc k) = refl
 -- an open store keeps at least what it holds
 pub holds_keeps : (s : StoreValue) (ks ls : List Stored) → Holds s ks ls → KeepsAtLeast s ks ls
 holds_keeps s ks ls h = subst (KeepsAtLeast s ks) (append-nil ls) (keeps_at s.live s.live_disk s.other_disk ks ls [] h.on)
+
+-- and so does one with the same files
+pub same_keeps : (old new : StoreValue) → KeepsBothDisks old new → new.live ≡ old.live → (ks ls : List Stored) → Holds old ks ls → KeepsAtLeast new ks ls
+same_keeps old new same live ks ls h =
+    subst (λ (s : Side). KeepsAtLeastOn s new.live_disk new.other_disk ks ls) (sym live)
+    (subst (λ (d : Disk). KeepsAtLeastOn old.live d new.other_disk ks ls) (sym same.0)
+    (subst (λ (d : Disk). KeepsAtLeastOn old.live old.live_disk d ks ls) (sym same.1) (holds_keeps old ks ls h)))
+
+pub same_within : (most : ℕ) (old new : StoreValue) → KeepsBothDisks old new → new.live ≡ old.live → StaysWithin most (disks old) (disks new)
+same_within most old new same live = within_same most (disks old) (disks new) (λ s i. pick (live i) (same.0 i) (same.1 i) s)
 
 -- where all is kept that was synced, and nothing else was written, each image has just that
 pub keeps_live : (s : StoreValue) (ks : List Stored) → KeepsAtLeast s ks [] → (image : Image) → MayLeaveBoth (disks s) image → IsLive image ks

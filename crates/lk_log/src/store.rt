@@ -87,6 +87,29 @@ impl<D: LogDisk + Drop> Store<D> {
         Ok(())
     }
 
+    /// Gives what was written to the live file to the system, so that a process that is killed then loses none of it.
+    ///
+    /// It takes no memory, and fails with `Device` (7) only; after that every call fails with `Failed` (11).
+    pub fn flush(&mut self) -> Result<(), StoreFault>
+        // It changes nothing of a store that goes on, and no file, however it ends.
+        ensures ok { D.is_honest → OnOk result (self.new ≡ self.old) }
+        ensures disks { D.is_honest → KeepsBothDisks self.old self.new }
+        ensures file { KeepsItsFile self.old self.new }
+        ensures failing { FailsByRefusing self.new result }
+        ensures refuses { RefusesFor IsOfDevice self.old self.new result }
+        ensures cause { FailuresRise self.old.failures self.new.failures result }
+        // For a metered device: no call.
+        ensures metered { D.is_metered → IsMetered self.old.meter self.new.meter 0 result }
+    {
+        if self.failed {
+            return Err(StoreFault::Failed);
+        }
+        self.failed = true;
+        self.device.flush(self.live)?;
+        self.failed = false;
+        Ok(())
+    }
+
     /// Syncs the live file, with everything that was written to it.
     ///
     /// It takes no memory, and fails with `Device` (7) only; after that every call fails with `Failed` (11).

@@ -9,7 +9,7 @@ use Rattle.lk_disk.specs.declared.device.Side.{Side}
 use Rattle.lk_disk.specs.Disk.{contents, flushed}
 use Rattle.lk_disk.specs.declared.device.Side.TheVariants.{A, B}
 use Rattle.lk_log.specs.Rooms.{StaysWithin}
-use Rattle.lk_disk.specs.Meters.{Passes, start}
+use Rattle.lk_disk.specs.Meters.{Passes}
 use Rattle.lk_disk.specs.declared.meter.Meter.{Meter}
 use Rattle.lk_disk.proofs.Devices.{passes_on}
 use Rattle.lk_log.specs.Causes.{put_calls, rebase_calls}
@@ -641,9 +641,9 @@ settled_node_fits m Metered old waits new s genesis k r h n f =
 
 -- ---- which calls were made
 
-pub settled_none : (m : Meter) (waits : Bool) → waits ≡ false → Passes m m (settle_calls waits)
-settled_none m false is = start
-settled_none m true is = absurd (cc is)
+pub settled_none : (m n : Meter) (waits : Bool) → waits ≡ false → Passes m n 0 → Passes m n (settle_calls waits)
+settled_none m n false is none = none
+settled_none m n true is none = absurd (cc is)
 
 pub settled_once : (m n : Meter) (waits : Bool) → waits ≡ true → Passes m n 1 → Passes m n (settle_calls waits)
 settled_once m n true is calls = calls

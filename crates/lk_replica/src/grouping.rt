@@ -134,7 +134,7 @@ fn are_sent<P: Post>(letters: &[Letter], post: &mut P) -> bool
     }
 }
 
-/// Syncs the live file if something waits for that.
+/// Syncs the live file if something waits for that, and otherwise gives what was written to the system.
 pub fn settle<D: LogDisk + Drop>(store: &mut Store<D>, waits: bool) -> Result<(), ReplicaFault>
     requires { store.old.format ≡ 2 }
     ensures settles { D.is_honest → OnOk result (Settles waits store.old store.new) }
@@ -149,6 +149,7 @@ pub fn settle<D: LogDisk + Drop>(store: &mut Store<D>, waits: bool) -> Result<()
     ensures cause { RaisesFailures store.old.failures store.new.failures result }
 {
     if !waits {
+        store.flush()?;
         return Ok(());
     }
     store.sync()?;
@@ -294,8 +295,8 @@ impl<M: Machine, D: LogDisk + Drop> Replica<M, D> {
         Ok(())
     }
 
-    /// Ends a group: syncs once, if a promise or a vote of it waits for that, and then sends its letters in order.
-    /// Returns whether all were sent.
+    /// Ends a group: syncs once, if a promise or a vote of it waits for that, or else gives what was written to the
+    /// system, and then sends its letters in order. Returns whether all were sent.
     ///
     /// It fails with `Device` (7), `NoMemory` (8) and `Failed` (11), and then nothing of the group is sent.
     pub fn release<P: Post>(&mut self, group: &Group, post: &mut P) -> Result<bool, ReplicaFault>

@@ -28,7 +28,7 @@ impl<M: Machine, D: LogDisk + Drop> Replica<M, D> {
         }
     }
 
-    /// Syncs the live file once, if something waits for that. If the sync fails, the replica ends.
+    /// Syncs the live file once, if something waits for that, or else flushes it. If that fails, the replica ends.
     pub(crate) fn end_group(&mut self, waits: bool) -> Result<(), ReplicaFault>
         ensures exact { D.is_honest → OnOk result (IsSettled D.is_metered self.old waits self.new) }
         // What is on the disks after any exit, where nothing of the group is sent: neither file has grown.

@@ -6,7 +6,7 @@ ghost use Rattle.lk_seal.specs.Seals.{key_list};
 ghost use Rattle.lk_service.specs.Turns.{AreSealsOf};
 
 use crate::network::{NetworkOptions, network_of};
-use lk_disk::{FileDisk, SystemFile};
+use lk_disk::SystemDisk;
 use lk_entries::Header;
 use lk_folder::causes::open_socket_at;
 use lk_folder::folder::{FolderLock, open_device};
@@ -43,7 +43,7 @@ pub struct Resources<D: Drop, S: Drop> {
 }
 
 /// The files of a folder as a device.
-pub type FolderDisk = FileDisk<SystemFile<File>>;
+pub type FolderDisk = SystemDisk<File>;
 
 /// The port that the members give the node, if they have it.
 fn named_port(members: &[Member], node: NodeNo) -> Option<Port>

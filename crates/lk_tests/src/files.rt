@@ -69,6 +69,10 @@ impl AppendFile for Failing {
         self.bytes.append(piece)
     }
 
+    fn flush(&mut self) -> Result<(), FileFault> {
+        self.bytes.flush()
+    }
+
     fn sync(&mut self) -> Result<(), FileFault> {
         self.pass()?;
         self.bytes.sync()
@@ -149,5 +153,28 @@ fn files_of_a_folder_are_a_device(rt: HostRuntime) -> Result<(), Fail> {
     let is_used = used(&rt, rt.alloc(), folder)?;
     fs::remove_dir_all(&rt, folder)?;
     assert!(rt; is_used);
+    Ok(())
+}
+
+// How many bytes the system has of a file after two appends, after a flush, and after one more append and a sync.
+fn given<R: Files>(rt: &R, alloc: Global, folder: &str, file: &str) -> Result<[u64; 3], Fail> {
+    let mut disk = FileDisk::open(rt, alloc, folder)?;
+    disk.append(Side::A, b"abc")?;
+    disk.append(Side::A, b"de")?;
+    let appended = fs::metadata(rt, file)?.len();
+    disk.flush(Side::A)?;
+    let flushed = fs::metadata(rt, file)?.len();
+    disk.append(Side::A, b"f")?;
+    disk.sync(Side::A)?;
+    Ok([appended, flushed, fs::metadata(rt, file)?.len()])
+}
+
+#[test]
+fn appended_bytes_wait_for_a_flush_or_a_sync(rt: HostRuntime) -> Result<(), Fail> {
+    let folder = "lk_tests_buffer";
+    fresh(&rt, folder)?;
+    let given = given(&rt, rt.alloc(), folder, "lk_tests_buffer/a")?;
+    fs::remove_dir_all(&rt, folder)?;
+    assert_eq!(rt; given, [0, 5, 6]);
     Ok(())
 }

@@ -1,0 +1,16 @@
+use Rattle.std.proofs.Common.{ap, sym, ◌∙◌, subst}
+use Rattle.lk_disk.specs.Meters.{Passes, start}
+use Rattle.lk_disk.specs.declared.meter.Meter.{Meter}
+use Rattle.lk_log.specs.StoreValue.{StoreValue}
+use Rattle.lk_log.proofs.store.Store.flush.Goals as goal
+
+pub returns-then-self-clause-metered : goal.returns-then-self-clause-metered
+returns-then-self-clause-metered g c metered = (0, start)
+
+pub returns-in_err-flush-clause-metered : goal.returns-in_err-flush-clause-metered
+returns-in_err-flush-clause-metered g c metered = absurd (c.flush.ensures.metered metered)
+
+pub returns-clause-metered : goal.returns-clause-metered
+returns-clause-metered g c metered =
+    subst (λ (m : Meter). Passes m (g.D.LogDisk.meter c.flush.new.self) 0) (ap (λ (s : StoreValue). s.meter) c.self.view_is)
+    (subst (λ (m : Meter). Passes (g.D.LogDisk.meter c.self.inside.device) m 0) (sym c.flush.ensures.uncounted) start)
