@@ -111,15 +111,16 @@ pub record SoFar {R : Type 0} (b : Behaviour R) (input : List ℕ) (before writt
   pub fits : Fits state server
   pub on : (more : List (List ℕ)) (out : List ℕ) (stop : Stop R) → Runs b state number more out stop → Runs b begun 1 (front ++ more) (text ++ out) stop
 
-Appends-nothing : (before : Option (List ℕ)) → Appends before before []
-Appends-nothing None = tt
-Appends-nothing (Some xs) = sym (append-nil xs)
+-- nothing, and one text after another, that a writer took
+pub appends_nothing : (before : Option (List ℕ)) → Appends before before []
+appends_nothing None = tt
+appends_nothing (Some xs) = sym (append-nil xs)
 
-Appends-more : (a b c : Option (List ℕ)) (x y : List ℕ) → Appends a b x → Appends b c y → Appends a c (x ++ y)
-Appends-more None b c x y f g = tt
-Appends-more (Some xs) None c x y f g = absurd f
-Appends-more (Some xs) (Some ys) None x y f g = absurd g
-Appends-more (Some xs) (Some ys) (Some zs) x y f g = g ∙ ap (λ (t : List ℕ). t ++ y) f ∙ append_assoc xs x y
+pub appends_more : (a b c : Option (List ℕ)) (x y : List ℕ) → Appends a b x → Appends b c y → Appends a c (x ++ y)
+appends_more None b c x y f g = tt
+appends_more (Some xs) None c x y f g = absurd f
+appends_more (Some xs) (Some ys) None x y f g = absurd g
+appends_more (Some xs) (Some ys) (Some zs) x y f g = g ∙ ap (λ (t : List ℕ). t ++ y) f ∙ append_assoc xs x y
 
 pub starts : {R : Type 0} (b : Behaviour R) (input : List ℕ) (before left : Option (List ℕ)) → left ≡ Some input → SoFar b input before before left mode.Begun 1
 starts b input before left is = record {
@@ -129,7 +130,7 @@ starts b input before left is = record {
   state = begun;
   left_is = is;
   lines = refl;
-  appended = Appends-nothing before;
+  appended = appends_nothing before;
   fits = tt;
   on = λ more out stop r. r;
 }
@@ -162,7 +163,7 @@ taken b input before written written' left left' server server' number line text
       state = t.0;
       left_is = read.1;
       lines = s.lines ∙ ap (λ (ls : List (List ℕ)). s.front ++ ls) read.2 ∙ sym (append_assoc s.front (line ∷ []) (lines_of read.0));
-      appended = Appends-more before written written' s.text text s.appended wrote;
+      appended = appends_more before written written' s.text text s.appended wrote;
       fits = t.2;
       on = λ more out stop r.
           subst (λ (o : List ℕ). Runs b begun 1 ((s.front ++ line ∷ []) ++ more) o stop) (sym (append_assoc s.text text out))
@@ -185,7 +186,7 @@ ended b input before written written' left server number s none wrote = (
     },
     s.fits,
   ),
-  Appends-more before written written' s.text (last_line s.state) s.appended (wrote s.state s.fits),
+  appends_more before written written' s.text (last_line s.state) s.appended (wrote s.state s.fits),
 )
 
 -- the line is not understood
@@ -207,7 +208,7 @@ refused b input before written written' left server number line text r filled s 
   s.text ++ text,
   subst (λ (ls : List (List ℕ)). Runs b begun 1 ls (s.text ++ text) (at_refusal r)) (sym (s.lines ∙ ap (λ (ls : List (List ℕ)). s.front ++ ls) read.1))
       (s.on (line ∷ lines_of read.0) text (at_refusal r) (refuses s.state number line text r (lines_of read.0) filled (refusal s.state s.fits))),
-  Appends-more before written written' s.text text s.appended wrote,
+  appends_more before written written' s.text text s.appended wrote,
 )
 
 -- the run broke off

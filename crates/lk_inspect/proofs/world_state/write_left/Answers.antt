@@ -1,5 +1,5 @@
 use Rattle.std.proofs.Common.{[]}
-use Rattle.lk_inspect.proofs.Printing.{appends_nothing}
+use Rattle.lk_script.proofs.ScriptLemmas.{appends_nothing}
 use Rattle.lk_inspect.proofs.world_state.write_left.Goals as goal
 
 pub returns-in_default : goal.returns-in_default
