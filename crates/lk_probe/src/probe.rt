@@ -1,10 +1,7 @@
-ghost use Rattle.std.specs.Prelude.{◌≡◌, ◌↔◌, IsTrue, IfSome, IsSomeAnd};
+ghost use Rattle.std.specs.Prelude.{◌≡◌, ◌↔◌, IsTrue, IfSome};
 ghost use Rattle.lk_types.specs.Ranges.{IsClient};
 ghost use Rattle.lk_probe.specs.Grammar.{IsProbe, IsReport, Answers, SpellsProbe, SpellsReport};
-ghost use Rattle.lk_probe.specs.declared.probe.Probe.{Probe as ProbeValue};
-ghost use Rattle.lk_probe.specs.declared.probe.Report.{Report as ReportValue};
 
-use crate::reading::{read_probe, read_report};
 use crate::status::{LENGTH, Status, node_facts};
 use crate::writing::{write_probe, write_report};
 use lk_types::{ClientNo, NodeNo};
@@ -54,16 +51,6 @@ impl Probe {
         let _token = self.token;
     }
 
-    /// The probe that the bytes spell. It takes no memory.
-    pub fn read(bytes: &[u8]) -> Option<Probe>
-        // What is read is spelled there.
-        ensures found { IfSome result (λ p. SpellsProbe p bytes.now) }
-        // What is spelled so is read.
-        ensures only { (p : ProbeValue) → SpellsProbe p bytes.now → IsSomeAnd result (λ r. r ≡ p) }
-    {
-        read_probe(bytes)
-    }
-
     /// Its bytes. It takes no memory.
     pub fn datagram(&self) -> [u8; LENGTH]
         ensures { SpellsProbe self.now result }
@@ -98,16 +85,6 @@ impl Report {
         client_facts(self.client);
         let _token = self.token;
         self.status.facts();
-    }
-
-    /// The report that the bytes spell. It takes no memory.
-    pub fn read(bytes: &[u8]) -> Option<Report>
-        // What is read is spelled there.
-        ensures found { IfSome result (λ r. SpellsReport r bytes.now) }
-        // What is spelled so is read.
-        ensures only { (r : ReportValue) → SpellsReport r bytes.now → IsSomeAnd result (λ s. s ≡ r) }
-    {
-        read_report(bytes)
     }
 
     /// Its bytes. It takes no memory.

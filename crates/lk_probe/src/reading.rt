@@ -300,18 +300,26 @@ fn report_of(bytes: &[u8]) -> Option<Report>
     }
 }
 
-/// The probe that the bytes spell.
-pub fn read_probe(bytes: &[u8]) -> Option<Probe>
-    ensures found { IfSome result (λ p. SpellsProbe p bytes.now) }
-    ensures only { (p : ProbeValue) → SpellsProbe p bytes.now → IsSomeAnd result (λ r. r ≡ p) }
-{
-    probe_of(bytes)
+impl Probe {
+    /// The probe that the bytes spell. It takes no memory.
+    pub fn read(bytes: &[u8]) -> Option<Probe>
+        // What is read is spelled there.
+        ensures found { IfSome result (λ p. SpellsProbe p bytes.now) }
+        // What is spelled so is read.
+        ensures only { (p : ProbeValue) → SpellsProbe p bytes.now → IsSomeAnd result (λ r. r ≡ p) }
+    {
+        probe_of(bytes)
+    }
 }
 
-/// The report that the bytes spell.
-pub fn read_report(bytes: &[u8]) -> Option<Report>
-    ensures found { IfSome result (λ r. SpellsReport r bytes.now) }
-    ensures only { (r : ReportValue) → SpellsReport r bytes.now → IsSomeAnd result (λ s. s ≡ r) }
-{
-    report_of(bytes)
+impl Report {
+    /// The report that the bytes spell. It takes no memory.
+    pub fn read(bytes: &[u8]) -> Option<Report>
+        // What is read is spelled there.
+        ensures found { IfSome result (λ r. SpellsReport r bytes.now) }
+        // What is spelled so is read.
+        ensures only { (r : ReportValue) → SpellsReport r bytes.now → IsSomeAnd result (λ s. s ≡ r) }
+    {
+        report_of(bytes)
+    }
 }
