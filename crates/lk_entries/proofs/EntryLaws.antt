@@ -6,7 +6,7 @@ use Rattle.lk_types.specs.Ranges.{IsNode, IsCount, IsTotal, IsAlpha}
 use Rattle.lk_types.specs.Ballots.{IsReal, IsMark}
 use Rattle.lk_types.specs.BallotValue.{BallotValue}
 use Rattle.lk_types.specs.Commands.{IsCommand, IsOp}
-use Rattle.lk_types.specs.Rosters.{IsMember, AreMembers, members_rise}
+use Rattle.lk_types.specs.Rosters.{IsMember, AreMembers}
 use Rattle.lk_types.specs.Votes.{IsVote}
 use Rattle.lk_types.specs.declared.command.Command.{Command}
 use Rattle.lk_types.specs.declared.command.Command.TheVariants.{Noop, Request}
@@ -16,16 +16,16 @@ use Rattle.lk_types.specs.declared.entry.Entry.{Entry}
 use Rattle.lk_types.specs.declared.entry.Entry.TheVariants.{Promise, Vote, Decided}
 use Rattle.lk_types.specs.declared.member.Member.{Member}
 use Rattle.lk_types.specs.declared.vote.Vote.{Vote as VoteValue}
-use Rattle.lk_fields.specs.Fields.{one, two, four, eight, ballot, member, op, command, vote, pair}
+use Rattle.lk_fields.specs.Fields.{one, two, four, eight, ballot, members, op, command, vote, pair}
 use Rattle.lk_fields.specs.Parser.{◌>>=◌, read_byte, tested, sized, whole}
-use Rattle.lk_fields.specs.FieldReading.{is_from_1_to, read_two, read_four, read_eight, read_node, read_count, read_total, read_ballot, read_mark, read_member, read_vote, read_pair}
+use Rattle.lk_fields.specs.FieldReading.{is_from_1_to, read_two, read_four, read_eight, read_node, read_count, read_total, read_ballot, read_mark, read_members, read_vote, read_pair}
 use Rattle.lk_wire.specs.Values.{are_votes_above}
-use Rattle.lk_fields.proofs.Spellings.{IsBytes, IsBytes-drop, IsBytes-take, Took, Reads, bind_ok, some_is, fitting, both_reads, made_reads, tested_reads, byte_reads, whole_takes, whole_again, two_reads, four_reads, eight_reads, sized_reads, counted_reads, TakesKinds, no_kind_takes, kind_takes, tagged_reads, ranged_reads, limited_reads, node_reads, count_reads, total_reads, ballot_reads, mark_reads, member_reads, vote_reads, pair_reads}
+use Rattle.lk_fields.proofs.Spellings.{IsBytes, IsBytes-drop, IsBytes-take, Took, Reads, bind_ok, some_is, fitting, both_reads, made_reads, tested_reads, byte_reads, whole_takes, whole_again, two_reads, four_reads, eight_reads, sized_reads, counted_reads, TakesKinds, no_kind_takes, kind_takes, tagged_reads, ranged_reads, limited_reads, node_reads, count_reads, total_reads, ballot_reads, mark_reads, members_reads, vote_reads, pair_reads}
 use Rattle.lk_entries.specs.Values.{HeaderValue, StandingValue, BaseValue}
 use Rattle.lk_entries.specs.Formats.{IsFormat}
 use Rattle.lk_entries.specs.Headers.{IsHeader}
-use Rattle.lk_entries.specs.Entries.{members, header, snapshot, votes, pairs, standing, base, kind, fields, body, spelling, IsPair, are_pairs_above, IsStanding, IsBase, IsEntry, IsStored}
-use Rattle.lk_entries.specs.Parsing.{read_alpha, read_members, read_format, read_header, read_snapshot, read_few, read_votes, read_pairs, is_in_order, read_standing, read_base, read_fields, read_body, read_size, within, read_entry, Gives}
+use Rattle.lk_entries.specs.Entries.{header, snapshot, votes, pairs, standing, base, kind, fields, body, spelling, IsPair, are_pairs_above, IsStanding, IsBase, IsEntry, IsStored}
+use Rattle.lk_entries.specs.Parsing.{read_alpha, read_format, read_header, read_snapshot, read_few, read_votes, read_pairs, is_in_order, read_standing, read_base, read_fields, read_body, read_size, within, read_entry, Gives}
 use Rattle.lk_entries.specs.Files.{NoneBegins}
 use Rattle.lk_entries.specs.declared.unread.Unread.{Unread}
 use Rattle.lk_entries.specs.declared.unread.Unread.TheVariants.{NoEntry, NoMemory}
@@ -39,14 +39,7 @@ unfolding read_alpha
 alpha_reads = ranged_reads 16 256 (omega arith) read_byte one byte_reads
 
 AreAll : List Member → Type 0
-AreAll ms = AllByRecursion IsMember ms × AreMembers ms
-
-members_reads : Reads read_members members AreAll
-unfolding read_members AreAll
-members_reads = fitting read_members members (λ (ms : List Member). (((1 ≤ length ms) × (length ms ≤ 7)) × AllByRecursion IsMember ms) × (members_rise 0 ms ≡ true)) AreAll
-    (λ ms f. (f.0.1, (f.0.0.0, f.0.0.1, f.1))) (λ ms f. (((f.1.0, f.1.1), f.0), f.1.2))
-    (tested_reads (members_rise 0) _ members _
-    (counted_reads (tested (is_from_1_to 7) read_byte) one _ (ranged_reads 7 256 (omega arith) read_byte one byte_reads) read_member member IsMember member_reads))
+AreAll ms = AreMembers ms × AllByRecursion IsMember ms
 
 header_of : ℕ × (ℕ × (ℕ × List Member)) → HeaderValue
 header_of h = record { node = h.1.0; cluster = h.0; alpha = h.1.1.0; members = h.1.1.1 }
@@ -54,7 +47,7 @@ header_of h = record { node = h.1.0; cluster = h.0; alpha = h.1.1.0; members = h
 pub header_reads : Reads read_header header IsHeader
 unfolding read_header header_of AreAll
 header_reads = fitting read_header header (λ (h : HeaderValue). (h.cluster < 2 ^ 64) × (IsNode h.node × (IsAlpha h.alpha × AreAll h.members))) IsHeader
-    (λ h f. (f.0, f.1.0, f.1.1.0, f.1.1.1.0, f.1.1.1.1)) (λ h f. (f.0, (f.1, (f.2, (f.3, f.4)))))
+    (λ h f. (f.0, f.1.0, f.1.1.0, f.1.1.1.1, f.1.1.1.0)) (λ h f. (f.0, (f.1, (f.2, (f.4, f.3)))))
     (made_reads header_of (λ (h : HeaderValue). (h.cluster, (h.node, (h.alpha, h.members)))) (λ x. refl) (λ y. refl) _ _ _
     (both_reads read_eight eight (λ n. n < 2 ^ 64) _ _ _ eight_reads (both_reads read_node four IsNode _ _ _ node_reads (both_reads read_alpha one IsAlpha read_members members AreAll alpha_reads members_reads))))
 

@@ -7,6 +7,7 @@ use Rattle.std.proofs.lemmas.Bool.Decides.{nat_tests}
 use Rattle.std.proofs.lemmas.List.{take-take, take_at, length-take}
 use Rattle.std.proofs.lemmas.Nat.{from_be_bytes-to_be_bytes_4}
 use Rattle.lk_fields.specs.Fields.{four}
+use Rattle.lk_fields.proofs.Spellings.{length-four}
 use Rattle.lk_entries.specs.Entries.{body, spelling, IsStored}
 use Rattle.lk_entries.specs.Files.{told_length, is_torn}
 use Rattle.lk_entries.specs.declared.stored.Stored.{Stored}
@@ -29,19 +30,15 @@ told_four : (rest behind : List ℕ) (n : ℕ) → n < 2 ^ 32 → rest ≡ four 
 unfolding told_length four
 told_four rest behind n fits is = ap (λ (l : List ℕ). from_be_bytes w32 (take 4 l)) is ∙ ap (from_be_bytes w32) (take_at (to_be_bytes w32 n) behind 4 refl) ∙ from_be_bytes-to_be_bytes_4 n fits
 
-len_four : (n : ℕ) → length (four n) ≡ 4
-unfolding four
-len_four n = refl
-
 front_of_four : (e : Stored) (n : ℕ) → 4 ≤ n → take n (spelling e) ≡ four (length (body e)) ++ take (n - 4) (body e)
 unfolding spelling
 front_of_four e n h =
-    let at : n ≡ length (four (length (body e))) + (n - 4) = omega (arith, len_four (length (body e))) in
+    let at : n ≡ length (four (length (body e))) + (n - 4) = omega (arith, length-four (length (body e))) in
     ap (λ (k : ℕ). take k (four (length (body e)) ++ body e)) at ∙ take-append-add (four (length (body e))) (body e) (n - 4)
 
 spelled_len : (e : Stored) → length (spelling e) ≡ 4 + length (body e)
 unfolding spelling
-spelled_len e = length-append (four (length (body e))) (body e) ∙ ap (λ (k : ℕ). k + length (body e)) (len_four (length (body e)))
+spelled_len e = length-append (four (length (body e))) (body e) ∙ ap (λ (k : ℕ). k + length (body e)) (length-four (length (body e)))
 
 pub entry_front_torn : (e : Stored) (n : ℕ) → IsStored e → n < length (spelling e) → is_torn (take n (spelling e)) ≡ true
 entry_front_torn e n fits short = elim (cases_lt n 4) [

@@ -9,19 +9,15 @@ use Rattle.lk_types.specs.Votes.{IsVote}
 use Rattle.lk_types.specs.declared.command.Command.{Command}
 use Rattle.lk_types.specs.declared.entry.Entry.{Entry}
 use Rattle.lk_types.specs.declared.entry.Entry.TheVariants.{Promise, Vote, Decided}
-use Rattle.lk_types.specs.declared.member.Member.{Member}
 use Rattle.lk_types.specs.declared.vote.Vote.{Vote as VoteValue}
-use Rattle.lk_fields.specs.Fields.{one, two, four, eight, ballot, member, vote, pair}
+pub use Rattle.lk_fields.specs.Fields.{members}
+use Rattle.lk_fields.specs.Fields.{one, two, four, eight, ballot, vote, pair}
 use Rattle.lk_wire.specs.Values.{are_votes_above}
 use Rattle.lk_entries.specs.Formats.{IsFormat}
 use Rattle.lk_entries.specs.Headers.{IsHeader}
 use Rattle.lk_entries.specs.Values.{HeaderValue, StandingValue, BaseValue}
 use Rattle.lk_entries.specs.declared.stored.Stored.{Stored}
 use Rattle.lk_entries.specs.declared.stored.Stored.TheVariants.{Base, Plain}
-
--- the count, and then the members
-abbrev pub members : List Member → List ℕ
-members ms = one (length ms) ++ flat_map member ms
 
 -- whose store it is
 abbrev pub header : HeaderValue → List ℕ

@@ -1,13 +1,11 @@
 -- Reading the entries of a file from the start of a list.
 use Rattle.std.specs.Prelude.{◌≡◌, ℕ, Bool, List, Option, Some, None, Result, Ok, Err, nat_le, ◌&&◌, ◌-◌}
 use Rattle.lk_types.specs.Limits.{max_votes, max_base}
-use Rattle.lk_types.specs.Rosters.{members_rise}
 use Rattle.lk_types.specs.declared.command.Command.{Command}
 use Rattle.lk_types.specs.declared.entry.Entry.TheVariants.{Promise, Vote, Decided}
-use Rattle.lk_types.specs.declared.member.Member.{Member}
 use Rattle.lk_types.specs.declared.vote.Vote.{Vote as VoteValue}
 use Rattle.lk_fields.specs.Parser.{◌>>=◌, read_byte, both, made, tested, counted, sized, tagged, kind, no_kind, whole}
-use Rattle.lk_fields.specs.FieldReading.{is_from_1_to, read_two, read_four, read_eight, read_node, read_count, read_total, read_ballot, read_mark, read_member, read_vote, read_pair}
+use Rattle.lk_fields.specs.FieldReading.{is_from_1_to, read_two, read_four, read_eight, read_node, read_count, read_total, read_ballot, read_mark, read_members, read_vote, read_pair}
 use Rattle.lk_wire.specs.Values.{are_votes_above}
 use Rattle.lk_entries.specs.Entries.{are_pairs_above}
 use Rattle.lk_entries.specs.Values.{HeaderValue, StandingValue, BaseValue}
@@ -28,9 +26,6 @@ Gives view (Err e) read = Fails e read
 
 unfoldable pub read_alpha : List ℕ → Option (ℕ × List ℕ)
 read_alpha = tested (is_from_1_to 16) read_byte
-
-unfoldable pub read_members : List ℕ → Option (List Member × List ℕ)
-read_members = tested (members_rise 0) (counted (tested (is_from_1_to 7) read_byte) read_member)
 
 unfoldable pub read_format : List ℕ → Option (ℕ × List ℕ)
 read_format = tested (is_from_1_to 2) read_byte

@@ -1,26 +1,24 @@
 // Reading an entry of a file from the start of some bytes.
-ghost use Rattle.std.specs.Prelude.{◌≡◌, ◌≤◌, ◌++◌, IfSome, IfOk, Err};
-ghost use Rattle.lk_types.specs.Limits.{max_members};
+ghost use Rattle.std.specs.Prelude.{◌≡◌, ◌++◌, IfSome, IfOk, Err};
 ghost use Rattle.lk_types.specs.Ranges.{IsAlpha};
-ghost use Rattle.lk_fields.specs.FieldReading.{read_member, read_vote, read_pair};
+ghost use Rattle.lk_fields.specs.FieldReading.{read_vote, read_pair};
 ghost use Rattle.lk_fields.specs.Parser.{Finds, many, whole};
 ghost use Rattle.lk_wire.specs.Values.{are_votes_above};
 ghost use Rattle.lk_entries.specs.Entries.{are_pairs_above, spelling, IsStored};
 ghost use Rattle.lk_entries.specs.Files.{NoneBegins};
-ghost use Rattle.lk_entries.specs.Parsing.{Gives, read_alpha, read_members, read_format, read_header, read_snapshot, read_few, read_votes, read_pairs, is_in_order, read_standing, read_base, read_fields, read_body, read_size, read_entry};
+ghost use Rattle.lk_entries.specs.Parsing.{Gives, read_alpha, read_format, read_header, read_snapshot, read_few, read_votes, read_pairs, is_in_order, read_standing, read_base, read_fields, read_body, read_size, read_entry};
 
 use crate::base::Base;
 use crate::header::Header;
 use crate::standing::Standing;
 use crate::stored::Stored;
 use crate::unread::Unread;
-use arrayvec::ArrayVec;
 use lk_fields::{
-    read_ballot, read_command, read_executed, read_mark, read_member, read_node, read_position,
+    read_ballot, read_command, read_executed, read_mark, read_members, read_node, read_position,
     read_u8, read_u16, read_u32, read_u64, read_vote,
 };
 use lk_types::limits::{MAX_BASE, MAX_VOTES};
-use lk_types::{Command, Entry, Genesis, Member, Members, Position, Vote};
+use lk_types::{Command, Entry, Genesis, Position, Vote};
 use std::alloc::Global;
 
 #[tactic(auto, unfolding(crate::specs::Parsing::read_alpha))]
@@ -33,36 +31,6 @@ fn read_alpha(bytes: &[u8]) -> Option<(u8, &[u8])>
         return None;
     }
     Some((alpha, rest))
-}
-
-fn many_members(count: u8, bytes: &[u8]) -> Option<(ArrayVec<Member, 7>, &[u8])>
-    requires { count ≤ max_members }
-    ensures { Finds (λ x. (x.0.items, x.1.now)) result (many read_member count bytes.now) }
-{
-    let mut members = ArrayVec::new();
-    let mut rest = bytes;
-    for _ in 0..count {
-        let Some((member, after)) = read_member(rest) else {
-            return None;
-        };
-        members.push(member);
-        rest = after;
-    }
-    Some((members, rest))
-}
-
-#[tactic(auto, unfolding(crate::specs::Parsing::read_members))]
-fn read_members(bytes: &[u8]) -> Option<(Members, &[u8])>
-    ensures { Finds (λ x. (x.0, x.1.now)) result (read_members bytes.now) }
-{
-    let (count, rest) = read_u8(bytes)?;
-    if count < 1 || count > 7 {
-        return None;
-    }
-    let Some((members, rest)) = many_members(count, rest) else {
-        return None;
-    };
-    Some((Members::of(&members)?, rest))
 }
 
 #[tactic(auto, unfolding(crate::specs::Parsing::read_format))]

@@ -1,8 +1,8 @@
 // Writing an entry of a file: its canonical spelling.
 ghost use Rattle.std.specs.Prelude.{◌≡◌, ◌≤◌, ◌+◌, ◌-◌, ◌++◌, ◌∷◌, length, OnOk, IfOk};
 ghost use Rattle.std.specs.List.{AllByRecursion};
-ghost use Rattle.lk_types.specs.Limits.{max_members, max_votes, max_base};
-ghost use Rattle.lk_entries.specs.Entries.{members, header, snapshot, votes, pairs, standing, base, body, spelling, spelling_of_all, IsStanding, IsBase, IsEntry, IsStored, plain};
+ghost use Rattle.lk_types.specs.Limits.{max_votes, max_base};
+ghost use Rattle.lk_entries.specs.Entries.{header, snapshot, votes, pairs, standing, base, body, spelling, spelling_of_all, IsStanding, IsBase, IsEntry, IsStored, plain};
 ghost use Rattle.lk_fields.specs.Fields.{four, pair};
 ghost use Rattle.lk_entries.specs.declared.stored.Stored.TheVariants.{Base as base_entry, Plain};
 
@@ -11,23 +11,11 @@ use crate::header::Header;
 use crate::standing::Standing;
 use bytes::{BufMut, BytesMut};
 use lk_fields::{
-    put_ballot, put_command, put_executed, put_mark, put_member, put_node, put_position, put_u8,
+    put_ballot, put_command, put_executed, put_mark, put_members, put_node, put_position, put_u8,
     put_u16, put_u32, put_u64, put_vote,
 };
-use lk_types::{Command, Entry, Member, Position, Vote};
+use lk_types::{Command, Entry, Position, Vote};
 use std::alloc::{AllocError, Global};
-
-/// Appends the count of the members, and the members.
-pub fn put_members(out: &mut BytesMut, list: &[Member]) -> Result<(), AllocError>
-    requires { length list.now ≤ max_members }
-    ensures { OnOk result (out.new.items ≡ out.old.items ++ members list.now) }
-{
-    put_u8(out, list.len() as u8)?;
-    for member in list {
-        put_member(out, *member)?;
-    }
-    Ok(())
-}
 
 fn put_header(out: &mut BytesMut, value: &Header) -> Result<(), AllocError>
     ensures { OnOk result (out.new.items ≡ out.old.items ++ header value.now) }

@@ -1,12 +1,13 @@
 -- Each field reads what its spelling is.
 use Rattle.std.proofs.Common.{◌≡◌, ℕ, ◌^◌, ◌<◌, ◌≤◌, ◌⊎◌, Bool, true, false, leb, eqb, ◌&&◌, ◌||◌, lit<, inl, inr, List, [], ◌++◌, length, Option, Some, refl, arith}
+use Rattle.std.specs.List.{AllByRecursion}
 use Rattle.std.proofs.lemmas.Bool.Decides.{nat_tests}
 use Rattle.lk_types.specs.Ranges.{IsNode, IsClient, IsPort, IsCount, IsTotal, IsSharerCount}
 use Rattle.lk_types.specs.Payloads.{IsPayload}
 use Rattle.lk_types.specs.BallotValue.{BallotValue}
 use Rattle.lk_types.specs.Ballots.{IsReal, IsMark, zero_ballot}
 use Rattle.lk_types.specs.Commands.{IsOp, IsRequest, IsCommand}
-use Rattle.lk_types.specs.Rosters.{IsMember}
+use Rattle.lk_types.specs.Rosters.{IsMember, AreMembers, members_rise}
 use Rattle.lk_types.specs.Votes.{IsVote}
 use Rattle.lk_types.specs.Answers.{IsAnswer}
 use Rattle.lk_types.specs.declared.answer.Answer.{Answer}
@@ -18,11 +19,12 @@ use Rattle.lk_types.specs.declared.command.Command.{Command}
 use Rattle.lk_types.specs.declared.command.Command.TheVariants.{Noop, Request}
 use Rattle.lk_types.specs.declared.member.Member.{Member}
 use Rattle.lk_types.specs.declared.vote.Vote.{Vote}
-use Rattle.lk_fields.specs.Fields.{one, two, four, eight, ballot, member, payload, op_tag, op_fields, op, request, command_tag, command_fields, command, vote, pair, answer_tag, answer_fields, answer}
-use Rattle.lk_fields.specs.Parser.{read_byte, sized, tested, kind, bare, no_kind}
-use Rattle.lk_fields.specs.FieldReading.{is_from_1_to, read_two, read_four, read_eight, read_node, read_client, read_port, read_count, read_total, read_ballot, is_mark, read_mark, read_member, read_payload, read_version, op_of, read_op, read_request, command_of, read_command, read_vote, read_pair, bare_answer, read_held, read_sharer_count, read_sharing, answer_of, read_answer}
+use Rattle.lk_fields.specs.Fields.{one, two, four, eight, ballot, member, members, payload, op_tag, op_fields, op, request, command_tag, command_fields, command, vote, pair, answer_tag, answer_fields, answer}
+use Rattle.lk_fields.specs.Parser.{read_byte, sized, tested, counted, kind, bare, no_kind}
+use Rattle.lk_fields.specs.FieldReading.{is_from_1_to, read_two, read_four, read_eight, read_node, read_client, read_port, read_count, read_total, read_ballot, is_mark, read_mark, read_member, read_members, read_payload, read_version, op_of, read_op, read_request, command_of, read_command, read_vote, read_pair, bare_answer, read_held, read_sharer_count, read_sharing, answer_of, read_answer}
 use Rattle.lk_fields.proofs.Codec.{Reads, fitting, both_reads, made_reads, tested_reads, byte_reads}
 use Rattle.lk_fields.proofs.NumberLaws.{two_reads, four_reads, eight_reads, sized_reads}
+use Rattle.lk_fields.proofs.Repeats.{counted_reads}
 use Rattle.lk_fields.proofs.KindLaws.{TakesKinds, no_kind_takes, bare_takes, kind_takes, tagged_reads}
 
 -- the test says what the range says
@@ -117,6 +119,18 @@ mark_reads = fitting read_mark ballot (λ (b : BallotValue). ((b.round < 2 ^ 64)
 pub member_reads : Reads read_member member IsMember
 unfolding read_member
 member_reads = made_reads (λ (m : ℕ × ℕ). let x : Member = record { node = m.0; port = m.1 } in x) (λ (m : Member). (m.node, m.port)) (λ x. refl) (λ y. refl) _ _ _ (both_reads read_node four IsNode read_port two IsPort node_reads port_reads)
+
+abbrev AreFew : List Member → Type 0
+AreFew ms = ((1 ≤ length ms) × (length ms ≤ 7)) × AllByRecursion IsMember ms
+
+few_members_reads : Reads (counted (tested (is_from_1_to 7) read_byte) read_member) members AreFew
+few_members_reads = counted_reads (tested (is_from_1_to 7) read_byte) one (λ n. (1 ≤ n) × (n ≤ 7)) (ranged_reads 7 256 (omega arith) read_byte one byte_reads) read_member member IsMember member_reads
+
+pub members_reads : Reads read_members members (λ (ms : List Member). AreMembers ms × AllByRecursion IsMember ms)
+unfolding read_members
+members_reads = fitting read_members members (λ (ms : List Member). AreFew ms × (members_rise 0 ms ≡ true)) (λ (ms : List Member). AreMembers ms × AllByRecursion IsMember ms)
+    (λ ms f. ((f.0.0.0, f.0.0.1, f.1), f.0.1)) (λ ms f. (((f.0.0, f.0.1), f.1), f.0.2))
+    (tested_reads (members_rise 0) (counted (tested (is_from_1_to 7) read_byte) read_member) members AreFew few_members_reads)
 
 -- ---- ops, requests and commands
 

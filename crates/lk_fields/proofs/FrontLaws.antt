@@ -1,9 +1,10 @@
 -- What a reader of each field finds is what stands at the front.
 use Rattle.std.proofs.Common.{ℕ, ◌^◌, ◌<◌, List, Option}
+use Rattle.std.specs.List.{AllByRecursion}
 use Rattle.lk_types.specs.Ranges.{IsNode, IsClient, IsPort, IsCount, IsTotal}
 use Rattle.lk_types.specs.BallotValue.{BallotValue}
 use Rattle.lk_types.specs.Ballots.{IsReal, IsMark}
-use Rattle.lk_types.specs.Rosters.{IsMember}
+use Rattle.lk_types.specs.Rosters.{IsMember, AreMembers}
 use Rattle.lk_types.specs.Commands.{IsOp, IsRequest, IsCommand}
 use Rattle.lk_types.specs.Votes.{IsVote}
 use Rattle.lk_types.specs.Answers.{IsAnswer}
@@ -13,13 +14,13 @@ use Rattle.lk_types.specs.declared.command.Request.{Request as RequestValue}
 use Rattle.lk_types.specs.declared.command.Command.{Command}
 use Rattle.lk_types.specs.declared.member.Member.{Member}
 use Rattle.lk_types.specs.declared.vote.Vote.{Vote}
-use Rattle.lk_fields.specs.Fields.{one, two, four, eight, ballot, member, op, request, command, vote, answer}
+use Rattle.lk_fields.specs.Fields.{one, two, four, eight, ballot, member, members, op, request, command, vote, answer}
 use Rattle.lk_fields.specs.Fronts.{ReadsFront}
 use Rattle.lk_fields.specs.Parser.{Finds, read_byte}
-use Rattle.lk_fields.specs.FieldReading.{read_two, read_four, read_eight, read_node, read_client, read_port, read_count, read_total, read_ballot, read_mark, read_member, read_op, read_request, read_command, read_vote, read_answer}
+use Rattle.lk_fields.specs.FieldReading.{read_two, read_four, read_eight, read_node, read_client, read_port, read_count, read_total, read_ballot, read_mark, read_member, read_members, read_op, read_request, read_command, read_vote, read_answer}
 use Rattle.lk_fields.proofs.Codec.{IsBytes, byte_reads, front_is}
 use Rattle.lk_fields.proofs.NumberLaws.{two_reads, four_reads, eight_reads}
-use Rattle.lk_fields.proofs.FieldLaws.{node_reads, client_reads, port_reads, count_reads, total_reads, ballot_reads, mark_reads, member_reads, op_reads, request_reads, command_reads, vote_reads, answer_reads}
+use Rattle.lk_fields.proofs.FieldLaws.{node_reads, client_reads, port_reads, count_reads, total_reads, ballot_reads, mark_reads, member_reads, members_reads, op_reads, request_reads, command_reads, vote_reads, answer_reads}
 
 module _ {Y : Type 0} where
   pub one_front : (view : Y → ℕ × List ℕ) (bytes : List ℕ) (result : Option Y) → IsBytes bytes → Finds view result (read_byte bytes) → ReadsFront view one (λ n. n < 256) bytes result
@@ -57,6 +58,9 @@ module _ {Y : Type 0} where
 
   pub member_front : (view : Y → Member × List ℕ) (bytes : List ℕ) (result : Option Y) → IsBytes bytes → Finds view result (read_member bytes) → ReadsFront view member IsMember bytes result
   member_front = front_is read_member member IsMember member_reads
+
+  pub members_front : (view : Y → List Member × List ℕ) (bytes : List ℕ) (result : Option Y) → IsBytes bytes → Finds view result (read_members bytes) → ReadsFront view members (λ (ms : List Member). AreMembers ms × AllByRecursion IsMember ms) bytes result
+  members_front = front_is read_members members (λ (ms : List Member). AreMembers ms × AllByRecursion IsMember ms) members_reads
 
   pub op_front : (view : Y → Op × List ℕ) (bytes : List ℕ) (result : Option Y) → IsBytes bytes → Finds view result (read_op bytes) → ReadsFront view op IsOp bytes result
   op_front = front_is read_op op IsOp op_reads

@@ -75,6 +75,20 @@ pub eight_reads : Reads read_eight eight (λ (n : ℕ). n < 2 ^ 64)
 unfolding eight read_eight
 eight_reads = number_reads w64 (2 ^ 64) wide64
 
+-- ---- lengths
+
+pub length-two : (n : ℕ) → length (two n) ≡ 2
+unfolding two
+length-two n = refl
+
+pub length-four : (n : ℕ) → length (four n) ≡ 4
+unfolding four
+length-four n = refl
+
+pub length-eight : (n : ℕ) → length (eight n) ≡ 8
+unfolding eight
+length-eight n = refl
+
 -- ---- bytes after their length
 
 sized_takes : (c : List ℕ → Option (ℕ × List ℕ)) (t : ℕ → List ℕ) (C : ℕ → Type 0) → Reads c t C

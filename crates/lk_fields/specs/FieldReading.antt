@@ -1,8 +1,9 @@
 -- Reading each field.
 use Rattle.std.specs.Prelude.{ℕ, Bool, List, length, Option, nat_le, ◌&&◌, ◌||◌, ◌==◌}
 use Rattle.std.specs.Int.{w16, w32, w64}
-use Rattle.lk_types.specs.Limits.{max_count, max_node, max_client, max_port, max_payload, max_sharers}
+use Rattle.lk_types.specs.Limits.{max_count, max_node, max_client, max_port, max_members, max_payload, max_sharers}
 use Rattle.lk_types.specs.BallotValue.{BallotValue}
+use Rattle.lk_types.specs.Rosters.{members_rise}
 use Rattle.lk_types.specs.declared.answer.Answer.{Answer}
 use Rattle.lk_types.specs.declared.answer.Answer.TheVariants.{Granted, Busy, Released, NotHeld, Free, Held, Valid, Stale, NoRoom, Bad, Spent, Shared, HeldShared, Broken, Joined, Used, Full, Left, NotMember, Last, Raised, AlreadyRaised}
 use Rattle.lk_types.specs.declared.command.Op.{Op}
@@ -12,7 +13,7 @@ use Rattle.lk_types.specs.declared.command.Command.{Command}
 use Rattle.lk_types.specs.declared.command.Command.TheVariants.{Noop, Request}
 use Rattle.lk_types.specs.declared.member.Member.{Member}
 use Rattle.lk_types.specs.declared.vote.Vote.{Vote}
-use Rattle.lk_fields.specs.Parser.{read_byte, read_number, sized, both, made, tested, tagged, kind, bare, no_kind}
+use Rattle.lk_fields.specs.Parser.{read_byte, read_number, sized, both, made, tested, counted, tagged, kind, bare, no_kind}
 
 abbrev pub is_from_1_to : ℕ → ℕ → Bool
 is_from_1_to most n = nat_le 1 n && nat_le n most
@@ -53,6 +54,10 @@ read_mark = tested is_mark (made (λ b. record { round = b.0; node = b.1 }) (bot
 
 unfoldable pub read_member : List ℕ → Option (Member × List ℕ)
 read_member = made (λ m. record { node = m.0; port = m.1 }) (both read_node read_port)
+
+-- 1 to 7 members, rising by node
+unfoldable pub read_members : List ℕ → Option (List Member × List ℕ)
+read_members = tested (members_rise 0) (counted (tested (is_from_1_to max_members) read_byte) read_member)
 
 unfoldable pub read_payload : List ℕ → Option (List ℕ × List ℕ)
 read_payload = tested (λ bytes. is_from_1_to max_payload (length bytes)) (sized read_byte)

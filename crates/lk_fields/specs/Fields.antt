@@ -1,6 +1,7 @@
 -- The canonical bytes of each field. Numbers are big-endian.
 use Rattle.std.specs.Prelude.{ℕ, List, [], ◌∷◌, ◌++◌, length}
 use Rattle.std.specs.Int.{w16, w32, w64, to_be_bytes}
+use Rattle.std.specs.List.{flat_map}
 use Rattle.lk_types.specs.BallotValue.{BallotValue}
 use Rattle.lk_types.specs.declared.answer.Answer.{Answer}
 use Rattle.lk_types.specs.declared.answer.Answer.TheVariants.{Granted, Busy, Released, NotHeld, Free, Held, Valid, Stale, NoRoom, Bad, Spent, Shared, HeldShared, Broken, Joined, Used, Full, Left, NotMember, Last, Raised, AlreadyRaised}
@@ -34,6 +35,10 @@ ballot b = eight b.round ++ four b.node
 
 abbrev pub member : Member → List ℕ
 member m = four m.node ++ two m.port
+
+-- a set of members: how many, and then each
+abbrev pub members : List Member → List ℕ
+members ms = one (length ms) ++ flat_map member ms
 
 -- the length, and then the bytes
 abbrev pub payload : List ℕ → List ℕ

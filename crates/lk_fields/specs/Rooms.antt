@@ -1,6 +1,6 @@
 -- The most bytes that each field takes, and what its room is for.
-use Rattle.std.specs.Prelude.{ℕ, ◌+◌, ◌<◌, ◌≤◌, Result, MatchResult}
-use Rattle.lk_types.specs.Limits.{max_payload}
+use Rattle.std.specs.Prelude.{ℕ, ◌+◌, ◌*◌, ◌<◌, ◌≤◌, Result, MatchResult}
+use Rattle.lk_types.specs.Limits.{max_members, max_payload}
 
 -- it uses at most this much room, and runs out of memory only if there was less of it
 abbrev pub UsesRoom : {T E : Type 0} → Result T E → ℕ → ℕ → ℕ → Type 0
@@ -13,6 +13,10 @@ mark_room = 8 + 4
 -- a node and a port
 abbrev pub member_room : ℕ
 member_room = 4 + 2
+
+-- how many, and the most members
+abbrev pub members_room : ℕ
+members_room = 1 + member_room * max_members
 
 -- a length and the bytes
 abbrev pub payload_room : ℕ

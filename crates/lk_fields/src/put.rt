@@ -1,11 +1,12 @@
 //! Appending a field: its canonical bytes. Out of memory it appends nothing. A writer reserves its room before it
 //! begins, and with that room it does not run out of memory.
 
-ghost use Rattle.std.specs.Prelude.{◌≡◌, ◌++◌, OnOk, OnErr};
-ghost use Rattle.lk_fields.specs.Fields.{one, two, four, eight, ballot, member, payload, op, request, command, vote, answer, answer_fields, answer_tag};
-ghost use Rattle.lk_fields.specs.Rooms.{UsesRoom, mark_room, member_room, payload_room, op_room, request_room, command_room, vote_room, held_room, answer_room};
+ghost use Rattle.std.specs.Prelude.{◌≡◌, ◌≤◌, ◌+◌, ◌*◌, ◌++◌, length, OnOk, OnErr};
+ghost use Rattle.lk_types.specs.Limits.{max_members};
+ghost use Rattle.lk_fields.specs.Fields.{one, two, four, eight, ballot, member, members, payload, op, request, command, vote, answer, answer_fields, answer_tag};
+ghost use Rattle.lk_fields.specs.Rooms.{UsesRoom, mark_room, member_room, members_room, payload_room, op_room, request_room, command_room, vote_room, held_room, answer_room};
 
-use crate::room::{ANSWER, COMMAND, MARK, MEMBER, VOTE};
+use crate::room::{ANSWER, COMMAND, MARK, MEMBER, MEMBERS, VOTE};
 use bytes::{BufMut, BytesMut};
 use lk_types::{
     Answer, Ballot, ClientNo, Command, Executed, Fence, LastFence, Member, NodeNo, Op, Payload,
@@ -135,6 +136,30 @@ pub fn put_member(out: &mut BytesMut, value: Member) -> Result<(), AllocError>
     out.reserve(MEMBER)?;
     put_node(out, value.node)?;
     put_u16(out, value.port.get())
+}
+
+/// Appends how many members there are, and then each.
+fn put_list(out: &mut BytesMut, list: &[Member]) -> Result<(), AllocError>
+    requires { length list.now ≤ max_members }
+    ensures ok { OnOk result (out.new.items ≡ out.old.items ++ members list.now) }
+    ensures room { UsesRoom result out.old.spare out.new.spare (1 + member_room * length list.now) }
+{
+    put_u8(out, list.len() as u8)?;
+    for member in list {
+        put_member(out, *member)?;
+    }
+    Ok(())
+}
+
+/// Appends a set of members, of which there are at most 7: how many, and then each.
+pub fn put_members(out: &mut BytesMut, list: &[Member]) -> Result<(), AllocError>
+    requires { length list.now ≤ max_members }
+    ensures ok { OnOk result (out.new.items ≡ out.old.items ++ members list.now) }
+    ensures err { OnErr result (out.new.items ≡ out.old.items) }
+    ensures room { UsesRoom result out.old.spare out.new.spare members_room }
+{
+    out.reserve(MEMBERS)?;
+    put_list(out, list)
 }
 
 /// Appends the length of a payload in one byte, and its bytes.

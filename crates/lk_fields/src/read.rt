@@ -1,22 +1,26 @@
 //! Reading a field from the start of some bytes: a valid value that is spelled there, with the bytes after it, or
 //! `None` if there is none.
 
-ghost use Rattle.std.specs.Prelude.{◌≡◌, ◌<◌, ◌^◌};
+ghost use Rattle.std.specs.Prelude.{◌≡◌, ◌<◌, ◌≤◌, ◌^◌, length, IfSome};
+ghost use Rattle.std.specs.List.{AllByRecursion};
+ghost use Rattle.lk_types.specs.Limits.{max_members};
 ghost use Rattle.lk_types.specs.Ranges.{IsNode, IsClient, IsPort, IsCount, IsTotal};
 ghost use Rattle.lk_types.specs.Ballots.{IsReal, IsMark};
-ghost use Rattle.lk_types.specs.Rosters.{IsMember};
+ghost use Rattle.lk_types.specs.Rosters.{IsMember, AreMembers};
 ghost use Rattle.lk_types.specs.Commands.{IsOp, IsRequest, IsCommand};
 ghost use Rattle.lk_types.specs.Votes.{IsVote};
 ghost use Rattle.lk_types.specs.Answers.{IsAnswer};
-ghost use Rattle.lk_fields.specs.Fields.{one, two, four, eight, ballot, member, op, request, command, vote, answer};
+ghost use Rattle.lk_fields.specs.Fields.{one, two, four, eight, ballot, member, members, op, request, command, vote, answer};
 ghost use Rattle.lk_fields.specs.Fronts.{ReadsFront};
-ghost use Rattle.lk_fields.specs.Parser.{Finds, read_byte};
-ghost use Rattle.lk_fields.specs.FieldReading.{read_two, read_four, read_eight, read_node, read_client, read_port, read_count, read_total, read_sharer_count, read_ballot, read_mark, read_member, read_payload, read_op, read_request, read_command, read_vote, bare_answer, read_held, read_sharing, read_answer};
+ghost use Rattle.lk_fields.specs.Parser.{Finds, read_byte, many};
+ghost use Rattle.lk_fields.specs.FieldReading.{read_two, read_four, read_eight, read_node, read_client, read_port, read_count, read_total, read_sharer_count, read_ballot, read_mark, read_member, read_members, read_payload, read_op, read_request, read_command, read_vote, bare_answer, read_held, read_sharing, read_answer};
 
+use arrayvec::ArrayVec;
 use bytes::Buf;
+use lk_types::limits::MAX_MEMBERS;
 use lk_types::{
-    Answer, Ballot, ClientNo, Command, Executed, Fence, LastFence, Member, NodeNo, Op, Payload,
-    Port, Position, RealBallot, Request, RequestNumber, Round, SharerCount, Vote,
+    Answer, Ballot, ClientNo, Command, Executed, Fence, LastFence, Member, Members, NodeNo, Op,
+    Payload, Port, Position, RealBallot, Request, RequestNumber, Round, SharerCount, Vote,
 };
 
 /// A byte.
@@ -162,6 +166,43 @@ pub fn read_member(bytes: &[u8]) -> Option<(Member, &[u8])>
     let (port, rest) = read_u16(rest)?;
     let port = Port::of(port)?;
     Some((Member { node, port }, rest))
+}
+
+/// This many members, one after the other.
+fn many_members(count: u8, bytes: &[u8]) -> Option<(ArrayVec<Member, MAX_MEMBERS>, &[u8])>
+    requires { count ≤ max_members }
+    ensures read { Finds (λ x. (x.0.items, x.1.now)) result (many read_member count bytes.now) }
+    ensures count { IfSome result (λ x. length x.0.items ≡ count) }
+{
+    let mut list = ArrayVec::new();
+    let mut rest = bytes;
+    for _ in 0..count {
+        let Some((member, after)) = read_member(rest) else {
+            return None;
+        };
+        list.push(member);
+        rest = after;
+    }
+    Some((list, rest))
+}
+
+/// A set of members: how many, and then each.
+#[tactic(auto, using(crate::proofs::FrontLaws::members_front), unfolding(crate::specs::FieldReading::read_members))]
+pub fn read_members(bytes: &[u8]) -> Option<(Members, &[u8])>
+    ensures front { ReadsFront (λ x. (x.0, x.1.now)) members (λ ms. AreMembers ms × AllByRecursion IsMember ms) bytes.now result }
+    ensures parsed { Finds (λ x. (x.0, x.1.now)) result (read_members bytes.now) }
+{
+    let (count, rest) = read_u8(bytes)?;
+    if count < 1 || usize::from(count) > MAX_MEMBERS {
+        return None;
+    }
+    let Some((list, rest)) = many_members(count, rest) else {
+        return None;
+    };
+    let Some(set) = Members::of(list.as_slice()) else {
+        return None;
+    };
+    Some((set, rest))
 }
 
 /// An op, after its tag.

@@ -1,11 +1,13 @@
 //! The most bytes that each field takes.
 
-use lk_types::limits::MAX_PAYLOAD;
+use lk_types::limits::{MAX_MEMBERS, MAX_PAYLOAD};
 
 /// A round and a node.
 pub const MARK: usize = 8 + 4;
 /// A node and a port.
 pub const MEMBER: usize = 4 + 2;
+/// How many, and the most members.
+pub const MEMBERS: usize = 1 + MEMBER * MAX_MEMBERS;
 /// The tag of an op, and the longest op: the length and the bytes of a payload.
 pub const OP: usize = 1 + 1 + MAX_PAYLOAD;
 /// A client, a number and an op.

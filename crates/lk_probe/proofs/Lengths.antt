@@ -4,24 +4,13 @@ use Rattle.std.specs.List.{flat_map}
 use Rattle.std.proofs.lemmas.List.{length-append}
 use Rattle.std.proofs.lemmas.List.Concat.{flat_map-cons}
 use Rattle.lk_types.specs.declared.member.Member.{Member}
-use Rattle.lk_fields.specs.Fields.{two, four, eight, member}
-use Rattle.lk_probe.specs.Grammar.{identity, leadership, progress, traffic, members, status, front, probe, report, IsStatus, IsReport}
+use Rattle.lk_fields.specs.Fields.{member}
+use Rattle.lk_fields.proofs.Spellings.{length-two, length-four, length-eight}
+use Rattle.lk_probe.specs.Grammar.{identity, status, front, probe, report, IsStatus, IsReport}
 use Rattle.lk_probe.specs.declared.status.Identity.{Identity}
 use Rattle.lk_probe.specs.declared.status.Status.{Status}
 use Rattle.lk_probe.specs.declared.probe.Probe.{Probe}
 use Rattle.lk_probe.specs.declared.probe.Report.{Report}
-
-length-two : (n : ℕ) → length (two n) ≡ 2
-unfolding two
-length-two n = refl
-
-length-four : (n : ℕ) → length (four n) ≡ 4
-unfolding four
-length-four n = refl
-
-length-eight : (n : ℕ) → length (eight n) ≡ 8
-unfolding eight
-length-eight n = refl
 
 length-members : (ms : List Member) → length (flat_map member ms) ≡ 6 * length ms
 length-members [] = refl

@@ -8,14 +8,14 @@ use Rattle.std.proofs.lemmas.List.{take_at, drop_at, take-append-drop, length-ap
 use Rattle.lk_types.specs.Ranges.{IsNode, IsClient, IsTotal}
 use Rattle.lk_types.specs.BallotValue.{BallotValue}
 use Rattle.lk_types.specs.Ballots.{IsMark}
-use Rattle.lk_types.specs.Rosters.{IsMember, AreMembers, members_rise}
+use Rattle.lk_types.specs.Rosters.{IsMember, AreMembers}
 use Rattle.lk_types.specs.declared.member.Member.{Member}
-use Rattle.lk_fields.specs.Fields.{one, two, four, eight, ballot, member}
-use Rattle.lk_fields.specs.Parser.{read_byte, both, made, tested, counted}
-use Rattle.lk_fields.specs.FieldReading.{is_from_1_to, read_two, read_four, read_eight, read_node, read_total, read_mark, read_member}
-use Rattle.lk_fields.proofs.Spellings.{IsBytes, IsBytes-drop, chosen, some_is, Took, Reads, fitting, both_reads, made_reads, tested_reads, byte_reads, counted_reads, two_reads, four_reads, eight_reads, at_most, is_at_most, ranged_reads, limited_reads, node_reads, total_reads, mark_reads, member_reads}
-use Rattle.lk_probe.specs.Grammar.{or_zero, flag, version, identity, leadership, progress, traffic, members, status, probe, report, IsByte, IsVersion, IsIdentity, IsLeadership, IsProgress, IsTraffic, IsStatus, IsProbe, IsReport}
-use Rattle.lk_probe.specs.Reading.{or_none, optional, read_maybe_node, read_maybe_client, read_flag, read_digest, read_version, read_identity, read_leadership, read_progress, read_traffic, read_members, read_status, read_probe_fields, read_report_fields}
+use Rattle.lk_fields.specs.Fields.{one, two, four, eight, ballot, members}
+use Rattle.lk_fields.specs.Parser.{read_byte, both, made, tested}
+use Rattle.lk_fields.specs.FieldReading.{read_two, read_four, read_eight, read_node, read_total, read_mark, read_members}
+use Rattle.lk_fields.proofs.Spellings.{IsBytes, IsBytes-drop, chosen, some_is, Took, Reads, fitting, both_reads, made_reads, byte_reads, two_reads, four_reads, eight_reads, at_most, is_at_most, limited_reads, node_reads, total_reads, mark_reads, members_reads}
+use Rattle.lk_probe.specs.Grammar.{or_zero, flag, version, identity, leadership, progress, traffic, status, probe, report, IsByte, IsVersion, IsIdentity, IsLeadership, IsProgress, IsTraffic, IsStatus, IsProbe, IsReport}
+use Rattle.lk_probe.specs.Reading.{or_none, optional, read_maybe_node, read_maybe_client, read_flag, read_digest, read_version, read_identity, read_leadership, read_progress, read_traffic, read_status, read_probe_fields, read_report_fields}
 use Rattle.lk_probe.specs.declared.status.Version.{Version}
 use Rattle.lk_probe.specs.declared.status.Identity.{Identity}
 use Rattle.lk_probe.specs.declared.status.Leadership.{Leadership}
@@ -133,13 +133,6 @@ traffic_reads = fitting read_traffic traffic (λ (t : Traffic). (t.waiting < 2 ^
 
 abbrev AreAll : List Member → Type 0
 AreAll ms = AreMembers ms × AllByRecursion IsMember ms
-
-members_reads : Reads read_members members AreAll
-unfolding read_members
-members_reads = fitting read_members members (λ (ms : List Member). (((1 ≤ length ms) × (length ms ≤ 7)) × AllByRecursion IsMember ms) × (members_rise 0 ms ≡ true)) AreAll
-    (λ ms f. ((f.0.0.0, f.0.0.1, f.1), f.0.1)) (λ ms f. (((f.0.0, f.0.1), f.1), f.0.2))
-    (tested_reads (members_rise 0) _ members (λ (ms : List Member). ((1 ≤ length ms) × (length ms ≤ 7)) × AllByRecursion IsMember ms)
-    (counted_reads (tested (is_from_1_to 7) read_byte) one (λ n. (1 ≤ n) × (n ≤ 7)) (ranged_reads 7 256 (omega arith) read_byte one byte_reads) read_member member IsMember member_reads))
 
 status_reads : Reads read_status status IsStatus
 unfolding read_status

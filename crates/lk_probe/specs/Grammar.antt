@@ -1,12 +1,10 @@
 -- The one spelling of a probe and of a report, byte by byte, and which of them fit.
 use Rattle.std.specs.Prelude.{◌≡◌, ℕ, ◌-◌, ◌<◌, ◌≤◌, ◌^◌, Bool, true, false, Option, Some, None, List, ◌∷◌, ◌++◌, length, replicate, IfSome}
-use Rattle.std.specs.List.{flat_map, AllByRecursion}
-use Rattle.lk_types.specs.Limits.{max_members}
+use Rattle.std.specs.List.{AllByRecursion}
 use Rattle.lk_types.specs.Ranges.{IsNode, IsClient, IsTotal}
 use Rattle.lk_types.specs.Ballots.{IsMark}
 use Rattle.lk_types.specs.Rosters.{IsMember, AreMembers}
-use Rattle.lk_types.specs.declared.member.Member.{Member}
-use Rattle.lk_fields.specs.Fields.{one, two, four, eight, ballot, member}
+use Rattle.lk_fields.specs.Fields.{one, two, four, eight, ballot, members}
 use Rattle.lk_probe.specs.declared.status.Version.{Version}
 use Rattle.lk_probe.specs.declared.status.Identity.{Identity}
 use Rattle.lk_probe.specs.declared.status.Leadership.{Leadership}
@@ -44,10 +42,6 @@ progress p = eight p.executed ++ (eight p.snapshot ++ one p.pending)
 
 abbrev pub traffic : Traffic → List ℕ
 traffic t = two t.waiting ++ (eight t.unread ++ (eight t.unsent ++ eight t.ticks))
-
--- the count, and then the members
-abbrev pub members : List Member → List ℕ
-members ms = one (length ms) ++ flat_map member ms
 
 abbrev pub status : Status → List ℕ
 status s = identity s.identity ++ (leadership s.leadership ++ (progress s.progress ++ (traffic s.traffic ++ members s.members)))

@@ -1,10 +1,8 @@
 -- Reading each part of a probe and of a report, and both.
 use Rattle.std.specs.Prelude.{ℕ, Bool, true, Option, Some, None, List, [], ◌∷◌, length, take, drop, nat_le, nat_lt, ◌==◌, ◌&&◌, if◌then◌else◌}
-use Rattle.lk_types.specs.Limits.{max_node, max_client, max_members}
-use Rattle.lk_types.specs.Rosters.{members_rise}
-use Rattle.lk_types.specs.declared.member.Member.{Member}
-use Rattle.lk_fields.specs.Parser.{◌>>=◌, read_byte, both, made, tested, counted}
-use Rattle.lk_fields.specs.FieldReading.{is_from_1_to, read_two, read_four, read_eight, read_node, read_total, read_mark, read_member}
+use Rattle.lk_types.specs.Limits.{max_node, max_client}
+use Rattle.lk_fields.specs.Parser.{◌>>=◌, read_byte, both, made, tested}
+use Rattle.lk_fields.specs.FieldReading.{read_two, read_four, read_eight, read_node, read_total, read_mark, read_members}
 use Rattle.lk_probe.specs.Grammar.{probe_length}
 use Rattle.lk_probe.specs.declared.status.Version.{Version}
 use Rattle.lk_probe.specs.declared.status.Identity.{Identity}
@@ -52,9 +50,6 @@ read_progress = made (λ p. record { executed = p.0; snapshot = p.1.0; pending =
 unfoldable pub read_traffic : List ℕ → Option (Traffic × List ℕ)
 read_traffic = made (λ t. record { waiting = t.0; unread = t.1.0; unsent = t.1.1.0; ticks = t.1.1.1 })
     (both read_two (both read_eight (both read_eight read_eight)))
-
-unfoldable pub read_members : List ℕ → Option (List Member × List ℕ)
-read_members = tested (members_rise 0) (counted (tested (is_from_1_to max_members) read_byte) read_member)
 
 unfoldable pub read_status : List ℕ → Option (Status × List ℕ)
 read_status = made (λ s. record { identity = s.0; leadership = s.1.0; progress = s.1.1.0; traffic = s.1.1.1.0; members = s.1.1.1.1 })

@@ -1,20 +1,16 @@
-ghost use Rattle.std.specs.Prelude.{◌≡◌, ◌↔◌, ◌≤◌, ℕ, List, length, IsTrue, IfSome, IsSomeAnd};
-ghost use Rattle.lk_types.specs.Limits.{max_members};
-ghost use Rattle.lk_fields.specs.Parser.{Finds, many};
-ghost use Rattle.lk_fields.specs.FieldReading.{read_member};
+ghost use Rattle.std.specs.Prelude.{◌≡◌, IfSome, IsSomeAnd};
+ghost use Rattle.lk_fields.specs.Parser.{Finds};
 ghost use Rattle.lk_probe.specs.Grammar.{SpellsProbe, SpellsReport};
-ghost use Rattle.lk_probe.specs.Reading.{are_zeros, read_maybe_node, read_maybe_client, read_flag, read_digest, read_version, read_identity, read_leadership, read_progress, read_traffic, read_members, read_status, read_probe_fields, read_report_fields, fronted, probe_of, report_of};
+ghost use Rattle.lk_probe.specs.Reading.{are_zeros, read_maybe_node, read_maybe_client, read_flag, read_digest, read_version, read_identity, read_leadership, read_progress, read_traffic, read_status, read_probe_fields, read_report_fields, fronted, probe_of, report_of};
 ghost use Rattle.lk_probe.specs.declared.probe.Probe.{Probe as ProbeValue};
 ghost use Rattle.lk_probe.specs.declared.probe.Report.{Report as ReportValue};
 
 use crate::probe::{Probe, Report};
 use crate::status::{DIGEST, Identity, LENGTH, Leadership, Progress, Status, Traffic, Version};
-use arrayvec::ArrayVec;
 use lk_fields::{
-    read_executed, read_mark, read_member, read_node, read_u8, read_u16, read_u32, read_u64,
+    read_executed, read_mark, read_members, read_node, read_u8, read_u16, read_u32, read_u64,
 };
-use lk_types::limits::MAX_MEMBERS;
-use lk_types::{ClientNo, Member, Members, NodeNo};
+use lk_types::{ClientNo, NodeNo};
 
 /// A node, or none where four zeros stand.
 #[tactic(auto, unfolding(crate::specs::Reading::read_maybe_node))]
@@ -144,40 +140,6 @@ fn read_traffic(bytes: &[u8]) -> Option<(Traffic, &[u8])>
         ticks,
     };
     Some((traffic, rest))
-}
-
-fn many_members(count: u8, bytes: &[u8]) -> Option<(ArrayVec<Member, MAX_MEMBERS>, &[u8])>
-    requires { count ≤ max_members }
-    ensures read { Finds (λ x. (x.0.items, x.1.now)) result (many read_member count bytes.now) }
-    ensures count { IfSome result (λ x. length x.0.items ≡ count) }
-{
-    let mut members = ArrayVec::new();
-    let mut rest = bytes;
-    for _ in 0..count {
-        let Some((member, after)) = read_member(rest) else {
-            return None;
-        };
-        members.push(member);
-        rest = after;
-    }
-    Some((members, rest))
-}
-
-#[tactic(auto, unfolding(crate::specs::Reading::read_members))]
-fn read_members(bytes: &[u8]) -> Option<(Members, &[u8])>
-    ensures { Finds (λ x. (x.0, x.1.now)) result (read_members bytes.now) }
-{
-    let (count, rest) = read_u8(bytes)?;
-    if count < 1 || usize::from(count) > MAX_MEMBERS {
-        return None;
-    }
-    let Some((members, rest)) = many_members(count, rest) else {
-        return None;
-    };
-    let Some(members) = Members::of(members.as_slice()) else {
-        return None;
-    };
-    Some((members, rest))
 }
 
 #[tactic(auto, unfolding(crate::specs::Reading::read_status))]

@@ -1,8 +1,8 @@
 ghost use Rattle.std.specs.Prelude.{◌≡◌, ◌≤◌, ◌+◌, ◌*◌, ◌++◌, [], length};
 ghost use Rattle.arrayvec.specs.ArrayVec.{array_vec_len};
 ghost use Rattle.lk_types.specs.Limits.{max_members};
-ghost use Rattle.lk_fields.specs.Fields.{one, two, four, eight, ballot, member};
-ghost use Rattle.lk_probe.specs.Grammar.{probe_length, flag, or_zero, version, identity, leadership, progress, traffic, members, status, front, probe, report, padded, probe_spelling, report_spelling};
+ghost use Rattle.lk_fields.specs.Fields.{one, two, four, eight, ballot, member, members};
+ghost use Rattle.lk_probe.specs.Grammar.{probe_length, flag, or_zero, version, identity, leadership, progress, traffic, status, front, probe, report, padded, probe_spelling, report_spelling};
 
 use crate::probe::{Probe, Report};
 use crate::status::{Identity, LENGTH, Leadership, Progress, Status, Traffic, Version};

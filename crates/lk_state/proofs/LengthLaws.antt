@@ -1,5 +1,5 @@
 -- How long a packed state is.
-use Rattle.std.proofs.Common.{◌≡◌, ℕ, ◌*◌, ◌≤◌, List, [], ◌∷◌, ◌++◌, length, refl, arith, length-append}
+use Rattle.std.proofs.Common.{◌≡◌, ℕ, ◌*◌, ◌≤◌, List, [], ◌∷◌, ◌++◌, length, arith, length-append}
 use Rattle.std.specs.List.{flat_map, AllByRecursion}
 use Rattle.std.proofs.Math.Nat.{suc-mul}
 use Rattle.std.proofs.lemmas.List.Concat.{flat_map-cons}
@@ -7,25 +7,14 @@ use Rattle.lk_types.specs.declared.answer.Answer.{Answer}
 use Rattle.lk_types.specs.declared.answer.Answer.TheVariants.{Granted, Busy, Free, Held, Shared, HeldShared}
 use Rattle.lk_types.specs.declared.member.Member.{Member}
 use Rattle.lk_types.specs.Rosters.{IsMember}
-use Rattle.lk_fields.specs.Fields.{one, two, four, eight, member, answer}
+use Rattle.lk_fields.specs.Fields.{one, two, four, eight, member, members, answer}
+use Rattle.lk_fields.proofs.Spellings.{length-two, length-four, length-eight}
 use Rattle.lk_members.specs.Sets.{IsSet}
 use Rattle.lk_members.specs.Windows.{RosterValue, IsRoster}
 use Rattle.lk_state.specs.Sessions.{Session, IsSession, AreSessions}
 use Rattle.lk_state.specs.States.{WholeValue}
-use Rattle.lk_state.specs.Packed.{set_text, sets_text, roster_text, session_text, sessions_text, packed, IsWhole}
+use Rattle.lk_state.specs.Packed.{sets_text, roster_text, session_text, sessions_text, packed, IsWhole}
 use Rattle.lk_state.proofs.SessionLaws.{few_sessions}
-
-length-two : (n : ℕ) → length (two n) ≡ 2
-unfolding two
-length-two n = refl
-
-length-four : (n : ℕ) → length (four n) ≡ 4
-unfolding four
-length-four n = refl
-
-length-eight : (n : ℕ) → length (eight n) ≡ 8
-unfolding eight
-length-eight n = refl
 
 length-answer : (a : Answer) → length (answer a) ≤ 11
 length-answer (Granted fence) = omega (arith, length-eight fence)
@@ -52,7 +41,7 @@ module _ {X : Type 0} where
       let here = short x all.0 in
       rw (flat_map-cons f x xs, length-append (f x) (flat_map f xs), suc-mul (length xs) k) (omega arith)
 
-length-set : (set : List Member) → IsSet set → length (set_text set) ≤ 43
+length-set : (set : List Member) → IsSet set → length (members set) ≤ 43
 length-set set h =
     let few = h.0.1 in
     let pieces : length (flat_map member set) ≤ length set * 6 = length-pieces IsMember member 6 (λ m _. omega (arith, length-member m)) set h.1 in
@@ -61,12 +50,12 @@ length-set set h =
 length-roster : (r : RosterValue) → IsRoster r → length (roster_text r) ≤ 709
 length-roster r h =
     let few = h.sets.0 in
-    let pieces : length (flat_map set_text r.sets) ≤ length r.sets * 43 = length-pieces IsSet set_text 43 length-set r.sets h.sets.1 in
+    let pieces : length (flat_map members r.sets) ≤ length r.sets * 43 = length-pieces IsSet members 43 length-set r.sets h.sets.1 in
     omega (
       arith,
       length-append (eight r.executed) (sets_text r.sets ++ (four r.greatest ++ eight r.changed)),
       length-append (sets_text r.sets) (four r.greatest ++ eight r.changed),
-      length-append (one (length r.sets)) (flat_map set_text r.sets),
+      length-append (one (length r.sets)) (flat_map members r.sets),
       length-append (four r.greatest) (eight r.changed),
       length-eight r.executed,
       length-four r.greatest,

@@ -2,37 +2,27 @@
 use Rattle.std.proofs.Common.{◌≡◌, ℕ, ◌^◌, ◌<◌, ◌≤◌, true, leb, List, ◌++◌, length, Some, None, refl, ap, sym, ◌∙◌, arith}
 use Rattle.std.specs.List.{AllByRecursion}
 use Rattle.lk_types.specs.Ranges.{IsNode, IsClient, IsCount, IsTotal}
-use Rattle.lk_types.specs.Rosters.{IsMember, members_rise}
 use Rattle.lk_types.specs.Answers.{IsAnswer}
 use Rattle.lk_types.specs.declared.answer.Answer.{Answer}
 use Rattle.lk_types.specs.declared.member.Member.{Member}
-use Rattle.lk_fields.specs.Fields.{one, two, four, eight, member, answer}
+use Rattle.lk_fields.specs.Fields.{one, two, four, eight, members, answer}
 use Rattle.lk_fields.specs.Parser.{read_byte, tested}
-use Rattle.lk_fields.specs.FieldReading.{is_from_1_to, read_two, read_node, read_client, read_count, read_total, read_member, read_answer}
-use Rattle.lk_fields.proofs.Spellings.{IsBytes, Reads, fitting, both_reads, made_reads, tested_reads, byte_reads, some_is, counted_reads, two_reads, ranged_reads, limited_reads, node_reads, client_reads, count_reads, total_reads, member_reads, answer_reads}
+use Rattle.lk_fields.specs.FieldReading.{is_from_1_to, read_two, read_node, read_client, read_count, read_total, read_members, read_answer}
+use Rattle.lk_fields.proofs.Spellings.{IsBytes, Reads, fitting, both_reads, made_reads, tested_reads, byte_reads, some_is, counted_reads, two_reads, ranged_reads, limited_reads, node_reads, client_reads, count_reads, total_reads, members_reads, answer_reads}
 use Rattle.lk_members.specs.Sets.{IsSet, are_at_most}
 use Rattle.lk_members.specs.Windows.{RosterValue, IsRoster}
 use Rattle.lk_state.specs.Sessions.{Session, are_sessions_above, IsSession, AreSessions}
 use Rattle.lk_state.specs.States.{WholeValue}
-use Rattle.lk_state.specs.Packed.{set_text, sets_text, roster_text, session_text, sessions_text, Packs}
-use Rattle.lk_state.specs.Reading.{read_set, read_sets, read_roster, read_session, read_sessions, read_front}
+use Rattle.lk_state.specs.Packed.{sets_text, roster_text, session_text, sessions_text, Packs}
+use Rattle.lk_state.specs.Reading.{read_sets, read_roster, read_session, read_sessions, read_front}
 use Rattle.lk_state.proofs.SessionLaws.{few_sessions}
 
 abbrev IsIn : ℕ → ℕ → Type 0
 IsIn most n = (1 ≤ n) × (n ≤ most)
 
-byte_count : (most : ℕ) → most < 256 → Reads (tested (is_from_1_to most) read_byte) one (IsIn most)
-byte_count most lt = ranged_reads most 256 lt read_byte one byte_reads
-
-set_reads : Reads read_set set_text IsSet
-unfolding read_set
-set_reads =
-    fitting _ _ (λ (ms : List Member). (IsIn 7 (length ms) × AllByRecursion IsMember ms) × (members_rise 0 ms ≡ true)) IsSet (λ ms f. ((f.0.0.0, f.0.0.1, f.1), f.0.1)) (λ ms f. (((f.0.0, f.0.1), f.1), f.0.2))
-    (tested_reads (members_rise 0) _ _ _ (counted_reads (tested (is_from_1_to 7) read_byte) one (IsIn 7) (byte_count 7 (omega arith)) read_member member IsMember member_reads))
-
 sets_reads : Reads read_sets sets_text (λ (sets : List (List Member)). IsIn 16 (length sets) × AllByRecursion IsSet sets)
 unfolding read_sets
-sets_reads = counted_reads (tested (is_from_1_to 16) read_byte) one (IsIn 16) (byte_count 16 (omega arith)) read_set set_text IsSet set_reads
+sets_reads = counted_reads (tested (is_from_1_to 16) read_byte) one (IsIn 16) (ranged_reads 16 256 (omega arith) read_byte one byte_reads) read_members members IsSet members_reads
 
 abbrev Parts : Type 0
 Parts = ℕ × (List (List Member) × (ℕ × ℕ))

@@ -2,16 +2,13 @@
 use Rattle.std.specs.Prelude.{◌≡◌, ℕ, List, ◌++◌, length}
 use Rattle.std.specs.List.{flat_map}
 use Rattle.lk_types.specs.declared.member.Member.{Member}
-use Rattle.lk_fields.specs.Fields.{one, two, four, eight, member, answer}
+use Rattle.lk_fields.specs.Fields.{one, two, four, eight, members, answer}
 use Rattle.lk_members.specs.Windows.{RosterValue, IsRoster}
 use Rattle.lk_state.specs.Sessions.{Session, AreSessions}
 use Rattle.lk_state.specs.States.{WholeValue}
 
-abbrev pub set_text : List Member → List ℕ
-set_text set = one (length set) ++ flat_map member set
-
 abbrev pub sets_text : List (List Member) → List ℕ
-sets_text sets = one (length sets) ++ flat_map set_text sets
+sets_text sets = one (length sets) ++ flat_map members sets
 
 -- how many positions are executed, the sets of the next ones, the greatest number ever a member, the last change
 abbrev pub roster_text : RosterValue → List ℕ

@@ -1,18 +1,14 @@
 -- Reading the start of a packed state: everything before the machine's text.
 use Rattle.std.specs.Prelude.{ℕ, nat_le, List, Option}
 use Rattle.lk_types.specs.declared.member.Member.{Member}
-use Rattle.lk_types.specs.Rosters.{members_rise}
 use Rattle.lk_fields.specs.Parser.{read_byte, both, made, tested, counted}
-use Rattle.lk_fields.specs.FieldReading.{is_from_1_to, read_two, read_node, read_client, read_count, read_total, read_member, read_answer}
+use Rattle.lk_fields.specs.FieldReading.{is_from_1_to, read_two, read_node, read_client, read_count, read_total, read_members, read_answer}
 use Rattle.lk_members.specs.Sets.{are_at_most}
 use Rattle.lk_members.specs.Windows.{RosterValue}
 use Rattle.lk_state.specs.Sessions.{Session, are_sessions_above}
 
-unfoldable pub read_set : List ℕ → Option (List Member × List ℕ)
-read_set = tested (members_rise 0) (counted (tested (is_from_1_to 7) read_byte) read_member)
-
 unfoldable pub read_sets : List ℕ → Option (List (List Member) × List ℕ)
-read_sets = counted (tested (is_from_1_to 16) read_byte) read_set
+read_sets = counted (tested (is_from_1_to 16) read_byte) read_members
 
 unfoldable pub read_roster : List ℕ → Option (RosterValue × List ℕ)
 read_roster =

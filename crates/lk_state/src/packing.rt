@@ -5,29 +5,18 @@ ghost use Rattle.lk_types.specs.Limits.{max_client};
 ghost use Rattle.lk_types.specs.Rosters.{AreMembers};
 ghost use Rattle.lk_members.specs.Sets.{IsWindow};
 ghost use Rattle.lk_state.specs.Sessions.{AreSessions};
-ghost use Rattle.lk_state.specs.Packed.{set_text, sets_text, roster_text, session_text, sessions_text, packed, IsWhole};
+ghost use Rattle.lk_state.specs.Packed.{sets_text, roster_text, session_text, sessions_text, packed, IsWhole};
 
 use crate::machine::Machine;
 use crate::session::Session;
 use crate::whole::Whole;
 use bytes::BytesMut;
 use lk_fields::{
-    put_answer, put_client, put_executed, put_member, put_node, put_number, put_u8, put_u16,
+    put_answer, put_client, put_executed, put_members, put_node, put_number, put_u8, put_u16,
 };
 use lk_members::{Roster, Window};
-use lk_types::{Members, NoMemory};
+use lk_types::NoMemory;
 use std::alloc::AllocError;
-
-fn put_set(out: &mut BytesMut, set: &Members) -> Result<(), AllocError>
-    ensures { OnOk result (out.new.items ≡ out.old.items ++ set_text set.now) }
-{
-    let members = set.as_slice();
-    put_u8(out, members.len() as u8)?;
-    for member in members {
-        put_member(out, *member)?;
-    }
-    Ok(())
-}
 
 fn put_window(out: &mut BytesMut, window: &Window) -> Result<(), AllocError>
     ensures { OnOk result (out.new.items ≡ out.old.items ++ sets_text window.now) }
@@ -35,7 +24,7 @@ fn put_window(out: &mut BytesMut, window: &Window) -> Result<(), AllocError>
     let places = window.as_slice();
     put_u8(out, places.len() as u8)?;
     for place in places {
-        put_set(out, place.set())?;
+        put_members(out, place.set().as_slice())?;
     }
     Ok(())
 }

@@ -1,66 +1,32 @@
 //! Reading a packed state: all of the bytes are the roster, the sessions and the machine's text.
 
 ghost use Rattle.std.specs.Prelude.{◌≡◌, ◌<◌, ◌≤◌, length, IfSome};
-ghost use Rattle.lk_types.specs.Limits.{max_alpha, max_client, max_members};
+ghost use Rattle.lk_types.specs.Limits.{max_alpha, max_client};
 ghost use Rattle.lk_fields.specs.Parser.{Finds, many};
-ghost use Rattle.lk_fields.specs.FieldReading.{read_member};
-ghost use Rattle.lk_state.specs.Reading.{read_set, read_sets, read_roster, read_session, read_sessions, read_front};
+ghost use Rattle.lk_fields.specs.FieldReading.{read_members};
+ghost use Rattle.lk_state.specs.Reading.{read_sets, read_roster, read_session, read_sessions, read_front};
 
 use crate::machine::{Machine, UnpackFault};
 use crate::session::{Session, Sessions};
 use crate::whole::Whole;
 use arrayvec::ArrayVec;
 use lk_fields::{
-    read_answer, read_client, read_executed, read_member, read_node, read_number, read_u8, read_u16,
+    read_answer, read_client, read_executed, read_members, read_node, read_number, read_u8,
+    read_u16,
 };
 use lk_members::{Roster, Window};
-use lk_types::limits::{MAX_ALPHA, MAX_CLIENT, MAX_MEMBERS};
-use lk_types::{Member, Members};
+use lk_types::limits::{MAX_ALPHA, MAX_CLIENT};
 use std::alloc::Global;
-
-fn many_members(count: u8, bytes: &[u8]) -> Option<(ArrayVec<Member, MAX_MEMBERS>, &[u8])>
-    requires { count ≤ max_members }
-    ensures read { Finds (λ x. (x.0.items, x.1.now)) result (many read_member count bytes.now) }
-    ensures count { IfSome result (λ x. length x.0.items ≡ count) }
-{
-    let mut members = ArrayVec::new();
-    let mut rest = bytes;
-    for _ in 0..count {
-        let Some((member, after)) = read_member(rest) else {
-            return None;
-        };
-        members.push(member);
-        rest = after;
-    }
-    Some((members, rest))
-}
-
-#[tactic(auto, unfolding(crate::specs::Reading::read_set))]
-fn read_set(bytes: &[u8]) -> Option<(Members, &[u8])>
-    ensures { Finds (λ x. (x.0, x.1.now)) result (read_set bytes.now) }
-{
-    let (count, rest) = read_u8(bytes)?;
-    if count < 1 || usize::from(count) > MAX_MEMBERS {
-        return None;
-    }
-    let Some((members, rest)) = many_members(count, rest) else {
-        return None;
-    };
-    let Some(set) = Members::of(members.as_slice()) else {
-        return None;
-    };
-    Some((set, rest))
-}
 
 fn many_sets(count: u8, bytes: &[u8]) -> Option<(Window, &[u8])>
     requires { count ≤ max_alpha }
-    ensures read { Finds (λ x. (x.0, x.1.now)) result (many read_set count bytes.now) }
+    ensures read { Finds (λ x. (x.0, x.1.now)) result (many read_members count bytes.now) }
     ensures count { IfSome result (λ x. length x.0 ≡ count) }
 {
     let mut window = Window::new();
     let mut rest = bytes;
     for _ in 0..count {
-        let Some((set, after)) = read_set(rest) else {
+        let Some((set, after)) = read_members(rest) else {
             return None;
         };
         window.push(set);

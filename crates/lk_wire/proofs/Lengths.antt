@@ -1,5 +1,5 @@
 -- How long a spelling can be.
-use Rattle.std.proofs.Common.{◌≡◌, ℕ, ◌*◌, ◌≤◌, true, List, [], ◌∷◌, length, refl, arith}
+use Rattle.std.proofs.Common.{◌≡◌, ℕ, ◌*◌, ◌≤◌, true, List, [], ◌∷◌, length, arith}
 use Rattle.std.specs.List.{flat_map, AllByRecursion}
 use Rattle.std.proofs.lemmas.Bool.Decides.{nat_tests}
 use Rattle.std.proofs.lemmas.List.{length-append}
@@ -22,20 +22,9 @@ use Rattle.lk_wire.specs.declared.message.NodeMessage.TheVariants as kinds
 use Rattle.lk_wire.specs.declared.message.Content.{Content}
 use Rattle.lk_wire.specs.declared.message.Content.TheVariants as content
 use Rattle.lk_wire.specs.declared.message.Message.{Message}
-use Rattle.lk_fields.specs.Fields.{two, four, eight, ballot, member, op, request, command, vote, pair, answer}
+use Rattle.lk_fields.specs.Fields.{ballot, member, op, request, command, vote, pair, answer}
+use Rattle.lk_fields.proofs.Spellings.{length-two, length-four, length-eight}
 use Rattle.lk_wire.specs.Grammar.{node_fields, fields, header, spelling, kind, sender, IsNodeMessage, IsContent, IsMessage}
-
-pub length-two : (n : ℕ) → length (two n) ≡ 2
-unfolding two
-length-two n = refl
-
-pub length-four : (n : ℕ) → length (four n) ≡ 4
-unfolding four
-length-four n = refl
-
-pub length-eight : (n : ℕ) → length (eight n) ≡ 8
-unfolding eight
-length-eight n = refl
 
 pub length-ballot : (b : BallotValue) → length (ballot b) ≡ 12
 length-ballot b = simp (length-append, length-four, length-eight)

@@ -9,7 +9,8 @@ use Rattle.lk_wire.specs.declared.message.Message.{Message}
 use Rattle.lk_fields.specs.Fields.{two, four, eight, ballot}
 use Rattle.lk_wire.specs.Grammar.{fields, header, kind, sender, Spells}
 use Rattle.lk_wire.specs.Shown.{LieAtTheirPlaces}
-use Rattle.lk_wire.proofs.Lengths.{length-two, length-four, length-eight, length-ballot}
+use Rattle.lk_fields.proofs.Spellings.{length-two, length-four, length-eight}
+use Rattle.lk_wire.proofs.Lengths.{length-ballot}
 
 -- what lies so far into the rest lies that much further into all
 past : (front rest slice : List ℕ) (n k : ℕ) → length front ≡ n → drop k rest ≡ slice → drop (n + k) (front ++ rest) ≡ slice

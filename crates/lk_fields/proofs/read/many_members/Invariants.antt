@@ -2,11 +2,11 @@
 use Rattle.std.proofs.Common.{◌≡◌, ◌-◌, length}
 use Rattle.lk_fields.specs.Parser.{many}
 use Rattle.lk_fields.specs.FieldReading.{read_member}
-use Rattle.lk_fields.proofs.Spellings.{with_front}
-use Rattle.lk_state.proofs.unpacking.many_members.Given as goal
+use Rattle.lk_fields.proofs.Loop.{with_front}
+use Rattle.lk_fields.proofs.read.many_members.Given as goal
 
 abbrev pub invariant-loop : goal.invariant-loop
 invariant-loop l = record {
-  read : with_front l.members.items (many read_member (l.count - l.counter) l.rest) ≡ many read_member l.count l.bytes;
-  count : length l.members.items ≡ l.counter;
+  read : with_front l.list.items (many read_member (l.count - l.counter) l.rest) ≡ many read_member l.count l.bytes;
+  count : length l.list.items ≡ l.counter;
 }
