@@ -1,5 +1,5 @@
 -- How far a standing reaches, with more entries.
-use Rattle.std.proofs.Common.{◌≡◌, ℕ, ◌+◌, ◌<◌, ◌≤◌, ◌⊎◌, inl, inr, Bool, true, false, cond, ltb, eqb, List, [], ◌∷◌, ◌++◌, length, Contains, refl, sym, ap, ◌∙◌, subst, arith}
+use Rattle.std.proofs.Common.{◌≡◌, ℕ, zero, suc, ◌+◌, ◌*◌, ◌<◌, ◌≤◌, ◌⊎◌, inl, inr, Bool, true, false, cond, ltb, eqb, List, [], ◌∷◌, ◌++◌, length, take, Contains, refl, sym, ap, ◌∙◌, subst, arith}
 use Rattle.std.proofs.lemmas.Bool.{cases_lt, eqb-true, lt-ltb}
 use Rattle.lk_types.specs.declared.command.Command.{Command}
 use Rattle.lk_types.specs.declared.entry.Entry.{Entry}
@@ -16,7 +16,10 @@ use Rattle.lk_state.specs.States.{WholeValue, SumsUp, whole_after}
 use Rattle.lk_node.proofs.Lists.{cons_cases, contains_more}
 use Rattle.lk_node.specs.Histories.{Genesis}
 use Rattle.lk_node.specs.NodeValue.{NodeValue}
-use Rattle.lk_node.specs.Reaching.{IsDecidedAt, Reaches, LiesNear, AllLieNear, EntryLiesNear, EntriesLieNear, TellsOf, IsTold, TellsOn}
+use Rattle.lk_node.specs.Packing.{standing_of, standing_here}
+use Rattle.lk_node.specs.Reaching.{IsDecidedAt, Reaches, LiesNear, AllLieNear, EntryLiesNear, EntriesLieNear, TellsOf, IsTold, TellsOn, HoldsNear}
+use Rattle.lk_acceptor.proofs.Acceptors.{takes_snapshot}
+use Rattle.lk_learner.specs.Learners.{executed, alpha}
 
 -- ---- pairs in order
 
@@ -161,6 +164,34 @@ told_behind ahead s loose es old new told on =
 -- what is told is told where all of it is synced
 pub told_synced : (ahead : ℕ) (s : StandingValue) (loose : List Entry) (node : NodeValue) → IsTold ahead s loose node → IsTold ahead (with_all loose s) [] node
 told_synced ahead s loose node told = record { near = tt; tells = told.tells }
+
+-- where all lies near and the entries do, all does with each beginning of them
+pub near_begins : (ahead : ℕ) (s : StandingValue) (es : List Entry) (k : ℕ) → AllLieNear ahead s → EntriesLieNear ahead s es → AllLieNear ahead (with_all (take k es) s)
+near_begins ahead s es zero all near = all
+near_begins ahead s [] (suc k) all near = all
+near_begins ahead s (e ∷ es) (suc k) all near = near_begins ahead (with_plain e s) es k (all_near_more ahead s e all near.0) near.1
+
+-- ---- a Base
+
+-- nothing above the snapshot has to be reached
+none_above : (s : StandingValue) → Reaches s s.position
+none_above s i low most = absurd (omega (arith, low, most))
+
+pub base_near : (node : NodeValue) → HoldsNear node → AllLieNear (alpha node.learner) (standing_of node)
+base_near node near = record {
+  votes = λ v c. (executed node.learner, none_above (standing_of node), near.0.votes v ((takes_snapshot node.acceptor.state (executed node.learner) near.0.snapshot).only v c));
+  pairs = λ p c. (executed node.learner, none_above (standing_of node), near.1.near p c);
+}
+
+pub base_tells : (node : NodeValue) → HoldsNear node → 1 ≤ alpha node.learner → TellsOf (alpha node.learner) (standing_of node) (standing_here node)
+base_tells node near some = record {
+  some = some;
+  votes_ahead = near.0.alpha_is;
+  window = refl;
+  above = omega arith;
+  reached = none_above (standing_of node);
+  kept = λ p c. (p.1, c);
+}
 
 -- ---- the window of a state
 

@@ -9,6 +9,7 @@ mod catching_up;
 mod deciding;
 mod executing;
 mod installing;
+pub mod laws;
 mod leading;
 mod learning;
 mod node;
