@@ -130,11 +130,24 @@ class StatusTest(unittest.TestCase):
     def test_no_majority_is_told(self):
         self.tells([node(1, leads=1), silent, silent], 1, "majority: 1 of 3 up", "why: no majority")
 
+    def test_no_majority_is_reason_enough(self):
+        lines = self.tells([node(1, leader=0, silence=28), silent, silent], 1, "why: no majority")
+        self.assertEqual("\n".join(lines).count("why:"), 1, lines)
+
     def test_one_node_asked_twice_is_no_majority(self):
         self.tells([node(1, leads=1), node(1, leads=1), node(1, leads=1)], 1, "majority: 1 of 3 up")
 
     def test_nobody_leads(self):
         self.tells([node(1, leader=0), node(2, leader=0)], 1, "knows no leader for 1 ticks", "why: nobody leads")
+
+    def test_who_is_followed_and_does_not_lead_is_named(self):
+        answers = [node(1, leader=3), node(2, leader=3), node(3, leader=0, silence=0)]
+        self.tells(answers, 1, "why: nobody leads: an election takes seconds; if it lasts, node 3 sends and hears nobody")
+        self.tells([*answers[:2], silent], 1, "if it lasts, node 3 sends and hears nobody")
+
+    def test_a_node_that_is_no_member_is_named(self):
+        lines = self.tells([node(1, leads=1), node(2), node(3), node(4, leader=0, silence=28)], 0, "why: node 4 is not a member")
+        self.assertNotIn("node 4 hears nobody", "\n".join(lines))
 
     def test_nobody_answers(self):
         self.tells([silent], 1, "port a: no answer", "why: nobody answers")

@@ -1,13 +1,18 @@
-"""What `locks status` tells of nodes as processes: who is up, who leads, who is behind, and a second genesis."""
+"""What `locks status` tells of nodes as processes: who is up, who leads, who is behind, what is raised, and a second genesis."""
+import json
 import os
+import signal
 import subprocess
 import tempfile
 import time
 import unittest
 
-from harness.cluster import Cluster, free_ports
+from harness.cluster import TOP, Cluster, free_ports
+from locks_client import Client
 
 PROGRAM = os.environ.get("LOCKS_PROGRAM")
+UNIT = os.path.join(TOP, "tools", "systemd", "locks@.service")
+PAIRS = 150  # 300 positions: a node that is behind by so many is given a snapshot
 
 
 @unittest.skipUnless(PROGRAM, "LOCKS_PROGRAM does not tell the program")
@@ -70,6 +75,47 @@ class NodesStatusTest(unittest.TestCase):
             self.assertIn(self.ask("ask", "db"), ("free 0",))
         self.cluster.start(3)
         self.assertNotIn("behind", [line for line in self.ready().splitlines() if line.startswith("node 3")][0])
+
+    def test_the_unit_waits_until_all_are_ready(self):
+        with open(UNIT) as unit:
+            [line] = [line for line in unit if line.startswith("ExecStartPost=")]
+        *words, last = line.split()[1:]
+        self.assertEqual(last, "$READY")
+        ready = ["--cluster", "5", "--port", *map(str, self.cluster.ports.values())]
+        run = subprocess.run([PROGRAM, *words, *ready], stdin=subprocess.DEVNULL, capture_output=True, text=True, timeout=120)
+        self.assertEqual((run.returncode, run.stderr), (0, ""))
+        self.assertIn("majority: 3 of 3 up\n", run.stdout)
+
+    def tables(self):
+        """The version of its table that each node tells which answers."""
+        told = json.loads(self.status("--json")[1])
+        return [node["table_version"] for node in told["nodes"] if node["up"]]
+
+    def test_a_raised_table_is_told_by_each_node(self):
+        self.ready()
+        self.assertEqual(self.tables(), [1, 1, 1])
+        self.assertEqual(self.ask("raise", "2"), "raised")
+        self.ready()
+        self.comes(0, "majority: 3 of 3 up; raised\n")
+        self.assertEqual(self.tables(), [2, 2, 2])
+        self.cluster.kill(3)
+        self.cluster.start(3)
+        self.ready()
+        self.assertEqual(self.tables(), [2, 2, 2])
+
+    def test_a_raised_table_that_came_in_a_snapshot_is_told(self):
+        self.ready()
+        self.assertEqual(self.tables(), [1, 1, 1])
+        self.comes(0, ": leads", count=(": follows ", 2))
+        follower = next(node["node"] for node in json.loads(self.status("--json")[1])["nodes"] if not node["leads"])
+        self.cluster.processes[follower].send_signal(signal.SIGSTOP)
+        client = self.enterContext(self.cluster.client(Client, 9, patience=60.0))
+        client.raise_table()
+        for _ in range(PAIRS):
+            client.release("db", client.acquire("db"))
+        self.cluster.processes[follower].send_signal(signal.SIGCONT)
+        self.ready()
+        self.assertEqual(self.tables(), [2, 2, 2])
 
     def test_a_second_genesis_is_told(self):
         self.ready()
