@@ -1,7 +1,9 @@
-ghost use Rattle.std.specs.Prelude.{◌≡◌, true, IfOk, OnOk, IfSome};
-ghost use Rattle.lk_status.specs.Rounds.{IsOfRound, AreOfRound};
+ghost use Rattle.std.specs.Prelude.{◌≡◌, ◌↔◌, IfOk, OnOk, IfSome, IsNone, IsSomeAnd, IsTrue};
+ghost use Rattle.lk_probe.specs.declared.probe.Report.{Report as ReportValue};
+ghost use Rattle.lk_transport.specs.Hearing.{next_of};
+ghost use Rattle.lk_status.specs.Rounds.{IsOfRound, AreOfRound, IsReport, IsAwaited, Adds, Hears, HearsOn, AreHeard};
 
-use crate::target::{Inquiry, report_with};
+use crate::target::{Inquiry, is_answered};
 use lk_probe::Report;
 use lk_transport::fault::ServiceFault;
 use lk_transport::receive_buffer::ReceiveBuffer;
@@ -23,7 +25,7 @@ fn send_probes<S: DatagramSocket>(
     let mut frame = Vec::new(alloc);
     let mut token = first;
     for target in inquiry.targets.as_slice() {
-        if report_with(reports, token).is_none() {
+        if !is_answered(reports, token) {
             let probe = inquiry.probe(token).datagram();
             let seals = &inquiry.destination.seals;
             let framed = seals.frame_of(inquiry.client_number(), &probe, &mut frame)?;
@@ -36,29 +38,63 @@ fn send_probes<S: DatagramSocket>(
 
 /// Whether a report answers a probe of the round.
 fn is_of_round(inquiry: &Inquiry, first: u64, report: &Report) -> bool
-    ensures { result ≡ true → IsOfRound inquiry.now first report.now }
+    ensures { IsTrue result ↔ IsOfRound inquiry.now first report.now }
 {
     let token = report.token;
     let is_within = first <= token && token - first < inquiry.targets.len() as u64;
     is_within && report.answers(&inquiry.probe(token))
 }
 
-/// The report that these bytes are, if it answers a probe of the round that no other has answered.
-fn report_in(inquiry: &Inquiry, first: u64, reports: &[Report], bytes: &[u8]) -> Option<Report>
-    ensures { IfSome result (IsOfRound inquiry.now first) }
+/// Whether a report answers a probe of the round that none of the others has answered.
+fn is_awaited(inquiry: &Inquiry, first: u64, reports: &[Report], report: &Report) -> bool
+    ensures { IsTrue result ↔ IsAwaited inquiry.now first reports.now report.now }
+{
+    is_of_round(inquiry, first, report) && !is_answered(reports, report.token)
+}
+
+/// The report that a datagram is, out of its frame if there is a key.
+fn report_in(inquiry: &Inquiry, bytes: &[u8]) -> Option<Report>
+    ensures found { IfSome result (IsReport inquiry.now bytes.now) }
+    ensures only { (r : ReportValue) → IsReport inquiry.now bytes.now r → IsSomeAnd result (λ s. s ≡ r) }
 {
     let seals = &inquiry.destination.seals;
-    let Some(report) = Report::read(seals.heard(inquiry.client_number(), bytes)) else {
+    Report::read(seals.heard(inquiry.client_number(), bytes))
+}
+
+/// The report that a datagram is, if it is awaited.
+fn awaited_in(inquiry: &Inquiry, first: u64, reports: &[Report], bytes: &[u8]) -> Option<Report>
+    ensures some { IfSome result (λ r. IsReport inquiry.now bytes.now r × IsAwaited inquiry.now first reports.now r) }
+    ensures none { IsNone result → (r : ReportValue) → IsReport inquiry.now bytes.now r → IsAwaited inquiry.now first reports.now r → ⊥ }
+{
+    let Some(report) = report_in(inquiry, bytes) else {
         return None;
     };
-    if !is_of_round(inquiry, first, &report) || report_with(reports, report.token).is_some() {
+    if !is_awaited(inquiry, first, reports, &report) {
         return None;
     }
     Some(report)
 }
 
-/// Hears what comes next, and keeps it if it is a report of the round. Whether anything came.
+/// Adds the report that a datagram is, if it is awaited.
 #[tactic(auto, using(crate::proofs::Gathered::one_more))]
+fn add(
+    inquiry: &Inquiry,
+    first: u64,
+    reports: &mut Vec<Report>,
+    bytes: &[u8],
+) -> Result<(), ServiceFault>
+    ensures adds { OnOk result (Adds inquiry.now first bytes.now reports.old.items reports.new.items) }
+    ensures of_round { OnOk result (AreOfRound inquiry.now first reports.old.items → AreOfRound inquiry.now first reports.new.items) }
+{
+    let Some(report) = awaited_in(inquiry, first, reports, bytes) else {
+        return Ok(());
+    };
+    reports.push(report)?;
+    Ok(())
+}
+
+/// Hears what comes next, and adds it if it is a report that is awaited. Whether anything came.
+#[tactic(auto, using(crate::proofs::Gathered::hears_none, crate::proofs::Gathered::hears_some))]
 fn hear<S: DatagramSocket>(
     socket: &mut S,
     buffer: &mut ReceiveBuffer,
@@ -66,16 +102,67 @@ fn hear<S: DatagramSocket>(
     first: u64,
     reports: &mut Vec<Report>,
 ) -> Result<bool, ServiceFault>
-    ensures { OnOk result (AreOfRound inquiry.now first reports.old.items → AreOfRound inquiry.now first reports.new.items) }
+    ensures hears { OnOk result (S.is_telling → Hears inquiry.now first (next_of S.coming socket.old) reports.old.items reports.new.items) }
+    ensures of_round { OnOk result (AreOfRound inquiry.now first reports.old.items → AreOfRound inquiry.now first reports.new.items) }
 {
     buffer.receive(socket);
     let Some((bytes, _)) = buffer.heard() else {
         return Ok(false);
     };
-    if let Some(report) = report_in(inquiry, first, reports, bytes) {
-        reports.push(report)?;
-    }
+    add(inquiry, first, reports, bytes)?;
     Ok(true)
+}
+
+/// Hears what comes next. Where nothing came, that is counted, and whoever is silent is asked again.
+fn hear_or_ask<S: DatagramSocket>(
+    alloc: Global,
+    socket: &mut S,
+    buffer: &mut ReceiveBuffer,
+    inquiry: &Inquiry,
+    first: u64,
+    reports: &mut Vec<Report>,
+    silences: &mut u32,
+) -> Result<(), ServiceFault>
+    ensures hears { OnOk result (S.is_telling → Hears inquiry.now first (next_of S.coming socket.old) reports.old.items reports.new.items) }
+    ensures of_round { OnOk result (AreOfRound inquiry.now first reports.old.items → AreOfRound inquiry.now first reports.new.items) }
+{
+    if !hear(socket, buffer, inquiry, first, reports)? {
+        *silences = silences.saturating_add(1);
+        send_probes(alloc, socket, inquiry, first, reports)?;
+    }
+    Ok(())
+}
+
+/// Hears until each target has reported, or nothing came as often as the inquiry has patience. How often that was is
+/// added to `silences`.
+fn gather<S: DatagramSocket>(
+    alloc: Global,
+    socket: &mut S,
+    inquiry: &Inquiry,
+    first: u64,
+    reports: &mut Vec<Report>,
+    silences: &mut u32,
+) -> Result<(), ServiceFault>
+    ensures hears { OnOk result (S.is_telling → HearsOn (next_of S.coming) inquiry.now first
+        (record { socket = socket.old; reports = reports.old.items }) (record { socket = socket.new; reports = reports.new.items })) }
+    ensures of_round { OnOk result (AreOfRound inquiry.now first reports.old.items → AreOfRound inquiry.now first reports.new.items) }
+{
+    let mut buffer = ReceiveBuffer::new();
+    'receives: for _ in 0..RECEIVES {
+        if reports.len() >= inquiry.targets.len() || *silences >= inquiry.patience {
+            return Ok(());
+        }
+        hear_or_ask(
+            alloc,
+            socket,
+            &mut buffer,
+            inquiry,
+            first,
+            reports,
+            silences,
+        )?;
+    }
+    Ok(())
 }
 
 /// Asks all targets, and hears what they report: until each has, or nothing came as often as the inquiry has patience.
@@ -87,21 +174,11 @@ pub fn ask_all<S: DatagramSocket>(
     first: u64,
     idle: &mut u32,
 ) -> Result<Vec<Report>, ServiceFault>
-    ensures { IfOk result (λ rs. AreOfRound inquiry.now first rs.items) }
+    ensures { IfOk result (λ rs. AreHeard (next_of S.coming) inquiry.now first S.is_telling rs.items socket.new) }
 {
-    let mut reports = Vec::new(alloc);
-    let mut buffer = ReceiveBuffer::new();
-    let mut silences = 0u32;
+    let (mut reports, mut silences) = (Vec::new(alloc), 0u32);
     send_probes(alloc, socket, inquiry, first, &reports)?;
-    'receives: for _ in 0..RECEIVES {
-        if reports.len() >= inquiry.targets.len() || silences >= inquiry.patience {
-            break;
-        }
-        if !hear(socket, &mut buffer, inquiry, first, &mut reports)? {
-            silences = silences.saturating_add(1);
-            send_probes(alloc, socket, inquiry, first, &reports)?;
-        }
-    }
+    gather(alloc, socket, inquiry, first, &mut reports, &mut silences)?;
     *idle = idle.saturating_add(silences);
     Ok(reports)
 }

@@ -1,7 +1,9 @@
 //! `locks status`.
 
-ghost use Rattle.std.specs.Prelude.{◌≡◌, ◌≤◌, ◌↔◌, IfOk, IsTrue};
-ghost use Rattle.lk_status.specs.Rounds.{AreOfRound, IsShownServed};
+ghost use Rattle.std.specs.Prelude.{◌≡◌, ◌≤◌, ◌↔◌, true, IfOk, IsTrue};
+ghost use Rattle.lk_transport.specs.Hearing.{next_of};
+ghost use Rattle.lk_status.specs.Rounds.{AreHeard};
+ghost use Rattle.lk_status.specs.Outcomes.{Shows, IsShownServed};
 ghost use Rattle.lk_status.specs.Verdicts.{IsServed};
 
 use crate::asking::ask_all;
@@ -95,7 +97,7 @@ fn wait_until_ready<S: DatagramSocket>(
     inquiry: &Inquiry,
     most: u32,
 ) -> Result<Round, ServiceFault>
-    ensures { IfOk result (λ r. AreOfRound inquiry.now r.first r.reports.items) }
+    ensures { IfOk result (λ r. AreHeard (next_of S.coming) inquiry.now r.first S.is_telling r.reports.items socket.new) }
 {
     let (mut idle, mut goal) = (0, None);
     let mut round = ask_once(alloc, socket, inquiry, 0, &mut idle)?;
@@ -119,7 +121,7 @@ fn ask_once<S: DatagramSocket>(
     first: u64,
     idle: &mut u32,
 ) -> Result<Round, ServiceFault>
-    ensures { IfOk result (λ r. AreOfRound inquiry.now r.first r.reports.items) }
+    ensures { IfOk result (λ r. AreHeard (next_of S.coming) inquiry.now r.first S.is_telling r.reports.items socket.new) }
 {
     Ok(Round {
         first,
@@ -134,7 +136,8 @@ fn round_of<S: DatagramSocket>(
     socket: &mut S,
     plan: &Plan,
 ) -> Result<Round, ServiceFault>
-    ensures { IfOk result (λ r. AreOfRound plan.now.inquiry r.first r.reports.items) }
+    ensures heard { IfOk result (λ r. AreHeard (next_of S.coming) plan.now.inquiry r.first S.is_telling r.reports.items socket.new) }
+    ensures ready { plan.now.seconds ≡ 0 → IfOk result (λ r. r.is_ready ≡ true) }
 {
     if plan.seconds > 0 {
         let most = plan.seconds.saturating_mul(A_SECOND);
@@ -152,7 +155,7 @@ fn ask_and_print<S: DatagramSocket, W: Write>(
     plan: &Plan,
     out: &mut W,
 ) -> Result<bool, ServiceFault>
-    ensures { IfOk result (λ is. IsTrue is → IsShownServed plan.now.inquiry) }
+    ensures { IfOk result (λ is. Shows (next_of S.coming) S.is_telling plan.now is socket.new) }
 {
     let round = round_of(alloc, socket, plan)?;
     match print(plan, round.first, &round.reports, out) {
@@ -171,8 +174,9 @@ pub fn status<S: DatagramSocket, W: Write, E: Write>(
     err: &mut E,
 ) -> u8
     ensures status { result ≤ 1 }
-    // Status 0 only where the reports to some round show that the cluster is served.
-    ensures served { result ≡ 0 → IsShownServed plan.now.inquiry }
+    // Status 0 only where the reports to some round show that the cluster is served: they are what was heard then, each
+    // a datagram that came and reads as that report.
+    ensures served { result ≡ 0 → IsShownServed (next_of S.coming) S.is_telling plan.now.inquiry socket.new }
 {
     match ask_and_print(alloc, socket, plan, out) {
         Ok(true) => 0,

@@ -1,6 +1,8 @@
 //! Which nodes are asked, and by whose key.
 
-ghost use Rattle.std.specs.Prelude.{◌≡◌, None};
+ghost use Rattle.std.specs.Prelude.{◌≡◌, None, is_some};
+ghost use Rattle.lk_probe.specs.Grammar.{or_zero};
+ghost use Rattle.lk_status.specs.Rounds.{has_token};
 
 use lk_arguments::member::member_of;
 use lk_arguments::operation::port_of;
@@ -61,7 +63,9 @@ pub fn targets_of(alloc: Global, words: &[&str]) -> Result<Option<Vec<Target>>, 
 
 impl Inquiry {
     /// The client that its frames name, 0 where it has no key.
-    pub fn client_number(&self) -> u16 {
+    pub fn client_number(&self) -> u16
+        ensures { result ≡ or_zero self.now.client }
+    {
         match self.client {
             Some(client) => client.get(),
             None => 0,
@@ -106,11 +110,20 @@ impl Inquiry {
 }
 
 /// The report with that token.
-pub fn report_with<'a>(reports: &'a [Report], token: u64) -> Option<&'a Report> {
+pub fn report_with<'a>(reports: &'a [Report], token: u64) -> Option<&'a Report>
+    ensures { is_some result ≡ has_token token reports.now }
+{
     for report in reports {
         if report.token == token {
             return Some(report);
         }
     }
     None
+}
+
+/// Whether one of the reports has that token.
+pub fn is_answered(reports: &[Report], token: u64) -> bool
+    ensures { result ≡ has_token token reports.now }
+{
+    report_with(reports, token).is_some()
 }

@@ -1,6 +1,7 @@
-use Rattle.lk_status.specs.Rounds.{AreOfRound}
+use Rattle.lk_transport.specs.Hearing.{next_of}
+use Rattle.lk_status.specs.Rounds.{AreHeard}
 use Rattle.lk_status.proofs.status.wait_until_ready.Given as goal
 
 -- the last round has reports of its own
 abbrev pub invariant-rounds : goal.invariant-rounds
-invariant-rounds g l = AreOfRound l.inquiry l.round.first l.round.reports.items
+invariant-rounds g l = AreHeard (next_of g.S.DatagramSocket.coming) l.inquiry l.round.first g.S.DatagramSocket.is_telling l.round.reports.items l.socket
