@@ -1,4 +1,5 @@
 mod Free
+mod Probed
 mod Carrying
 mod Sayings
 mod Gatherings

@@ -1,9 +1,11 @@
--- What a server takes if the nodes have a key.
+-- What a server takes, and which probes it keeps, if the nodes have a key.
 use Rattle.std.specs.Prelude.{◌≡◌, ◌⊎◌, ℕ, List}
 use Rattle.lk_types.specs.declared.command.Request.{Request}
 use Rattle.lk_wire.specs.Grammar.{Spells}
 use Rattle.lk_wire.specs.declared.message.Message.{Message}
 use Rattle.lk_wire.specs.declared.message.Content.TheVariants as content
+use Rattle.lk_probe.specs.Grammar.{or_zero}
+use Rattle.lk_probe.specs.declared.probe.Probe.{Probe}
 use Rattle.lk_seal.specs.Seals.{key_list, to_node, heard, IsSealedBy}
 use Rattle.lk_seal.specs.Vouching.{IsSealedByClient}
 use Rattle.lk_seal.specs.declared.seals.Seals.{Seals}
@@ -24,3 +26,12 @@ IsAskedByItsClient s frame = (m : Message) → Spells m (heard s frame) → (r :
 -- what is taken from a frame was sealed for this node by someone who has a key of the nodes, or its client asks it
 abbrev pub IsToldOrAsked : Seals → List ℕ → Type 0
 IsToldOrAsked s frame = IsSealedBy (key_list s.nodes) (to_node s s.node) frame (heard s frame) ⊎ IsAskedByItsClient s frame
+
+-- someone who has a key of the nodes sealed a probe for this node
+abbrev pub IsProbedByANode : Seals → List ℕ → Type 0
+IsProbedByANode s frame = IsSealedBy (key_list s.nodes) (to_node s s.node) frame (heard s frame)
+
+-- so did a node, or someone who has the key of the client that the probe names; where it names none, that of client 0,
+-- which only the masters yield and no client is given
+abbrev pub IsProbedByWhomItNames : Seals → List ℕ → Probe → Type 0
+IsProbedByWhomItNames s frame p = IsProbedByANode s frame ⊎ IsSealedByClient s (or_zero p.client) frame (heard s frame)

@@ -1,9 +1,12 @@
 //! Laws about the input of a server.
 
-ghost use Rattle.std.specs.Prelude.{◌≢◌, ℕ, List, []};
+ghost use Rattle.std.specs.Prelude.{◌≡◌, ◌≢◌, ℕ, List, [], Some, IsSome};
+ghost use Rattle.std.specs.declared.net.socket_addr.SocketAddr.{SocketAddr};
 ghost use Rattle.lk_seal.specs.Seals.{key_list};
 ghost use Rattle.lk_seal.specs.declared.seals.Seals.{Seals};
-ghost use Rattle.lk_server.specs.Premises.{IsToldByANode, IsToldOrAsked};
+ghost use Rattle.lk_transport.specs.Askers.{IsKeptOf};
+ghost use Rattle.lk_transport.specs.declared.asked.Asked.{Asked};
+ghost use Rattle.lk_server.specs.Premises.{IsToldByANode, IsToldOrAsked, IsProbedByANode, IsProbedByWhomItNames};
 
 /// If the nodes have a key, whatever a server takes from a frame was sealed for this node by someone who has one of
 /// the nodes' keys, or it is no node's message: it is a client's request, or it does not parse.
@@ -15,4 +18,12 @@ pub fn is_told_by_a_node()
 /// the client that it names. No client can act as another.
 pub fn is_told_or_asked()
     ensures { (s : Seals) (frame : List ℕ) → key_list s.nodes ≢ [] → key_list s.clients ≢ [] → IsToldOrAsked s frame }
+{}
+
+/// A probe that is kept was sealed by whom it names. If nodes and clients have keys, someone has sealed it who has one
+/// of the nodes' keys, or the key of the client that it names. If the nodes alone have a key, no client is known, but a
+/// probe that names a node was sealed by one.
+pub fn is_probed_by_whom_it_names()
+    ensures keys { (s : Seals) (d : SocketAddr × List ℕ) (a : Asked) → key_list s.nodes ≢ [] → key_list s.clients ≢ [] → IsKeptOf s d (Some a) → IsProbedByWhomItNames s d.1 a.probe }
+    ensures node { (s : Seals) (d : SocketAddr × List ℕ) (a : Asked) → key_list s.nodes ≢ [] → key_list s.clients ≡ [] → IsSome a.probe.node → IsKeptOf s d (Some a) → IsProbedByANode s d.1 }
 {}
