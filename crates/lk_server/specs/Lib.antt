@@ -5,3 +5,4 @@ pub mod Probes
 pub mod Statuses
 pub mod Sayings
 pub mod Premises
+pub mod TableVersions

@@ -97,6 +97,7 @@ impl<R: NodeReplica, S: DatagramSocket + Drop> Server<R, S> {
         let gathered = self.replica.gather(input, group);
         let after = self.replica.status();
         self.happened.note(came, &before, &after);
+        self.table = self.table.after_step(&before, &after);
         log_changes(log, came, &before, &after);
         log_served(log, came, group.letters().len().saturating_sub(said));
         match gathered {

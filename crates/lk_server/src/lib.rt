@@ -15,4 +15,5 @@ mod probing;
 pub mod replica_status;
 pub mod server;
 pub mod shown;
+pub mod table_version;
 pub mod watching;

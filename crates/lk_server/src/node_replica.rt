@@ -1,19 +1,22 @@
 //! A replica as a server runs it.
 
-ghost use Rattle.std.specs.Prelude.{◌≡◌, ℕ, List, [], ◌∷◌, ◌++◌, Option, Bool, true, false, IfOk, OnOk, OnErr, IfErr};
+ghost use Rattle.std.specs.Prelude.{◌≡◌, ℕ, List, [], ◌∷◌, ◌++◌, Option, Bool, true, false, IfOk, OnOk, OnErr, IfErr, IfSome};
 ghost use Rattle.lk_step.specs.Letters.{LetterValue};
 ghost use Rattle.lk_node.specs.Calls.{heard_by};
 ghost use Rattle.lk_recovery.specs.Faults.{fault_number};
 ghost use Rattle.lk_replica.specs.Groups.{GroupValue};
 ghost use Rattle.lk_replica.specs.Posts.{GivesLetters, TellsSends};
+ghost use Rattle.lk_state.specs.Packed.{packed};
 ghost use Rattle.lk_server.specs.Sayings.{GathersOf, SaysOf};
 ghost use Rattle.lk_server.specs.Gatherings.{GathersMore, SaysNoMore};
 ghost use Rattle.lk_server.specs.Probes.{IsShown};
 ghost use Rattle.lk_server.specs.Statuses.{IsStatusOf};
+ghost use Rattle.lk_server.specs.TableVersions.{TellsRaised};
 ghost use Rattle.lk_server.specs.declared.shown.Shown.{Shown as ShownValue};
 
 use crate::replica_status::ReplicaStatus;
 use crate::shown::Shown;
+use crate::table_version::is_raised;
 use lk_disk::LogDisk;
 use lk_recovery::ReplicaFault;
 use lk_replica::{Group, Post, Replica};
@@ -36,6 +39,9 @@ pub trait NodeReplica: Sized + Drop {
 
     /// What it shows of itself to whoever probes its node.
     ghost Shows: { Self → ShownValue → Type 0 };
+
+    /// What it may tell of whether its lock table was raised.
+    ghost IsRaised: { Self → Bool → Type 0 };
 
     /// Begins a group.
     fn begin(&self, alloc: Global) -> Group
@@ -68,6 +74,10 @@ pub trait NodeReplica: Sized + Drop {
     /// What it shows of itself to whoever probes its node.
     fn show(&self) -> Shown
         ensures { Shows self.now result };
+
+    /// Whether its lock table was raised, or `None` if it is out of memory. It packs and unpacks its state.
+    fn is_raised(&self, alloc: Global) -> Option<bool>
+        ensures { IfSome result (IsRaised self.now) };
 }
 
 impl<M: Machine, D: LogDisk + Drop> NodeReplica for Replica<M, D> {
@@ -78,6 +88,8 @@ impl<M: Machine, D: LogDisk + Drop> NodeReplica for Replica<M, D> {
     ghost Gathers = { λ start given group now. D.is_honest → GathersOf M.meaning M.IsText D.is_metered start given group now };
 
     ghost Shows = { IsShown };
+
+    ghost IsRaised = { λ r. TellsRaised M.meaning M.IsText (packed r.node.learner.whole) };
 
     fn begin(&self, alloc: Global) -> Group {
         Group::new(alloc)
@@ -107,5 +119,9 @@ impl<M: Machine, D: LogDisk + Drop> NodeReplica for Replica<M, D> {
 
     fn show(&self) -> Shown {
         Shown::of(self)
+    }
+
+    fn is_raised(&self, alloc: Global) -> Option<bool> {
+        is_raised(alloc, self.node())
     }
 }

@@ -6,16 +6,15 @@ ghost use Rattle.lk_server.specs.declared.shown.Shown.{Shown as ShownValue};
 
 use crate::node_replica::NodeReplica;
 use crate::server::Server;
+use crate::table_version::TableVersion;
 use lk_probe::{Identity, LENGTH, PROGRAM, Status, Traffic};
 use lk_transport::asked::Asked;
 use lk_transport::receive_buffer::ReceiveBuffer;
 use lk_transport::socket::DatagramSocket;
 
-/// The version of a lock table that a server does not know.
-const UNKNOWN: u8 = 0;
-
 impl<R: NodeReplica, S: DatagramSocket + Drop> Server<R, S> {
-    /// What it tells of its node: what the replica shows, the digest of the genesis, and what it has counted itself.
+    /// What it tells of its node: what the replica shows, the digest of the genesis, what it has counted itself, and
+    /// the version of the lock table, as it was last read.
     pub fn status(&self) -> Status
         ensures { (shown : ShownValue) × R.Shows self.now.replica shown × Tells self.now.addresses.seals.genesis shown result }
     {
@@ -25,7 +24,7 @@ impl<R: NodeReplica, S: DatagramSocket + Drop> Server<R, S> {
                 genesis: self.post.genesis(),
                 program: PROGRAM,
                 format: shown.format,
-                table: UNKNOWN,
+                table: self.table.number(),
             },
             leadership: shown.leadership,
             progress: shown.progress,
@@ -36,6 +35,14 @@ impl<R: NodeReplica, S: DatagramSocket + Drop> Server<R, S> {
                 ticks: self.ticks,
             },
             members: shown.members,
+        }
+    }
+
+    // The version of the lock table, which is read now if that has to be.
+    fn known_table(&self) -> TableVersion {
+        match self.table {
+            TableVersion::Unread => TableVersion::of(self.replica.is_raised(self.alloc)),
+            known => known,
         }
     }
 
@@ -58,6 +65,7 @@ impl<R: NodeReplica, S: DatagramSocket + Drop> Server<R, S> {
         let Some(asked) = buffer.take_asked() else {
             return;
         };
+        self.table = self.known_table();
         let report = self.report(&asked);
         if self.post.reply(&asked, &report).is_err() {
             self.unsent = self.unsent.saturating_add(1);

@@ -16,6 +16,7 @@ use crate::metronome::Metronome;
 use crate::node_replica::NodeReplica;
 use crate::notes::log_notes;
 use crate::pace::Pace;
+use crate::table_version::TableVersion;
 use crate::watching::log_carried;
 use lk_recovery::ReplicaFault;
 use lk_replica::Group;
@@ -48,6 +49,8 @@ pub struct Server<R: NodeReplica, S: DatagramSocket + Drop> {
     // the ticks that its replica was given, and the sends that failed, since its start
     pub(crate) ticks: u64,
     pub(crate) unsent: u64,
+    // what it knows of the version of the lock table
+    pub(crate) table: TableVersion,
 }
 
 impl<R: NodeReplica, S: DatagramSocket + Drop> Model for Server<R, S> {
@@ -92,6 +95,7 @@ impl<R: NodeReplica, S: DatagramSocket + Drop> Server<R, S> {
             happened: Happened::NOTHING,
             ticks: 0,
             unsent: 0,
+            table: TableVersion::Unread,
         }
     }
 
@@ -133,6 +137,7 @@ impl<R: NodeReplica, S: DatagramSocket + Drop> Server<R, S> {
             happened: _,
             ticks: _,
             unsent: _,
+            table: _,
         } = self;
         replica
     }
@@ -181,6 +186,7 @@ impl<R: NodeReplica, S: DatagramSocket + Drop> Server<R, S> {
         match self.hand_over(group, log) {
             Ok(_) => {
                 log_notes(log, group.notes());
+                self.table = self.table.after(group.notes());
                 Ok(())
             }
             Err(fault) => Err(ServiceFault::of_replica(&fault)),

@@ -63,6 +63,8 @@ impl NodeReplica for Told {
 
     ghost Shows = { λ _ _. ⊤ };
 
+    ghost IsRaised = { λ _ _. ⊤ };
+
     fn begin(&self, alloc: Global) -> Group {
         Group::new(alloc)
     }
@@ -93,6 +95,10 @@ impl NodeReplica for Told {
 
     fn show(&self) -> Shown {
         Shown::of(&self.probed)
+    }
+
+    fn is_raised(&self, _alloc: Global) -> Option<bool> {
+        None
     }
 }
 
