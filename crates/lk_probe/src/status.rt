@@ -58,7 +58,7 @@ pub struct Progress {
     pub executed: Executed,
     /// The position of its snapshot.
     pub snapshot: Executed,
-    /// How many of the next positions have other members than the next one.
+    /// How many positions, from the next one on, come before the last join or leave is in force.
     pub pending: u8,
 }
 
