@@ -16,6 +16,10 @@ STATE = bytes_of("0000000000000000 02 01 00000001 1b59 01 00000001 1b59 00000001
 HEADER = bytes_of("00000061 01 0000000000000001 02 0000000000000005 00000001 02 01 00000001 1b59 0000000000000000 00000000 0000000000000000 00000027")
 BASE = HEADER + STATE + bytes_of("0000 0000")
 
+# The same Base as a program wrote it that knew format 1 alone, and the Base that takes its place once (1, 1) is promised.
+OLD = bytes_of("00000061 01 0000000000000001 01 0000000000000005 00000001 02 01 00000001 1b59 0000000000000000 00000000 0000000000000000 00000027") + STATE + bytes_of("0000 0000")
+RENEWED = bytes_of("00000061 01 0000000000000002 02 0000000000000005 00000001 02 01 00000001 1b59 0000000000000001 00000001 0000000000000000 00000027") + STATE + bytes_of("0000 0000")
+
 # Entries: the promises of its first and its second ballot, in 17 bytes each, and a vote for a no-op at position 1, in 26.
 PROMISED = bytes_of("0000000d 02 0000000000000001 00000001")
 PROMISED_NEXT = bytes_of("0000000d 02 0000000000000002 00000001")
@@ -44,9 +48,9 @@ class FirstStoreTest(unittest.TestCase):
     def path(self, name):
         return os.path.join(self.folder, name)
 
-    def read(self):
-        """What stands in the file a."""
-        with open(self.path("a"), "rb") as file:
+    def read(self, name="a"):
+        """What stands in a file."""
+        with open(self.path(name), "rb") as file:
             return file.read()
 
     def write(self, data):
@@ -67,10 +71,10 @@ class FirstStoreTest(unittest.TestCase):
         node.kill()
         node.wait()
 
-    def wait_for(self, data):
-        """Waits until the file a has these bytes."""
+    def wait_for(self, data, name="a"):
+        """Waits until a file has these bytes."""
         end = time.monotonic() + 10.0
-        while not os.path.exists(self.path("a")) or self.read() != data:
+        while not os.path.exists(self.path(name)) or self.read(name) != data:
             self.assertLess(time.monotonic(), end, f"not {data.hex()}")
             time.sleep(0.02)
 
@@ -80,8 +84,8 @@ class FirstStoreTest(unittest.TestCase):
         return self.socket.recv(9000)
 
     def test_the_first_bytes_have_these_lengths(self):
-        lengths = [len(it) for it in (STATE, BASE, BASE + PROMISED, VOTED)]
-        self.assertEqual(lengths, [39, 101, 118, 26])
+        lengths = [len(it) for it in (STATE, BASE, BASE + PROMISED, VOTED, OLD, RENEWED)]
+        self.assertEqual(lengths, [39, 101, 118, 26, 101, 101])
 
     def test_a_torn_vote_is_cut_off_and_was_never_cast(self):
         node = self.start()
@@ -94,6 +98,15 @@ class FirstStoreTest(unittest.TestCase):
         self.wait_for(BASE + PROMISED + PROMISED_NEXT)
         self.assertEqual(self.asked(PREPARE).hex(), PROMISE.hex())
         self.stop(node)
+
+    def test_a_store_of_format_1_is_written_anew_in_the_other_file(self):
+        for rest in (b"", VOTED[:5]):
+            with self.subTest(rest=rest.hex()):
+                self.write(OLD + PROMISED + rest)
+                node = self.start()
+                self.wait_for(RENEWED + PROMISED_NEXT, "b")  # it begins its second ballot at its fourth tick
+                self.assertEqual(self.read("a"), b"")
+                self.stop(node)
 
     def test_each_rest_is_cut_off_or_damage(self):
         for rest, is_torn in RESTS:

@@ -1,4 +1,5 @@
 """A node answers a probe by a report as long as it, and passes over what only begins as one."""
+import hashlib
 import os
 import socket
 import struct
@@ -6,13 +7,29 @@ import tempfile
 import time
 import unittest
 
-from harness.cluster import Cluster
+from harness.by_bytes import Node, bytes_of
+from harness.cluster import Cluster, free_ports
 
 PROGRAM = os.environ.get("LOCKS_PROGRAM")
 
 LENGTH = 174
 REPORT = struct.Struct(">4sQIHQ32s3sBBBIQQIQQB")
 CLUSTER = 5
+
+# The first Base of node 2 of three with alpha 2, and entries by which node 4 joins at position 1 and node 1 leaves at 2.
+MEMBERS = "03 00000001 1b59 00000002 1b5a 00000003 1b5b"
+BEGUN = (
+    f"00000085 01 0000000000000001 02 0000000000000005 00000002 02 {MEMBERS} 0000000000000000 00000000 0000000000000000"
+    f" 0000003f 0000000000000000 02 {MEMBERS} {MEMBERS} 00000003 0000000000000000 0000 0000 0000 0000"
+)
+JOIN = "0000001b 04 0000000000000001 01 0009 0000000000000001 01 00000004 1b5c"
+LEAVE = "00000019 04 0000000000000002 01 0009 0000000000000002 02 00000001"
+
+# What it reports then: up to the digest of its genesis, the program and the store; two positions executed, no snapshot, and one
+# position until the leave is in force; and the members of position 3.
+FRONT = "4c50010a 0000000000000005 00000002 0000 0000000000000007"
+PROGRESS = "0000000000000002 0000000000000000 01"
+NEXT = "04 00000001 1b59 00000002 1b5a 00000003 1b5b 00000004 1b5c"
 
 
 def probe(cluster=CLUSTER, node=0, client=0, token=1):
@@ -51,6 +68,21 @@ class ProbesTest(unittest.TestCase):
             self.assertEqual((magic, cluster, told, client, token), (b"LP\x01\x0a", CLUSTER, node, 0, node))
             self.assertEqual(answer[131], 3)
 
+    def counts(self, node):
+        """How many datagrams a node could not read, and how many ticks it has counted."""
+        unread, _, ticks = struct.unpack(">QQQ", self.awaited(node, probe())[107:131])
+        return unread, ticks
+
+    def test_a_report_counts_what_does_not_read_and_ticks(self):
+        before = self.counts(1)
+        for datagram in (b"", b"LK", b"\0" * 16, b"LK\x01\x0d" + bytes(28), b"LK\x01\x09" + (6).to_bytes(8, "big") + bytes(4)):
+            self.socket.sendto(datagram, ("127.0.0.1", self.cluster.ports[1]))
+        end = time.monotonic() + 30.0
+        while (after := self.counts(1))[0] < before[0] + 5 or after[1] < before[1] + 2:
+            self.assertLess(time.monotonic(), end, (before, after))
+            time.sleep(0.05)
+        self.assertEqual(after[0], before[0] + 5)
+
     def test_all_nodes_tell_one_genesis(self):
         self.assertEqual(len({self.awaited(node, probe())[26:58] for node in self.cluster.ports}), 1)
 
@@ -59,6 +91,25 @@ class ProbesTest(unittest.TestCase):
         for datagram in (probe(cluster=6), probe()[:-1], probe() + b"\0", probe()[:-1] + b"\1", b"LP", b"LP\x01\x0a" + probe()[4:]):
             self.assertIsNone(self.report(1, datagram, 0.2), datagram)
         self.assertIsNotNone(self.report(1, probe()))
+
+
+@unittest.skipUnless(PROGRAM, "LOCKS_PROGRAM does not tell the program")
+class ReportTest(unittest.TestCase):
+    """Node 2 of three, whose others are silent."""
+
+    def test_a_report_has_these_bytes(self):
+        node = self.enterContext(Node(PROGRAM, self.enterContext(tempfile.TemporaryDirectory()), alpha=2))
+        node.ports += free_ports(1)
+        node.write(node.bytes_of(BEGUN, JOIN, LEAVE))
+        self.assertEqual((node.start(), node.runs), (f"port {node.ports[1]}", [1, 2]))
+        it = self.enterContext(node.bound(0))
+        it.sendto(probe(token=7), ("127.0.0.1", node.ports[1]))
+        report = it.recv(9000)
+        genesis = hashlib.sha256(node.bytes_of("0000000000000005 02", MEMBERS)).digest()
+        self.assertEqual((len(report), report[:26].hex(), report[26:58]), (LENGTH, bytes_of(FRONT).hex(), genesis))
+        self.assertEqual((report[58:62].hex(), report[63:68].hex()), ("00010002", "0000000000"))  # it leads not, and knows no leader
+        self.assertEqual((report[88:105].hex(), report[105:107]), (bytes_of(PROGRESS).hex(), b"\0\0"))
+        self.assertEqual(report[131:].hex(), node.bytes_of(NEXT).hex().ljust(2 * (LENGTH - 131), "0"))
 
 
 if __name__ == "__main__":
