@@ -90,6 +90,10 @@ abbrev pub IsAmong : List ℕ → List (List ℕ) → Type 0
 IsAmong key [] = ⊥
 IsAmong key (other ∷ keys) = (key ≡ other) ⊎ IsAmong key keys
 
+-- some key is one of these and one of those
+abbrev pub Share : List (List ℕ) → List (List ℕ) → Type 0
+Share keys others = (key : List ℕ) × IsAmong key keys × IsAmong key others
+
 -- what that client takes from what arrives: a node's reply to it; everything unchanged if there is no key
 abbrev pub replied : List (List ℕ) → ℕ → ℕ → List ℕ → List ℕ
 replied [] cluster client frame = frame

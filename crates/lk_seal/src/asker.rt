@@ -1,6 +1,6 @@
 //! How a client opens what arrives at its socket, and seals the requests that it sends.
 
-ghost use Rattle.std.specs.Prelude.{◌≡◌, IfOk};
+ghost use Rattle.std.specs.Prelude.{◌≡◌, ◌≢◌, [], IfOk, IsErr};
 ghost use Rattle.lk_seal.specs.Seals.{key_list, no_genesis, asking, framed_by, replied};
 
 use crate::frame::{DIGEST, Purpose, Scope};
@@ -35,6 +35,8 @@ impl AskerSeals {
         frame: &'a mut Vec<u8>,
     ) -> Result<&'a [u8], AllocError>
         ensures ok { IfOk result (λ f. f.now ≡ framed_by (key_list self.now.keys) (asking self.now.cluster client) request.now) }
+        // Only a frame needs memory.
+        ensures refused { IsErr result → key_list self.now.keys ≢ [] }
     {
         self.keys
             .frame_of(&self.scope(Purpose::Asking, client), request, frame)

@@ -1,6 +1,6 @@
 ghost use Rattle.std.specs.Prelude.{◌≡◌, ◌≢◌, ◌↔◌, [], ℕ, List, Some, None, IsTrue, IfSome, IsNone, IfOk, IsErr};
 ghost use Rattle.lk_seal.specs.Clients.{client_keys};
-ghost use Rattle.lk_seal.specs.Seals.{key_list, opened_by, framed_by};
+ghost use Rattle.lk_seal.specs.Seals.{key_list, opened_by, framed_by, IsAmong, Share};
 
 use crate::frame::{Scope, open, seal};
 use crate::key::Key;
@@ -23,7 +23,9 @@ impl Keys {
     }
 
     /// Whether it is one of them.
-    fn has(&self, key: &Key) -> bool {
+    fn has(&self, key: &Key) -> bool
+        ensures { IsTrue result ↔ IsAmong key.now (key_list self.now) }
+    {
         match self {
             Keys::NoKey => false,
             Keys::One(own) => own.is_same(key),
@@ -32,7 +34,9 @@ impl Keys {
     }
 
     /// Whether some key is in both sets.
-    pub fn meets(&self, others: &Keys) -> bool {
+    pub fn meets(&self, others: &Keys) -> bool
+        ensures { IsTrue result ↔ Share (key_list self.now) (key_list others.now) }
+    {
         match others {
             Keys::NoKey => false,
             Keys::One(key) => self.has(key),
