@@ -5,11 +5,22 @@ use Rattle.lk_events.specs.declared.event.Event.TheVariants.{Leaderless, Behind,
 use Rattle.lk_events.specs.declared.quiet.Quiet.{Quiet}
 use Rattle.lk_events.specs.declared.quiet.Lag.{Lag}
 
+-- that time, or this one where there was none
+abbrev pub first_time : Option ℕ → ℕ → ℕ
+first_time None now = now
+first_time (Some time) now = time
+
+-- when it first asked: now, where it has not asked before
+abbrev pub first_asked : Option (ℕ × ℕ) → ℕ → ℕ
+first_asked None now = now
+first_asked (Some asked) now = asked.0
+
 -- there has been no leader for so many whole seconds: two or more, and twice those that were told or more
 pub record IsQuiet (quiet : Quiet) (now seconds : ℕ) : Type 0 where
   pub since : ℕ
   pub begun : quiet.since ≡ Some since
   pub passed : since + seconds * 1000 ≤ now
+  pub whole : now < since + (seconds + 1) * 1000
   pub long : 2 ≤ seconds
   pub doubled : 2 * quiet.told ≤ seconds
 

@@ -18,6 +18,10 @@ abbrev pub others_with : Option (ℕ × Event) → ℕ → ℕ
 others_with None others = others
 others_with (Some waiting) others = one_more others
 
+-- nothing has happened
+abbrev pub empty : Slot
+empty = record { newest = None; others = 0; told = None }
+
 -- after one event more, which is the newest then
 abbrev pub having_put : ℕ → Event → Slot → Slot
 having_put now event slot = record { newest = Some (now, event); others = others_with slot.newest slot.others; told = slot.told }

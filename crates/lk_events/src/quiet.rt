@@ -1,7 +1,8 @@
 //! What is told as time passes: that there is no leader, and that a node is behind. Times are milliseconds since 1970.
 
-ghost use Rattle.std.specs.Prelude.{◌≡◌, true, false, IfSome, IsSome};
-ghost use Rattle.lk_events.specs.Quiets.{IsQuietNews, IsBehind, HasRested, IsLagNews};
+ghost use Rattle.std.specs.Prelude.{◌≡◌, ◌⊎◌, Some, None, true, false, IfSome, IsSome, IsNone};
+ghost use Rattle.lk_events.specs.Quiets.{first_time, first_asked, IsQuietNews, IsBehind, HasRested, IsLagNews};
+ghost use Rattle.lk_events.specs.declared.event.Event.{Event as EventValue};
 ghost use Rattle.lk_events.specs.declared.event.Event.TheVariants.{Leaderless, Behind, CaughtUp};
 
 use crate::event::Event;
@@ -41,7 +42,10 @@ impl Quiet {
     /// It has none now. After two seconds that is news, and again each time that they have doubled.
     fn last(&mut self, now: u64) -> Option<Event>
         ensures some { IfSome result (IsQuietNews self.old now) }
+        ensures none { IsNone result → (e : EventValue) → IsQuietNews self.old now e → ⊥ }
         ensures told { IfSome result (λ e. e ≡ Leaderless self.new.told) }
+        ensures kept { IsNone result → self.new.told ≡ self.old.told }
+        ensures since { self.new.since ≡ Some (first_time self.old.since now) }
     {
         let Some(since) = self.since else {
             self.since = Some(now);
@@ -57,7 +61,11 @@ impl Quiet {
 
     /// A turn has passed.
     pub fn turn(&mut self, now: u64, has_leader: bool) -> Option<Event>
-        ensures { IfSome result (λ e. (has_leader ≡ false) × IsQuietNews self.old now e) }
+        ensures some { IfSome result (λ e. (has_leader ≡ false) × IsQuietNews self.old now e) }
+        // What is news is told.
+        ensures none { IsNone result → (has_leader ≡ true) ⊎ ((e : EventValue) → IsQuietNews self.old now e → ⊥) }
+        ensures leader { has_leader ≡ true → self.new ≡ record { since = None; told = 0 } }
+        ensures since { has_leader ≡ false → self.new.since ≡ Some (first_time self.old.since now) }
     {
         if has_leader {
             *self = Quiet::NONE;
@@ -77,7 +85,10 @@ impl Lag {
     /// It has asked that node. Where it has done so for a second it is behind.
     fn ask(&mut self, now: u64, node: NodeNo) -> Option<Event>
         ensures some { IfSome result (λ e. (e ≡ Behind node) × IsBehind self.old now) }
+        ensures none { IsNone result → IsBehind self.old now → ⊥ }
         ensures told { IsSome result → self.new.told ≡ true }
+        ensures kept { IsNone result → self.new.told ≡ self.old.told }
+        ensures asked { self.new.asked ≡ Some (first_asked self.old.asked now, now) }
     {
         let Some((first, _)) = self.asked else {
             self.asked = Some((now, now));
@@ -94,6 +105,7 @@ impl Lag {
     /// It has asked nobody. Where it has done so for a second it is not behind any more.
     fn rest(&mut self, now: u64, executed: Executed) -> Option<Event>
         ensures some { IfSome result (λ e. (e ≡ CaughtUp executed) × HasRested self.old now) }
+        ensures none { IsNone result → HasRested self.old now → ⊥ }
         ensures told { IsSome result → self.new.told ≡ false }
     {
         let Some((_, last)) = self.asked else {
@@ -112,7 +124,9 @@ impl Lag {
 
     /// A turn has passed, in which it asked that node, or nobody.
     pub fn turn(&mut self, now: u64, wanted: Option<NodeNo>, executed: Executed) -> Option<Event>
-        ensures { IfSome result (IsLagNews self.old now wanted executed) }
+        ensures some { IfSome result (IsLagNews self.old now wanted executed) }
+        // What is news is told.
+        ensures none { IsNone result → (e : EventValue) → IsLagNews self.old now wanted executed e → ⊥ }
     {
         match wanted {
             Some(node) => self.ask(now, node),

@@ -1,6 +1,9 @@
 //! What waits to be told of a node, kind by kind.
 
-ghost use Rattle.std.specs.Prelude.{◌≡◌, None, IfSome};
+ghost use Rattle.std.specs.Prelude.{◌≡◌, replicate, slice_get, Some, None, IfSome};
+ghost use Rattle.lk_events.specs.Kinds.{kinds};
+ghost use Rattle.lk_events.specs.Slots.{empty, Waits};
+ghost use Rattle.lk_events.specs.declared.slot.Slot.{Slot as SlotValue};
 ghost use Rattle.lk_events.specs.Watches.{Puts, TakesOut};
 
 use crate::event::{Event, KINDS};
@@ -14,7 +17,9 @@ pub struct Slots {
 
 impl Slots {
     /// Nothing waits of any kind.
-    pub fn new() -> Slots {
+    pub fn new() -> Slots
+        ensures { result.all ≡ replicate kinds empty }
+    {
         Slots {
             all: [
                 Slot::EMPTY,
@@ -44,7 +49,10 @@ impl Slots {
     }
 
     /// This has happened, if anything has.
-    pub fn put_some(&mut self, now: u64, event: Option<Event>) {
+    pub fn put_some(&mut self, now: u64, event: Option<Event>)
+        ensures some { IfSome event (λ e. Puts now e self.old.all self.new.all) }
+        ensures none { event ≡ None → self.new ≡ self.old }
+    {
         if let Some(event) = event {
             self.put(now, event);
         }
@@ -54,6 +62,7 @@ impl Slots {
     pub fn take(&mut self, kind: usize, now: u64) -> Option<Line>
         ensures line { IfSome result (λ line. TakesOut kind now line self.old.all self.new.all) }
         ensures none { result ≡ None → self.new ≡ self.old }
+        ensures waits { result ≡ None → (slot : SlotValue) → slice_get self.old.all kind ≡ Some slot → Waits slot now }
     {
         if kind >= KINDS {
             return None;

@@ -1,8 +1,11 @@
 //! What is told of a node, from turn to turn.
 
-ghost use Rattle.std.specs.Prelude.{◌≡◌, None, IfSome};
+ghost use Rattle.std.specs.Prelude.{◌≡◌, replicate, slice_get, Some, None, IfSome};
+ghost use Rattle.lk_events.specs.Kinds.{kinds};
 ghost use Rattle.lk_events.specs.News.{told_with};
-ghost use Rattle.lk_events.specs.Watches.{TakesOut};
+ghost use Rattle.lk_events.specs.Slots.{empty, Waits};
+ghost use Rattle.lk_events.specs.declared.slot.Slot.{Slot as SlotValue};
+ghost use Rattle.lk_events.specs.Watches.{Puts, TakesOut};
 
 use crate::event::Event;
 use crate::quiet::{Lag, Quiet};
@@ -22,7 +25,9 @@ pub struct Watch {
 
 impl Watch {
     /// Nothing but this was seen of the node, and nothing waits.
-    pub fn new(view: View) -> Watch {
+    pub fn new(view: View) -> Watch
+        ensures { result.slots.all ≡ replicate kinds empty }
+    {
         Watch {
             story: Story::of(view),
             quiet: Quiet::NONE,
@@ -32,7 +37,10 @@ impl Watch {
     }
 
     /// This has happened.
-    pub fn put(&mut self, now: u64, event: Event) {
+    pub fn put(&mut self, now: u64, event: Event)
+        ensures puts { Puts now event self.old.slots.all self.new.slots.all }
+        ensures others { self.new ≡ record self.old { slots = self.new.slots } }
+    {
         self.slots.put(now, event);
     }
 
@@ -59,6 +67,7 @@ impl Watch {
     pub fn take(&mut self, kind: usize, now: u64) -> Option<Line>
         ensures line { IfSome result (λ line. TakesOut kind now line self.old.slots.all self.new.slots.all) }
         ensures none { result ≡ None → self.new ≡ self.old }
+        ensures waits { result ≡ None → (slot : SlotValue) → slice_get self.old.slots.all kind ≡ Some slot → Waits slot now }
     {
         self.slots.take(kind, now)
     }
