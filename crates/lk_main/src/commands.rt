@@ -35,10 +35,10 @@ type Usage<'a> = (&'a str, &'a str, &'a [Row<'a>]);
 #[rattlefmt::skip]
 const SUBCOMMANDS: &[Usage] = &[
     ("sim", "runs a script from standard input", &[
-        (Kind::Flag, "state", "prints after the last line what the disks of each node hold, as inspect does, and what of them is synced"),
+        (Kind::Flag, "state", "prints, after the last line, what the disks of each node hold, as inspect does, and how much of it is synced"),
     ]),
     ("fuzz", "runs random events in a world of three nodes", &[
-        (Kind::Word, "start", "the number that the events are drawn from"),
+        (Kind::Word, "start", "the seed of the events"),
         (Kind::Word, "events", "how many events, 0 to 20000"),
         (Kind::Flag, "groups", "nodes also take several datagrams as one group"),
         (Kind::Flag, "script", "prints a script of what happens, for sim"),
@@ -51,15 +51,15 @@ const SUBCOMMANDS: &[Usage] = &[
         (Kind::Given, "hosts", "a file of lines NODE ADDRESS: where each node lives"),
         (Kind::Given, "bind", "the address at which the node listens"),
         (Kind::Given, "key", "the file of the key that the nodes share"),
-        (Kind::Given, "client-key", "the file of the master of which the clients' keys are made"),
-        (Kind::Given, "ticks", "what brings ticks: datagrams, or clock (each 100 ms, and always where there is a key)"),
-        (Kind::Flag, "events", "tells on standard error, with the time, what an operator wants to know of the node"),
-        (Kind::Flag, "log", "tells on standard error what is counted and run"),
-        (Kind::Flag, "verbose", "tells on standard error what --log does, and what else happens to the node"),
+        (Kind::Given, "client-key", "the file of the master from which the clients' keys are derived"),
+        (Kind::Given, "ticks", "what ticks go by: datagrams, or clock (each 100 ms; always with a key)"),
+        (Kind::Flag, "events", "writes what an operator wants to know to standard error, with the time"),
+        (Kind::Flag, "log", "writes each position that is counted or executed to standard error"),
+        (Kind::Flag, "verbose", "writes what --log does, and what else happens to the node"),
     ]),
-    ("ask", "asks a node once, and prints what it is answered", &[
+    ("ask", "sends a request to a node, and prints the reply", &[
         (Kind::Word, "cluster", "the number of the cluster"),
-        (Kind::Several, "port", "the port of a node; with several, the next one is asked where nothing comes"),
+        (Kind::Several, "port", "the port of a node; with several, the next one is asked if no reply comes"),
         (Kind::Given, "address", "the address of that node"),
         (Kind::Given, "hosts", "a file of lines NODE ADDRESS: where each node lives"),
         (Kind::Given, "client-key", "the file of the client's key"),
@@ -67,27 +67,27 @@ const SUBCOMMANDS: &[Usage] = &[
         (Kind::Word, "request", "the number of the request, higher each time"),
         (Kind::Words, "op", "acquire NAME, release NAME FENCE, ask NAME, check NAME FENCE, share NAME, break NAME FENCE, join NODE PORT, leave NODE, raise 2 or raw HEX"),
     ]),
-    ("status", "asks nodes at once how the cluster stands, and prints a line for each", &[
+    ("status", "asks several nodes for their status, and prints a line for each", &[
         (Kind::Word, "cluster", "the number of the cluster"),
         (Kind::Many, "port", "PORT or NODE:PORT of each node that is asked"),
-        (Kind::Given, "address", "the address of the nodes that no hosts name"),
+        (Kind::Given, "address", "the address of the nodes that the hosts do not name"),
         (Kind::Given, "hosts", "a file of lines NODE ADDRESS: where each node lives"),
         (Kind::Given, "client", "the number of the client whose key is given"),
         (Kind::Given, "client-key", "the file of that client's key"),
         (Kind::Flag, "json", "prints one object of JSON"),
-        (Kind::Flag, "prometheus", "prints metrics, as node_exporter's textfile collector takes them"),
-        (Kind::Given, "wait", "how long silent nodes are waited for, in milliseconds: 500 by default"),
-        (Kind::Pair, "until", "ready SECONDS: waits so long at most until all nodes have executed what the leader has"),
+        (Kind::Flag, "prometheus", "prints metrics for node_exporter's textfile collector"),
+        (Kind::Given, "wait", "how long to wait for silent nodes, in milliseconds; 500 by default"),
+        (Kind::Pair, "until", "ready SECONDS: waits up to this long until all nodes have executed what the leader had at first"),
     ]),
     ("demo", "shows three nodes and two clients", &[]),
-    ("dump", "prints what stands in the store of a folder", &[
+    ("dump", "prints the generation, the promise and the counts of a folder's store", &[
         (Kind::Word, "dir", "the folder of a node's files"),
     ]),
-    ("inspect", "prints what the store of a folder comes to", &[
+    ("inspect", "prints the members, the locks and the position of a folder's store", &[
         (Kind::Word, "dir", "the folder of a node's files"),
     ]),
     ("client-key", "prints the key of a client", &[
-        (Kind::Word, "master", "the file of the master of which the clients' keys are made"),
+        (Kind::Word, "master", "the file of the master from which the clients' keys are derived"),
         (Kind::Word, "client", "the number of the client, 1 to 256"),
     ]),
 ];
