@@ -1,6 +1,6 @@
 //! The key of a client, and the frames of docs/FORMATS.md that it makes.
 
-use crate::sha256::{DIGEST, hmac};
+use crate::sha256::{DIGEST, Mac};
 use crate::{ClientId, ClusterId, Error};
 use std::fmt;
 
@@ -24,7 +24,7 @@ const NO_GENESIS: [u8; DIGEST] = [0; DIGEST];
 /// ```
 #[derive(Clone, PartialEq, Eq)]
 pub struct Keys {
-    keys: Vec<[u8; DIGEST]>,
+    keys: Vec<Mac>,
 }
 
 /// Shows how many there are, and none of them.
@@ -34,8 +34,8 @@ impl fmt::Debug for Keys {
     }
 }
 
-/// The bytes of 64 hex digits.
-fn key_of(line: &str) -> Option<[u8; DIGEST]> {
+/// The key of 64 hex digits.
+fn key_of(line: &str) -> Option<Mac> {
     if line.len() != 2 * DIGEST || !line.bytes().all(|byte| byte.is_ascii_hexdigit()) {
         return None;
     }
@@ -43,7 +43,7 @@ fn key_of(line: &str) -> Option<[u8; DIGEST]> {
     for (at, byte) in key.iter_mut().enumerate() {
         *byte = u8::from_str_radix(&line[2 * at..2 * at + 2], 16).ok()?;
     }
-    Some(key)
+    Some(Mac::new(&key))
 }
 
 impl Keys {
@@ -79,13 +79,13 @@ impl Seals {
     fn frame(
         &self,
         (head, label): ([u8; HEAD], &[u8; 16]),
-        key: &[u8; DIGEST],
+        key: &Mac,
         datagram: &[u8],
     ) -> Vec<u8> {
         let cluster = self.cluster.get().to_be_bytes();
         let client = u32::from(self.client.get()).to_be_bytes();
         let message = [label, cluster.as_slice(), &NO_GENESIS, &client, datagram].concat();
-        [head.as_slice(), &hmac(key, &message), datagram].concat()
+        [head.as_slice(), &key.tag(&message), datagram].concat()
     }
 
     /// What is sent of a request.
@@ -117,7 +117,7 @@ fn is_same(left: &[u8], right: &[u8]) -> bool {
 mod tests {
     use super::{Keys, Seals};
     use crate::golden::{each, hex, text_of};
-    use crate::sha256::hmac;
+    use crate::sha256::Mac;
 
     /// The seals of the words CLUSTER CLIENT KEY.
     fn seals(words: &[String]) -> Seals {
@@ -133,7 +133,7 @@ mod tests {
         each("client-key", |words| {
             let client: u16 = words[1].parse().unwrap();
             let label = [b"locks v1 client".as_slice(), &client.to_be_bytes()].concat();
-            assert_eq!(text_of(&hmac(&hex(&words[2]), &label)), words[0]);
+            assert_eq!(text_of(&Mac::new(&hex(&words[2])).tag(&label)), words[0]);
         });
     }
 

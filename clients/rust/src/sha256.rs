@@ -72,13 +72,13 @@ fn after(state: [u32; 8], block: &[u8]) -> [u32; 8] {
     std::array::from_fn(|at| state[at].wrapping_add(mixed[at]))
 }
 
-/// The digest of a message.
-pub(crate) fn digest(message: &[u8]) -> [u8; DIGEST] {
-    let mut padded = message.to_vec();
+/// The digest of a message, given the state after its first bytes, which are whole blocks.
+fn ended(state: [u32; 8], before: usize, rest: &[u8]) -> [u8; DIGEST] {
+    let mut padded = rest.to_vec();
     padded.push(0x80);
-    padded.resize((message.len() + 9).next_multiple_of(BLOCK) - 8, 0);
-    padded.extend_from_slice(&(8 * message.len() as u64).to_be_bytes());
-    let state = padded.chunks_exact(BLOCK).fold(START, after);
+    padded.resize((rest.len() + 9).next_multiple_of(BLOCK) - 8, 0);
+    padded.extend_from_slice(&(8 * (before + rest.len()) as u64).to_be_bytes());
+    let state = padded.chunks_exact(BLOCK).fold(state, after);
     let mut out = [0; DIGEST];
     for (bytes, word) in out.chunks_exact_mut(4).zip(state) {
         bytes.copy_from_slice(&word.to_be_bytes());
@@ -86,21 +86,42 @@ pub(crate) fn digest(message: &[u8]) -> [u8; DIGEST] {
     out
 }
 
-/// The tag of a message under a key.
-pub(crate) fn hmac(key: &[u8], message: &[u8]) -> [u8; DIGEST] {
-    let mut block = [0; BLOCK];
-    if key.len() > BLOCK {
-        block[..DIGEST].copy_from_slice(&digest(key));
-    } else {
-        block[..key.len()].copy_from_slice(key);
+/// The digest of a message.
+fn digest(message: &[u8]) -> [u8; DIGEST] {
+    ended(START, 0, message)
+}
+
+/// HMAC under a key: the states after the key's block, for the inner and for the outer digest.
+#[derive(Clone, PartialEq, Eq)]
+pub(crate) struct Mac {
+    inner: [u32; 8],
+    outer: [u32; 8],
+}
+
+impl Mac {
+    pub(crate) fn new(key: &[u8]) -> Mac {
+        let mut block = [0; BLOCK];
+        if key.len() > BLOCK {
+            block[..DIGEST].copy_from_slice(&digest(key));
+        } else {
+            block[..key.len()].copy_from_slice(key);
+        }
+        let with = |pad: u8| after(START, &block.map(|byte| byte ^ pad));
+        Mac {
+            inner: with(0x36),
+            outer: with(0x5c),
+        }
     }
-    let with = |pad: u8, rest: &[u8]| [&block.map(|byte| byte ^ pad), rest].concat();
-    digest(&with(0x5c, &digest(&with(0x36, message))))
+
+    /// The tag of a message.
+    pub(crate) fn tag(&self, message: &[u8]) -> [u8; DIGEST] {
+        ended(self.outer, BLOCK, &ended(self.inner, BLOCK, message))
+    }
 }
 
 #[cfg(test)]
 mod tests {
-    use super::{digest, hmac};
+    use super::{Mac, digest};
     use crate::golden::hex;
 
     #[test]
@@ -139,7 +160,7 @@ mod tests {
             (&[0xaa; 131], longer, "9b09ffa71b942fcb27635fbcd5b0e944bfdc63644f0713938a7f51535c3a35e2"),
         ];
         for (key, message, expected) in rows {
-            assert!(hmac(key, message).starts_with(&hex(expected)), "{expected}");
+            assert!(Mac::new(key).tag(message).starts_with(&hex(expected)), "{expected}");
         }
     }
 }
