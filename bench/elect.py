@@ -1,7 +1,7 @@
 #!/usr/bin/env python3
 """Measures how long a leader's death lasts for clients that wait.
 
-Usage: bench/elect.py [--clients N ..] [--times N] [--fixed] [--dir FOLDER] [--program PATH]
+Usage: bench/elect.py [--clients N ..] [--times N] [--ticks WORD] [--fixed] [--dir FOLDER] [--program PATH]
 
 Three nodes run as processes on loopback, and so many clients have asked (1, 20, 60, 120 and 250 if nothing is given). Then the leader
 is killed, and in that moment each client asks again. Told is how many seconds went by until the first of them was answered, and until all
@@ -49,12 +49,12 @@ def death(cluster, count):
         return seconds
 
 
-def measured(program, folder, count, times):
+def measured(program, folder, count, times, ticks):
     """The line of the table for so many clients."""
     firsts, lasts = [], []
     for turn in range(times):
         room = os.path.join(folder, f"{count}-{turn}")
-        with Cluster(program, room) as cluster:
+        with Cluster(program, room, options=("--ticks", ticks)) as cluster:
             seconds = death(cluster, count)
         firsts.append(min(seconds))
         lasts.append(max(seconds))
@@ -66,6 +66,7 @@ def main():
     parser = argparse.ArgumentParser(description="Measures how long a leader's death lasts for clients that wait.")
     parser.add_argument("--clients", type=int, nargs="+", default=[1, 20, 60, 120, 250], help="the numbers of clients")
     parser.add_argument("--times", type=int, default=7, help="the deaths for each of them, 7 if not given")
+    parser.add_argument("--ticks", choices=["datagrams", "clock"], default="datagrams", help="what the ticks of a node go by, datagrams if not given")
     parser.add_argument("--fixed", action="store_true", help="half a second between two sends, not scattered, twenty Elsewheres")
     parser.add_argument("--dir", help="where the folders of the nodes are made")
     parser.add_argument("--program", help="the built program; the wrapper builds it if none is given")
@@ -77,7 +78,7 @@ def main():
     print("|---:|---:|---:|---:|---:|")
     with tempfile.TemporaryDirectory(dir=args.dir) as folder:
         for count in args.clients:
-            print(measured(program, folder, count, args.times), flush=True)
+            print(measured(program, folder, count, args.times, args.ticks), flush=True)
     print(f"cores: {os.cpu_count()}; load in the last minutes: {os.getloadavg()[0]:.1f}")
 
 

@@ -1,7 +1,7 @@
 #!/usr/bin/env python3
 """Runs a cluster for long, and looks whether a node's memory and its files stay as they are.
 
-Usage: bench/long.py [--pairs N] [--dir FOLDER] [--program PATH]
+Usage: bench/long.py [--pairs N] [--ticks WORD] [--dir FOLDER] [--program PATH]
 
 Three nodes run as processes on loopback, and one client acquires and releases a name so many times (200,000 pairs if not given). At every
 tenth it tells, of each node, its resident memory, the greatest that it had, and the bytes of its two files. Then the last node is killed as by
@@ -72,11 +72,13 @@ def seconds_to_answer(cluster, client, node):
 def main():
     parser = argparse.ArgumentParser(description="Runs three nodes for long, and looks whether memory and files stay as they are.")
     parser.add_argument("--pairs", type=int, default=200_000, help="pairs of acquire and release, 200,000 if not given")
+    parser.add_argument("--ticks", choices=["datagrams", "clock"], default="datagrams", help="what the ticks of a node go by, datagrams if not given")
     parser.add_argument("--dir", help="where the folders of the nodes are made")
     parser.add_argument("--program", help="the built program; the wrapper builds it if none is given")
     args = parser.parse_args()
     wrong = []
-    with tempfile.TemporaryDirectory(dir=args.dir) as folder, Cluster(built(args.program), folder) as cluster:
+    options = ("--ticks", args.ticks)
+    with tempfile.TemporaryDirectory(dir=args.dir) as folder, Cluster(built(args.program), folder, options=options) as cluster:
         with cluster.client(Client, 1, patience=60.0) as client:
             for tenth in range(1, 11):
                 for _ in range(args.pairs // 10):
