@@ -2,6 +2,8 @@ pub mod Hmac
 pub mod Macs
 pub mod Clients
 pub mod Frames
+pub mod KeyLists
+pub mod Masters
 pub mod Seals
 pub mod KeyFiles
 pub mod Vouching

@@ -2,17 +2,10 @@
 use Rattle.std.specs.Prelude.{◌≡◌, ◌⊎◌, ℕ, List, [], ◌∷◌, Option, Some, None, if◌then◌else◌, ◌==◌, slice_index, drop, replicate}
 use Rattle.lk_seal.specs.Clients.{client_keys, client_in}
 use Rattle.lk_seal.specs.Frames.{sealed, opened}
+pub use Rattle.lk_seal.specs.KeyLists.{key_list}
 use Rattle.lk_seal.specs.declared.frame.Purpose.TheVariants.{ToNode, Asking, Replying}
 use Rattle.lk_seal.specs.declared.frame.Scope.{Scope}
-use Rattle.lk_seal.specs.declared.keys.Keys.{Keys}
-use Rattle.lk_seal.specs.declared.keys.Keys.TheVariants as keys
 use Rattle.lk_seal.specs.declared.seals.Seals.{Seals}
-
--- the keys: the first one seals, each of them opens
-abbrev pub key_list : Keys → List (List ℕ)
-key_list keys.NoKey = []
-key_list (keys.One key) = key ∷ []
-key_list (keys.Two first second) = first ∷ second ∷ []
 
 -- a message of a node of the same genesis to that node
 abbrev pub to_node : Seals → ℕ → Scope

@@ -8,6 +8,7 @@ mod key_file;
 mod keys;
 pub mod laws;
 mod mac;
+mod masters;
 mod seals;
 
 pub use asker::AskerSeals;
@@ -15,6 +16,7 @@ pub use frame::{DIGEST, OVERHEAD, Purpose, Scope, open, seal};
 pub use key::{KEY, Key};
 pub use keys::Keys;
 pub use mac::{TAG, tag};
+pub use masters::Masters;
 pub use seals::Seals;
 
 #[cfg(test)]

@@ -6,6 +6,7 @@ ghost use Rattle.lk_seal.specs.Seals.{key_list, heard, heard_of, heard_of_client
 
 use crate::frame::{DIGEST, OVERHEAD, Purpose, Scope};
 use crate::keys::Keys;
+use crate::masters::Masters;
 use std::alloc::AllocError;
 
 /// The offset of a datagram's kind, and the kind of a request.
@@ -22,7 +23,7 @@ pub struct Seals {
     pub genesis: [u8; DIGEST],
     pub node: u32,
     pub nodes: Keys,
-    pub clients: Keys,
+    pub clients: Masters,
 }
 
 /// The offset of the client in a request, two bytes.
@@ -86,8 +87,8 @@ impl Seals {
     fn heard_of<'a>(&self, client: u16, frame: &'a [u8]) -> &'a [u8]
         ensures { result.now ≡ heard_of client (key_list self.now.clients) self.now.cluster frame.now }
     {
-        let keys = self.clients.of_client(client);
-        match keys.open(&self.with_client(Purpose::Asking, client), frame) {
+        let scope = self.with_client(Purpose::Asking, client);
+        match self.clients.open(client, &scope, frame) {
             Some(datagram) => only_request(datagram),
             None => &[],
         }
@@ -140,11 +141,7 @@ impl Seals {
         ensures ok { IfOk result (λ f. f.now ≡ framed_by (client_keys client (key_list self.now.clients)) (replying self.now.cluster client) datagram.now) }
         ensures refused { IsErr result → client_keys client (key_list self.now.clients) ≢ [] }
     {
-        let keys = self.clients.of_client(client);
-        keys.frame_of(
-            &self.with_client(Purpose::Replying, client),
-            datagram,
-            frame,
-        )
+        let scope = self.with_client(Purpose::Replying, client);
+        self.clients.frame_of(client, &scope, datagram, frame)
     }
 }

@@ -1,5 +1,5 @@
 //! The tags of RFC 4231, section 4, and a frame byte by byte.
-use crate::{DIGEST, Key, Keys, Seals, tag};
+use crate::{DIGEST, Key, Keys, Masters, Seals, tag};
 use std::alloc::Global;
 use std::test::Fail;
 
@@ -63,14 +63,15 @@ const FRAMES: [(&str, &str); 9] = [
 ];
 
 // The seals of node 2.
-fn of_node_2() -> Seals {
-    Seals {
+fn of_node_2(alloc: Global) -> Result<Seals, Fail> {
+    let masters = Keys::Two(Key::of([0x33; 32]), Key::of([0x22; 32]));
+    Ok(Seals {
         cluster: 5,
         genesis: GENESIS,
         node: 2,
         nodes: Keys::One(Key::of([0x11; 32])),
-        clients: Keys::Two(Key::of([0x33; 32]), Key::of([0x22; 32])),
-    }
+        clients: Masters::of(alloc, masters)?,
+    })
 }
 
 // Whether node 2 takes that from it.
@@ -78,7 +79,7 @@ fn is_heard(alloc: Global, row: (&str, &str)) -> Result<bool, Fail> {
     let (frame, datagram) = row;
     let frame = hex::decode(alloc, frame)?;
     let datagram = hex::decode(alloc, datagram)?;
-    Ok(of_node_2().heard(&frame) == datagram.as_slice())
+    Ok(of_node_2(alloc)?.heard(&frame) == datagram.as_slice())
 }
 
 // Whether it takes from each what its row says.
@@ -104,7 +105,7 @@ fn frames_are_heard_by_their_bytes(rt: HostRuntime) -> Result<(), Fail> {
     let mut frame = Vec::new(alloc);
     let datagram = hex::decode(alloc, FRAMES[0].1)?;
     assert_eq!(rt;
-        of_node_2().frame_to_node(2, &datagram, &mut frame)?,
+        of_node_2(alloc)?.frame_to_node(2, &datagram, &mut frame)?,
         hex::decode(alloc, FRAMES[0].0)?.as_slice()
     );
     Ok(())

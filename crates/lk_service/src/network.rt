@@ -12,7 +12,7 @@ use lk_arguments::word::split_word;
 use lk_client::destination::Destination;
 use lk_entries::Header;
 use lk_folder::causes::tell_cause;
-use lk_seal::{AskerSeals, Keys, Seals};
+use lk_seal::{AskerSeals, Keys, Masters, Seals};
 use lk_transport::fault::ServiceFault;
 use lk_transport::hosts::Hosts;
 use lk_transport::network::Network;
@@ -218,7 +218,7 @@ fn seals_in<R: Files<File = File>, E: Write>(
         genesis: genesis_digest(alloc, header)?,
         node: header.node().get(),
         nodes,
-        clients,
+        clients: Masters::of(alloc, clients)?,
     })
 }
 

@@ -1,7 +1,7 @@
 //! What a node knows of other machines: where the nodes live, and the keys that identify a sender.
 
 use crate::hosts::Hosts;
-use lk_seal::{DIGEST, Keys, Seals};
+use lk_seal::{DIGEST, Keys, Masters, Seals};
 use lk_types::NodeNo;
 
 /// Where the nodes live, and the keys that identify a sender.
@@ -21,7 +21,7 @@ impl Network {
                 genesis: [0; DIGEST],
                 node: node.get(),
                 nodes: Keys::NoKey,
-                clients: Keys::NoKey,
+                clients: Masters::none(),
             },
         }
     }

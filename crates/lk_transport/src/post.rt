@@ -174,7 +174,7 @@ impl<S: DatagramSocket + Drop> SocketPost<S> {
         self.own.pop_front()
     }
 
-    /// From now on a receive waits at most this long for the next datagram.
+    /// From now on a receive waits at most this long, or up to 10 ms longer, for the next datagram.
     pub fn wait_for(&mut self, time: Duration)
         ensures { self.new ≡ self.old }
     {

@@ -14,6 +14,9 @@ use std::time::Duration;
 /// How long a receive waits at most if it is not told otherwise, in milliseconds.
 const WAIT: u64 = 100;
 
+/// A receive may wait this many milliseconds longer than it is told to, since each change costs a call of the system.
+const SLACK: u64 = 10;
+
 /// The address of a port on 127.0.0.1.
 pub fn local(port: u16) -> SocketAddr
     ensures { socket_port result ≡ port }
@@ -42,7 +45,7 @@ pub trait DatagramSocket {
         ensures err { is_telling → OnErr result (sent self.new ≡ sent self.old) }
         ensures cause { is_telling → HasCause (failures self.old) (failures self.new) result };
 
-    /// From now on a receive waits so long at most; until this is called it is 100 ms.
+    /// From now on a receive waits so long at most, or up to 10 ms longer; until this is called it is 100 ms.
     fn wait_for(&mut self, time: Duration)
         ensures unchanged { sent self.new ≡ sent self.old }
         ensures spares { failures self.new ≡ failures self.old }
@@ -138,9 +141,17 @@ impl LocalSocket {
         true
     }
 
-    // Has its receives wait as long as they are to, by a call of the system only where that changes.
+    // Whether the system has receives wait as long as they are to, or little longer.
+    fn is_in_time(&self) -> bool {
+        match self.timeout.checked_sub(self.wait) {
+            Some(more) => more < Duration::from_millis(SLACK),
+            None => false,
+        }
+    }
+
+    // Has receives wait as long as they are to.
     fn times_out(&mut self) {
-        if self.timeout != self.wait && self.socket.set_read_timeout(Some(self.wait)).is_ok() {
+        if !self.is_in_time() && self.socket.set_read_timeout(Some(self.wait)).is_ok() {
             self.timeout = self.wait;
         }
     }
