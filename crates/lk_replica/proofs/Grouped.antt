@@ -641,6 +641,10 @@ settled_node_fits m Metered old waits new s genesis k r h n f =
 
 -- ---- which calls were made
 
+pub settled_still : (old new : StoreValue) (waits : Bool) → waits ≡ false → new ≡ old → Settles waits old new
+settled_still old new false is same = same
+settled_still old new true is same = absurd (cc is)
+
 pub settled_none : (m n : Meter) (waits : Bool) → waits ≡ false → Passes m n 0 → Passes m n (settle_calls waits)
 settled_none m n false is none = none
 settled_none m n true is none = absurd (cc is)

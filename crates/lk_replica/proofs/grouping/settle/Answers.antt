@@ -1,10 +1,12 @@
-use Rattle.std.proofs.Common.{refl}
 use Rattle.lk_log.proofs.StoreLaws.{same_keeps, same_within}
-use Rattle.lk_replica.proofs.Grouped.{settled_none, settled_once}
+use Rattle.lk_replica.proofs.Grouped.{settled_still, settled_none, settled_once}
 use Rattle.lk_recovery.proofs.Recoveries.{err_as, refused_after, sync_refused, sync_spares, sync_not_failed}
 use Rattle.lk_replica.proofs.grouping.settle.Goals as goal
 
 -- ---- nothing waits for a sync
+
+pub returns-then-not-waits-clause-settles : goal.returns-then-not-waits-clause-settles
+returns-then-not-waits-clause-settles g c honest = settled_still c.args.store.now c.flush.new.self c.args.waits (cc c.if-not-waits.true) (c.in_ok-flush.ensures.ok honest)
 
 pub returns-in_err-flush-clause-any : goal.returns-in_err-flush-clause-any
 returns-in_err-flush-clause-any g c honest ks ls holds = same_keeps c.args.store.now c.flush.new.self (c.flush.ensures.disks honest) c.flush.ensures.file.0 ks ls holds
