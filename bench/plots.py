@@ -62,7 +62,7 @@ class Figures:
         told = [row["note"] for row in self.rows if row["what"] == "note"]
         rounds, failed = {row["round"] for row in timed}, sum(int(float(row["errors"])) for row in timed)
         seconds = statistics.median([float(row["seconds"]) for row in timed] or [0])
-        busy = max((float(row["processor_seconds"]) / float(row["seconds"]) for row in timed), default=0)
+        busy = max((float(row["processor_seconds"]) / float(row["seconds"]) for row in timed if float(row["seconds"])), default=0)
         told.append(f"Rounds: {len(rounds)}, of {seconds:.2g} s a point. The load generator used at most {busy:.2f} processors. Pairs that failed: {failed}.")
         return [*told, f"Load average of the machine during the run, which includes it: {min(loads)} to {max(loads)}."]
 
