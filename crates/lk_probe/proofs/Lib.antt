@@ -2,3 +2,4 @@ mod Codec
 mod PartLaws
 mod DatagramLaws
 mod Lengths
+mod Strangers

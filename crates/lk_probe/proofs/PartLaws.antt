@@ -1,5 +1,5 @@
 -- Each part of a probe and of a report reads what its spelling is.
-use Rattle.std.proofs.Common.{◌≡◌, ℕ, suc, ◌^◌, ◌<◌, ◌≤◌, Bool, true, false, cond, ltb, leb, eqb, List, ◌++◌, length, take, drop, Option, Some, None, refl, sym, subst, ◌∙◌, arith, inl, inr}
+use Rattle.std.proofs.Common.{◌≡◌, ℕ, suc, ◌^◌, ◌<◌, ◌≤◌, Bool, true, false, ltb, leb, eqb, List, ◌++◌, length, take, drop, Option, Some, None, refl, sym, subst, arith, inl, inr}
 use Rattle.std.specs.Prelude.{IfSome}
 use Rattle.std.specs.List.{AllByRecursion}
 use Rattle.std.proofs.lemmas.Bool.{ltb-false, le-ltb}
@@ -11,9 +11,9 @@ use Rattle.lk_types.specs.Ballots.{IsMark}
 use Rattle.lk_types.specs.Rosters.{IsMember, AreMembers}
 use Rattle.lk_types.specs.declared.member.Member.{Member}
 use Rattle.lk_fields.specs.Fields.{one, two, four, eight, ballot, members}
-use Rattle.lk_fields.specs.Parser.{read_byte, both, made, tested}
+use Rattle.lk_fields.specs.Parser.{read_byte, tested}
 use Rattle.lk_fields.specs.FieldReading.{read_two, read_four, read_eight, read_node, read_total, read_mark, read_members}
-use Rattle.lk_fields.proofs.Spellings.{IsBytes, IsBytes-drop, chosen, some_is, Took, Reads, fitting, both_reads, made_reads, byte_reads, two_reads, four_reads, eight_reads, at_most, is_at_most, limited_reads, node_reads, total_reads, mark_reads, members_reads}
+use Rattle.lk_fields.proofs.Spellings.{IsBytes, IsBytes-drop, chosen, some_is, Took, Reads, fitting, both_reads, made_reads, byte_reads, two_reads, four_reads, eight_reads, limited_reads, node_reads, total_reads, mark_reads, members_reads}
 use Rattle.lk_probe.specs.Grammar.{or_zero, flag, version, identity, leadership, progress, traffic, status, probe, report, IsByte, IsVersion, IsIdentity, IsLeadership, IsProgress, IsTraffic, IsStatus, IsProbe, IsReport}
 use Rattle.lk_probe.specs.Reading.{or_none, optional, read_maybe_node, read_maybe_client, read_flag, read_digest, read_version, read_identity, read_leadership, read_progress, read_traffic, read_status, read_probe_fields, read_report_fields}
 use Rattle.lk_probe.specs.declared.status.Version.{Version}

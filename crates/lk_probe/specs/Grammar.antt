@@ -1,5 +1,5 @@
 -- The one spelling of a probe and of a report, byte by byte, and which of them fit.
-use Rattle.std.specs.Prelude.{◌≡◌, ℕ, ◌-◌, ◌<◌, ◌≤◌, ◌^◌, Bool, true, false, Option, Some, None, List, ◌∷◌, ◌++◌, length, replicate, IfSome}
+use Rattle.std.specs.Prelude.{◌≡◌, ℕ, ◌-◌, ◌<◌, ◌^◌, Bool, true, false, Option, Some, None, List, ◌∷◌, ◌++◌, length, replicate, IfSome}
 use Rattle.std.specs.List.{AllByRecursion}
 use Rattle.lk_types.specs.Ranges.{IsNode, IsClient, IsTotal}
 use Rattle.lk_types.specs.Ballots.{IsMark}

@@ -3,8 +3,10 @@
 #![tactic(auto)]
 
 pub mod laws;
+pub mod neighbours;
 mod probe;
 mod reading;
+pub mod reported;
 mod status;
 mod writing;
 

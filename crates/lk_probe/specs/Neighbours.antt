@@ -1,0 +1,129 @@
+-- What a node knows of the addresses from which nodes write to it: whether it has asked which genesis the node there
+-- was started with, and what that told.
+use Rattle.std.specs.Prelude.{◌≡◌, ◌≤◌, ◌+◌, ◌||◌, ℕ, nat_lt, nat_eq, Bool, true, false, if◌then◌else◌, List, [], ◌∷◌, slice_get, slice_set, Option, Some, None}
+use Rattle.std.specs.Cmp.Lexicographic.{pointwise}
+use Rattle.std.specs.List.{list_any}
+use Rattle.std.specs.contracts.net.socket_addr.SocketAddrPartialEq.TheImpl as address
+use Rattle.std.specs.declared.net.socket_addr.SocketAddr.{SocketAddr}
+use Rattle.lk_probe.specs.declared.neighbours.Origin.{Origin}
+use Rattle.lk_probe.specs.declared.neighbours.Knowledge.{Knowledge}
+use Rattle.lk_probe.specs.declared.neighbours.Knowledge.TheVariants.{Unknown, Asked, AskedTwice, Same, Other}
+use Rattle.lk_probe.specs.declared.neighbours.Neighbour.{Neighbour}
+
+-- entries, of which the free ones follow the others
+abbrev pub Entries : Type 0
+Entries = List (Option Neighbour)
+
+abbrev pub is_at : SocketAddr → SocketAddr → Bool
+is_at = (address.ghosts).eq
+
+-- ---- which entry
+
+-- an entry is that of an address, or free
+abbrev pub is_for : SocketAddr → Option Neighbour → Bool
+is_for place None = true
+is_for place (Some n) = is_at n.place place
+
+-- how many entries precede that of an address, or the first free one; all of them if there is neither
+abbrev pub entry_for : SocketAddr → Entries → ℕ
+entry_for place [] = 0
+entry_for place (e ∷ es) = if is_for place e then 0 else entry_for place es + 1
+
+-- ---- whose datagrams are dropped
+
+-- where it is another genesis, so; else not
+abbrev pub if_other : Knowledge → Bool → Bool
+if_other (Other origin) so = so
+if_other Unknown so = false
+if_other (Asked ticks) so = false
+if_other AskedTwice so = false
+if_other Same so = false
+
+abbrev pub is_stranger_at : SocketAddr → Option Neighbour → Bool
+is_stranger_at place None = false
+is_stranger_at place (Some n) = if_other n.knowledge (is_at n.place place)
+
+-- a node of another genesis is at that address
+unfoldable pub is_stranger : Entries → SocketAddr → Bool
+is_stranger es place = list_any (is_stranger_at place) es
+
+-- ---- who is asked
+
+-- at that count of ticks a probe is due: it was not asked, or once and before the last tick
+abbrev pub is_due : ℕ → Knowledge → Bool
+is_due now Unknown = true
+is_due now (Asked ticks) = nat_lt ticks now
+is_due now AskedTwice = false
+is_due now Same = false
+is_due now (Other origin) = false
+
+abbrev pub is_due_at : ℕ → Option Neighbour → Bool
+is_due_at now None = false
+is_due_at now (Some n) = is_due now n.knowledge
+
+-- once it is asked then
+abbrev pub having_asked : ℕ → Knowledge → Knowledge
+having_asked now Unknown = Asked now
+having_asked now (Asked ticks) = AskedTwice
+having_asked now AskedTwice = AskedTwice
+having_asked now Same = Same
+having_asked now (Other origin) = Other origin
+
+-- ---- what changes
+
+-- the entry after a node has written from there: it binds where it did before or does so now
+abbrev pub having_met : SocketAddr → Bool → Option Neighbour → Neighbour
+having_met place binds None = record { place = place; knowledge = Unknown; binds = binds }
+having_met place binds (Some n) = record { place = n.place; knowledge = n.knowledge; binds = n.binds || binds }
+
+-- a node has written from there: the entry of the address, or a free one, is so, or there is no room
+pub record Meets (place : SocketAddr) (binds : Bool) (old new : Entries) : Type 0 where
+  pub room : entry_for place old ≤ 63 → (e : Option Neighbour) × (slice_get old (entry_for place old) ≡ Some e) × (new ≡ slice_set old (entry_for place old) (Some (having_met place binds e)))
+  pub full : 64 ≤ entry_for place old → new ≡ old
+
+-- a probe is due there, and is noted as sent; every other entry is as it was
+pub record Asks (now : ℕ) (place : SocketAddr) (old new : Entries) : Type 0 where
+  pub entry : ℕ
+  pub neighbour : Neighbour
+  pub is : slice_get old entry ≡ Some (Some neighbour)
+  pub there : place ≡ neighbour.place
+  pub due : is_due now neighbour.knowledge ≡ true
+  pub becomes : new ≡ slice_set old entry (Some (record neighbour { knowledge = having_asked now neighbour.knowledge }))
+
+-- it was asked, and has not told
+abbrev pub is_open : Knowledge → Bool
+is_open Unknown = false
+is_open (Asked ticks) = true
+is_open AskedTwice = true
+is_open Same = false
+is_open (Other origin) = false
+
+-- an entry that is there is of one that was asked and has not told
+abbrev pub is_open_at : Option (Option Neighbour) → Bool
+is_open_at None = false
+is_open_at (Some None) = false
+is_open_at (Some (Some n)) = is_open n.knowledge
+
+-- the origin of a node of another genesis
+abbrev pub other_of : Knowledge → Option Origin
+other_of (Other origin) = Some origin
+other_of Unknown = None
+other_of (Asked ticks) = None
+other_of AskedTwice = None
+other_of Same = None
+
+-- the same where it binds
+abbrev pub bound_by : Neighbour → Option Origin
+bound_by n = if n.binds then other_of n.knowledge else None
+
+-- what is known once it tells this origin to a node of that genesis
+abbrev pub having_told : List ℕ → Origin → Knowledge
+having_told own told = if pointwise nat_eq told.genesis own then Same else Other told
+
+-- it was asked and tells that; every other entry is as it was
+pub record Learns (place : SocketAddr) (own : List ℕ) (told : Origin) (is : Neighbour) (old new : Entries) : Type 0 where
+  pub neighbour : Neighbour
+  pub entry : slice_get old (entry_for place old) ≡ Some (Some neighbour)
+  pub asked : is_open neighbour.knowledge ≡ true
+  pub learned : is ≡ record neighbour { knowledge = having_told own told }
+  pub becomes : new ≡ slice_set old (entry_for place old) (Some is)

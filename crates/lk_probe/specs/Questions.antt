@@ -1,0 +1,16 @@
+-- How a node asks which genesis the node at an address was started with, and what it takes of a report.
+use Rattle.std.specs.Prelude.{◌≡◌, ℕ, List, Option, Some, None}
+use Rattle.std.specs.declared.net.socket_addr.SocketAddr.{SocketAddr}
+use Rattle.lk_probe.specs.Grammar.{SpellsReport, Answers}
+use Rattle.lk_probe.specs.declared.probe.Probe.{Probe}
+use Rattle.lk_probe.specs.declared.probe.Report.{Report}
+use Rattle.lk_probe.specs.declared.reported.Reported.{Reported}
+
+-- the probe of that node of the cluster: its number is the token too
+abbrev pub question : ℕ → ℕ → Probe
+question cluster node = record { cluster = cluster; node = Some node; client = None; token = node }
+
+-- what is taken of a datagram that came from there: what a report tells, if it answers the probe
+abbrev pub IsReportedOf : Probe → SocketAddr × List ℕ → Option Reported → Type 0
+IsReportedOf p d None = (r : Report) → SpellsReport r d.1 → Answers p r → ⊥
+IsReportedOf p d (Some t) = (r : Report) × SpellsReport r d.1 × Answers p r × (t.from ≡ d.0) × (t.told ≡ record { node = r.node; genesis = r.status.identity.genesis })

@@ -1,0 +1,45 @@
+//! How a node asks which genesis the node at an address was started with, and what it takes of a report.
+
+ghost use Rattle.std.specs.Prelude.{◌≡◌};
+ghost use Rattle.lk_probe.specs.Questions.{IsReportedOf, question};
+
+use crate::neighbours::Origin;
+use crate::probe::{Probe, Report};
+use lk_types::NodeNo;
+use std::net::SocketAddr;
+
+/// What a report tells of the node at an address.
+#[derive(Clone, Copy)]
+pub struct Reported {
+    pub from: SocketAddr,
+    pub told: Origin,
+}
+
+/// The question of a node of the cluster: a probe that has its number as the token too.
+pub fn question(cluster: u64, node: NodeNo) -> Probe
+    ensures { result ≡ question cluster node }
+{
+    Probe {
+        cluster,
+        node: Some(node),
+        client: None,
+        token: u64::from(node.get()),
+    }
+}
+
+impl Reported {
+    /// What the datagram that came from there tells, if it is a report that answers the probe.
+    pub fn by(probe: &Probe, from: SocketAddr, datagram: &[u8]) -> Option<Reported>
+        ensures { IsReportedOf probe.now (from, datagram.now) result }
+    {
+        let report = Report::read(datagram)?;
+        if !report.answers(probe) {
+            return None;
+        }
+        let told = Origin {
+            node: report.node,
+            genesis: report.status.identity.genesis,
+        };
+        Some(Reported { from, told })
+    }
+}
