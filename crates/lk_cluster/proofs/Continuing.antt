@@ -16,9 +16,9 @@ use Rattle.lk_transport.specs.declared.asked.Asked.{Asked}
 use Rattle.lk_transport.specs.Chains.{Chain}
 use Rattle.lk_service.specs.Turns.{TakesTurn as ServerTurn, TellsFailure, letters_in}
 use Rattle.lk_sim.specs.Networks.{Rests, RestsBy, nothing}
-use Rattle.lk_sim.specs.Seats.{At}
-use Rattle.lk_sim.specs.declared.seat.Life.{Life}
-use Rattle.lk_sim.specs.declared.seat.Life.TheVariants.{Up, Down}
+use Rattle.lk_seats.specs.Seats.{At}
+use Rattle.lk_seats.specs.declared.seat.Life.{Life}
+use Rattle.lk_seats.specs.declared.seat.Life.TheVariants.{Up, Down}
 use Rattle.lk_sim.proofs.Networks.{at_set_here, set_twice}
 use Rattle.lk_cluster.specs.Clusters.{Node, Cluster, Network, Says, steps_of, IsBegun, server_disks, Starts, TakesTurn, Idles, EndsByTurn, Happens, HappenAll, IsReachable}
 use Rattle.lk_cluster.specs.Continuing.{node_of, HasNode, Continues, letters_of, MayAllCome}

@@ -26,11 +26,11 @@ use Rattle.lk_server.specs.declared.pace.Pace.{Pace}
 use Rattle.lk_server.specs.declared.pace.Pace.TheVariants.{Datagrams, Clock}
 use Rattle.lk_sim.specs.Events.{Turns, Adds}
 use Rattle.lk_sim.specs.Networks.{MayCome, Steps, Appears, Rests, Stops, nothing}
-use Rattle.lk_sim.specs.Rooms.{AreShort}
-use Rattle.lk_sim.specs.Seats.{At, UpFits}
+use Rattle.lk_seats.specs.Rooms.{AreShort}
+use Rattle.lk_seats.specs.Seats.{At, UpFits}
 use Rattle.lk_sim.specs.Traces.{happened}
 use Rattle.lk_sim.specs.Worlds.{Holds}
-use Rattle.lk_sim.specs.declared.seat.Life.TheVariants.{Up, Down}
+use Rattle.lk_seats.specs.declared.seat.Life.TheVariants.{Up, Down}
 use Rattle.lk_sim.proofs.Networks.{step_holds, at_set, at_set_here, at_push, nothing_holds, set_twice, went_down}
 use Rattle.lk_cluster.specs.Clusters.{Node, Cluster, Network, ForgesNothing, ServerStands, server_disks, Says, Starts, TakesTurn, Idles, EndsByTurn, Happens, HappenAll, IsReachable}
 use Rattle.lk_cluster.proofs.Groups.{AllMay, group_leaves}

@@ -27,9 +27,9 @@ use Rattle.lk_sim.specs.Events.{Turns, Adds}
 use Rattle.lk_sim.specs.Networks.{MayCome, AreAsking, TellsOf, RisesBy, Appears, Rises, Rests, Stops, nothing}
 use Rattle.lk_sim.specs.Scenes.{Scene}
 use Rattle.lk_sim.specs.Traces.{asked_note}
-use Rattle.lk_sim.specs.declared.seat.Life.{Life}
-use Rattle.lk_sim.specs.declared.seat.Life.TheVariants.{Up, Down}
-use Rattle.lk_sim.specs.declared.seat.Seat.{Seat}
+use Rattle.lk_seats.specs.declared.seat.Life.{Life}
+use Rattle.lk_seats.specs.declared.seat.Life.TheVariants.{Up, Down}
+use Rattle.lk_seats.specs.declared.seat.Seat.{Seat}
 
 -- a node: its number, and that it is up as a server, or down with its disks
 abbrev pub Node : Type 0

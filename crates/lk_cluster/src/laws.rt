@@ -21,7 +21,7 @@ ghost use Rattle.lk_transport.specs.Chains.{Repeats};
 ghost use Rattle.lk_service.specs.Revivals.{IsBegun as IsTakenUp, IsNotTakenUp, IsRefusedWith};
 ghost use Rattle.lk_service.specs.Turns.{EndsEarly, Serves, TakesTurn};
 ghost use Rattle.lk_sim.specs.Networks.{MayCome};
-ghost use Rattle.lk_sim.specs.declared.seat.Life.TheVariants.{Up, Down};
+ghost use Rattle.lk_seats.specs.declared.seat.Life.TheVariants.{Up, Down};
 ghost use Rattle.lk_promise.specs.ComingBack.{IsExcused};
 ghost use Rattle.lk_promise.specs.Converging.{Converges};
 ghost use Rattle.lk_promise.specs.ExactlyOnce.{AreServedOnce};

@@ -1,7 +1,7 @@
 -- What the nodes of a world leave.
 use Rattle.std.specs.Prelude.{◌≡◌, ⊤, List, [], ◌∷◌, length}
 use Rattle.lk_disk.specs.Disk.{contents}
-use Rattle.lk_sim.specs.declared.left.LeftNode.{LeftNode}
+use Rattle.lk_seats.specs.declared.left.LeftNode.{LeftNode}
 use Rattle.lk_inspect.specs.declared.world_state.NodeState.{NodeState}
 
 -- the node's number, whether it is up, and how many bytes of its disks there are, and are synced

@@ -2,7 +2,7 @@
 
 ghost use Rattle.std.specs.Prelude.{◌≡◌, ◌⊎◌, ◌++◌, ℕ, List, map, IfOk, IfSome, OnOk};
 ghost use Rattle.std.specs.Io.KnownBytes.{Appends};
-ghost use Rattle.lk_sim.specs.Left.{left_of};
+ghost use Rattle.lk_seats.specs.Left.{left_of};
 ghost use Rattle.lk_script.specs.Endings.{PrintsAll};
 ghost use Rattle.lk_inspect.specs.WorldStates.{IsStateOf, AreStatesOf};
 

@@ -6,7 +6,7 @@ ghost use Rattle.lk_types.specs.Limits.{max_node};
 ghost use Rattle.lk_members.specs.Effects.{RequestValue};
 ghost use Rattle.lk_lines.specs.declared.order.Order.TheVariants as order;
 ghost use Rattle.lk_lines.specs.declared.order.Order.{Order as OrderValue};
-ghost use Rattle.lk_lines.specs.WorldLines.{AsksToStart, AsksToRestart, AsksForTicks, AsksToCompact, AsksToDeliver, AsksForGroup, SpellsRequest, AsksOfClient, AsksToInject, AsksToStop, AsksToFail, AsksToArm, Asks, SpellsOrder};
+ghost use Rattle.lk_lines.specs.WorldLines.{IsNodeWord, AsksToStart, AsksToRestart, AsksForTicks, AsksToCompact, AsksToDeliver, AsksForGroup, SpellsRequest, AsksOfClient, AsksToInject, AsksToStop, AsksToFail, AsksToArm, Asks, SpellsOrder};
 
 use crate::event_verb::EventVerb;
 use crate::fault::LineFault;
@@ -27,12 +27,22 @@ const LAST_CLIENT: u64 = MAX_CLIENT as u64;
 /// The most ticks of one line.
 const MAX_TIMES: u64 = 10_000;
 
+/// The node that the word names.
+fn node_of(word: &[u8]) -> Option<NodeNo>
+    ensures some { IfSome result (λ n. IsNodeWord n word.now) }
+    ensures none { IsNone result → (n : ℕ) → IsNodeWord n word.now → ⊥ }
+{
+    let number = number_of(word, 1, LAST_NODE)?;
+    Some(NodeNo::of(number as u32).unwrap())
+}
+
 fn to_start(words: &[u8]) -> Option<Order>
     ensures some { IfSome result (AsksToStart words.now) }
     ensures none { IsNone result → (o : OrderValue) → AsksToStart words.now o → ⊥ }
 {
-    let number = number_of(words, 1, LAST_NODE)?;
-    let node = NodeNo::of(number as u32).unwrap();
+    let Some(node) = node_of(words) else {
+        return None;
+    };
     Some(Order::Once(Event::Start(node)))
 }
 
@@ -40,8 +50,9 @@ fn to_restart(words: &[u8]) -> Option<Order>
     ensures some { IfSome result (AsksToRestart words.now) }
     ensures none { IsNone result → (o : OrderValue) → AsksToRestart words.now o → ⊥ }
 {
-    let number = number_of(words, 1, LAST_NODE)?;
-    let node = NodeNo::of(number as u32).unwrap();
+    let Some(node) = node_of(words) else {
+        return None;
+    };
     Some(Order::Once(Event::Restart(node)))
 }
 
@@ -71,8 +82,9 @@ fn to_compact(words: &[u8]) -> Option<Order>
     ensures some { IfSome result (AsksToCompact words.now) }
     ensures none { IsNone result → (o : OrderValue) → AsksToCompact words.now o → ⊥ }
 {
-    let number = number_of(words, 1, LAST_NODE)?;
-    let node = NodeNo::of(number as u32).unwrap();
+    let Some(node) = node_of(words) else {
+        return None;
+    };
     Some(Order::Once(Event::Compact(node)))
 }
 

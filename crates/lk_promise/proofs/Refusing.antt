@@ -22,22 +22,24 @@ use Rattle.lk_replica.specs.ReplicaValue.{ReplicaValue}
 use Rattle.lk_replica.specs.Taking.{ComesTo}
 use Rattle.lk_replica.specs.Together.{Said, sent_of, ComesToAll}
 use Rattle.lk_sim.specs.Events.{Turns, IsGiven, IsGivenTogether, ComesUp, Brings, Wants}
+use Rattle.lk_seats.specs.Sends as sending
 use Rattle.lk_sim.specs.Events as doing
 use Rattle.lk_sim.specs.Groups.{bytes_of, given_by}
-use Rattle.lk_sim.specs.Refusals.{datagram_at, AreFor, NotStarted, NoneUp, NoTurn, NoStart, NoRestart, NoClient, NoneBound, NoDelivery, NoInjection, NoGroup, May, MayNot}
+use Rattle.lk_seats.specs.Refusals.{NoneUp, NoRestart}
+use Rattle.lk_sim.specs.Refusals.{datagram_at, AreFor, NotStarted, NoTurn, NoStart, NoClient, NoneBound, NoDelivery, NoInjection, NoGroup, May, MayNot}
 use Rattle.lk_sim.specs.Scenes.{Scene}
-use Rattle.lk_sim.specs.Seats.{HasNo}
-use Rattle.lk_sim.specs.Seats as seats
+use Rattle.lk_seats.specs.Seats.{HasNo}
+use Rattle.lk_seats.specs.Seats as seats
 use Rattle.lk_sim.specs.Traces.{asked_note}
-use Rattle.lk_sim.specs.declared.end.End.{End}
+use Rattle.lk_seats.specs.declared.end.End.{End}
 use Rattle.lk_sim.specs.declared.event.Event.{Event}
 use Rattle.lk_sim.specs.declared.event.Event.TheVariants as event
 use Rattle.lk_sim.specs.declared.event.Turn.{Turn}
 use Rattle.lk_sim.specs.declared.event.Turn.TheVariants as turn
-use Rattle.lk_sim.specs.declared.refused.Refused.{Refused}
-use Rattle.lk_sim.specs.declared.refused.Refused.TheVariants.{NoSuchNode, NotUp, AlreadyUp, NoSuchDatagram, Forged, WorldFull, WorldMemory}
-use Rattle.lk_sim.specs.declared.seat.Seat.{Seat}
-use Rattle.lk_sim.specs.declared.seat.Life.TheVariants.{Up}
+use Rattle.lk_seats.specs.declared.refused.Refused.{Refused}
+use Rattle.lk_seats.specs.declared.refused.Refused.TheVariants.{NoSuchNode, NotUp, AlreadyUp, NoSuchDatagram, Forged, WorldFull, WorldMemory}
+use Rattle.lk_seats.specs.declared.seat.Seat.{Seat}
+use Rattle.lk_seats.specs.declared.seat.Life.TheVariants.{Up}
 use Rattle.lk_sim.proofs.Networks.{at_set_here}
 use Rattle.lk_promise.specs.Events.{IsFor, IsStarted, IsUp, IsDown, HasCause, LeavesUp, IsTaken, AreGiven, AreTaken, TakesAsTold}
 
@@ -290,7 +292,7 @@ all_sent (x ∷ said) = ap (λ (l : List Datagram). x.1 ++ l) (all_sent said)
 module _ (b : Behaviour ReplicaValue) (node_stays : (t : Trap) (r : ReplicaValue) → (b.with_trap t r).node ≡ r.node)
     (contract : (r : ReplicaValue) (o : Option (List ℕ)) (q : ReplicaValue) (came : Result (List Note × List Datagram) ℕ) → b.Takes r o q came → ComesTo table_meaning IsTableText r o q came)
     (contract_of_all : (r : ReplicaValue) (given : List (Option (List ℕ))) (q : ReplicaValue) (came : Result (List Said) ℕ) → b.TakesAll r given q came → ComesToAll table_meaning IsTableText r given q came) where
-  counted : (trap : Trap) (sends : ℕ) (r : ReplicaValue) → (doing.counting b trap sends r).node ≡ r.node
+  counted : (trap : Trap) (sends : ℕ) (r : ReplicaValue) → (sending.counting b trap sends r).node ≡ r.node
   counted Off sends r = refl
   counted (Fail count) sends r = refl
   counted (Arm count bytes) sends r = node_stays (Arm (count - sends) bytes) r
@@ -305,7 +307,7 @@ module _ (b : Behaviour ReplicaValue) (node_stays : (t : Trap) (r : ReplicaValue
           was_up = (k.seat, k.replica, (k.turns.place, k.turns.at.0, k.turns.at.1), k.number, k.up, refl);
           is_up = (
             k.next,
-            doing.after_sends b (length r.batch) r.replica,
+            sending.after_sends b (length r.batch) r.replica,
             subst (λ (l : List (Seat ReplicaValue)). Contains l k.next) (sym k.turns.seats) (k.turns.place, here.0, here.1),
             k.turns.number ∙ k.number,
             r.up,
@@ -330,7 +332,7 @@ module _ (b : Behaviour ReplicaValue) (node_stays : (t : Trap) (r : ReplicaValue
           was_up = (k.seat, k.replica, (k.turns.place, k.turns.at.0, k.turns.at.1), k.number, k.up, refl);
           is_up = (
             k.next,
-            doing.after_sends b (length (sent_of r.said)) r.replica,
+            sending.after_sends b (length (sent_of r.said)) r.replica,
             subst (λ (l : List (Seat ReplicaValue)). Contains l k.next) (sym k.turns.seats) (k.turns.place, here.0, here.1),
             k.turns.number ∙ k.number,
             r.up,

@@ -8,7 +8,8 @@ use Rattle.lk_wire.specs.declared.message.NodeMessage.TheVariants as message
 use Rattle.lk_agreement.specs.Datagrams.{Datagram}
 use Rattle.lk_step.specs.declared.note.Note.{Note}
 use Rattle.lk_step.specs.declared.note.Note.TheVariants as note
-use Rattle.lk_sim.specs.Traces.{told_by_node, told_by, told_in, Tells}
+use Rattle.lk_seats.specs.Told.{told_by_node, told_by, Tells}
+use Rattle.lk_sim.specs.Traces.{told_in}
 use Rattle.lk_promise.specs.Promise.{AreReplies, nothing_more, an_answer, a_pass, no_reply, is_told, AreTold}
 
 by_node : (d : Datagram) (ds : List Datagram) (rest : List Note) (cluster node : ℕ) (x : NodeMessage) → Spells (record { cluster = cluster; content = content.Node node x }) d.bytes → AreReplies ds rest → AreReplies (d ∷ ds) (told_by_node node x ++ rest)

@@ -3,7 +3,7 @@
 ghost use Rattle.std.specs.Prelude.{◌≡◌, ◌≢◌, ◌+◌, ◌<◌, ◌≤◌, ◌⊎◌, List, [], ℕ, Some, None, Ok, Err, IfOk, IfErr, IfSome, OnOk, IsErrOf, string_bytes};
 ghost use Rattle.std.specs.Io.KnownBytes.{Appends};
 ghost use Rattle.lk_types.specs.Limits.{max_count};
-ghost use Rattle.lk_sim.specs.declared.refused.Refused.{Refused as RefusedValue};
+ghost use Rattle.lk_seats.specs.declared.refused.Refused.{Refused as RefusedValue};
 ghost use Rattle.lk_script.specs.TableMode.{IsTableLine};
 ghost use Rattle.lk_script.specs.Worlds.{new_world, done_line};
 ghost use Rattle.lk_script.specs.Scripts.{Script, begun, table, world, IsFirstLine, IsUnderstood, Takes, Refuses, last_line};

@@ -1,8 +1,8 @@
 -- A node goes down, and keeps disks that fit.
-use Rattle.std.proofs.Common.{◌≡◌, ℕ, zero, suc, List, [], ◌++◌, take, set, get_or, refl, ap, sym, ◌∙◌, subst, inl, inr, append-nil}
+use Rattle.std.proofs.Common.{◌≡◌, ℕ, List, set, get_or, refl, ap, sym, ◌∙◌, subst, inl, inr, append-nil}
 use Rattle.std.proofs.lemmas.Bool.{cases_eq}
 use Rattle.std.proofs.lemmas.List.{get_or_default}
-use Rattle.lk_disk.specs.Disk.{Disk, kept_by}
+use Rattle.lk_disk.specs.Disk.{Disk}
 use Rattle.lk_disk.specs.Memory.{Memory}
 use Rattle.lk_disk.specs.declared.device.Side.{Side}
 use Rattle.lk_state.specs.Meanings.{Meaning}
@@ -12,22 +12,11 @@ use Rattle.lk_node.specs.Histories.{History, Genesis, Datagram, RequestValue}
 use Rattle.lk_node.specs.Holdings.{Holding}
 use Rattle.lk_node.specs.Leavings.{DisksFit}
 use Rattle.lk_sim.specs.Traces.{happened}
-use Rattle.lk_sim.specs.Seats.{UpFits, SeatFits, SeatGoes, At}
+use Rattle.lk_seats.specs.Seats.{UpFits, SeatFits, SeatGoes, At}
 use Rattle.lk_sim.specs.Worlds.{Holds}
-use Rattle.lk_sim.specs.declared.seat.Seat.{Seat}
-use Rattle.lk_sim.specs.declared.seat.Life.TheVariants.{Down}
+use Rattle.lk_seats.specs.declared.seat.Seat.{Seat}
+use Rattle.lk_seats.specs.declared.seat.Life.TheVariants.{Down}
 use Rattle.lk_sim.proofs.Lists.{at_set, at_set_here, at_set_other}
-
--- what is left once a stop is over is an image that it might leave
-pub stopped_fit : (m : Meaning) (h : History) (n : ℕ) (old new : Side → Disk) → ((s : Side) → (k : ℕ) × (new s ≡ kept_by k (old s))) → DisksFit m h n old → DisksFit m h n new
-stopped_fit m h n old new kept f image may = f image (λ s. side s (kept s).0 (kept s).1 (may s))
-  where
-    side : (s : Side) (k : ℕ) → new s ≡ kept_by k (old s) → (j : ℕ) × (image s ≡ (new s).synced ++ take j (new s).unsynced) → (j : ℕ) × (image s ≡ (old s).synced ++ take j (old s).unsynced)
-    side s k e l = (k, l.1 ∙ ap (λ (d : Disk). d.synced ++ take l.0 d.unsynced) e ∙ ap (λ z. ((old s).synced ++ take k (old s).unsynced) ++ z) (none l.0) ∙ append-nil _)
-      where
-        none : (j : ℕ) → ◌≡◌ {A = List ℕ} (take j []) []
-        none zero = refl
-        none (suc j) = refl
 
 -- a node that is down fits whatever view stands for its number
 pub any_view : {R : Type 0} (Shows : R → Genesis → ℕ → Holding → Type 0) (disks : R → Side → Disk) (m : Meaning) (h : History) (v x : View) (s : Seat R) (d : Memory) → s.life ≡ Down d

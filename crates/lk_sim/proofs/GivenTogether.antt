@@ -1,5 +1,5 @@
 -- What stands once a node was given a group.
-use Rattle.std.proofs.Common.{◌≡◌, ℕ, zero, suc, ◌⊎◌, List, [], ◌∷◌, ◌++◌, length, min, take, drop, map, set, Option, Some, None, Result, Ok, Err, OnErr, refl, ap, sym, ◌∙◌, subst, subst₂, inl, inr, append-nil}
+use Rattle.std.proofs.Common.{◌≡◌, ℕ, ◌⊎◌, List, [], ◌∷◌, ◌++◌, length, min, take, drop, map, set, Option, Some, None, Ok, refl, ap, sym, ◌∙◌, subst, subst₂, inl, inr, append-nil}
 use Rattle.std.specs.List.{AllByRecursion}
 use Rattle.std.proofs.Math.Seq.{take-append_seam, drop-append_seam}
 use Rattle.std.proofs.lemmas.List.{length-take, take-append-drop}
@@ -7,112 +7,45 @@ use Rattle.lk_disk.specs.Disk.{Disk, kept_by}
 use Rattle.lk_disk.specs.Memory.{Memory, disk_of}
 use Rattle.lk_disk.specs.declared.device.Side.{Side}
 use Rattle.lk_disk.specs.declared.device.Side.TheVariants.{A, B}
-use Rattle.lk_disk.specs.declared.trap.Trap.{Trap}
-use Rattle.lk_log.specs.Rooms.{StaysWithin}
-use Rattle.lk_log.proofs.Room.{within_same, within_still}
 use Rattle.lk_state.specs.Meanings.{Meaning}
-use Rattle.lk_agreement.specs.Nodes.{View}
 use Rattle.lk_step.specs.declared.input.Input.{Input}
 use Rattle.lk_step.specs.declared.input.Input.TheVariants.{Tick, Datagram as Heard}
 use Rattle.lk_step.specs.declared.note.Note.{Note}
-use Rattle.lk_node.specs.Calls.{heard_by, InputFits, NodeFits, Goes}
+use Rattle.lk_node.specs.Calls.{heard_by, InputFits}
 use Rattle.lk_node.specs.Histories.{History, Genesis, Datagram}
 use Rattle.lk_node.specs.Holdings.{Holding}
 use Rattle.lk_node.specs.Leavings.{DisksFit}
 use Rattle.lk_replica.specs.Behaviours.{Behaviour, TrapsAlone, disks_by}
 use Rattle.lk_replica.specs.Together.{Said, sent_of, parts_of, GoesAll}
 use Rattle.lk_replica.specs.declared.taken.Step.{Step}
-use Rattle.lk_sim.specs.Events.{Adds, AreAllOwn, BreaksTogether, Falls, IsToldEnd, ComesTogether, IsGivenTogether, IsHalted, LeftByGroup, SentUpTo, after_sends, counting, stop_among, end_at}
-use Rattle.lk_sim.specs.Groups.{WasSentTo, WereSentTo, AreNotesOf, left_over, cut_short, given_by}
-use Rattle.lk_sim.specs.Outcomes.{HasTakenTogether, HasFallenTogether, HasSettledSteps, HasGivenUp, HasFallen, Rests}
-use Rattle.lk_sim.specs.Refusals.{datagram_at, AreFor, IsFor}
-use Rattle.lk_sim.specs.Rooms.{AreShort}
+use Rattle.lk_seats.specs.Ends.{BreaksTogether, IsToldEnd, end_at}
+use Rattle.lk_seats.specs.Sends.{after_sends, stop_among}
+use Rattle.lk_sim.specs.Events.{Adds, AreAllOwn, Falls, ComesTogether, IsGivenTogether, LeftByGroup}
+use Rattle.lk_sim.specs.Groups.{WasSentTo, WereSentTo, AreNotesOf, given_by}
+use Rattle.lk_seats.specs.Outcomes.{HasTakenTogether, HasFallenTogether, Rests}
+use Rattle.lk_sim.specs.Settled.{HasSettledSteps, HasGivenUp}
+use Rattle.lk_sim.specs.Refusals.{AreFor, IsFor}
+use Rattle.lk_seats.specs.Rooms.{AreShort}
 use Rattle.lk_sim.specs.Scenes.{Scene}
-use Rattle.lk_sim.specs.Seats.{At, SeatFits, stopped_on, fallen_on, device_in}
-use Rattle.lk_sim.specs.Traces.{happened, Tells}
+use Rattle.lk_seats.specs.Seats.{At, SeatFits, stopped_on, fallen_on, device_in}
+use Rattle.lk_seats.specs.Told.{Tells}
+use Rattle.lk_sim.specs.Traces.{happened}
 use Rattle.lk_sim.specs.Worlds.{Holds}
-use Rattle.lk_sim.specs.declared.end.End.{End}
-use Rattle.lk_sim.specs.declared.end.End.TheVariants.{Stopped}
+use Rattle.lk_seats.specs.declared.end.End.{End}
 use Rattle.lk_sim.specs.declared.event.Turn.{Turn}
 use Rattle.lk_sim.specs.declared.event.Turn.TheVariants as turn
-use Rattle.lk_sim.specs.declared.seat.Seat.{Seat}
-use Rattle.lk_sim.specs.declared.seat.Life.{Life}
-use Rattle.lk_sim.specs.declared.seat.Life.TheVariants.{Up, Down}
+use Rattle.lk_seats.specs.declared.seat.Seat.{Seat}
+use Rattle.lk_seats.specs.declared.seat.Life.{Life}
+use Rattle.lk_seats.specs.declared.seat.Life.TheVariants.{Up, Down}
 use Rattle.lk_sim.proofs.Doing.{StopsOn, at_same, falls}
-use Rattle.lk_sim.proofs.Ending.{stopped_fit}
-use Rattle.lk_sim.proofs.Given.{down_fits, set_twice, went_down}
-use Rattle.lk_sim.proofs.Growth.{same_disks}
-use Rattle.lk_sim.proofs.Grouping.{group_holds, group_own, cut_goes, cut_sent}
+use Rattle.lk_seats.proofs.Fitting.{stopped_fit, down_fits}
+use Rattle.lk_sim.proofs.Given.{set_twice, went_down}
+use Rattle.lk_sim.proofs.Grouping.{group_holds, group_own}
 use Rattle.lk_sim.proofs.Hearing.{heard_sent, datagram_listed}
 use Rattle.lk_sim.proofs.Lists.{at_set_here}
-use Rattle.lk_sim.proofs.Shortness.{kept_short, same_short}
-use Rattle.lk_sim.proofs.Stopping.{counted_goes, counted_disks, sent_short, stopped_sent}
-
--- ---- the steps, of what was sent in front of a stop
-
-take_nothing : {X : Type 0} (k : ℕ) → let none : List X = [] in take k none ≡ none
-take_nothing zero = refl
-take_nothing (suc k) = refl
-
-take_swap : {X : Type 0} (j k : ℕ) (xs : List X) → take j (take k xs) ≡ take k (take j xs)
-take_swap zero k xs = sym (take_nothing k)
-take_swap (suc j) zero xs = refl
-take_swap (suc j) (suc k) [] = refl
-take_swap (suc j) (suc k) (x ∷ xs) = ap (λ l. x ∷ l) (take_swap j k xs)
-
-drop_cut : {X : Type 0} (j k : ℕ) (xs : List X) → drop j (take k xs) ≡ take (left_over k (take j xs)) (drop j xs)
-drop_cut zero k xs = refl
-drop_cut (suc j) zero [] = refl
-drop_cut (suc j) (suc k) [] = refl
-drop_cut (suc j) zero (x ∷ xs) = refl
-drop_cut (suc j) (suc k) (x ∷ xs) = drop_cut j k xs
-
-pub parts_cut : (steps : List Step) (all : List Datagram) (k : ℕ) → parts_of steps (take k all) ≡ cut_short k (parts_of steps all)
-parts_cut [] all k = refl
-parts_cut (s ∷ steps) all k =
-    let own = take_swap s.sends k all in
-    let rest = ap (parts_of steps) (drop_cut s.sends k all) ∙ parts_cut steps (drop s.sends all) (left_over k (take s.sends all)) in
-    λ i. (s.notes.items, own i) ∷ rest i
-
--- all that was sent is of the steps, up to a stop
-pub still_whole : {R : Type 0} (b : Behaviour R) (stop : Option ℕ) (r q : R) (steps : List Step) (all sent : List Datagram) → SentUpTo b stop r q all sent → all ≡ sent_of (parts_of steps all) → sent ≡ sent_of (parts_of steps sent)
-still_whole b None r q steps all sent up whole = subst (λ (l : List Datagram). l ≡ sent_of (parts_of steps l)) (sym up.2) whole
-still_whole b (Some bytes) r q steps all sent up whole =
-    subst (λ (l : List Datagram). l ≡ sent_of (parts_of steps l)) (sym up.3)
-    (ap (take up.0) whole ∙ sym (cut_sent up.0 (parts_of steps all)) ∙ ap sent_of (sym (parts_cut steps all up.0)))
-
--- ---- the replica, once its sends are counted
-
--- it goes on so too by one that does as much
-goes_all_on : {R : Type 0} (Shows : R → Genesis → ℕ → Holding → Type 0) (disks : R → Side → Disk) (m : Meaning) (n : ℕ) (is : List Input) (r q p : R) (said : List Said)
-    → ((h : History) → Goes m h n (Shows q h.genesis n) (disks q) [] [] → Goes m h n (Shows p h.genesis n) (disks p) [] []) → StaysWithin 0 (disks q) (disks p)
-    → GoesAll Shows disks m n r is q said → GoesAll Shows disks m n r is p said
-goes_all_on Shows disks m n [] r q p said on short goes = (goes.0, λ h f. on h (goes.1 h f), within_still 132704 (disks r) (disks q) (disks p) goes.2 short)
-goes_all_on Shows disks m n (x ∷ is) r q p said on short goes = (goes.0, goes.1, goes.2, goes.3, goes.4, goes.5, goes_all_on Shows disks m n is goes.0 q p goes.2 on short goes.6)
-
-module _ {R : Type 0} (b : Behaviour R) (alone : TrapsAlone b) (Shows : R → Genesis → ℕ → Holding → Type 0)
-    (shows_on : (t : Trap) (r : R) (genesis : Genesis) (n : ℕ) (x : Holding) → Shows r genesis n x → Shows (b.with_trap t r) genesis n x) where
-  pub goes_up_to_all : (m : Meaning) (n : ℕ) (is : List Input) (first r q : R) (steps : List Step) (stop : Option ℕ) (all sent : List Datagram) → SentUpTo b stop r q all sent
-      → GoesAll Shows (disks_by b) m n first is r (parts_of steps all) → GoesAll Shows (disks_by b) m n first is q (parts_of steps sent)
-  goes_up_to_all m n is first r q steps None all sent up goes =
-      let t = (b.memory r).meter.trap in
-      let counted = goes_all_on Shows (disks_by b) m n is first r (counting b t (length all) r) (parts_of steps all)
-      (λ h g. counted_goes b alone Shows shows_on m h n [] t (length all) r [] g)
-      (within_same 0 (disks_by b r) (disks_by b (counting b t (length all) r)) (λ s. counted_disks b alone Shows shows_on t (length all) r s)) goes in
-      subst (λ (l : List Datagram). GoesAll Shows (disks_by b) m n first is q (parts_of steps l)) (sym up.2)
-      (subst (λ (z : R). GoesAll Shows (disks_by b) m n first is z (parts_of steps all)) (sym up.1) counted)
-  goes_up_to_all m n is first r q steps (Some bytes) all sent up goes =
-      subst (λ (l : List Datagram). GoesAll Shows (disks_by b) m n first is q (parts_of steps l)) (sym up.3)
-      (subst (λ (l : List Said). GoesAll Shows (disks_by b) m n first is q l) (sym (parts_cut steps all up.0))
-      (subst (λ (z : R). GoesAll Shows (disks_by b) m n first is z (cut_short up.0 (parts_of steps all))) (sym up.2)
-      (cut_goes Shows (disks_by b) m n is first r (parts_of steps all) up.0 goes)))
-
-  -- and whatever a stop may leave of it fits as it did
-  pub left_up_to : (m : Meaning) (h : History) (n : ℕ) (stop : Option ℕ) (r q : R) (all sent : List Datagram) → SentUpTo b stop r q all sent → DisksFit m h n (disks_by b r) → DisksFit m h n (disks_by b q)
-  left_up_to m h n None r q all sent up left =
-      subst (λ (z : R). DisksFit m h n (disks_by b z)) (sym up.1)
-      (same_disks m h n (disks_by b r) (disks_by b (after_sends b (length all) r)) (λ s. counted_disks b alone Shows shows_on (b.memory r).meter.trap (length all) r s) left)
-  left_up_to m h n (Some bytes) r q all sent up left = subst (λ (z : R). DisksFit m h n (disks_by b z)) (sym up.2) left
+use Rattle.lk_seats.proofs.Shortness.{kept_short}
+use Rattle.lk_seats.proofs.Stopping.{nothing_sent, stopped_sent}
+use Rattle.lk_seats.proofs.Together.{parts_cut, still_whole}
 
 -- ---- what it may be given
 
@@ -226,20 +159,12 @@ none_taken : (steps : List Step) (sent : List Datagram) → parts_of steps sent 
 none_taken [] sent e = refl
 none_taken (s ∷ steps) sent e = absurd (cc e)
 
-none_sent : {R : Type 0} (b : Behaviour R) (stop : Option ℕ) (r q : R) (all batch : List Datagram) → SentUpTo b stop r q all batch → all ≡ [] → batch ≡ []
-none_sent b None r q all batch s none = s.2 ∙ none
-none_sent b (Some bytes) r q all batch s none = s.3 ∙ ap (take s.0) none ∙ nothing s.0
-  where
-    nothing : (k : ℕ) → take k (let none : List Datagram = [] in none) ≡ []
-    nothing zero = refl
-    nothing (suc k) = refl
-
 -- whatever a group came to, a stop leaves of the node's device what it leaves of the one that the call left
 pub group_left : {R : Type 0} (b : Behaviour R) → TrapsAlone b → (r : R) (given : List (Option (List ℕ))) (life : Life R) (t : Seat R) (steps : List Step) (batch : List Datagram) (how : Option End) (stop : Option ℕ)
     → (steps ≡ [] → batch ≡ [] → ⊥) → life ≡ Up r → HasTakenTogether b r given t steps batch how stop ⊎ HasFallenTogether (BreaksTogether b r given) t steps batch how stop → StopsOn b (LeftByGroup b given life) t.life
 group_left b alone r given life t steps batch how stop some up (inl k) = (
   b.memory k.replica,
-  (r, k.replica, Ok (parts_of steps k.all), up, k.takes, refl, λ none. some (none_taken steps k.all none) (none_sent b stop k.replica k.after k.all batch k.sends (k.whole ∙ ap sent_of none))),
+  (r, k.replica, Ok (parts_of steps k.all), up, k.takes, refl, λ none. some (none_taken steps k.all none) (nothing_sent b stop k.replica k.after k.all batch k.sends (k.whole ∙ ap sent_of none))),
   ap (λ (z : Life _). stopped_on 0 0 (device_in b z)) k.up ∙ stopped_sent b alone stop k.replica k.after k.all batch k.sends,
 )
 group_left b alone r given life t steps batch how stop some up (inr f) = absurd (some f.no_steps f.fallen.no_batch)
@@ -327,22 +252,7 @@ pub all_own : {R : Type 0} (Shows : R → Genesis → ℕ → Holding → Type 0
 all_own Shows disks m genesis seats sent trace notes w i s at is r q steps batch all up were goes tells =
     own_too steps batch all (group_own Shows disks m genesis i is r q (parts_of steps batch) seats sent trace notes s w at up were goes tells)
 
--- ---- of calls
-
--- where a node is down, what a stop may leave of it fits as it did
-pub down_left : {R : Type 0} (Shows : R → Genesis → ℕ → Holding → Type 0) (b : Behaviour R) (m : Meaning) (h : History) (w : View) (s : Seat R) (d : Memory) → s.life ≡ Down d → SeatFits Shows (disks_by b) m h w s
-    → DisksFit m h s.number (disk_of (device_in b s.life)) × AreShort (disk_of (device_in b s.life))
-down_left Shows b m h w s d down f = (
-  subst (λ (l : Life _). DisksFit m h s.number (disk_of (device_in b l))) (sym down) (f.down d down),
-  subst (λ (l : Life _). AreShort (disk_of (device_in b l))) (sym down) (f.room d down),
-)
-
--- what holds after any exit holds after a refusal
-pub on_err_of : {T E : Type 0} {P : Type 0} (r : Result T E) → P → OnErr r P
-on_err_of (Ok x) p = tt
-on_err_of (Err e) p = p
-
--- no more than there are
+-- ---- no more than there are
 pub take_min : {X : Type 0} (k : ℕ) (xs : List X) → take (min k (length xs)) xs ≡ take k xs
 take_min k xs = ap (λ j. take j xs) (sym (length-take k xs)) ∙ ap (take (length (take k xs))) (sym (take-append-drop k xs)) ∙ take-append_seam (take k xs) (drop k xs)
 

@@ -1,5 +1,5 @@
 -- A node takes several inputs, one after another, before it sends: what is then added keeps all that holds of the world.
-use Rattle.std.proofs.Common.{◌≡◌, ℕ, List, [], ◌∷◌, ◌++◌, set, Contains, refl, ap, sym, ◌∙◌, subst, append_assoc, zero, suc, take}
+use Rattle.std.proofs.Common.{◌≡◌, ℕ, List, [], ◌∷◌, ◌++◌, set, refl, ap, sym, ◌∙◌, subst, append_assoc}
 use Rattle.std.proofs.lemmas.List.Elements.{Contains-append_left}
 use Rattle.lk_disk.specs.Disk.{Disk}
 use Rattle.lk_disk.specs.declared.device.Side.{Side}
@@ -7,25 +7,25 @@ use Rattle.lk_state.specs.Meanings.{Meaning}
 use Rattle.lk_step.specs.declared.note.Note.{Note}
 use Rattle.lk_step.specs.declared.input.Input.{Input}
 use Rattle.lk_step.specs.declared.input.Input.TheVariants.{Tick, Datagram as Heard}
-use Rattle.lk_node.specs.Calls.{InputFits, NodeFits, Goes}
-use Rattle.lk_node.specs.Histories.{History, Genesis, Datagram}
+use Rattle.lk_node.specs.Calls.{InputFits, Goes}
+use Rattle.lk_node.specs.Histories.{Genesis, Datagram}
 use Rattle.lk_node.specs.Holdings.{Holding}
 pub use Rattle.lk_replica.specs.Together.{Said, sent_of, said_by_steps, GoesAll}
 pub use Rattle.lk_replica.proofs.TakenTogether.{goes_all}
-pub use Rattle.lk_sim.specs.Groups.{WasSentTo, WereSentTo, AreNotesOf, left_over, cut_short}
-use Rattle.lk_sim.specs.Events.{AreOwn, AreAllOwn}
-use Rattle.lk_sim.specs.Seats.{At}
-use Rattle.lk_sim.specs.Traces.{happened, Tells}
+pub use Rattle.lk_sim.specs.Groups.{WasSentTo, WereSentTo, AreNotesOf}
+use Rattle.lk_sim.specs.Events.{AreAllOwn}
+use Rattle.lk_seats.specs.Seats.{At}
+use Rattle.lk_sim.specs.Traces.{happened}
 use Rattle.lk_sim.specs.Worlds.{Holds}
-use Rattle.lk_sim.specs.declared.seat.Seat.{Seat}
-use Rattle.lk_sim.specs.declared.seat.Life.TheVariants.{Up}
-use Rattle.lk_sim.proofs.Given.{node_fits, set_twice}
+use Rattle.lk_seats.specs.declared.seat.Seat.{Seat}
+use Rattle.lk_seats.specs.declared.seat.Life.TheVariants.{Up}
+use Rattle.lk_seats.proofs.Fitting.{node_fits}
+use Rattle.lk_sim.proofs.Given.{set_twice}
 use Rattle.lk_sim.proofs.Hearing.{heard_sent}
 use Rattle.lk_sim.proofs.Lists.{at_set_here}
 use Rattle.lk_sim.proofs.Sending.{goes_on}
-use Rattle.lk_sim.proofs.Shortness.{stepped_short}
+use Rattle.lk_seats.proofs.Shortness.{stepped_short}
 use Rattle.lk_sim.proofs.Explaining.{lawful}
-use Rattle.lk_sim.proofs.Stopping.{goes_before}
 
 still_sent_to : (sent more : List Datagram) (is : List Input) → WereSentTo sent is → WereSentTo (sent ++ more) is
 still_sent_to sent more [] w = tt
@@ -88,36 +88,3 @@ module _ {R : Type 0} (Shows : R → Genesis → ℕ → Holding → Type 0) (di
       fits : (x : Input) → WasSentTo sent x → InputFits (happened genesis sent trace) x
       fits Tick was = tt
       fits (Heard bytes) was = heard_sent Shows disks m genesis seats sent trace w was.0 was.1 bytes.now was.2
-
--- ---- a stop at one of its sends
-
-take_both : {X : Type 0} (k : ℕ) (xs ys : List X) → take k xs ++ take (left_over k xs) ys ≡ take k (xs ++ ys)
-take_both k [] ys = nothing k
-  where
-    nothing : (k : ℕ) → take k [] ++ take k ys ≡ take k ys
-    nothing zero = refl
-    nothing (suc k) = refl
-take_both zero (x ∷ xs) ys = refl
-take_both (suc k) (x ∷ xs) ys = ap (λ l. x ∷ l) (take_both k xs ys)
-
-pub cut_sent : (k : ℕ) (said : List Said) → sent_of (cut_short k said) ≡ take k (sent_of said)
-cut_sent k [] = nothing k
-  where
-    nothing : (k : ℕ) → sent_of [] ≡ take k (sent_of [])
-    nothing zero = refl
-    nothing (suc k) = refl
-cut_sent k (x ∷ xs) = ap (λ l. take k x.1 ++ l) (cut_sent (left_over k x.1) xs) ∙ take_both k x.1 (sent_of xs)
-
--- goes on so too, with all of its notes: each step may send less than it said
-pub cut_goes : {R : Type 0} (Shows : R → Genesis → ℕ → Holding → Type 0) (disks : R → Side → Disk) (m : Meaning) (n : ℕ) (is : List Input) (r q : R) (said : List Said) (k : ℕ)
-    → GoesAll Shows disks m n r is q said → GoesAll Shows disks m n r is q (cut_short k said)
-cut_goes Shows disks m n [] r q said k goes = (ap (cut_short k) goes.0, goes.1, goes.2)
-cut_goes Shows disks m n (x ∷ is) r q said k goes = (
-  goes.0,
-  (goes.1.0, take k goes.1.1),
-  cut_short (left_over k goes.1.1) goes.2,
-  ap (cut_short k) goes.3,
-  λ h f heard. goes_before m h n (Shows goes.0 h.genesis n) (disks goes.0) goes.1.0 k goes.1.1 (goes.4 h f heard),
-  goes.5,
-  cut_goes Shows disks m n is goes.0 q goes.2 (left_over k goes.1.1) goes.6,
-)

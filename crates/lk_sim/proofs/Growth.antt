@@ -1,5 +1,5 @@
 -- What fits goes on fitting as more is sent and asked.
-use Rattle.std.proofs.Common.{◌≡◌, ℕ, List, ◌++◌, take, Contains, subst}
+use Rattle.std.proofs.Common.{ℕ, List, ◌++◌, Contains}
 use Rattle.lk_disk.specs.Disk.{Disk}
 use Rattle.lk_disk.specs.declared.device.Side.{Side}
 use Rattle.lk_state.specs.Meanings.{Meaning}
@@ -30,10 +30,6 @@ disks_move m genesis sent now asked since n disks covers stems f image may =
       stems = stems _ i.stems;
       near = i.near;
     }
-
--- so with other disks that are the same
-pub same_disks : (m : Meaning) (h : History) (n : ℕ) (old new : Side → Disk) → ((s : Side) → new s ≡ old s) → DisksFit m h n old → DisksFit m h n new
-same_disks m h n old new same f image may = f image (λ s. subst (λ d. (k : ℕ) × (image s ≡ d.synced ++ take k d.unsynced)) (same s) (may s))
 
 module _ (genesis : Genesis) (sent more : List Datagram) (asked since : List RequestValue) (among : (r : RequestValue) → Contains asked r → Contains since r) where
   abbrev before : History

@@ -1,7 +1,6 @@
 mod Lists
 mod Told
 mod Growth
-mod Shortness
 mod Bearing
 mod Ordering
 mod Explaining
@@ -16,7 +15,6 @@ mod Ends
 mod Doing
 mod Snapshots
 mod Running
-mod Stopping
 pub mod Networks
 mod Grouping
 mod GivenTogether

@@ -1,5 +1,5 @@
 -- Lists.
-use Rattle.std.proofs.Common.{◌≡◌, ℕ, zero, suc, ◌<◌, ◌⊎◌, List, [], ◌∷◌, ◌++◌, length, set, Some, slice_get, take, Contains, refl, ap, sym, ◌∙◌, subst, inl, inr, append_assoc}
+use Rattle.std.proofs.Common.{◌≡◌, ℕ, ◌<◌, ◌⊎◌, List, [], ◌∷◌, ◌++◌, length, set, Contains, refl, ap, sym, ◌∙◌, subst, inl, inr, append_assoc}
 use Rattle.std.proofs.lemmas.Bool.{cases_eq}
 use Rattle.std.proofs.lemmas.List.{get_or-set_other, length-set}
 use Rattle.std.proofs.lemmas.Grind.{get_or-set_at}
@@ -7,7 +7,7 @@ use Rattle.std.proofs.lemmas.List.Elements.{Contains-append_left}
 use Rattle.lk_step.specs.declared.note.Note.{Note}
 use Rattle.lk_node.specs.Histories.{RequestValue}
 use Rattle.lk_sim.specs.Traces.{asked_by, asked_in}
-use Rattle.lk_sim.specs.Seats.{At}
+use Rattle.lk_seats.specs.Seats.{At}
 
 pub at_set : {X : Type 0} (xs : List X) (i : ℕ) (y : X) (j : ℕ) (x : X) → At (set xs i y) j x → ((j ≡ i) × (y ≡ x)) ⊎ ((j ≡ i → ⊥) × At xs j x)
 at_set xs i y j x at =
@@ -29,11 +29,6 @@ asked_in-append (x ∷ xs) ys = ap (λ l. asked_by x ++ l) (asked_in-append xs y
 
 pub asked_among : (xs ys : List Note) (r : RequestValue) → Contains (asked_in xs) r → Contains (asked_in (xs ++ ys)) r
 asked_among xs ys r c = subst (λ l. Contains l r) (sym (asked_in-append xs ys)) (Contains-append_left (asked_in xs) (asked_in ys) r c)
-
-pub take_next : {X : Type 0} (L : List X) (k : ℕ) (v : X) → slice_get L k ≡ Some v → take (suc k) L ≡ take k L ++ v ∷ []
-take_next [] k v h = absurd cc
-take_next (x ∷ L) zero v h = cc
-take_next (x ∷ L) (suc k) v h = ap (λ l. x ∷ l) (take_next L k v h)
 
 pub set_last : {X : Type 0} (xs : List X) (y z : X) → set (xs ++ y ∷ []) (length xs) z ≡ xs ++ z ∷ []
 set_last [] y z = refl

@@ -11,10 +11,9 @@ use Rattle.lk_node.specs.Served.{text}
 use Rattle.lk_replica.specs.Behaviours.{Behaviour, disks_by}
 use Rattle.lk_recovery.specs.Compacting.{AllStandAt}
 use Rattle.lk_sim.specs.Events.{Does, IsCompacted, IsPacked}
-use Rattle.lk_sim.specs.Kept.{disks_of}
+use Rattle.lk_seats.specs.Seats.{disks_of, At}
 use Rattle.lk_sim.specs.Packed.{StandsPacked, LeavesPacked}
 use Rattle.lk_sim.specs.Scenes.{Scene}
-use Rattle.lk_sim.specs.Seats.{At}
 use Rattle.lk_sim.specs.Worlds.{Holds}
 use Rattle.lk_sim.specs.declared.event.Event.{Event}
 use Rattle.lk_sim.specs.declared.event.Event.TheVariants as event

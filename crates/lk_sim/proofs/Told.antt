@@ -1,5 +1,5 @@
 -- Answers and passes, by the datagrams and by the trace.
-use Rattle.std.proofs.Common.{◌≡◌, ℕ, List, [], ◌∷◌, ◌++◌, take, suc, slice_get, Some, Contains, refl, ap, sym, ◌∙◌, subst, inl, inr, arith, append_assoc}
+use Rattle.std.proofs.Common.{◌≡◌, ℕ, List, [], ◌∷◌, ◌++◌, Contains, refl, ap, sym, ◌∙◌, subst, inl, inr, arith, append_assoc}
 use Rattle.std.proofs.lemmas.List.Elements.{Contains-append_cases}
 use Rattle.lk_wire.specs.Grammar.{Spells}
 use Rattle.lk_wire.specs.declared.message.Content.{Content}
@@ -10,17 +10,12 @@ use Rattle.lk_wire.specs.declared.message.NodeMessage.TheVariants as kinds
 use Rattle.lk_state.specs.Meanings.{Meaning}
 use Rattle.lk_agreement.specs.Datagrams.{said_by}
 use Rattle.lk_agreement.proofs.Histories.{only, contains_more}
-use Rattle.lk_sim.proofs.Lists.{take_next}
 use Rattle.lk_step.specs.declared.note.Note.{Note}
 use Rattle.lk_step.specs.declared.note.Note.TheVariants as note
 use Rattle.lk_node.specs.Histories.{History, Datagram, Command}
 use Rattle.lk_node.specs.Served.{IsOfNode, BearsOut, BearsOutMessage}
-use Rattle.lk_sim.specs.Traces.{told_by_node, told_by, told_of, told_in, Tells}
-
-pub tells_append : (a b : List Datagram) (x y : List Note) → Tells a x → Tells b y → Tells (a ++ b) (x ++ y)
-tells_append [] b x y s t = subst (λ l. Tells b (l ++ y)) (sym s) t
-tells_append (d ∷ a) b x y s t =
-    (s.0, s.1 ++ y, s.2, ap (λ l. l ++ y) s.3 ∙ append_assoc (told_by s.0.content) s.1 y, tells_append a b s.1 y s.4 t)
+use Rattle.lk_seats.specs.Told.{told_by_node, told_by, Tells}
+use Rattle.lk_sim.specs.Traces.{told_of, told_in}
 
 pub told_in-append : (xs ys : List Note) → told_in (xs ++ ys) ≡ told_in xs ++ told_in ys
 told_in-append [] ys = refl
@@ -82,7 +77,3 @@ bears_told m h L n (kinds.Want k) bytes s b x c = absurd (omega (arith, c.1))
 bears_told m h L n (kinds.Part p) bytes s b x c = absurd (omega (arith, c.1))
 bears_told m h L n (kinds.Elsewhere e) bytes s b x c = absurd (omega (arith, c.1))
 bears_told m h L n (kinds.Lead k e) bytes s b x c = absurd (omega (arith, c.1))
-
--- one datagram more
-pub tells_next : (ds : List Datagram) (i : ℕ) (d : Datagram) (x y : List Note) → slice_get ds i ≡ Some d → Tells (take i ds) x → Tells (d ∷ []) y → Tells (take (suc i) ds) (x ++ y)
-tells_next ds i d x y at s t = subst (λ l. Tells l (x ++ y)) (sym (take_next ds i d at)) (tells_append (take i ds) (d ∷ []) x y s t)

@@ -1,11 +1,11 @@
 -- What an event does to a world.
-use Rattle.std.specs.Prelude.{◌≡◌, ℕ, ◌+◌, ◌<◌, ◌-◌, ◌⊎◌, ◌&&◌, nat_lt, nat_le, true, false, length, map, take, List, [], ◌∷◌, ◌++◌, Option, Some, None, Result, Ok, Err, set, Contains, if◌then◌else◌, Vec, vec_len, vec_capacity}
+use Rattle.std.specs.Prelude.{◌≡◌, ℕ, ◌+◌, ◌<◌, ◌⊎◌, length, map, take, List, [], ◌∷◌, ◌++◌, Option, Some, None, Result, Ok, Err, set, Contains, Vec, vec_len, vec_capacity}
 use Rattle.std.specs.Global.{Global}
 use Rattle.std.specs.List.{AllByRecursion}
 use Rattle.lk_disk.specs.Memory.{Memory, empty}
 use Rattle.lk_disk.specs.Meters.{Passes, stopping}
 use Rattle.lk_disk.specs.declared.trap.Trap.{Trap}
-use Rattle.lk_disk.specs.declared.trap.Trap.TheVariants.{Off, Fail, Arm}
+use Rattle.lk_disk.specs.declared.trap.Trap.TheVariants.{Fail, Arm}
 use Rattle.lk_entries.specs.Values.{HeaderValue}
 use Rattle.lk_log.specs.Causes.{rebase_calls}
 use Rattle.lk_wire.specs.Grammar.{Spells}
@@ -17,24 +17,25 @@ use Rattle.lk_node.specs.Histories.{Datagram, Genesis, RequestValue}
 use Rattle.lk_node.specs.Leavings.{header_of}
 use Rattle.lk_node.specs.Served.{IsOfNode}
 use Rattle.lk_replica.specs.Behaviours.{Behaviour}
-use Rattle.lk_recovery.specs.Faults.{RefusedAfter}
 use Rattle.lk_replica.specs.Together.{Said, sent_of}
-use Rattle.lk_sim.specs.Groups.{AreNotesOf, cut_short, given_by}
+use Rattle.lk_seats.specs.Ends.{Breaks, BreaksTogether, StaysDown, FailsToPack, IsNoWant, IsWant, IsToldEnd, end_by}
+use Rattle.lk_seats.specs.Seats.{At, stopped_on, rested_on, IsTrapped}
+use Rattle.lk_seats.specs.Sends.{stop_among, after_sends, cut_short}
+use Rattle.lk_seats.specs.Told.{Tells}
+use Rattle.lk_seats.specs.declared.end.End.TheVariants.{Stopped}
+use Rattle.lk_seats.specs.declared.refused.Refused.{Refused}
+use Rattle.lk_seats.specs.declared.refused.Refused.TheVariants.{WorldMemory}
+use Rattle.lk_seats.specs.declared.seat.Seat.{Seat}
+use Rattle.lk_seats.specs.declared.seat.Life.{Life}
+use Rattle.lk_seats.specs.declared.seat.Life.TheVariants.{Up, Down}
+use Rattle.lk_sim.specs.Groups.{AreNotesOf, given_by}
 use Rattle.lk_sim.specs.Heard.{Asks}
 use Rattle.lk_sim.specs.Refusals.{datagram_at, May, MayGroup, MayInject, MayNot, NoGroup, NoInjection}
 use Rattle.lk_sim.specs.Scenes.{Scene}
-use Rattle.lk_sim.specs.Seats.{At, stopped_on, rested_on, IsTrapped}
-use Rattle.lk_sim.specs.Traces.{Tells, asked_note}
-use Rattle.lk_sim.specs.declared.end.End.{End}
-use Rattle.lk_sim.specs.declared.end.End.TheVariants.{Fault, Stopped}
+use Rattle.lk_sim.specs.Traces.{asked_note}
 use Rattle.lk_sim.specs.declared.event.Event.{Event}
 use Rattle.lk_sim.specs.declared.event.Event.TheVariants as event
 use Rattle.lk_sim.specs.declared.event.Turn.{Turn}
-use Rattle.lk_sim.specs.declared.refused.Refused.{Refused}
-use Rattle.lk_sim.specs.declared.refused.Refused.TheVariants.{WorldMemory}
-use Rattle.lk_sim.specs.declared.seat.Seat.{Seat}
-use Rattle.lk_sim.specs.declared.seat.Life.{Life}
-use Rattle.lk_sim.specs.declared.seat.Life.TheVariants.{Up, Down}
 
 -- only this node has changed
 pub record Turns {R : Type 0} (old new : List (Seat R)) (s t : Seat R) : Type 0 where
@@ -52,73 +53,6 @@ pub record Adds {R : Type 0} (old new : Scene R) (notes : List Note) (batch : Li
   pub genesis : new.genesis ≡ old.genesis
   pub sent : new.sent ≡ old.sent ++ batch
   pub trace : new.trace ≡ old.trace ++ notes
-
--- a call of the replica failed with the fault of this number, and left this device
-abbrev pub Breaks : {R : Type 0} → Behaviour R → R → Option (List ℕ) → ℕ → Memory → Type 0
-Breaks {R = R} b r o number left = (q : R) × b.Takes r o q (Err number) × RefusedAfter number (b.memory r).meter left.meter × (left ≡ b.memory q)
-
--- a restart failed with the fault of this number, and left this device
-abbrev pub StaysDown : {R : Type 0} → Behaviour R → Memory → HeaderValue → ℕ → Memory → Type 0
-StaysDown b device header number left = b.Revives device header (Err (number, left)) × RefusedAfter number device.meter left.meter
-
--- a compaction failed with the fault of this number, and left this device
-abbrev pub FailsToPack : {R : Type 0} → Behaviour R → R → ℕ → Memory → Type 0
-FailsToPack {R = R} b r number left = (q : R) × b.Compacts r q (Err number) × RefusedAfter number (b.memory r).meter left.meter × (left ≡ b.memory q)
-
--- a fault other than "out of memory"
-pub record IsNoWant (number : ℕ) (left : Memory) : Type 0 where
-  pub memory : number ≡ 8 → ⊥
-  pub halted : number ≡ 14 → ⊥
-  pub letters : number ≡ 15 → ⊥
-  pub starved : left.meter.starved ≡ false
-
--- the fault "out of memory"
-abbrev pub IsWant : ℕ → Memory → Type 0
-IsWant number left = (number ≡ 8) ⊎ (number ≡ 14) ⊎ (number ≡ 15) ⊎ (left.meter.starved ≡ true)
-
--- the fault is neither that of a damaged store nor that of another's
-abbrev pub IsSound : ℕ → Type 0
-IsSound number = (number ≡ 9 → ⊥) × (number ≡ 10 → ⊥)
-
--- only such a fault ends a node: the device has failed, or the store failed earlier or has no generation left
-abbrev pub IsNumberOfEnd : ℕ → Type 0
-IsNumberOfEnd number = (number ≡ 7) ⊎ (number ≡ 11)
-
--- the same of an end that reports a fault
-abbrev pub IsToldEnd : Option End → Type 0
-IsToldEnd None = Unit {0}
-IsToldEnd (Some (Fault n number)) = IsNumberOfEnd number
-IsToldEnd (Some (Stopped n)) = Unit {0}
-
--- how a node ended: with an armed stop if it has reached one, or else with a fault of this number
-abbrev pub end_by : Option ℕ → ℕ → ℕ → End
-end_by None n number = Fault n number
-end_by (Some bytes) n number = Stopped n
-
--- how a node ended that has reached an armed stop at a send, if it has
-abbrev pub end_at : Option ℕ → ℕ → Option End
-end_at None n = None
-end_at (Some bytes) n = Some (Stopped n)
-
--- an armed stop at one of this many sends: how many precede it, and for how many bytes it is
-abbrev pub stop_among : Trap → ℕ → Option (ℕ × ℕ)
-stop_among Off sends = None
-stop_among (Fail count) sends = None
-stop_among (Arm count bytes) sends = if nat_lt 0 count && nat_le count sends then Some (count - 1, bytes) else None
-
--- the replica, with this many sends counted by an armed trap of its device
-abbrev pub counting : {R : Type 0} → Behaviour R → Trap → ℕ → R → R
-counting b Off sends r = r
-counting b (Fail count) sends r = r
-counting b (Arm count bytes) sends r = b.with_trap (Arm (count - sends) bytes) r
-
-abbrev pub after_sends : {R : Type 0} → Behaviour R → ℕ → R → R
-after_sends b sends r = counting b (b.memory r).meter.trap sends r
-
--- all of these were sent, and counted; or an armed stop happened at one of them, and those before it were sent
-abbrev pub SentUpTo : {R : Type 0} → Behaviour R → Option ℕ → R → R → List Datagram → List Datagram → Type 0
-SentUpTo b None r q all sent = (stop_among (b.memory r).meter.trap (length all) ≡ None) × (q ≡ after_sends b (length all) r) × (sent ≡ all)
-SentUpTo b (Some bytes) r q all sent = (k : ℕ) × (stop_among (b.memory r).meter.trap (length all) ≡ Some (k, bytes)) × (q ≡ r) × (sent ≡ take k all)
 
 -- a fault of that kind, or an armed stop at a call of the device, ended the node, which is down: it noted and sent
 -- nothing
@@ -192,10 +126,6 @@ pub record IsDelivered {R : Type 0} (b : Behaviour R) (old new : Scene R) (k : �
   pub given : IsGiven b old new node (Some datagram.bytes) []
 
 -- ---- a node takes a group
-
--- a call of the replica for a group failed with the fault of this number, and left this device
-abbrev pub BreaksTogether : {R : Type 0} → Behaviour R → R → List (Option (List ℕ)) → ℕ → Memory → Type 0
-BreaksTogether {R = R} b r given number left = (q : R) × b.TakesAll r given q (Err number) × RefusedAfter number (b.memory r).meter left.meter × (left ≡ b.memory q)
 
 -- each step itself notes what it counted and executed, and nothing else
 abbrev pub AreAllOwn : List Said → Type 0

@@ -1,5 +1,5 @@
 -- The steps of a group in a world: what a node takes together, and what they add to the trace.
-use Rattle.std.specs.Prelude.{◌≡◌, ℕ, zero, suc, ◌++◌, List, [], ◌∷◌, take, Option, Some, None, Contains, Vec}
+use Rattle.std.specs.Prelude.{◌≡◌, ℕ, ◌++◌, List, [], ◌∷◌, Option, Some, None, Contains, Vec}
 use Rattle.std.specs.Global.{Global}
 use Rattle.lk_step.specs.declared.input.Input.{Input}
 use Rattle.lk_step.specs.declared.input.Input.TheVariants.{Tick, Datagram as Heard}
@@ -7,7 +7,7 @@ use Rattle.lk_step.specs.declared.note.Note.{Note}
 use Rattle.lk_node.specs.Histories.{Datagram}
 use Rattle.lk_replica.specs.Together.{Said}
 use Rattle.lk_sim.specs.Refusals.{datagram_at}
-use Rattle.lk_sim.specs.Traces.{Tells}
+use Rattle.lk_seats.specs.Told.{Tells}
 use Rattle.lk_sim.specs.declared.event.Turn.{Turn}
 use Rattle.lk_sim.specs.declared.event.Turn.TheVariants as turn
 
@@ -42,16 +42,3 @@ WereSentTo sent (i ∷ is) = WasSentTo sent i × WereSentTo sent is
 abbrev pub AreNotesOf : List Said → List Note → Type 0
 AreNotesOf [] notes = notes ≡ []
 AreNotesOf (x ∷ xs) notes = (told rest : List Note) × Tells x.1 told × (notes ≡ (x.0 ++ told) ++ rest) × AreNotesOf xs rest
-
--- ---- a stop at one of its sends
-
--- how many of this many are left after these
-abbrev pub left_over : {X : Type 0} → ℕ → List X → ℕ
-left_over k [] = k
-left_over zero (x ∷ xs) = zero
-left_over (suc k) (x ∷ xs) = left_over k xs
-
--- with this many datagrams sent, and no more
-abbrev pub cut_short : ℕ → List Said → List Said
-cut_short k [] = []
-cut_short k (x ∷ xs) = (x.0, take k x.1) ∷ cut_short (left_over k x.1) xs

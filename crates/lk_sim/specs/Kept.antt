@@ -2,7 +2,6 @@
 use Rattle.std.specs.Prelude.{◌≡◌, ℕ, ◌≤◌, ◌⊎◌, List, [], length, Contains}
 use Rattle.lk_types.specs.declared.vote.Vote.{Vote}
 use Rattle.lk_disk.specs.Disk.{Disk}
-use Rattle.lk_disk.specs.Memory.{disk_of}
 use Rattle.lk_disk.specs.declared.device.Side.{Side}
 use Rattle.lk_entries.specs.Values.{StandingValue}
 use Rattle.lk_log.specs.Images.{Image, MayLeaveBoth}
@@ -14,15 +13,8 @@ use Rattle.lk_agreement.specs.Chosen.{Chosen, IsBeginning}
 use Rattle.lk_node.specs.Histories.{Genesis, Datagram, Command}
 use Rattle.lk_node.specs.Leavings.{header_of, acceptor_of, StandsAs}
 use Rattle.lk_node.specs.Served.{text}
-use Rattle.lk_sim.specs.Seats.{At}
-use Rattle.lk_sim.specs.declared.seat.Seat.{Seat}
-use Rattle.lk_sim.specs.declared.seat.Life.{Life}
-use Rattle.lk_sim.specs.declared.seat.Life.TheVariants.{Up, Down}
-
--- the disks of a node, up or down
-abbrev pub disks_of : {R : Type 0} → (R → Side → Disk) → Life R → Side → Disk
-disks_of disks (Up r) = disks r
-disks_of disks (Down d) = disk_of d
+use Rattle.lk_seats.specs.Seats.{At, disks_of}
+use Rattle.lk_seats.specs.declared.seat.Seat.{Seat}
 
 -- whatever a stop may leave of the node's disks has a standing with this property
 abbrev pub EveryStanding : {R : Type 0} → (R → Side → Disk) → Meaning → Genesis → Seat R → (StandingValue → Type 0) → Type 0

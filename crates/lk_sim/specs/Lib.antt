@@ -1,4 +1,3 @@
-pub mod Seats
 pub mod Scenes
 pub mod Rooms
 pub mod Traces
@@ -8,12 +7,11 @@ pub mod States
 pub mod Refusals
 pub mod Groups
 pub mod Events
-pub mod Outcomes
+pub mod Settled
 pub mod Orders
 pub mod Kept
 pub mod Packed
 pub mod Worlds
 pub mod Promises
 pub mod Runs
-pub mod Left
 pub mod Networks

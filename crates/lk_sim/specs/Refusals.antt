@@ -6,23 +6,15 @@ use Rattle.lk_agreement.specs.declared.party.Party.TheVariants as party
 use Rattle.lk_node.specs.Histories.{Datagram}
 use Rattle.lk_sim.specs.Heard.{IsForged}
 use Rattle.lk_sim.specs.Scenes.{Scene}
-use Rattle.lk_sim.specs.Seats.{IsStarted, IsUp, IsDown, HasNo}
+use Rattle.lk_seats.specs.Refusals.{NoneUp, NoRestart}
+use Rattle.lk_seats.specs.Seats.{IsStarted, IsUp, IsDown, HasNo}
 use Rattle.lk_sim.specs.declared.event.Event.{Event}
 use Rattle.lk_sim.specs.declared.event.Event.TheVariants as event
 use Rattle.lk_sim.specs.declared.event.Turn.{Turn}
 use Rattle.lk_sim.specs.declared.event.Turn.TheVariants as turn
-use Rattle.lk_sim.specs.declared.refused.Refused.{Refused}
-use Rattle.lk_sim.specs.declared.refused.Refused.TheVariants.{NoSuchNode, NotUp, AlreadyUp, NoSuchDatagram, Forged, WorldFull, WorldMemory}
-use Rattle.lk_sim.specs.declared.seat.Seat.{Seat}
-
-abbrev pub refusal_number : Refused → ℕ
-refusal_number NoSuchNode = 16
-refusal_number NotUp = 17
-refusal_number AlreadyUp = 18
-refusal_number NoSuchDatagram = 19
-refusal_number Forged = 20
-refusal_number WorldFull = 21
-refusal_number WorldMemory = 22
+use Rattle.lk_seats.specs.declared.refused.Refused.{Refused}
+use Rattle.lk_seats.specs.declared.refused.Refused.TheVariants.{NoSuchNode, NotUp, AlreadyUp, NoSuchDatagram, Forged, WorldFull}
+use Rattle.lk_seats.specs.declared.seat.Seat.{Seat}
 
 -- there are more than 99,000 datagrams
 abbrev pub IsFull : List Datagram → Type 0
@@ -52,13 +44,7 @@ abbrev pub NotStarted : {R : Type 0} → List (Seat R) → ℕ → Refused → T
 NotStarted seats n NoSuchNode = HasNo seats n
 NotStarted seats n _ = ⊥
 
--- it must be up
-abbrev pub NoneUp : {R : Type 0} → List (Seat R) → ℕ → Refused → Type 0
-NoneUp seats n NoSuchNode = HasNo seats n
-NoneUp seats n NotUp = IsDown seats n
-NoneUp seats n _ = ⊥
-
--- and there must be room for what it sends
+-- it must be up, and there must be room for what it sends
 abbrev pub NoTurn : {R : Type 0} → List (Seat R) → List Datagram → ℕ → Refused → Type 0
 NoTurn seats sent n NoSuchNode = HasNo seats n
 NoTurn seats sent n NotUp = IsDown seats n
@@ -69,11 +55,6 @@ abbrev pub NoStart : {R : Type 0} → List (Seat R) → ℕ → Refused → Type
 NoStart seats n AlreadyUp = IsStarted seats n
 NoStart seats n WorldFull = HasNo seats n × (16 ≤ length seats)
 NoStart seats n _ = ⊥
-
-abbrev pub NoRestart : {R : Type 0} → List (Seat R) → ℕ → Refused → Type 0
-NoRestart seats n NoSuchNode = HasNo seats n
-NoRestart seats n AlreadyUp = IsUp seats n
-NoRestart seats n _ = ⊥
 
 abbrev pub NoClient : {R : Type 0} → List (Seat R) → List Datagram → ℕ → Refused → Type 0
 NoClient seats sent n NoSuchNode = HasNo seats n

@@ -1,11 +1,5 @@
 -- What a trace says of the requests that were asked, and of what was answered.
-use Rattle.std.specs.Prelude.{◌≡◌, ℕ, List, [], ◌∷◌, ◌++◌, Option, Some, None}
-use Rattle.lk_wire.specs.Grammar.{Spells}
-use Rattle.lk_wire.specs.declared.message.Content.{Content}
-use Rattle.lk_wire.specs.declared.message.Content.TheVariants as content
-use Rattle.lk_wire.specs.declared.message.Message.{Message}
-use Rattle.lk_wire.specs.declared.message.NodeMessage.{NodeMessage}
-use Rattle.lk_wire.specs.declared.message.NodeMessage.TheVariants as kinds
+use Rattle.std.specs.Prelude.{List, [], ◌∷◌, ◌++◌, Option, Some, None}
 use Rattle.lk_step.specs.declared.note.Note.{Note}
 use Rattle.lk_step.specs.declared.note.Note.TheVariants as note
 use Rattle.lk_node.specs.Histories.{History, Genesis, Datagram, RequestValue}
@@ -27,22 +21,7 @@ asked_in (x ∷ xs) = asked_by x ++ asked_in xs
 abbrev pub happened : Genesis → List Datagram → List Note → History
 happened genesis sent trace = record { genesis = genesis; sent = sent; asked = asked_in trace }
 
--- ---- what was answered and told, in the datagrams and in the trace
-
--- the note of an answer or a pass
-abbrev pub told_by_node : ℕ → NodeMessage → List Note
-told_by_node n (kinds.Answer a) = note.Answered n a.client a.number a.answer ∷ []
-told_by_node n (kinds.Passed p) = note.Told n p.client p.number p.last ∷ []
-told_by_node n _ = []
-
-abbrev pub told_by : Content → List Note
-told_by (content.Request r) = []
-told_by (content.Node n x) = told_by_node n x
-
--- these notes are, in order, exactly those of the answers and passes among the datagrams
-abbrev pub Tells : List Datagram → List Note → Type 0
-Tells [] notes = notes ≡ []
-Tells (d ∷ ds) notes = (m : Message) × (rest : List Note) × Spells m d.bytes × (notes ≡ told_by m.content ++ rest) × Tells ds rest
+-- ---- what was answered and told
 
 abbrev pub told_of : Note → List Note
 told_of (note.Asked r) = []
@@ -55,10 +34,6 @@ told_of (note.Told node client number last) = note.Told node client number last 
 abbrev pub told_in : List Note → List Note
 told_in [] = []
 told_in (x ∷ xs) = told_of x ++ told_in xs
-
-abbrev pub listed : Option Note → List Note
-listed None = []
-listed (Some x) = x ∷ []
 
 -- a request that was just asked is noted
 abbrev pub asked_note : Option RequestValue → List Note

@@ -15,9 +15,10 @@ use Rattle.lk_node.specs.Served.{BearsOut, BearsOutMessage}
 use Rattle.lk_node.specs.Holdings.{Holding}
 use Rattle.lk_sim.specs.Orders.{InTime}
 use Rattle.lk_sim.specs.Scenes.{Scene}
-use Rattle.lk_sim.specs.Traces.{asked_in, happened, told_in, Tells}
-use Rattle.lk_sim.specs.Seats.{SeatFits, At}
-use Rattle.lk_sim.specs.declared.seat.Seat.{Seat}
+use Rattle.lk_seats.specs.Told.{Tells}
+use Rattle.lk_sim.specs.Traces.{asked_in, happened, told_in}
+use Rattle.lk_seats.specs.Seats.{SeatFits, At}
+use Rattle.lk_seats.specs.declared.seat.Seat.{Seat}
 use Rattle.lk_sim.specs.declared.parts.Parts.{Parts}
 
 pub record Holds {R : Type 0} (Shows : R → Genesis → ℕ → Holding → Type 0) (disks : R → Side → Disk) (m : Meaning) (genesis : Genesis) (seats : List (Seat R)) (sent : List Datagram) (trace : List Note) : Type 0 where

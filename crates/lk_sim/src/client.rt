@@ -7,12 +7,12 @@ ghost use Rattle.lk_sim.specs.Events.{Does, IsAsked, IsRefused};
 ghost use Rattle.lk_sim.specs.Worlds.{PartsHold, scene_of};
 ghost use Rattle.lk_sim.specs.declared.event.Event.TheVariants as event;
 
-use crate::finding::{find, has_room};
+use crate::datagrams::has_room;
 use crate::parts::Parts;
-use crate::refused::Refused;
 use bytes::BytesMut;
 use lk_agreement::Party;
 use lk_replica::{Datagram, MemoryReplica};
+use lk_seats::{Refused, find};
 use lk_step::Note;
 use lk_types::{NoMemory, NodeNo, Request};
 use lk_wire::{Content, Message, write};

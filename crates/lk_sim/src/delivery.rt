@@ -1,5 +1,5 @@
 // Nodes take ticks and datagrams, and clients send requests.
-ghost use Rattle.std.specs.Prelude.{◌≡◌, ◌⊎◌, None, Some, IfOk, IfErr, IfSome, OnOk, OnErr};
+ghost use Rattle.std.specs.Prelude.{◌≡◌, ◌⊎◌, Some, IfOk, IfErr, OnOk, OnErr};
 ghost use Rattle.lk_agreement.specs.Datagrams.{Datagram as DatagramValue};
 ghost use Rattle.lk_agreement.specs.declared.party.Party.TheVariants as party;
 ghost use Rattle.lk_wire.specs.Shown.{shown_content};
@@ -10,16 +10,16 @@ ghost use Rattle.lk_sim.specs.Events.{Does, IsInjected, IsNotInjected, IsRefused
 ghost use Rattle.lk_sim.specs.Heard.{Asks, IsForged};
 ghost use Rattle.lk_sim.specs.Refusals.{datagram_at, HasRoom, NoTurn, NoDelivery, MayInject};
 ghost use Rattle.lk_sim.specs.Rooms.{HasNoteRoom};
-ghost use Rattle.lk_sim.specs.Seats.{IsUpAt};
+ghost use Rattle.lk_seats.specs.Seats.{IsUpAt};
 ghost use Rattle.lk_sim.specs.Worlds.{PartsHold, scene_of};
 ghost use Rattle.lk_sim.specs.declared.event.Event.TheVariants as event;
 
-use crate::finding::{find_up, has_room};
+use crate::datagrams::{datagram, has_room};
 use crate::giving::give;
 use crate::parts::Parts;
-use crate::refused::Refused;
 use lk_agreement::Party;
-use lk_replica::{Datagram, MemoryReplica};
+use lk_replica::MemoryReplica;
+use lk_seats::{Refused, find_up};
 use lk_step::{Input, Note};
 use lk_types::{NoMemory, NodeNo, Request};
 use lk_wire::{ContentRef, view};
@@ -46,14 +46,6 @@ pub fn tick<R: MemoryReplica>(parts: &mut Parts<R>, number: NodeNo) -> Result<()
     let i = turn_of(parts, number)?;
     give(parts, i, Input::Tick, None)?;
     Ok(())
-}
-
-/// The datagram at this place. Places count from 1.
-pub fn datagram(sent: &[Datagram], k: usize) -> Option<&Datagram>
-    ensures some { IfSome result (λ d. datagram_at sent.now k ≡ Some d.now) }
-    ensures none { result ≡ None → datagram_at sent.now k ≡ None }
-{
-    if k == 0 { None } else { sent.get(k - 1) }
 }
 
 // The node to which the datagram at this place is addressed.

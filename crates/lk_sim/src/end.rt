@@ -1,15 +1,4 @@
-use crate::refused::Refused;
-use lk_types::NodeNo;
-
-/// How an event ended a node.
-#[derive(Clone, Copy)]
-pub enum End {
-    /// The replica of this node, or its restart, ended with the fault of this number. The node went down, with its
-    /// disks as they were.
-    Fault(NodeNo, u8),
-    /// An armed stop happened at this node.
-    Stopped(NodeNo),
-}
+use lk_seats::Refused;
 
 /// How a run of events ended: how many were done, and why the next one was rejected, if one was.
 #[derive(Clone, Copy)]

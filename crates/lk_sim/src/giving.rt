@@ -1,23 +1,20 @@
 // A node takes an input or restarts, and the world keeps what it sends and notes.
 ghost use Rattle.std.specs.Prelude.{◌≡◌, ℕ, ◌<◌, ◌++◌, List, [], true, false, length, set, IfOk, OnOk, OnErr};
-ghost use Rattle.lk_disk.specs.Memory.{Memory, disk_of};
-ghost use Rattle.lk_agreement.specs.Nodes.{View};
 ghost use Rattle.lk_step.specs.declared.note.Note.{Note as NoteValue};
 ghost use Rattle.lk_node.specs.Calls.{heard_by, InputFits};
-ghost use Rattle.lk_node.specs.Histories.{History};
 ghost use Rattle.lk_node.specs.Leavings.{header_of};
 ghost use Rattle.lk_replica.specs.Behaviours.{disks_by};
 ghost use Rattle.lk_sim.specs.Events.{IsGiven, IsHalted, IsBack, LeftBy, LeftByRevival};
-ghost use Rattle.lk_sim.specs.Outcomes.{HasAdded, HasSettled, HasGivenUp};
+ghost use Rattle.lk_sim.specs.Settled.{HasAdded, HasSettled, HasGivenUp};
 ghost use Rattle.lk_sim.specs.Rooms.{HasNoteRoom};
-ghost use Rattle.lk_sim.specs.Seats.{IsUpAt, IsDownAt};
-ghost use Rattle.lk_sim.specs.Traces.{happened, asked_note, Tells};
+ghost use Rattle.lk_seats.specs.Seats.{IsUpAt, IsDownAt};
+ghost use Rattle.lk_seats.specs.Told.{Tells};
+ghost use Rattle.lk_sim.specs.Traces.{happened, asked_note};
 ghost use Rattle.lk_sim.specs.Worlds.{PartsHold, scene_of};
 
 use crate::parts::Parts;
-use crate::seat::{Outcome, rest, revive, step, stop};
-use crate::telling::tell;
 use lk_replica::{Datagram, MemoryReplica};
+use lk_seats::{Outcome, rest, revive, step, stop, tell};
 use lk_step::{Input, Note};
 use lk_types::{NoMemory, Request};
 use std::alloc::Global;

@@ -1,104 +1,25 @@
 // A node takes several turns together: it syncs once for all of them, and only then sends.
-ghost use Rattle.std.specs.Prelude.{◌≡◌, ◌↔◌, ℕ, ◌<◌, ◌⊎◌, [], true, false, length, map, IsTrue, IfOk, IfErr, OnOk, OnErr};
-ghost use Rattle.std.specs.List.{AllByRecursion};
-ghost use Rattle.lk_disk.specs.Memory.{Memory, disk_of};
-ghost use Rattle.lk_agreement.specs.Nodes.{View};
-ghost use Rattle.lk_node.specs.Calls.{heard_by, InputFits};
-ghost use Rattle.lk_node.specs.Histories.{History, Genesis as GenesisValue, IsLawful};
-ghost use Rattle.lk_node.specs.Holdings.{Holding};
-ghost use Rattle.lk_node.specs.Leavings.{DisksFit};
+ghost use Rattle.std.specs.Prelude.{◌≡◌, ◌↔◌, ℕ, ◌<◌, [], true, false, length, map, IsTrue, IfOk, IfErr, OnOk, OnErr};
+ghost use Rattle.lk_node.specs.Calls.{heard_by};
 ghost use Rattle.lk_replica.specs.Behaviours.{disks_by};
-ghost use Rattle.lk_replica.specs.Together.{GoesAll, parts_of};
-ghost use Rattle.lk_sim.specs.Events.{BreaksTogether, IsGivenTogether, IsHalted, IsNotGrouped, IsToldEnd, LeftByGroup};
+ghost use Rattle.lk_replica.specs.Together.{parts_of};
+ghost use Rattle.lk_seats.specs.Seats.{IsUpAt};
+ghost use Rattle.lk_sim.specs.Events.{IsGivenTogether, IsHalted, IsNotGrouped, LeftByGroup};
 ghost use Rattle.lk_sim.specs.Groups.{AreNotesOf, WereSentTo, copied, given_by};
-ghost use Rattle.lk_sim.specs.Outcomes.{HasAddedSteps, HasFallenTogether, HasGivenUp, HasSettledSteps, HasTakenTogether, HasWanted};
 ghost use Rattle.lk_sim.specs.Refusals.{AreFor, IsFor, MayGroup};
-ghost use Rattle.lk_sim.specs.Rooms.{AreShort};
-ghost use Rattle.lk_sim.specs.Seats.{IsUpAt, SeatFits, device_in};
+ghost use Rattle.lk_sim.specs.Settled.{HasAddedSteps, HasGivenUp, HasSettledSteps};
 ghost use Rattle.lk_sim.specs.Worlds.{PartsHold, scene_of};
-ghost use Rattle.lk_sim.specs.declared.seat.Life.TheVariants.{Up};
 
-use crate::delivery::datagram;
-use crate::end::End;
+use crate::datagrams::{datagram, has_room};
 use crate::event::Turn;
-use crate::finding::{find_up, has_room};
 use crate::giving::join;
 use crate::parts::Parts;
-use crate::refused::Refused;
-use crate::seat::{Life, Outcome, Seat, count_sends, ended_at, fall, rest, stop, take_device};
-use crate::telling::tell;
 use lk_agreement::Party;
-use lk_replica::{Datagram, MemoryReplica, Step, TakenAll};
+use lk_replica::{Datagram, MemoryReplica, Step};
+use lk_seats::{GroupOutcome, Refused, find_up, rest, step_all, stop, tell};
 use lk_step::{Input, Note};
 use lk_types::{NoMemory, NodeNo};
 use std::alloc::Global;
-
-// The result of a node's group: its steps, what they sent, and how it ended the node, if it did.
-#[derive(Drop)]
-struct GroupOutcome {
-    steps: Vec<Step>,
-    sent: Vec<Datagram>,
-    ended: Option<End>,
-    // it has reached an armed stop, for this many bytes, which is still to be carried out
-    stop: Option<usize>,
-}
-
-// A node that has fallen has taken no step.
-fn fallen(alloc: Global, outcome: Outcome) -> GroupOutcome
-    ensures steps { result.steps.items ≡ [] }
-    ensures sent { result.sent ≡ outcome.sent }
-    ensures ended { result.ended ≡ outcome.ended }
-    ensures stop { result.stop ≡ outcome.stop }
-{
-    GroupOutcome {
-        steps: Vec::new(alloc),
-        sent: outcome.sent,
-        ended: outcome.ended,
-        stop: outcome.stop,
-    }
-}
-
-// The node, which is up, takes the inputs together. If its replica ends, it goes down.
-fn step_all<R: MemoryReplica>(
-    alloc: Global,
-    seat: &mut Seat<R>,
-    inputs: Vec<Input<'_>>,
-) -> Result<GroupOutcome, NoMemory>
-    requires up { (r : R) × (seat.old.life ≡ Up r) }
-    ensures number { seat.new.number ≡ seat.old.number }
-    ensures goes { (r : R) → seat.old.life ≡ Up r → (genesis : GenesisValue) (held : Holding) → R.Shows r genesis seat.old.number held
-        → IfOk result (λ o. (q : R) → seat.new.life ≡ Up q → GoesAll R.Shows (disks_by R.behaves) R.meaning seat.old.number r inputs.entry.items q (parts_of o.steps.items o.sent.items)) }
-    // However it ends, whatever a stop may leave of it fits if nothing of the group is sent.
-    ensures leaves { (h : History) (w : View) → IsLawful R.meaning h → SeatFits R.Shows (disks_by R.behaves) R.meaning h w seat.old → AllByRecursion (InputFits h) inputs.entry.items
-        → DisksFit R.meaning h seat.new.number (disk_of (device_in R.behaves seat.new.life)) × AreShort (disk_of (device_in R.behaves seat.new.life)) }
-    ensures exact { (r : R) → seat.old.life ≡ Up r
-        → IfOk result (λ o. HasTakenTogether R.behaves r (map heard_by inputs.entry.items) seat.new o.steps.items o.sent.items o.ended o.stop
-        ⊎ HasFallenTogether (BreaksTogether R.behaves r (map heard_by inputs.entry.items)) seat.new o.steps.items o.sent.items o.ended o.stop) }
-    ensures told { IfOk result (λ o. IsToldEnd o.ended) }
-    ensures wants { (r : R) → seat.old.life ≡ Up r → OnErr result (HasWanted (BreaksTogether R.behaves r (map heard_by inputs.entry.items)) seat.new) }
-{
-    let node = seat.number;
-    let Life::Up(replica) = &mut seat.life else {
-        unreachable!()
-    };
-    match replica.take_all(inputs) {
-        Ok(taken) => {
-            let TakenAll { steps, mut sent } = taken;
-            let stop = count_sends(replica, &mut sent);
-            Ok(GroupOutcome {
-                steps,
-                sent,
-                ended: ended_at(stop, node),
-                stop,
-            })
-        }
-        Err(fault) => {
-            let device = take_device(alloc, seat);
-            let outcome = fall(alloc, seat, device, fault)?;
-            Ok(fallen(alloc, outcome))
-        }
-    }
-}
 
 // All notes of the steps, one step after another: what the node noted, and its answers and passes in the order in
 // which they are sent.

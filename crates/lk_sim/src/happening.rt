@@ -13,8 +13,8 @@ use crate::group::group;
 use crate::lives::{arm, fail_at, halt, restart, start};
 use crate::packing::compact;
 use crate::parts::Parts;
-use crate::refused::Refused;
 use lk_replica::MemoryReplica;
+use lk_seats::Refused;
 
 /// One event happens.
 pub fn happen<R: MemoryReplica>(parts: &mut Parts<R>, event: &Event) -> Result<(), Refused>

@@ -2,18 +2,16 @@
 ghost use Rattle.std.specs.Prelude.{◌≡◌, IfErr, OnOk, OnErr};
 ghost use Rattle.lk_replica.specs.Behaviours.{disks_by};
 ghost use Rattle.lk_sim.specs.Events.{Does, IsBegun, IsRefused, StartWants};
-ghost use Rattle.lk_sim.specs.Seats.{HasNo};
+ghost use Rattle.lk_seats.specs.Seats.{HasNo};
 ghost use Rattle.lk_sim.specs.Worlds.{PartsHold, scene_of};
 ghost use Rattle.lk_sim.specs.declared.event.Event.TheVariants as event;
-ghost use Rattle.lk_sim.specs.declared.refused.Refused.TheVariants.{WorldMemory};
+ghost use Rattle.lk_seats.specs.declared.refused.Refused.TheVariants.{WorldMemory};
 
-use crate::finding::{find, find_down, find_up};
 use crate::giving::{add, come_up};
 use crate::parts::Parts;
-use crate::refused::Refused;
-use crate::seat::{Life, Seat, rest, revive, set_trap, stop};
 use lk_disk::{MemoryDisk, Trap};
 use lk_replica::MemoryReplica;
+use lk_seats::{Life, Refused, Seat, find, find_down, find_up, rest, revive, set_trap, stop};
 use lk_types::{NoMemory, NodeNo};
 
 // The largest number of nodes that are ever started.

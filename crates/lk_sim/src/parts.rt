@@ -1,6 +1,5 @@
-use crate::end::End;
-use crate::seat::Seat;
 use lk_replica::Datagram;
+use lk_seats::{End, Seat};
 use lk_step::Note;
 use lk_types::Genesis;
 use std::alloc::Global;

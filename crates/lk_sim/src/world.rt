@@ -1,13 +1,10 @@
 // A world of replicas.
-use crate::end::{End, RunEnd};
+use crate::end::RunEnd;
 use crate::event::Event;
-use crate::finding::find;
 use crate::happening::{happen, happen_all};
-use crate::left::{LeftNode, all_left};
 use crate::parts::Parts;
-use crate::refused::Refused;
-use crate::seat::lengths;
 use lk_replica::{Datagram, MemoryReplica};
+use lk_seats::{End, LeftNode, Refused, all_left, find, lengths};
 use lk_step::Note;
 use lk_types::{Genesis, NoMemory, NodeNo};
 use std::alloc::Global;
@@ -21,7 +18,7 @@ pub struct World<R: MemoryReplica> {
 
 impl<R: MemoryReplica> Model for World<R> {
     ghost use Rattle.lk_replica.specs.Behaviours.{disks_by};
-    ghost use Rattle.lk_sim.specs.Events.{IsToldEnd};
+    ghost use Rattle.lk_seats.specs.Ends.{IsToldEnd};
     ghost use Rattle.lk_sim.specs.Scenes.{Scene};
     ghost use Rattle.lk_sim.specs.Worlds.{PartsHold, scene_of};
 
@@ -35,16 +32,16 @@ impl<R: MemoryReplica> Model for World<R> {
 impl<R: MemoryReplica> World<R> {
     ghost use Rattle.std.specs.Prelude.{◌≡◌, ℕ, [], length, map, None, IfSome, IfOk, OnOk, IfErr};
     ghost use Rattle.lk_replica.specs.Behaviours.{disks_by};
-    ghost use Rattle.lk_sim.specs.Events.{Does, IsRefused, IsToldEnd, Grows};
+    ghost use Rattle.lk_seats.specs.Ends.{IsToldEnd};
+    ghost use Rattle.lk_sim.specs.Events.{Does, IsRefused, Grows};
     ghost use Rattle.lk_disk.specs.Disk.{contents};
     ghost use Rattle.lk_disk.specs.declared.device.Side.TheVariants.{A, B};
-    ghost use Rattle.lk_sim.specs.Kept.{disks_of};
-    ghost use Rattle.lk_sim.specs.Left.{left_of};
+    ghost use Rattle.lk_seats.specs.Seats.{disks_of, At, HasNo};
+    ghost use Rattle.lk_seats.specs.Left.{left_of};
     ghost use Rattle.lk_sim.specs.Packed.{LeavesPacked};
     ghost use Rattle.lk_sim.specs.Promises.{Promises};
     ghost use Rattle.lk_sim.specs.Runs.{Runs};
-    ghost use Rattle.lk_sim.specs.Seats.{At, HasNo};
-    ghost use Rattle.lk_sim.specs.declared.seat.Seat.{Seat as SeatValue};
+    ghost use Rattle.lk_seats.specs.declared.seat.Seat.{Seat as SeatValue};
 
     /// A world in which nothing has happened.
     pub fn new(alloc: Global, genesis: Genesis) -> Self

@@ -2,13 +2,11 @@
 
 use crate::node_turns::For::{Client, Node};
 use crate::node_turns::Heard::{Said, Tick};
-use crate::node_turns::{
-    Heard, Locks, NOTHING, Turn, begun, first_astray, first_loud, led, taken_up,
-};
+use crate::node_turns::{Heard, Locks, NOTHING, Turn, begun, first_astray, led, taken_up};
 use std::alloc::Global;
 use std::test::Fail;
 
-/// How node 1's replica is before a dialogue, in a cluster of three; with alpha 1, but for the last two.
+/// How node 1's replica is before a dialogue, in a cluster of three; with alpha 1, but for the last.
 #[derive(Clone, Copy)]
 pub enum Start {
     /// On empty disks.
@@ -19,8 +17,6 @@ pub enum Start {
     TakenUp(&'static [&'static str]),
     /// On empty disks, with alpha 2.
     BegunAhead,
-    /// On a file of these bytes, with alpha 2.
-    TakenUpAhead(&'static [&'static str]),
 }
 
 /// How it is, and what it then hears and sends.
@@ -124,294 +120,133 @@ pub const PROPOSED: Turn<'static> = (
     ],
 );
 
+#[rattlefmt::skip]
 const DIALOGUES: [Dialogue; 13] = [
     // Who has not promised is asked again.
-    (
-        Start::Begun,
-        &[
-            (Tick, NOTHING),
-            (Tick, NOTHING),
-            (Tick, NOTHING),
-            (
-                Tick,
-                &[
-                    (Node(1), "01", PREPARE),
-                    (Node(2), "01", PREPARE),
-                    (Node(3), "01", PREPARE),
-                ],
-            ),
-            (Said(FIRST, "02", PROMISE), NOTHING),
-            (
-                Tick,
-                &[
-                    (Node(2), "01", PREPARE),
-                    (Node(3), "01", PREPARE),
-                    (Node(2), "0d", LEAD),
-                    (Node(3), "0d", LEAD),
-                ],
-            ),
-            (Said(THIRD, "02", PROMISE), NOTHING),
-            (Said(SECOND, "02", PROMISE), NOTHING),
-            (Tick, &[(Node(2), "0d", LEAD), (Node(3), "0d", LEAD)]),
-        ],
-    ),
+    (Start::Begun, &[
+        (Tick, NOTHING), (Tick, NOTHING), (Tick, NOTHING),
+        (Tick, &[(Node(1), "01", PREPARE), (Node(2), "01", PREPARE), (Node(3), "01", PREPARE)]),
+        (Said(FIRST, "02", PROMISE), NOTHING),
+        (Tick, &[(Node(2), "01", PREPARE), (Node(3), "01", PREPARE), (Node(2), "0d", LEAD), (Node(3), "0d", LEAD)]),
+        (Said(THIRD, "02", PROMISE), NOTHING),
+        (Said(SECOND, "02", PROMISE), NOTHING),
+        (Tick, &[(Node(2), "0d", LEAD), (Node(3), "0d", LEAD)]),
+    ]),
     // Who has not accepted is told again.
-    (
-        Start::Led,
-        &[
-            PROPOSED,
-            (Said(FIRST, "04", VOTE), NOTHING),
-            (
-                Tick,
-                &[
-                    (Node(3), "01", PREPARE),
-                    (Node(2), "03", VOTE),
-                    (Node(3), "03", VOTE),
-                    (Node(2), "0d", LEAD),
-                    (Node(3), "0d", LEAD),
-                ],
-            ),
-            (
-                Said(SECOND, "04", VOTE),
-                &[
-                    (Client(7), "0a", GRANTED),
-                    (Node(2), "06", DECIDED),
-                    (Node(3), "06", DECIDED),
-                ],
-            ),
-            (
-                Tick,
-                &[
-                    (Node(3), "01", PREPARE_NEXT),
-                    (Node(2), "0d", LEAD_NEXT),
-                    (Node(3), "0d", LEAD_NEXT),
-                ],
-            ),
-        ],
-    ),
+    (Start::Led, &[
+        PROPOSED,
+        (Said(FIRST, "04", VOTE), NOTHING),
+        (Tick, &[
+            (Node(3), "01", PREPARE), (Node(2), "03", VOTE), (Node(3), "03", VOTE), (Node(2), "0d", LEAD),
+            (Node(3), "0d", LEAD),
+        ]),
+        (Said(SECOND, "04", VOTE), &[(Client(7), "0a", GRANTED), (Node(2), "06", DECIDED), (Node(3), "06", DECIDED)]),
+        (Tick, &[(Node(3), "01", PREPARE_NEXT), (Node(2), "0d", LEAD_NEXT), (Node(3), "0d", LEAD_NEXT)]),
+    ]),
     // The next ballot is above what ended a term.
-    (
-        Start::Led,
-        &[
-            (Said(SECOND, "05", REFUSED), NOTHING),
-            (Tick, NOTHING),
-            (Tick, NOTHING),
-            (Tick, NOTHING),
-            (
-                Tick,
-                &[
-                    (Node(1), "01", ABOVE),
-                    (Node(2), "01", ABOVE),
-                    (Node(3), "01", ABOVE),
-                ],
-            ),
-        ],
-    ),
+    (Start::Led, &[
+        (Said(SECOND, "05", REFUSED), NOTHING),
+        (Tick, NOTHING), (Tick, NOTHING), (Tick, NOTHING),
+        (Tick, &[(Node(1), "01", ABOVE), (Node(2), "01", ABOVE), (Node(3), "01", ABOVE)]),
+    ]),
     // Who has left ends its term.
-    (
-        Start::Led,
-        &[
-            (
-                Said("00000000", "09", "0007 0000000000000001 02 00000001"),
-                &[
-                    (Node(1), "03", LEAVE_VOTE),
-                    (Node(2), "03", LEAVE_VOTE),
-                    (Node(3), "03", LEAVE_VOTE),
-                ],
-            ),
-            (Said(FIRST, "04", LEAVE_VOTE), NOTHING),
-            (
-                Said(SECOND, "04", LEAVE_VOTE),
-                &[
-                    (Client(7), "0a", "0007 0000000000000001 23"),
-                    (Node(2), "06", LEAVE_DECIDED),
-                    (Node(3), "06", LEAVE_DECIDED),
-                ],
-            ),
-            (Tick, NOTHING),
-        ],
-    ),
+    (Start::Led, &[
+        (Said("00000000", "09", "0007 0000000000000001 02 00000001"), &[
+            (Node(1), "03", LEAVE_VOTE), (Node(2), "03", LEAVE_VOTE), (Node(3), "03", LEAVE_VOTE),
+        ]),
+        (Said(FIRST, "04", LEAVE_VOTE), NOTHING),
+        (Said(SECOND, "04", LEAVE_VOTE), &[
+            (Client(7), "0a", "0007 0000000000000001 23"), (Node(2), "06", LEAVE_DECIDED),
+            (Node(3), "06", LEAVE_DECIDED),
+        ]),
+        (Tick, NOTHING),
+    ]),
     // Above the last position no promise is asked for.
-    (
-        Start::TakenUp(&AT_LAST),
-        &[
-            (Tick, NOTHING),
-            (Tick, NOTHING),
-            (Tick, NOTHING),
-            (Tick, NOTHING),
-            (
-                Tick,
-                &[
-                    (Node(2), "0d", "0000000000000001 00000001 0001000000000000"),
-                    (Node(3), "0d", "0000000000000001 00000001 0001000000000000"),
-                ],
-            ),
-        ],
-    ),
+    (Start::TakenUp(&AT_LAST), &[
+        (Tick, NOTHING), (Tick, NOTHING), (Tick, NOTHING), (Tick, NOTHING),
+        (Tick, &[
+            (Node(2), "0d", "0000000000000001 00000001 0001000000000000"),
+            (Node(3), "0d", "0000000000000001 00000001 0001000000000000"),
+        ]),
+    ]),
     // One request of a client waits: the first of its number, and none of a smaller one.
-    (
-        Start::Led,
-        &[
-            PROPOSED,
-            (
-                Said("00000000", "09", "0008 0000000000000005 00 03 01 01 62"),
-                NOTHING,
-            ),
-            (
-                Said("00000000", "09", "0008 0000000000000005 00 03 01 01 63"),
-                NOTHING,
-            ),
-            (
-                Said("00000000", "09", "0008 0000000000000004 00 03 01 01 64"),
-                NOTHING,
-            ),
-            (Said(FIRST, "04", VOTE), NOTHING),
-            (
-                Said(SECOND, "04", VOTE),
-                &[
-                    (Client(7), "0a", GRANTED),
-                    (Node(2), "06", DECIDED),
-                    (Node(3), "06", DECIDED),
-                    (Node(1), "03", LATER_VOTE),
-                    (Node(2), "03", LATER_VOTE),
-                    (Node(3), "03", LATER_VOTE),
-                ],
-            ),
-        ],
-    ),
+    (Start::Led, &[
+        PROPOSED,
+        (Said("00000000", "09", "0008 0000000000000005 00 03 01 01 62"), NOTHING),
+        (Said("00000000", "09", "0008 0000000000000005 00 03 01 01 63"), NOTHING),
+        (Said("00000000", "09", "0008 0000000000000004 00 03 01 01 64"), NOTHING),
+        (Said(FIRST, "04", VOTE), NOTHING),
+        (Said(SECOND, "04", VOTE), &[
+            (Client(7), "0a", GRANTED), (Node(2), "06", DECIDED), (Node(3), "06", DECIDED),
+            (Node(1), "03", LATER_VOTE), (Node(2), "03", LATER_VOTE), (Node(3), "03", LATER_VOTE),
+        ]),
+    ]),
     // What waits is answered once it has run, by whomever it was decided.
-    (
-        Start::Led,
-        &[
-            PROPOSED,
-            (Said(SECOND, "06", DECIDED), &[(Client(7), "0a", GRANTED)]),
-            (Said(SECOND, "06", DECIDED), NOTHING),
-        ],
-    ),
+    (Start::Led, &[
+        PROPOSED,
+        (Said(SECOND, "06", DECIDED), &[(Client(7), "0a", GRANTED)]),
+        (Said(SECOND, "06", DECIDED), NOTHING),
+    ]),
     // What waits is passed by a greater number of its client.
-    (
-        Start::Led,
-        &[
-            PROPOSED,
-            (
-                Said(
-                    SECOND,
-                    "06",
-                    "0000000000000001 01 01 0007 0000000000000003 00 03 01 01 62",
-                ),
-                &[(Client(7), "0c", "0007 0000000000000001 0000000000000003")],
-            ),
-        ],
-    ),
+    (Start::Led, &[
+        PROPOSED,
+        (Said(SECOND, "06", "0000000000000001 01 01 0007 0000000000000003 00 03 01 01 62"), &[
+            (Client(7), "0c", "0007 0000000000000001 0000000000000003"),
+        ]),
+    ]),
     // What waits is forgotten as the term ends.
-    (
-        Start::Led,
-        &[
-            PROPOSED,
-            (Said(SECOND, "05", REFUSED), NOTHING),
-            (Said(SECOND, "06", DECIDED), NOTHING),
-            (ASKED, &[(Client(7), "0a", GRANTED)]),
-        ],
-    ),
+    (Start::Led, &[
+        PROPOSED,
+        (Said(SECOND, "05", REFUSED), NOTHING),
+        (Said(SECOND, "06", DECIDED), NOTHING),
+        (ASKED, &[(Client(7), "0a", GRANTED)]),
+    ]),
     // A request that was seen gets what is kept; a new one is sent to the leader that is known.
-    (
-        Start::TakenUp(&SEEN),
-        &[
-            TWO_NOOPS,
-            ASKED_AGAIN,
-            ASKED_BELOW,
-            (ASKED_ANEW, NOTHING),
-            (
-                Said(SECOND, "0d", "0000000000000003 00000002 0000000000000102"),
-                NOTHING,
-            ),
-            (
-                ASKED_ANEW,
-                &[(Client(7), "0b", "0007 000000000000000a 00000002 1b5a")],
-            ),
-        ],
-    ),
+    (Start::TakenUp(&SEEN), &[
+        TWO_NOOPS, ASKED_AGAIN, ASKED_BELOW,
+        (ASKED_ANEW, NOTHING),
+        (Said(SECOND, "0d", "0000000000000003 00000002 0000000000000102"), NOTHING),
+        (ASKED_ANEW, &[(Client(7), "0b", "0007 000000000000000a 00000002 1b5a")]),
+    ]),
     // What is wanted after the snapshot is served, to any node; a datagram of another cluster and bytes of none are
     // nothing.
-    (
-        Start::TakenUp(&SEEN),
-        &[
-            TWO_NOOPS,
-            (
-                Said(THIRD, "07", "0000000000000101 00000000"),
-                &[(Node(3), "06", "0000000000000101 02 00 00")],
-            ),
-            (
-                Said(OUTSIDER, "07", "0000000000000102 00000005"),
-                &[(Node(9), "06", "0000000000000102 01 00")],
-            ),
-            (Said(THIRD, "07", "0000000000000103 00000000"), NOTHING),
-            (Said(THIRD, "0e", ""), NOTHING),
-        ],
-    ),
+    (Start::TakenUp(&SEEN), &[
+        TWO_NOOPS,
+        (Said(THIRD, "07", "0000000000000101 00000000"), &[(Node(3), "06", "0000000000000101 02 00 00")]),
+        (Said(OUTSIDER, "07", "0000000000000102 00000005"), &[(Node(9), "06", "0000000000000102 01 00")]),
+        (Said(THIRD, "07", "0000000000000103 00000000"), NOTHING),
+        (Said(THIRD, "0e", ""), NOTHING),
+    ]),
     // A refusal tells who lies behind.
-    (
-        Start::TakenUp(&SEEN),
-        &[
-            TWO_NOOPS,
-            (
-                Said(
-                    THIRD,
-                    "05",
-                    "0000000000000003 00000001 0000000000000004 00000003 0000000000000101",
-                ),
-                &[(Node(3), "06", "0000000000000102 01 00")],
-            ),
-            (
-                Said(
-                    THIRD,
-                    "05",
-                    "0000000000000003 00000001 0000000000000004 00000003 0000000000000102",
-                ),
-                NOTHING,
-            ),
-            (
-                Said(
-                    THIRD,
-                    "05",
-                    "0000000000000003 00000001 0000000000000004 00000003 0000000000000103",
-                ),
-                &[(Node(3), "07", "0000000000000103 00000000")],
-            ),
-        ],
-    ),
+    (Start::TakenUp(&SEEN), &[
+        TWO_NOOPS,
+        (Said(THIRD, "05", "0000000000000003 00000001 0000000000000004 00000003 0000000000000101"), &[
+            (Node(3), "06", "0000000000000102 01 00"),
+        ]),
+        (Said(THIRD, "05", "0000000000000003 00000001 0000000000000004 00000003 0000000000000102"), NOTHING),
+        (Said(THIRD, "05", "0000000000000003 00000001 0000000000000004 00000003 0000000000000103"), &[
+            (Node(3), "07", "0000000000000103 00000000"),
+        ]),
+    ]),
     // A leader is refused, or asked for what it has executed more.
-    (
-        Start::TakenUp(&SEEN),
-        &[
-            TWO_NOOPS,
-            (
-                Said(THIRD, "0d", "0000000000000002 00000001 0000000000000103"),
-                &[(
-                    Node(3),
-                    "05",
-                    "0000000000000002 00000001 0000000000000002 00000002 0000000000000102",
-                )],
-            ),
-            (
-                Said(SECOND, "0d", "0000000000000002 00000002 0000000000000103"),
-                &[(Node(2), "07", "0000000000000103 00000000")],
-            ),
-            (
-                Said(THIRD, "0d", "0000000000000003 00000003 0000000000000102"),
-                NOTHING,
-            ),
-        ],
-    ),
+    (Start::TakenUp(&SEEN), &[
+        TWO_NOOPS,
+        (Said(THIRD, "0d", "0000000000000002 00000001 0000000000000103"), &[
+            (Node(3), "05", "0000000000000002 00000001 0000000000000002 00000002 0000000000000102"),
+        ]),
+        (Said(SECOND, "0d", "0000000000000002 00000002 0000000000000103"), &[
+            (Node(2), "07", "0000000000000103 00000000"),
+        ]),
+        (Said(THIRD, "0d", "0000000000000003 00000003 0000000000000102"), NOTHING),
+    ]),
 ];
 
 fn replica_of(alloc: Global, start: Start) -> Result<Locks, Fail> {
     match start {
         Start::Begun => begun(alloc, 1, 1, 3),
         Start::Led => led(alloc, 1),
-        Start::TakenUp(texts) => taken_up(alloc, 1, texts),
+        Start::TakenUp(texts) => taken_up(alloc, texts),
         Start::BegunAhead => begun(alloc, 1, 2, 3),
-        Start::TakenUpAhead(texts) => taken_up(alloc, 2, texts),
     }
 }
 
@@ -429,29 +264,5 @@ pub fn first_other(alloc: Global, dialogues: &[Dialogue]) -> Result<Option<(usiz
 #[test]
 fn nodes_send_these_bytes(rt: HostRuntime) -> Result<(), Fail> {
     assert_eq!(rt; first_other(rt.alloc(), &DIALOGUES)?, None);
-    Ok(())
-}
-
-/// A node, the number of first members, and the tick at which it first sends anything, within 40.
-const BEGINNINGS: [(u32, usize, Option<usize>); 4] = [
-    (1, 3, Some(4)),
-    (2, 3, Some(8)),
-    (7, 7, Some(28)),
-    (4, 3, None),
-];
-
-/// The first of the nodes that begins a ballot at another tick.
-fn first_early(alloc: Global, rows: &[(u32, usize, Option<usize>)]) -> Result<Option<u32>, Fail> {
-    for (node, count, tick) in rows {
-        if first_loud(alloc, &mut begun(alloc, *node, 1, *count)?, 40)? != *tick {
-            return Ok(Some(*node));
-        }
-    }
-    Ok(None)
-}
-
-#[test]
-fn a_ballot_is_begun_by_the_place_among_the_members(rt: HostRuntime) -> Result<(), Fail> {
-    assert_eq!(rt; first_early(rt.alloc(), &BEGINNINGS)?, None);
     Ok(())
 }

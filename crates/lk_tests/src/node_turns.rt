@@ -66,13 +66,13 @@ pub fn begun(alloc: Global, node: u32, alpha: u8, count: usize) -> Result<Locks,
     revived(alloc, MemoryDisk::new(alloc), &header(node, alpha, count)?)
 }
 
-/// Node 1's replica on a file of these bytes, in a cluster of three.
-pub fn taken_up(alloc: Global, alpha: u8, texts: &[&str]) -> Result<Locks, Fail> {
+/// Node 1's replica on a file of these bytes, in a cluster of three with alpha 1.
+pub fn taken_up(alloc: Global, texts: &[&str]) -> Result<Locks, Fail> {
     let bytes = bytes_of(alloc, texts)?;
     let mut device = MemoryDisk::new(alloc);
     device.append(Side::A, &bytes)?;
     device.stop(bytes.len(), 0);
-    revived(alloc, device, &header(1, alpha, 3)?)
+    revived(alloc, device, &header(1, 1, 3)?)
 }
 
 // The promises of nodes 1 and 2 of the ballot (1, 1), from the first position on.
@@ -171,8 +171,8 @@ pub fn first_astray(
     Ok(None)
 }
 
-/// The first of so many ticks at which the replica sends anything, from 1.
-pub fn first_loud(alloc: Global, replica: &mut Locks, ticks: usize) -> Result<Option<usize>, Fail> {
+// The first of so many ticks at which the replica sends anything, from 1.
+fn first_loud(alloc: Global, replica: &mut Locks, ticks: usize) -> Result<Option<usize>, Fail> {
     for tick in 0..ticks {
         if !hear(alloc, replica, Heard::Tick)?.is_empty() {
             return Ok(Some(tick + 1));

@@ -1,11 +1,11 @@
 use Rattle.std.proofs.Common.{rules, refl, inl, inr, sym, subst, subst₂}
 use Rattle.lk_agreement.specs.Worlds.{IsClientRequest}
 use Rattle.lk_sim.specs.Refusals.{HasRoom, IsFull}
-use Rattle.lk_sim.specs.Seats.{IsSeatOf}
+use Rattle.lk_seats.specs.Seats.{IsSeatOf}
 use Rattle.lk_sim.specs.Events.{IsRefused}
 use Rattle.lk_sim.specs.Worlds.{Holds, scene_of}
 use Rattle.lk_sim.specs.declared.event.Event.TheVariants as event
-use Rattle.lk_sim.specs.declared.refused.Refused.TheVariants.{WorldMemory}
+use Rattle.lk_seats.specs.declared.refused.Refused.TheVariants.{WorldMemory}
 use Rattle.lk_sim.proofs.Asking.{asked_holds}
 use Rattle.lk_sim.proofs.client.client.Goals as goal
 use Rattle.lk_replica.specs.Behaviours.{disks_by}

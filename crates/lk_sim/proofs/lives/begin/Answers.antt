@@ -5,8 +5,8 @@ use Rattle.lk_node.specs.Leavings.{header_of}
 use Rattle.lk_sim.specs.Events.{ComesUp, LeftByRevival, StartWants}
 use Rattle.lk_sim.specs.Scenes.{Scene}
 use Rattle.lk_sim.specs.Worlds.{scene_of}
-use Rattle.lk_sim.specs.declared.seat.Life.TheVariants.{Down}
-use Rattle.lk_sim.specs.declared.seat.Seat.{Seat}
+use Rattle.lk_seats.specs.declared.seat.Life.TheVariants.{Down}
+use Rattle.lk_seats.specs.declared.seat.Seat.{Seat}
 use Rattle.lk_sim.proofs.Doing.{comes, revived_cases, revived_left, since, settled_holds}
 use Rattle.lk_sim.proofs.Explaining.{lawful}
 use Rattle.lk_sim.proofs.Lists.{set_last, at_set_here}

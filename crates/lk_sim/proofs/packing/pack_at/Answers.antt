@@ -1,7 +1,8 @@
 use Rattle.std.proofs.Common.{◌≡◌, rules, None, sym}
-use Rattle.lk_sim.specs.Events.{LeftByPacking, FailsToPack}
-use Rattle.lk_sim.specs.Seats.{At}
-use Rattle.lk_sim.specs.declared.seat.Life.TheVariants.{Up}
+use Rattle.lk_seats.specs.Ends.{FailsToPack}
+use Rattle.lk_sim.specs.Events.{LeftByPacking}
+use Rattle.lk_seats.specs.Seats.{At}
+use Rattle.lk_seats.specs.declared.seat.Life.TheVariants.{Up}
 use Rattle.lk_sim.specs.Worlds.{scene_of}
 use Rattle.lk_sim.proofs.Explaining.{lawful}
 use Rattle.lk_sim.proofs.Doing.{at_same, compacted, packed_cases, packed_none, wanted, since, halted_holds, settled_holds, given_up_holds}

@@ -1,0 +1,75 @@
+-- What a world keeps of what a call of a node leaves.
+use Rattle.std.specs.Prelude.{◌≡◌, ℕ, List, [], ◌++◌, Option, set}
+use Rattle.lk_state.specs.Meanings.{Meaning}
+use Rattle.lk_agreement.specs.Nodes.{View}
+use Rattle.lk_step.specs.declared.note.Note.{Note}
+use Rattle.lk_node.specs.Histories.{History, Genesis, Datagram}
+use Rattle.lk_node.specs.Holdings.{Holding}
+use Rattle.lk_replica.specs.Behaviours.{Behaviour, disks_by}
+use Rattle.lk_replica.specs.Together.{parts_of}
+use Rattle.lk_replica.specs.declared.taken.Step.{Step}
+use Rattle.lk_seats.specs.Outcomes.{Rests}
+use Rattle.lk_seats.specs.Seats.{SeatFits, At, stopped_on, device_in}
+use Rattle.lk_seats.specs.Told.{Tells}
+use Rattle.lk_seats.specs.declared.end.End.{End}
+use Rattle.lk_seats.specs.declared.seat.Seat.{Seat}
+use Rattle.lk_seats.specs.declared.seat.Life.TheVariants.{Down}
+use Rattle.lk_sim.specs.Events.{Adds}
+use Rattle.lk_sim.specs.Groups.{AreNotesOf}
+use Rattle.lk_sim.specs.Scenes.{Scene}
+
+-- what it noted and sent was added, after what was just asked, with its answers and passes noted as they were sent
+pub record HasAdded {R : Type 0} (old new : Scene R) (asked mine : List Note) (batch : List Datagram) (how : Option End) : Type 0 where
+  pub told : List Note
+  pub tells : Tells batch told
+  pub seats : new.seats ≡ old.seats
+  pub adds : Adds old new ((asked ++ mine) ++ told) batch
+  pub ended : new.ended ≡ how
+
+-- it was, and the node at this place has stopped if it has reached an armed stop
+pub record HasSettled {R : Type 0} (Shows : R → Genesis → ℕ → Holding → Type 0) (b : Behaviour R) (m : Meaning) (old : Scene R) (i : ℕ) (new : Scene R) (asked mine : List Note) (batch : List Datagram) (how : Option End) (stop : Option ℕ) : Type 0 where
+  pub told : List Note
+  pub tells : Tells batch told
+  pub seat : Seat R
+  pub next : Seat R
+  pub at : At old.seats i seat
+  pub number : next.number ≡ seat.number
+  pub seats : new.seats ≡ set old.seats i next
+  pub rests : Rests b stop seat next
+  pub fits : (h : History) (w : View) → SeatFits Shows (disks_by b) m h w seat → SeatFits Shows (disks_by b) m h w next
+  pub adds : Adds old new ((asked ++ mine) ++ told) batch
+  pub ended : new.ended ≡ how
+
+-- what the steps noted and sent was added, step by step, with their answers and passes noted as they were sent
+pub record HasAddedSteps {R : Type 0} (old new : Scene R) (steps : List Step) (batch : List Datagram) (how : Option End) : Type 0 where
+  pub notes : List Note
+  pub tells : AreNotesOf (parts_of steps batch) notes
+  pub seats : new.seats ≡ old.seats
+  pub adds : Adds old new notes batch
+  pub ended : new.ended ≡ how
+
+-- it was, and the node at this place has stopped if it has reached an armed stop
+pub record HasSettledSteps {R : Type 0} (Shows : R → Genesis → ℕ → Holding → Type 0) (b : Behaviour R) (m : Meaning) (old : Scene R) (i : ℕ) (new : Scene R) (steps : List Step) (batch : List Datagram) (how : Option End) (stop : Option ℕ) : Type 0 where
+  pub notes : List Note
+  pub tells : AreNotesOf (parts_of steps batch) notes
+  pub seat : Seat R
+  pub next : Seat R
+  pub at : At old.seats i seat
+  pub number : next.number ≡ seat.number
+  pub seats : new.seats ≡ set old.seats i next
+  pub rests : Rests b stop seat next
+  pub fits : (h : History) (w : View) → SeatFits Shows (disks_by b) m h w seat → SeatFits Shows (disks_by b) m h w next
+  pub adds : Adds old new notes batch
+  pub ended : new.ended ≡ how
+
+-- the node at this place was stopped, and nothing was added
+pub record HasGivenUp {R : Type 0} (Shows : R → Genesis → ℕ → Holding → Type 0) (b : Behaviour R) (m : Meaning) (old : Scene R) (i : ℕ) (new : Scene R) : Type 0 where
+  pub seat : Seat R
+  pub next : Seat R
+  pub at : At old.seats i seat
+  pub number : next.number ≡ seat.number
+  pub seats : new.seats ≡ set old.seats i next
+  pub halted : next.life ≡ Down (stopped_on 0 0 (device_in b seat.life))
+  pub fits : (h : History) (w : View) → SeatFits Shows (disks_by b) m h w seat → SeatFits Shows (disks_by b) m h w next
+  pub adds : Adds old new [] []
+  pub ended : new.ended ≡ old.ended
