@@ -144,10 +144,10 @@ if_err P Q (Ok x) f p = tt
 if_err P Q (Err e) f p = f e p
 
 pub done : (old new : Scene ReplicaValue) (e : Event) → Does locks_behave old e new → IsDone old e new
-done = is_done locks_behave (λ r. refl) (λ t r. refl) (λ r o q came k. k) (λ r given q came k. k)
+done = is_done locks_behave (λ r. refl) (λ t r. refl) (λ r o q came k. k) (λ r given q came k. k) (λ device whose came k. k)
 
 pub not_done : (old new : Scene ReplicaValue) (e : Event) (r : Refused) → doing.IsRefused locks_behave old e r new → IsRefused old e r new
-not_done = refused locks_behave (λ r. refl) (λ t r. refl) (λ r o q came k. k) (λ r given q came k. k)
+not_done = refused locks_behave (λ r. refl) (λ t r. refl) (λ r o q came k. k) (λ r given q came k. k) (λ device whose came k. k)
 
 pub ran : (old : Scene ReplicaValue) (events : List Event) (how : RunEnd) (new : Scene ReplicaValue) → Runs locks_behave old events how new → IsRun old events how new
-ran = runs locks_behave (λ r. refl) (λ t r. refl) (λ r o q came k. k) (λ r given q came k. k)
+ran = runs locks_behave (λ r. refl) (λ t r. refl) (λ r o q came k. k) (λ r given q came k. k) (λ device whose came k. k)

@@ -1,8 +1,9 @@
 -- What events do, in the words of the promise.
-use Rattle.std.proofs.Common.{◌≡◌, ℕ, zero, suc, ◌⊎◌, List, [], ◌∷◌, ◌++◌, map, take, set, slice_get, Option, Some, None, Result, refl, sym, ap, ◌∙◌, inl, inr, append-nil, arith}
+use Rattle.std.proofs.Common.{◌≡◌, ℕ, zero, suc, ◌⊎◌, List, [], ◌∷◌, ◌++◌, map, take, set, Option, Some, None, Result, refl, sym, ap, ◌∙◌, inl, inr, append-nil, arith}
 use Rattle.std.proofs.lemmas.List.Elements.{filter_map-append}
 use Rattle.lk_disk.specs.Memory.{Memory, empty}
 use Rattle.lk_disk.specs.declared.trap.Trap.{Trap}
+use Rattle.lk_entries.specs.Values.{HeaderValue}
 use Rattle.lk_locks.specs.Meaning.{table_meaning}
 use Rattle.lk_locks.specs.Packed.{IsTableText}
 use Rattle.lk_replica.specs.Taking.{ComesTo}
@@ -17,12 +18,13 @@ use Rattle.lk_node.specs.Leavings.{header_of}
 use Rattle.lk_node.specs.Served.{IsOfNode}
 use Rattle.lk_replica.specs.Behaviours.{Behaviour}
 use Rattle.lk_replica.specs.ReplicaValue.{ReplicaValue}
+use Rattle.lk_replica.specs.Revived.{RevivesTo}
 use Rattle.lk_sim.specs.Events.{Turns, AreOwn, AreAllOwn, Adds, IsGiven, IsGivenTogether, ComesUp, IsCompacted, Brings, Does, IsHalted, LeftBy, LeftByGroup, LeftByRevival, LeftByPacking, Wants, IsRefused}
 use Rattle.lk_replica.specs.Together.{Said, sent_of, ComesToAll}
 use Rattle.lk_seats.specs.Sends.{cut_short, left_over}
 use Rattle.lk_sim.specs.Groups.{AreNotesOf, given_by}
 use Rattle.lk_sim.specs.Heard.{Asks}
-use Rattle.lk_sim.specs.Refusals.{datagram_at}
+use Rattle.lk_sim.specs.Refusals.{datagram_at, May}
 use Rattle.lk_sim.specs.Scenes.{Scene}
 use Rattle.lk_seats.specs.Told.{told_by, Tells}
 use Rattle.lk_sim.specs.Traces.{asked_note}
@@ -37,9 +39,9 @@ use Rattle.lk_seats.specs.declared.seat.Seat.{Seat}
 use Rattle.lk_seats.specs.declared.seat.Life.{Life}
 use Rattle.lk_seats.specs.declared.seat.Life.TheVariants.{Up, Down}
 use Rattle.lk_log.specs.StoreValue.{device_of}
-use Rattle.std.proofs.lemmas.Option.{slice_get-get_or}
 use Rattle.lk_promise.proofs.Falling.{leaves_down}
-use Rattle.lk_promise.proofs.Refusing.{has_cause, leaves_up, takes_as_told}
+use Rattle.lk_promise.proofs.Refusing.{none_started, has_cause, leaves_up, takes_as_told}
+use Rattle.lk_promise.proofs.Reviving.{same_seat, stands_at, restarts_as_told}
 use Rattle.lk_promise.specs.Events as promise
 use Rattle.lk_promise.specs.Events.{asked_of, requests, AreAskedIn, AreAskedBy, IsFor, ChangesOnly, FallsDown, SendsAsAsked, IsStopped, StopsAsAsked, IsSilent}
 
@@ -142,14 +144,6 @@ asked_in bytes None a = inr (λ r cluster spelled. let x = a.only (record { clus
 
 -- ---- the node that an event is for
 
-same_seat : (s : Seat ReplicaValue) (n : ℕ) (life : Life ReplicaValue) → s.number ≡ n → s.life ≡ life → s ≡ record { number = n; life = life }
-same_seat s n life number is =
-    let made : ℕ → Life ReplicaValue → Seat ReplicaValue = λ k l. record { number = k; life = l } in
-    ap (λ (k : ℕ). made k s.life) number ∙ ap (made n) is
-
-stands_at : (old new : List (Seat ReplicaValue)) (s t : Seat ReplicaValue) (k : Turns old new s t) → slice_get old k.place ≡ Some s
-stands_at old new s t k = slice_get-get_or old k.place s k.at.0 ∙ ap Some k.at.1
-
 turned : (old new : List (Seat ReplicaValue)) (n : ℕ) (s t : Seat ReplicaValue) → Turns old new s t → s.number ≡ n → ChangesOnly n old new
 turned old new n s t k number = inr (inl (k.place, s, t, stands_at old new s t k, number, k.number ∙ number, k.seats))
 
@@ -158,20 +152,20 @@ bound sent zero d n e to = absurd cc
 bound sent (suc j) d n e to = (j, d, omega arith, e, to)
 
 module _ (b : Behaviour ReplicaValue) where
-  brings_only : (old new : Scene ReplicaValue) (e : Event) → Brings b old e new → (n : ℕ) × IsFor old.sent e n × ChangesOnly n old.seats new.seats
-  brings_only old new (event.Start n) k = (n, refl, inr (inr (k.seat, k.number, k.seats)))
-  brings_only old new (event.Restart n) k = (n, refl, turned old.seats new.seats n k.seat k.next k.turns k.number)
-  brings_only old new (event.Tick n) k = (n, refl, turned old.seats new.seats n k.seat k.next k.turns k.number)
-  brings_only old new (event.Compact n) k = (n, refl, turned old.seats new.seats n k.seat k.next k.turns k.number)
-  brings_only old new (event.Client n r) k = (n, refl, inl k.seats)
-  brings_only old new (event.Deliver i) k =
+  brings_only : (old new : Scene ReplicaValue) (e : Event) → May old e → Brings b old e new → (n : ℕ) × IsFor old.sent e n × ChangesOnly n old.seats new.seats
+  brings_only old new (event.Start n) may k = (n, refl, inr (inr (none_started old.seats n may.0, (k.seat, k.number, k.seats))))
+  brings_only old new (event.Restart n) may k = (n, refl, turned old.seats new.seats n k.seat k.next k.turns k.number)
+  brings_only old new (event.Tick n) may k = (n, refl, turned old.seats new.seats n k.seat k.next k.turns k.number)
+  brings_only old new (event.Compact n) may k = (n, refl, turned old.seats new.seats n k.seat k.next k.turns k.number)
+  brings_only old new (event.Client n r) may k = (n, refl, inl k.seats)
+  brings_only old new (event.Deliver i) may k =
       let g = k.given in
       (k.node, bound old.sent i k.datagram k.node k.stands k.bound, turned old.seats new.seats k.node g.seat g.next g.turns g.number)
-  brings_only old new (event.Group n turns) k = (n, refl, turned old.seats new.seats n k.seat k.next k.turns k.number)
-  brings_only old new (event.Inject n bytes) k = let g = k.given in (n, refl, turned old.seats new.seats n g.seat g.next g.turns g.number)
-  brings_only old new (event.Stop n x y) k = (n, refl, turned old.seats new.seats n k.seat k.next k.turns k.number)
-  brings_only old new (event.FailAt n count) k = (n, refl, turned old.seats new.seats n k.seat k.next k.turns k.number)
-  brings_only old new (event.Arm n count bytes) k = (n, refl, turned old.seats new.seats n k.seat k.next k.turns k.number)
+  brings_only old new (event.Group n turns) may k = (n, refl, turned old.seats new.seats n k.seat k.next k.turns k.number)
+  brings_only old new (event.Inject n bytes) may k = let g = k.given in (n, refl, turned old.seats new.seats n g.seat g.next g.turns g.number)
+  brings_only old new (event.Stop n x y) may k = (n, refl, turned old.seats new.seats n k.seat k.next k.turns k.number)
+  brings_only old new (event.FailAt n count) may k = (n, refl, turned old.seats new.seats n k.seat k.next k.turns k.number)
+  brings_only old new (event.Arm n count bytes) may k = (n, refl, turned old.seats new.seats n k.seat k.next k.turns k.number)
 
   brings_sends : (old new : Scene ReplicaValue) (e : Event) → Brings b old e new → SendsAsAsked old e new
   brings_sends old new (event.Start n) k = tt
@@ -327,7 +321,8 @@ module _ (b : Behaviour ReplicaValue) where
 
 module _ (b : Behaviour ReplicaValue) (memory_is : (r : ReplicaValue) → b.memory r ≡ device_of r.store) (node_stays : (t : Trap) (r : ReplicaValue) → (b.with_trap t r).node ≡ r.node)
     (contract : (r : ReplicaValue) (o : Option (List ℕ)) (q : ReplicaValue) (came : Result (List Note × List Datagram) ℕ) → b.Takes r o q came → ComesTo table_meaning IsTableText r o q came)
-    (contract_of_all : (r : ReplicaValue) (given : List (Option (List ℕ))) (q : ReplicaValue) (came : Result (List Said) ℕ) → b.TakesAll r given q came → ComesToAll table_meaning IsTableText r given q came) where
+    (contract_of_all : (r : ReplicaValue) (given : List (Option (List ℕ))) (q : ReplicaValue) (came : Result (List Said) ℕ) → b.TakesAll r given q came → ComesToAll table_meaning IsTableText r given q came)
+    (contract_of_restart : (device : Memory) (whose : HeaderValue) (came : Result (ReplicaValue × List Note) (ℕ × Memory)) → b.Revives device whose came → RevivesTo table_meaning IsTableText device whose came) where
   stopped : (old new : Scene ReplicaValue) (n x y : ℕ) → GoesDown b old new n x y → IsStopped old new n x y
   stopped old new n x y k =
       let device = stopped_on x y (device_of k.replica.store) in
@@ -340,6 +335,7 @@ module _ (b : Behaviour ReplicaValue) (memory_is : (r : ReplicaValue) → b.memo
         is_down = k.turns.seats ∙ ap (set old.seats k.turns.place) (same_seat k.next n (Down device) (k.turns.number ∙ k.number) down);
         disk_a = refl;
         disk_b = refl;
+        untrapped = (refl, refl);
         nothing_sent = k.adds.sent ∙ append-nil old.sent;
         nothing_noted = k.adds.trace ∙ append-nil old.trace;
       }
@@ -374,7 +370,7 @@ module _ (b : Behaviour ReplicaValue) (memory_is : (r : ReplicaValue) → b.memo
   silent old new (event.Arm n count bytes) k = adds_nothing old new k.adds
 
   pub is_done : (old new : Scene ReplicaValue) (e : Event) → Does b old e new → promise.IsDone old e new
-  is_done old new e d = record { asked = brings_asks b old new e d.1; only = brings_only b old new e d.1; sends = brings_sends b old new e d.1; stops = stops old new e d.1; silent = silent old new e d.1; up = leaves_up old b new e d.1; down = leaves_down old new b e d.1; takes = takes_as_told b node_stays contract contract_of_all old new e d.0 d.1; grows = done_grows b old new e d }
+  is_done old new e d = record { asked = brings_asks b old new e d.1; only = brings_only b old new e d.0 d.1; sends = brings_sends b old new e d.1; stops = stops old new e d.1; silent = silent old new e d.1; up = leaves_up old b new e d.1; down = leaves_down old new b e d.1; takes = takes_as_told b node_stays contract contract_of_all old new e d.0 d.1; restarts = restarts_as_told b contract_of_restart old new e d.1; grows = done_grows b old new e d }
 
   pub refused : (old new : Scene ReplicaValue) (e : Event) (r : Refused) → IsRefused b old e r new → promise.IsRefused old e r new
   refused old new e r k = is_refused b old new e r k

@@ -8,6 +8,7 @@ mod Telling
 mod Keeping
 mod Refusing
 mod Falling
+mod Reviving
 mod Doing
 mod Fixed
 mod Once
@@ -18,4 +19,8 @@ mod Guarded
 mod ExactlyOnce
 mod Converging
 mod Restarting
+mod Reaching
+mod Apart
+mod ComingBack
+mod Repeating
 mod Replying

@@ -45,7 +45,7 @@ use Rattle.lk_promise.specs.Events.{IsFor, IsStarted, IsUp, IsDown, HasCause, Le
 
 -- ---- where the node is
 
-none_started : (nodes : List (Seat ReplicaValue)) (n : ℕ) → HasNo nodes n → IsStarted nodes n → ⊥
+pub none_started : (nodes : List (Seat ReplicaValue)) (n : ℕ) → HasNo nodes n → IsStarted nodes n → ⊥
 none_started nodes n none s = none s.1.0 s.0 (s.1.1, s.1.2) s.2
 
 started : (nodes : List (Seat ReplicaValue)) (n : ℕ) → seats.IsStarted nodes n → IsStarted nodes n

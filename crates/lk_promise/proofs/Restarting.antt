@@ -1,8 +1,10 @@
 -- A restart reads what the one before it left: the same.
 use Rattle.std.proofs.Common.{◌≡◌, ℕ, ◌⊎◌, List, [], ◌∷◌, ◌++◌, Contains, ap, sym, ◌∙◌, subst, inl, inr, append-nil, arith}
 use Rattle.std.proofs.lemmas.Bool.{cases_eq}
+use Rattle.lk_disk.specs.Disk.{Disk}
 use Rattle.lk_disk.specs.Memory.{Memory, disk_of}
 use Rattle.lk_disk.specs.declared.device.Side.TheVariants.{A, B}
+use Rattle.lk_entries.specs.Entries.{spelling_of_all}
 use Rattle.lk_entries.specs.Formats.{format}
 use Rattle.lk_entries.specs.Standings.{HasHeader, StandsFor}
 use Rattle.lk_entries.specs.Values.{HeaderValue, StandingValue}
@@ -23,20 +25,30 @@ use Rattle.lk_state.specs.States.{WholeValue}
 use Rattle.lk_step.specs.declared.note.Note.{Note}
 use Rattle.lk_promise.specs.Restarting.{ComesUp, StaysDown, IsLeftBy, Restarts, last_up, ReadsFormatTwo, IsIdempotent}
 
+-- a file with these entries, all of them synced
+abbrev pub synced_as : List Stored → Disk
+synced_as entries = record { synced = spelling_of_all entries; unsynced = spelling_of_all [] }
+
+pub is_synced : (d : Disk) (entries : List Stored) → d.synced ≡ spelling_of_all entries → d.unsynced ≡ spelling_of_all [] → d ≡ synced_as entries
+is_synced d entries synced unsynced =
+    let made : List ℕ → List ℕ → Disk = λ xs ys. record { synced = xs; unsynced = ys } in
+    ap (λ (xs : List ℕ). made xs d.unsynced) synced ∙ ap (made (spelling_of_all entries)) unsynced
+
 module _ (header : HeaderValue) where
   -- the replica has just come up: whatever a stop may leave of it has these entries, for which it stands
-  record Stands (replica : ReplicaValue) (notes : List Note) : Type 0 where
-    entries : List Stored
-    live : (image : Image) → MayLeaveBoth (disks replica.store) image → IsLive image entries
-    of_node : HasHeader entries header
-    is_format : format entries ≡ 2
-    standing : StandingValue
-    stands : StandsFor entries standing
-    whole : WholeValue
-    may : MayRevive IsTableText header standing whole
-    only : (w : WholeValue) → Packs IsTableText w standing.snapshot → whole ≡ w
-    node_is : replica.node ≡ revived table_meaning header standing whole
-    notes_are : notes ≡ notes_of header.node standing.position (run_from standing.position standing.pairs)
+  pub record Stands (replica : ReplicaValue) (notes : List Note) : Type 0 where
+    pub entries : List Stored
+    pub live : (image : Image) → MayLeaveBoth (disks replica.store) image → IsLive image entries
+    pub file_is : replica.store.live_disk ≡ synced_as entries
+    pub of_node : HasHeader entries header
+    pub is_format : format entries ≡ 2
+    pub standing : StandingValue
+    pub stands : StandsFor entries standing
+    pub whole : WholeValue
+    pub may : MayRevive IsTableText header standing whole
+    pub only : (w : WholeValue) → Packs IsTableText w standing.snapshot → whole ≡ w
+    pub node_is : replica.node ≡ revived table_meaning header standing whole
+    pub notes_are : notes ≡ notes_of header.node standing.position (run_from standing.position standing.pairs)
 
   -- the entries that were found have format 2
   found_format : (image : Image) (zero : List ℕ) (entries : List Stored) → ((es : List Stored) → IsLive image es → format es ≡ 2) → Found image header zero entries → format entries ≡ 2
@@ -52,6 +64,7 @@ module _ (header : HeaderValue) where
       record {
         entries = o.entries;
         live = subst (λ (s : StoreValue). (image : Image) → MayLeaveBoth (disks s) image → IsLive image o.entries) (sym same.1) (synced_live whose o.entries holds);
+        file_is = ap (λ (s : StoreValue). s.live_disk) same.1 ∙ is_synced r.store.live_disk o.entries o.holds.synced o.holds.unsynced;
         of_node = o.header;
         is_format = is_format;
         standing = r.takes.standing;
@@ -63,7 +76,7 @@ module _ (header : HeaderValue) where
         notes_are = r.takes.restores.notes_are;
       }
 
-  first_stands : (device : Memory) (replica : ReplicaValue) (notes : List Note) → ReadsFormatTwo device → ComesUp header device replica notes → Stands replica notes
+  pub first_stands : (device : Memory) (replica : ReplicaValue) (notes : List Note) → ReadsFormatTwo device → ComesUp header device replica notes → Stands replica notes
   first_stands device replica notes today up =
       stands_by device replica notes up.0 (found_format (seen (disk_of device)) (text table_meaning up.0.takes.genesis []) up.0.takes.opens.entries today up.0.takes.opens.found)
 
@@ -79,10 +92,10 @@ module _ (header : HeaderValue) where
     still_live = s.live (seen (disk_of left)) may_be_left
 
     module _ (again : ReplicaValue) (told : List Note) (up : ComesUp header left again told) where
-      same_entries : up.0.takes.opens.entries ≡ s.entries
+      pub same_entries : up.0.takes.opens.entries ≡ s.entries
       same_entries = found_live (seen (disk_of left)) header _ up.0.takes.opens.entries s.entries still_live up.0.takes.opens.found
 
-      abbrev now : Stands again told
+      abbrev pub now : Stands again told
       now = stands_by left again told up.0 (ap format same_entries ∙ s.is_format)
 
       same_standing : now.standing ≡ s.standing
@@ -91,11 +104,18 @@ module _ (header : HeaderValue) where
       same_whole : s.whole ≡ now.whole
       same_whole = s.only now.whole (subst (λ (x : StandingValue). Packs IsTableText now.whole x.snapshot) same_standing now.may.unpacks.packs)
 
-      same_node : again.node ≡ replica.node
+      pub same_node : again.node ≡ replica.node
       same_node = now.node_is ∙ ap (λ (x : StandingValue). revived table_meaning header x now.whole) same_standing ∙ ap (λ (w : WholeValue). revived table_meaning header s.standing w) (sym same_whole) ∙ sym s.node_is
 
-      same_notes : told ≡ notes
+      pub same_notes : told ≡ notes
       same_notes = now.notes_are ∙ ap (λ (x : StandingValue). notes_of header.node x.position (run_from x.position x.pairs)) same_standing ∙ sym s.notes_are
+
+      pub same_file : again.store.live_disk ≡ replica.store.live_disk
+      same_file = now.file_is ∙ ap (λ (es : List Stored). synced_as es) same_entries ∙ sym s.file_is
+
+    -- the file that the stop leaves has format 2
+    pub still_today : ReadsFormatTwo left
+    still_today entries live = ap format (found_live (seen (disk_of left)) header [] entries s.entries still_live (inl live)) ∙ s.is_format
 
     -- a restart that is refused is so by the device or by memory
     module _ (number : ℕ) (down : StaysDown header left number) where

@@ -2,12 +2,14 @@
 -- run of them does.
 --
 -- As on the page of the promise, all is said in words of its own, but for the contract of a replica, which is named.
-use Rattle.std.specs.Prelude.{◌≡◌, ℕ, ◌+◌, ◌<◌, ◌≤◌, ◌⊎◌, Option, Some, None, Ok, List, [], ◌∷◌, ◌++◌, length, take, set, slice_get, Contains}
+use Rattle.std.specs.Prelude.{◌≡◌, ℕ, ◌+◌, ◌<◌, ◌≤◌, ◌⊎◌, false, Option, Some, None, Ok, Err, List, [], ◌∷◌, ◌++◌, length, take, set, slice_get, Contains}
 use Rattle.std.specs.List.{filter_map, flat_map}
 use Rattle.lk_types.specs.declared.command.Request.{Request as Asking}
 use Rattle.lk_types.specs.declared.genesis.Genesis.{Genesis}
 use Rattle.lk_disk.specs.Disk.{Disk}
 use Rattle.lk_disk.specs.Memory.{Memory}
+use Rattle.lk_disk.specs.Meters.{stopping}
+use Rattle.lk_disk.specs.declared.trap.Trap.TheVariants.{Off}
 use Rattle.lk_wire.specs.Grammar.{Spells}
 use Rattle.lk_wire.specs.declared.message.Content.TheVariants as content
 use Rattle.lk_wire.specs.declared.message.NodeMessage.{NodeMessage}
@@ -18,7 +20,9 @@ use Rattle.lk_step.specs.declared.note.Note.{Note}
 use Rattle.lk_step.specs.declared.note.Note.TheVariants as note
 use Rattle.lk_locks.specs.Meaning.{table_meaning}
 use Rattle.lk_locks.specs.Packed.{IsTableText}
+use Rattle.lk_node.specs.Leavings.{header_of}
 use Rattle.lk_replica.specs.ReplicaValue.{ReplicaValue}
+use Rattle.lk_replica.specs.Revived.{RevivesTo}
 use Rattle.lk_replica.specs.Taking.{ComesTo}
 use Rattle.lk_replica.specs.Together.{ComesToAll}
 use Rattle.lk_sim.specs.Scenes.{Scene}
@@ -82,12 +86,15 @@ IsFor sent (event.Stop n x y) number = number ≡ n
 IsFor sent (event.FailAt n count) number = number ≡ n
 IsFor sent (event.Arm n count bytes) number = number ≡ n
 
--- only this node may have changed, or it was added
+abbrev pub IsStarted : List (Seat ReplicaValue) → ℕ → Type 0
+IsStarted seats number = (s : Seat ReplicaValue) × Contains seats s × (s.number ≡ number)
+
+-- only this node may have changed, or it was added, if it was never started before
 abbrev pub ChangesOnly : ℕ → List (Seat ReplicaValue) → List (Seat ReplicaValue) → Type 0
 ChangesOnly number old new =
     (new ≡ old)
     ⊎ ((place : ℕ) × (s t : Seat ReplicaValue) × (slice_get old place ≡ Some s) × (s.number ≡ number) × (t.number ≡ number) × (new ≡ set old place t))
-    ⊎ ((s : Seat ReplicaValue) × (s.number ≡ number) × (new ≡ old ++ s ∷ []))
+    ⊎ ((IsStarted old number → ⊥) × ((s : Seat ReplicaValue) × (s.number ≡ number) × (new ≡ old ++ s ∷ [])))
 
 -- it alone is down now
 abbrev pub FallsDown : ℕ → List (Seat ReplicaValue) → List (Seat ReplicaValue) → Type 0
@@ -109,7 +116,8 @@ Grows old new = ((more : List Datagram) × (new.sent ≡ old.sent ++ more)) × (
 abbrev pub remaining : ℕ → Disk → Disk
 remaining most disk = record { synced = disk.synced ++ take most disk.unsynced; unsynced = [] }
 
--- a node was up and is down, with this many bytes of its disk A and of its disk B; all other nodes are unchanged
+-- a node was up and is down, with this many bytes of its disk A and of its disk B, and no trap is set; all other nodes
+-- are unchanged
 pub record IsStopped (old new : Scene ReplicaValue) (number x y : ℕ) : Type 0 where
   pub place : ℕ
   pub replica : ReplicaValue
@@ -118,6 +126,7 @@ pub record IsStopped (old new : Scene ReplicaValue) (number x y : ℕ) : Type 0 
   pub is_down : new.seats ≡ set old.seats place (record { number = number; life = Down device })
   pub disk_a : device.a ≡ remaining x (device_of replica.store).a
   pub disk_b : device.b ≡ remaining y (device_of replica.store).b
+  pub untrapped : (device.meter.trap ≡ Off) × (device.meter.fuse ≡ None)
   pub nothing_sent : new.sent ≡ old.sent
   pub nothing_noted : new.trace ≡ old.trace
 
@@ -133,9 +142,6 @@ StopsAsAsked old (event.Stop number x y) new = IsStopped old new number x y
 StopsAsAsked old _ new = Unit {0}
 
 -- ---- when an event is refused, and what one leaves up
-
-abbrev pub IsStarted : List (Seat ReplicaValue) → ℕ → Type 0
-IsStarted seats number = (s : Seat ReplicaValue) × Contains seats s × (s.number ≡ number)
 
 abbrev pub IsUpWith : List (Seat ReplicaValue) → ℕ → (ReplicaValue → Type 0) → Type 0
 IsUpWith seats number Is = (s : Seat ReplicaValue) × (replica : ReplicaValue) × Contains seats s × (s.number ≡ number) × (s.life ≡ Up replica) × Is replica
@@ -266,6 +272,45 @@ TakesAsTold old (event.Deliver k) new = new.ended ≡ None → (n : ℕ) × (f :
 TakesAsTold old (event.Group n turns) new = new.ended ≡ None → AreTaken old n turns.items new
 TakesAsTold old _ new = Unit {0}
 
+-- a node that was down restarted from its disks: it is up as the contract of a replica says, and what it executed again
+-- is noted. (The contract, `RevivesTo`, is named here and not restated)
+pub record IsRestarted (old : Scene ReplicaValue) (n : ℕ) (new : Scene ReplicaValue) : Type 0 where
+  pub place : ℕ
+  pub device : Memory
+  pub was_down : slice_get old.seats place ≡ Some (record { number = n; life = Down device })
+  pub replica : ReplicaValue
+  pub notes : List Note
+  pub revives : RevivesTo table_meaning IsTableText device (header_of old.genesis n) (Ok (replica, notes))
+  pub is_up : new.seats ≡ set old.seats place (record { number = n; life = Up replica })
+  pub noted : new.trace ≡ old.trace ++ notes
+  pub nothing_sent : new.sent ≡ old.sent
+  pub none_ended : new.ended ≡ None
+
+-- how the node ended whose restart failed: with the fault of this number, and its disks are as that left them; or at an
+-- armed stop, if it has reached one, for this many bytes
+abbrev pub EndsOn : Option ℕ → ℕ → ℕ → Memory → Memory → Option End → Type 0
+EndsOn None n number left rest ended = (ended ≡ Some (Fault n number)) × (rest.a ≡ left.a) × (rest.b ≡ left.b)
+EndsOn (Some bytes) n number left rest ended = (ended ≡ Some (Stopped n)) × (rest.a ≡ remaining bytes left.a) × (rest.b ≡ remaining bytes left.b)
+
+-- its restart failed as the contract of a replica says, not for want of memory, and it is down
+pub record IsNotRestarted (old : Scene ReplicaValue) (n : ℕ) (new : Scene ReplicaValue) : Type 0 where
+  pub place : ℕ
+  pub device : Memory
+  pub was_down : slice_get old.seats place ≡ Some (record { number = n; life = Down device })
+  pub number : ℕ
+  pub left : Memory
+  pub fails : RevivesTo table_meaning IsTableText device (header_of old.genesis n) (Err (number, left))
+  pub not_starved : left.meter.starved ≡ false
+  pub rest : Memory
+  pub is_down : new.seats ≡ set old.seats place (record { number = n; life = Down rest })
+  pub ends : EndsOn (stopping left.meter) n number left rest new.ended
+  pub nothing_noted : new.trace ≡ old.trace
+  pub nothing_sent : new.sent ≡ old.sent
+
+abbrev pub RestartsAsTold : Scene ReplicaValue → Event → Scene ReplicaValue → Type 0
+RestartsAsTold old (event.Restart n) new = IsRestarted old n new ⊎ IsNotRestarted old n new
+RestartsAsTold old _ new = Unit {0}
+
 -- an event that is done
 pub record IsDone (old : Scene ReplicaValue) (e : Event) (new : Scene ReplicaValue) : Type 0 where
   pub asked : (rs : List Asking) × AreAskedBy e rs × (requests new.trace ≡ requests old.trace ++ rs)
@@ -276,6 +321,7 @@ pub record IsDone (old : Scene ReplicaValue) (e : Event) (new : Scene ReplicaVal
   pub up : LeavesUp old e new
   pub down : LeavesDown old e new
   pub takes : TakesAsTold old e new
+  pub restarts : RestartsAsTold old e new
   pub grows : Grows old new
 
 -- a node that has compacted, and that nothing has ended, remembers a snapshot of everything that it has executed,
@@ -312,3 +358,18 @@ pub record IsRun (old : Scene ReplicaValue) (events : List Event) (how : RunEnd)
   pub last : Scene ReplicaValue
   pub done : AreDone (take how.done events) old last
   pub ends : EndsSo events how.done how.refused last new
+
+-- ---- which worlds there are
+
+-- an event is done or refused
+abbrev pub Happens : Scene ReplicaValue → Scene ReplicaValue → Type 0
+Happens old new = (e : Event) × (IsDone old e new ⊎ ((refused : Refused) × IsRefused old e refused new))
+
+-- one after another, up to this
+abbrev pub HappenAll : Scene ReplicaValue → List (Scene ReplicaValue) → Scene ReplicaValue → Type 0
+HappenAll first [] last = last ≡ first
+HappenAll first (next ∷ worlds) last = Happens first next × HappenAll next worlds last
+
+-- the world is reachable: events lead to it from one in which nothing has happened
+abbrev pub IsReachable : Genesis → Scene ReplicaValue → Type 0
+IsReachable genesis world = (worlds : List (Scene ReplicaValue)) × HappenAll (nothing genesis) worlds world

@@ -2,7 +2,7 @@
 -- was not synced, is the same node and notes the same.
 --
 -- That a recovery may be repeated: Mohan et al., ARIES, 1992.
-use Rattle.std.specs.Prelude.{◌≡◌, ℕ, ◌⊎◌, List, [], ◌∷◌, Ok, Err, Contains}
+use Rattle.std.specs.Prelude.{◌≡◌, ℕ, ◌⊎◌, Some, Ok, Err, List, [], ◌∷◌, ◌++◌, set, slice_get, Contains}
 use Rattle.lk_disk.specs.Memory.{Memory, disk_of}
 use Rattle.lk_entries.specs.Formats.{format}
 use Rattle.lk_entries.specs.Values.{HeaderValue}
@@ -13,6 +13,10 @@ use Rattle.lk_log.specs.Images.{IsLive, seen}
 use Rattle.lk_log.specs.StoreValue.{device_of}
 use Rattle.lk_replica.specs.ReplicaValue.{ReplicaValue}
 use Rattle.lk_replica.specs.Revived.{RevivesTo}
+use Rattle.lk_sim.specs.Scenes.{Scene}
+use Rattle.lk_sim.specs.declared.event.Event.{Event}
+use Rattle.lk_sim.specs.declared.event.Event.TheVariants as event
+use Rattle.lk_seats.specs.declared.seat.Life.TheVariants.{Up, Down}
 use Rattle.lk_step.specs.declared.note.Note.{Note}
 use Rattle.lk_promise.specs.Events.{remaining}
 
@@ -48,3 +52,42 @@ pub record IsIdempotent (header : HeaderValue) (replica : ReplicaValue) (notes :
   pub same : (more : List (Memory × (ReplicaValue × List Note))) → Restarts header replica more → (x : Memory × (ReplicaValue × List Note)) → Contains more x → (x.1.0.node ≡ replica.node) × (x.1.1 ≡ notes)
   -- and is refused for nothing but a call of the device that failed, or memory
   pub comes_up : (more : List (Memory × (ReplicaValue × List Note))) → Restarts header replica more → (left : Memory) → IsLeftBy (last_up replica more) left → (number : ℕ) → StaysDown header left number → (number ≡ 7) ⊎ (number ≡ 8)
+
+-- ---- in a world
+
+-- the file that a restart of the node reads is not of format 1
+abbrev pub FindsFormatTwo : Scene ReplicaValue → ℕ → Type 0
+FindsFormatTwo world n = (device : Memory) → Contains world.seats (record { number = n; life = Down device }) → ReadsFormatTwo device
+
+-- the node stops and restarts, as often as there are pairs: each says how many bytes of its disks A and B that were not
+-- synced the stop keeps at most
+abbrev pub stops_and_restarts : ℕ → List (ℕ × ℕ) → List Event
+stops_and_restarts n [] = []
+stops_and_restarts n (most ∷ more) = event.Stop n most.0 most.1 ∷ event.Restart n ∷ stops_and_restarts n more
+
+-- the notes, as often
+abbrev pub as_often : List (ℕ × ℕ) → List Note → List Note
+as_often [] notes = []
+as_often (most ∷ more) notes = notes ++ as_often more notes
+
+-- The first world comes of a restart of the node in this one, and the last of such stops and restarts after that. What
+-- may differ is its other file and what its device counts.
+pub record IsTheSame (n : ℕ) (world first : Scene ReplicaValue) (more : List (ℕ × ℕ)) (last : Scene ReplicaValue) : Type 0 where
+  pub place : ℕ
+  pub once : ReplicaValue
+  pub again : ReplicaValue
+  pub was_up : slice_get first.seats place ≡ Some (record { number = n; life = Up once })
+  -- no other node has changed
+  pub is_up : last.seats ≡ set first.seats place (record { number = n; life = Up again })
+  -- the node is the same: its ballot and votes, and what it has learned and executed
+  pub same_node : again.node ≡ once.node
+  -- its live file has the same bytes
+  pub same_file : again.store.live_disk ≡ once.store.live_disk
+  -- and format 2, whatever a stop may leave of it
+  pub format_two : (left : Memory) → IsLeftBy again left → ReadsFormatTwo left
+  -- each restart executes again, and notes, what the first one did: the positions above the snapshot
+  pub notes : List Note
+  pub noted : first.trace ≡ world.trace ++ notes
+  pub noted_again : last.trace ≡ first.trace ++ as_often more notes
+  -- and nothing was sent
+  pub nothing_sent : last.sent ≡ world.sent

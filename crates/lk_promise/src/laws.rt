@@ -7,14 +7,19 @@ ghost use Rattle.lk_types.specs.declared.command.Command.{Command};
 ghost use Rattle.lk_types.specs.declared.genesis.Genesis.{Genesis};
 ghost use Rattle.lk_replica.specs.ReplicaValue.{ReplicaValue};
 ghost use Rattle.lk_sim.specs.Scenes.{Scene};
+ghost use Rattle.lk_sim.specs.declared.end.RunEnd.{RunEnd};
+ghost use Rattle.lk_sim.specs.declared.event.Event.{Event};
+ghost use Rattle.lk_sim.specs.declared.event.Event.TheVariants as event;
+ghost use Rattle.lk_promise.specs.ComingBack.{ComesBack};
 ghost use Rattle.lk_promise.specs.Converging.{Converges};
+ghost use Rattle.lk_promise.specs.Events.{AreDone, IsDone, IsReachable, IsRun, IsUp};
 ghost use Rattle.lk_promise.specs.ExactlyOnce.{AreServedOnce};
 ghost use Rattle.lk_promise.specs.Guarded.{AreListed, IsGuarded, Write};
 ghost use Rattle.lk_promise.specs.Linear.{IsLinearizable};
 ghost use Rattle.lk_promise.specs.Plain.{HasFixedMembers, TakesEffectOnce};
 ghost use Rattle.lk_promise.specs.Promise.{Explains, KeepsPromise};
 ghost use Rattle.lk_promise.specs.Replies.{ExplainsReplies};
-ghost use Rattle.lk_promise.specs.Restarting.{ComesUp, IsIdempotent, ReadsFormatTwo};
+ghost use Rattle.lk_promise.specs.Restarting.{ComesUp, FindsFormatTwo, IsIdempotent, IsTheSame, ReadsFormatTwo, stops_and_restarts};
 
 /// A list in which nobody asks to join or to leave names the members of the genesis at each position.
 pub fn members_stay_fixed()
@@ -68,4 +73,25 @@ pub fn nodes_converge()
 /// that failed.
 pub fn restarts_are_idempotent()
     ensures { (header : HeaderValue) (device : Memory) (replica : ReplicaValue) (notes : List Note) → ReadsFormatTwo device → ComesUp header device replica notes → IsIdempotent header replica notes }
+{}
+
+/// Whatever a run of events makes of a reachable world is reachable.
+pub fn worlds_stay_reachable()
+    ensures { (genesis : Genesis) (world : Scene ReplicaValue) (events : List Event) (how : RunEnd) (new : Scene ReplicaValue) → IsReachable genesis world → IsRun world events how new → IsReachable genesis new }
+{}
+
+/// A restart always comes back: in every reachable world a Restart of a node that is down is refused for nothing but
+/// memory, and leaves the node up, but for a call of its device that a trap fails or stops, or a file of format 1 at
+/// the last generation. What a crash may leave is what recovery takes (Chen et al., FSCQ, 2015).
+pub fn a_node_comes_back()
+    ensures { (genesis : Genesis) (world : Scene ReplicaValue) → IsReachable genesis world → ComesBack world }
+{}
+
+/// Restarts of a world are idempotent: after a restart in a reachable world a node may be stopped and restarted however
+/// often, whatever its disks keep of what was not synced. If it is up in the end, it is the same node on the same live
+/// file, each restart has noted the same, and nothing else has changed (recovery may be repeated: Mohan et al., ARIES,
+/// 1992).
+pub fn a_node_comes_back_the_same()
+    ensures { (genesis : Genesis) (world first last : Scene ReplicaValue) (n : ℕ) (more : List (ℕ × ℕ)) → IsReachable genesis world → FindsFormatTwo world n
+        → IsDone world (event.Restart n) first → AreDone (stops_and_restarts n more) first last → IsUp last.seats n → IsTheSame n world first more last }
 {}
