@@ -5,7 +5,7 @@ use Rattle.std.specs.declared.net.socket_addr.SocketAddr.{SocketAddr}
 use Rattle.lk_step.specs.Letters.{LetterValue}
 use Rattle.lk_seal.specs.declared.seals.Seals.{Seals}
 use Rattle.lk_transport.specs.Posts.{all_taken_as}
-use Rattle.lk_server.specs.Servers.{ServerValue, HandsOn, HasWaited, Turn, LastTurn, TakesTurn}
+use Rattle.lk_server.specs.Servers.{ServerValue, HandsOn, HasReceived, Turn, LastTurn, TakesTurn}
 
 module _ {R : Type 0} (S T : R → List (Option (List ℕ)) → List LetterValue → R → Type 0) (so : (old : R) (given : List (Option (List ℕ))) (letters : List LetterValue) (new : R) → S old given letters new → T old given letters new) where
   abbrev pub hands_so : (tells : Type 0) (given : List (Option (List ℕ))) (own : List LetterValue) (old new : ServerValue R) → HandsOn S tells given own old new → HandsOn T tells given own old new
@@ -41,12 +41,12 @@ module _ {R : Type 0} (S T : R → List (Option (List ℕ)) → List LetterValue
     ended = t.ended;
   }
 
-  pub on_ok_so : {A E : Type 0} (r : Result A E) (tells : Type 0) (old new : ServerValue R) → OnOk r ((frames : List (SocketAddr × List ℕ)) × HasWaited tells frames old × TakesTurn S tells frames old new)
-      → OnOk r ((frames : List (SocketAddr × List ℕ)) × HasWaited tells frames old × TakesTurn T tells frames old new)
-  on_ok_so (Ok x) tells old new t = (t.0, t.1, taken_so tells t.0 old new t.2)
-  on_ok_so (Err e) tells old new t = tt
+  pub on_ok_so : {A E : Type 0} (Keeps : List (SocketAddr × List ℕ) → Type 0) (r : Result A E) (tells : Type 0) (old new : ServerValue R) → OnOk r ((frames : List (SocketAddr × List ℕ)) × HasReceived tells frames old new × TakesTurn S tells frames old new × Keeps frames)
+      → OnOk r ((frames : List (SocketAddr × List ℕ)) × HasReceived tells frames old new × TakesTurn T tells frames old new × Keeps frames)
+  on_ok_so Keeps (Ok x) tells old new t = (t.0, t.1, taken_so tells t.0 old new t.2, t.3)
+  on_ok_so Keeps (Err e) tells old new t = tt
 
-  pub on_err_so : {A E : Type 0} (r : Result A E) (tells : Type 0) (seals : Seals) (old new : ServerValue R) → OnErr r ((frames : List (SocketAddr × List ℕ)) × HasWaited tells frames old × LastTurn S tells (all_taken_as seals frames) old new)
-      → OnErr r ((frames : List (SocketAddr × List ℕ)) × HasWaited tells frames old × LastTurn T tells (all_taken_as seals frames) old new)
+  pub on_err_so : {A E : Type 0} (r : Result A E) (tells : Type 0) (seals : Seals) (old new : ServerValue R) → OnErr r ((frames : List (SocketAddr × List ℕ)) × HasReceived tells frames old new × LastTurn S tells (all_taken_as seals frames) old new)
+      → OnErr r ((frames : List (SocketAddr × List ℕ)) × HasReceived tells frames old new × LastTurn T tells (all_taken_as seals frames) old new)
   on_err_so (Ok x) tells seals old new t = tt
   on_err_so (Err e) tells seals old new t = (t.0, t.1, last_so tells (all_taken_as seals t.0) old new t.2)

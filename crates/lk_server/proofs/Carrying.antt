@@ -41,10 +41,18 @@ pub if_ok_both : {T E : Type 0} {P Q W : T → Type 0} (r : Result T E) → ((x 
 if_ok_both (Ok x) f p q = f x p q
 if_ok_both (Err e) f p q = tt
 
+pub if_ok_four : {T E : Type 0} {P Q U V W : T → Type 0} (r : Result T E) → ((x : T) → P x → Q x → U x → V x → W x) → IfOk r P → IfOk r Q → IfOk r U → IfOk r V → IfOk r W
+if_ok_four (Ok x) f p q u v = f x p q u v
+if_ok_four (Err e) f p q u v = tt
+
 -- of a post nothing else changes
 pub same_node : (tells : Type 0) (old new : PostValue) (letters : List LetterValue) → CarriesAll (CarriesLetter tells) old letters new → new.node ≡ old.node
 same_node tells old new [] all = ap (λ (p : PostValue). p.node) all
 same_node tells old new (l ∷ letters) all = same_node tells all.1 new letters all.3 ∙ all.2.node
+
+pub same_coming : (tells : Type 0) (old new : PostValue) (letters : List LetterValue) → CarriesAll (CarriesLetter tells) old letters new → tells → new.coming ≡ old.coming
+same_coming tells old new [] all t = ap (λ (p : PostValue). p.coming) all
+same_coming tells old new (l ∷ letters) all t = same_coming tells all.1 new letters all.3 t ∙ all.2.still t
 
 pub same_addresses : (tells : Type 0) (old new : PostValue) (letters : List LetterValue) → CarriesAll (CarriesLetter tells) old letters new → new.addresses ≡ old.addresses
 same_addresses tells old new [] all = ap (λ (p : PostValue). p.addresses) all
@@ -73,11 +81,15 @@ pub grows_by : (tells : Type 0) (node : ℕ) (book : AddressBook) (old new : Tra
 grows_by tells node book old new [] all = record { added = []; is = ap (λ (t : Tray). t.own) all ∙ sym (append-nil old.own) }
 grows_by tells node book old new (l ∷ letters) all = grows_on (grows_one tells node book old all.1 l all.0 all.2) (grows_by tells node book all.1 new letters all.3)
 
--- whatever has become of a call, the post is that node's, and has these addresses
+-- whatever has become of a call, the post is that node's, and has these addresses; and the same is to come
 pub same_post : (tells : Type 0) {T E : Type 0} (r : Result T E) (H : List LetterValue → Type 0) (before after : PostValue) → OnOk r (GivesLetters (CarriesLetter tells) before after H) → OnErr r (after ≡ before)
-    → (after.node ≡ before.node) × (after.addresses ≡ before.addresses)
-same_post tells (Ok x) H before after gives unsent = (same_node tells before after gives.letters gives.carried, same_addresses tells before after gives.letters gives.carried)
-same_post tells (Err e) H before after gives unsent = (ap (λ (p : PostValue). p.node) unsent, ap (λ (p : PostValue). p.addresses) unsent)
+    → (after.node ≡ before.node) × (after.addresses ≡ before.addresses) × (tells → after.coming ≡ before.coming)
+same_post tells (Ok x) H before after gives unsent = (
+  same_node tells before after gives.letters gives.carried,
+  same_addresses tells before after gives.letters gives.carried,
+  same_coming tells before after gives.letters gives.carried,
+)
+same_post tells (Err e) H before after gives unsent = (ap (λ (p : PostValue). p.node) unsent, ap (λ (p : PostValue). p.addresses) unsent, λ t. ap (λ (p : PostValue). p.coming) unsent)
 
 module _ {R : Type 0} (S : Sayings R) (G : Gatherings R) (tells : Type 0) (old new : ServerValue R) (before after : PostValue) (group : GroupValue) where
   -- the end of a group

@@ -8,7 +8,7 @@ use Rattle.lk_seal.specs.Seals.{heard}
 use Rattle.lk_seal.specs.declared.seals.Seals.{Seals}
 use Rattle.lk_replica.specs.Groups.{GroupValue}
 use Rattle.lk_transport.specs.Addresses.{AddressBook, IsSameNetwork}
-use Rattle.lk_server.specs.Gatherings.{Sayings, Gatherings, GathersMore, SaysNoMore, TakesAll, EndsWithin, TakesOwn, EndsOwn, TakesHeard, EndsHeard, TakesSocket, EndsSocket, Finds}
+use Rattle.lk_server.specs.Gatherings.{Sayings, Gatherings, GathersMore, SaysNoMore, TakesAll, EndsWithin, TakesOwn, EndsOwn, TakesHeard, EndsHeard, TakesSocket, EndsSocket, AreFound, Finds}
 use Rattle.lk_server.specs.declared.found.Found.{Found}
 use Rattle.lk_server.specs.declared.found.Found.TheVariants.{Nothing, Beside, Something}
 use Rattle.lk_transport.specs.Hearing.{listed}
@@ -136,10 +136,10 @@ pub same_network : (old mid new : AddressBook) → IsSameNetwork old mid → IsS
 same_network old mid new a b = (b.0 ∙ a.0, b.1 ∙ a.1)
 
 -- no frame came
-pub none_came : {R : Type 0} (tells : Type 0) (e : Option (SocketAddr × List ℕ)) (old mid new : ServerValue R) → e ≡ None → (tells → old.coming ≡ all_taken_as old.addresses.seals (listed e) ++ mid.coming)
-    → (tells → e ≡ None → old.coming ≡ []) → mid ≡ record old { coming = mid.coming } → new ≡ mid → (tells → (old.coming ≡ []) × (new.coming ≡ [])) × (record new { coming = old.coming } ≡ old)
-none_came {R} tells e old mid new is comes none others same = (
-  λ t. (none t is, ap (λ (s : ServerValue R). s.coming) same ∙ sym (comes t ∙ ap (λ (o : Option (SocketAddr × List ℕ)). all_taken_as old.addresses.seals (listed o) ++ mid.coming) is) ∙ none t is),
+pub none_came : {R : Type 0} (tells : Type 0) (e : Option (SocketAddr × List ℕ)) (old mid new : ServerValue R) → e ≡ None → (tells → old.coming ≡ listed e ++ mid.coming)
+    → mid ≡ record old { coming = mid.coming } → new ≡ mid → (tells → new.coming ≡ old.coming) × (record new { coming = old.coming } ≡ old)
+none_came {R} tells e old mid new is comes others same = (
+  λ t. ap (λ (s : ServerValue R). s.coming) same ∙ sym (comes t ∙ ap (λ (o : Option (SocketAddr × List ℕ)). listed o ++ mid.coming) is),
   ap (λ (s : ServerValue R). record s { coming = old.coming }) (same ∙ others),
 )
 
@@ -157,28 +157,41 @@ pub apart_as : {R : Type 0} (old mid : ServerValue R) (frame : SocketAddr × Lis
     → is_beside (heard old.addresses.seals frame.1) ≡ false
 apart_as {R} old mid frame others apart = subst (λ (s : Seals). is_beside (heard s frame.1) ≡ false) (ap (λ (s : ServerValue R). s.addresses.seals) others) apart
 
+-- a replica is given nothing of what was found
+pub found_none : (s : Seals) (found : Found) (frames : List (SocketAddr × List ℕ)) → AreFound s found frames → all_taken_as s frames ≡ []
+found_none s Nothing frames none = ap (λ (l : List (SocketAddr × List ℕ)). all_taken_as s l) none
+found_none s Beside frames one = ap (λ (l : List (SocketAddr × List ℕ)). all_taken_as s l) one.1 ∙ taken_none s one.0 one.2
+found_none s Something frames never = absurd never
+
+-- it is one frame at most
+pub found_few : (s : Seals) (found : Found) (frames : List (SocketAddr × List ℕ)) → AreFound s found frames → length frames ≤ 64
+found_few s Nothing frames none = omega (arith, ap length none)
+found_few s Beside frames one = omega (arith, ap length one.1)
+found_few s Something frames never = absurd never
+
 -- what was found at the socket, where a replica is given nothing of it
 pub finds : {R : Type 0} (tells : Type 0) (found : Found) (e : Option (SocketAddr × List ℕ)) (group now : GroupValue) (old mid new : ServerValue R)
-    → (tells → old.coming ≡ all_taken_as old.addresses.seals (listed e) ++ mid.coming) → (tells → e ≡ None → old.coming ≡ []) → mid ≡ record old { coming = mid.coming }
+    → (tells → old.coming ≡ listed e ++ mid.coming) → (tells → e ≡ None → old.coming ≡ []) → mid ≡ record old { coming = mid.coming }
     → (found ≡ Nothing → (e ≡ None) × (new ≡ mid) × (now ≡ group))
     → (found ≡ Beside → (frame : SocketAddr × List ℕ) × (e ≡ Some frame) × (is_beside (heard mid.addresses.seals frame.1) ≡ true) × (new ≡ mid) × (now ≡ group))
-    → (found ≡ Something → ⊥) → (frames : List (SocketAddr × List ℕ)) × Finds tells found frames old new × (now ≡ group)
-finds tells Nothing e group now old mid new comes none others nothing beside apart =
-    let n = nothing refl in
-    let so = none_came tells e old mid new n.0 comes none others n.1 in
-    ([], record { some = λ is. absurd (cc is); beside = refl; none = λ t empty. (so.0 t).0; still = λ t. (so.0 t).1 ∙ sym (so.0 t).0; same = so.1 }, n.2)
+    → (found ≡ Something → ⊥) → Finds tells found (listed e) old new × (now ≡ group)
+finds {R} tells Nothing e group now old mid new comes none others nothing beside apart =
+    let n = nothing refl in (
+      record {
+        are = ap listed n.0;
+        none = λ t empty. none t n.0;
+        comes = λ t. comes t ∙ ap (λ (s : ServerValue R). listed e ++ s.coming) (sym n.1);
+        same = ap (λ (s : ServerValue R). record s { coming = old.coming }) (n.1 ∙ others);
+      },
+      n.2,
+    )
 finds {R} tells Beside e group now old mid new comes none others nothing beside apart =
     let b = beside refl in
-    let is : is_beside (heard old.addresses.seals b.0.1) ≡ true = subst (λ (s : Seals). is_beside (heard s b.0.1) ≡ true) (ap (λ (s : ServerValue R). s.addresses.seals) others) b.2 in
-    let gone = taken_none old.addresses.seals b.0 is in (
-      b.0 ∷ [],
+    let is : is_beside (heard old.addresses.seals b.0.1) ≡ true = subst (λ (s : Seals). is_beside (heard s b.0.1) ≡ true) (ap (λ (s : ServerValue R). s.addresses.seals) others) b.2 in (
       record {
-        some = λ same empty. cc empty;
-        beside = gone;
-        none = λ t empty. absurd (cc empty);
-        still = λ t.
-            ap (λ (s : ServerValue R). s.coming) b.3
-            ∙ sym (comes t ∙ ap (λ (o : Option (SocketAddr × List ℕ)). all_taken_as old.addresses.seals (listed o) ++ mid.coming) b.1 ∙ ap (λ (l : List (SocketAddr × List ℕ)). l ++ mid.coming) gone);
+        are = (b.0, ap listed b.1, is);
+        none = λ t empty. absurd (let both : b.0 ∷ [] ≡ [] = sym (ap listed b.1) ∙ empty in cc both);
+        comes = λ t. comes t ∙ ap (λ (s : ServerValue R). listed e ++ s.coming) (sym b.3);
         same = ap (λ (s : ServerValue R). record s { coming = old.coming }) (b.3 ∙ others);
       },
       b.4,
@@ -258,11 +271,7 @@ module _ {R : Type 0} (G : Gatherings R) where
               (subst₂ (λ (n : ℕ) (s : Seals). HearsAll n (all_taken_as s ys) mid.addresses new.addresses) cluster seals b.takes.heard));
           network = same_network old.addresses mid.addresses new.addresses a.takes.network b.takes.network;
         };
-        comes = λ t.
-            a.comes t
-            ∙ ap (λ (l : List (SocketAddr × List ℕ)). all_taken_as old.addresses.seals xs ++ l) (b.comes t ∙ ap (λ (s : Seals). all_taken_as s ys ++ new.coming) seals)
-            ∙ sym (append_assoc (all_taken_as old.addresses.seals xs) (all_taken_as old.addresses.seals ys) new.coming)
-            ∙ ap (λ (l : List (SocketAddr × List ℕ)). l ++ new.coming) (sym (taken_more old.addresses.seals xs ys));
+        comes = λ t. a.comes t ∙ ap (λ (l : List (SocketAddr × List ℕ)). xs ++ l) (b.comes t) ∙ sym (append_assoc xs ys new.coming);
       }
 
   -- a frame of which this was taken
@@ -278,7 +287,7 @@ module _ {R : Type 0} (G : Gatherings R) where
 
   -- nothing is taken of a frame that stands beside the protocol
   pub socket_beside : (tells : Type 0) (e : Option (SocketAddr × List ℕ)) (frame : SocketAddr × List ℕ) (group now : GroupValue) (old mid new : ServerValue R) → e ≡ Some frame
-      → (tells → old.coming ≡ all_taken_as old.addresses.seals (listed e) ++ mid.coming) → mid ≡ record old { coming = mid.coming } → is_beside (heard mid.addresses.seals frame.1) ≡ true
+      → (tells → old.coming ≡ listed e ++ mid.coming) → mid ≡ record old { coming = mid.coming } → is_beside (heard mid.addresses.seals frame.1) ≡ true
       → new ≡ mid → now ≡ group → TakesSocket G tells (frame ∷ []) group now old new
   socket_beside tells e frame group now old mid new is comes others beside same still =
       let as_was : new ≡ record old { coming = mid.coming } = same ∙ others in
@@ -293,21 +302,20 @@ module _ {R : Type 0} (G : Gatherings R) where
           network = (ap (λ (b : AddressBook). b.hosts) book, ap (λ (b : AddressBook). b.seals) book);
         };
         comes = λ t.
-            comes t ∙ ap (λ (o : Option (SocketAddr × List ℕ)). all_taken_as old.addresses.seals (listed o) ++ mid.coming) is
-            ∙ ap (λ (l : List (SocketAddr × List ℕ)). all_taken_as old.addresses.seals (frame ∷ []) ++ l) (sym (ap (λ (s : ServerValue R). s.coming) same));
+            comes t ∙ ap (λ (o : Option (SocketAddr × List ℕ)). listed o ++ mid.coming) is
+            ∙ ap (λ (l : List (SocketAddr × List ℕ)). frame ∷ l) (sym (ap (λ (s : ServerValue R). s.coming) same));
       }
 
   -- it came from the socket
   pub socket_one : (tells : Type 0) (e : Option (SocketAddr × List ℕ)) (frame : SocketAddr × List ℕ) (group now : GroupValue) (old mid new : ServerValue R) → e ≡ Some frame
-      → (tells → old.coming ≡ all_taken_as old.addresses.seals (listed e) ++ mid.coming) → mid ≡ record old { coming = mid.coming } → new.coming ≡ mid.coming
+      → (tells → old.coming ≡ listed e ++ mid.coming) → mid ≡ record old { coming = mid.coming } → new.coming ≡ mid.coming
       → TakesHeard G (frame ∷ []) group now mid new → TakesSocket G tells (frame ∷ []) group now old new
   socket_one tells e frame group now old mid new is comes others coming heard =
       let h = subst (λ (s : ServerValue R). TakesHeard G (frame ∷ []) group now s new) others heard in
       record {
         takes = record { takes = record { gathers = h.takes.gathers; counted = h.takes.counted; pace = h.takes.pace }; heard = h.heard; network = h.network };
         comes = λ t.
-            comes t ∙ ap (λ (o : Option (SocketAddr × List ℕ)). all_taken_as old.addresses.seals (listed o) ++ mid.coming) is
-            ∙ ap (λ (l : List (SocketAddr × List ℕ)). all_taken_as old.addresses.seals (frame ∷ []) ++ l) (sym coming);
+            comes t ∙ ap (λ (o : Option (SocketAddr × List ℕ)). listed o ++ mid.coming) is ∙ ap (λ (l : List (SocketAddr × List ℕ)). frame ∷ l) (sym coming);
       }
 
   -- no frame
@@ -336,7 +344,7 @@ module _ {R : Type 0} (G : Gatherings R) where
           heard = subst (λ (b : AddressBook). HearsAll old.cluster (all_taken_as old.addresses.seals xs) old.addresses b) (sym book) a.takes.heard;
           network = subst (λ (b : AddressBook). IsSameNetwork old.addresses b) (sym book) a.takes.network;
         };
-        comes = λ t. a.comes t ∙ ap (λ (l : List (SocketAddr × List ℕ)). all_taken_as old.addresses.seals xs ++ l) (sym (none t));
+        comes = λ t. a.comes t ∙ ap (λ (l : List (SocketAddr × List ℕ)). xs ++ l) (sym (none t));
       }
 
   -- all letters that waited were taken
@@ -414,15 +422,14 @@ module _ {R : Type 0} (S : Sayings R) (G : Gatherings R) where
   }
 
   pub ends_socket : (tells : Type 0) (e : Option (SocketAddr × List ℕ)) (frame : SocketAddr × List ℕ) (group : GroupValue) (old mid new : ServerValue R) → e ≡ Some frame
-      → (tells → old.coming ≡ all_taken_as old.addresses.seals (listed e) ++ mid.coming) → mid ≡ record old { coming = mid.coming } → new.coming ≡ mid.coming
+      → (tells → old.coming ≡ listed e ++ mid.coming) → mid ≡ record old { coming = mid.coming } → new.coming ≡ mid.coming
       → EndsHeard S G (frame ∷ []) group mid new → EndsSocket S G tells (frame ∷ []) group old new
   ends_socket tells e frame group old mid new is comes others coming ends =
       let h = subst (λ (s : ServerValue R). EndsHeard S G (frame ∷ []) group s new) others ends in
       record {
         ends = record { ends = record { given = h.ends.given; front = h.ends.front; silent = h.ends.silent }; heard = h.heard; network = h.network };
         comes = λ t.
-            comes t ∙ ap (λ (o : Option (SocketAddr × List ℕ)). all_taken_as old.addresses.seals (listed o) ++ mid.coming) is
-            ∙ ap (λ (l : List (SocketAddr × List ℕ)). all_taken_as old.addresses.seals (frame ∷ []) ++ l) (sym coming);
+            comes t ∙ ap (λ (o : Option (SocketAddr × List ℕ)). listed o ++ mid.coming) is ∙ ap (λ (l : List (SocketAddr × List ℕ)). frame ∷ l) (sym coming);
       }
 
   pub ends_further : (tells : Type 0) (xs ys : List (SocketAddr × List ℕ)) (group one : GroupValue) (old mid new : ServerValue R) → mid.cluster ≡ old.cluster
@@ -439,11 +446,7 @@ module _ {R : Type 0} (S : Sayings R) (G : Gatherings R) where
               (subst₂ (λ (n : ℕ) (s : Seals). HearsAll n (all_taken_as s ys) mid.addresses new.addresses) cluster seals b.ends.heard));
           network = same_network old.addresses mid.addresses new.addresses a.takes.network b.ends.network;
         };
-        comes = λ t.
-            a.comes t
-            ∙ ap (λ (l : List (SocketAddr × List ℕ)). all_taken_as old.addresses.seals xs ++ l) (b.comes t ∙ ap (λ (s : Seals). all_taken_as s ys ++ new.coming) seals)
-            ∙ sym (append_assoc (all_taken_as old.addresses.seals xs) (all_taken_as old.addresses.seals ys) new.coming)
-            ∙ ap (λ (l : List (SocketAddr × List ℕ)). l ++ new.coming) (sym (taken_more old.addresses.seals xs ys));
+        comes = λ t. a.comes t ∙ ap (λ (l : List (SocketAddr × List ℕ)). xs ++ l) (b.comes t) ∙ sym (append_assoc xs ys new.coming);
       }
 
   -- a letter has ended it

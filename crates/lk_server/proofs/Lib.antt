@@ -1,5 +1,6 @@
 mod Free
 mod Probed
+mod Asking
 mod Carrying
 mod Sayings
 mod Gatherings

@@ -10,17 +10,17 @@ use Rattle.lk_recovery.specs.Faults.{fault_number}
 use Rattle.lk_transport.specs.Addresses.{AddressBook, IsSameNetwork}
 use Rattle.lk_transport.specs.Faults.{replica_fault}
 use Rattle.lk_transport.specs.declared.fault.ServiceFault.TheVariants.{Send}
-use Rattle.lk_server.specs.Gatherings.{Sayings, Gatherings, GathersMore, SaysNoMore, Finds, TakesAll, EndsWithin, TakesOwn, EndsOwn, TakesSocket, EndsSocket, TakesWaiting, TakesGroup, EndsGroup, HandsOnAll, SaysNothing}
+use Rattle.lk_server.specs.Gatherings.{Sayings, Gatherings, GathersMore, SaysNoMore, AreFound, Finds, TakesAll, EndsWithin, TakesOwn, EndsOwn, TakesSocket, EndsSocket, TakesWaiting, TakesGroup, EndsGroup, HandsOnAll, SaysNothing}
 use Rattle.lk_server.specs.Paces.{MayFollow}
 use Rattle.lk_seal.specs.Seals.{heard}
 use Rattle.lk_seal.specs.declared.seals.Seals.{Seals}
 use Rattle.lk_transport.specs.Posts.{HearsAll, is_beside, all_taken_as}
-use Rattle.lk_server.specs.Servers.{ServerValue, HandsOn, HandsNothing, HasWaited, IsSameServer, Turn, LastTurn, IsIdle, Given, GivenFirst, TakesFirst, all_inputs, counted, datagrams_in}
+use Rattle.lk_server.specs.Servers.{ServerValue, HandsOn, HandsNothing, HasReceived, IsSameServer, Turn, LastTurn, IsIdle, Given, GivenFirst, TakesFirst, all_inputs, counted, datagrams_in}
 use Rattle.lk_server.specs.declared.found.Found.{Found}
 use Rattle.lk_server.specs.declared.found.Found.TheVariants.{Nothing, Beside, Something}
 use Rattle.lk_server.specs.declared.pace.Pace.{Pace}
 use Rattle.lk_server.specs.declared.pace.Pace.TheVariants.{Datagrams, Clock}
-use Rattle.lk_server.proofs.Gatherings.{takes_more, ends_more, long_as, taken_first}
+use Rattle.lk_server.proofs.Gatherings.{takes_more, ends_more, long_as, taken_more, taken_first, found_none, found_few}
 
 -- a fault that tells of no lost letter is told as none
 pub not_send : (e : ReplicaFault) → (fault_number e ≡ 15 → ⊥) → replica_fault e ≡ Send → ⊥
@@ -80,6 +80,26 @@ same_by old new others = record {
   pace = ap (λ (s : ServerValue _). s.pace) others;
 }
 
+-- what is taken of the frames that came is what may be taken
+received_first : {R : Type 0} (tells : Type 0) (frames : List (SocketAddr × List ℕ)) (old new : ServerValue R) → HasReceived tells frames old new → TakesFirst tells (all_taken_as old.addresses.seals frames) old
+received_first tells frames old new r = record {
+  alone = elim r.alone [ inl none ↦ inl none | inr none ↦ inr (ap (λ (l : List (SocketAddr × List ℕ)). all_taken_as old.addresses.seals l) none) ];
+  few = omega (arith, r.few, long_as old.addresses.seals frames);
+  comes = λ telling empty. (
+    all_taken_as old.addresses.seals new.coming,
+    ap (λ (l : List (SocketAddr × List ℕ)). all_taken_as old.addresses.seals l) (r.comes telling) ∙ taken_more old.addresses.seals frames new.coming,
+  );
+}
+
+-- and what is to come is the same behind it
+pub received_on : {R : Type 0} (tells : Type 0) (frames : List (SocketAddr × List ℕ)) (old mid new : ServerValue R) → (tells → new.coming ≡ mid.coming) → HasReceived tells frames old mid → HasReceived tells frames old new
+received_on tells frames old mid new still r = record {
+  alone = r.alone;
+  few = r.few;
+  comes = λ telling. r.comes telling ∙ ap (λ (l : List (SocketAddr × List ℕ)). frames ++ l) (sym (still telling));
+  waited = r.waited;
+}
+
 module _ {R : Type 0} (S : Sayings R) (G : Gatherings R) (tells : Type 0) where
   -- ---- what is taken
 
@@ -87,8 +107,7 @@ module _ {R : Type 0} (S : Sayings R) (G : Gatherings R) (tells : Type 0) where
   pub socket_group : (frame : SocketAddr × List ℕ) (frames : List (SocketAddr × List ℕ)) (group now : GroupValue) (old new : ServerValue R) → old.own ≡ [] → new.own ≡ old.own → length frames ≤ 63
       → is_beside (heard old.addresses.seals frame.1) ≡ false → TakesSocket G tells (frame ∷ frames) group now old new → TakesWaiting G tells (frame ∷ frames) group now old new
   socket_group frame frames group now old new none own few apart t = record {
-    waited = λ telling empty is. absurd (cc is);
-    first = record { alone = inl none; few = omega (arith, few, long_as old.addresses.seals (frame ∷ frames)); comes = λ telling empty. (new.coming, t.comes telling) };
+    received = record { alone = inl none; few = omega (arith, few); comes = t.comes; waited = λ telling empty is. absurd (cc is) };
     takes = subst (λ (o : List LetterValue). TakesAll G (datagrams_in (take 64 o) (all_taken_as old.addresses.seals (frame ∷ frames))) group now old new) (sym none) t.takes.takes;
     some = some_datagrams old.addresses.seals (take 64 old.own) frame frames (ap (λ (o : List LetterValue). take 64 o) none) apart;
     left = own ∙ none ∙ sym (ap (λ (o : List LetterValue). drop 64 o) none);
@@ -101,8 +120,7 @@ module _ {R : Type 0} (S : Sayings R) (G : Gatherings R) (tells : Type 0) where
   socket_ends frame frames group old new none own few apart t =
       let e = subst (λ (o : List LetterValue). EndsWithin S G (datagrams_in (take 0 o) (all_taken_as old.addresses.seals (frame ∷ frames))) group old new) (sym none) t.ends.ends in
       record {
-        waited = λ telling empty is. absurd (cc is);
-        takes = record { alone = inl none; few = omega (arith, few, long_as old.addresses.seals (frame ∷ frames)); comes = λ telling empty. (new.coming, t.comes telling) };
+        received = record { alone = inl none; few = omega (arith, few); comes = t.comes; waited = λ telling empty is. absurd (cc is) };
         count = 0;
         letters = record { at_most = omega arith; some = λ is. none };
         given = e.given;
@@ -119,17 +137,18 @@ module _ {R : Type 0} (S : Sayings R) (G : Gatherings R) (tells : Type 0) where
       }
 
   -- letters of the node to itself: a first one, and further ones
-  own_first : (l : LetterValue) (rest : List LetterValue) (old : ServerValue R) → old.own ≡ l ∷ rest → TakesFirst tells [] old
-  own_first l rest old own = record { alone = inr refl; few = omega arith; comes = λ telling empty. absurd (let both : l ∷ rest ≡ [] = sym own ∙ empty in cc both) }
+  own_received : (l : LetterValue) (rest : List LetterValue) (old new : ServerValue R) → old.own ≡ l ∷ rest → new.coming ≡ old.coming → HasReceived tells [] old new
+  own_received l rest old new own still = record {
+    alone = inr refl;
+    few = omega arith;
+    comes = λ telling. sym still;
+    waited = λ telling empty is. absurd (let both : l ∷ rest ≡ [] = sym own ∙ empty in cc both);
+  }
 
-  own_waited : (l : LetterValue) (rest : List LetterValue) (old : ServerValue R) → old.own ≡ l ∷ rest → HasWaited tells [] old
-  own_waited l rest old own = λ telling empty is. absurd (let both : l ∷ rest ≡ [] = sym own ∙ empty in cc both)
-
-  pub own_group : (l : LetterValue) (group one now : GroupValue) (old mid new : ServerValue R) → old.own ≡ l ∷ mid.own → new.addresses ≡ old.addresses
+  pub own_group : (l : LetterValue) (group one now : GroupValue) (old mid new : ServerValue R) → old.own ≡ l ∷ mid.own → new.addresses ≡ old.addresses → new.coming ≡ old.coming
       → TakesAll G (l.bytes ∷ []) group one old mid → TakesOwn G 63 one now mid new → TakesWaiting G tells [] group now old new
-  own_group l group one now old mid new own book first further = record {
-    waited = own_waited l mid.own old own;
-    first = own_first l mid.own old own;
+  own_group l group one now old mid new own book still first further = record {
+    received = own_received l mid.own old new own still;
     takes = subst (λ (o : List LetterValue). TakesAll G (datagrams_in (take 64 o) []) group now old new) (sym own)
         (takes_more G (l.bytes ∷ []) (datagrams_in (take 63 mid.own) []) group one now old mid new first further.takes);
     some = λ is. let both : l.bytes ∷ datagrams_in (take 63 mid.own) [] ≡ [] = sym (ap (λ (o : List LetterValue). datagrams_in (take 64 o) []) own) ∙ is in cc both;
@@ -139,13 +158,12 @@ module _ {R : Type 0} (S : Sayings R) (G : Gatherings R) (tells : Type 0) where
   }
 
   -- so many of them have ended it
-  own_ends_at : (count : ℕ) (l : LetterValue) (rest : List LetterValue) (group : GroupValue) (old new : ServerValue R) → old.own ≡ l ∷ rest → new.addresses ≡ old.addresses → suc count ≤ 64
+  own_ends_at : (count : ℕ) (l : LetterValue) (rest : List LetterValue) (group : GroupValue) (old new : ServerValue R) → old.own ≡ l ∷ rest → new.addresses ≡ old.addresses → new.coming ≡ old.coming → suc count ≤ 64
       → EndsWithin S G (datagrams_in (take (suc count) (l ∷ rest)) []) group old new → new.own ≡ drop (suc count) (l ∷ rest) → EndsGroup S G tells [] group old new
-  own_ends_at count l rest group old new own book few ends left =
+  own_ends_at count l rest group old new own book still few ends left =
       let e = subst (λ (o : List LetterValue). EndsWithin S G (datagrams_in (take (suc count) o) []) group old new) (sym own) ends in
       record {
-        waited = own_waited l rest old own;
-        takes = own_first l rest old own;
+        received = own_received l rest old new own still;
         count = suc count;
         letters = record { at_most = few; some = λ is. absurd (omega (arith, is)) };
         given = e.given;
@@ -162,10 +180,10 @@ module _ {R : Type 0} (S : Sayings R) (G : Gatherings R) (tells : Type 0) where
       }
 
   -- the first has
-  pub own_ends_first : (l : LetterValue) (group : GroupValue) (old new : ServerValue R) → old.own ≡ l ∷ new.own → new.addresses ≡ old.addresses
+  pub own_ends_first : (l : LetterValue) (group : GroupValue) (old new : ServerValue R) → old.own ≡ l ∷ new.own → new.addresses ≡ old.addresses → new.coming ≡ old.coming
       → EndsWithin S G (l.bytes ∷ []) group old new → EndsGroup S G tells [] group old new
-  own_ends_first l group old new own book ends =
-      own_ends_at 0 l new.own group old new own book (omega arith) (subst (λ (o : List LetterValue). EndsWithin S G (datagrams_in (l ∷ o) []) group old new) (sym (none new.own)) ends) (sym (all new.own))
+  own_ends_first l group old new own book still ends =
+      own_ends_at 0 l new.own group old new own book still (omega arith) (subst (λ (o : List LetterValue). EndsWithin S G (datagrams_in (l ∷ o) []) group old new) (sym (none new.own)) ends) (sym (all new.own))
     where
       none : (o : List LetterValue) → take 0 o ≡ []
       none [] = refl
@@ -176,10 +194,10 @@ module _ {R : Type 0} (S : Sayings R) (G : Gatherings R) (tells : Type 0) where
       all (x ∷ o) = refl
 
   -- a further one has
-  pub own_ends : (l : LetterValue) (group one : GroupValue) (old mid new : ServerValue R) → old.own ≡ l ∷ mid.own → new.addresses ≡ old.addresses
+  pub own_ends : (l : LetterValue) (group one : GroupValue) (old mid new : ServerValue R) → old.own ≡ l ∷ mid.own → new.addresses ≡ old.addresses → new.coming ≡ old.coming
       → TakesAll G (l.bytes ∷ []) group one old mid → EndsOwn S G 63 one mid new → EndsGroup S G tells [] group old new
-  own_ends l group one old mid new own book first further =
-      own_ends_at further.count l mid.own group old new own book (omega (arith, further.at_most))
+  own_ends l group one old mid new own book still first further =
+      own_ends_at further.count l mid.own group old new own book still (omega (arith, further.at_most))
       (ends_more S G (l.bytes ∷ []) (datagrams_in (take further.count mid.own) []) group one old mid new first further.ends) further.left
 
   -- ---- the tick of a turn
@@ -189,8 +207,7 @@ module _ {R : Type 0} (S : Sayings R) (G : Gatherings R) (tells : Type 0) where
   without_tick frames group now old new t =
       let ds = datagrams_in (take 64 old.own) (all_taken_as old.addresses.seals frames) in
       record {
-        waited = t.waited;
-        first = t.first;
+        received = t.received;
         given = all_inputs old.pace old.received ds;
         may = given_some old.pace old.received ds t.some;
         gathers = t.takes.gathers;
@@ -212,6 +229,9 @@ module _ {R : Type 0} (S : Sayings R) (G : Gatherings R) (tells : Type 0) where
     may_tick : Given old.pace old.received waited ticked
     may_tick = given_then old.pace old.received waited (None ∷ []) (one_tick old.pace clock) t.some
 
+    tick_received : HasReceived tells frames old new
+    tick_received = received_on tells frames old mid new (λ telling. ap (λ (s : ServerValue R). s.coming) same) t.received
+
     tick_left : new.own ≡ drop 64 old.own
     tick_left = ap (λ (s : ServerValue R). s.own) same ∙ t.left
 
@@ -223,8 +243,7 @@ module _ {R : Type 0} (S : Sayings R) (G : Gatherings R) (tells : Type 0) where
 
     pub tick_behind : (now : GroupValue) → GathersMore G (None ∷ []) one now mid.replica new.replica → TakesGroup G tells frames group now old new
     tick_behind now ticks = record {
-      waited = t.waited;
-      first = t.first;
+      received = tick_received;
       given = ticked;
       may = may_tick;
       gathers = λ first given was.
@@ -239,8 +258,7 @@ module _ {R : Type 0} (S : Sayings R) (G : Gatherings R) (tells : Type 0) where
     -- it has ended it
     pub tick_ends_behind : SaysNoMore S G (None ∷ []) one mid.replica new.replica → EndsGroup S G tells frames group old new
     tick_ends_behind silent = record {
-      waited = t.waited;
-      takes = t.first;
+      received = tick_received;
       count = 64;
       letters = record { at_most = omega arith; some = λ is. absurd (omega (arith, is)) };
       given = ticked;
@@ -256,6 +274,9 @@ module _ {R : Type 0} (S : Sayings R) (G : Gatherings R) (tells : Type 0) where
   -- it is alone: a replica is given nothing of what came in these frames
   module _ (found : Found) (frames : List (SocketAddr × List ℕ)) (group one : GroupValue) (old mid new : ServerValue R) (own : old.own ≡ []) (f : Finds tells found frames old mid) (begun : one ≡ group)
       (same : new ≡ record mid { replica = new.replica; failed = new.failed }) where
+    none_taken : all_taken_as old.addresses.seals frames ≡ []
+    none_taken = found_none old.addresses.seals found frames f.are
+
     mine : mid.replica ≡ old.replica
     mine = ap (λ (s : ServerValue R). s.replica) f.same
 
@@ -263,19 +284,21 @@ module _ {R : Type 0} (S : Sayings R) (G : Gatherings R) (tells : Type 0) where
     own_is n = take_none n old.own own
 
     no_datagrams : (n : ℕ) → datagrams_in (take n old.own) (all_taken_as old.addresses.seals frames) ≡ []
-    no_datagrams n = ap (λ (cs : List (SocketAddr × List ℕ)). datagrams_in (take n old.own) cs) f.beside ∙ ap (λ (o : List LetterValue). datagrams_in o []) (own_is n)
+    no_datagrams n = ap (λ (cs : List (SocketAddr × List ℕ)). datagrams_in (take n old.own) cs) none_taken ∙ ap (λ (o : List LetterValue). datagrams_in o []) (own_is n)
 
-    alone_first : TakesFirst tells (all_taken_as old.addresses.seals frames) old
-    alone_first = subst (λ (cs : List (SocketAddr × List ℕ)). TakesFirst tells cs old) (sym f.beside) (record { alone = inr refl; few = omega arith; comes = λ telling empty. (old.coming, refl) })
-
-    alone_waited : HasWaited tells frames old
-    alone_waited = λ telling empty is. f.none telling is
+    alone_received : HasReceived tells frames old new
+    alone_received = record {
+      alone = inl own;
+      few = found_few old.addresses.seals found frames f.are;
+      comes = λ telling. f.comes telling ∙ ap (λ (l : List (SocketAddr × List ℕ)). frames ++ l) (sym (ap (λ (s : ServerValue R). s.coming) same));
+      waited = λ telling empty is. f.none telling is;
+    }
 
     alone_book : new.addresses ≡ old.addresses
     alone_book = ap (λ (s : ServerValue R). s.addresses) same ∙ ap (λ (s : ServerValue R). s.addresses) f.same
 
     alone_heard : HearsAll old.cluster (all_taken_as old.addresses.seals frames) old.addresses new.addresses
-    alone_heard = subst (λ (cs : List (SocketAddr × List ℕ)). HearsAll old.cluster cs old.addresses new.addresses) (sym f.beside) alone_book
+    alone_heard = subst (λ (cs : List (SocketAddr × List ℕ)). HearsAll old.cluster cs old.addresses new.addresses) (sym none_taken) alone_book
 
     alone_outside : IsSameNetwork old.addresses new.addresses
     alone_outside = (ap (λ (b : AddressBook). b.hosts) alone_book, ap (λ (b : AddressBook). b.seals) alone_book)
@@ -285,8 +308,7 @@ module _ {R : Type 0} (S : Sayings R) (G : Gatherings R) (tells : Type 0) where
 
     pub tick_alone : (now : GroupValue) → GathersMore G (None ∷ []) one now mid.replica new.replica → TakesGroup G tells frames group now old new
     tick_alone now ticks = record {
-      waited = alone_waited;
-      first = alone_first;
+      received = alone_received;
       given = None ∷ [];
       may = given_none old.pace old.received (datagrams_in (take 64 old.own) (all_taken_as old.addresses.seals frames)) (no_datagrams 64);
       gathers = subst₂ (λ (x : GroupValue) (r : R). GathersMore G (None ∷ []) x now r new.replica) begun mine ticks;
@@ -298,8 +320,7 @@ module _ {R : Type 0} (S : Sayings R) (G : Gatherings R) (tells : Type 0) where
 
     pub tick_ends_alone : SaysNoMore S G (None ∷ []) one mid.replica new.replica → EndsGroup S G tells frames group old new
     tick_ends_alone silent = record {
-      waited = alone_waited;
-      takes = alone_first;
+      received = alone_received;
       count = 64;
       letters = record { at_most = omega arith; some = λ is. absurd (omega (arith, is)) };
       given = None ∷ [];
@@ -312,49 +333,65 @@ module _ {R : Type 0} (S : Sayings R) (G : Gatherings R) (tells : Type 0) where
     }
 
   -- no tick is due, and nothing waits that a replica is given
-  by_clock : (pace : Pace) (found : Found) (frames : List (SocketAddr × List ℕ)) (due : Bool) → due ≡ false → (pace ≡ Datagrams → found ≡ Nothing → due ≡ true) → (found ≡ Beside → frames ≢ []) → (found ≡ Something → ⊥)
-      → frames ≡ [] → pace ≡ Clock
-  by_clock Clock found frames due isnt nothing some apart empty = refl
-  by_clock Datagrams Nothing frames due isnt nothing some apart empty = absurd (cc (isnt, nothing refl refl))
-  by_clock Datagrams Beside frames due isnt nothing some apart empty = absurd (some refl empty)
-  by_clock Datagrams Something frames due isnt nothing some apart empty = absurd (apart refl)
+  by_clock : (s : Seals) (pace : Pace) (found : Found) (frames : List (SocketAddr × List ℕ)) (due : Bool) → due ≡ false → (pace ≡ Datagrams → found ≡ Nothing → due ≡ true) → AreFound s found frames → frames ≡ [] → pace ≡ Clock
+  by_clock s Clock found frames due isnt nothing are empty = refl
+  by_clock s Datagrams Nothing frames due isnt nothing are empty = absurd (cc (isnt, nothing refl refl))
+  by_clock s Datagrams Beside frames due isnt nothing are empty = absurd (let both : are.0 ∷ [] ≡ [] = sym are.1 ∙ empty in cc both)
+  by_clock s Datagrams Something frames due isnt nothing are empty = absurd are
 
   -- a tick is due behind what waits by the clock alone
   clock_of : (pace : Pace) (due : Bool) → due ≡ true → (pace ≡ Datagrams → due ≡ false) → pace ≡ Clock
   clock_of Clock due is_so given = refl
   clock_of Datagrams due is_so given = absurd (cc (is_so, given refl))
 
-  -- this was found, and nothing of it was taken
-  abbrev pub HasFound : Found → GroupValue → GroupValue → ServerValue R → ServerValue R → Type 0
-  HasFound found group one old mid = (old.own ≡ []) × (frames : List (SocketAddr × List ℕ)) × Finds tells found frames old mid × (one ≡ group)
+  -- `Keeps` says what is kept of the frames that came
+  module _ (Keeps : List (SocketAddr × List ℕ) → Type 0) where
+    -- this was found, and nothing of it was taken
+    abbrev pub HasFound : Found → GroupValue → GroupValue → ServerValue R → ServerValue R → Type 0
+    HasFound found group one old mid = (old.own ≡ []) × (frames : List (SocketAddr × List ℕ)) × Finds tells found frames old mid × (one ≡ group) × Keeps frames
 
-  -- no tick is due
-  pub untimely_takes : (group one : GroupValue) (old mid : ServerValue R) → (frames : List (SocketAddr × List ℕ)) × TakesWaiting G tells frames group one old mid → (frames : List (SocketAddr × List ℕ)) × TakesGroup G tells frames group one old mid
-  untimely_takes group one old mid t = (t.0, without_tick t.0 group one old mid t.1)
+    -- this waited, and was taken
+    abbrev pub HasWaiting : GroupValue → GroupValue → ServerValue R → ServerValue R → Type 0
+    HasWaiting group one old mid = (frames : List (SocketAddr × List ℕ)) × TakesWaiting G tells frames group one old mid × Keeps frames
 
-  pub untimely_rests : (found : Found) (due : Bool) (group one : GroupValue) (old mid : ServerValue R) → mid.pace ≡ old.pace → due ≡ false → (mid.pace ≡ Datagrams → found ≡ Nothing → due ≡ true) → (found ≡ Something → ⊥)
-      → HasFound found group one old mid → (frames : List (SocketAddr × List ℕ)) × HasWaited tells frames old × IsIdle tells frames old mid
-  untimely_rests found due group one old mid pace isnt nothing apart n = (
-    n.1,
-    λ telling empty is. n.2.none telling is,
-    record { own = n.0; none = n.2.beside; clock = λ empty. sym pace ∙ by_clock mid.pace found n.1 due isnt nothing n.2.some apart empty; comes = n.2.still; same = n.2.same },
-  )
+    -- this was taken in a turn
+    abbrev pub HasTaken : GroupValue → GroupValue → ServerValue R → ServerValue R → Type 0
+    HasTaken group now old new = (frames : List (SocketAddr × List ℕ)) × TakesGroup G tells frames group now old new × Keeps frames
 
-  -- one is
-  module _ (due : Bool) (group one : GroupValue) (old mid new : ServerValue R) (pace : mid.pace ≡ old.pace) (is_so : due ≡ true) (same : new ≡ record mid { replica = new.replica; failed = new.failed }) where
-    pub tick_turn : (found : Found) (now : GroupValue) → (found ≡ Something → (frames : List (SocketAddr × List ℕ)) × TakesWaiting G tells frames group one old mid) → ((found ≡ Something → ⊥) → HasFound found group one old mid)
-        → (mid.pace ≡ Datagrams → found ≡ Something → due ≡ false) → GathersMore G (None ∷ []) one now mid.replica new.replica → (frames : List (SocketAddr × List ℕ)) × TakesGroup G tells frames group now old new
-    tick_turn Something now takes none given ticks =
-        let t = takes refl in (t.0, tick_behind t.0 group one old mid new (sym pace ∙ clock_of mid.pace due is_so (λ is. given is refl)) t.1 same now ticks)
-    tick_turn Nothing now takes none given ticks = let n = none (λ is. cc is) in (n.1, tick_alone Nothing n.1 group one old mid new n.0 n.2 n.3 same now ticks)
-    tick_turn Beside now takes none given ticks = let n = none (λ is. cc is) in (n.1, tick_alone Beside n.1 group one old mid new n.0 n.2 n.3 same now ticks)
+    -- no tick is due
+    pub untimely_takes : (group one : GroupValue) (old mid : ServerValue R) → HasWaiting group one old mid → HasTaken group one old mid
+    untimely_takes group one old mid t = (t.0, without_tick t.0 group one old mid t.1, t.2)
 
-    pub tick_turn_ends : (found : Found) → (found ≡ Something → (frames : List (SocketAddr × List ℕ)) × TakesWaiting G tells frames group one old mid) → ((found ≡ Something → ⊥) → HasFound found group one old mid)
-        → (mid.pace ≡ Datagrams → found ≡ Something → due ≡ false) → SaysNoMore S G (None ∷ []) one mid.replica new.replica → (frames : List (SocketAddr × List ℕ)) × EndsGroup S G tells frames group old new
-    tick_turn_ends Something takes none given silent =
-        let t = takes refl in (t.0, tick_ends_behind t.0 group one old mid new (sym pace ∙ clock_of mid.pace due is_so (λ is. given is refl)) t.1 same silent)
-    tick_turn_ends Nothing takes none given silent = let n = none (λ is. cc is) in (n.1, tick_ends_alone Nothing n.1 group one old mid new n.0 n.2 n.3 same silent)
-    tick_turn_ends Beside takes none given silent = let n = none (λ is. cc is) in (n.1, tick_ends_alone Beside n.1 group one old mid new n.0 n.2 n.3 same silent)
+    pub untimely_rests : (found : Found) (due : Bool) (group one : GroupValue) (old mid : ServerValue R) → mid.pace ≡ old.pace → due ≡ false → (mid.pace ≡ Datagrams → found ≡ Nothing → due ≡ true)
+        → HasFound found group one old mid → (frames : List (SocketAddr × List ℕ)) × HasReceived tells frames old mid × IsIdle tells frames old mid × Keeps frames
+    untimely_rests found due group one old mid pace isnt nothing n = (
+      n.1,
+      alone_received found n.1 group one old mid mid n.0 n.2 n.3 refl,
+      record {
+        own = n.0;
+        none = found_none old.addresses.seals found n.1 n.2.are;
+        clock = λ empty. sym pace ∙ by_clock old.addresses.seals mid.pace found n.1 due isnt nothing n.2.are empty;
+        comes = n.2.comes;
+        same = n.2.same;
+      },
+      n.4,
+    )
+
+    -- one is
+    module _ (due : Bool) (group one : GroupValue) (old mid new : ServerValue R) (pace : mid.pace ≡ old.pace) (is_so : due ≡ true) (same : new ≡ record mid { replica = new.replica; failed = new.failed }) where
+      pub tick_turn : (found : Found) (now : GroupValue) → (found ≡ Something → HasWaiting group one old mid) → ((found ≡ Something → ⊥) → HasFound found group one old mid)
+          → (mid.pace ≡ Datagrams → found ≡ Something → due ≡ false) → GathersMore G (None ∷ []) one now mid.replica new.replica → HasTaken group now old new
+      tick_turn Something now takes none given ticks =
+          let t = takes refl in (t.0, tick_behind t.0 group one old mid new (sym pace ∙ clock_of mid.pace due is_so (λ is. given is refl)) t.1 same now ticks, t.2)
+      tick_turn Nothing now takes none given ticks = let n = none (λ is. cc is) in (n.1, tick_alone Nothing n.1 group one old mid new n.0 n.2 n.3 same now ticks, n.4)
+      tick_turn Beside now takes none given ticks = let n = none (λ is. cc is) in (n.1, tick_alone Beside n.1 group one old mid new n.0 n.2 n.3 same now ticks, n.4)
+
+      pub tick_turn_ends : (found : Found) → (found ≡ Something → HasWaiting group one old mid) → ((found ≡ Something → ⊥) → HasFound found group one old mid)
+          → (mid.pace ≡ Datagrams → found ≡ Something → due ≡ false) → SaysNoMore S G (None ∷ []) one mid.replica new.replica → (frames : List (SocketAddr × List ℕ)) × EndsGroup S G tells frames group old new
+      tick_turn_ends Something takes none given silent =
+          let t = takes refl in (t.0, tick_ends_behind t.0 group one old mid new (sym pace ∙ clock_of mid.pace due is_so (λ is. given is refl)) t.1 same silent)
+      tick_turn_ends Nothing takes none given silent = let n = none (λ is. cc is) in (n.1, tick_ends_alone Nothing n.1 group one old mid new n.0 n.2 n.3 same silent)
+      tick_turn_ends Beside takes none given silent = let n = none (λ is. cc is) in (n.1, tick_ends_alone Beside n.1 group one old mid new n.0 n.2 n.3 same silent)
 
   -- ---- what is handed on
 
@@ -377,7 +414,7 @@ module _ {R : Type 0} (S : Sayings R) (G : Gatherings R) (tells : Type 0) where
       → mid.sent ≡ old.sent → mid.socket_failures ≡ old.socket_failures → IsSameServer old mid
       → new.addresses ≡ mid.addresses → new.received ≡ mid.received → IsSameServer mid new → new.failed ≡ false → Turn S tells (all_taken_as old.addresses.seals frames) old new
   turn_of frames group now old mid new begins t hands sent failures first book received then lives = record {
-    takes = t.first;
+    takes = received_first tells frames old mid t.received;
     given = t.given;
     may = t.may;
     hands_on = subst (λ (own : List LetterValue). HandsOn S tells t.given own old new) t.left (hands old t.given (t.gathers old.replica [] begins) (sym sent) (sym failures));
@@ -392,7 +429,7 @@ module _ {R : Type 0} (S : Sayings R) (G : Gatherings R) (tells : Type 0) where
       → mid.sent ≡ old.sent → mid.socket_failures ≡ old.socket_failures → IsSameServer old mid
       → new.addresses ≡ mid.addresses → IsSameServer mid new → new.failed ≡ true → LastTurn S tells (all_taken_as old.addresses.seals frames) old new
   last_of frames group now old mid new begins t none sent failures first book then ended = record {
-    takes = t.first;
+    takes = received_first tells frames old mid t.received;
     count = 64;
     letters = record { at_most = omega arith; some = λ is. absurd (omega (arith, is)) };
     given = t.given;
@@ -413,7 +450,7 @@ module _ {R : Type 0} (S : Sayings R) (G : Gatherings R) (tells : Type 0) where
   pub last_within : (frames : List (SocketAddr × List ℕ)) (group : GroupValue) (old new : ServerValue R) → G old.replica [] group old.replica → EndsGroup S G tells frames group old new
       → new.sent ≡ old.sent → new.socket_failures ≡ old.socket_failures → IsSameServer old new → new.failed ≡ true → LastTurn S tells (all_taken_as old.addresses.seals frames) old new
   last_within frames group old new begins e sent failures same ended = record {
-    takes = e.takes;
+    takes = received_first tells frames old new e.received;
     count = e.count;
     letters = e.letters;
     given = e.given;

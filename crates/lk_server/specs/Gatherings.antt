@@ -1,13 +1,15 @@
 -- A server in the middle of a turn: what its replica has taken into the group, nothing of which is synced or sent yet.
-use Rattle.std.specs.Prelude.{◌≡◌, ◌≢◌, ◌≤◌, ℕ, List, [], ◌++◌, take, drop, Option}
+use Rattle.std.specs.Prelude.{◌≡◌, ◌≢◌, ◌≤◌, ℕ, true, List, [], ◌∷◌, ◌++◌, take, drop, Option}
 use Rattle.std.specs.declared.net.socket_addr.SocketAddr.{SocketAddr}
 use Rattle.lk_step.specs.Letters.{LetterValue}
 use Rattle.lk_replica.specs.Groups.{GroupValue}
 use Rattle.lk_server.specs.declared.found.Found.{Found}
-use Rattle.lk_server.specs.declared.found.Found.TheVariants.{Beside}
+use Rattle.lk_server.specs.declared.found.Found.TheVariants.{Nothing, Beside, Something}
+use Rattle.lk_seal.specs.Seals.{heard}
+use Rattle.lk_seal.specs.declared.seals.Seals.{Seals}
 use Rattle.lk_transport.specs.Addresses.{IsSameNetwork}
-use Rattle.lk_transport.specs.Posts.{HearsAll, all_taken_as}
-use Rattle.lk_server.specs.Servers.{ServerValue, all_inputs, counted, datagrams_in, Given, GivenFirst, HasWaited, IsFront, TakesFirst, TakesLetters, HandsOn}
+use Rattle.lk_transport.specs.Posts.{HearsAll, is_beside, all_taken_as}
+use Rattle.lk_server.specs.Servers.{ServerValue, all_inputs, counted, datagrams_in, Given, GivenFirst, HasReceived, IsFront, TakesLetters, HandsOn}
 
 -- how a replica speaks: the effect of a group, and its letters
 abbrev pub Sayings : Type 0 → Type 1
@@ -17,13 +19,18 @@ Sayings R = R → List (Option (List ℕ)) → List LetterValue → R → Type 0
 abbrev pub Gatherings : Type 0 → Type 1
 Gatherings R = R → List (Option (List ℕ)) → GroupValue → R → Type 0
 
--- this was found at the socket: these frames came, and a replica is given nothing of them; where none came, nothing
--- was to come, if the socket tells that; and nothing is changed
+-- a replica is given nothing of these frames: there is none, or one, which stands beside the protocol
+abbrev pub AreFound : Seals → Found → List (SocketAddr × List ℕ) → Type 0
+AreFound s Nothing frames = frames ≡ []
+AreFound s Beside frames = (frame : SocketAddr × List ℕ) × (frames ≡ frame ∷ []) × (is_beside (heard s frame.1) ≡ true)
+AreFound s Something frames = ⊥
+
+-- these frames were found at the socket, and a replica is given nothing of them; where there is none, nothing was to
+-- come, if the socket tells that; and nothing else is changed
 pub record Finds {R : Type 0} (tells : Type 0) (found : Found) (frames : List (SocketAddr × List ℕ)) (old new : ServerValue R) : Type 0 where
-  pub some : found ≡ Beside → frames ≢ []
-  pub beside : all_taken_as old.addresses.seals frames ≡ []
+  pub are : AreFound old.addresses.seals found frames
   pub none : tells → frames ≡ [] → old.coming ≡ []
-  pub still : tells → new.coming ≡ old.coming
+  pub comes : tells → old.coming ≡ frames ++ new.coming
   pub same : record new { coming = old.coming } ≡ old
 
 module _ {R : Type 0} (Gathers : Gatherings R) where
@@ -52,12 +59,11 @@ module _ {R : Type 0} (Gathers : Gatherings R) where
   -- exactly these frames came from the socket, in order
   pub record TakesSocket (tells : Type 0) (frames : List (SocketAddr × List ℕ)) (group now : GroupValue) (old new : ServerValue R) : Type 0 where
     pub takes : TakesHeard frames group now old new
-    pub comes : tells → old.coming ≡ all_taken_as old.addresses.seals frames ++ new.coming
+    pub comes : tells → old.coming ≡ frames ++ new.coming
 
   -- what waits is taken: letters of the node to itself, or these frames of the socket
   pub record TakesWaiting (tells : Type 0) (frames : List (SocketAddr × List ℕ)) (group now : GroupValue) (old new : ServerValue R) : Type 0 where
-    pub waited : HasWaited tells frames old
-    pub first : TakesFirst tells (all_taken_as old.addresses.seals frames) old
+    pub received : HasReceived tells frames old new
     pub takes : TakesAll (datagrams_in (take 64 old.own) (all_taken_as old.addresses.seals frames)) group now old new
     pub some : datagrams_in (take 64 old.own) (all_taken_as old.addresses.seals frames) ≢ []
     pub left : new.own ≡ drop 64 old.own
@@ -66,8 +72,7 @@ module _ {R : Type 0} (Gathers : Gatherings R) where
 
   -- what is taken in a turn: what waits, and a tick where one is due
   pub record TakesGroup (tells : Type 0) (frames : List (SocketAddr × List ℕ)) (group now : GroupValue) (old new : ServerValue R) : Type 0 where
-    pub waited : HasWaited tells frames old
-    pub first : TakesFirst tells (all_taken_as old.addresses.seals frames) old
+    pub received : HasReceived tells frames old new
     pub given : List (Option (List ℕ))
     pub may : Given old.pace old.received (datagrams_in (take 64 old.own) (all_taken_as old.addresses.seals frames)) given
     pub gathers : GathersMore given group now old.replica new.replica
@@ -104,12 +109,11 @@ module _ {R : Type 0} (Says : Sayings R) (Gathers : Gatherings R) where
 
   pub record EndsSocket (tells : Type 0) (frames : List (SocketAddr × List ℕ)) (group : GroupValue) (old new : ServerValue R) : Type 0 where
     pub ends : EndsHeard frames group old new
-    pub comes : tells → old.coming ≡ all_taken_as old.addresses.seals frames ++ new.coming
+    pub comes : tells → old.coming ≡ frames ++ new.coming
 
   -- at the input of a turn
   pub record EndsGroup (tells : Type 0) (frames : List (SocketAddr × List ℕ)) (group : GroupValue) (old new : ServerValue R) : Type 0 where
-    pub waited : HasWaited tells frames old
-    pub takes : TakesFirst tells (all_taken_as old.addresses.seals frames) old
+    pub received : HasReceived tells frames old new
     pub count : ℕ
     pub letters : TakesLetters count old.own
     pub given : List (Option (List ℕ))

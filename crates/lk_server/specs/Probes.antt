@@ -52,14 +52,15 @@ pub record IsAnswer (node : ℕ) (genesis : List ℕ) (shown : Shown) (p : Probe
   pub node_told : report.node ≡ node
   pub told : Tells genesis shown report.status
 
--- the probe was answered, and nothing else is sent or changed; what is to come to the socket may be more then. `Shows`
--- is what a replica shows
+-- the probe was answered, and nothing else is sent or changed; nor is what is to come, if the socket tells that.
+-- `Shows` is what a replica shows
 pub record AnswersOne {R : Type 0} (Shows : R → Shown → Type 0) (tells : Type 0) (a : Asked) (old new : ServerValue R) : Type 0 where
   pub shown : Shown
   pub shows : Shows old.replica shown
   pub bytes : List ℕ
   pub answer : IsAnswer old.node old.addresses.seals.genesis shown a.probe bytes
   pub replies : Replies tells old.addresses.seals a bytes (tray_at old.own old) (tray_at new.own new)
+  pub still : tells → new.coming ≡ old.coming
   pub same : new ≡ record old { sent = new.sent; socket_failures = new.socket_failures; coming = new.coming }
 
 -- the probe that is kept was answered, if one is; else nothing is sent or changed

@@ -11,7 +11,7 @@ use Rattle.lk_server.specs.declared.pace.Pace.TheVariants.{Clock}
 
 -- the number of its cluster and that of its node, what its ticks go by, its replica, the letters of the node to itself
 -- that it has not taken yet, from where others wrote, how many datagrams came, whether a call has ended the replica,
--- what its socket has sent, how often a send of that has failed, and what comes to it, in order, as it is taken
+-- what its socket has sent, how often a send of that has failed, and the frames that are to come to it, in order
 pub record ServerValue (R : Type 0) : Type 0 where
   pub cluster : ℕ
   pub node : ℕ
@@ -104,14 +104,24 @@ pub record HandsNothing {R : Type 0} (Says : R → List (Option (List ℕ)) → 
   pub sent : new.sent ≡ old.sent
   pub failures : new.socket_failures ≡ old.socket_failures
 
--- ---- a turn. `came` is what the turn took from the socket, each with its source and bytes, in order
+-- ---- a turn. `frames` are those that came from the socket in it, in order, and `came` is what was taken of them, each
+-- with its source and bytes
+
+-- these frames came: none where letters of the node to itself wait, and at most 64. They are the first of those that
+-- were to come, the others are still to come, and where the server looked at the socket and none came, none was to
+-- come, if the socket tells that
+pub record HasReceived {R : Type 0} (tells : Type 0) (frames : List (SocketAddr × List ℕ)) (old new : ServerValue R) : Type 0 where
+  pub alone : (old.own ≡ []) ⊎ (frames ≡ [])
+  pub few : length frames ≤ 64
+  pub comes : tells → old.coming ≡ frames ++ new.coming
+  pub waited : tells → old.own ≡ [] → frames ≡ [] → old.coming ≡ []
 
 -- what may be taken of the socket: nothing where letters of the node to itself wait, at most 64 datagrams, and the
 -- first of what is to come if the socket tells that
 pub record TakesFirst {R : Type 0} (tells : Type 0) (came : List (SocketAddr × List ℕ)) (old : ServerValue R) : Type 0 where
   pub alone : (old.own ≡ []) ⊎ (came ≡ [])
   pub few : length came ≤ 64
-  pub comes : tells → old.own ≡ [] → IsFront came old.coming
+  pub comes : tells → old.own ≡ [] → IsFront came (all_taken_as old.addresses.seals old.coming)
 
 -- so many letters of the node to itself are taken: at most 64, and at least one where some wait
 pub record TakesLetters (count : ℕ) (own : List LetterValue) : Type 0 where
@@ -152,18 +162,14 @@ pub record LastTurn {R : Type 0} (Says : R → List (Option (List ℕ)) → List
   pub ended : new.failed ≡ true
 
 -- An idle turn: no letter of the node to itself waited, these frames came, and none of them says anything to the
--- replica. It was given nothing, nothing was sent, and nothing is changed but what is to come. By datagrams a turn in
--- which no frame comes is never idle: it is a tick
+-- replica. It was given nothing, nothing was sent, and nothing is changed but what is to come: that is now what follows
+-- these frames. By datagrams a turn in which no frame comes is never idle: it is a tick
 pub record IsIdle {R : Type 0} (tells : Type 0) (frames : List (SocketAddr × List ℕ)) (old new : ServerValue R) : Type 0 where
   pub own : old.own ≡ []
   pub none : all_taken_as old.addresses.seals frames ≡ []
   pub clock : frames ≡ [] → old.pace ≡ Clock
-  pub comes : tells → new.coming ≡ old.coming
+  pub comes : tells → old.coming ≡ frames ++ new.coming
   pub same : record new { coming = old.coming } ≡ old
-
--- where the server looked at the socket and no frame came, nothing was to come, if the socket tells that
-abbrev pub HasWaited : {R : Type 0} → Type 0 → List (SocketAddr × List ℕ) → ServerValue R → Type 0
-HasWaited tells frames old = tells → old.own ≡ [] → frames ≡ [] → old.coming ≡ []
 
 -- a turn in which these frames came: its replica was given what was taken of them, or what waited, or a tick; or the
 -- turn is idle

@@ -7,10 +7,10 @@ ghost use Rattle.lk_node.specs.Calls.{heard_by};
 ghost use Rattle.lk_transport.specs.Addresses.{IsSameNetwork};
 ghost use Rattle.lk_server.specs.Gatherings.{GathersMore, SaysNoMore, Finds, TakesAll, EndsWithin, TakesOwn, EndsOwn, TakesHeard, EndsHeard, TakesSocket, EndsSocket, TakesWaiting, TakesGroup, EndsGroup};
 ghost use Rattle.lk_transport.specs.Hearing.{listed};
-ghost use Rattle.lk_transport.specs.Posts.{Hears, all_taken_as, is_beside};
+ghost use Rattle.lk_transport.specs.Posts.{Hears, is_beside};
 ghost use Rattle.lk_seal.specs.Seals.{heard};
-ghost use Rattle.lk_transport.specs.Askers.{Keeps};
-ghost use Rattle.lk_server.specs.Servers.{HasWaited, IsIdle};
+ghost use Rattle.lk_transport.specs.Askers.{Keeps, KeepsFirstOf};
+ghost use Rattle.lk_server.specs.Servers.{HasReceived, IsIdle};
 
 use crate::found::Found;
 use crate::metronome::Metronome;
@@ -50,8 +50,9 @@ impl<R: NodeReplica, S: DatagramSocket + Drop> Server<R, S> {
 
     // Receives the next datagram of the socket into the buffer, if one arrives.
     fn listen(&mut self, buffer: &mut ReceiveBuffer)
-        ensures comes { S.is_telling → self.old.coming ≡ all_taken_as self.old.addresses.seals (listed buffer.new.last) ++ self.new.coming }
+        ensures comes { S.is_telling → self.old.coming ≡ listed buffer.new.last ++ self.new.coming }
         ensures none { S.is_telling → buffer.new.last ≡ None → self.old.coming ≡ [] }
+        ensures asked { buffer.new.asked ≡ buffer.old.asked }
         ensures others { self.new ≡ record self.old { coming = self.new.coming } }
     {
         self.post.listen(buffer);
@@ -59,8 +60,9 @@ impl<R: NodeReplica, S: DatagramSocket + Drop> Server<R, S> {
 
     // The same for a datagram that is already waiting.
     fn listen_waiting(&mut self, buffer: &mut ReceiveBuffer)
-        ensures comes { S.is_telling → self.old.coming ≡ all_taken_as self.old.addresses.seals (listed buffer.new.last) ++ self.new.coming }
+        ensures comes { S.is_telling → self.old.coming ≡ listed buffer.new.last ++ self.new.coming }
         ensures none { S.is_telling → buffer.new.last ≡ None → self.old.coming ≡ [] }
+        ensures asked { buffer.new.asked ≡ buffer.old.asked }
         ensures others { self.new ≡ record self.old { coming = self.new.coming } }
     {
         self.post.listen_waiting(buffer);
@@ -217,8 +219,8 @@ impl<R: NodeReplica, S: DatagramSocket + Drop> Server<R, S> {
         group: &mut Group,
         log: &L,
     ) -> Result<Found, ServiceFault>
-        ensures takes { IfOk result (λ found. found ≡ Found.Something → (frame : Address × List ℕ) × (is_beside (heard self.old.addresses.seals frame.1) ≡ false) × TakesSocket R.Gathers S.is_telling (frame ∷ []) group.old group.new self.old self.new) }
-        ensures none { IfOk result (λ found. (found ≡ Found.Something → ⊥) → (frames : List (Address × List ℕ)) × Finds S.is_telling found frames self.old self.new × (group.new ≡ group.old)) }
+        ensures takes { IfOk result (λ found. found ≡ Found.Something → (frame : Address × List ℕ) × (is_beside (heard self.old.addresses.seals frame.1) ≡ false) × TakesSocket R.Gathers S.is_telling (frame ∷ []) group.old group.new self.old self.new × KeepsFirstOf self.old.addresses.seals buffer.old.asked (frame ∷ []) buffer.new.asked) }
+        ensures none { IfOk result (λ found. (found ≡ Found.Something → ⊥) → (frames : List (Address × List ℕ)) × Finds S.is_telling found frames self.old self.new × (group.new ≡ group.old) × KeepsFirstOf self.old.addresses.seals buffer.old.asked frames buffer.new.asked) }
         ensures ends { OnErr result ((frame : Address × List ℕ) × (is_beside (heard self.old.addresses.seals frame.1) ≡ false) × EndsSocket R.Says R.Gathers S.is_telling (frame ∷ []) group.old self.old self.new) }
         ensures others { self.new ≡ record self.old { replica = self.new.replica; failed = self.new.failed; received = self.new.received; addresses = self.new.addresses; coming = self.new.coming } }
         ensures passes { IfErr result (λ f. f ≡ ServiceFault.Send → ⊥) }
@@ -236,8 +238,8 @@ impl<R: NodeReplica, S: DatagramSocket + Drop> Server<R, S> {
         group: &mut Group,
         log: &L,
     ) -> Result<bool, ServiceFault>
-        ensures takes { IfOk result (λ came. came ≡ true → (frame : Address × List ℕ) × TakesSocket R.Gathers S.is_telling (frame ∷ []) group.old group.new self.old self.new) }
-        ensures none { IfOk result (λ came. came ≡ false → (S.is_telling → self.new.coming ≡ self.old.coming) × (record self.new { coming = self.old.coming } ≡ self.old) × (group.new ≡ group.old)) }
+        ensures takes { IfOk result (λ came. came ≡ true → (frame : Address × List ℕ) × TakesSocket R.Gathers S.is_telling (frame ∷ []) group.old group.new self.old self.new × KeepsFirstOf self.old.addresses.seals buffer.old.asked (frame ∷ []) buffer.new.asked) }
+        ensures none { IfOk result (λ came. came ≡ false → (S.is_telling → self.new.coming ≡ self.old.coming) × (record self.new { coming = self.old.coming } ≡ self.old) × (group.new ≡ group.old) × (buffer.new.asked ≡ buffer.old.asked)) }
         ensures ends { OnErr result ((frame : Address × List ℕ) × EndsSocket R.Says R.Gathers S.is_telling (frame ∷ []) group.old self.old self.new) }
         ensures others { self.new ≡ record self.old { replica = self.new.replica; failed = self.new.failed; received = self.new.received; addresses = self.new.addresses; coming = self.new.coming } }
         ensures passes { IfErr result (λ f. f ≡ ServiceFault.Send → ⊥) }
@@ -262,7 +264,7 @@ impl<R: NodeReplica, S: DatagramSocket + Drop> Server<R, S> {
         group: &mut Group,
         log: &L,
     ) -> Result<(), ServiceFault>
-        ensures takes { OnOk result ((frames : List (Address × List ℕ)) × (length frames ≤ 63) × TakesSocket R.Gathers S.is_telling frames group.old group.new self.old self.new) }
+        ensures takes { OnOk result ((frames : List (Address × List ℕ)) × (length frames ≤ 63) × TakesSocket R.Gathers S.is_telling frames group.old group.new self.old self.new × KeepsFirstOf self.old.addresses.seals buffer.old.asked frames buffer.new.asked) }
         ensures ends { OnErr result ((frames : List (Address × List ℕ)) × (length frames ≤ 63) × EndsSocket R.Says R.Gathers S.is_telling frames group.old self.old self.new) }
         ensures others { self.new ≡ record self.old { replica = self.new.replica; failed = self.new.failed; received = self.new.received; addresses = self.new.addresses; coming = self.new.coming } }
         ensures passes { IfErr result (λ f. f ≡ ServiceFault.Send → ⊥) }
@@ -284,8 +286,8 @@ impl<R: NodeReplica, S: DatagramSocket + Drop> Server<R, S> {
         log: &L,
     ) -> Result<Found, ServiceFault>
         requires { self.old.own ≡ [] }
-        ensures takes { IfOk result (λ found. found ≡ Found.Something → (frames : List (Address × List ℕ)) × TakesWaiting R.Gathers S.is_telling frames group.old group.new self.old self.new) }
-        ensures none { IfOk result (λ found. (found ≡ Found.Something → ⊥) → (self.old.own ≡ []) × (frames : List (Address × List ℕ)) × Finds S.is_telling found frames self.old self.new × (group.new ≡ group.old)) }
+        ensures takes { IfOk result (λ found. found ≡ Found.Something → (frames : List (Address × List ℕ)) × TakesWaiting R.Gathers S.is_telling frames group.old group.new self.old self.new × KeepsFirstOf self.old.addresses.seals buffer.old.asked frames buffer.new.asked) }
+        ensures none { IfOk result (λ found. (found ≡ Found.Something → ⊥) → (self.old.own ≡ []) × (frames : List (Address × List ℕ)) × Finds S.is_telling found frames self.old self.new × (group.new ≡ group.old) × KeepsFirstOf self.old.addresses.seals buffer.old.asked frames buffer.new.asked) }
         ensures ends { OnErr result ((frames : List (Address × List ℕ)) × EndsGroup R.Says R.Gathers S.is_telling frames group.old self.old self.new) }
         ensures others { self.new ≡ record self.old { replica = self.new.replica; failed = self.new.failed; received = self.new.received; addresses = self.new.addresses; coming = self.new.coming } }
         ensures passes { IfErr result (λ f. f ≡ ServiceFault.Send → ⊥) }
@@ -308,8 +310,8 @@ impl<R: NodeReplica, S: DatagramSocket + Drop> Server<R, S> {
         group: &mut Group,
         log: &L,
     ) -> Result<Found, ServiceFault>
-        ensures takes { IfOk result (λ found. found ≡ Found.Something → (frames : List (Address × List ℕ)) × TakesWaiting R.Gathers S.is_telling frames group.old group.new self.old self.new) }
-        ensures none { IfOk result (λ found. (found ≡ Found.Something → ⊥) → (self.old.own ≡ []) × (frames : List (Address × List ℕ)) × Finds S.is_telling found frames self.old self.new × (group.new ≡ group.old)) }
+        ensures takes { IfOk result (λ found. found ≡ Found.Something → (frames : List (Address × List ℕ)) × TakesWaiting R.Gathers S.is_telling frames group.old group.new self.old self.new × KeepsFirstOf self.old.addresses.seals buffer.old.asked frames buffer.new.asked) }
+        ensures none { IfOk result (λ found. (found ≡ Found.Something → ⊥) → (self.old.own ≡ []) × (frames : List (Address × List ℕ)) × Finds S.is_telling found frames self.old self.new × (group.new ≡ group.old) × KeepsFirstOf self.old.addresses.seals buffer.old.asked frames buffer.new.asked) }
         ensures ends { OnErr result ((frames : List (Address × List ℕ)) × EndsGroup R.Says R.Gathers S.is_telling frames group.old self.old self.new) }
         ensures others { self.new ≡ record self.old { replica = self.new.replica; failed = self.new.failed; received = self.new.received; own = self.new.own; addresses = self.new.addresses; coming = self.new.coming } }
         ensures passes { IfErr result (λ f. f ≡ ServiceFault.Send → ⊥) }
@@ -330,8 +332,8 @@ impl<R: NodeReplica, S: DatagramSocket + Drop> Server<R, S> {
         group: &mut Group,
         log: &L,
     ) -> Result<bool, ServiceFault>
-        ensures takes { IfOk result (λ some. some ≡ true → (frames : List (Address × List ℕ)) × TakesGroup R.Gathers S.is_telling frames group.old group.new self.old self.new) }
-        ensures idle { IfOk result (λ some. some ≡ false → (frames : List (Address × List ℕ)) × HasWaited S.is_telling frames self.old × IsIdle S.is_telling frames self.old self.new) }
+        ensures takes { IfOk result (λ some. some ≡ true → (frames : List (Address × List ℕ)) × TakesGroup R.Gathers S.is_telling frames group.old group.new self.old self.new × KeepsFirstOf self.old.addresses.seals buffer.old.asked frames buffer.new.asked) }
+        ensures idle { IfOk result (λ some. some ≡ false → (frames : List (Address × List ℕ)) × HasReceived S.is_telling frames self.old self.new × IsIdle S.is_telling frames self.old self.new × KeepsFirstOf self.old.addresses.seals buffer.old.asked frames buffer.new.asked) }
         ensures ends { OnErr result ((frames : List (Address × List ℕ)) × EndsGroup R.Says R.Gathers S.is_telling frames group.old self.old self.new) }
         ensures others { self.new ≡ record self.old { replica = self.new.replica; failed = self.new.failed; received = self.new.received; own = self.new.own; addresses = self.new.addresses; coming = self.new.coming } }
         ensures passes { IfErr result (λ f. f ≡ ServiceFault.Send → ⊥) }

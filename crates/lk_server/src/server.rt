@@ -7,7 +7,8 @@ ghost use Rattle.lk_recovery.specs.Faults.{fault_number};
 ghost use Rattle.lk_transport.specs.Addresses.{client_at, node_at, IsSameNetwork};
 ghost use Rattle.lk_server.specs.Gatherings.{Finds, HandsOnAll, SaysNothing};
 ghost use Rattle.lk_transport.specs.Posts.{all_taken_as};
-ghost use Rattle.lk_server.specs.Servers.{HandsOn, HandsNothing, HasWaited, IsSameServer, LastTurn, Runs, ServesOn, TakesTurn, Turn};
+ghost use Rattle.lk_transport.specs.Askers.{KeepsFirstOf};
+ghost use Rattle.lk_server.specs.Servers.{HandsOn, HandsNothing, HasReceived, IsSameServer, LastTurn, Runs, ServesOn, TakesTurn, Turn};
 
 use crate::found::Found;
 use crate::happened::Happened;
@@ -82,7 +83,7 @@ impl<R: NodeReplica, S: DatagramSocket + Drop> Server<R, S> {
         ensures received { result.received ≡ 0 }
         ensures hosts { result.addresses.hosts ≡ network.hosts }
         ensures seals { result.addresses.seals ≡ network.seals }
-        ensures socket { ServesOn (S.sent socket) (S.failures socket) (all_taken_as network.seals (S.coming socket)) result }
+        ensures socket { ServesOn (S.sent socket) (S.failures socket) (S.coming socket) result }
     {
         Server {
             alloc,
@@ -157,6 +158,7 @@ impl<R: NodeReplica, S: DatagramSocket + Drop> Server<R, S> {
         ensures addresses { self.new.addresses ≡ self.old.addresses }
         ensures same { IsSameServer self.old self.new }
         ensures received { self.new.received ≡ self.old.received }
+        ensures still { S.is_telling → self.new.coming ≡ self.old.coming }
         ensures alive { OnOk result (self.new.failed ≡ false) }
         ensures broken { OnErr result (self.new.failed ≡ true) }
         ensures no_send { IfErr result (λ e. fault_number e ≡ 15 → ⊥) }
@@ -179,6 +181,7 @@ impl<R: NodeReplica, S: DatagramSocket + Drop> Server<R, S> {
         ensures addresses { self.new.addresses ≡ self.old.addresses }
         ensures same { IsSameServer self.old self.new }
         ensures received { self.new.received ≡ self.old.received }
+        ensures still { S.is_telling → self.new.coming ≡ self.old.coming }
         ensures passes { IfErr result (λ f. f ≡ ServiceFault.Send → ⊥) }
         ensures alive { OnOk result (self.new.failed ≡ false) }
         ensures broken { OnErr result (self.new.failed ≡ true) }
@@ -218,9 +221,9 @@ impl<R: NodeReplica, S: DatagramSocket + Drop> Server<R, S> {
         buffer: &mut ReceiveBuffer,
         log: &L,
     ) -> Result<bool, ServiceFault>
-        ensures turn { IfOk result (λ came. came ≡ true → (frames : List (Address × List ℕ)) × Turn R.Says S.is_telling (all_taken_as self.old.addresses.seals frames) self.old self.new) }
-        ensures ends { OnErr result ((frames : List (Address × List ℕ)) × LastTurn R.Says S.is_telling (all_taken_as self.old.addresses.seals frames) self.old self.new) }
-        ensures none { IfOk result (λ came. came ≡ false → (self.old.own ≡ []) × (found : Found) × (frames : List (Address × List ℕ)) × Finds S.is_telling found frames self.old self.new) }
+        ensures turn { IfOk result (λ came. came ≡ true → (frames : List (Address × List ℕ)) × HasReceived S.is_telling frames self.old self.new × Turn R.Says S.is_telling (all_taken_as self.old.addresses.seals frames) self.old self.new × KeepsFirstOf self.old.addresses.seals buffer.old.asked frames buffer.new.asked) }
+        ensures ends { OnErr result ((frames : List (Address × List ℕ)) × HasReceived S.is_telling frames self.old self.new × LastTurn R.Says S.is_telling (all_taken_as self.old.addresses.seals frames) self.old self.new) }
+        ensures none { IfOk result (λ came. came ≡ false → (self.old.own ≡ []) × (found : Found) × (frames : List (Address × List ℕ)) × Finds S.is_telling found frames self.old self.new × KeepsFirstOf self.old.addresses.seals buffer.old.asked frames buffer.new.asked) }
         // Where nodes live and the keys do not change.
         ensures network { IsSameNetwork self.old.addresses self.new.addresses }
         ensures passes { IfErr result (λ f. f ≡ ServiceFault.Send → ⊥) }
@@ -243,13 +246,14 @@ pub fn node_turn<R: NodeReplica, S: DatagramSocket + Drop, C: Clock, L: Log>(
     log: &L,
 ) -> Result<(), ServiceFault>
     // Where the node wrote to itself it takes the first 64 letters of that, once and in order, and nothing of the
-    // socket. Else it takes what came, each whole and out of its frame, from where it came. Its replica was given just
-    // that, as one group, and a tick where one was due. The letters that it said were each sent where they go, kept
-    // for the node itself, or lost by a send that failed, in order, and nothing else was sent. A turn in which it was
-    // given nothing is idle.
-    ensures turn { OnOk result ((frames : List (Address × List ℕ)) × HasWaited S.is_telling frames server.old × TakesTurn R.Says S.is_telling frames server.old server.new) }
+    // socket. Else it takes the frames that came next, at most 64, and at least one if one was to come: of each what it
+    // opens to, from where it came. No other frame is lost. Its replica was given just that, as one group, and a tick
+    // where one was due. The letters that it said were each sent where they go, kept for the node itself, or lost by a
+    // send that failed, in order, and nothing else was sent. A turn in which it was given nothing is idle. Of the
+    // probes in these frames the first is kept, unless one was kept before.
+    ensures turn { OnOk result ((frames : List (Address × List ℕ)) × HasReceived S.is_telling frames server.old server.new × TakesTurn R.Says S.is_telling frames server.old server.new × KeepsFirstOf server.old.addresses.seals buffer.old.asked frames buffer.new.asked) }
     // After an error nothing of the group is sent.
-    ensures ends { OnErr result ((frames : List (Address × List ℕ)) × HasWaited S.is_telling frames server.old × LastTurn R.Says S.is_telling (all_taken_as server.old.addresses.seals frames) server.old server.new) }
+    ensures ends { OnErr result ((frames : List (Address × List ℕ)) × HasReceived S.is_telling frames server.old server.new × LastTurn R.Says S.is_telling (all_taken_as server.old.addresses.seals frames) server.old server.new) }
     // Where nodes live and the keys do not change.
     ensures network { IsSameNetwork server.old.addresses server.new.addresses }
     ensures passes { IfErr result (λ f. f ≡ ServiceFault.Send → ⊥) }

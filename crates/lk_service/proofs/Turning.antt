@@ -1,5 +1,5 @@
 -- The turns of a server, one after another, and one more.
-use Rattle.std.proofs.Common.{◌≡◌, ◌+◌, ◌<◌, ℕ, List, Option, Result, Ok, Err, refl, ap, subst, sym}
+use Rattle.std.proofs.Common.{◌≡◌, ◌+◌, ◌<◌, ℕ, List, Option, None, Result, Ok, Err, refl, ap, subst, sym}
 use Rattle.std.specs.declared.net.socket_addr.SocketAddr.{SocketAddr}
 use Rattle.std.specs.Prelude.{OnErr, IfErr, IsErrAnd}
 use Rattle.lk_disk.specs.Disk.{Disk}
@@ -13,11 +13,12 @@ use Rattle.lk_transport.specs.Addresses.{AddressBook, IsSameNetwork}
 use Rattle.lk_transport.specs.Posts.{all_taken_as}
 use Rattle.lk_server.specs.Sayings.{SaysOf}
 use Rattle.lk_server.specs.Probes.{IsShown, AnswersKept}
-use Rattle.lk_server.specs.Servers.{ServerValue, HasWaited, TakesTurn as ServerTurn, LastTurn}
+use Rattle.lk_server.specs.Servers.{ServerValue, HasReceived, TakesTurn as ServerTurn, LastTurn}
+use Rattle.lk_transport.specs.Askers.{KeepsFirstOf}
 use Rattle.lk_transport.specs.declared.asked.Asked.{Asked}
 use Rattle.lk_transport.specs.Chains.{Repeats}
 use Rattle.lk_service.specs.Revivals.{StaysDown}
-use Rattle.lk_service.specs.Turns.{TakesTurn, BreaksOff, TellsFailure}
+use Rattle.lk_service.specs.Turns.{TakesTurn, TakesTurnWith, BreaksOff, TellsFailure}
 
 -- what a replica on a device says, where that is honest
 abbrev pub SaysOn : Type 0 → Type 0 → Meaning → (List ℕ → Type 0) → ReplicaValue → List (Option (List ℕ)) → List LetterValue → ReplicaValue → Type 0
@@ -30,32 +31,38 @@ on_err (Err e) p = p
 
 module _ {Says : ReplicaValue → List (Option (List ℕ)) → List LetterValue → ReplicaValue → Type 0} {tells : Type 0} {count : ℕ} {first last new : ServerValue ReplicaValue} (frames : List (SocketAddr × List ℕ)) where
   -- one ended the replica
-  pub turns_end : (most : ℕ) → count < most → Repeats (TakesTurn Says tells) count first last → HasWaited tells frames last → LastTurn Says tells (all_taken_as last.addresses.seals frames) last new → IsSameNetwork last.addresses new.addresses → TellsFailure new
+  pub turns_end : (most : ℕ) → count < most → Repeats (TakesTurn Says tells) count first last → HasReceived tells frames last new → LastTurn Says tells (all_taken_as last.addresses.seals frames) last new → IsSameNetwork last.addresses new.addresses → TellsFailure new
       → BreaksOff Says tells most first new
-  turns_end most fewer so_far waited turn network failure = record {
+  turns_end most fewer so_far received turn network failure = record {
     count = count;
     fewer = fewer;
     last = last;
     turns = so_far;
-    ends = record { frames = frames; came = all_taken_as last.addresses.seals frames; opened = refl; waited = waited; turn = turn; network = network; failure = failure };
+    ends = record { frames = frames; came = all_taken_as last.addresses.seals frames; opened = refl; received = received; turn = turn; network = network; failure = failure };
   }
 
--- a turn, and behind it the answer to a probe that was kept
-pub turn_taken : {Says : ReplicaValue → List (Option (List ℕ)) → List LetterValue → ReplicaValue → Type 0} {tells : Type 0} (frames : List (SocketAddr × List ℕ)) (asked : Option Asked) (old mid new : ServerValue ReplicaValue)
-    → HasWaited tells frames old → ServerTurn Says tells frames old mid → AnswersKept IsShown tells asked mid new → new ≡ record mid { sent = new.sent; socket_failures = new.socket_failures; coming = new.coming }
-    → IsSameNetwork old.addresses mid.addresses → TellsFailure new → TakesTurn Says tells old new
-turn_taken frames asked old mid new waited turn answers others network failure = record {
+-- a turn, and after it the answer to the probe that is kept then
+pub turn_taken : {Says : ReplicaValue → List (Option (List ℕ)) → List LetterValue → ReplicaValue → Type 0} {tells : Type 0} (frames : List (SocketAddr × List ℕ)) (kept asked : Option Asked) (old mid new : ServerValue ReplicaValue)
+    → HasReceived tells frames old mid → ServerTurn Says tells frames old mid → KeepsFirstOf old.addresses.seals kept frames asked → AnswersKept IsShown tells asked mid new → new ≡ record mid { sent = new.sent; socket_failures = new.socket_failures; coming = new.coming }
+    → IsSameNetwork old.addresses mid.addresses → TellsFailure new → TakesTurnWith Says tells kept old new
+turn_taken frames kept asked old mid new received turn first answers others network failure = record {
   frames = frames;
   came = all_taken_as old.addresses.seals frames;
   opened = refl;
-  waited = waited;
+  received = received;
   mid = mid;
   turn = turn;
   asked = asked;
+  first = first;
   answers = answers;
   network = subst (λ (b : AddressBook). IsSameNetwork old.addresses b) (sym (ap (λ (s : ServerValue ReplicaValue). s.addresses) others)) network;
   failure = failure;
 }
+
+-- no probe was kept before it
+pub with_none : {Says : ReplicaValue → List (Option (List ℕ)) → List LetterValue → ReplicaValue → Type 0} {tells : Type 0} {kept : Option Asked} {old new : ServerValue ReplicaValue} → kept ≡ None → TakesTurnWith Says tells kept old new
+    → TakesTurn Says tells old new
+with_none {Says = Says} {tells = tells} {old = old} {new = new} none turn = subst (λ (k : Option Asked). TakesTurnWith Says tells k old new) none turn
 
 -- what follows of what stands after a refusal
 pub on_err_weaker : {T E P Q : Type 0} (r : Result T E) → (P → Q) → OnErr r P → OnErr r Q

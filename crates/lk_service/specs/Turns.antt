@@ -1,6 +1,6 @@
 -- The turns of a server, one after another.
 use Rattle.std.proofs.Common.{inl, inr}
-use Rattle.std.specs.Prelude.{◌≡◌, ◌⊎◌, ◌<◌, ℕ, List, [], Option}
+use Rattle.std.specs.Prelude.{◌≡◌, ◌⊎◌, ◌<◌, ℕ, List, [], Option, None}
 use Rattle.std.specs.declared.net.socket_addr.SocketAddr.{SocketAddr}
 use Rattle.lk_entries.specs.Values.{HeaderValue}
 use Rattle.lk_step.specs.Letters.{LetterValue}
@@ -9,7 +9,8 @@ use Rattle.lk_seal.specs.declared.seals.Seals.{Seals}
 use Rattle.lk_transport.specs.Addresses.{IsSameNetwork}
 use Rattle.lk_transport.specs.Posts.{all_taken_as}
 use Rattle.lk_server.specs.Probes.{IsShown, AnswersKept}
-use Rattle.lk_server.specs.Servers.{ServerValue, HasWaited, Turn, LastTurn, IsIdle}
+use Rattle.lk_server.specs.Servers.{ServerValue, HasReceived, Turn, LastTurn, IsIdle}
+use Rattle.lk_transport.specs.Askers.{KeepsFirstOf}
 use Rattle.lk_transport.specs.declared.asked.Asked.{Asked}
 use Rattle.lk_transport.specs.Chains.{Repeats}
 use Rattle.lk_service.specs.Digests.{genesis_digest}
@@ -22,27 +23,32 @@ TellsFailure s = s.failed ≡ s.replica.failed
 -- arrives
 module _ (Says : ReplicaValue → List (Option (List ℕ)) → List LetterValue → ReplicaValue → Type 0) (tells : Type 0) where
   -- a turn: the replica was given the first letters of the node to itself as one group, or where none waited what was
-  -- taken of what came, out of its frames where the nodes have a key, and a tick where one was due, and goes on; or it
-  -- is idle, and given nothing. Behind that a probe that was kept is answered. Where nodes live, and the keys, are the
-  -- same
-  pub record TakesTurn (old new : ServerValue ReplicaValue) : Type 0 where
+  -- taken of the frames that came, and a tick where one was due, and goes on; or it is idle, and given nothing. After
+  -- that the probe that was kept from before is answered, or else the first in those frames, and nothing else is sent.
+  -- Where nodes live, and the keys, are the same
+  pub record TakesTurnWith (kept : Option Asked) (old new : ServerValue ReplicaValue) : Type 0 where
     pub frames : List (SocketAddr × List ℕ)
     pub came : List (SocketAddr × List ℕ)
     pub opened : came ≡ all_taken_as old.addresses.seals frames
-    pub waited : HasWaited tells frames old
     pub mid : ServerValue ReplicaValue
+    pub received : HasReceived tells frames old mid
     pub turn : Turn Says tells came old mid ⊎ IsIdle tells frames old mid
     pub asked : Option Asked
+    pub first : KeepsFirstOf old.addresses.seals kept frames asked
     pub answers : AnswersKept IsShown tells asked mid new
     pub network : IsSameNetwork old.addresses new.addresses
     pub failure : TellsFailure new
+
+  -- a turn before which no probe was kept: the first in the frames that came is answered
+  abbrev pub TakesTurn : ServerValue ReplicaValue → ServerValue ReplicaValue → Type 0
+  TakesTurn = TakesTurnWith None
 
   -- a turn that ended the replica
   pub record EndsTurn (old new : ServerValue ReplicaValue) : Type 0 where
     pub frames : List (SocketAddr × List ℕ)
     pub came : List (SocketAddr × List ℕ)
     pub opened : came ≡ all_taken_as old.addresses.seals frames
-    pub waited : HasWaited tells frames old
+    pub received : HasReceived tells frames old new
     pub turn : LastTurn Says tells came old new
     pub network : IsSameNetwork old.addresses new.addresses
     pub failure : TellsFailure new

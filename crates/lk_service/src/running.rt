@@ -1,16 +1,16 @@
 //! A node: its start from a device, and its turns.
 
-ghost use Rattle.std.specs.Prelude.{◌≡◌, ◌≤◌, ◌^◌, ◌⊎◌, ℕ, List, IfOk, IfErr, OnOk, OnErr};
+ghost use Rattle.std.specs.Prelude.{◌≡◌, ◌≤◌, ◌^◌, ◌⊎◌, ℕ, List, None, IfOk, IfErr, OnOk, OnErr};
 ghost use Rattle.std.specs.declared.net.socket_addr.SocketAddr.{SocketAddr as Address};
 ghost use Rattle.lk_recovery.specs.Faults.{fault_number};
 ghost use Rattle.lk_replica.specs.ReplicaValue.{ReplicaValue};
 ghost use Rattle.lk_replica.specs.Revived.{MayGoOn};
 ghost use Rattle.lk_transport.specs.Addresses.{IsSameNetwork};
 ghost use Rattle.lk_transport.specs.Posts.{all_taken_as};
-ghost use Rattle.lk_server.specs.Servers.{ServerValue, HasWaited, ServesOn, LastTurn};
+ghost use Rattle.lk_server.specs.Servers.{ServerValue, HasReceived, ServesOn, LastTurn};
 ghost use Rattle.lk_transport.specs.Chains.{Repeats};
 ghost use Rattle.lk_service.specs.Revivals.{ComesUp, IsBegun, IsNotTakenUp, IsRefusedWith};
-ghost use Rattle.lk_service.specs.Turns.{TakesTurn, BreaksOff, AreSealsOf, Serves, EndsEarly, TellsFailure};
+ghost use Rattle.lk_service.specs.Turns.{TakesTurn, TakesTurnWith, BreaksOff, AreSealsOf, Serves, EndsEarly, TellsFailure};
 
 use crate::observing::{observe_start, observe_turn};
 use crate::resources::{NodePlan, Resources};
@@ -77,7 +77,7 @@ pub fn revive<M: Machine, D: LogDisk + Drop, S: DatagramSocket + Drop, L: Log>(
     ensures hosts { IfOk result (λ s. s.addresses.hosts ≡ resources.network.hosts) }
     ensures seals { IfOk result (λ s. s.addresses.seals ≡ resources.network.seals) }
     ensures pace { IfOk result (λ s. s.pace ≡ resources.pace) }
-    ensures socket { IfOk result (ServesOn (S.sent resources.socket) (S.failures resources.socket) (all_taken_as resources.network.seals (S.coming resources.socket))) }
+    ensures socket { IfOk result (ServesOn (S.sent resources.socket) (S.failures resources.socket) (S.coming resources.socket)) }
     // It fails with 7 to 11, each with its cause, and what the device then has fits as what it had.
     ensures refused { IfErr result (λ e. IsNotTakenUp M.meaning M.IsText D.is_honest (D.disk resources.device) header.now (fault_number e.fault) (D.disk e.device)) }
 {
@@ -149,9 +149,11 @@ fn take_turn<
 ) -> Result<(), ServiceFault>
     // Its replica was given as one group just what it wrote to itself, or what was taken of what came, and a tick
     // where one was due. Of the letters that it said it keeps none but those of the node to itself, after the ones
-    // that wait. Behind that a probe that was kept is answered.
-    ensures turn { OnOk result (TakesTurn ⟦<Replica<M, D> as NodeReplica>⟧.Says S.is_telling server.old server.new) }
-    ensures ends { OnErr result ((frames : List (Address × List ℕ)) × HasWaited S.is_telling frames server.old × LastTurn ⟦<Replica<M, D> as NodeReplica>⟧.Says S.is_telling (all_taken_as server.old.addresses.seals frames) server.old server.new) }
+    // that wait. After that the probe that was kept, or else the first of those that came, is answered.
+    ensures turn { OnOk result (TakesTurnWith ⟦<Replica<M, D> as NodeReplica>⟧.Says S.is_telling buffer.old.asked server.old server.new) }
+    ensures spent { OnOk result (buffer.new.asked ≡ None) }
+    // After a refused turn nothing is sent, and no probe is answered.
+    ensures ends { OnErr result ((frames : List (Address × List ℕ)) × HasReceived S.is_telling frames server.old server.new × LastTurn ⟦<Replica<M, D> as NodeReplica>⟧.Says S.is_telling (all_taken_as server.old.addresses.seals frames) server.old server.new) }
     // Where nodes live and the keys do not change.
     ensures network { IsSameNetwork server.old.addresses server.new.addresses }
     ensures failure { TellsFailure server.new }

@@ -18,7 +18,7 @@ use Rattle.lk_transport.specs.Addresses.{AddressBook, client_at, node_at, moved_
 use Rattle.lk_transport.specs.Hosts.{host_of}
 
 -- its node, the addresses, the kept letters of the node to itself, what the socket has sent, how many of its sends
--- have failed overall and in this step, and what is to arrive, in order
+-- have failed overall and in this step, and the frames that are to arrive, in order
 pub record PostValue : Type 0 where
   pub node : ℕ
   pub addresses : AddressBook
@@ -115,6 +115,7 @@ Becomes tells node book old l false new = Loses tells (keys_for book.seals l.to)
 pub record CarriesLetter (tells : Type 0) (old : PostValue) (l : LetterValue) (is_sent : Bool) (new : PostValue) : Type 0 where
   pub node : new.node ≡ old.node
   pub addresses : new.addresses ≡ old.addresses
+  pub still : tells → new.coming ≡ old.coming
   pub becomes : Becomes tells old.node old.addresses (tray_of old) l is_sent (tray_of new)
 
 -- that client's address replaces its last one, and no other address changes

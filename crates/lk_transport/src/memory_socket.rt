@@ -75,6 +75,7 @@ impl MemorySocket {
         ensures ok { OnOk result (sent_in self.new.sent.items ≡ sent_in self.old.sent.items ++ (to, bytes.now) ∷ []) }
         ensures err { OnErr result (sent_in self.new.sent.items ≡ sent_in self.old.sent.items) }
         ensures failures { self.new.failures ≡ self.old.failures }
+        ensures coming { self.new.coming ≡ self.old.coming }
     {
         let kept = bytes.to_vec(self.alloc)?;
         self.sent.push(Told {

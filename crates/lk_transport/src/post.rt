@@ -6,7 +6,7 @@ ghost use Rattle.lk_disk.specs.Disk.{HasCause, one_more};
 ghost use Rattle.lk_transport.specs.Addresses.{client_at, node_at, IsSameNetwork};
 ghost use Rattle.lk_transport.specs.Hearing.{listed};
 ghost use Rattle.lk_seal.specs.Seals.{heard};
-ghost use Rattle.lk_transport.specs.Posts.{IsRoute, IsBoundFor, Becomes, Hears, tray_of, all_taken_as, frame_of, keys_for};
+ghost use Rattle.lk_transport.specs.Posts.{IsRoute, IsBoundFor, Becomes, Hears, tray_of, frame_of, keys_for};
 ghost use Rattle.lk_transport.specs.Askers.{IsKeptOf, Replies, asker, frame_for, keys_to};
 
 use crate::addresses::Addresses;
@@ -75,11 +75,11 @@ impl Carried {
 }
 
 impl<S: DatagramSocket + Drop> Model for SocketPost<S> {
-    ghost use Rattle.lk_transport.specs.Posts.{PostValue, all_taken_as};
+    ghost use Rattle.lk_transport.specs.Posts.{PostValue};
 
     ghost Value = { PostValue };
 
-    ghost view = { λ p. record { node = p.node; addresses = p.addresses; own = p.own.items; sent = S.sent p.socket; socket_failures = S.failures p.socket; failures = p.failures; coming = all_taken_as p.addresses.seals (S.coming p.socket) } };
+    ghost view = { λ p. record { node = p.node; addresses = p.addresses; own = p.own.items; sent = S.sent p.socket; socket_failures = S.failures p.socket; failures = p.failures; coming = S.coming p.socket } };
 }
 
 /// The destination of a letter.
@@ -140,7 +140,7 @@ impl<S: DatagramSocket + Drop> SocketPost<S> {
         ensures failures { result.failures ≡ 0 }
         ensures hosts { result.addresses.hosts ≡ network.hosts }
         ensures seals { result.addresses.seals ≡ network.seals }
-        ensures coming { result.coming ≡ all_taken_as network.seals (S.coming socket) }
+        ensures coming { result.coming ≡ S.coming socket }
     {
         SocketPost {
             alloc,
@@ -183,8 +183,9 @@ impl<S: DatagramSocket + Drop> SocketPost<S> {
 
     /// Receives the next datagram of the socket into the buffer, if one arrives.
     pub fn listen(&mut self, buffer: &mut ReceiveBuffer)
-        ensures comes { S.is_telling → self.old.coming ≡ all_taken_as self.old.addresses.seals (listed buffer.new.last) ++ self.new.coming }
+        ensures comes { S.is_telling → self.old.coming ≡ listed buffer.new.last ++ self.new.coming }
         ensures none { S.is_telling → buffer.new.last ≡ None → self.old.coming ≡ [] }
+        ensures asked { buffer.new.asked ≡ buffer.old.asked }
         ensures others { self.new ≡ record self.old { coming = self.new.coming } }
     {
         buffer.receive(&mut self.socket);
@@ -192,8 +193,9 @@ impl<S: DatagramSocket + Drop> SocketPost<S> {
 
     /// Receives the next datagram that is already waiting.
     pub fn listen_waiting(&mut self, buffer: &mut ReceiveBuffer)
-        ensures comes { S.is_telling → self.old.coming ≡ all_taken_as self.old.addresses.seals (listed buffer.new.last) ++ self.new.coming }
+        ensures comes { S.is_telling → self.old.coming ≡ listed buffer.new.last ++ self.new.coming }
         ensures none { S.is_telling → buffer.new.last ≡ None → self.old.coming ≡ [] }
+        ensures asked { buffer.new.asked ≡ buffer.old.asked }
         ensures others { self.new ≡ record self.old { coming = self.new.coming } }
     {
         buffer.receive_waiting(&mut self.socket);
@@ -305,6 +307,7 @@ impl<S: DatagramSocket + Drop> SocketPost<S> {
         ensures own { self.new.own ≡ self.old.own }
         ensures node { self.new.node ≡ self.old.node }
         ensures addresses { self.new.addresses ≡ self.old.addresses }
+        ensures still { S.is_telling → self.new.coming ≡ self.old.coming }
         ensures cause { HasCause self.old.failures self.new.failures result }
     {
         let Some(place) = route(&self.addresses, &to) else {
@@ -329,6 +332,7 @@ impl<S: DatagramSocket + Drop> SocketPost<S> {
     /// Sends a report to where its probe came from, by the seal for whoever asks.
     pub fn reply(&mut self, asked: &Asked, report: &[u8]) -> Result<(), SendFault>
         ensures replies { Replies S.is_telling self.old.addresses.seals asked.now report.now (tray_of self.old) (tray_of self.new) }
+        ensures still { S.is_telling → self.new.coming ≡ self.old.coming }
         ensures others { self.new ≡ record self.old { sent = self.new.sent; socket_failures = self.new.socket_failures; coming = self.new.coming } }
     {
         let Ok(framed) = framed_for(

@@ -43,6 +43,7 @@ pub trait DatagramSocket {
     fn send_to(&mut self, to: SocketAddr, bytes: &[u8]) -> Result<(), SendFault>
         ensures ok { is_telling → OnOk result (sent self.new ≡ sent self.old ++ (to, bytes.now) ∷ []) }
         ensures err { is_telling → OnErr result (sent self.new ≡ sent self.old) }
+        ensures still { is_telling → coming self.new ≡ coming self.old }
         ensures cause { is_telling → HasCause (failures self.old) (failures self.new) result };
 
     /// From now on a receive waits so long at most, or up to 10 ms longer; until this is called it is 100 ms.

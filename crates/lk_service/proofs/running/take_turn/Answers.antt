@@ -8,4 +8,4 @@ returns-in-Ok-clause-turn g c =
     let t = c.in-Ok.ensures.turn in
     let a = c.answer.ensures in
     let failure : TellsFailure c.answer.new.self = search rules in
-    rw c.observe_turn.ensures (turn_taken t.0 c.node_turn.new.buffer.asked c.args.server.now c.node_turn.new.server c.answer.new.self t.1 t.2 a.answers a.others c.node_turn.ensures.network failure)
+    rw c.observe_turn.ensures (turn_taken t.0 c.args.buffer.now.asked c.node_turn.new.buffer.asked c.args.server.now c.node_turn.new.server c.answer.new.self t.1 t.2 t.3 a.answers a.others c.node_turn.ensures.network failure)

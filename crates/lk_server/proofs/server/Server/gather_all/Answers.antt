@@ -1,24 +1,26 @@
-use Rattle.std.proofs.Common.{◌≡◌, ◌∙◌, ℕ, true, false, List, [], ap, subst₂}
+use Rattle.std.proofs.Common.{◌≡◌, ◌∙◌, ℕ, List, [], refl, ap, subst₂}
 use Rattle.std.specs.Prelude.{IfOk, OnErr}
 use Rattle.std.specs.declared.net.socket_addr.SocketAddr.{SocketAddr}
 use Rattle.lk_replica.specs.Groups.{GroupValue}
 use Rattle.lk_server.specs.Gatherings.{Finds, TakesWaiting, EndsGroup}
 use Rattle.lk_server.specs.declared.found.Found.TheVariants.{Something}
 use Rattle.lk_server.specs.Servers.{ServerValue}
+use Rattle.lk_server.proofs.Asking.{keeps_still}
 use Rattle.lk_server.proofs.Carrying.{on_err}
 use Rattle.lk_server.proofs.Turning.{own_group, own_ends_first, own_ends}
 use Rattle.lk_server.proofs.server.Server.gather_all.Goals as goal
+use Rattle.lk_transport.specs.Askers.{KeepsFirstOf}
 
 pub returns-then-not-branch-clause-takes : goal.returns-then-not-branch-clause-takes
 returns-then-not-branch-clause-takes g c =
     let n = c.in_ok-gather_letter.ensures.none (cc c.if-not-branch.true) in
-    subst₂ (λ (x : GroupValue) (s : ServerValue _). IfOk c.gather_socket.result (λ found. found ≡ Something → (frames : List (SocketAddr × List ℕ)) × TakesWaiting g.R.NodeReplica.Gathers g.S.DatagramSocket.is_telling frames x c.gather_socket.new.group s c.gather_socket.new.self))
+    subst₂ (λ (x : GroupValue) (s : ServerValue _). IfOk c.gather_socket.result (λ found. found ≡ Something → (frames : List (SocketAddr × List ℕ)) × TakesWaiting g.R.NodeReplica.Gathers g.S.DatagramSocket.is_telling frames x c.gather_socket.new.group s c.gather_socket.new.self × KeepsFirstOf s.addresses.seals c.args.buffer.now.asked frames c.gather_socket.new.buffer.asked))
     n.2 n.1 c.gather_socket.ensures.takes
 
 pub returns-then-not-branch-clause-none : goal.returns-then-not-branch-clause-none
 returns-then-not-branch-clause-none g c =
     let n = c.in_ok-gather_letter.ensures.none (cc c.if-not-branch.true) in
-    subst₂ (λ (x : GroupValue) (s : ServerValue _). IfOk c.gather_socket.result (λ found. (found ≡ Something → ⊥) → (s.own ≡ []) × (frames : List (SocketAddr × List ℕ)) × Finds g.S.DatagramSocket.is_telling found frames s c.gather_socket.new.self × (c.gather_socket.new.group ≡ x)))
+    subst₂ (λ (x : GroupValue) (s : ServerValue _). IfOk c.gather_socket.result (λ found. (found ≡ Something → ⊥) → (s.own ≡ []) × (frames : List (SocketAddr × List ℕ)) × Finds g.S.DatagramSocket.is_telling found frames s c.gather_socket.new.self × (c.gather_socket.new.group ≡ x) × KeepsFirstOf s.addresses.seals c.args.buffer.now.asked frames c.gather_socket.new.buffer.asked))
     n.2 n.1 c.gather_socket.ensures.none
 
 pub returns-then-not-branch-clause-ends : goal.returns-then-not-branch-clause-ends
@@ -33,7 +35,9 @@ returns-clause-takes g c = λ yes.
     let first = c.in_ok-gather_letter.ensures.takes (cc c.if-not-branch.false) in (
       [],
       own_group r.Says r.Gathers g.S.DatagramSocket.is_telling first.0 c.args.group.now c.gather_letter.new.group c.gather_letters.new.group c.args.self.now c.gather_letter.new.self c.gather_letters.new.self first.1
-          (ap (λ (s : ServerValue _). s.addresses) c.gather_letters.ensures.others ∙ ap (λ (s : ServerValue _). s.addresses) c.gather_letter.ensures.others) first.2 c.in_ok-gather_letters.ensures.takes,
+          (ap (λ (s : ServerValue _). s.addresses) c.gather_letters.ensures.others ∙ ap (λ (s : ServerValue _). s.addresses) c.gather_letter.ensures.others)
+          (ap (λ (s : ServerValue _). s.coming) c.gather_letters.ensures.others ∙ ap (λ (s : ServerValue _). s.coming) c.gather_letter.ensures.others) first.2 c.in_ok-gather_letters.ensures.takes,
+      keeps_still c.args.self.now.addresses.seals c.args.buffer.now.asked c.args.buffer.now.asked refl,
     )
 
 pub returns-in_err-gather_letter-clause-ends : goal.returns-in_err-gather_letter-clause-ends
@@ -42,7 +46,8 @@ returns-in_err-gather_letter-clause-ends g c =
     let e = c.in_err-gather_letter.ensures.ends in
     on_err c.from_residual.result (
       [],
-      own_ends_first r.Says r.Gathers g.S.DatagramSocket.is_telling e.0 c.args.group.now c.args.self.now c.gather_letter.new.self e.1 (ap (λ (s : ServerValue _). s.addresses) c.gather_letter.ensures.others) e.2,
+      own_ends_first r.Says r.Gathers g.S.DatagramSocket.is_telling e.0 c.args.group.now c.args.self.now c.gather_letter.new.self e.1 (ap (λ (s : ServerValue _). s.addresses) c.gather_letter.ensures.others)
+          (ap (λ (s : ServerValue _). s.coming) c.gather_letter.ensures.others) e.2,
     )
 
 pub returns-in_err-gather_letters-clause-ends : goal.returns-in_err-gather_letters-clause-ends
@@ -52,5 +57,6 @@ returns-in_err-gather_letters-clause-ends g c =
     on_err c.from_residual-in_err-gather_letters.result (
       [],
       own_ends r.Says r.Gathers g.S.DatagramSocket.is_telling first.0 c.args.group.now c.gather_letter.new.group c.args.self.now c.gather_letter.new.self c.gather_letters.new.self first.1
-          (ap (λ (s : ServerValue _). s.addresses) c.gather_letters.ensures.others ∙ ap (λ (s : ServerValue _). s.addresses) c.gather_letter.ensures.others) first.2 c.in_err-gather_letters.ensures.ends,
+          (ap (λ (s : ServerValue _). s.addresses) c.gather_letters.ensures.others ∙ ap (λ (s : ServerValue _). s.addresses) c.gather_letter.ensures.others)
+          (ap (λ (s : ServerValue _). s.coming) c.gather_letters.ensures.others ∙ ap (λ (s : ServerValue _). s.coming) c.gather_letter.ensures.others) first.2 c.in_err-gather_letters.ensures.ends,
     )

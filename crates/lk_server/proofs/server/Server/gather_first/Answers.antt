@@ -1,27 +1,39 @@
-use Rattle.std.proofs.Common.{ap}
+use Rattle.std.proofs.Common.{◌≡◌, ◌∙◌, sym, ap}
+use Rattle.lk_server.specs.declared.found.Found.TheVariants.{Beside, Something}
 use Rattle.lk_server.specs.Servers.{ServerValue}
-use Rattle.lk_server.proofs.Carrying.{if_ok_weaker, if_ok_both, if_err_on}
+use Rattle.lk_server.proofs.Asking.{keeps_given, keeps_found}
+use Rattle.lk_server.proofs.Carrying.{if_ok_both, if_ok_four, if_err_on}
 use Rattle.lk_server.proofs.Gatherings.{socket_one, ends_socket, finds, apart_as}
 use Rattle.lk_server.proofs.server.Server.gather_first.Goals as goal
+use Rattle.lk_transport.specs.Hearing.{BufferValue, listed}
 
 pub returns-clause-takes : goal.returns-clause-takes
 returns-clause-takes g c =
     let h = c.gather_heard.ensures in
     let l = c.listen.ensures in
-    if_ok_weaker c.gather_heard.result (λ found takes yes.
-    let t = takes yes in (
+    if_ok_both c.gather_heard.result (λ found takes rest yes.
+    let t = takes yes in
+    let apart = apart_as c.args.self.now c.listen.new.self t.0 l.others t.2 in
+    let same = rest (λ is. let both : Something ≡ Beside = sym yes ∙ is in cc both) in (
       t.0,
-      apart_as c.args.self.now c.listen.new.self t.0 l.others t.2,
+      apart,
       socket_one g.R.NodeReplica.Gathers g.S.DatagramSocket.is_telling c.listen.new.buffer.last t.0 c.args.group.now c.gather_heard.new.group c.args.self.now c.listen.new.self c.gather_heard.new.self t.1 l.comes l.others
           (ap (λ (s : ServerValue _). s.coming) h.others) t.3,
-    )) h.takes
+      keeps_given c.args.self.now.addresses.seals t.0 c.args.buffer.now.asked c.gather_heard.new.buffer.asked apart (ap (λ (b : BufferValue). b.asked) same ∙ l.asked),
+    )) h.takes h.rest
 
 pub returns-clause-none : goal.returns-clause-none
 returns-clause-none g c =
     let h = c.gather_heard.ensures in
     let l = c.listen.ensures in
-    if_ok_both c.gather_heard.result (λ found none beside.
-    finds g.S.DatagramSocket.is_telling found c.listen.new.buffer.last c.args.group.now c.gather_heard.new.group c.args.self.now c.listen.new.self c.gather_heard.new.self l.comes l.none l.others none beside) h.none h.beside
+    if_ok_four c.gather_heard.result (λ found none beside kept rest apart.
+    let f = finds g.S.DatagramSocket.is_telling found c.listen.new.buffer.last c.args.group.now c.gather_heard.new.group c.args.self.now c.listen.new.self c.gather_heard.new.self l.comes l.none l.others none beside apart in (
+      listed c.listen.new.buffer.last,
+      f.0,
+      f.1,
+      keeps_found c.args.self.now.addresses.seals c.listen.new.self.addresses.seals found c.args.buffer.now.asked c.listen.new.buffer c.gather_heard.new.buffer (ap (λ (s : ServerValue _). s.addresses.seals) l.others) l.asked
+          (λ is. (none is).0) (λ is. let b = beside is in (b.0, b.1)) kept rest apart,
+    )) h.none h.beside h.kept h.rest
 
 pub returns-clause-ends : goal.returns-clause-ends
 returns-clause-ends g c =

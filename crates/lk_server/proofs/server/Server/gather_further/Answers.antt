@@ -1,8 +1,18 @@
-use Rattle.std.proofs.Common.{◌≡◌, [], ◌∷◌, ◌++◌, ap, ◌∙◌, length-append, arith}
+use Rattle.std.proofs.Common.{◌≡◌, [], ◌∷◌, ◌++◌, refl, ap, ◌∙◌, length-append, arith}
 use Rattle.lk_server.specs.Servers.{ServerValue}
+use Rattle.lk_server.proofs.Asking.{keeps_more, keeps_still, keeps_on}
 use Rattle.lk_server.proofs.Carrying.{on_err}
-use Rattle.lk_server.proofs.Gatherings.{socket_more, socket_still, ends_further}
+use Rattle.lk_server.proofs.Gatherings.{socket_nothing, socket_more, socket_still, ends_further}
 use Rattle.lk_server.proofs.server.Server.gather_further.Goals as goal
+
+pub datagrams-init : goal.datagrams-init
+datagrams-init g c = (
+  [],
+  refl,
+  socket_nothing g.R.NodeReplica.Gathers g.S.DatagramSocket.is_telling c.args.group.now c.args.group.now c.args.self.now c.args.self.now refl refl,
+  refl,
+  keeps_still c.args.self.now.addresses.seals c.args.buffer.now.asked c.args.buffer.now.asked refl,
+)
 
 pub datagrams-preserved : goal.datagrams-preserved
 datagrams-preserved g c =
@@ -14,6 +24,7 @@ datagrams-preserved g c =
       socket_more g.R.NodeReplica.Gathers g.S.DatagramSocket.is_telling i.0 (t.0 ∷ []) c.args.group.now c.datagrams.group c.gather_waiting.new.group c.args.self.now c.datagrams.self new (ap (λ (s : ServerValue _). s.cluster) i.3) i.2 t.1,
       c.gather_waiting.ensures.others
           ∙ ap (λ (s : ServerValue _). record s { replica = new.replica; failed = new.failed; received = new.received; addresses = new.addresses; coming = new.coming }) i.3,
+      keeps_more c.args.self.now.addresses.seals c.datagrams.self.addresses.seals i.0 (t.0 ∷ []) c.args.buffer.now.asked c.datagrams.buffer.asked c.gather_waiting.new.buffer.asked i.2.takes.network.1 i.4 t.2,
     )
 
 pub returns-then-not-branch-clause-takes : goal.returns-then-not-branch-clause-takes
@@ -23,12 +34,13 @@ returns-then-not-branch-clause-takes g c =
       i.0,
       omega (arith, i.1, c.datagrams-test.true),
       socket_still g.R.NodeReplica.Gathers g.S.DatagramSocket.is_telling i.0 c.args.group.now c.datagrams.group c.gather_waiting.new.group c.args.self.now c.datagrams.self c.gather_waiting.new.self i.2 n.2 n.1 n.0,
+      keeps_on c.args.self.now.addresses.seals i.0 c.args.buffer.now.asked c.datagrams.buffer.asked c.gather_waiting.new.buffer.asked i.4 n.3,
     )
 
 pub returns-clause-takes : goal.returns-clause-takes
 returns-clause-takes g c =
     let i = c.datagrams.invariant in
-    let all : c.datagrams.counter ≡ 63 = omega arith in (i.0, omega (arith, i.1, all), i.2)
+    let all : c.datagrams.counter ≡ 63 = omega arith in (i.0, omega (arith, i.1, all), i.2, i.4)
 
 pub returns-in_err-gather_waiting-clause-ends : goal.returns-in_err-gather_waiting-clause-ends
 returns-in_err-gather_waiting-clause-ends g c =

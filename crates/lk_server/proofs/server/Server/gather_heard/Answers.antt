@@ -1,4 +1,4 @@
-use Rattle.std.proofs.Common.{rules, ◌≡◌, Some, refl}
+use Rattle.std.proofs.Common.{rules}
 use Rattle.lk_server.proofs.Carrying.{on_err}
 use Rattle.lk_server.proofs.Gatherings.{heard_one, ends_heard}
 use Rattle.lk_server.proofs.server.Server.gather_heard.Goals as goal

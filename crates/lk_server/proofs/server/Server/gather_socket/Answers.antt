@@ -1,5 +1,6 @@
 use Rattle.std.proofs.Common.{◌≡◌, ◌∙◌, true, false, [], ◌∷◌, ap, sym, arith}
 use Rattle.lk_server.specs.Servers.{ServerValue}
+use Rattle.lk_server.proofs.Asking.{keeps_more}
 use Rattle.lk_server.proofs.Carrying.{on_err}
 use Rattle.lk_server.proofs.Gatherings.{socket_more, ends_further}
 use Rattle.lk_server.proofs.Turning.{socket_group, socket_ends}
@@ -9,7 +10,7 @@ pub returns-then-not-is_something-clause-takes : goal.returns-then-not-is_someth
 returns-then-not-is_something-clause-takes g c = λ is. absurd (let both : false ≡ true = sym (cc c.if-not-is_something.true) ∙ c.is_something.ensures.1 is in cc both)
 
 pub returns-then-not-is_something-clause-none : goal.returns-then-not-is_something-clause-none
-returns-then-not-is_something-clause-none g c = λ apart. let n = c.in_ok-found.ensures.none apart in (c.requires, n.0, n.1, n.2)
+returns-then-not-is_something-clause-none g c = λ apart. let n = c.in_ok-found.ensures.none apart in (c.requires, n.0, n.1, n.2, n.3)
 
 pub returns-clause-takes : goal.returns-clause-takes
 returns-clause-takes g c = λ yes.
@@ -23,6 +24,7 @@ returns-clause-takes g c = λ yes.
       socket_group r.Says r.Gathers tells first.0 more.0 c.args.group.now c.gather_further.new.group c.args.self.now c.gather_further.new.self c.requires
           (ap (λ (s : ServerValue _). s.own) two ∙ ap (λ (s : ServerValue _). s.own) one) more.1 first.1
           (socket_more r.Gathers tells (first.0 ∷ []) more.0 c.args.group.now c.gather_first.new.group c.gather_further.new.group c.args.self.now c.gather_first.new.self c.gather_further.new.self (ap (λ (s : ServerValue _). s.cluster) one) first.2 more.2),
+      keeps_more c.args.self.now.addresses.seals c.gather_first.new.self.addresses.seals (first.0 ∷ []) more.0 c.args.buffer.now.asked c.gather_first.new.buffer.asked c.gather_further.new.buffer.asked first.2.takes.network.1 first.3 more.3,
     )
 
 pub returns-in_err-found-clause-ends : goal.returns-in_err-found-clause-ends

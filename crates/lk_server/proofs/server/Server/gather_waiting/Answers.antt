@@ -1,16 +1,20 @@
-use Rattle.std.proofs.Common.{rules, ap, sym, ◌∙◌}
+use Rattle.std.proofs.Common.{rules, ap, ◌∙◌}
 use Rattle.lk_server.specs.Servers.{ServerValue}
+use Rattle.lk_server.proofs.Asking.{keeps_given, keeps_beside}
 use Rattle.lk_server.proofs.Carrying.{on_err}
-use Rattle.lk_server.proofs.Gatherings.{socket_one, socket_beside, ends_socket, none_came}
+use Rattle.lk_server.proofs.Gatherings.{socket_one, socket_beside, ends_socket, none_came, apart_as}
 use Rattle.lk_server.proofs.server.Server.gather_waiting.Goals as goal
+use Rattle.lk_transport.specs.Hearing.{BufferValue}
 
 pub returns-in-Something-clause-takes : goal.returns-in-Something-clause-takes
 returns-in-Something-clause-takes g c = λ came.
     let l = c.listen_waiting.ensures in
-    let t = c.in_ok-gather_heard.ensures.takes (search rules) in (
+    let t = c.in_ok-gather_heard.ensures.takes (search rules) in
+    let same = c.in_ok-gather_heard.ensures.rest (λ is. cc is) in (
       t.0,
       socket_one g.R.NodeReplica.Gathers g.S.DatagramSocket.is_telling c.listen_waiting.new.buffer.last t.0 c.args.group.now c.gather_heard.new.group c.args.self.now c.listen_waiting.new.self c.gather_heard.new.self t.1 l.comes l.others
           (ap (λ (s : ServerValue _). s.coming) c.gather_heard.ensures.others) t.3,
+      keeps_given c.args.self.now.addresses.seals t.0 c.args.buffer.now.asked c.gather_heard.new.buffer.asked (apart_as c.args.self.now c.listen_waiting.new.self t.0 l.others t.2) (ap (λ (b : BufferValue). b.asked) same ∙ l.asked),
     )
 
 pub returns-in-Beside-clause-takes : goal.returns-in-Beside-clause-takes
@@ -19,14 +23,16 @@ returns-in-Beside-clause-takes g c = λ came.
     let b = c.in_ok-gather_heard.ensures.beside (search rules) in (
       b.0,
       socket_beside g.R.NodeReplica.Gathers g.S.DatagramSocket.is_telling c.listen_waiting.new.buffer.last b.0 c.args.group.now c.gather_heard.new.group c.args.self.now c.listen_waiting.new.self c.gather_heard.new.self b.1 l.comes l.others b.2 b.3 b.4,
+      keeps_beside c.args.self.now.addresses.seals c.listen_waiting.new.self.addresses.seals b.0 c.args.buffer.now.asked c.listen_waiting.new.buffer c.gather_heard.new.buffer (ap (λ (s : ServerValue _). s.addresses.seals) l.others) l.asked b.1
+          (c.in_ok-gather_heard.ensures.kept (search rules)),
     )
 
 pub returns-in-Nothing-clause-none : goal.returns-in-Nothing-clause-none
 returns-in-Nothing-clause-none g c = λ came.
     let l = c.listen_waiting.ensures in
     let n = c.in_ok-gather_heard.ensures.none (search rules) in
-    let so = none_came g.S.DatagramSocket.is_telling c.listen_waiting.new.buffer.last c.args.self.now c.listen_waiting.new.self c.gather_heard.new.self n.0 l.comes l.none l.others n.1 in
-    (λ t. (so.0 t).1 ∙ sym (so.0 t).0, so.1, n.2)
+    let so = none_came g.S.DatagramSocket.is_telling c.listen_waiting.new.buffer.last c.args.self.now c.listen_waiting.new.self c.gather_heard.new.self n.0 l.comes l.others n.1 in
+    (so.0, so.1, n.2, ap (λ (b : BufferValue). b.asked) (c.in_ok-gather_heard.ensures.rest (λ is. cc is)) ∙ l.asked)
 
 pub returns-in_err-gather_heard-clause-ends : goal.returns-in_err-gather_heard-clause-ends
 returns-in_err-gather_heard-clause-ends g c =

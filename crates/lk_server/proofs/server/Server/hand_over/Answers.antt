@@ -20,6 +20,12 @@ returns-clause-same g c =
       pace = search rules;
     }
 
+pub returns-clause-still : goal.returns-clause-still
+returns-clause-still g c tells =
+    let e = c.release-released.ensures in
+    let begun : c.begin.new.self.coming ≡ c.args.self.now.coming = search rules in
+    (same_post g.S.DatagramSocket.is_telling c.release-released.result _ c.begin.new.self c.release-released.new.post e.hands e.unsent).2 tells ∙ begun
+
 pub returns-clause-gives : goal.returns-clause-gives
 returns-clause-gives g c =
     let e = c.release-released.ensures in

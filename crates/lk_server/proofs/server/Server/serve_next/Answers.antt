@@ -1,7 +1,7 @@
 use Rattle.std.proofs.Common.{◌≡◌, ◌∙◌, true, false, ap, sym}
 use Rattle.lk_server.specs.Servers.{ServerValue}
 use Rattle.lk_server.proofs.Carrying.{on_err}
-use Rattle.lk_server.proofs.Turning.{same_by, without_tick, turn_of, last_of, last_within}
+use Rattle.lk_server.proofs.Turning.{same_by, received_on, without_tick, turn_of, last_of, last_within}
 use Rattle.lk_server.proofs.server.Server.serve_next.Goals as goal
 
 pub returns-clause-turn : goal.returns-clause-turn
@@ -12,9 +12,11 @@ returns-clause-turn g c = λ yes.
     let t = c.in_ok-found.ensures.takes (c.is_something.ensures.0 (cc c.if-not-is_something.false)) in
     let e = c.release.ensures in (
       t.0,
+      received_on tells t.0 c.args.self.now c.gather_all.new.self c.release.new.self e.still t.1.received,
       turn_of r.Says r.Gathers tells t.0 c.begin-group.result c.gather_all.new.group c.args.self.now c.gather_all.new.self c.release.new.self c.begin-group.ensures
           (without_tick r.Says r.Gathers tells t.0 c.begin-group.result c.gather_all.new.group c.args.self.now c.gather_all.new.self t.1) c.in_ok-release.ensures.gives
           (ap (λ (s : ServerValue _). s.sent) o) (ap (λ (s : ServerValue _). s.socket_failures) o) (same_by c.args.self.now c.gather_all.new.self o) e.addresses e.received e.same c.in_ok-release.ensures.alive,
+      t.2,
     )
 
 pub returns-in_err-release-clause-ends : goal.returns-in_err-release-clause-ends
@@ -26,6 +28,7 @@ returns-in_err-release-clause-ends g c =
     let e = c.release.ensures in
     on_err c.from_residual-in_err-release.result (
       t.0,
+      received_on tells t.0 c.args.self.now c.gather_all.new.self c.release.new.self e.still t.1.received,
       last_of r.Says r.Gathers tells t.0 c.begin-group.result c.gather_all.new.group c.args.self.now c.gather_all.new.self c.release.new.self c.begin-group.ensures
           (without_tick r.Says r.Gathers tells t.0 c.begin-group.result c.gather_all.new.group c.args.self.now c.gather_all.new.self t.1) c.in_err-release.ensures.silent
           (ap (λ (s : ServerValue _). s.sent) o) (ap (λ (s : ServerValue _). s.socket_failures) o) (same_by c.args.self.now c.gather_all.new.self o) e.addresses e.same c.in_err-release.ensures.broken,
@@ -38,6 +41,7 @@ returns-in_err-found-clause-ends g c =
     let e = c.in_err-found.ensures.ends in
     on_err c.from_residual.result (
       e.0,
+      e.1.received,
       last_within r.Says r.Gathers g.S.DatagramSocket.is_telling e.0 c.begin-group.result c.args.self.now c.gather_all.new.self c.begin-group.ensures e.1
           (ap (λ (s : ServerValue _). s.sent) o) (ap (λ (s : ServerValue _). s.socket_failures) o) (same_by c.args.self.now c.gather_all.new.self o) c.in_err-found.ensures.broken,
     )
@@ -45,4 +49,4 @@ returns-in_err-found-clause-ends g c =
 pub returns-then-not-is_something-clause-none : goal.returns-then-not-is_something-clause-none
 returns-then-not-is_something-clause-none g c = λ no.
     let n = c.in_ok-found.ensures.none (λ is. let both : false ≡ true = sym (cc c.if-not-is_something.true) ∙ c.is_something.ensures.1 is in cc both) in
-    (n.0, c.in_ok-found.found, n.1, n.2)
+    (n.0, c.in_ok-found.found, n.1, n.2, n.4)
