@@ -1,4 +1,4 @@
+mod Keeping
 mod Receiving
 mod Replying
-mod Sending
 mod Trying

@@ -1,6 +1,6 @@
 -- What a client asks, what it receives, and what it sends in response.
 use Rattle.std.specs.Net.Socket.{socket_ip, socket_port}
-use Rattle.std.specs.Prelude.{◌≡◌, ◌⊎◌, ◌+◌, ◌<◌, ℕ, nat_lt, Bool, true, false, Option, Some, None, List, [], ◌∷◌, ◌++◌, length, take, slice_get, if◌then◌else◌}
+use Rattle.std.specs.Prelude.{◌≡◌, ◌⊎◌, ◌+◌, ◌<◌, ◌≤◌, ℕ, nat_lt, Option, Some, None, List, [], ◌∷◌, ◌++◌, length, take, slice_get, if◌then◌else◌}
 use Rattle.std.specs.declared.net.ip_addr.IpAddr.{IpAddr}
 use Rattle.std.specs.declared.net.socket_addr.SocketAddr.{SocketAddr}
 use Rattle.lk_types.specs.declared.member.Member.{Member}
@@ -35,10 +35,6 @@ known_or None other = other
 -- where to ask a member: where it lives, or, if that is not known, at the address that was asked first
 abbrev pub destination_address : Destination → Member → IpAddr
 destination_address f m = known_or (host_of f.hosts m.node) f.address
-
--- where the request goes first
-abbrev pub first_place : Question → Place
-first_place q = (q.destination.address, q.port)
 
 -- the message of the request
 abbrev pub asking : Question → Message
@@ -117,51 +113,29 @@ module _ {S : Type 0} (sent : S → List (SocketAddr × List ℕ)) (failures : S
   WaitsFor most bytes (Some reply) old new =
       (count : ℕ) × (count < most) × (last : Asker S) × Repeats (Receives bytes None) count old last × Receives bytes (Some reply) last new
 
-  abbrev pub Waits : List ℕ → Option ReplyValue → Asker S → Asker S → Type 0
-  Waits = WaitsFor 50
-
-  -- the bytes of the question went to the first place, and then it waited
-  pub record Exchanges (told : Option ReplyValue) (old new : S) : Type 0 where
-    pub bytes : List ℕ
-    pub spelled : IsAsked q bytes
-    pub begun : S
-    pub asks : SendsOnce (first_place q) bytes (sent old) (failures old) (sent begun) (failures begun)
-    pub followed : ℕ
-    pub waits : Waits bytes told (record { socket = begun; followed = 0 }) (record { socket = new; followed = followed })
-
-  -- ---- several ports
-
-  -- the bytes went to the port of the question's address, and then it waited for 5 receives
-  pub record Tries (port : ℕ) (bytes : List ℕ) (told : Option ReplyValue) (old new : Asker S) : Type 0 where
+  -- the bytes went to the port of the question's address, and then it waited for at most so many receives
+  pub record Tries (most port : ℕ) (bytes : List ℕ) (told : Option ReplyValue) (old new : Asker S) : Type 0 where
     pub begun : S
     pub asks : SendsOnce (q.destination.address, port) bytes (sent old.socket) (failures old.socket) (sent begun) (failures begun)
-    pub waits : WaitsFor 5 bytes told (record { socket = begun; followed = old.followed }) new
+    pub waits : WaitsFor most bytes told (record { socket = begun; followed = old.followed }) new
 
   -- so with each of these ports in turn, and none told anything
-  abbrev pub TriesInVain : List ℕ → List ℕ → Asker S → Asker S → Type 0
-  TriesInVain [] bytes old new = new ≡ old
-  TriesInVain (port ∷ ports) bytes old new = (mid : Asker S) × Tries port bytes None old mid × TriesInVain ports bytes mid new
+  abbrev pub TriesInVain : ℕ → List ℕ → List ℕ → Asker S → Asker S → Type 0
+  TriesInVain most [] bytes old new = new ≡ old
+  TriesInVain most (port ∷ ports) bytes old new = (mid : Asker S) × Tries most port bytes None old mid × TriesInVain most ports bytes mid new
 
   -- so with all of them, or with each in turn until it was told this
-  abbrev pub TriesUntil : List ℕ → List ℕ → Option ReplyValue → Asker S → Asker S → Type 0
-  TriesUntil ports bytes None old new = TriesInVain ports bytes old new
-  TriesUntil ports bytes (Some reply) old new =
-      (count : ℕ) × (port : ℕ) × (slice_get ports count ≡ Some port) × (last : Asker S) × TriesInVain (take count ports) bytes old last
-      × Tries port bytes (Some reply) last new
+  abbrev pub TriesUntil : ℕ → List ℕ → List ℕ → Option ReplyValue → Asker S → Asker S → Type 0
+  TriesUntil most ports bytes None old new = TriesInVain most ports bytes old new
+  TriesUntil most ports bytes (Some reply) old new =
+      (count : ℕ) × (port : ℕ) × (slice_get ports count ≡ Some port) × (last : Asker S) × TriesInVain most (take count ports) bytes old last
+      × Tries most port bytes (Some reply) last new
 
-  -- the bytes of the question went to these ports, one after another, until it was told something
-  pub record ExchangesInTurn (turns : List ℕ) (told : Option ReplyValue) (old new : S) : Type 0 where
+  -- the bytes of the question went to these ports, one after another, until it was told something, and beyond them to
+  -- the members that at most 20 Elsewhere replies name
+  pub record Exchanges (most : ℕ) (ports : List ℕ) (told : Option ReplyValue) (old new : S) : Type 0 where
     pub bytes : List ℕ
     pub spelled : IsAsked q bytes
     pub followed : ℕ
-    pub tries : TriesUntil turns bytes told (record { socket = old; followed = 0 }) (record { socket = new; followed = followed })
-
-  -- so to the question's own port alone where there are no others
-  abbrev pub Asks : List ℕ → Option ReplyValue → S → S → Type 0
-  Asks [] told old new = Exchanges told old new
-  Asks (port ∷ ports) told old new = ExchangesInTurn (port ∷ ports) told old new
-
-  -- it has sent the request, and learned its fate or waited in vain
-  abbrev pub Comes : List ℕ → Bool → S → S → Type 0
-  Comes turns true old new = (reply : ReplyValue) × Asks turns (Some reply) old new
-  Comes turns false old new = Asks turns None old new
+    pub few : followed ≤ 20
+    pub tries : TriesUntil most ports bytes told (record { socket = old; followed = 0 }) (record { socket = new; followed = followed })

@@ -1,9 +1,10 @@
 //! A client that sends one request.
 
-ghost use Rattle.std.specs.Prelude.{◌≡◌, ◌≤◌, ◌⊎◌, ◌↔◌, ◌∷◌, ℕ, true, List, Some, IfOk, OnOk, IfErr, OnErr, IfSome, IsSomeAnd, length};
+ghost use Rattle.std.specs.Prelude.{◌≡◌, ◌≤◌, ◌⊎◌, ◌↔◌, true, Some, IfOk, IfErr, OnErr, IfSome, IsSomeAnd};
 ghost use Rattle.lk_wire.specs.Grammar.{Spells};
 ghost use Rattle.lk_transport.specs.Hearing.{next_of};
-ghost use Rattle.lk_client.specs.Questions.{asking, first_place, IsAsked, Place, Hears, SendsOnce, SendsEach, Receives, Exchanges, Tries, ExchangesInTurn, Asks, Comes, IsTold};
+ghost use Rattle.lk_client.specs.Questions.{asking, IsAsked, Hears, SendsOnce, Receives, Tries, Exchanges, IsTold};
+ghost use Rattle.lk_client.specs.Rules.{SendsOnly, Asks, Comes};
 ghost use Rattle.lk_client.specs.declared.reply.Reply.{Reply as ReplyValue};
 
 use crate::destination::Destination;
@@ -19,9 +20,9 @@ use std::io;
 use std::io::Write;
 use std::net::{IpAddr, SocketAddr};
 
-/// How many receives of 100 ms pass before the client gives up.
-const RECEIVES: u32 = 50;
-/// So many of them for each port, where there are several.
+/// How many receives of 100 ms pass before the client gives up a port that it asks alone.
+const ALONE: u32 = 50;
+/// How many pass before it asks the next of several ports.
 const EACH: u32 = 5;
 /// How many Elsewhere replies it follows.
 const FOLLOWED: u32 = 20;
@@ -149,54 +150,25 @@ fn take_next<S: DatagramSocket>(
     }
 }
 
-/// Sends the request to its port, follows the first 20 Elsewhere replies, and returns the reply, or `None` if 50
-/// receives bring none. What could not be sent is lost.
-pub fn exchange<S: DatagramSocket>(
-    alloc: Global,
-    socket: &mut S,
-    question: &Question,
-) -> Result<Option<Reply>, ServiceFault>
-    // The bytes of the question go to the first place and then to at most 20 others, each once, and nothing else is
-    // sent.
-    ensures sends { S.is_telling → OnOk result ((bytes : List ℕ) × (others : List Place) × IsAsked question.now bytes × (length others ≤ 20)
-        × SendsEach (first_place question.now ∷ others) bytes (S.sent socket.old) (S.failures socket.old) (S.sent socket.new) (S.failures socket.new)) }
-    // After that it receives at most 50 datagrams, one after another, until one tells the fate of the request. For an
-    // Elsewhere that it follows it sends to the member named there, and otherwise it sends nothing more.
-    ensures hears { S.is_telling → IfOk result (λ told. Exchanges S.sent S.failures (next_of S.coming) question.now told socket.old socket.new) }
-    ensures told { IfOk result (λ reply. IfSome reply IsTold) }
-    ensures unchanged { OnErr result (socket.new ≡ socket.old) }
-    ensures only { IfErr result (λ f. f ≡ ServiceFault.NoMemory) }
-{
-    let bytes = asked(alloc, question)?;
-    send(socket, question.destination.address, question.port, &bytes);
-    let (mut buffer, mut followed) = (ReceiveBuffer::new(), 0);
-    'receives: for _ in 0..RECEIVES {
-        let reply = take_next(&mut buffer, socket, question, &bytes, &mut followed);
-        if reply.is_some() {
-            return Ok(reply);
-        }
-    }
-    Ok(None)
-}
-
-/// Sends the request to a port, and gives what it is replied within 5 receives, or `None`.
+/// Sends the request to a port, and returns the reply that these many receives bring, or `None`.
 fn ask_port<S: DatagramSocket>(
     buffer: &mut ReceiveBuffer,
     socket: &mut S,
     question: &Question,
     port: Port,
+    patience: u32,
     bytes: &[u8],
     followed: &mut u32,
 ) -> Option<Reply>
     requires { followed.old ≤ 20 }
-    // The bytes go to the port, and of what comes next it hears at most 5, until it is told something.
-    ensures tries { S.is_telling → Tries S.sent S.failures (next_of S.coming) question.now port bytes.now result
+    // The bytes go to the port, and of what comes next it hears at most that many, until it is told something.
+    ensures tries { S.is_telling → Tries S.sent S.failures (next_of S.coming) question.now patience port bytes.now result
         (record { socket = socket.old; followed = followed.old }) (record { socket = socket.new; followed = followed.new }) }
     ensures told { IfSome result IsTold }
     ensures most { followed.new ≤ 20 }
 {
     send(socket, question.destination.address, port, bytes);
-    'receives: for _ in 0..EACH {
+    'receives: for _ in 0..patience {
         let reply = take_next(buffer, socket, question, bytes, followed);
         if reply.is_some() {
             return reply;
@@ -205,26 +177,34 @@ fn ask_port<S: DatagramSocket>(
     None
 }
 
-/// Sends the request to these ports of its address in turn, to the next where 5 receives bring no reply, and gives
-/// what it is replied, or `None` where none of them brings a reply. The first 20 Elsewhere are followed. What could
-/// not be sent is lost.
-pub fn exchange_in_turn<S: DatagramSocket>(
+/// Sends the request to these ports of its address in turn, to the next if these many receives bring no reply.
+/// Returns the reply, or `None` if no port brings one. It follows the first 20 Elsewhere replies.
+fn exchange_in_turn<S: DatagramSocket>(
     alloc: Global,
     socket: &mut S,
     question: &Question,
-    turns: &[Port],
+    ports: &[Port],
+    patience: u32,
 ) -> Result<Option<Reply>, ServiceFault>
     // The bytes of the question go to each port in turn until it is told something, and further only to the members of
     // Elsewhere that it hears.
-    ensures tries { S.is_telling → IfOk result (λ told. ExchangesInTurn S.sent S.failures (next_of S.coming) question.now turns.now told socket.old socket.new) }
+    ensures tries { S.is_telling → IfOk result (λ told. Exchanges S.sent S.failures (next_of S.coming) question.now patience ports.now told socket.old socket.new) }
     ensures told { IfOk result (λ reply. IfSome reply IsTold) }
     ensures unchanged { OnErr result (socket.new ≡ socket.old) }
     ensures only { IfErr result (λ f. f ≡ ServiceFault.NoMemory) }
 {
     let bytes = asked(alloc, question)?;
     let (mut buffer, mut followed) = (ReceiveBuffer::new(), 0);
-    'ports: for port in turns {
-        let reply = ask_port(&mut buffer, socket, question, *port, &bytes, &mut followed);
+    'ports: for port in ports {
+        let reply = ask_port(
+            &mut buffer,
+            socket,
+            question,
+            *port,
+            patience,
+            &bytes,
+            &mut followed,
+        );
         if reply.is_some() {
             return Ok(reply);
         }
@@ -232,21 +212,25 @@ pub fn exchange_in_turn<S: DatagramSocket>(
     Ok(None)
 }
 
-/// Asks the question's port, or these ports in turn where there are some.
-fn exchange_any<S: DatagramSocket>(
+/// Sends the request to these ports in turn, with 5 receives each, or, if there are none, to its own port with 50.
+/// Returns the reply, or `None` if it gives up. A datagram that could not be sent is lost.
+pub fn exchange<S: DatagramSocket>(
     alloc: Global,
     socket: &mut S,
     question: &Question,
     turns: &[Port],
 ) -> Result<Option<Reply>, ServiceFault>
-    ensures asks { S.is_telling → IfOk result (λ told. Asks S.sent S.failures (next_of S.coming) question.now turns.now told socket.old socket.new) }
+    // Whether it fails or not, it has sent nothing but that request.
+    ensures same { S.is_telling → SendsOnly question.now (S.sent socket.old) (S.sent socket.new) }
+    // It keeps the rule of a client that asks one request.
+    ensures rule { S.is_telling → IfOk result (λ told. Asks S.sent S.failures (next_of S.coming) question.now turns.now told socket.old socket.new) }
     ensures told { IfOk result (λ reply. IfSome reply IsTold) }
     ensures unchanged { OnErr result (socket.new ≡ socket.old) }
     ensures only { IfErr result (λ f. f ≡ ServiceFault.NoMemory) }
 {
     match turns {
-        [] => exchange(alloc, socket, question),
-        turns => exchange_in_turn(alloc, socket, question, turns),
+        [] => exchange_in_turn(alloc, socket, question, &[question.port], ALONE),
+        turns => exchange_in_turn(alloc, socket, question, turns, EACH),
     }
 }
 
@@ -286,11 +270,13 @@ fn ask_and_write<S: DatagramSocket, W: Write>(
     turns: &[Port],
     out: &mut W,
 ) -> Result<bool, ServiceFault>
+    // Whether it fails or not, it has sent nothing but that request.
+    ensures same { S.is_telling → SendsOnly question.now (S.sent socket.old) (S.sent socket.new) }
     // It learned the fate exactly if the exchange got a reply.
     ensures told { S.is_telling → IfOk result (λ is_told. Comes S.sent S.failures (next_of S.coming) question.now turns.now is_told socket.old socket.new) }
     ensures only { IfErr result (λ f. (f ≡ ServiceFault.NoMemory) ⊎ (f ≡ ServiceFault.Write)) }
 {
-    let reply = exchange_any(alloc, socket, question, turns)?;
+    let reply = exchange(alloc, socket, question, turns)?;
     match (write_reply(reply, out), out.flush()) {
         (Ok(is_told), Ok(())) => Ok(is_told),
         _ => Err(ServiceFault::Write),
@@ -308,6 +294,8 @@ pub fn ask<S: DatagramSocket, W: Write, E: Write>(
     err: &mut E,
 ) -> u8
     ensures status { result ≤ 1 }
+    // Whatever the status, it has sent nothing but that request.
+    ensures same { S.is_telling → SendsOnly question.now (S.sent socket.old) (S.sent socket.new) }
     // Status 0 only if it has sent the request and learned its fate.
     ensures asked { S.is_telling → result ≡ 0 → (reply : ReplyValue) × Asks S.sent S.failures (next_of S.coming) question.now turns.now (Some reply) socket.old socket.new }
 {

@@ -10,3 +10,5 @@ mod Sealing
 mod Forgetting
 mod ComingBack
 mod Saying
+mod Asking
+mod Answering

@@ -3,3 +3,4 @@ pub mod Sealing
 pub mod Continuing
 pub mod Running
 pub mod Forgetting
+pub mod Asking

@@ -23,7 +23,7 @@ returns-then-is_some-clause-tries g c tells = record {
 
 pub returns-clause-tries : goal.returns-clause-tries
 returns-clause-tries g c tells =
-    let all : c.receives.counter ≡ 5 = omega arith in
+    let all : c.receives.counter ≡ c.args.patience = omega arith in
     record {
       begun = c.send.new.socket;
       asks = c.send.ensures tells;

@@ -1,67 +1,23 @@
-use Rattle.std.proofs.Common.{◌≡◌, ◌∙◌, [], arith, refl, sym}
-use Rattle.lk_client.specs.Questions.{first_place, followed_to}
-use Rattle.lk_client.proofs.Receiving.{receives_more, receives_told, receives_none}
-use Rattle.lk_client.proofs.Sending.{sends_further}
+use Rattle.lk_transport.specs.Hearing.{next_of}
+use Rattle.lk_client.proofs.Keeping.{all_same, asks_alone, asks_several}
 use Rattle.lk_client.proofs.question.exchange.Goals as goal
 
-pub receives-init : goal.receives-init
-receives-init g c = (
-  omega arith,
-  λ tells. (
-    [],
-    refl,
-    (g.S.DatagramSocket.sent c.send.new.socket, g.S.DatagramSocket.failures c.send.new.socket, rw c.deref.ensures.value at (c.send.ensures tells), (refl, refl)),
-  ),
-  λ tells. record { states = []; are = refl; chain = refl },
-)
+pub returns-in-empty-clause-same : goal.returns-in-empty-clause-same
+returns-in-empty-clause-same g c tells =
+    all_same g.S.DatagramSocket.sent g.S.DatagramSocket.failures (next_of g.S.DatagramSocket.coming) c.args.question.now 50 _ c.args.socket.now c.exchange_in_turn.new.socket
+    c.exchange_in_turn.result c.exchange_in_turn.ensures.unchanged (c.exchange_in_turn.ensures.tries tells)
 
-pub receives-preserved : goal.receives-preserved
-receives-preserved g c = (
-  c.take_next-reply.ensures.most c.receives.invariant.0,
-  λ tells.
-      let heard = c.take_next-reply.ensures.heard tells in
-      sends_further (first_place c.args.question.now) c.receives.followed (followed_to c.args.question.now.destination heard.heard c.receives.followed) c.in_ok-bytes.bytes.items c.deref-in-receives.result.now
-      (g.S.DatagramSocket.sent c.args.socket.now) (g.S.DatagramSocket.failures c.args.socket.now) (g.S.DatagramSocket.sent c.receives.socket) (g.S.DatagramSocket.failures c.receives.socket)
-      (g.S.DatagramSocket.sent c.take_next-reply.new.socket) (g.S.DatagramSocket.failures c.take_next-reply.new.socket) c.take_next-reply.new.followed
-      c.deref-in-receives.ensures.value heard.follows (c.receives.invariant.1 tells) heard.sends,
-  λ tells.
-      receives_more c.take_next-reply.result (sym c.is_some.ensures ∙ c.if-is_some.false) c.deref-in-receives.ensures.value
-      (c.receives.invariant.2 tells) (c.take_next-reply.ensures.heard tells),
-)
+pub returns-in-empty-clause-rule : goal.returns-in-empty-clause-rule
+returns-in-empty-clause-rule g c tells =
+    asks_alone g.S.DatagramSocket.sent g.S.DatagramSocket.failures (next_of g.S.DatagramSocket.coming) c.args.question.now c.args.turns.now c.args.socket.now _
+    c.exchange_in_turn.result c.in-empty.len_below (c.exchange_in_turn.ensures.tries tells)
 
-pub returns-then-is_some-clause-sends : goal.returns-then-is_some-clause-sends
-returns-then-is_some-clause-sends g c tells =
-    let heard = c.take_next-reply.ensures.heard tells in
-    let more = sends_further (first_place c.args.question.now) c.receives.followed (followed_to c.args.question.now.destination heard.heard c.receives.followed) c.in_ok-bytes.bytes.items c.deref-in-receives.result.now
-    (g.S.DatagramSocket.sent c.args.socket.now) (g.S.DatagramSocket.failures c.args.socket.now) (g.S.DatagramSocket.sent c.receives.socket) (g.S.DatagramSocket.failures c.receives.socket)
-    (g.S.DatagramSocket.sent c.take_next-reply.new.socket) (g.S.DatagramSocket.failures c.take_next-reply.new.socket) c.take_next-reply.new.followed
-    c.deref-in-receives.ensures.value heard.follows (c.receives.invariant.1 tells) heard.sends in (
-      c.in_ok-bytes.bytes.items,
-      more.0,
-      c.in_ok-bytes.ensures.asks,
-      omega (arith, more.1, c.take_next-reply.ensures.most c.receives.invariant.0),
-      more.2,
-    )
+pub returns-in_default-clause-same : goal.returns-in_default-clause-same
+returns-in_default-clause-same g c tells =
+    all_same g.S.DatagramSocket.sent g.S.DatagramSocket.failures (next_of g.S.DatagramSocket.coming) c.args.question.now 5 _ c.args.socket.now c.exchange_in_turn-in_default.new.socket
+    c.exchange_in_turn-in_default.result c.exchange_in_turn-in_default.ensures.unchanged (c.exchange_in_turn-in_default.ensures.tries tells)
 
-pub returns-then-is_some-clause-hears : goal.returns-then-is_some-clause-hears
-returns-then-is_some-clause-hears g c tells = record {
-  bytes = c.in_ok-bytes.bytes.items;
-  spelled = c.in_ok-bytes.ensures.asks;
-  begun = c.send.new.socket;
-  asks = rw c.deref.ensures.value at (c.send.ensures tells);
-  followed = c.take_next-reply.new.followed;
-  waits = receives_told c.take_next-reply.result (sym c.is_some.ensures ∙ c.if-is_some.true) c.deref-in-receives.ensures.value c.receives-test.true
-      (c.receives.invariant.2 tells) (c.take_next-reply.ensures.heard tells);
-}
-
-pub returns-clause-hears : goal.returns-clause-hears
-returns-clause-hears g c tells =
-    let all : c.receives.counter ≡ 50 = omega arith in
-    record {
-      bytes = c.in_ok-bytes.bytes.items;
-      spelled = c.in_ok-bytes.ensures.asks;
-      begun = c.send.new.socket;
-      asks = rw c.deref.ensures.value at (c.send.ensures tells);
-      followed = c.receives.followed;
-      waits = receives_none all (c.receives.invariant.2 tells);
-    }
+pub returns-in_default-clause-rule : goal.returns-in_default-clause-rule
+returns-in_default-clause-rule g c tells =
+    asks_several g.S.DatagramSocket.sent g.S.DatagramSocket.failures (next_of g.S.DatagramSocket.coming) c.args.question.now c.args.turns.now c.args.socket.now _
+    c.exchange_in_turn-in_default.result c.in_default.len_at_least (c.exchange_in_turn-in_default.ensures.tries tells)

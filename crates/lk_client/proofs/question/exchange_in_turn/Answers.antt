@@ -12,10 +12,10 @@ pub ports-preserved : goal.ports-preserved
 ports-preserved g c = (
   c.ask_port-reply.ensures.most,
   λ tells.
-      tries_more (take c.ports.port-index c.args.turns.now) (record { socket = c.args.socket.now; followed = 0 })
+      tries_more (take c.ports.port-index c.args.ports.now) (record { socket = c.args.socket.now; followed = 0 })
       c.ask_port-reply.result (sym c.is_some.ensures ∙ c.if-is_some.false) c.deref.ensures.value
-      (take_more c.args.turns.now c.ports.port-index c.port-item.result c.ports-test.true
-      ∙ ap (λ (n : ℕ). take c.ports.port-index c.args.turns.now ++ n ∷ []) (sym c.port-item.is))
+      (take_more c.args.ports.now c.ports.port-index c.port-item.result c.ports-test.true
+      ∙ ap (λ (n : ℕ). take c.ports.port-index c.args.ports.now ++ n ∷ []) (sym c.port-item.is))
       (c.ports.invariant.1 tells) (c.ask_port-reply.ensures.tries tells),
 )
 
@@ -24,8 +24,9 @@ returns-then-is_some-clause-tries g c tells = record {
   bytes = c.in_ok-bytes.bytes.items;
   spelled = c.in_ok-bytes.ensures.asks;
   followed = c.ask_port-reply.new.followed;
-  tries = tries_told c.args.turns.now c.ports.port-index (record { socket = c.args.socket.now; followed = 0 })
+  few = c.ask_port-reply.ensures.most;
+  tries = tries_told c.args.ports.now c.ports.port-index (record { socket = c.args.socket.now; followed = 0 })
       c.ask_port-reply.result (sym c.is_some.ensures ∙ c.if-is_some.true) c.deref.ensures.value
-      (slice_get_read c.args.turns.now (length c.args.turns.now) c.ports.port-index c.port-item.result refl c.ports-test.true c.port-item.is)
+      (slice_get_read c.args.ports.now (length c.args.ports.now) c.ports.port-index c.port-item.result refl c.ports-test.true c.port-item.is)
       (c.ports.invariant.1 tells) (c.ask_port-reply.ensures.tries tells);
 }

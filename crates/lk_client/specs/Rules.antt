@@ -1,0 +1,44 @@
+-- The rule of a client: it sends one request, again and again, to those whom it asks, until it is answered.
+use Rattle.std.specs.Prelude.{◌≡◌, ℕ, Bool, true, false, Option, Some, None, IfSome, List, [], ◌∷◌, ◌++◌}
+use Rattle.std.specs.List.{AllByRecursion}
+use Rattle.std.specs.declared.net.socket_addr.SocketAddr.{SocketAddr}
+use Rattle.lk_client.specs.Questions.{IsAsked, IsReply, Exchanges}
+use Rattle.lk_client.specs.declared.question.Question.{Question}
+use Rattle.lk_client.specs.declared.reply.Reply.{Reply as ReplyValue}
+
+-- each datagram sent since then is the request of that question, byte for byte: a question has one spelling and one
+-- frame
+pub record SendsOnly (q : Question) (old new : List (SocketAddr × List ℕ)) : Type 0 where
+  pub more : List (SocketAddr × List ℕ)
+  pub behind : new ≡ old ++ more
+  pub same : AllByRecursion (λ (d : SocketAddr × List ℕ). IsAsked q d.1) more
+
+-- the datagram that arrived after everything was sent is that reply of a node of the cluster to the request
+pub record IsReplied {S : Type 0} (sent : S → List (SocketAddr × List ℕ)) (next : S → Option (SocketAddr × List ℕ)) (q : Question) (reply : ReplyValue) (new : S) : Type 0 where
+  pub last : S
+  pub datagram : SocketAddr × List ℕ
+  pub came : next last ≡ Some datagram
+  pub says : IsReply q datagram.1 reply
+  pub silent : sent new ≡ sent last
+
+-- what a kind of socket has sent, how many of its sends have failed, and what arrives next; and the question of a
+-- client at such a socket
+module _ {S : Type 0} (sent : S → List (SocketAddr × List ℕ)) (failures : S → ℕ) (next : S → Option (SocketAddr × List ℕ)) (q : Question) where
+  -- a client that keeps the rule, with so many receives for each port
+  pub record KeepsRule (most : ℕ) (ports : List ℕ) (told : Option ReplyValue) (old new : S) : Type 0 where
+    -- it has sent nothing but that request
+    pub same : SendsOnly q (sent old) (sent new)
+    -- to these ports, one after another and once each, and to the members that replies name, until it is told its fate
+    pub in_turn : Exchanges sent failures next q most ports told old new
+    -- what it returns is what a datagram says, after which it has sent nothing
+    pub ends : IfSome told (λ (reply : ReplyValue). IsReplied sent next q reply new)
+
+  -- it asks these ports, with 5 receives each, or, if there are none, the question's own with 50
+  abbrev pub Asks : List ℕ → Option ReplyValue → S → S → Type 0
+  Asks [] told old new = KeepsRule 50 (q.port ∷ []) told old new
+  Asks (port ∷ ports) told old new = KeepsRule 5 (port ∷ ports) told old new
+
+  -- it was told the fate of its request, or asked in vain
+  abbrev pub Comes : List ℕ → Bool → S → S → Type 0
+  Comes turns true old new = (reply : ReplyValue) × Asks turns (Some reply) old new
+  Comes turns false old new = Asks turns None old new
