@@ -2,7 +2,7 @@
 use Rattle.std.proofs.Common.{◌≡◌, ℕ, zero, suc, true, false, Option, Some, None, List, [], ◌∷◌, ◌++◌, ◌⊎◌, set, refl, ap, sym, ◌∙◌, subst, inl, inr, append_assoc, append-nil, arith}
 use Rattle.std.proofs.lemmas.List.{map-append}
 use Rattle.std.specs.declared.net.socket_addr.SocketAddr.{SocketAddr}
-use Rattle.lk_disk.specs.Disk.{Disk}
+use Rattle.lk_disk.specs.Disk.{Disk, kept_by}
 use Rattle.lk_disk.specs.Memory.{Memory, disk_of}
 use Rattle.lk_disk.specs.declared.device.Side.{Side}
 use Rattle.lk_locks.specs.Meaning.{table_meaning}
@@ -10,19 +10,21 @@ use Rattle.lk_step.specs.Letters.{LetterValue, batch_of, datagram_of}
 use Rattle.lk_step.specs.declared.note.Note.{Note}
 use Rattle.lk_node.specs.Histories.{Genesis, Datagram}
 use Rattle.lk_replica.specs.ReplicaValue.{ReplicaValue}
-use Rattle.lk_server.specs.Probes.{IsShown, AnswersKept}
+use Rattle.lk_server.specs.Beside.{ActsBeside}
+use Rattle.lk_server.specs.Probes.{IsShown}
 use Rattle.lk_server.specs.Servers.{ServerValue, Turn, LastTurn, IsIdle}
+use Rattle.lk_probe.specs.declared.reported.Reported.{Reported}
 use Rattle.lk_transport.specs.declared.asked.Asked.{Asked}
 use Rattle.lk_transport.specs.Chains.{Chain}
-use Rattle.lk_service.specs.Turns.{TakesTurn as ServerTurn, TellsFailure, letters_in}
-use Rattle.lk_sim.specs.Networks.{Rests, RestsBy, nothing}
+use Rattle.lk_service.specs.Turns.{TakesTurn as ServerTurn, TakesTurnWith, GoesOn, TellsFailure, letters_in}
+use Rattle.lk_sim.specs.Networks.{Rests, RestsBy, Stops, nothing}
 use Rattle.lk_seats.specs.Seats.{At}
 use Rattle.lk_seats.specs.declared.seat.Life.{Life}
 use Rattle.lk_seats.specs.declared.seat.Life.TheVariants.{Up, Down}
 use Rattle.lk_sim.proofs.Networks.{at_set_here, set_twice}
 use Rattle.lk_cluster.specs.Clusters.{Node, Cluster, Network, Says, steps_of, IsBegun, server_disks, Starts, TakesTurn, Idles, EndsByTurn, Happens, HappenAll, IsReachable}
 use Rattle.lk_cluster.specs.Continuing.{node_of, HasNode, Continues, letters_of, MayAllCome}
-use Rattle.lk_cluster.proofs.Keeping.{IsSound, Unforged, turn_takes, ended_may, with_replica, reachable_sound}
+use Rattle.lk_cluster.proofs.Keeping.{IsSound, Unforged, same_up, turn_takes, ended_may, with_replica, reachable_sound}
 use Rattle.lk_cluster.proofs.Saying.{turn_so}
 use Rattle.lk_cluster.proofs.Tracing.{Traced, trace_group}
 
@@ -92,9 +94,26 @@ module _ (May : Network) (Metered tells : Type 0) where
       } in
       continues_with genesis old place n (Down left) [] [] (goes_on genesis old new all (inr (inr (inl stays))))
 
-  -- an idle turn, or the answer to a probe
+  -- a stop of a node that is up
+  pub stop_continues : (genesis : Genesis) (old : Cluster) → IsReachable May Metered tells genesis old → (place n : ℕ) (server : ServerValue ReplicaValue) → HasNode old place n (Up server)
+      → (left : Memory) → ((s : Side) → (k : ℕ) × (disk_of left s ≡ kept_by k (server_disks server s))) → Continues May Metered tells genesis old place n (Down left) []
+  stop_continues genesis old all place n server at left kept =
+      let new = continued old place n (Down left) [] [] in
+      let stops : Stops server_disks old new = record {
+        seat = node_of n (Up server);
+        next = node_of n (Down left);
+        turns = record { place = place; at = at; number = refl; seats = refl };
+        left = left;
+        down = refl;
+        was_up = λ q up s. subst (λ (p : ServerValue ReplicaValue). (k : ℕ) × (disk_of left s ≡ kept_by k (server_disks p s))) (same_up server q up) (kept s);
+        was_down = λ d is. absurd (cc is);
+        adds = record { genesis = refl; sent = refl; trace = refl };
+      } in
+      continues_with genesis old place n (Down left) [] [] (goes_on genesis old new all (inr (inr (inr (inr (inr (inr stops)))))))
+
+  -- an idle turn, or what is done beside the protocol
   rest_comes : (genesis : Genesis) (old : Cluster) → IsReachable May Metered tells genesis old → (place n : ℕ) (server after : ServerValue ReplicaValue) → HasNode old place n (Up server)
-      → ((frames : List (SocketAddr × List ℕ)) × IsIdle tells frames server after) ⊎ ((asked : Option Asked) × AnswersKept IsShown tells asked server after)
+      → ((frames : List (SocketAddr × List ℕ)) × IsIdle tells frames server after) ⊎ ((asked : Option Asked) × (reported : Option Reported) × ActsBeside IsShown tells asked reported server after)
       → IsReachable May Metered tells genesis (continued old place n (Up after) [] [])
   rest_comes genesis old all place n server after at idle =
       let new = continued old place n (Up after) [] [] in
@@ -238,11 +257,10 @@ module _ (May : Network) (Metered tells : Type 0) where
 
     -- turns, one after another, of a replica that says so
     module _ (S : ReplicaValue → List (Option (List ℕ)) → List LetterValue → ReplicaValue → Type 0) (so : (old : ReplicaValue) (given : List (Option (List ℕ))) (letters : List LetterValue) (new : ReplicaValue) → S old given letters new → Says Metered old given letters new) where
-      -- whether a call has ended the replica is told in front of the answer as behind it
-      mid_failure : (mid next : ServerValue ReplicaValue) (asked : Option Asked) → AnswersKept IsShown tells asked mid next → TellsFailure next → TellsFailure mid
-      mid_failure mid next None same failure = subst TellsFailure same failure
-      mid_failure mid next (Some asked) one failure =
-          let as_was : next ≡ record mid { sent = next.sent; socket_failures = next.socket_failures; coming = next.coming } = one.same in
+      -- whether a call has ended the replica is told before what is done beside the protocol as after it
+      mid_failure : (mid next : ServerValue ReplicaValue) (asked : Option Asked) (reported : Option Reported) → ActsBeside IsShown tells asked reported mid next → TellsFailure next → TellsFailure mid
+      mid_failure mid next asked reported acts failure =
+          let as_was : next ≡ record mid { addresses = next.addresses; sent = next.sent; socket_failures = next.socket_failures; coming = next.coming } = acts.same in
           sym (ap (λ (s : ServerValue ReplicaValue). s.failed) as_was) ∙ failure ∙ ap (λ (s : ServerValue ReplicaValue). s.replica.failed) as_was
 
       -- one of them, or an idle one
@@ -252,6 +270,25 @@ module _ (May : Network) (Metered tells : Type 0) where
       taken_comes genesis old all place n first next at came frames may (inl turn) failure =
           turn_comes genesis old all place n first next at came may (turn_so S (Says Metered) so tells came first next turn) (sym failure ∙ turn.alive)
       taken_comes genesis old all place n first next at came frames may (inr idle) failure = ([], idle_comes genesis old all place n first next at frames idle)
+
+      -- one of them with what is done beside the protocol after it
+      module _ (kept : Option Asked) (After : ServerValue ReplicaValue → Type 0) (genesis : Genesis) (old : Cluster) (all : IsReachable May Metered tells genesis old) (place n : ℕ) (first next : ServerValue ReplicaValue) (at : HasNode old place n (Up first))
+          (turn : TakesTurnWith S tells kept After first next) (may : May old.genesis old.sent first turn.came) where
+        turn_and_acts : (trace : List Note) × IsReachable May Metered tells genesis (continued (continued old place n (Up turn.mid) (letters_in S tells turn.turn) trace) place n (Up next) [] [])
+        turn_and_acts =
+            let mid = turn.mid in
+            let t = taken_comes genesis old all place n first mid at turn.came turn.frames may turn.turn (mid_failure mid next turn.asked turn.reported turn.acts turn.failure) in
+            let turned = continued old place n (Up mid) (letters_in S tells turn.turn) t.0 in
+            let there : HasNode turned place n (Up mid) = at_set_here old.seats place (node_of n (Up mid)) at.0 in
+            (t.0, rest_comes genesis turned t.1 place n mid next there (inr (turn.asked, turn.reported, turn.acts)))
+
+        pub one_turn_continues : Continues May Metered tells genesis old place n (Up next) (letters_in S tells turn.turn)
+        one_turn_continues =
+            let said = letters_in S tells turn.turn in
+            let t = turn_and_acts in
+            let turned = continued old place n (Up turn.mid) said t.0 in
+            subst (λ (l : List LetterValue). Continues May Metered tells genesis old place n (Up next) l) (append-nil said)
+            (twice genesis old place n (Up turn.mid) (Up next) said [] t.0 (continues_with genesis turned place n (Up next) [] [] t.1))
 
       pub turns_continue : (genesis : Genesis) (old : Cluster) → IsReachable May Metered tells genesis old → (place n : ℕ) (first : ServerValue ReplicaValue) (states : List (ServerValue ReplicaValue)) (last : ServerValue ReplicaValue)
           → HasNode old place n (Up first) → (turns : Chain (ServerTurn S tells) first states last) → MayAllCome S tells May old.genesis n old.sent first states last turns
@@ -263,11 +300,10 @@ module _ (May : Network) (Metered tells : Type 0) where
           let said = letters_in S tells turns.0.turn in
           let mid = turns.0.mid in
           let rest = letters_of S tells next states last turns.1 in
-          let t = taken_comes genesis old all place n first mid at turns.0.came turns.0.frames may.0 turns.0.turn (mid_failure mid next turns.0.asked turns.0.answers turns.0.failure) in
+          let t = turn_and_acts None GoesOn genesis old all place n first next at turns.0 may.0 in
           let turned = continued old place n (Up mid) said t.0 in
           let there : HasNode turned place n (Up mid) = at_set_here old.seats place (node_of n (Up mid)) at.0 in
-          let answered = rest_comes genesis turned t.1 place n mid next there (inr (turns.0.asked, turns.0.answers)) in
           twice genesis old place n (Up mid) (Up last) said rest t.0
           (twice genesis turned place n (Up next) (Up last) [] rest []
-          (turns_continue genesis (continued turned place n (Up next) [] []) answered place n next states last (at_set_here turned.seats place (node_of n (Up next)) there.0) turns.1
+          (turns_continue genesis (continued turned place n (Up next) [] []) t.1 place n next states last (at_set_here turned.seats place (node_of n (Up next)) there.0) turns.1
           (subst (λ (l : List Datagram). MayAllCome S tells May old.genesis n l next states last turns.1) (sym (append-nil (old.sent ++ batch_of n said))) may.1)))

@@ -19,7 +19,9 @@ use Rattle.lk_replica.specs.ReplicaValue.{ReplicaValue}
 use Rattle.lk_transport.specs.Addresses.{AddressBook}
 use Rattle.lk_transport.specs.Posts.{Tray, Becomes}
 use Rattle.lk_server.specs.Paces.{ticks_after, MayFollow}
-use Rattle.lk_server.specs.Probes.{IsShown, AnswersKept}
+use Rattle.lk_server.specs.Beside.{ActsBeside}
+use Rattle.lk_server.specs.Probes.{IsShown}
+use Rattle.lk_probe.specs.declared.reported.Reported.{Reported}
 use Rattle.lk_transport.specs.declared.asked.Asked.{Asked}
 use Rattle.lk_server.specs.Servers.{ServerValue, HandsOn, Given, IsIdle, one_more, inputs, all_inputs, datagrams_in, IsFront, tray_at}
 use Rattle.lk_server.specs.declared.pace.Pace.{Pace}
@@ -83,7 +85,7 @@ OwnOf seats sent = (k : ℕ) (s : Node) → At seats k s → (q : ServerValue Re
 own_later : (sent now : List Datagram) (n : ℕ) (q : ServerValue ReplicaValue) → ((d : Datagram) → Contains sent d → Contains now d) → IsKept sent n q → IsKept now n q
 own_later sent now n q among k = record { alive = k.alive; own = λ l c. among (datagram_of n l) (k.own l c) }
 
-same_up : (p q : ServerValue ReplicaValue) → Up p ≡ Up q → p ≡ q
+pub same_up : (p q : ServerValue ReplicaValue) → Up p ≡ Up q → p ≡ q
 same_up p q e = cc e
 
 own_set : (seats : List Node) (place : ℕ) (next : Node) (sent now : List Datagram) → OwnOf seats sent → ((d : Datagram) → Contains sent d → Contains now d)
@@ -189,19 +191,15 @@ module _ (old : Cluster) (w : IsSound old) where
         room = λ d is. absurd (cc is);
       })
 
--- a server as another one, but for what has come to its socket and was sent by it
+-- a server as another one, but for what it knows of other addresses, what has come to its socket and was sent by it
 abbrev at_rest : ServerValue ReplicaValue → ServerValue ReplicaValue → ServerValue ReplicaValue
-at_rest server after = record after { coming = server.coming; sent = server.sent; socket_failures = server.socket_failures }
+at_rest server after = record after { addresses = server.addresses; coming = server.coming; sent = server.sent; socket_failures = server.socket_failures }
 
--- by an idle turn and by the answer to a probe nothing else changes
+-- by an idle turn and beside the protocol nothing else changes
 at_rest_by : {tells : Type 0} (server after : ServerValue ReplicaValue)
-    → ((frames : List (SocketAddr × List ℕ)) × IsIdle tells frames server after) ⊎ ((asked : Option Asked) × AnswersKept IsShown tells asked server after) → at_rest server after ≡ server
-at_rest_by server after (inl i) = ap (λ (s : ServerValue ReplicaValue). record s { sent = server.sent; socket_failures = server.socket_failures }) i.1.same
-at_rest_by {tells} server after (inr a) = ap (λ (s : ServerValue ReplicaValue). at_rest server s) (answered_as a.0 a.1)
-  where
-    answered_as : (asked : Option Asked) → AnswersKept IsShown tells asked server after → after ≡ record server { sent = after.sent; socket_failures = after.socket_failures; coming = after.coming }
-    answered_as None same = same ∙ ap (λ (s : ServerValue ReplicaValue). record server { sent = s.sent; socket_failures = s.socket_failures; coming = s.coming }) (sym same)
-    answered_as (Some asked) one = one.same
+    → ((frames : List (SocketAddr × List ℕ)) × IsIdle tells frames server after) ⊎ ((asked : Option Asked) × (reported : Option Reported) × ActsBeside IsShown tells asked reported server after) → at_rest server after ≡ server
+at_rest_by server after (inl i) = ap (λ (s : ServerValue ReplicaValue). record s { addresses = server.addresses; sent = server.sent; socket_failures = server.socket_failures }) i.1.same
+at_rest_by server after (inr a) = ap (λ (s : ServerValue ReplicaValue). at_rest server s) a.2.same
 
 module _ (May : Network) (Metered tells : Type 0) (unforged : Unforged May) where
   module _ (old new : Cluster) (w : IsSound old) where
@@ -272,7 +270,7 @@ module _ (May : Network) (Metered tells : Type 0) (unforged : Unforged May) wher
               (after_turn tells (Says Metered) a.turn.given 64 old.sent n a.server a.after kept a.turn.hands_on a.alive)));
         }
 
-    -- an idle turn, or the answer to a probe
+    -- an idle turn, or what is done beside the protocol
     idles : Idles tells old new → IsSound new
     idles a =
         let replica : a.after.replica ≡ a.server.replica = ap (λ (s : ServerValue ReplicaValue). s.replica) (at_rest_by a.server a.after a.idle) in

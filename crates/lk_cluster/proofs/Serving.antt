@@ -1,6 +1,6 @@
 -- A node that serves continues its cluster.
-use Rattle.std.proofs.Common.{◌≡◌, ℕ, true, Option, List, [], ◌++◌, ap, sym, ◌∙◌, subst, subst₂, append-nil}
-use Rattle.lk_disk.specs.Disk.{Disk}
+use Rattle.std.proofs.Common.{◌≡◌, ℕ, true, Option, None, List, [], ◌++◌, ap, sym, ◌∙◌, subst, subst₂, append-nil}
+use Rattle.lk_disk.specs.Disk.{Disk, kept_by}
 use Rattle.lk_disk.specs.Memory.{Memory, disk_of}
 use Rattle.lk_disk.specs.declared.device.Side.{Side}
 use Rattle.lk_locks.specs.Meaning.{table_meaning}
@@ -16,13 +16,13 @@ use Rattle.lk_server.specs.Servers.{ServerValue, LastTurn}
 use Rattle.lk_transport.specs.declared.fault.ServiceFault.{ServiceFault}
 use Rattle.lk_transport.specs.Chains.{Chain}
 use Rattle.lk_service.specs.Revivals.{IsBegun as IsTakenUp, IsRefusedWith, StaysDown}
-use Rattle.lk_service.specs.Turns.{TakesTurn, Serves, EndsEarly}
+use Rattle.lk_service.specs.Turns.{TakesTurn, LeavesOff, Serves, EndsEarly, LeavesEarly, letters_in}
 use Rattle.lk_sim.specs.Networks.{RestsBy}
 use Rattle.lk_seats.specs.declared.seat.Life.TheVariants.{Up, Down}
 use Rattle.lk_sim.proofs.Networks.{at_set_here}
 use Rattle.lk_cluster.specs.Clusters.{Cluster, Network, Says, IsBegun, server_disks, IsReachable}
 use Rattle.lk_cluster.specs.Continuing.{node_of, HasNode, Continues, letters_of, MayAllCome}
-use Rattle.lk_cluster.proofs.Continuing.{continued, start_comes, refused_start_continues, turns_continue, last_turn_continues, joined_continues, has_node, twice}
+use Rattle.lk_cluster.proofs.Continuing.{continued, start_comes, refused_start_continues, turns_continue, one_turn_continues, last_turn_continues, stop_continues, joined_continues, has_node, twice}
 use Rattle.lk_cluster.proofs.Keeping.{Unforged}
 use Rattle.lk_cluster.proofs.Saying.{last_so}
 
@@ -96,3 +96,24 @@ module _ (May : Network) (Metered tells : Type 0) (unforged : Unforged May) (Hon
       let may_last : May c.cluster.genesis c.cluster.sent b.last b.ends.came = subst₂ (λ (g : Genesis) (l : List Datagram). May g l b.last b.ends.came) (sym c.began) (sym c.sent) last_may in
       joined_continues May Metered tells unforged genesis cluster place n (Up b.last) (Down left) said b.ends.turn.hands_on.letters c
       (last_turn_continues May Metered tells unforged genesis c.cluster c.reachable place n b.last served.ended (has_node May Metered tells unforged genesis cluster place n (Down device) (Up b.last) said at c) b.ends.came may_last turn ended left same_left)
+
+  -- it is taken up, takes turns, and one more after which it ends, since it has followed a node of another genesis
+  pub left_service_continues : Honest → (genesis : Genesis) (cluster : Cluster) → IsReachable May Metered tells genesis cluster → (place n most : ℕ) (device : Memory) → HasNode cluster place n (Down device)
+      → (old : Side → Disk) → ((s : Side) → disk_of device s ≡ old s) → (seals : Seals) (served : LeavesEarly (IsOf cluster n old) (header_of cluster.genesis n) seals S tells most)
+      → (let turns = letters_of S tells served.begun served.leaves.turns.states served.leaves.last served.leaves.turns.chain in
+      MayAllCome S tells May cluster.genesis n cluster.sent served.begun served.leaves.turns.states served.leaves.last served.leaves.turns.chain
+      → May cluster.genesis (cluster.sent ++ batch_of n turns) served.leaves.last served.leaves.leave.came
+      → (left : Memory) → ((s : Side) → (k : ℕ) × (disk_of left s ≡ kept_by k (server_disks served.ended s)))
+      → Continues May Metered tells genesis cluster place n (Down left) (turns ++ letters_in S tells served.leaves.leave.turn))
+  left_service_continues honest genesis cluster all place n most device at old same seals served may last_may left kept =
+      let b = served.leaves in
+      let said = letters_of S tells served.begun b.turns.states b.last b.turns.chain in
+      let last_said = letters_in S tells b.leave.turn in
+      let c = turns_after_start honest genesis cluster all place n device at old same served.begun served.begins b.turns.states b.last b.turns.chain may in
+      let may_last : May c.cluster.genesis c.cluster.sent b.last b.leave.came = subst₂ (λ (g : Genesis) (l : List Datagram). May g l b.last b.leave.came) (sym c.began) (sym c.sent) last_may in
+      let here = has_node May Metered tells unforged genesis cluster place n (Down device) (Up b.last) said at c in
+      let d = one_turn_continues May Metered tells unforged S so None LeavesOff genesis c.cluster c.reachable place n b.last served.ended here b.leave may_last in
+      let e = joined_continues May Metered tells unforged genesis cluster place n (Up b.last) (Up served.ended) said last_said c d in
+      let there = has_node May Metered tells unforged genesis cluster place n (Down device) (Up served.ended) (said ++ last_said) at e in
+      subst (λ (l : List LetterValue). Continues May Metered tells genesis cluster place n (Down left) l) (append-nil (said ++ last_said))
+      (joined_continues May Metered tells unforged genesis cluster place n (Up served.ended) (Down left) (said ++ last_said) [] e (stop_continues May Metered tells genesis e.cluster e.reachable place n served.ended there left kept))

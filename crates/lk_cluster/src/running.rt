@@ -4,7 +4,7 @@ ghost use Rattle.lk_types.specs.declared.genesis.Genesis.{Genesis as GenesisValu
 ghost use Rattle.lk_node.specs.Leavings.{header_of};
 ghost use Rattle.lk_service.specs.Turns.{AreSealsOf};
 ghost use Rattle.lk_cluster.specs.Clusters.{Cluster, IsReachable, ForgesNothing};
-ghost use Rattle.lk_cluster.specs.Running.{IsDownOn, ServesIn, EndsIn, RestsIn};
+ghost use Rattle.lk_cluster.specs.Running.{IsDownOn, ServesIn, EndsIn, LeavesIn, RestsIn};
 
 use lk_disk::LogDisk;
 use lk_events::line::Observer;
@@ -45,7 +45,8 @@ pub fn run<
     ensures broken { D.is_honest → result ≡ 1 → (genesis : GenesisValue) (cluster : Cluster) → IsReachable ForgesNothing D.is_metered S.is_telling genesis cluster
         → (place n : ℕ) → plan.now.header ≡ header_of cluster.genesis n → IsDownOn cluster place n (D.disk resources.device)
         → RestsIn D.is_metered S.is_telling D.is_honest ⟦<Replica<LockTable, D> as NodeReplica>⟧.Says genesis cluster place n (D.disk resources.device) resources.network.seals
-        ⊎ EndsIn D.is_metered S.is_telling D.is_honest ⟦<Replica<LockTable, D> as NodeReplica>⟧.Says genesis cluster place n (D.disk resources.device) resources.network.seals (2 ^ 48) }
+        ⊎ EndsIn D.is_metered S.is_telling D.is_honest ⟦<Replica<LockTable, D> as NodeReplica>⟧.Says genesis cluster place n (D.disk resources.device) resources.network.seals (2 ^ 48)
+        ⊎ LeavesIn D.is_metered S.is_telling D.is_honest ⟦<Replica<LockTable, D> as NodeReplica>⟧.Says genesis cluster place n (D.disk resources.device) resources.network.seals (2 ^ 48) }
     ensures status { result ≤ 1 }
 {
     run_node::<LockTable, D, S, C, L, O, E>(clock, alloc, plan, resources, log, observer, err)

@@ -30,12 +30,12 @@ IsNews story view (Left node members) = (members ≡ view.members) × (is_one_of
 IsNews story view (Wrote position) = (position ≡ view.snapshot) × (story.snapshot < position) × (view.installed ≡ None)
 IsNews story view (Installed position node) = view.installed ≡ Some (position, node)
 IsNews story view (Unsent node) = view.unsent ≡ Some node
+IsNews story view (OtherGenesis node) = view.stranger ≡ Some node
 IsNews story view Begun = ⊥
 IsNews story view (Found executed) = ⊥
 IsNews story view (Leaderless seconds) = ⊥
 IsNews story view (Behind node) = ⊥
 IsNews story view (CaughtUp executed) = ⊥
-IsNews story view (OtherGenesis node) = ⊥
 
 -- what is told once that is seen
 abbrev pub told_with : View → Story → Story

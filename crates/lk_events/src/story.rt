@@ -148,6 +148,15 @@ impl Story {
         Some(Event::Unsent(node))
     }
 
+    /// A node of another genesis that it heard.
+    pub fn stranger(&self, view: &View) -> Option<Event>
+        ensures some { IfSome result (IsNews self.now view.now) }
+        ensures none { IsNone result → view.now.stranger ≡ None }
+    {
+        let node = view.stranger?;
+        Some(Event::OtherGenesis(node))
+    }
+
     // This waits to be told then, if anything does.
     fn put_news(&self, now: u64, view: &View, event: Option<Event>, slots: &mut Slots)
         requires { IfSome event (IsNews self.now view.now) }
@@ -175,13 +184,14 @@ impl Story {
         self.put_news(now, view, self.left(view), slots);
     }
 
-    // What is news of its snapshots and of what it sent.
+    // What is news of its snapshots, of what it sent and of whom it heard.
     fn put_work(&self, now: u64, view: &View, slots: &mut Slots)
         ensures { PutsNews now self.now view.now slots.old.all slots.new.all }
     {
         self.put_news(now, view, self.wrote(view), slots);
         self.put_news(now, view, self.installed(view), slots);
         self.put_news(now, view, self.unsent(view), slots);
+        self.put_news(now, view, self.stranger(view), slots);
     }
 
     // What is news.

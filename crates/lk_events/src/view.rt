@@ -29,6 +29,8 @@ pub struct View {
     pub wanted: Option<NodeNo>,
     /// The last node to which a send failed.
     pub unsent: Option<NodeNo>,
+    /// The node of another genesis that it heard in the turn, if that is to be told.
+    pub stranger: Option<NodeNo>,
 }
 
 impl View {

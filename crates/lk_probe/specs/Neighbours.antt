@@ -116,6 +116,21 @@ other_of Same = None
 abbrev pub bound_by : Neighbour → Option Origin
 bound_by n = if n.binds then other_of n.knowledge else None
 
+-- so at an entry that is there
+abbrev pub bound_at : Option Neighbour → Option Origin
+bound_at None = None
+bound_at (Some n) = bound_by n
+
+-- the first of two, if one is there
+abbrev pub or_else : Option Origin → Option Origin → Option Origin
+or_else None other = other
+or_else (Some origin) other = Some origin
+
+-- the first node of another genesis that binds this one, if one does
+abbrev pub bound_in : Entries → Option Origin
+bound_in [] = None
+bound_in (e ∷ es) = or_else (bound_at e) (bound_in es)
+
 -- what is known once it tells this origin to a node of that genesis
 abbrev pub having_told : List ℕ → Origin → Knowledge
 having_told own told = if pointwise nat_eq told.genesis own then Same else Other told

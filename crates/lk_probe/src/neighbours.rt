@@ -3,7 +3,7 @@
 ghost use Rattle.std.specs.Prelude.{◌≡◌, ◌≤◌, ◌<◌, true, false, Some, length, is_some, slice_get, IfSome, IsNone};
 ghost use Rattle.std.specs.List.{list_any};
 ghost use Rattle.std.specs.declared.net.socket_addr.SocketAddr.{SocketAddr as Address};
-ghost use Rattle.lk_probe.specs.Neighbours.{Asks, Learns, Meets, bound_by, entry_for, having_asked, having_met, having_told, is_due, is_due_at, is_for, is_open, is_open_at, is_stranger, other_of, is_stranger_at};
+ghost use Rattle.lk_probe.specs.Neighbours.{Asks, Learns, Meets, bound_at, bound_by, bound_in, entry_for, having_asked, having_met, having_told, is_due, is_due_at, is_for, is_open, is_open_at, is_stranger, other_of, is_stranger_at};
 
 use crate::status::DIGEST;
 use lk_types::NodeNo;
@@ -169,6 +169,28 @@ impl Neighbour {
     }
 }
 
+/// The origin of the node of an entry, where it is of another genesis and binds this one.
+fn bound_at(entry: &Option<Neighbour>) -> Option<Origin>
+    ensures { result ≡ bound_at entry.now }
+{
+    match entry {
+        Some(neighbour) => neighbour.bound(),
+        None => None,
+    }
+}
+
+/// The first such origin of these entries.
+fn bound_in(entries: &[Option<Neighbour>]) -> Option<Origin>
+    ensures { result ≡ bound_in entries.now }
+{
+    for entry in entries {
+        if let Some(origin) = bound_at(entry) {
+            return Some(origin);
+        }
+    }
+    None
+}
+
 /// The index of an address' entry, or of the first free one, or the number of the entries.
 fn entry_for(place: SocketAddr, entries: &[Option<Neighbour>]) -> usize
     ensures is { result ≡ entry_for place entries.now }
@@ -284,5 +306,12 @@ impl Neighbours {
         ensures { is_some result ≡ is_stranger self.now place }
     {
         stranger_in(place, &self.entries)
+    }
+
+    /// The first node of another genesis that binds this one, if one does.
+    pub fn bound(&self) -> Option<Origin>
+        ensures { result ≡ bound_in self.now }
+    {
+        bound_in(&self.entries)
     }
 }

@@ -2,6 +2,7 @@ mod Free
 mod Probed
 mod Asking
 mod Carrying
+mod Acting
 mod Sayings
 mod Gatherings
 mod Turning

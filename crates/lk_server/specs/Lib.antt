@@ -2,6 +2,7 @@ pub mod Paces
 pub mod Servers
 pub mod Gatherings
 pub mod Probes
+pub mod Beside
 pub mod Statuses
 pub mod Sayings
 pub mod Premises

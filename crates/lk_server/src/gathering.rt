@@ -77,6 +77,7 @@ impl<R: NodeReplica, S: DatagramSocket + Drop> Server<R, S> {
     {
         let came = self.post.hear(self.cluster, bytes, from);
         self.ignored.count(&came, log);
+        self.note_stranger(&came, from, log);
         came
     }
 
@@ -204,7 +205,9 @@ impl<R: NodeReplica, S: DatagramSocket + Drop> Server<R, S> {
         let datagram = self.post.open(frame);
         if is_beside(datagram) {
             let asked = self.post.asked(from, frame, datagram);
+            let reported = self.post.reported(from, datagram);
             buffer.keep(asked);
+            buffer.keep_report(reported);
             return Ok(Found::Beside);
         }
         let came = self.hear(datagram, from, log);

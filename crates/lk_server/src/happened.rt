@@ -12,6 +12,8 @@ pub struct Happened {
     pub installed: Option<(Executed, NodeNo)>,
     /// What became of what it sent.
     pub carried: Carried,
+    /// The node of another genesis that it heard, if that is to be told.
+    pub stranger: Option<NodeNo>,
 }
 
 impl Happened {
@@ -19,6 +21,7 @@ impl Happened {
     pub const NOTHING: Happened = Happened {
         installed: None,
         carried: Carried::NOTHING,
+        stranger: None,
     };
 
     /// Notes what has changed by what came.

@@ -8,6 +8,7 @@ pub mod happened;
 pub mod ignored;
 pub mod laws;
 pub mod metronome;
+mod neighbourhood;
 pub mod node_replica;
 pub mod notes;
 pub mod pace;

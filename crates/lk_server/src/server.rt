@@ -52,6 +52,8 @@ pub struct Server<R: NodeReplica, S: DatagramSocket + Drop> {
     pub(crate) unsent: u64,
     // what it knows of the version of the lock table
     pub(crate) table: TableVersion,
+    // at which count of ticks it told last that it hears a node of another genesis
+    pub(crate) stranger_told: Option<u64>,
 }
 
 impl<R: NodeReplica, S: DatagramSocket + Drop> Model for Server<R, S> {
@@ -97,6 +99,7 @@ impl<R: NodeReplica, S: DatagramSocket + Drop> Server<R, S> {
             ticks: 0,
             unsent: 0,
             table: TableVersion::Unread,
+            stranger_told: None,
         }
     }
 
@@ -139,6 +142,7 @@ impl<R: NodeReplica, S: DatagramSocket + Drop> Server<R, S> {
             ticks: _,
             unsent: _,
             table: _,
+            stranger_told: _,
         } = self;
         replica
     }

@@ -5,7 +5,7 @@ use crate::replica_status::ReplicaStatus;
 use lk_transport::arrival::Arrival;
 use lk_transport::post::Carried;
 use lk_types::{NodeNo, Port, RealBallot};
-use log::{Log, debug};
+use log::{Log, debug, warn};
 use std::io;
 
 /// Logs how a node started: whether its store is new, and what it holds.
@@ -23,6 +23,11 @@ pub fn log_start<L: Log>(log: &L, is_new: bool, status: &ReplicaStatus) {
 /// Logs the port at which a node listens.
 pub fn log_port<L: Log>(log: &L, port: Port) {
     log_number(log, "port", u64::from(port.get()));
+}
+
+/// Warns that a node hears one of another genesis.
+pub fn log_stranger<L: Log>(log: &L, node: NodeNo) {
+    warn!(log; "hears node {} of another genesis", node.get());
 }
 
 /// Logs a named number.

@@ -1,5 +1,5 @@
 -- The turns of a server, one after another, and one more.
-use Rattle.std.proofs.Common.{◌≡◌, ◌+◌, ◌<◌, ℕ, List, Option, None, Result, Ok, Err, refl, ap, subst, sym}
+use Rattle.std.proofs.Common.{◌≡◌, ◌∙◌, ◌⊎◌, ◌<◌, ℕ, List, Option, Result, Ok, Err, inl, inr, refl, subst, sym}
 use Rattle.std.specs.declared.net.socket_addr.SocketAddr.{SocketAddr}
 use Rattle.std.specs.Prelude.{OnErr, IfErr, IsErrAnd}
 use Rattle.lk_disk.specs.Disk.{Disk}
@@ -9,16 +9,18 @@ use Rattle.lk_state.specs.Meanings.{Meaning}
 use Rattle.lk_step.specs.Letters.{LetterValue}
 use Rattle.lk_replica.specs.ReplicaValue.{ReplicaValue}
 use Rattle.lk_recovery.specs.Revivals.{IsRefusedFor}
-use Rattle.lk_transport.specs.Addresses.{AddressBook, IsSameNetwork}
+use Rattle.lk_probe.specs.declared.reported.Reported.{Reported}
+use Rattle.lk_transport.specs.Addresses.{IsSameNetwork}
+use Rattle.lk_transport.specs.Askers.{KeepsFirstOf}
 use Rattle.lk_transport.specs.Posts.{all_taken_as}
 use Rattle.lk_server.specs.Sayings.{SaysOf}
-use Rattle.lk_server.specs.Probes.{IsShown, AnswersKept}
+use Rattle.lk_server.specs.Beside.{ActsBeside}
+use Rattle.lk_server.specs.Probes.{IsShown}
 use Rattle.lk_server.specs.Servers.{ServerValue, HasReceived, TakesTurn as ServerTurn, LastTurn}
-use Rattle.lk_transport.specs.Askers.{KeepsFirstOf}
 use Rattle.lk_transport.specs.declared.asked.Asked.{Asked}
 use Rattle.lk_transport.specs.Chains.{Repeats}
 use Rattle.lk_service.specs.Revivals.{StaysDown}
-use Rattle.lk_service.specs.Turns.{TakesTurn, TakesTurnWith, BreaksOff, TellsFailure}
+use Rattle.lk_service.specs.Turns.{TakesTurn, TakesTurnWith, TakesLeave, EndsTurn, BreaksOff, Leaves, TellsFailure}
 
 -- what a replica on a device says, where that is honest
 abbrev pub SaysOn : Type 0 → Type 0 → Meaning → (List ℕ → Type 0) → ReplicaValue → List (Option (List ℕ)) → List LetterValue → ReplicaValue → Type 0
@@ -29,23 +31,22 @@ pub on_err : {T E P : Type 0} (r : Result T E) → P → OnErr r P
 on_err (Ok x) p = tt
 on_err (Err e) p = p
 
-module _ {Says : ReplicaValue → List (Option (List ℕ)) → List LetterValue → ReplicaValue → Type 0} {tells : Type 0} {count : ℕ} {first last new : ServerValue ReplicaValue} (frames : List (SocketAddr × List ℕ)) where
-  -- one ended the replica
-  pub turns_end : (most : ℕ) → count < most → Repeats (TakesTurn Says tells) count first last → HasReceived tells frames last new → LastTurn Says tells (all_taken_as last.addresses.seals frames) last new → IsSameNetwork last.addresses new.addresses → TellsFailure new
-      → BreaksOff Says tells most first new
-  turns_end most fewer so_far received turn network failure = record {
-    count = count;
-    fewer = fewer;
-    last = last;
-    turns = so_far;
-    ends = record { frames = frames; came = all_taken_as last.addresses.seals frames; opened = refl; received = received; turn = turn; network = network; failure = failure };
-  }
+module _ {Says : ReplicaValue → List (Option (List ℕ)) → List LetterValue → ReplicaValue → Type 0} {tells : Type 0} {count : ℕ} {first last new : ServerValue ReplicaValue} where
+  -- one ended the replica, or was the last
+  pub turns_end : (most : ℕ) → count < most → Repeats (TakesTurn Says tells) count first last → EndsTurn Says tells last new ⊎ TakesLeave Says tells last new → BreaksOff Says tells most first new ⊎ Leaves Says tells most first new
+  turns_end most fewer so_far (inl ends) = inl (record { count = count; fewer = fewer; last = last; turns = so_far; ends = ends })
+  turns_end most fewer so_far (inr leave) = inr (record { count = count; fewer = fewer; last = last; turns = so_far; leave = leave })
 
--- a turn, and after it the answer to the probe that is kept then
-pub turn_taken : {Says : ReplicaValue → List (Option (List ℕ)) → List LetterValue → ReplicaValue → Type 0} {tells : Type 0} (frames : List (SocketAddr × List ℕ)) (kept asked : Option Asked) (old mid new : ServerValue ReplicaValue)
-    → HasReceived tells frames old mid → ServerTurn Says tells frames old mid → KeepsFirstOf old.addresses.seals kept frames asked → AnswersKept IsShown tells asked mid new → new ≡ record mid { sent = new.sent; socket_failures = new.socket_failures; coming = new.coming }
-    → IsSameNetwork old.addresses mid.addresses → TellsFailure new → TakesTurnWith Says tells kept old new
-turn_taken frames kept asked old mid new received turn first answers others network failure = record {
+-- a turn that ended the replica
+pub turn_ended : {Says : ReplicaValue → List (Option (List ℕ)) → List LetterValue → ReplicaValue → Type 0} {tells : Type 0} (frames : List (SocketAddr × List ℕ)) (old new : ServerValue ReplicaValue)
+    → HasReceived tells frames old new → LastTurn Says tells (all_taken_as old.addresses.seals frames) old new → IsSameNetwork old.addresses new.addresses → TellsFailure new → EndsTurn Says tells old new
+turn_ended frames old new received turn network failure = record { frames = frames; came = all_taken_as old.addresses.seals frames; opened = refl; received = received; turn = turn; network = network; failure = failure }
+
+-- a turn, and what the server does beside the protocol after it
+pub turn_taken : {Says : ReplicaValue → List (Option (List ℕ)) → List LetterValue → ReplicaValue → Type 0} {tells : Type 0} (kept : Option Asked) (After : ServerValue ReplicaValue → Type 0) (frames : List (SocketAddr × List ℕ)) (asked : Option Asked) (reported : Option Reported)
+    (old mid new : ServerValue ReplicaValue) → HasReceived tells frames old mid → ServerTurn Says tells frames old mid → KeepsFirstOf old.addresses.seals kept frames asked → ActsBeside IsShown tells asked reported mid new
+    → IsSameNetwork old.addresses mid.addresses → TellsFailure new → After new → TakesTurnWith Says tells kept After old new
+turn_taken kept After frames asked reported old mid new received turn first acts network failure becomes = record {
   frames = frames;
   came = all_taken_as old.addresses.seals frames;
   opened = refl;
@@ -54,15 +55,17 @@ turn_taken frames kept asked old mid new received turn first answers others netw
   turn = turn;
   asked = asked;
   first = first;
-  answers = answers;
-  network = subst (λ (b : AddressBook). IsSameNetwork old.addresses b) (sym (ap (λ (s : ServerValue ReplicaValue). s.addresses) others)) network;
+  reported = reported;
+  acts = acts;
+  network = (acts.network.0 ∙ network.0, acts.network.1 ∙ network.1);
   failure = failure;
+  becomes = becomes;
 }
 
--- no probe was kept before it
-pub with_none : {Says : ReplicaValue → List (Option (List ℕ)) → List LetterValue → ReplicaValue → Type 0} {tells : Type 0} {kept : Option Asked} {old new : ServerValue ReplicaValue} → kept ≡ None → TakesTurnWith Says tells kept old new
-    → TakesTurn Says tells old new
-with_none {Says = Says} {tells = tells} {old = old} {new = new} none turn = subst (λ (k : Option Asked). TakesTurnWith Says tells k old new) none turn
+-- what stands of a refusal stands beside what an error may be
+pub or_later : {T E A B : Type 0} (P : E → Type 0) (r : Result T E) → (A → B) → OnErr r A → IfErr r (λ e. P e ⊎ B)
+or_later P (Ok x) f a = tt
+or_later P (Err e) f a = inr (f a)
 
 -- what follows of what stands after a refusal
 pub on_err_weaker : {T E P Q : Type 0} (r : Result T E) → (P → Q) → OnErr r P → OnErr r Q

@@ -1,14 +1,17 @@
 -- The turns of a server, one after another.
 use Rattle.std.proofs.Common.{inl, inr}
-use Rattle.std.specs.Prelude.{◌≡◌, ◌⊎◌, ◌<◌, ℕ, List, [], Option, None}
+use Rattle.std.specs.Prelude.{◌≡◌, ◌⊎◌, ◌<◌, ℕ, List, [], Option, None, IsSome}
 use Rattle.std.specs.declared.net.socket_addr.SocketAddr.{SocketAddr}
 use Rattle.lk_entries.specs.Values.{HeaderValue}
 use Rattle.lk_step.specs.Letters.{LetterValue}
 use Rattle.lk_replica.specs.ReplicaValue.{ReplicaValue}
+use Rattle.lk_probe.specs.Neighbours.{bound_in}
+use Rattle.lk_probe.specs.declared.reported.Reported.{Reported}
 use Rattle.lk_seal.specs.declared.seals.Seals.{Seals}
 use Rattle.lk_transport.specs.Addresses.{IsSameNetwork}
 use Rattle.lk_transport.specs.Posts.{all_taken_as}
-use Rattle.lk_server.specs.Probes.{IsShown, AnswersKept}
+use Rattle.lk_server.specs.Beside.{ActsBeside}
+use Rattle.lk_server.specs.Probes.{IsShown}
 use Rattle.lk_server.specs.Servers.{ServerValue, HasReceived, Turn, LastTurn, IsIdle}
 use Rattle.lk_transport.specs.Askers.{KeepsFirstOf}
 use Rattle.lk_transport.specs.declared.asked.Asked.{Asked}
@@ -19,14 +22,23 @@ use Rattle.lk_service.specs.Digests.{genesis_digest}
 abbrev pub TellsFailure : ServerValue ReplicaValue → Type 0
 TellsFailure s = s.failed ≡ s.replica.failed
 
+-- it goes on after a turn: it has followed no node of another genesis
+abbrev pub GoesOn : ServerValue ReplicaValue → Type 0
+GoesOn s = bound_in s.addresses.neighbours ≡ None
+
+-- it ends there, since it has
+abbrev pub LeavesOff : ServerValue ReplicaValue → Type 0
+LeavesOff s = IsSome (bound_in s.addresses.neighbours)
+
 -- `Says` relates a replica's input to its letters, and `tells` says that the socket reveals what it sends and what
 -- arrives
 module _ (Says : ReplicaValue → List (Option (List ℕ)) → List LetterValue → ReplicaValue → Type 0) (tells : Type 0) where
   -- a turn: the replica was given the first letters of the node to itself as one group, or where none waited what was
   -- taken of the frames that came, and a tick where one was due, and goes on; or it is idle, and given nothing. After
-  -- that the probe that was kept from before is answered, or else the first in those frames, and nothing else is sent.
-  -- Where nodes live, and the keys, are the same
-  pub record TakesTurnWith (kept : Option Asked) (old new : ServerValue ReplicaValue) : Type 0 where
+  -- that the probe that was kept from before is answered, or else the first in those frames, what a report tells is
+  -- learned, one question is sent where one is due, and nothing else is sent. Where nodes live, and the keys, are the
+  -- same. `After` holds of the server then
+  pub record TakesTurnWith (kept : Option Asked) (After : ServerValue ReplicaValue → Type 0) (old new : ServerValue ReplicaValue) : Type 0 where
     pub frames : List (SocketAddr × List ℕ)
     pub came : List (SocketAddr × List ℕ)
     pub opened : came ≡ all_taken_as old.addresses.seals frames
@@ -35,13 +47,20 @@ module _ (Says : ReplicaValue → List (Option (List ℕ)) → List LetterValue 
     pub turn : Turn Says tells came old mid ⊎ IsIdle tells frames old mid
     pub asked : Option Asked
     pub first : KeepsFirstOf old.addresses.seals kept frames asked
-    pub answers : AnswersKept IsShown tells asked mid new
+    pub reported : Option Reported
+    pub acts : ActsBeside IsShown tells asked reported mid new
     pub network : IsSameNetwork old.addresses new.addresses
     pub failure : TellsFailure new
+    pub becomes : After new
 
-  -- a turn before which no probe was kept: the first in the frames that came is answered
+  -- a turn before which no probe was kept, so that the first in the frames that came is answered, and after which it goes
+  -- on
   abbrev pub TakesTurn : ServerValue ReplicaValue → ServerValue ReplicaValue → Type 0
-  TakesTurn = TakesTurnWith None
+  TakesTurn = TakesTurnWith None GoesOn
+
+  -- such a turn after which it ends, since it has followed a node of another genesis
+  abbrev pub TakesLeave : ServerValue ReplicaValue → ServerValue ReplicaValue → Type 0
+  TakesLeave = TakesTurnWith None LeavesOff
 
   -- a turn that ended the replica
   pub record EndsTurn (old new : ServerValue ReplicaValue) : Type 0 where
@@ -65,6 +84,14 @@ module _ (Says : ReplicaValue → List (Option (List ℕ)) → List LetterValue 
     pub last : ServerValue ReplicaValue
     pub turns : Repeats TakesTurn count old last
     pub ends : EndsTurn last new
+
+  -- it took fewer turns than this, and then one after which it ended, since it had followed a node of another genesis
+  pub record Leaves (most : ℕ) (old new : ServerValue ReplicaValue) : Type 0 where
+    pub count : ℕ
+    pub fewer : count < most
+    pub last : ServerValue ReplicaValue
+    pub turns : Repeats TakesTurn count old last
+    pub leave : TakesLeave last new
 
 -- they are the seals of the node of this header, in its cluster, for its genesis
 pub record AreSealsOf (header : HeaderValue) (s : Seals) : Type 0 where
@@ -94,3 +121,11 @@ module _ (Begins : ServerValue ReplicaValue → Type 0) (header : HeaderValue) (
     pub sealed : HasSeals header seals begun
     pub ended : ServerValue ReplicaValue
     pub breaks : BreaksOff Says tells most begun ended
+
+  -- it did, and has taken fewer, and then one after which it ended, since it had followed a node of another genesis
+  pub record LeavesEarly (most : ℕ) : Type 0 where
+    pub begun : ServerValue ReplicaValue
+    pub begins : Begins begun
+    pub sealed : HasSeals header seals begun
+    pub ended : ServerValue ReplicaValue
+    pub leaves : Leaves Says tells most begun ended

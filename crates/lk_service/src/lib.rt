@@ -1,6 +1,7 @@
 //! The service over files and sockets: what the program does besides scripts.
 #![tactic(auto)]
 
+mod another_genesis;
 pub mod client_key;
 pub mod command_words;
 pub mod demo;

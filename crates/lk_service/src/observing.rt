@@ -48,6 +48,7 @@ fn view_of<M: Machine>(node: &Node<M>, happened: &Happened) -> View {
         members,
         wanted: happened.carried.wanted,
         unsent: happened.carried.unsent,
+        stranger: happened.stranger,
     }
 }
 

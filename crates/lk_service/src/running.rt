@@ -1,17 +1,17 @@
 //! A node: its start from a device, and its turns.
 
-ghost use Rattle.std.specs.Prelude.{◌≡◌, ◌≤◌, ◌^◌, ◌⊎◌, ℕ, List, None, IfOk, IfErr, OnOk, OnErr};
-ghost use Rattle.std.specs.declared.net.socket_addr.SocketAddr.{SocketAddr as Address};
+ghost use Rattle.std.specs.Prelude.{◌≡◌, ◌≤◌, ◌^◌, ◌⊎◌, ℕ, None, IfOk, IfErr, OnOk, OnErr};
 ghost use Rattle.lk_recovery.specs.Faults.{fault_number};
 ghost use Rattle.lk_replica.specs.ReplicaValue.{ReplicaValue};
 ghost use Rattle.lk_replica.specs.Revived.{MayGoOn};
-ghost use Rattle.lk_transport.specs.Addresses.{IsSameNetwork};
-ghost use Rattle.lk_transport.specs.Posts.{all_taken_as};
-ghost use Rattle.lk_server.specs.Servers.{ServerValue, HasReceived, ServesOn, LastTurn};
+ghost use Rattle.lk_server.specs.Beside.{ActsBeside};
+ghost use Rattle.lk_server.specs.Probes.{IsShown};
+ghost use Rattle.lk_server.specs.Servers.{ServerValue, ServesOn};
 ghost use Rattle.lk_transport.specs.Chains.{Repeats};
 ghost use Rattle.lk_service.specs.Revivals.{ComesUp, IsBegun, IsNotTakenUp, IsRefusedWith};
-ghost use Rattle.lk_service.specs.Turns.{TakesTurn, TakesTurnWith, BreaksOff, AreSealsOf, Serves, EndsEarly, TellsFailure};
+ghost use Rattle.lk_service.specs.Turns.{TakesTurn, TakesTurnWith, GoesOn, LeavesOff, EndsTurn, BreaksOff, Leaves, AreSealsOf, Serves, EndsEarly, LeavesEarly, TellsFailure};
 
+use crate::another_genesis::tell_another;
 use crate::observing::{observe_start, observe_turn};
 use crate::resources::{NodePlan, Resources};
 use lk_disk::LogDisk;
@@ -129,6 +129,31 @@ fn revive_plan<
     }
 }
 
+/// Ends a turn: acts beside the protocol, and tells an observer of the turn. Where the node has followed one of another
+/// genesis a line tells so.
+fn end_turn<M: Machine, D: LogDisk + Drop, S: DatagramSocket + Drop, L: Log, O: Observer, E: Write>(
+    server: &mut NodeServer<M, D, S>,
+    buffer: &mut ReceiveBuffer,
+    log: &L,
+    observer: &mut O,
+    err: &mut E,
+) -> Result<(), ServiceFault>
+    ensures acts { ActsBeside IsShown S.is_telling buffer.old.asked buffer.old.reported server.old server.new }
+    ensures goes_on { OnOk result (GoesOn server.new) }
+    ensures leaves { OnErr result (LeavesOff server.new) }
+    ensures spent { buffer.new.asked ≡ None }
+    ensures failure { TellsFailure server.new }
+    ensures passes { IfErr result (λ f. f ≡ ServiceFault.Send → ⊥) }
+{
+    let leader = server.act_beside(buffer, log);
+    let _ = server.replica();
+    observe_turn(server, observer);
+    match leader {
+        None => Ok(()),
+        Some(leader) => Err(tell_another(&server.origin(), &leader, err)),
+    }
+}
+
 /// Takes one turn, of which an observer is told. Where the device failed a line tells why.
 fn take_turn<
     M: Machine,
@@ -149,23 +174,17 @@ fn take_turn<
 ) -> Result<(), ServiceFault>
     // Its replica was given as one group just what it wrote to itself, or what was taken of what came, and a tick
     // where one was due. Of the letters that it said it keeps none but those of the node to itself, after the ones
-    // that wait. After that the probe that was kept, or else the first of those that came, is answered.
-    ensures turn { OnOk result (TakesTurnWith ⟦<Replica<M, D> as NodeReplica>⟧.Says S.is_telling buffer.old.asked server.old server.new) }
+    // that wait. After that the probe that was kept, or else the first of those that came, is answered, and a node is
+    // asked where that is due. No node of another genesis has led it.
+    ensures turn { OnOk result (TakesTurnWith ⟦<Replica<M, D> as NodeReplica>⟧.Says S.is_telling buffer.old.asked GoesOn server.old server.new) }
     ensures spent { OnOk result (buffer.new.asked ≡ None) }
-    // After a refused turn nothing is sent, and no probe is answered.
-    ensures ends { OnErr result ((frames : List (Address × List ℕ)) × HasReceived S.is_telling frames server.old server.new × LastTurn ⟦<Replica<M, D> as NodeReplica>⟧.Says S.is_telling (all_taken_as server.old.addresses.seals frames) server.old server.new) }
-    // Where nodes live and the keys do not change.
-    ensures network { IsSameNetwork server.old.addresses server.new.addresses }
-    ensures failure { TellsFailure server.new }
+    // The turn ended the replica, and after that nothing is sent and no probe is answered; or it is such a turn, and a
+    // node of another genesis has led the node.
+    ensures ends { OnErr result (EndsTurn ⟦<Replica<M, D> as NodeReplica>⟧.Says S.is_telling server.old server.new ⊎ TakesTurnWith ⟦<Replica<M, D> as NodeReplica>⟧.Says S.is_telling buffer.old.asked LeavesOff server.old server.new) }
     ensures passes { IfErr result (λ f. f ≡ ServiceFault.Send → ⊥) }
 {
     match node_turn(server, buffer, metronome, log) {
-        Ok(()) => {
-            server.answer(buffer);
-            let _ = server.replica();
-            observe_turn(server, observer);
-            Ok(())
-        }
+        Ok(()) => end_turn(server, buffer, log, observer, err),
         Err(fault) => Err(tell_device(fault, server.replica().device(), folder, err)),
     }
 }
@@ -189,8 +208,9 @@ fn take_turns<
 ) -> Result<(), ServiceFault>
     // At Ok it has taken exactly this many turns, one after another.
     ensures ok { OnOk result (Repeats (TakesTurn ⟦<Replica<M, D> as NodeReplica>⟧.Says S.is_telling) (2 ^ 48) server.old server.new) }
-    // At an error it has taken fewer, and then one that ended the replica.
-    ensures err { OnErr result (BreaksOff ⟦<Replica<M, D> as NodeReplica>⟧.Says S.is_telling (2 ^ 48) server.old server.new) }
+    // At an error it has taken fewer, and then one that ended the replica, or after which a node of another genesis had
+    // led the node.
+    ensures err { OnErr result (BreaksOff ⟦<Replica<M, D> as NodeReplica>⟧.Says S.is_telling (2 ^ 48) server.old server.new ⊎ Leaves ⟦<Replica<M, D> as NodeReplica>⟧.Says S.is_telling (2 ^ 48) server.old server.new) }
     ensures passes { IfErr result (λ f. f ≡ ServiceFault.Send → ⊥) }
 {
     let mut buffer = ReceiveBuffer::new();
@@ -228,7 +248,7 @@ fn serve_turns<
     err: &mut E,
 ) -> Result<(), ServiceFault>
     ensures ok { OnOk result ((ended : ServerValue ReplicaValue) × Repeats (TakesTurn ⟦<Replica<M, D> as NodeReplica>⟧.Says S.is_telling) (2 ^ 48) server ended) }
-    ensures err { OnErr result ((ended : ServerValue ReplicaValue) × BreaksOff ⟦<Replica<M, D> as NodeReplica>⟧.Says S.is_telling (2 ^ 48) server ended) }
+    ensures err { OnErr result ((ended : ServerValue ReplicaValue) × (BreaksOff ⟦<Replica<M, D> as NodeReplica>⟧.Says S.is_telling (2 ^ 48) server ended ⊎ Leaves ⟦<Replica<M, D> as NodeReplica>⟧.Says S.is_telling (2 ^ 48) server ended)) }
 {
     let mut server = server;
     log_port(log, plan.port);
@@ -257,7 +277,8 @@ fn serve<
     requires { AreSealsOf plan.now.header resources.network.seals }
     ensures ok { OnOk result (Serves (IsBegun M.meaning D.is_honest (D.disk resources.device) plan.now.header) plan.now.header resources.network.seals ⟦<Replica<M, D> as NodeReplica>⟧.Says S.is_telling (2 ^ 48)) }
     ensures err { IfErr result (λ f. IsRefusedWith M.meaning M.IsText D.is_honest (D.disk resources.device) plan.now.header f
-        ⊎ EndsEarly (IsBegun M.meaning D.is_honest (D.disk resources.device) plan.now.header) plan.now.header resources.network.seals ⟦<Replica<M, D> as NodeReplica>⟧.Says S.is_telling (2 ^ 48)) }
+        ⊎ EndsEarly (IsBegun M.meaning D.is_honest (D.disk resources.device) plan.now.header) plan.now.header resources.network.seals ⟦<Replica<M, D> as NodeReplica>⟧.Says S.is_telling (2 ^ 48)
+        ⊎ LeavesEarly (IsBegun M.meaning D.is_honest (D.disk resources.device) plan.now.header) plan.now.header resources.network.seals ⟦<Replica<M, D> as NodeReplica>⟧.Says S.is_telling (2 ^ 48)) }
 {
     let server = revive_plan::<M, D, S, L, E>(alloc, plan, resources, log, err)?;
     serve_turns(clock, server, plan, log, observer, err)
@@ -287,9 +308,11 @@ pub fn run_node<
     // At status 0 the server of the plan's node, with a replica restarted from what the device had, has taken this
     // many turns.
     ensures served { result ≡ 0 → Serves (IsBegun M.meaning D.is_honest (D.disk resources.device) plan.now.header) plan.now.header resources.network.seals ⟦<Replica<M, D> as NodeReplica>⟧.Says S.is_telling (2 ^ 48) }
-    // At status 1 it did not start, or it has taken fewer turns, and then one that ended its replica.
+    // At status 1 it did not start, or it has taken fewer turns, and then one that ended its replica, or after which a
+    // node of another genesis had led it.
     ensures broken { result ≡ 1 → ((f : ServiceFault) × IsRefusedWith M.meaning M.IsText D.is_honest (D.disk resources.device) plan.now.header f)
-        ⊎ EndsEarly (IsBegun M.meaning D.is_honest (D.disk resources.device) plan.now.header) plan.now.header resources.network.seals ⟦<Replica<M, D> as NodeReplica>⟧.Says S.is_telling (2 ^ 48) }
+        ⊎ EndsEarly (IsBegun M.meaning D.is_honest (D.disk resources.device) plan.now.header) plan.now.header resources.network.seals ⟦<Replica<M, D> as NodeReplica>⟧.Says S.is_telling (2 ^ 48)
+        ⊎ LeavesEarly (IsBegun M.meaning D.is_honest (D.disk resources.device) plan.now.header) plan.now.header resources.network.seals ⟦<Replica<M, D> as NodeReplica>⟧.Says S.is_telling (2 ^ 48) }
 {
     match serve::<M, D, S, C, L, O, E>(clock, alloc, plan, resources, log, observer, err) {
         Ok(()) => 0,

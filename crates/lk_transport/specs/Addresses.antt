@@ -1,15 +1,18 @@
--- The addresses of clients and nodes, and the keys that identify them.
+-- The addresses of clients and nodes, what is known of the nodes there, and the keys that identify them.
 use Rattle.std.specs.Prelude.{◌≡◌, ℕ, ◌+◌, ◌-◌, ◌==◌, Bool, false, List, [], ◌∷◌, ◌++◌, Option, Some, None, if◌then◌else◌, length, take, drop, min, slice_index_or}
 use Rattle.std.specs.declared.net.socket_addr.SocketAddr.{SocketAddr}
+use Rattle.lk_probe.specs.Neighbours.{Entries}
 use Rattle.lk_seal.specs.declared.seals.Seals.{Seals}
 use Rattle.lk_transport.specs.declared.hosts.Hosts.{Hosts}
 
--- an entry for each client, the entries of nodes that wrote, most recent first, where nodes live, and the keys
+-- an entry for each client, the entries of nodes that wrote, most recent first, where nodes live, the keys, and what is
+-- known of the genesis of the node at each address from which one wrote
 pub record AddressBook : Type 0 where
   pub clients : List (Option SocketAddr)
   pub nodes : List (Option (ℕ × SocketAddr))
   pub hosts : Hosts
   pub seals : Seals
+  pub neighbours : Entries
 
 -- the address of a client
 abbrev pub client_at : AddressBook → ℕ → Option SocketAddr

@@ -1,17 +1,25 @@
 -- What a receive buffer holds.
 use Rattle.std.specs.Prelude.{ℕ, List, [], ◌∷◌, take, Option, Some, None}
 use Rattle.std.specs.declared.net.socket_addr.SocketAddr.{SocketAddr}
+use Rattle.lk_probe.specs.declared.reported.Reported.{Reported}
 use Rattle.lk_transport.specs.declared.asked.Asked.{Asked}
 
--- the datagram that came last: from where, and its bytes; and the probe that is kept, if one is
+-- the datagram that came last: from where, and its bytes; the probe that is kept, if one is, and what the report tells
+-- that is kept, if one is
 pub record BufferValue : Type 0 where
   pub last : Option (SocketAddr × List ℕ)
   pub asked : Option Asked
+  pub reported : Option Reported
 
 -- the first of two probes, if there is one
 abbrev pub first_asked : Option Asked → Option Asked → Option Asked
 first_asked None next = next
 first_asked (Some a) next = Some a
+
+-- the first of two reports, if there is one
+abbrev pub first_reported : Option Reported → Option Reported → Option Reported
+first_reported None next = next
+first_reported (Some r) next = Some r
 
 -- the latest datagram, of this length and from this source: its source and its own bytes
 abbrev pub heard_in : List ℕ → Option (ℕ × SocketAddr) → Option (SocketAddr × List ℕ)

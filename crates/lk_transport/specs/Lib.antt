@@ -6,3 +6,4 @@ pub mod Posts
 pub mod Hearing
 pub mod Sockets
 pub mod Askers
+pub mod Inquiring

@@ -8,9 +8,12 @@ use Rattle.lk_wire.specs.Grammar.{Spells}
 use Rattle.lk_wire.specs.declared.message.Message.{Message}
 use Rattle.lk_wire.specs.declared.message.Content.{Content}
 use Rattle.lk_wire.specs.declared.message.Content.TheVariants as content
+use Rattle.lk_wire.specs.declared.message.NodeMessage.{NodeMessage}
+use Rattle.lk_wire.specs.declared.message.NodeMessage.TheVariants as message
 use Rattle.lk_step.specs.Letters.{LetterValue}
 use Rattle.lk_step.specs.declared.to.To.{To}
 use Rattle.lk_step.specs.declared.to.To.TheVariants.{Node, Client}
+use Rattle.lk_probe.specs.Neighbours.{Meets}
 use Rattle.lk_seal.specs.Clients.{client_keys}
 use Rattle.lk_seal.specs.Seals.{key_list, to_node, replying, framed_by, heard}
 use Rattle.lk_seal.specs.declared.seals.Seals.{Seals}
@@ -118,25 +121,42 @@ pub record CarriesLetter (tells : Type 0) (old : PostValue) (l : LetterValue) (i
   pub still : tells → new.coming ≡ old.coming
   pub becomes : Becomes tells old.node old.addresses (tray_of old) l is_sent (tray_of new)
 
+-- who takes it follows its sender: a Prepare, an Accept, a Decided or a Lead
+abbrev pub is_binding : NodeMessage → Bool
+is_binding (message.Prepare ballot first) = true
+is_binding (message.Promise p) = false
+is_binding (message.Accept vote) = true
+is_binding (message.Accepted vote) = false
+is_binding (message.Nack n) = false
+is_binding (message.Decided d) = true
+is_binding (message.Want w) = false
+is_binding (message.Part p) = false
+is_binding (message.Answer a) = false
+is_binding (message.Elsewhere e) = false
+is_binding (message.Passed p) = false
+is_binding (message.Lead ballot executed) = true
+
 -- that client's address replaces its last one, and no other address changes
 pub record HearsClient (client : ℕ) (from : SocketAddr) (old new : AddressBook) : Type 0 where
   pub own : client_at new client ≡ Some from
   pub others : (c : ℕ) → IsClient c → c ≢ client → client_at new c ≡ client_at old c
   pub nodes : new.nodes ≡ old.nodes
+  pub neighbours : new.neighbours ≡ old.neighbours
   pub network : IsSameNetwork old new
 
 -- that node's address replaces its last one, no other node's changes, except for the one that is dropped if all
--- entries are taken, and no client's does
-pub record HearsNode (node : ℕ) (from : SocketAddr) (old new : AddressBook) : Type 0 where
+-- entries are taken, and no client's does; a node has written from that address, and binds this one or not
+pub record HearsNode (node : ℕ) (from : SocketAddr) (binds : Bool) (old new : AddressBook) : Type 0 where
   pub own : node_at new node ≡ Some from
   pub places : new.nodes ≡ moved_up old.nodes node from
   pub clients : new.clients ≡ old.clients
+  pub meets : Meets from binds old.neighbours new.neighbours
   pub network : IsSameNetwork old new
 
 -- the address of the sender of this content is recorded
 abbrev pub HearsContent : Content → SocketAddr → AddressBook → AddressBook → Type 0
 HearsContent (content.Request r) from old new = HearsClient r.client from old new
-HearsContent (content.Node n m) from old new = HearsNode n from old new
+HearsContent (content.Node n m) from old new = HearsNode n from (is_binding m) old new
 
 -- the sender of a message of the cluster is recorded, and nothing else changes an address
 pub record Hears (cluster : ℕ) (bytes : List ℕ) (from : SocketAddr) (old new : AddressBook) : Type 0 where

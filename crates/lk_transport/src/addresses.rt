@@ -1,12 +1,15 @@
-//! The addresses of clients and nodes: where each last wrote from, where nodes live, and the keys that identify them.
+//! The addresses of clients and nodes: where each last wrote from, where nodes live, what is known of the nodes there,
+//! and the keys that identify them.
 
 ghost use Rattle.std.specs.Prelude.{◌≡◌, ◌≢◌, ℕ, Some, None, min};
 ghost use Rattle.lk_types.specs.Ranges.{IsClient};
+ghost use Rattle.lk_probe.specs.Neighbours.{Meets};
 ghost use Rattle.lk_transport.specs.Addresses.{client_at, node_at, node_in, place_in, moved_up, IsSameNetwork};
 ghost use Rattle.lk_transport.specs.Hosts.{host_of};
 
 use crate::hosts::Hosts;
 use crate::network::Network;
+use lk_probe::neighbours::Neighbours;
 use lk_seal::Seals;
 use lk_types::{ClientNo, NodeNo};
 use std::marker::Model;
@@ -26,6 +29,8 @@ pub struct Addresses {
     nodes: [Option<(NodeNo, SocketAddr)>; NODES],
     hosts: Hosts,
     seals: Seals,
+    // what is known of the nodes at the addresses from which nodes wrote
+    pub(crate) neighbours: Neighbours,
 }
 
 impl Model for Addresses {
@@ -33,7 +38,7 @@ impl Model for Addresses {
 
     ghost Value = { AddressBook };
 
-    ghost view = { λ a. record { clients = a.clients; nodes = a.nodes; hosts = a.hosts; seals = a.seals } };
+    ghost view = { λ a. record { clients = a.clients; nodes = a.nodes; hosts = a.hosts; seals = a.seals; neighbours = a.neighbours } };
 }
 
 /// The address in the first entry of a node.
@@ -63,6 +68,7 @@ impl Addresses {
             nodes: [None; NODES],
             hosts,
             seals,
+            neighbours: Neighbours::new(),
         }
     }
 
@@ -92,6 +98,7 @@ impl Addresses {
         ensures own { client_at self.new client ≡ Some from }
         ensures others { (c : ℕ) → IsClient c → c ≢ client → client_at self.new c ≡ client_at self.old c }
         ensures nodes { self.new.nodes ≡ self.old.nodes }
+        ensures neighbours { self.new.neighbours ≡ self.old.neighbours }
         ensures network { IsSameNetwork self.old self.new }
     {
         self.clients[client.get() as usize - 1] = Some(from);
@@ -119,13 +126,15 @@ impl Addresses {
     }
 
     /// Records that a node wrote: its entry moves to the front. If all entries are taken, the least recent one is
-    /// dropped.
-    pub fn hear_node(&mut self, node: NodeNo, from: SocketAddr)
+    /// dropped. `binds` tells whether this node follows the sender by what it wrote.
+    pub fn hear_node(&mut self, node: NodeNo, from: SocketAddr, binds: bool)
         ensures own { node_at self.new node ≡ Some from }
         ensures places { self.new.nodes ≡ moved_up self.old.nodes node from }
         ensures clients { self.new.clients ≡ self.old.clients }
+        ensures meets { Meets from binds self.old.neighbours self.new.neighbours }
         ensures network { IsSameNetwork self.old self.new }
     {
+        self.neighbours.meet(from, binds);
         let place = self.place_of(node);
         self.nodes[..=place].rotate_right(1);
         self.nodes[0] = Some((node, from));

@@ -31,6 +31,8 @@ pub enum ServiceFault {
     Send,
     /// Fault 24: the output could not be written.
     Write,
+    /// A node of another genesis has led this one. The line that tells it is written where it is found.
+    OtherGenesis,
 }
 
 impl ServiceFault {
@@ -63,6 +65,7 @@ impl ServiceFault {
             ServiceFault::Halted => "fault 14\n",
             ServiceFault::Send => "fault 15\n",
             ServiceFault::Write => "fault 24\n",
+            ServiceFault::OtherGenesis => "",
         }
     }
 

@@ -1,12 +1,27 @@
 //! A sender is identified by the address from which it wrote.
 
+ghost use Rattle.std.specs.Prelude.{◌≡◌};
+ghost use Rattle.lk_wire.specs.Shown.{shown_node};
 ghost use Rattle.lk_transport.specs.Addresses.{IsSameNetwork};
-ghost use Rattle.lk_transport.specs.Posts.{Hears};
+ghost use Rattle.lk_transport.specs.Posts.{Hears, is_binding};
 
 use crate::addresses::Addresses;
 use crate::arrival::Arrival;
-use lk_wire::{ContentRef, view};
+use lk_wire::{ContentRef, NodeMessageRef, view};
 use std::net::SocketAddr;
+
+/// Whether whoever takes a message follows its sender.
+fn is_binding(message: &NodeMessageRef<'_>) -> bool
+    ensures { result ≡ is_binding (shown_node message.now) }
+{
+    matches!(
+        message,
+        NodeMessageRef::Prepare(_, _)
+            | NodeMessageRef::Accept(_)
+            | NodeMessageRef::Decided(_)
+            | NodeMessageRef::Lead(_, _)
+    )
+}
 
 impl Addresses {
     /// Records the source of a datagram of the cluster if it is a client's request or a node's message, and ignores
@@ -28,7 +43,7 @@ impl Addresses {
                 Arrival::Request(client)
             }
             ContentRef::Node(node, said) => {
-                self.hear_node(*node, from);
+                self.hear_node(*node, from, is_binding(said));
                 Arrival::said(*node, said)
             }
         }

@@ -8,6 +8,7 @@ pub mod asked;
 pub mod fault;
 mod hearing;
 pub mod hosts;
+mod inquiring;
 pub mod memory_socket;
 pub mod network;
 pub mod post;

@@ -39,9 +39,9 @@ const WANT: u8 = 7;
 #[derive(Drop)]
 pub struct SocketPost<S: DatagramSocket + Drop> {
     alloc: Global,
-    node: NodeNo,
-    socket: S,
-    addresses: Addresses,
+    pub(crate) node: NodeNo,
+    pub(crate) socket: S,
+    pub(crate) addresses: Addresses,
     // the last frame sent, if there are keys
     frame: Vec<u8>,
     // letters of the node to itself

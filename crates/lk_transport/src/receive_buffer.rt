@@ -1,16 +1,18 @@
 //! The buffer into which a socket receives.
 
 ghost use Rattle.std.specs.Prelude.{◌≡◌, ◌++◌, Some, None, IfSome, IsNone};
-ghost use Rattle.lk_transport.specs.Hearing.{first_asked, listed, next_of};
+ghost use Rattle.lk_transport.specs.Hearing.{first_asked, first_reported, listed, next_of};
 
 use crate::asked::Asked;
 use crate::socket::DatagramSocket;
+use lk_probe::reported::Reported;
 use lk_seal::OVERHEAD;
 use lk_types::limits::MAX_DATAGRAM;
 use std::marker::Model;
 use std::net::SocketAddr;
 
-/// A place for the datagram that came last, and for a probe that is to be answered. It is made once, for all that come.
+/// A place for the datagram that came last, for a probe that is to be answered, and for a report. It is made once, for
+/// all that come.
 #[derive(Drop)]
 pub struct ReceiveBuffer {
     // one byte longer than the longest frame, so a truncated datagram fails to parse
@@ -18,6 +20,7 @@ pub struct ReceiveBuffer {
     // the length of the latest datagram and its source, if one arrived
     last: Option<(usize, SocketAddr)>,
     asked: Option<Asked>,
+    reported: Option<Reported>,
 }
 
 impl Model for ReceiveBuffer {
@@ -28,18 +31,19 @@ impl Model for ReceiveBuffer {
 
     ghost invariant = { λ e. IfSome e.last (λ l. l.0 ≤ 8229) };
 
-    ghost view = { λ e. record { last = heard_in e.buffer e.last; asked = e.asked } };
+    ghost view = { λ e. record { last = heard_in e.buffer e.last; asked = e.asked; reported = e.reported } };
 }
 
 impl ReceiveBuffer {
     /// An empty buffer.
     pub fn new() -> ReceiveBuffer
-        ensures { result ≡ record { last = None; asked = None } }
+        ensures { result ≡ record { last = None; asked = None; reported = None } }
     {
         ReceiveBuffer {
             buffer: [0; MAX_DATAGRAM + OVERHEAD + 1],
             last: None,
             asked: None,
+            reported: None,
         }
     }
 
@@ -49,6 +53,7 @@ impl ReceiveBuffer {
         ensures comes { S.is_telling → S.coming socket.old ≡ listed self.new.last ++ S.coming socket.new }
         ensures next { S.is_telling → next_of S.coming socket.old ≡ self.new.last }
         ensures asked { self.new.asked ≡ self.old.asked }
+        ensures reported { self.new.reported ≡ self.old.reported }
         ensures unchanged { S.sent socket.new ≡ S.sent socket.old }
         ensures spares { S.failures socket.new ≡ S.failures socket.old }
     {
@@ -60,6 +65,7 @@ impl ReceiveBuffer {
         ensures comes { S.is_telling → S.coming socket.old ≡ listed self.new.last ++ S.coming socket.new }
         ensures next { S.is_telling → next_of S.coming socket.old ≡ self.new.last }
         ensures asked { self.new.asked ≡ self.old.asked }
+        ensures reported { self.new.reported ≡ self.old.reported }
         ensures unchanged { S.sent socket.new ≡ S.sent socket.old }
         ensures spares { S.failures socket.new ≡ S.failures socket.old }
     {
@@ -84,6 +90,23 @@ impl ReceiveBuffer {
         if self.asked.is_none() {
             self.asked = asked;
         }
+    }
+
+    /// Keeps what a report tells, if there is one and none is kept yet.
+    pub fn keep_report(&mut self, reported: Option<Reported>)
+        ensures { self.new ≡ record self.old { reported = first_reported self.old.reported reported } }
+    {
+        if self.reported.is_none() {
+            self.reported = reported;
+        }
+    }
+
+    /// Takes out the report that is kept.
+    pub fn take_reported(&mut self) -> Option<Reported>
+        ensures value { result ≡ self.old.reported }
+        ensures rest { self.new ≡ record self.old { reported = None } }
+    {
+        self.reported.take()
     }
 
     /// Takes out the probe that is kept.

@@ -1,0 +1,126 @@
+//! What a server does beside the protocol after a turn: it finds out which genesis each node that writes to it was
+//! started with.
+
+ghost use Rattle.std.specs.Prelude.{◌≡◌, None};
+ghost use Rattle.lk_probe.specs.Neighbours.{bound_in};
+ghost use Rattle.lk_transport.specs.Addresses.{IsSameNetwork};
+ghost use Rattle.lk_transport.specs.Inquiring.{AsksOne, LearnsKept};
+ghost use Rattle.lk_server.specs.Beside.{ActsBeside};
+ghost use Rattle.lk_server.specs.Servers.{tray_at};
+
+use crate::node_replica::NodeReplica;
+use crate::server::Server;
+use crate::watching::log_stranger;
+use lk_probe::neighbours::{Neighbour, Origin};
+use lk_transport::arrival::Arrival;
+use lk_transport::receive_buffer::ReceiveBuffer;
+use lk_transport::socket::DatagramSocket;
+use lk_types::NodeNo;
+use log::Log;
+use std::net::SocketAddr;
+
+/// The ticks of a minute.
+const MINUTE: u64 = 600;
+
+impl<R: NodeReplica, S: DatagramSocket + Drop> Server<R, S> {
+    /// Which node it is, and the digest of its genesis.
+    pub fn origin(&self) -> Origin
+        ensures { result ≡ record { node = self.now.node; genesis = self.now.addresses.seals.genesis } }
+    {
+        Origin {
+            node: self.post.node(),
+            genesis: self.post.genesis(),
+        }
+    }
+
+    // Tells at most once a minute that it hears a node of another genesis.
+    fn tell_stranger<L: Log>(&mut self, node: NodeNo, log: &L)
+        ensures { self.new ≡ self.old }
+    {
+        match self.stranger_told {
+            Some(ticks) if self.ticks.saturating_sub(ticks) < MINUTE => {}
+            _ => {
+                self.stranger_told = Some(self.ticks);
+                self.happened.stranger = Some(node);
+                log_stranger(log, node);
+            }
+        }
+    }
+
+    // Tells so where a node's message came from the address of such a node.
+    pub(crate) fn note_stranger<L: Log>(&mut self, came: &Arrival, from: SocketAddr, log: &L)
+        ensures { self.new ≡ self.old }
+    {
+        if came.node().is_none() {
+            return;
+        }
+        if let Some(node) = self.post.stranger(from) {
+            self.tell_stranger(node, log);
+        }
+    }
+
+    // Tells so where this was learned of a node.
+    fn tell_learned<L: Log>(&mut self, learned: Option<Neighbour>, log: &L)
+        ensures { self.new ≡ self.old }
+    {
+        let Some(neighbour) = learned else {
+            return;
+        };
+        if let Some(other) = neighbour.other() {
+            self.tell_stranger(other.node, log);
+        }
+    }
+
+    // Learns what the report tells that the buffer keeps, if it keeps one.
+    fn learn<L: Log>(&mut self, buffer: &mut ReceiveBuffer, log: &L)
+        ensures learns { LearnsKept buffer.old.reported self.old.addresses self.new.addresses }
+        ensures kept { buffer.new ≡ record buffer.old { reported = None } }
+        ensures network { IsSameNetwork self.old.addresses self.new.addresses }
+        ensures others { self.new ≡ record self.old { addresses = self.new.addresses } }
+    {
+        let Some(reported) = buffer.take_reported() else {
+            return;
+        };
+        let learned = self.post.learn(&reported);
+        self.tell_learned(learned, log);
+    }
+
+    // Asks which genesis the node at an address was started with, where that is due at this count of ticks.
+    pub(crate) fn ask(&mut self, now: u64)
+        ensures asks { AsksOne S.is_telling now self.old.node self.old.addresses self.new.addresses (tray_at self.old.own self.old) (tray_at self.new.own self.new) }
+        ensures network { IsSameNetwork self.old.addresses self.new.addresses }
+        ensures still { S.is_telling → self.new.coming ≡ self.old.coming }
+        ensures others { self.new ≡ record self.old { addresses = self.new.addresses; sent = self.new.sent; socket_failures = self.new.socket_failures; coming = self.new.coming } }
+    {
+        if self.post.ask(now).is_err() {
+            self.unsent = self.unsent.saturating_add(1);
+        }
+    }
+
+    // The ticks that its replica was given since its start.
+    fn now(&self) -> u64 {
+        self.ticks
+    }
+
+    // The first node of another genesis that this one has followed, if there is one.
+    fn bound(&self) -> Option<Origin>
+        ensures { result ≡ bound_in self.now.addresses.neighbours }
+    {
+        self.post.bound()
+    }
+
+    /// After the letters of a turn: answers the probe that the buffer keeps, learns what the report tells that it
+    /// keeps, and asks one node where that is due. Returns the first node of another genesis that this one has
+    /// followed, if there is one.
+    pub fn act_beside<L: Log>(&mut self, buffer: &mut ReceiveBuffer, log: &L) -> Option<Origin>
+        ensures acts { ActsBeside R.Shows S.is_telling buffer.old.asked buffer.old.reported self.old self.new }
+        ensures kept { buffer.new ≡ record buffer.old { asked = None; reported = None } }
+        ensures bound { result ≡ bound_in self.new.addresses.neighbours }
+    {
+        self.answer(buffer);
+        self.learn(buffer, log);
+        let now = self.now();
+        self.ask(now);
+        self.bound()
+    }
+}

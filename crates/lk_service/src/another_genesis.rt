@@ -1,0 +1,34 @@
+//! The line with which a node ends that has followed a node of another genesis.
+
+ghost use Rattle.std.specs.Prelude.{◌≡◌};
+
+use lk_probe::DIGEST;
+use lk_probe::neighbours::Origin;
+use lk_transport::fault::ServiceFault;
+use std::io;
+use std::io::Write;
+
+/// Writes a node and the digest of its genesis in hex.
+fn write_origin<E: Write>(origin: &Origin, err: &mut E) -> io::Result<()> {
+    let mut digits = [0; 2 * DIGEST];
+    let _ = hex::encode_to_slice(&origin.genesis, &mut digits);
+    write!(err, "node {} of genesis ", origin.node.get())?;
+    err.write_all(&digits)
+}
+
+/// Writes the line.
+fn write_line<E: Write>(own: &Origin, leader: &Origin, err: &mut E) -> io::Result<()> {
+    err.write_all(b"another genesis: ")?;
+    write_origin(own, err)?;
+    err.write_all(b" was led by ")?;
+    write_origin(leader, err)?;
+    err.write_all(b"\n")
+}
+
+/// Tells that a node was led by one of another genesis.
+pub fn tell_another<E: Write>(own: &Origin, leader: &Origin, err: &mut E) -> ServiceFault
+    ensures { result ≡ ServiceFault.OtherGenesis }
+{
+    let _ = write_line(own, leader, err);
+    ServiceFault::OtherGenesis
+}
