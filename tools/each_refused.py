@@ -174,10 +174,10 @@ def named_bodies(crate):
         places = [(changed_function(f"crates/{crate}", change), change) for change in edit.changes]
         for function, name in edit.named.items():
             own = [change for changed, change in places if is_of(function, changed)]
-            if not own:
-                sys.exit(f"{title}: no pair changes {function}")
             if len(edit.refused) == 1:
                 own = edit.changes
+            if not own:
+                sys.exit(f"{title}: no pair changes {function}")
             yield Body(crate, title, function, name, own, len(edit.changes) - len(own))
 
 

@@ -5,6 +5,7 @@ use Rattle.lk_types.specs.declared.answer.Answer.{Answer}
 use Rattle.lk_types.specs.declared.genesis.Genesis.{Genesis}
 use Rattle.lk_seal.specs.Seals.{key_list, replied}
 use Rattle.lk_wire.specs.Grammar.{Spells}
+use Rattle.lk_wire.specs.Values.{PassedValue}
 use Rattle.lk_wire.specs.declared.message.Answered.{Answered}
 use Rattle.lk_wire.specs.declared.message.Content.{Content}
 use Rattle.lk_wire.specs.declared.message.Content.TheVariants as content
@@ -35,8 +36,11 @@ same_answer n node b a e =
     let answers : b ≡ a = cc e in
     ap (λ (z : ℕ). noted_as z b) nodes ∙ ap (noted_as node) answers
 
-no_pass : (said : Content) (node : ℕ) (a : Answered) → said ≡ content.Node node (message.Answer a) → is_reply said ≡ false → ⊥
-no_pass said node a is none = let bad : true ≡ false = sym (ap is_reply is) ∙ none in cc bad
+no_pass : (n node : ℕ) (p : PassedValue) (a : Answered) → content.Node n (message.Passed p) ≡ content.Node node (message.Answer a) → ⊥
+no_pass n node p a e = cc e
+
+a_reply : (said : Content) (node : ℕ) (a : Answered) → said ≡ content.Node node (message.Answer a) → is_reply said ≡ false → ⊥
+a_reply said node a is none = let bad : true ≡ false = sym (ap is_reply is) ∙ none in cc bad
 
 -- an answer that was sent is noted
 noted : (ds : List Datagram) (notes : List Note) → AreReplies ds notes → (x : Datagram) → Contains ds x → (cluster node : ℕ) (a : Answered) → Spells (answer_of cluster node a) x.bytes
@@ -47,15 +51,11 @@ noted all notes (an_answer {datagrams = ds} {notes = rest} d k n b spelled later
   | inr more ↦ contains_more (noted_as n b) rest (noted_as node a) (noted ds rest later x more cluster node a said)
 ]
 noted all notes (a_pass {datagrams = ds} {notes = rest} d k n p spelled later) x c cluster node a said = elim (cons_cases d ds x c) [
-  | inl here ↦ (
-    let bad : content.Node n (message.Passed p) ≡ content.Node node (message.Answer a) =
-        same_said (record { cluster = k; content = content.Node n (message.Passed p) }) (answer_of cluster node a) d x spelled said here in
-    absurd (cc bad)
-  )
+  | inl here ↦ absurd (no_pass n node p a (same_said (record { cluster = k; content = content.Node n (message.Passed p) }) (answer_of cluster node a) d x spelled said here))
   | inr more ↦ contains_more (note.Told n p.client p.number p.last) rest (noted_as node a) (noted ds rest later x more cluster node a said)
 ]
 noted all notes (no_reply {datagrams = ds} {notes = rest} d m spelled none later) x c cluster node a said = elim (cons_cases d ds x c) [
-  | inl here ↦ absurd (no_pass m.content node a (same_said m (answer_of cluster node a) d x spelled said here) none)
+  | inl here ↦ absurd (a_reply m.content node a (same_said m (answer_of cluster node a) d x spelled said here) none)
   | inr more ↦ noted ds rest later x more cluster node a said
 ]
 

@@ -125,7 +125,7 @@ module _ (q : Question) (before later : List Note) (datagrams : List (SocketAddr
           below.1.0,
           below.1.1,
           subst (λ (l : List Note). Contains l (note.Answered below.1.0 q.request.client x.number below.1.1)) (sym there)
-          (Contains-append_left before mid (note.Answered below.1.0 q.request.client x.number below.1.1) below.1.2),
+              (Contains-append_left before mid (note.Answered below.1.0 q.request.client x.number below.1.1) below.1.2),
         ),
       )
     ]
