@@ -3,7 +3,7 @@ import os
 import tempfile
 import unittest
 
-from harness.by_bytes import Node
+from harness.by_bytes import Node, received
 
 PROGRAM = os.environ.get("LOCKS_PROGRAM")
 
@@ -55,7 +55,7 @@ class BallotTest(unittest.TestCase):
 
     def wait_for(self, it, text, node):
         """Takes what comes to a socket until these bytes do. Others than a Prepare and a Lead are none that may come."""
-        while (data := it.recv(9000)) != node.bytes_of(text):
+        while (data := received(it)) != node.bytes_of(text):
             self.assertIn(data[3], (1, 13), data.hex())
 
     def test_the_vote_that_is_told_is_proposed_and_else_the_request_that_waits(self):

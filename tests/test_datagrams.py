@@ -6,7 +6,7 @@ import tempfile
 import unittest
 
 HERE = os.path.dirname(os.path.abspath(__file__))
-from harness.by_bytes import Node, bytes_of
+from harness.by_bytes import Node, bytes_of, received
 
 PROGRAM = os.environ.get("LOCKS_PROGRAM")
 TABLE = os.path.join(HERE, "..", "tools", "callers", "datagrams.txt")
@@ -140,7 +140,7 @@ class DatagramTest(unittest.TestCase):
         for it in (node.socket, node.third):
             it.setblocking(False)
             with self.assertRaises(BlockingIOError):
-                it.recv(9000)
+                received(it)
 
 
 if __name__ == "__main__":

@@ -6,7 +6,7 @@ import tempfile
 import time
 import unittest
 
-from harness.by_bytes import bytes_of
+from harness.by_bytes import bytes_of, received
 from harness.cluster import free_ports
 
 PROGRAM = os.environ.get("LOCKS_PROGRAM")
@@ -81,7 +81,7 @@ class FirstStoreTest(unittest.TestCase):
     def asked(self, data):
         """What it sends for a datagram of node 2."""
         self.socket.sendto(data, ("127.0.0.1", self.port))
-        return self.socket.recv(9000)
+        return received(self.socket)
 
     def test_the_first_bytes_have_these_lengths(self):
         lengths = [len(it) for it in (STATE, BASE, BASE + PROMISED, VOTED, OLD, RENEWED)]

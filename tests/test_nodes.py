@@ -1,5 +1,6 @@
 """Tests of nodes as processes, of what a test within one process cannot show."""
 import os
+import select
 import socket
 import subprocess
 import tempfile
@@ -18,9 +19,9 @@ class NodesTest(unittest.TestCase):
         self.folder = self.enterContext(tempfile.TemporaryDirectory())
         self.ports = free_ports(2)
 
-    def start(self, port):
-        """Starts node 1 of a cluster of its own, whose genesis names the first port, at that port."""
-        words = ["--genesis", f"5,8,1:{self.ports[0]}", "--number", "1", "--port", str(port), "--dir", self.folder]
+    def start(self, port, more=""):
+        """Starts node 1 of a cluster of its own, whose genesis names the first port, and further members, at that port."""
+        words = ["--genesis", f"5,8,1:{self.ports[0]}{more}", "--number", "1", "--port", str(port), "--dir", self.folder]
         node = subprocess.Popen([PROGRAM, "node", *words], stdin=subprocess.DEVNULL, stderr=subprocess.PIPE, text=True)
         self.addCleanup(node.communicate)
         self.addCleanup(node.kill)
@@ -69,6 +70,28 @@ class NodesTest(unittest.TestCase):
         )
         time.sleep(0.5)
         self.assertIsNone(node.poll())
+
+    def ticks_until_it_says(self, node, text, minutes=1.5):
+        """Sends datagrams that do not read, of which every 64th brings a tick, until the node says a line of that or so many minutes
+        of ticks have passed. Whether it has."""
+        with socket.socket(socket.AF_INET, socket.SOCK_DGRAM) as it:
+            for _ in range(int(minutes * 600)):
+                for _ in range(64):
+                    it.sendto(b"nothing", ("127.0.0.1", self.ports[1]))
+                if select.select([node.stderr], [], [], 0.002)[0] and text in node.stderr.readline():
+                    return True
+        return False
+
+    def test_a_node_at_another_port_says_so_each_minute_until_it_hears_of_a_leader(self):
+        for more, says in ((f",2:{free_ports(1)[0]}", True), ("", False)):
+            with self.subTest(more=more):
+                node = self.start(self.ports[1], more)
+                node.stderr.readline()
+                self.assertEqual(self.ticks_until_it_says(node, "warning: node 1 has heard of no leader"), says)
+                node.kill()
+                node.wait()
+                for name in "ab":
+                    os.remove(os.path.join(self.folder, name))
 
     def test_the_version_is_told(self):
         told = subprocess.run([PROGRAM, "--version"], stdout=subprocess.PIPE, text=True)

@@ -7,7 +7,7 @@ import threading
 import time
 import unittest
 
-from harness.by_bytes import Node
+from harness.by_bytes import Node, received
 from harness.cluster import free_ports
 
 PROGRAM = os.environ.get("LOCKS_PROGRAM")
@@ -113,7 +113,7 @@ class MajorityTest(unittest.TestCase):
         """The next datagrams to a node, but for Prepares and Leads, which come again at each tick."""
         found = []
         while len(found) < count:
-            data = it.recv(9000)
+            data = received(it)
             found += [data.hex()] * (data[3] not in (1, 13))
         return found
 

@@ -27,10 +27,10 @@ RAISED = "000100 02 02"
 MEMBERS = "03 00000001 1b59 00000002 1b5a 00000003 1b5b"
 
 
-def report(node, token, genesis=GENESIS, build=PROGRAM_0_1_0, leads=0, leader=1, silence=1, executed=10, members=MEMBERS, client=0, cluster=5):
+def report(node, token, genesis=GENESIS, build=PROGRAM_0_1_0, leads=0, leader=1, silence=1, promised=3, executed=10, members=MEMBERS, client=0, cluster=5):
     """A report, field by field: the numbers are as in docs/WIRE.md."""
     head = f"4c50010a {cluster:016x} {node:08x} {client:04x} {token:016x} {genesis} {build}"
-    leadership = f"{leads:02x} {leader:08x} {silence:016x} {3:016x} {1:08x}"
+    leadership = f"{leads:02x} {leader:08x} {silence:016x} {promised:016x} {1:08x}"
     progress = f"{executed:016x} {4:016x} 01"
     traffic = f"{2:04x} {5:016x} {6:016x} {100:016x}"
     return bytes_of(head, leadership, progress, traffic, members).ljust(LENGTH, b"\0")
@@ -112,7 +112,7 @@ class StatusTest(unittest.TestCase):
 
     def test_three_nodes_are_a_line_each(self):
         lines = self.tells([node(1, leads=1, silence=0, executed=12), node(2), node(3, executed=12)], 0)
-        tail = "promised 3.1, snapshot 4, members 1 2 3, 1 changes pending, 2 requests wait, 6 sends failed"
+        tail = "promised 3.1, snapshot 4, members 1 2 3, a change takes effect in 1 positions, 2 requests wait, 6 sends failed"
         self.assertEqual(lines, [
             f"node 1, port a: leads, executed 12, {tail}",
             f"node 2, port b: follows 1, heard 1 ticks ago, executed 10 (2 behind), {tail}",
@@ -197,6 +197,7 @@ class StatusTest(unittest.TestCase):
         self.assertEqual((first["leads"], third["leads"], third["leader"]), (1, 0, 1))
         self.assertEqual((first["genesis"], first["program"], first["member_nodes"]), (GENESIS, "0.1.0", [1, 2, 3]))
         self.assertEqual((first["executed_positions"], first["unread_datagrams_total"], first["promised_round"]), (10, 5, 3))
+        self.assertEqual(first["change_pending_positions"], 1)
 
     def test_metrics_have_a_type_and_one_value_each(self):
         status, lines = self.asks([node(1, leads=1), silent, node(3)], "--prometheus")

@@ -1,5 +1,6 @@
 pub mod Digests
 pub mod Guards
+pub mod Ports
 pub mod Revivals
 pub mod Turns
 pub mod ClientKeys

@@ -8,5 +8,6 @@ pub mod demo;
 pub mod digest;
 pub mod network;
 mod observing;
+mod port_reminder;
 pub mod resources;
 pub mod running;

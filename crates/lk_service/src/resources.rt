@@ -3,6 +3,7 @@
 ghost use Rattle.std.specs.Prelude.{◌≡◌, ◌≢◌, [], IfOk};
 ghost use Rattle.lk_members.specs.Ports.{port_in};
 ghost use Rattle.lk_seal.specs.Seals.{key_list};
+ghost use Rattle.lk_service.specs.Ports.{misnamed};
 ghost use Rattle.lk_service.specs.Turns.{AreSealsOf};
 
 use crate::network::{NetworkOptions, network_of};
@@ -66,13 +67,22 @@ fn write_warning<E: Write>(plan: &NodePlan<'_>, named: Port, err: &mut E) {
     );
 }
 
+/// The port that the genesis gives the node, if it listens at another one.
+pub(crate) fn other_port(plan: &NodePlan<'_>) -> Option<Port>
+    ensures { result ≡ misnamed plan.now.header plan.now.port }
+{
+    let members = plan.header.genesis().members.as_slice();
+    match named_port(members, plan.header.node()) {
+        Some(named) if named != plan.port => Some(named),
+        _ => None,
+    }
+}
+
 /// Warns if the genesis gives the node another port than the one on which it listens: without a relay in between, it
 /// would send but not receive.
 fn warn_of_port<E: Write>(plan: &NodePlan<'_>, err: &mut E) {
-    let members = plan.header.genesis().members.as_slice();
-    match named_port(members, plan.header.node()) {
-        Some(named) if named != plan.port => write_warning(plan, named, err),
-        _ => {}
+    if let Some(named) = other_port(plan) {
+        write_warning(plan, named, err);
     }
 }
 

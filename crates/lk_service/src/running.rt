@@ -13,6 +13,7 @@ ghost use Rattle.lk_service.specs.Turns.{TakesTurn, TakesTurnWith, GoesOn, Leave
 
 use crate::another_genesis::tell_another;
 use crate::observing::{observe_start, observe_turn};
+use crate::port_reminder::PortReminder;
 use crate::resources::{NodePlan, Resources};
 use lk_disk::LogDisk;
 use lk_entries::Header;
@@ -201,7 +202,7 @@ fn take_turns<
 >(
     clock: &C,
     server: &mut NodeServer<M, D, S>,
-    folder: &str,
+    plan: &NodePlan<'_>,
     log: &L,
     observer: &mut O,
     err: &mut E,
@@ -215,16 +216,18 @@ fn take_turns<
 {
     let mut buffer = ReceiveBuffer::new();
     let mut metronome = Metronome::new(clock);
+    let mut reminder = PortReminder::of(plan);
     'turns: for _ in 0..TURNS {
         take_turn::<M, D, S, &C, L, O, E>(
             server,
             &mut buffer,
             &mut metronome,
-            folder,
+            plan.folder,
             log,
             observer,
             err,
         )?;
+        reminder.turn(server, plan, err);
     }
     Ok(())
 }
@@ -253,7 +256,7 @@ fn serve_turns<
     let mut server = server;
     log_port(log, plan.port);
     observe_start(server.replica(), observer);
-    take_turns(clock, &mut server, plan.folder, log, observer, err)
+    take_turns(clock, &mut server, plan, log, observer, err)
 }
 
 /// Starts the server of a node, and takes 2^48 turns.

@@ -33,7 +33,7 @@ pub const FIELDS: [Row; 14] = [
     (Field::Executed, "executed_positions", "gauge", "Positions that it has executed."),
     (Field::Snapshot, "snapshot_position", "gauge", "Position of its snapshot."),
     (Field::Members, "members", "gauge", "Members of the next position, as it knows them."),
-    (Field::Pending, "pending_changes", "gauge", "Changes of the members that are not yet in force."),
+    (Field::Pending, "change_pending_positions", "gauge", "Positions before the last join or leave takes effect."),
     (Field::Waiting, "waiting_requests", "gauge", "Requests that wait to be proposed."),
     (Field::Unread, "unread_datagrams_total", "counter", "Datagrams that could not be read, since its start."),
     (Field::Unsent, "failed_sends_total", "counter", "Sends that failed, since its start."),

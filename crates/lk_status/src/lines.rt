@@ -42,8 +42,9 @@ fn write_progress<W: Write>(report: &Report, most: u64, out: &mut W) -> io::Resu
 /// Writes what waits and what failed, where there is any.
 fn write_traffic<W: Write>(report: &Report, out: &mut W) -> io::Result<()> {
     let traffic = &report.status.traffic;
-    if report.status.progress.pending > 0 {
-        write!(out, ", {} changes pending", report.status.progress.pending)?;
+    let pending = report.status.progress.pending;
+    if pending > 0 {
+        write!(out, ", a change takes effect in {pending} positions")?;
     }
     if traffic.waiting > 0 {
         write!(out, ", {} requests wait", traffic.waiting)?;

@@ -1,0 +1,244 @@
+"""Nodes of two geneses: what a node asks of whom it hears, when it ends, and what it says."""
+import os
+import socket
+import subprocess
+import tempfile
+import time
+import unittest
+
+from harness import frames
+from harness.by_bytes import PROBE, Node, bytes_of
+from harness.cluster import Cluster, free_ports
+from locks_client import Client, Held
+
+PROGRAM = os.environ.get("LOCKS_PROGRAM")
+KEY = bytes([0x11]) * 32
+OTHER = bytes([0x33]) * 32  # the digest of another genesis
+
+# Node 2 asks the node at an address which genesis it has: its number is the token too.
+QUESTION = bytes_of("4c500109 0000000000000005 00000002 0000 0000000000000002").ljust(174, b"\0")
+
+# Node 1 asks node 2 for promises in its first and its ninth ballot, and gets them.
+PREPARE = "4c4b0101 0000000000000005 00000001 0000000000000001 00000001 0000000000000001"
+PROMISE = "4c4b0102 0000000000000005 00000002 0000000000000001 00000001 0000000000000001 00"
+NEXT_PREPARE = "4c4b0101 0000000000000005 00000001 0000000000000009 00000001 0000000000000001"
+NEXT_PROMISE = "4c4b0102 0000000000000005 00000002 0000000000000009 00000001 0000000000000001 00"
+
+# Node 3 wants what it has missed, and gets the first position of the store of node 2: a no-op.
+MEMBERS = "03 00000001 1b59 00000002 1b5a 00000003 1b5b"
+BEGUN = (
+    f"00000072 01 0000000000000001 02 0000000000000005 00000002 01 {MEMBERS} 0000000000000000 00000000 0000000000000000"
+    f" 0000002c 0000000000000000 01 {MEMBERS} 00000003 0000000000000000 0000 0000 0000 0000"
+)
+NO_OP = "0000000a 04 0000000000000001 00"
+WANT = "4c4b0107 0000000000000005 00000003 0000000000000001 00000000"
+DECIDED = "4c4b0106 0000000000000005 00000002 0000000000000001 01 00"
+
+# Client 9 asks with number 1 to acquire `db`.
+ACQUIRE = bytes_of("4c4b0109 0000000000000005 00000000 0009 0000000000000001 00 04 01026462")
+
+# What a report tells after the digest: program, format and table, counts that are 0, and one member.
+REST = bytes_of("000100 02 01") + bytes(68) + bytes_of("01 00000001 1b59")
+
+
+def report(node, genesis, question):
+    """The report by which a node of that genesis answers a question."""
+    head = b"LP\1\x0a" + question[4:12] + node.to_bytes(4, "big") + question[16:26]
+    return (head + genesis + REST).ljust(174, b"\0")
+
+
+def ended(own, own_genesis, other, other_genesis):
+    """The last line of a node that was led by a node of another genesis."""
+    return f"another genesis: node {own} of genesis {own_genesis.hex()} was led by node {other} of genesis {other_genesis.hex()}"
+
+
+@unittest.skipUnless(PROGRAM, "LOCKS_PROGRAM does not tell the program")
+class QuestionsTest(unittest.TestCase):
+    """Node 2 of three. The test stands at the ports of the others."""
+
+    def setUp(self):
+        self.node = self.enterContext(Node(PROGRAM, self.enterContext(tempfile.TemporaryDirectory())))
+        self.genesis = frames.genesis_digest(5, 1, dict(enumerate(self.node.ports, 1)))
+
+    def start(self, *texts):
+        """Starts it, on such a file if one is given."""
+        if texts:
+            self.node.write(self.node.bytes_of(*texts))
+        self.assertEqual(self.node.start(), f"port {self.node.ports[1]}")
+
+    def came(self, it, seconds):
+        """What comes to a socket within so many seconds."""
+        end, found = time.monotonic() + seconds, []
+        while (left := end - time.monotonic()) > 0:
+            it.settimeout(left)
+            try:
+                found.append(it.recv(9000))
+            except TimeoutError:
+                break
+        it.settimeout(10.0)
+        return found
+
+    def questions(self, it, seconds):
+        """How many questions come to a socket within so many seconds."""
+        found = [data for data in self.came(it, seconds) if data.startswith(PROBE)]
+        self.assertEqual(set(found) - {QUESTION}, set())
+        return len(found)
+
+    def led(self):
+        """Node 1 asks for a promise, gets it, and is asked a question after that."""
+        self.node.send(self.node.bytes_of(PREPARE))
+        self.assertEqual(self.node.socket.recv(9000).hex(), self.node.bytes_of(PROMISE).hex())
+        self.assertEqual(self.node.socket.recv(9000).hex(), QUESTION.hex())
+
+    def is_asked_once_more(self):
+        self.assertEqual(self.questions(self.node.socket, 1.0), 1)
+        self.assertEqual(self.questions(self.node.socket, 1.0), 0)
+
+    def test_who_is_silent_is_asked_once_more_after_a_tick_and_heard_as_before(self):
+        self.start()
+        self.led()
+        self.is_asked_once_more()
+        self.node.send(self.node.bytes_of(NEXT_PREPARE))
+        self.assertIn(self.node.bytes_of(NEXT_PROMISE), self.came(self.node.socket, 0.5))
+        self.assertEqual(self.questions(self.node.socket, 0.5), 0)
+        self.assertIsNone(self.node.process.poll())
+
+    def test_nothing_is_asked_at_the_start_and_of_clients(self):
+        self.start()
+        client = self.enterContext(self.node.bound(0))
+        client.sendto(ACQUIRE, ("127.0.0.1", self.node.ports[1]))
+        self.assertEqual([self.questions(it, 0.5) for it in (client, self.node.socket, self.node.third)], [0, 0, 0])
+
+    def test_a_datagram_of_another_cluster_brings_no_question(self):
+        self.start()
+        self.node.send(self.node.bytes_of(PREPARE.replace("0000000000000005", "0000000000000006")))
+        self.assertEqual(self.questions(self.node.socket, 0.5), 0)
+
+    def test_who_has_the_same_genesis_is_asked_once(self):
+        self.start()
+        self.led()
+        self.node.send(report(1, self.genesis, QUESTION))
+        self.assertEqual(self.questions(self.node.socket, 1.0), 0)
+        self.node.send(self.node.bytes_of(NEXT_PREPARE))
+        self.assertIn(self.node.bytes_of(NEXT_PROMISE), self.came(self.node.socket, 0.5))
+
+    def test_a_node_ends_that_was_led_by_another_genesis(self):
+        self.start()
+        self.led()
+        self.node.send(report(1, OTHER, QUESTION))
+        told = self.node.process.communicate(timeout=30)[1].splitlines()
+        self.assertEqual((told[-1], self.node.process.returncode), (ended(2, self.genesis, 1, OTHER), 1))
+
+    def test_what_does_not_answer_the_question_tells_nothing(self):
+        self.start()
+        self.led()
+        stranger = self.enterContext(self.node.bound(0))
+        for data in (report(1, OTHER, QUESTION[:25] + b"\3"), report(1, OTHER, QUESTION)[:-1], report(1, OTHER, QUESTION) + b"\0"):
+            self.node.send(data)
+        stranger.sendto(report(1, OTHER, QUESTION), ("127.0.0.1", self.node.ports[1]))
+        self.is_asked_once_more()
+        self.assertIsNone(self.node.process.poll())
+
+    def test_a_node_that_was_not_led_says_so_and_goes_on(self):
+        self.node.words = ("--events",)
+        self.start(BEGUN, NO_OP)
+        to = ("127.0.0.1", self.node.ports[1])
+        self.node.third.sendto(self.node.bytes_of(WANT), to)
+        self.assertEqual(self.node.third.recv(9000).hex(), self.node.bytes_of(DECIDED).hex())
+        self.assertEqual(self.node.third.recv(9000).hex(), QUESTION.hex())
+        for data in (report(3, OTHER, QUESTION), self.node.bytes_of(WANT), self.node.bytes_of(WANT)):
+            self.node.third.sendto(data, to)
+        self.assertEqual(self.questions(self.node.third, 0.5), 0)
+        self.node.send(self.node.bytes_of(NEXT_PREPARE))
+        self.assertIn(2, [data[3] for data in self.came(self.node.socket, 0.5)])
+        self.node.process.kill()
+        self.assertEqual(self.node.process.stderr.read().count("node 2 hears node 3 of another genesis\n"), 1)
+
+    def test_with_a_key_nothing_is_asked(self):
+        key = self.node.path("key")
+        with open(os.open(key, os.O_CREAT | os.O_WRONLY, 0o600), "w", encoding="ascii") as file:
+            file.write(f"{KEY.hex()}\n")
+        self.node.words = ("--key", key)
+        self.start()
+        seal = lambda bound, text: frames.seal(KEY, frames.NODE, 5, self.genesis, bound, self.node.bytes_of(text))
+        self.node.send(seal(2, PREPARE))
+        self.assertEqual(self.node.socket.recv(9000).hex(), seal(1, PROMISE).hex())
+        found = self.came(self.node.socket, 1.0)
+        self.assertEqual([data for data in found if data[:2] != b"LS" or data[36:38] != b"LK"], [])
+
+
+@unittest.skipUnless(PROGRAM, "LOCKS_PROGRAM does not tell the program")
+class ProcessesTest(unittest.TestCase):
+    """Three nodes of one genesis, of which client 8 holds a lock, and a fourth of another."""
+
+    def setUp(self):
+        self.cluster = self.enterContext(Cluster(PROGRAM, self.enterContext(tempfile.TemporaryDirectory()), logs=True))
+        self.genesis = frames.genesis_digest(5, 8, self.cluster.ports)
+        self.holder = self.enterContext(self.cluster.client(Client, 8, patience=60.0))
+        self.other = self.enterContext(self.cluster.client(Client, 10, patience=60.0))
+        self.fence = self.holder.acquire("db")
+        [self.port] = free_ports(1)
+
+    def fourth(self, ports):
+        """Node 4 of a genesis of these nodes, and the digest of that."""
+        folder = os.path.join(self.cluster.folder, "other")
+        os.makedirs(folder, exist_ok=True)
+        members = ",".join(f"{node}:{port}" for node, port in ports.items())
+        words = ["--genesis", f"5,8,{members}", "--number", "4", "--port", str(self.port), "--dir", folder]
+        process = subprocess.Popen([PROGRAM, "node", *words], stdin=subprocess.DEVNULL, stderr=subprocess.PIPE, text=True)
+        self.addCleanup(process.communicate)
+        self.addCleanup(process.kill)
+        return process, frames.genesis_digest(5, 8, ports)
+
+    def asked_until_it_ends(self, process):
+        """Asks node 4 again and again for the lock, and gives what it answers."""
+        found, end = [], time.monotonic() + 30.0
+        with socket.socket(socket.AF_INET, socket.SOCK_DGRAM) as it:
+            it.settimeout(0.05)
+            while process.poll() is None:
+                self.assertLess(time.monotonic(), end)
+                try:
+                    it.sendto(ACQUIRE, ("127.0.0.1", self.port))
+                    found.append(it.recv(9000))
+                except OSError:
+                    time.sleep(0.01)
+        return found
+
+    def serves_on(self):
+        """The lock is held as before, and then given to one who waits for it."""
+        self.assertEqual(self.other.ask("db"), Held(8, self.fence))
+        self.holder.release("db", self.fence)
+        self.assertEqual(self.other.acquire("db"), self.fence + 1)
+
+    def last_line(self, node):
+        """What a node said last."""
+        with open(self.cluster.log(node), encoding="utf-8") as log:
+            return log.read().splitlines()[-1]
+
+    def test_a_newcomer_that_names_only_itself_ends_and_grants_nothing(self):
+        self.holder.join(4, self.port)
+        for _ in range(3):
+            process, genesis = self.fourth({4: self.port})
+            answers = self.asked_until_it_ends(process)
+            self.assertEqual([data.hex() for data in answers if data[3] == 10], [])
+            line = process.stderr.read().splitlines()[-1]
+            self.assertEqual(process.returncode, 1, line)
+            self.assertIn(line, [ended(4, genesis, node, self.genesis) for node in self.cluster.ports])
+        self.assertEqual([self.cluster.processes[node].poll() for node in self.cluster.ports], [None] * 3)
+        self.serves_on()
+
+    def test_all_end_that_a_node_of_another_genesis_has_led(self):
+        process, genesis = self.fourth({**self.cluster.ports, 4: self.port})
+        for node in self.cluster.ports:
+            self.assertEqual(self.cluster.processes[node].wait(30), 1)
+            self.assertEqual(self.last_line(node), ended(node, self.genesis, 4, genesis))
+        self.assertIsNone(process.poll())
+        process.kill()
+        process.wait()
+        for node in self.cluster.ports:
+            self.cluster.start(node)
+        self.serves_on()
+
+
+if __name__ == "__main__":
+    unittest.main()
