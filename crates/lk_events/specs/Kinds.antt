@@ -1,5 +1,5 @@
 -- The kinds of events.
-use Rattle.std.specs.Prelude.{ℕ}
+use Rattle.std.specs.Prelude.{ℕ, Bool, true, false}
 use Rattle.lk_events.specs.declared.event.Event.{Event}
 use Rattle.lk_events.specs.declared.event.Event.TheVariants.{Begun, Found, Leads, Ended, Follows, Leaderless, Joined, Left, Wrote, Installed, Unsent, Behind, CaughtUp, OtherGenesis}
 
@@ -23,3 +23,10 @@ kind_of (Unsent node) = 10
 kind_of (Behind node) = 11
 kind_of (CaughtUp executed) = 12
 kind_of (OtherGenesis node) = 13
+
+-- somebody has to look at it
+abbrev pub is_warning : Event → Bool
+is_warning (Leaderless seconds) = true
+is_warning (Unsent node) = true
+is_warning (OtherGenesis node) = true
+is_warning _ = false

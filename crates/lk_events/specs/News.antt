@@ -1,10 +1,12 @@
 -- What is news of a node, by what was told of it and what is seen of it.
-use Rattle.std.specs.Prelude.{◌≡◌, ◌≢◌, ◌<◌, ◌==◌, ℕ, Bool, true, false, List, Option, Some, None}
+use Rattle.std.specs.Prelude.{◌≡◌, ◌≢◌, ◌<◌, ◌==◌, ℕ, Bool, true, false, List, [], ◌∷◌, ◌++◌, Option, Some, None}
 use Rattle.std.specs.List.{list_any, list_all}
 use Rattle.lk_types.specs.declared.member.Member.{Member}
+use Rattle.lk_types.specs.BallotValue.{BallotValue}
 use Rattle.lk_events.specs.Views.{why_of}
 use Rattle.lk_events.specs.declared.event.Event.{Event}
 use Rattle.lk_events.specs.declared.event.Event.TheVariants.{Begun, Found, Leads, Ended, Follows, Leaderless, Joined, Left, Wrote, Installed, Unsent, Behind, CaughtUp, OtherGenesis}
+use Rattle.lk_events.specs.declared.event.Why.{Why}
 use Rattle.lk_events.specs.declared.story.Story.{Story}
 use Rattle.lk_events.specs.declared.view.View.{View}
 
@@ -40,3 +42,49 @@ IsNews story view (CaughtUp executed) = ⊥
 -- what is told once that is seen
 abbrev pub told_with : View → Story → Story
 told_with view story = record { leads = view.leads; follows = newer view.follows story.follows; members = view.members; snapshot = view.snapshot }
+
+-- what is told of a node of which nothing but that was seen
+abbrev pub story_of : View → Story
+story_of view = record { leads = view.leads; follows = view.follows; members = view.members; snapshot = view.snapshot }
+
+-- ---- news by what it is about
+
+-- who leads: that it leads no more, that it leads, and whom it follows; who is a member: who joined, and who left; and
+-- its work: a snapshot that it wrote, one that it installed, and what it could not send
+pub data Topic : Type 0 where
+  ending : Topic
+  leading : Topic
+  following : Topic
+  joining : Topic
+  leaving : Topic
+  writing : Topic
+  installing : Topic
+  failing : Topic
+
+abbrev pub lead_topics : List Topic
+lead_topics = ending ∷ leading ∷ following ∷ []
+
+abbrev pub member_topics : List Topic
+member_topics = joining ∷ leaving ∷ []
+
+abbrev pub work_topics : List Topic
+work_topics = writing ∷ installing ∷ failing ∷ []
+
+abbrev pub topics : List Topic
+topics = lead_topics ++ (member_topics ++ work_topics)
+
+-- the event is about that, and is news
+abbrev pub IsNewsOf : Topic → Story → View → Event → Type 0
+IsNewsOf ending story view event = (ballot : BallotValue) × (why : Why) × (event ≡ Ended ballot why) × IsNews story view (Ended ballot why)
+IsNewsOf leading story view event = (ballot : BallotValue) × (event ≡ Leads ballot) × IsNews story view (Leads ballot)
+IsNewsOf following story view event = (node : ℕ) × (event ≡ Follows node) × IsNews story view (Follows node)
+IsNewsOf joining story view event = (node : ℕ) × (members : List Member) × (event ≡ Joined node members) × IsNews story view (Joined node members)
+IsNewsOf leaving story view event = (node : ℕ) × (members : List Member) × (event ≡ Left node members) × IsNews story view (Left node members)
+IsNewsOf writing story view event = (position : ℕ) × (event ≡ Wrote position) × IsNews story view (Wrote position)
+IsNewsOf installing story view event = (position : ℕ) × (node : ℕ) × (event ≡ Installed position node) × IsNews story view (Installed position node)
+IsNewsOf failing story view event = (node : ℕ) × (event ≡ Unsent node) × IsNews story view (Unsent node)
+
+-- this is news about that, or there is none
+abbrev pub Gives : Topic → Story → View → Option Event → Type 0
+Gives topic story view (Some event) = IsNewsOf topic story view event
+Gives topic story view None = (event : Event) → IsNewsOf topic story view event → ⊥

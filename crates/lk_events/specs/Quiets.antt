@@ -1,5 +1,5 @@
 -- What is told as time passes: that there is no leader, and that a node is behind.
-use Rattle.std.specs.Prelude.{◌≡◌, ◌≤◌, ◌<◌, ◌+◌, ◌*◌, ◌⊎◌, ℕ, true, false, Option, Some, None}
+use Rattle.std.specs.Prelude.{◌≡◌, ◌≤◌, ◌<◌, ◌+◌, ◌*◌, ◌⊎◌, ℕ, Bool, true, false, Option, Some, None, IfSome, IsSome, IsNone}
 use Rattle.lk_events.specs.declared.event.Event.{Event}
 use Rattle.lk_events.specs.declared.event.Event.TheVariants.{Leaderless, Behind, CaughtUp}
 use Rattle.lk_events.specs.declared.quiet.Quiet.{Quiet}
@@ -27,6 +27,15 @@ pub record IsQuiet (quiet : Quiet) (now seconds : ℕ) : Type 0 where
 abbrev pub IsQuietNews : Quiet → ℕ → Event → Type 0
 IsQuietNews quiet now event = (seconds : ℕ) × (event ≡ Leaderless seconds) × IsQuiet quiet now seconds
 
+-- what a turn with or without a leader brings, and what is known of it then
+pub record TurnsQuiet (old : Quiet) (now : ℕ) (has_leader : Bool) (news : Option Event) (new : Quiet) : Type 0 where
+  pub some : IfSome news (λ e. (has_leader ≡ false) × IsQuietNews old now e)
+  pub none : IsNone news → (has_leader ≡ true) ⊎ ((e : Event) → IsQuietNews old now e → ⊥)
+  pub leader : has_leader ≡ true → new ≡ record { since = None; told = 0 }
+  pub since : has_leader ≡ false → new.since ≡ Some (first_time old.since now)
+  pub told : IfSome news (λ e. e ≡ Leaderless new.told)
+  pub kept : has_leader ≡ false → IsNone news → new.told ≡ old.told
+
 -- it has asked for a second, which was not told
 pub record IsBehind (lag : Lag) (now : ℕ) : Type 0 where
   pub first : ℕ
@@ -35,15 +44,45 @@ pub record IsBehind (lag : Lag) (now : ℕ) : Type 0 where
   pub long : first + 1000 ≤ now
   pub untold : lag.told ≡ false
 
--- that was told, and it has asked nobody for a second, or the clock was set back
-pub record HasRested (lag : Lag) (now : ℕ) : Type 0 where
+-- it has asked nobody for a second, or the clock was set back
+pub record IsOver (lag : Lag) (now : ℕ) : Type 0 where
   pub first : ℕ
   pub last : ℕ
   pub asked : lag.asked ≡ Some (first, last)
   pub long : (last + 1000 ≤ now) ⊎ (now < last)
+
+-- and it was told that the node is behind
+pub record HasRested (lag : Lag) (now : ℕ) : Type 0 where
+  pub over : IsOver lag now
   pub told : lag.told ≡ true
 
 -- in a turn in which it asks that node, or nobody
 abbrev pub IsLagNews : Lag → ℕ → Option ℕ → ℕ → Event → Type 0
 IsLagNews lag now (Some node) executed event = (event ≡ Behind node) × IsBehind lag now
 IsLagNews lag now None executed event = (event ≡ CaughtUp executed) × HasRested lag now
+
+-- it has asked nothing
+abbrev pub no_lag : Lag
+no_lag = record { asked = None; told = false }
+
+-- it has asked now, and what is news was told
+pub record HasAsked (old : Lag) (now : ℕ) (news : Option Event) (new : Lag) : Type 0 where
+  pub asked : new.asked ≡ Some (first_asked old.asked now, now)
+  pub told : IsSome news → new.told ≡ true
+  pub kept : IsNone news → new.told ≡ old.told
+
+-- it has asked nobody: what is over is forgotten, and nothing else
+pub record HasPaused (old : Lag) (now : ℕ) (new : Lag) : Type 0 where
+  pub over : IsOver old now → new ≡ no_lag
+  pub kept : (IsOver old now → ⊥) → new ≡ old
+
+-- what is known of it after a turn in which it asks that node, or nobody
+abbrev pub BecomesLag : Lag → ℕ → Option ℕ → Option Event → Lag → Type 0
+BecomesLag old now (Some node) news new = HasAsked old now news new
+BecomesLag old now None news new = HasPaused old now new
+
+-- what such a turn brings, and what is known of it then
+pub record TurnsLag (old : Lag) (now : ℕ) (wanted : Option ℕ) (executed : ℕ) (news : Option Event) (new : Lag) : Type 0 where
+  pub some : IfSome news (IsLagNews old now wanted executed)
+  pub none : IsNone news → (e : Event) → IsLagNews old now wanted executed e → ⊥
+  pub becomes : BecomesLag old now wanted news new

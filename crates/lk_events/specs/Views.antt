@@ -1,5 +1,5 @@
 -- What is seen of a node after a turn.
-use Rattle.std.specs.Prelude.{ℕ, ◌&&◌, if◌then◌else◌}
+use Rattle.std.specs.Prelude.{Bool, ◌||◌, is_some, if◌then◌else◌}
 use Rattle.lk_types.specs.BallotValue.{BallotValue}
 use Rattle.lk_types.specs.Ballots.{is_below}
 use Rattle.lk_events.specs.declared.event.Why.{Why}
@@ -11,3 +11,7 @@ use Rattle.lk_events.specs.declared.view.View.{View}
 abbrev pub why_of : View → BallotValue → Why
 why_of view ballot =
     if view.is_member then (if is_below ballot view.promised then Promised view.promised.node else Told) else NoMember
+
+-- somebody leads, as far as the node knows
+abbrev pub has_leader : View → Bool
+has_leader view = is_some view.leads || is_some view.follows

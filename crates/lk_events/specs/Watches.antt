@@ -1,13 +1,16 @@
 -- What waits to be told of a node, kind by kind.
-use Rattle.std.specs.Prelude.{◌≡◌, ℕ, List, Some, slice_get, slice_set}
+use Rattle.std.specs.Prelude.{◌≡◌, ℕ, List, [], ◌∷◌, Option, Some, None, IsSomeAnd, slice_get, slice_set}
 use Rattle.lk_events.specs.Kinds.{kind_of}
-use Rattle.lk_events.specs.News.{IsNews}
+use Rattle.lk_events.specs.News.{Topic, topics, Gives, told_with}
+use Rattle.lk_events.specs.Quiets.{TurnsQuiet, TurnsLag}
 use Rattle.lk_events.specs.Slots.{having_put, having_told, IsLineOf}
 use Rattle.lk_events.specs.declared.event.Event.{Event}
 use Rattle.lk_events.specs.declared.slot.Line.{Line}
 use Rattle.lk_events.specs.declared.slot.Slot.{Slot}
 use Rattle.lk_events.specs.declared.story.Story.{Story}
 use Rattle.lk_events.specs.declared.view.View.{View}
+use Rattle.lk_events.specs.declared.watch.Watch.{Watch}
+use Rattle.lk_events.specs.Views.{has_leader}
 
 -- the event waits in the slot of its kind, and all other slots are as they were
 pub record Puts (now : ℕ) (event : Event) (old new : List Slot) : Type 0 where
@@ -15,10 +18,16 @@ pub record Puts (now : ℕ) (event : Event) (old new : List Slot) : Type 0 where
   pub is : slice_get old (kind_of event) ≡ Some slot
   pub becomes : new ≡ slice_set old (kind_of event) (having_put now event slot)
 
--- so with some events, one after another, each of which is news
-pub data PutsNews (now : ℕ) (story : Story) (view : View) : List Slot → List Slot → Type 0 where
-  nothing : {slots : List Slot} → PutsNews now story view slots slots
-  news : {event : Event} {old mid new : List Slot} → IsNews story view event → Puts now event old mid → PutsNews now story view mid new → PutsNews now story view old new
+-- so if there is one
+abbrev pub PutsSome : ℕ → Option Event → List Slot → List Slot → Type 0
+PutsSome now None old new = new ≡ old
+PutsSome now (Some event) old new = Puts now event old new
+
+-- about one thing after another, what is news waits then
+pub data PutsNews (now : ℕ) (story : Story) (view : View) : List Topic → List Slot → List Slot → Type 0 where
+  nothing : {slots : List Slot} → PutsNews now story view [] slots slots
+  news : {topic : Topic} {rest : List Topic} (event : Option Event) {old mid new : List Slot} → Gives topic story view event → PutsSome now event old mid
+      → PutsNews now story view rest mid new → PutsNews now story view (topic ∷ rest) old new
 
 -- the line is that of the slot of the kind, which then waits for nothing, and all other slots are as they were
 pub record TakesOut (kind now : ℕ) (line : Line) (old new : List Slot) : Type 0 where
@@ -26,3 +35,25 @@ pub record TakesOut (kind now : ℕ) (line : Line) (old new : List Slot) : Type 
   pub is : slice_get old kind ≡ Some slot
   pub told : IsLineOf slot now line
   pub becomes : new ≡ slice_set old kind (having_told now)
+
+-- a turn, after which this is seen: what the time brings waits to be told, and then what is news of what is seen
+pub record TurnsTimes (now : ℕ) (view : View) (old new : Watch) : Type 0 where
+  pub leaderless : Option Event
+  pub quiet : TurnsQuiet old.quiet now (has_leader view) leaderless new.quiet
+  pub behind : Option Event
+  pub lag : TurnsLag old.lag now view.wanted view.executed behind new.lag
+  pub mid : List Slot
+  pub first : PutsSome now leaderless old.slots.all mid
+  pub second : PutsSome now behind mid new.slots.all
+  pub story : new.story ≡ old.story
+
+pub record Turns (now : ℕ) (view : View) (old new : Watch) : Type 0 where
+  pub timed : Watch
+  pub times : TurnsTimes now view old timed
+  pub news : PutsNews now old.story view topics timed.slots.all new.slots.all
+  pub becomes : new ≡ record { story = told_with view old.story; quiet = timed.quiet; lag = timed.lag; slots = new.slots }
+
+-- whoever watches a node does so on after such a turn, and may have told some of what waits
+abbrev pub WatchesOn : View → Option Watch → Option Watch → Type 0
+WatchesOn view None new = new ≡ None
+WatchesOn view (Some old) new = (now : ℕ) × (mid : Watch) × Turns now view old mid × IsSomeAnd new (λ watch. watch ≡ record mid { slots = watch.slots })

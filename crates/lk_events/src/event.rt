@@ -1,7 +1,7 @@
 //! What may happen to a node that an operator wants to know of.
 
 ghost use Rattle.std.specs.Prelude.{◌≡◌, ◌<◌};
-ghost use Rattle.lk_events.specs.Kinds.{kind_of, kinds};
+ghost use Rattle.lk_events.specs.Kinds.{kind_of, kinds, is_warning};
 
 use lk_types::{Executed, Members, NodeNo, RealBallot};
 use std::fmt;
@@ -78,7 +78,9 @@ impl Event {
     }
 
     /// Whether somebody has to look at it.
-    pub fn is_warning(&self) -> bool {
+    pub fn is_warning(&self) -> bool
+        ensures { result ≡ is_warning self.now }
+    {
         matches!(
             self,
             Event::Leaderless(_) | Event::Unsent(_) | Event::OtherGenesis(_)

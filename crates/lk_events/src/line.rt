@@ -1,5 +1,9 @@
 //! The lines of the events of a node, as a log has them.
 
+ghost use Rattle.std.specs.Prelude.{◌≡◌, None, true, IsSomeAnd};
+ghost use Rattle.lk_events.specs.News.{story_of};
+ghost use Rattle.lk_events.specs.Watches.{WatchesOn};
+
 use crate::event::{Event, KINDS};
 use crate::slot::Line;
 use crate::view::View;
@@ -57,7 +61,10 @@ impl fmt::Display for Line {
 
 impl<C: Clock + Drop, L: Log + Drop> Events<C, L> {
     /// The events of that node, which a log is told with the time of a clock.
-    pub fn new(clock: C, log: L, node: NodeNo) -> Events<C, L> {
+    pub fn new(clock: C, log: L, node: NodeNo) -> Events<C, L>
+        ensures node { result.node ≡ node }
+        ensures watch { result.watch ≡ None }
+    {
         Events {
             clock,
             log,
@@ -92,8 +99,10 @@ impl<C: Clock + Drop, L: Log + Drop> Events<C, L> {
     }
 
     /// Logs what waits, where it may be told.
-    fn tell_due(&self, watch: &mut Watch, now: u64) {
-        for kind in 0..KINDS {
+    fn tell_due(&self, watch: &mut Watch, now: u64)
+        ensures { watch.new ≡ record watch.old { slots = watch.new.slots } }
+    {
+        'kinds: for kind in 0..KINDS {
             if let Some(line) = watch.take(kind, now) {
                 self.tell(&line);
             }
@@ -102,11 +111,15 @@ impl<C: Clock + Drop, L: Log + Drop> Events<C, L> {
 }
 
 impl<C: Clock + Drop, L: Log + Drop> Observer for Events<C, L> {
-    fn is_on(&self) -> bool {
+    fn is_on(&self) -> bool
+        ensures { result ≡ true }
+    {
         true
     }
 
-    fn begin(&mut self, is_empty: bool, view: View) {
+    fn begin(&mut self, is_empty: bool, view: View)
+        ensures { IsSomeAnd self.new.watch (λ watch. watch.story ≡ story_of view) }
+    {
         let now = self.now();
         let executed = view.executed;
         let mut watch = Watch::new(view);
@@ -122,7 +135,9 @@ impl<C: Clock + Drop, L: Log + Drop> Observer for Events<C, L> {
         self.watch = Some(watch);
     }
 
-    fn turn(&mut self, view: View) {
+    fn turn(&mut self, view: View)
+        ensures { WatchesOn view self.old.watch self.new.watch }
+    {
         let now = self.now();
         let Some(mut watch) = self.watch.take() else {
             return;

@@ -1,7 +1,7 @@
 //! What is told as time passes: that there is no leader, and that a node is behind. Times are milliseconds since 1970.
 
 ghost use Rattle.std.specs.Prelude.{◌≡◌, ◌⊎◌, Some, None, true, false, IfSome, IsSome, IsNone};
-ghost use Rattle.lk_events.specs.Quiets.{first_time, first_asked, IsQuietNews, IsBehind, HasRested, IsLagNews};
+ghost use Rattle.lk_events.specs.Quiets.{first_time, first_asked, no_lag, IsQuietNews, IsBehind, IsOver, HasRested, IsLagNews, BecomesLag};
 ghost use Rattle.lk_events.specs.declared.event.Event.{Event as EventValue};
 ghost use Rattle.lk_events.specs.declared.event.Event.TheVariants.{Leaderless, Behind, CaughtUp};
 
@@ -66,6 +66,8 @@ impl Quiet {
         ensures none { IsNone result → (has_leader ≡ true) ⊎ ((e : EventValue) → IsQuietNews self.old now e → ⊥) }
         ensures leader { has_leader ≡ true → self.new ≡ record { since = None; told = 0 } }
         ensures since { has_leader ≡ false → self.new.since ≡ Some (first_time self.old.since now) }
+        ensures told { IfSome result (λ e. e ≡ Leaderless self.new.told) }
+        ensures kept { has_leader ≡ false → IsNone result → self.new.told ≡ self.old.told }
     {
         if has_leader {
             *self = Quiet::NONE;
@@ -106,7 +108,8 @@ impl Lag {
     fn rest(&mut self, now: u64, executed: Executed) -> Option<Event>
         ensures some { IfSome result (λ e. (e ≡ CaughtUp executed) × HasRested self.old now) }
         ensures none { IsNone result → HasRested self.old now → ⊥ }
-        ensures told { IsSome result → self.new.told ≡ false }
+        ensures over { IsOver self.old now → self.new ≡ no_lag }
+        ensures kept { (IsOver self.old now → ⊥) → self.new ≡ self.old }
     {
         let Some((_, last)) = self.asked else {
             return None;
@@ -127,6 +130,7 @@ impl Lag {
         ensures some { IfSome result (IsLagNews self.old now wanted executed) }
         // What is news is told.
         ensures none { IsNone result → (e : EventValue) → IsLagNews self.old now wanted executed e → ⊥ }
+        ensures becomes { BecomesLag self.old now wanted result self.new }
     {
         match wanted {
             Some(node) => self.ask(now, node),

@@ -4,7 +4,7 @@ ghost use Rattle.std.specs.Prelude.{◌≡◌, replicate, slice_get, Some, None,
 ghost use Rattle.lk_events.specs.Kinds.{kinds};
 ghost use Rattle.lk_events.specs.Slots.{empty, Waits};
 ghost use Rattle.lk_events.specs.declared.slot.Slot.{Slot as SlotValue};
-ghost use Rattle.lk_events.specs.Watches.{Puts, TakesOut};
+ghost use Rattle.lk_events.specs.Watches.{Puts, PutsSome, TakesOut};
 
 use crate::event::{Event, KINDS};
 use crate::slot::{Line, Slot};
@@ -50,8 +50,7 @@ impl Slots {
 
     /// This has happened, if anything has.
     pub fn put_some(&mut self, now: u64, event: Option<Event>)
-        ensures some { IfSome event (λ e. Puts now e self.old.all self.new.all) }
-        ensures none { event ≡ None → self.new ≡ self.old }
+        ensures { PutsSome now event self.old.all self.new.all }
     {
         if let Some(event) = event {
             self.put(now, event);

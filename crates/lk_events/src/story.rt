@@ -1,7 +1,7 @@
 //! What was told of a node, and what is news by that.
 
-ghost use Rattle.std.specs.Prelude.{◌≡◌, ◌≢◌, ◌≤◌, ◌<◌, ◌⊎◌, Some, None, true, false, IfSome, IsNone};
-ghost use Rattle.lk_events.specs.News.{IsNews, told_with, has_all, is_one_of};
+ghost use Rattle.std.specs.Prelude.{◌≡◌, true, false, IfSome, IsNone};
+ghost use Rattle.lk_events.specs.News.{Gives, ending, leading, following, joining, leaving, writing, installing, failing, meeting, lead_topics, member_topics, work_topics, topics, story_of, told_with, has_all, is_one_of};
 ghost use Rattle.lk_events.specs.Watches.{PutsNews};
 
 use crate::event::Event;
@@ -45,10 +45,7 @@ fn missing(members: &Members, others: &Members) -> Option<NodeNo>
 impl Story {
     /// This is told already.
     pub fn of(view: View) -> Story
-        ensures leads { result.leads ≡ view.leads }
-        ensures follows { result.follows ≡ view.follows }
-        ensures members { result.members ≡ view.members }
-        ensures snapshot { result.snapshot ≡ view.snapshot }
+        ensures { result ≡ story_of view }
     {
         let View {
             leads,
@@ -67,8 +64,7 @@ impl Story {
 
     /// The ballot in which it leads no more.
     pub fn ended(&self, view: &View) -> Option<Event>
-        ensures some { IfSome result (IsNews self.now view.now) }
-        ensures none { IsNone result → (self.now.leads ≡ None) ⊎ (view.now.leads ≡ self.now.leads) }
+        ensures { Gives ending self.now view.now result }
     {
         let ballot = self.leads?;
         if view.leads == self.leads {
@@ -79,8 +75,7 @@ impl Story {
 
     /// The ballot in which it leads now.
     pub fn leads(&self, view: &View) -> Option<Event>
-        ensures some { IfSome result (IsNews self.now view.now) }
-        ensures none { IsNone result → (view.now.leads ≡ None) ⊎ (view.now.leads ≡ self.now.leads) }
+        ensures { Gives leading self.now view.now result }
     {
         let ballot = view.leads?;
         if view.leads == self.leads {
@@ -91,8 +86,7 @@ impl Story {
 
     /// The node that it follows now.
     pub fn follows(&self, view: &View) -> Option<Event>
-        ensures some { IfSome result (IsNews self.now view.now) }
-        ensures none { IsNone result → (view.now.follows ≡ None) ⊎ (view.now.follows ≡ self.now.follows) }
+        ensures { Gives following self.now view.now result }
     {
         let node = view.follows?;
         if view.follows == self.follows {
@@ -103,8 +97,7 @@ impl Story {
 
     /// A node that is a member and was none.
     pub fn joined(&self, view: &View) -> Option<Event>
-        ensures some { IfSome result (IsNews self.now view.now) }
-        ensures none { IsNone result → has_all self.now.members view.now.members ≡ true }
+        ensures { Gives joining self.now view.now result }
     {
         let node = missing(&view.members, &self.members)?;
         Some(Event::Joined(node, view.members.copy()))
@@ -112,8 +105,7 @@ impl Story {
 
     /// A node that was a member and is none.
     pub fn left(&self, view: &View) -> Option<Event>
-        ensures some { IfSome result (IsNews self.now view.now) }
-        ensures none { IsNone result → has_all view.now.members self.now.members ≡ true }
+        ensures { Gives leaving self.now view.now result }
     {
         let node = missing(&self.members, &view.members)?;
         Some(Event::Left(node, view.members.copy()))
@@ -121,8 +113,7 @@ impl Story {
 
     /// Its further snapshot.
     pub fn wrote(&self, view: &View) -> Option<Event>
-        ensures some { IfSome result (IsNews self.now view.now) }
-        ensures none { IsNone result → (view.now.snapshot ≤ self.now.snapshot) ⊎ (view.now.installed ≢ None) }
+        ensures { Gives writing self.now view.now result }
     {
         if view.installed.is_some() || view.snapshot.get() <= self.snapshot.get() {
             return None;
@@ -132,8 +123,7 @@ impl Story {
 
     /// Another node's snapshot that it installed.
     pub fn installed(&self, view: &View) -> Option<Event>
-        ensures some { IfSome result (IsNews self.now view.now) }
-        ensures none { IsNone result → view.now.installed ≡ None }
+        ensures { Gives installing self.now view.now result }
     {
         let (position, node) = view.installed?;
         Some(Event::Installed(position, node))
@@ -141,8 +131,7 @@ impl Story {
 
     /// A node to which a send failed.
     pub fn unsent(&self, view: &View) -> Option<Event>
-        ensures some { IfSome result (IsNews self.now view.now) }
-        ensures none { IsNone result → view.now.unsent ≡ None }
+        ensures { Gives failing self.now view.now result }
     {
         let node = view.unsent?;
         Some(Event::Unsent(node))
@@ -150,53 +139,42 @@ impl Story {
 
     /// A node of another genesis that it heard.
     pub fn stranger(&self, view: &View) -> Option<Event>
-        ensures some { IfSome result (IsNews self.now view.now) }
-        ensures none { IsNone result → view.now.stranger ≡ None }
+        ensures { Gives meeting self.now view.now result }
     {
         let node = view.stranger?;
         Some(Event::OtherGenesis(node))
     }
 
-    // This waits to be told then, if anything does.
-    fn put_news(&self, now: u64, view: &View, event: Option<Event>, slots: &mut Slots)
-        requires { IfSome event (IsNews self.now view.now) }
-        ensures { PutsNews now self.now view.now slots.old.all slots.new.all }
-    {
-        if let Some(event) = event {
-            slots.put(now, event);
-        }
-    }
-
     // What is news of who leads.
     fn put_leads(&self, now: u64, view: &View, slots: &mut Slots)
-        ensures { PutsNews now self.now view.now slots.old.all slots.new.all }
+        ensures { PutsNews now self.now view.now lead_topics slots.old.all slots.new.all }
     {
-        self.put_news(now, view, self.ended(view), slots);
-        self.put_news(now, view, self.leads(view), slots);
-        self.put_news(now, view, self.follows(view), slots);
+        slots.put_some(now, self.ended(view));
+        slots.put_some(now, self.leads(view));
+        slots.put_some(now, self.follows(view));
     }
 
     // What is news of who is a member.
     fn put_members(&self, now: u64, view: &View, slots: &mut Slots)
-        ensures { PutsNews now self.now view.now slots.old.all slots.new.all }
+        ensures { PutsNews now self.now view.now member_topics slots.old.all slots.new.all }
     {
-        self.put_news(now, view, self.joined(view), slots);
-        self.put_news(now, view, self.left(view), slots);
+        slots.put_some(now, self.joined(view));
+        slots.put_some(now, self.left(view));
     }
 
     // What is news of its snapshots, of what it sent and of whom it heard.
     fn put_work(&self, now: u64, view: &View, slots: &mut Slots)
-        ensures { PutsNews now self.now view.now slots.old.all slots.new.all }
+        ensures { PutsNews now self.now view.now work_topics slots.old.all slots.new.all }
     {
-        self.put_news(now, view, self.wrote(view), slots);
-        self.put_news(now, view, self.installed(view), slots);
-        self.put_news(now, view, self.unsent(view), slots);
-        self.put_news(now, view, self.stranger(view), slots);
+        slots.put_some(now, self.wrote(view));
+        slots.put_some(now, self.installed(view));
+        slots.put_some(now, self.unsent(view));
+        slots.put_some(now, self.stranger(view));
     }
 
     // What is news.
     fn put_all(&self, now: u64, view: &View, slots: &mut Slots)
-        ensures { PutsNews now self.now view.now slots.old.all slots.new.all }
+        ensures { PutsNews now self.now view.now topics slots.old.all slots.new.all }
     {
         self.put_leads(now, view, slots);
         self.put_members(now, view, slots);
@@ -222,7 +200,7 @@ impl Story {
 
     /// This is seen after a turn: what is news of it waits to be told.
     pub fn turn(&mut self, now: u64, view: View, slots: &mut Slots)
-        ensures news { PutsNews now self.old view slots.old.all slots.new.all }
+        ensures news { PutsNews now self.old view topics slots.old.all slots.new.all }
         ensures told { self.new ≡ told_with view self.old }
     {
         self.put_all(now, &view, slots);

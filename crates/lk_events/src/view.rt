@@ -1,7 +1,7 @@
 //! What is seen of a node after a turn.
 
 ghost use Rattle.std.specs.Prelude.{◌≡◌};
-ghost use Rattle.lk_events.specs.Views.{why_of};
+ghost use Rattle.lk_events.specs.Views.{why_of, has_leader};
 
 use crate::event::Why;
 use lk_types::{Ballot, Executed, Members, NodeNo, RealBallot};
@@ -34,6 +34,13 @@ pub struct View {
 }
 
 impl View {
+    /// Whether somebody leads, as far as the node knows.
+    pub fn has_leader(&self) -> bool
+        ensures { result ≡ has_leader self.now }
+    {
+        self.leads.is_some() || self.follows.is_some()
+    }
+
     /// Why the node does not lead in this ballot any more.
     pub fn why(&self, ballot: RealBallot) -> Why
         ensures { result ≡ why_of self.now ballot }

@@ -2,10 +2,11 @@
 
 ghost use Rattle.std.specs.Prelude.{◌≡◌, replicate, slice_get, Some, None, IfSome};
 ghost use Rattle.lk_events.specs.Kinds.{kinds};
-ghost use Rattle.lk_events.specs.News.{told_with};
+ghost use Rattle.lk_events.specs.News.{story_of};
+ghost use Rattle.lk_events.specs.Quiets.{no_lag};
 ghost use Rattle.lk_events.specs.Slots.{empty, Waits};
 ghost use Rattle.lk_events.specs.declared.slot.Slot.{Slot as SlotValue};
-ghost use Rattle.lk_events.specs.Watches.{Puts, TakesOut};
+ghost use Rattle.lk_events.specs.Watches.{Puts, TakesOut, TurnsTimes, Turns};
 
 use crate::event::Event;
 use crate::quiet::{Lag, Quiet};
@@ -26,7 +27,10 @@ pub struct Watch {
 impl Watch {
     /// Nothing but this was seen of the node, and nothing waits.
     pub fn new(view: View) -> Watch
-        ensures { result.slots.all ≡ replicate kinds empty }
+        ensures story { result.story ≡ story_of view }
+        ensures quiet { result.quiet ≡ record { since = None; told = 0 } }
+        ensures lag { result.lag ≡ no_lag }
+        ensures slots { result.slots.all ≡ replicate kinds empty }
     {
         Watch {
             story: Story::of(view),
@@ -46,10 +50,9 @@ impl Watch {
 
     // What is news by the time that has passed.
     fn put_times(&mut self, now: u64, view: &View)
-        ensures { self.new.story ≡ self.old.story }
+        ensures { TurnsTimes now view.now self.old self.new }
     {
-        let has_leader = view.leads.is_some() || view.follows.is_some();
-        let leaderless = self.quiet.turn(now, has_leader);
+        let leaderless = self.quiet.turn(now, view.has_leader());
         self.slots.put_some(now, leaderless);
         let lag = self.lag.turn(now, view.wanted, view.executed);
         self.slots.put_some(now, lag);
@@ -57,7 +60,7 @@ impl Watch {
 
     /// A turn has passed, after which this is seen.
     pub fn turn(&mut self, now: u64, view: View)
-        ensures { self.new.story ≡ told_with view self.old.story }
+        ensures { Turns now view self.old self.new }
     {
         self.put_times(now, &view);
         self.story.turn(now, view, &mut self.slots);
@@ -66,6 +69,7 @@ impl Watch {
     /// Takes out what waits of that kind, where it may be told.
     pub fn take(&mut self, kind: usize, now: u64) -> Option<Line>
         ensures line { IfSome result (λ line. TakesOut kind now line self.old.slots.all self.new.slots.all) }
+        ensures others { self.new ≡ record self.old { slots = self.new.slots } }
         ensures none { result ≡ None → self.new ≡ self.old }
         ensures waits { result ≡ None → (slot : SlotValue) → slice_get self.old.slots.all kind ≡ Some slot → Waits slot now }
     {

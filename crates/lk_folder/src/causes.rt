@@ -1,6 +1,7 @@
 //! Explains why something does not open, or why a call of a file failed.
 
-ghost use Rattle.std.specs.Prelude.{◌≡◌};
+ghost use Rattle.std.specs.Prelude.{◌≡◌, ◌≢◌, IfOk, IfErr};
+ghost use Rattle.lk_folder.specs.Openings.{IsClosed};
 
 use lk_disk::{FileDisk, MemoryDisk, Side, SystemDisk};
 use lk_transport::fault::ServiceFault;
@@ -18,7 +19,9 @@ pub fn tell_cause<N: Display + Drop, T: Display + Drop, E: Write>(
     name: N,
     text: T,
     err: &mut E,
-) -> ServiceFault {
+) -> ServiceFault
+    ensures { result ≡ ServiceFault.CannotOpen }
+{
     let _ = writeln!(err, "{name}: {text}");
     ServiceFault::CannotOpen
 }
@@ -28,7 +31,10 @@ pub fn open_socket<R: Net, E: Write>(
     rt: &R,
     port: u16,
     err: &mut E,
-) -> Result<LocalSocket, ServiceFault> {
+) -> Result<LocalSocket, ServiceFault>
+    ensures fault { IfErr result (λ fault. fault ≡ ServiceFault.CannotOpen) }
+    ensures quiet { IfOk result (λ _. err.new ≡ err.old) }
+{
     open_socket_at(rt, local(port), err)
 }
 
@@ -37,7 +43,10 @@ pub fn open_socket_at<R: Net, E: Write>(
     rt: &R,
     place: SocketAddr,
     err: &mut E,
-) -> Result<LocalSocket, ServiceFault> {
+) -> Result<LocalSocket, ServiceFault>
+    ensures fault { IfErr result (λ fault. fault ≡ ServiceFault.CannotOpen) }
+    ensures quiet { IfOk result (λ _. err.new ≡ err.old) }
+{
     match LocalSocket::open_at(rt, place) {
         Ok(socket) => Ok(socket),
         Err(error) => Err(tell_cause(place, error, err)),
@@ -52,7 +61,10 @@ pub fn open_file<R: Files, E: Write>(
     folder: &str,
     name: &str,
     err: &mut E,
-) -> Result<R::File, ServiceFault> {
+) -> Result<R::File, ServiceFault>
+    ensures fault { IfErr result IsClosed }
+    ensures quiet { IfOk result (λ _. err.new ≡ err.old) }
+{
     let path = Path::new(folder).join(alloc, name)?;
     match how.open(rt, path.as_path()) {
         Ok(file) => Ok(file),
@@ -67,7 +79,9 @@ pub fn tell_closed<R: Files, E: Write>(
     how: &OpenOptions,
     folder: &str,
     err: &mut E,
-) -> ServiceFault {
+) -> ServiceFault
+    ensures { IsClosed result }
+{
     for name in ["a", "b"] {
         if let Err(fault) = open_file(rt, alloc, how, folder, name, err) {
             return fault;
@@ -101,7 +115,8 @@ pub fn tell_device<D: FailureCause, E: Write>(
     folder: &str,
     err: &mut E,
 ) -> ServiceFault
-    ensures { result ≡ fault }
+    ensures fault { result ≡ fault }
+    ensures quiet { fault ≢ ServiceFault.Device → err.new ≡ err.old }
 {
     if fault == ServiceFault::Device {
         for (side, name) in [(Side::A, "a"), (Side::B, "b")] {

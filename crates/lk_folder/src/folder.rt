@@ -1,5 +1,8 @@
 //! The files of a folder, from which only one process serves.
 
+ghost use Rattle.std.specs.Prelude.{◌≡◌, IfOk, IfErr};
+ghost use Rattle.lk_folder.specs.Openings.{IsClosed};
+
 use crate::causes::{open_file, tell_cause, tell_closed};
 use lk_disk::{FileDisk, SystemDisk};
 use lk_transport::fault::ServiceFault;
@@ -29,7 +32,10 @@ impl FolderLock {
         alloc: Global,
         folder: &str,
         err: &mut E,
-    ) -> Result<FolderLock, ServiceFault> {
+    ) -> Result<FolderLock, ServiceFault>
+        ensures fault { IfErr result IsClosed }
+        ensures quiet { IfOk result (λ _. err.new ≡ err.old) }
+    {
         let file = open_file(rt, alloc, &to_write(), folder, "a", err)?;
         match file.try_lock() {
             Ok(()) => Ok(FolderLock { _file: file }),
@@ -48,7 +54,10 @@ pub fn open_device<R: Files, E: Write>(
     alloc: Global,
     folder: &str,
     err: &mut E,
-) -> Result<SystemDisk<R::File>, ServiceFault> {
+) -> Result<SystemDisk<R::File>, ServiceFault>
+    ensures fault { IfErr result IsClosed }
+    ensures quiet { IfOk result (λ _. err.new ≡ err.old) }
+{
     match FileDisk::open(rt, alloc, folder) {
         Ok(device) => Ok(device),
         Err(_) => Err(tell_closed(rt, alloc, &to_write(), folder, err)),
@@ -61,7 +70,10 @@ pub fn look_at_device<R: Files, E: Write>(
     alloc: Global,
     folder: &str,
     err: &mut E,
-) -> Result<SystemDisk<R::File>, ServiceFault> {
+) -> Result<SystemDisk<R::File>, ServiceFault>
+    ensures fault { IfErr result IsClosed }
+    ensures quiet { IfOk result (λ _. err.new ≡ err.old) }
+{
     match FileDisk::look_at(rt, alloc, folder) {
         Ok(device) => Ok(device),
         Err(_) => {

@@ -1,10 +1,13 @@
 //! What is told of a store that is not taken up: what was found, and what to do.
 
-ghost use Rattle.std.specs.Prelude.{◌≡◌};
+ghost use Rattle.std.specs.Prelude.{◌≡◌, ◌≢◌, ◌≤◌, length, IfSome, IsTrue};
+ghost use Rattle.lk_disk.specs.Disk.{contents};
+ghost use Rattle.lk_disk.specs.declared.device.Side.{Side as SideValue};
+ghost use Rattle.lk_folder.specs.Ends.{EndsAt};
 
 use crate::causes::{FailureCause, tell_device};
 use lk_disk::{LogDisk, Side};
-use lk_entries::{Header, Stored, first_entry};
+use lk_entries::{Header, Stored, Unread, first_entry};
 use lk_transport::fault::ServiceFault;
 use std::alloc::Global;
 use std::io;
@@ -13,47 +16,77 @@ use std::io::Write;
 /// The files of a folder.
 const FILES: [(Side, &str); 2] = [(Side::A, "a"), (Side::B, "b")];
 
-/// The bytes of a file, where it can be read.
-fn bytes_of<D: LogDisk>(alloc: Global, device: &mut D, side: Side) -> Option<Vec<u8>> {
+/// The bytes of a file, if it can be read.
+fn bytes_of<D: LogDisk>(alloc: Global, device: &mut D, side: Side) -> Option<Vec<u8>>
+    ensures unchanged { D.is_honest → (s : SideValue) → D.disk device.new s ≡ D.disk device.old s }
+    ensures bytes { D.is_honest → IfSome result (λ bytes. bytes.items ≡ contents (D.disk device.old side)) }
+{
     let count = device.length(side).ok()?;
     let mut bytes = vec![in alloc; 0; count].ok()?;
     device.read_into(side, 0, &mut bytes).ok()?;
     Some(bytes)
 }
 
-/// Where the whole entries of a file end.
-fn end_of(alloc: Global, bytes: &[u8]) -> usize {
+/// Where the whole entries of a file end. `None` if memory runs out before.
+fn end_of(alloc: Global, bytes: &[u8]) -> Option<usize>
+    ensures { IfSome result (EndsAt bytes.now) }
+{
     let mut rest = bytes;
-    'entries: for _ in 0..bytes.len() {
+    'entries: loop {
         match first_entry(alloc, rest) {
-            Ok((_, more)) => rest = more,
-            Err(_) => break,
+            Ok((_entry, more)) => rest = more,
+            Err(Unread::NoEntry) => return Some(bytes.len().saturating_sub(rest.len())),
+            Err(Unread::NoMemory) => return None,
         }
     }
-    bytes.len().saturating_sub(rest.len())
 }
 
-/// Tells at which byte of a file no entry reads, if that is so. Whether it is.
-fn tell_end<E: Write>(alloc: Global, bytes: &[u8], folder: &str, name: &str, err: &mut E) -> bool {
-    let (end, size) = (end_of(alloc, bytes), bytes.len());
-    if end < size {
-        let _ = writeln!(
-            err,
-            "{folder}/{name}: no entry reads at byte {end} of {size}"
-        );
-    }
-    end < size
+/// Where the whole entries of a file end, and the file's size. `None` if it cannot be read.
+fn extent_of<D: LogDisk>(alloc: Global, device: &mut D, side: Side) -> Option<(usize, usize)>
+    ensures unchanged { D.is_honest → (s : SideValue) → D.disk device.new s ≡ D.disk device.old s }
+    ensures end { D.is_honest → IfSome result (λ e. EndsAt (contents (D.disk device.old side)) e.0) }
+    ensures size { D.is_honest → IfSome result (λ e. e.1 ≡ length (contents (D.disk device.old side))) }
+{
+    let bytes = bytes_of(alloc, device, side)?;
+    let end = end_of(alloc, &bytes)?;
+    Some((end, bytes.len()))
 }
 
-/// Tells where a store is damaged.
-fn tell_damage<D: LogDisk, E: Write>(alloc: Global, device: &mut D, folder: &str, err: &mut E) {
-    let mut is_told = false;
-    for (side, name) in FILES {
-        if let Some(bytes) = bytes_of(alloc, device, side) {
-            is_told |= tell_end(alloc, &bytes, folder, name, err);
-        }
+/// Writes at which byte of a file no entry reads, if there is one. Returns whether all of it reads as entries.
+fn tell_end<D: LogDisk, E: Write>(
+    alloc: Global,
+    device: &mut D,
+    side: Side,
+    path: (&str, &str),
+    err: &mut E,
+) -> bool
+    ensures unchanged { D.is_honest → (s : SideValue) → D.disk device.new s ≡ D.disk device.old s }
+    ensures whole { D.is_honest → IsTrue result → (end : _) × EndsAt (contents (D.disk device.old side)) end × (length (contents (D.disk device.old side)) ≤ end) }
+    ensures quiet { IsTrue result → err.new ≡ err.old }
+{
+    let Some((end, size)) = extent_of(alloc, device, side) else {
+        return false;
+    };
+    if end >= size {
+        return true;
     }
-    if !is_told {
+    let (folder, name) = path;
+    let _ = writeln!(
+        err,
+        "{folder}/{name}: no entry reads at byte {end} of {size}"
+    );
+    false
+}
+
+/// Writes where a store is damaged.
+fn tell_damage<D: LogDisk, E: Write>(alloc: Global, device: &mut D, folder: &str, err: &mut E)
+    ensures { D.is_honest → (s : SideValue) → D.disk device.new s ≡ D.disk device.old s }
+{
+    let mut are_whole = true;
+    'files: for (side, name) in FILES {
+        are_whole &= tell_end(alloc, device, side, (folder, name), err);
+    }
+    if are_whole {
         let _ = writeln!(err, "{folder}: the entries read, and do not fit together");
     }
     let _ = writeln!(
@@ -79,21 +112,27 @@ fn tell_header<E: Write>(header: &Header, folder: &str, name: &str, err: &mut E)
     let _ = write_genesis(header, err);
 }
 
-/// Tells whose store stands in a folder.
-fn tell_owner<D: LogDisk, E: Write>(alloc: Global, device: &mut D, folder: &str, err: &mut E) {
-    for (side, name) in FILES {
-        let Some(bytes) = bytes_of(alloc, device, side) else {
-            continue;
-        };
-        if let Ok((Stored::Base(base), _)) = first_entry(alloc, &bytes) {
-            tell_header(&base.header, folder, name, err);
+/// Writes whose store a file is, if it begins with a Base.
+fn tell_base<E: Write>(alloc: Global, bytes: &[u8], folder: &str, name: &str, err: &mut E) {
+    if let Ok((Stored::Base(base), _)) = first_entry(alloc, bytes) {
+        tell_header(&base.header, folder, name, err);
+    }
+}
+
+/// Writes whose store stands in a folder.
+fn tell_owner<D: LogDisk, E: Write>(alloc: Global, device: &mut D, folder: &str, err: &mut E)
+    ensures { D.is_honest → (s : SideValue) → D.disk device.new s ≡ D.disk device.old s }
+{
+    'files: for (side, name) in FILES {
+        if let Some(bytes) = bytes_of(alloc, device, side) {
+            tell_base(alloc, &bytes, folder, name, err);
         }
     }
     let _ = writeln!(err, "{folder}: check --dir, --number and --genesis");
 }
 
-/// Tells in lines why the store of a folder is not taken up, and what to do: where the files failed, where it is
-/// damaged, and whose it is.
+/// Writes in lines why the store of a folder is not taken up, and what to do: where the files failed, where it is
+/// damaged, and whose it is. It reads the files, and changes none.
 pub fn tell_refusal<D: LogDisk + FailureCause, E: Write>(
     alloc: Global,
     fault: ServiceFault,
@@ -101,7 +140,9 @@ pub fn tell_refusal<D: LogDisk + FailureCause, E: Write>(
     folder: &str,
     err: &mut E,
 ) -> ServiceFault
-    ensures { result ≡ fault }
+    ensures fault { result ≡ fault }
+    ensures unchanged { D.is_honest → (s : SideValue) → D.disk device.new s ≡ D.disk device.old s }
+    ensures quiet { fault ≢ ServiceFault.Damaged → fault ≢ ServiceFault.WrongStore → fault ≢ ServiceFault.Device → err.new ≡ err.old }
 {
     match fault {
         ServiceFault::Damaged => tell_damage(alloc, device, folder, err),

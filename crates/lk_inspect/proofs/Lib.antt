@@ -1,3 +1,6 @@
 mod Standing
 mod Leaving
 mod Printing
+mod Faults
+mod Writing
+mod Dumping

@@ -1,12 +1,17 @@
 -- A summary of a store, in terms of its list of commands.
-use Rattle.std.specs.Prelude.{◌≡◌, ◌+◌, List, length}
+use Rattle.std.specs.Prelude.{◌≡◌, ◌⊎◌, ◌+◌, ◌++◌, ℕ, List, length, Option, Some, None}
+use Rattle.std.specs.List.{AllByRecursion}
 use Rattle.std.specs.FinMap as map
+use Rattle.lk_types.specs.Commands.{IsCommand}
 use Rattle.lk_entries.specs.Values.{StandingValue}
+use Rattle.lk_log.specs.Images.{Image, IsEmpty, IsDamaged}
+use Rattle.lk_log.specs.Stores.{Shows}
 use Rattle.lk_members.specs.Effects.{Command}
 use Rattle.lk_members.specs.Rosters.{Genesis}
 use Rattle.lk_members.specs.Windows.{sets_from}
 use Rattle.lk_state.specs.Packed.{Packs}
-use Rattle.lk_state.specs.States.{WholeValue, sessions_of}
+use Rattle.lk_state.specs.States.{WholeValue, whole_after, sessions_of}
+use Rattle.lk_recovery.specs.Revivals.{run_from}
 use Rattle.lk_locks.specs.Held.{held_in}
 use Rattle.lk_locks.specs.Lists.{table_of}
 use Rattle.lk_locks.specs.Meaning.{table_meaning}
@@ -25,3 +30,35 @@ pub record Tells (genesis : Genesis) (L : List Command) (i : Inspection) : Type 
 -- its snapshot packs no state at its position
 abbrev pub CannotStand : StandingValue → Type 0
 CannotStand s = (w : WholeValue) → Packs IsTableText w s.snapshot → w.roster.executed ≡ s.position → ⊥
+
+-- ---- what is found in a store
+
+-- the list whose state its snapshot packs, and the decided commands behind it, are told
+abbrev pub ComesTo : StandingValue → Inspection → Type 0
+ComesTo s i = (genesis : Genesis) (L : List Command) → Packs IsTableText (whole_after table_meaning genesis L) s.snapshot
+    → AllByRecursion IsCommand (L ++ run_from (length L) s.pairs) → Tells genesis (L ++ run_from (length L) s.pairs) i
+
+-- what the live file of these files stands for is told
+pub record Inspects (image : Image) (i : Inspection) : Type 0 where
+  pub generation : ℕ
+  pub format : ℕ
+  pub standing : StandingValue
+  pub shows : Shows image generation format standing
+  pub comes_to : ComesTo standing i
+
+-- what there is of a store in these files
+abbrev pub Finds : Image → Option Inspection → Type 0
+Finds image None = IsEmpty image
+Finds image (Some i) = Inspects image i
+
+-- the live file has this standing, whose snapshot packs no state
+pub record ShowsNone (image : Image) : Type 0 where
+  pub generation : ℕ
+  pub format : ℕ
+  pub standing : StandingValue
+  pub shows : Shows image generation format standing
+  pub cannot : CannotStand standing
+
+-- the files are damaged, or a snapshot is
+abbrev pub IsSpoilt : Image → Type 0
+IsSpoilt image = IsDamaged image ⊎ ShowsNone image

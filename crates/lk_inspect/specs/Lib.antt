@@ -1,2 +1,4 @@
 pub mod Inspections
 pub mod WorldStates
+pub mod Dumps
+pub mod Lines

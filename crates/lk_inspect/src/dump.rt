@@ -1,7 +1,10 @@
 //! A summary of the store of a folder, for the operator of a node.
 
-ghost use Rattle.std.specs.Prelude.{◌≡◌, ◌≤◌};
+ghost use Rattle.std.specs.Io.KnownBytes.{Appends};
+ghost use Rattle.std.specs.Prelude.{◌≡◌, ◌≤◌, ◌++◌, List, ℕ, is_some, IfOk, OnOk, IsErrOf};
 ghost use Rattle.lk_disk.specs.declared.device.Side.{Side};
+ghost use Rattle.lk_log.specs.Images.{seen, IsDamaged};
+ghost use Rattle.lk_inspect.specs.Dumps.{number_line, promised_line, live_text, found_text, Dumps};
 
 use lk_disk::LogDisk;
 use lk_folder::folder::look_at_device;
@@ -15,28 +18,38 @@ use std::io;
 use std::io::Write;
 
 /// Writes a line of a name and a number.
-fn write_number<W: Write>(name: &str, number: u64, out: &mut W) -> io::Result<()> {
+fn write_number<W: Write>(name: &str, number: u64, out: &mut W) -> io::Result<()>
+    ensures { OnOk result (Appends (W.contents out.old) (W.contents out.new) (number_line name.now number)) }
+{
     writeln!(out, "{name} {number}")
 }
 
 /// Writes the line of the promised ballot: its round and its node.
-fn write_promised<W: Write>(promised: Ballot, out: &mut W) -> io::Result<()> {
+fn write_promised<W: Write>(promised: Ballot, out: &mut W) -> io::Result<()>
+    ensures { OnOk result (Appends (W.contents out.old) (W.contents out.new) (promised_line promised)) }
+{
     writeln!(out, "promised {} {}", promised.round(), promised.node())
 }
 
 /// Writes one line each for the generation of the live file, the promised ballot (`0 0` if there is none), the
 /// snapshot's position, the counts of votes and decided commands above it, and the format of the file.
-fn write_live<W: Write>(live: &LiveFile, out: &mut W) -> io::Result<()> {
+fn write_live<W: Write>(live: &LiveFile, out: &mut W) -> io::Result<()>
+    ensures { OnOk result (Appends (W.contents out.old) (W.contents out.new) (live_text live.now.generation live.now.format live.now.standing)) }
+{
     write_number("generation", live.generation, out)?;
     write_promised(live.standing.promised, out)?;
     write_number("snapshot", live.standing.position.get(), out)?;
     write_number("votes", live.standing.votes.len() as u64, out)?;
     write_number("decided", live.standing.pairs.len() as u64, out)?;
-    write_number("format", u64::from(live.format), out)
+    write_number("format", u64::from(live.format), out)?;
+    Ok(())
 }
 
 /// Writes what was found, or `no store`. Returns whether there is a store.
-fn write_found<W: Write>(found: Option<LiveFile>, out: &mut W) -> io::Result<bool> {
+fn write_found<W: Write>(found: Option<LiveFile>, out: &mut W) -> io::Result<bool>
+    ensures text { IfOk result (λ _. Appends (W.contents out.old) (W.contents out.new) (found_text found)) }
+    ensures value { IfOk result (λ is_store. is_store ≡ is_some found) }
+{
     match found {
         Some(live) => {
             write_live(&live, out)?;
@@ -58,6 +71,8 @@ pub fn dump_device<D: LogDisk, W: Write>(
     out: &mut W,
 ) -> Result<bool, ServiceFault>
     ensures unchanged { D.is_honest → (s : Side) → D.disk device.new s ≡ D.disk device.old s }
+    ensures printed { D.is_honest → IfOk result (λ is_store. (text : List ℕ) × Dumps (seen (D.disk device.old)) is_store text × Appends (W.contents out.old) (W.contents out.new) text) }
+    ensures damaged { D.is_honest → IsErrOf result ServiceFault.Damaged → IsDamaged (seen (D.disk device.old)) }
 {
     let found = look(alloc, device)?;
     let Ok(is_store) = write_found(found, out) else {

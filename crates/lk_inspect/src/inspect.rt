@@ -1,7 +1,9 @@
 //! What the store of a folder amounts to, for the operator of a node.
 
-ghost use Rattle.std.specs.Prelude.{◌≡◌, ◌≤◌};
+ghost use Rattle.std.specs.Prelude.{◌≡◌, ◌≤◌, is_some, IfOk, IsErrOf};
 ghost use Rattle.lk_disk.specs.declared.device.Side.{Side};
+ghost use Rattle.lk_log.specs.Images.{seen};
+ghost use Rattle.lk_inspect.specs.Inspections.{Finds, IsSpoilt};
 
 use crate::inspection::{Inspection, inspected};
 use crate::lines::write_inspection;
@@ -16,7 +18,9 @@ use std::io;
 use std::io::Write;
 
 /// Writes what a store amounts to, or `no store`. Returns whether there is one.
-pub fn write_found<W: Write>(found: Option<&Inspection>, out: &mut W) -> io::Result<bool> {
+pub fn write_found<W: Write>(found: Option<&Inspection>, out: &mut W) -> io::Result<bool>
+    ensures { IfOk result (λ is_store. is_store ≡ is_some found.entry) }
+{
     match found {
         Some(inspection) => write_inspection(inspection, out)?,
         None => out.write_all(b"no store\n")?,
@@ -32,6 +36,8 @@ pub fn inspect_device<D: LogDisk>(
     device: &mut D,
 ) -> Result<Option<Inspection>, ServiceFault>
     ensures unchanged { D.is_honest → (s : Side) → D.disk device.new s ≡ D.disk device.old s }
+    ensures found { D.is_honest → IfOk result (Finds (seen (D.disk device.old))) }
+    ensures damaged { D.is_honest → IsErrOf result ServiceFault.Damaged → IsSpoilt (seen (D.disk device.old)) }
 {
     match look(alloc, device)? {
         Some(live) => Ok(Some(inspected(alloc, &live.standing)?)),

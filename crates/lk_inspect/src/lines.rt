@@ -1,5 +1,9 @@
 //! An inspection as lines of text.
 
+ghost use Rattle.std.specs.Io.KnownBytes.{Appends};
+ghost use Rattle.std.specs.Prelude.{OnOk};
+ghost use Rattle.lk_inspect.specs.Lines.{set_line, holder_line, count_line};
+
 use crate::inspection::Inspection;
 use lk_locks::{Holders, Name, Slot};
 use lk_members::Window;
@@ -9,11 +13,15 @@ use std::io;
 use std::io::Write;
 
 /// Writes each member as ` NODE:PORT`, and ends the line.
-fn write_set<W: Write>(set: &Members, out: &mut W) -> io::Result<()> {
-    for member in set.as_slice() {
+fn write_set<W: Write>(set: &Members, out: &mut W) -> io::Result<()>
+    ensures { OnOk result (Appends (W.contents out.old) (W.contents out.new) (set_line set.now)) }
+{
+    let members = set.as_slice();
+    'members: for member in members {
         write!(out, " {}:{}", member.node.get(), member.port.get())?;
     }
-    out.write_all(b"\n")
+    out.write_all(b"\n")?;
+    Ok(())
 }
 
 /// Writes a line `members NODE:PORT ..` for the next position, and a line `members from P NODE:PORT ..` for each later
@@ -35,15 +43,13 @@ fn write_window<W: Write>(executed: Executed, window: &Window, out: &mut W) -> i
 }
 
 /// Writes a line `held NAME CLIENT FENCE`.
-fn write_holder<W: Write>(
-    name: &Name,
-    client: ClientNo,
-    slot: &Slot,
-    out: &mut W,
-) -> io::Result<()> {
+fn write_holder<W: Write>(name: &Name, client: ClientNo, slot: &Slot, out: &mut W) -> io::Result<()>
+    ensures { OnOk result (Appends (W.contents out.old) (W.contents out.new) (holder_line name.now client slot.now.fence)) }
+{
     out.write_all(b"held ")?;
     out.write_all(name.as_slice())?;
-    writeln!(out, " {} {}", client.get(), slot.fence.get())
+    writeln!(out, " {} {}", client.get(), slot.fence.get())?;
+    Ok(())
 }
 
 /// Writes a line for each client that holds the name, rising.
@@ -61,7 +67,9 @@ fn write_slot<W: Write>(name: &Name, slot: &Slot, out: &mut W) -> io::Result<()>
 }
 
 /// Writes a line of a count and its maximum.
-fn write_count<W: Write>(name: &str, count: usize, most: usize, out: &mut W) -> io::Result<()> {
+fn write_count<W: Write>(name: &str, count: usize, most: usize, out: &mut W) -> io::Result<()>
+    ensures { OnOk result (Appends (W.contents out.old) (W.contents out.new) (count_line name.now count most)) }
+{
     writeln!(out, "{name} {count} of {most}")
 }
 

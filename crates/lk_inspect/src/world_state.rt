@@ -4,7 +4,8 @@ ghost use Rattle.std.specs.Prelude.{◌≡◌, ◌⊎◌, ◌++◌, ℕ, List, m
 ghost use Rattle.std.specs.Io.KnownBytes.{Appends};
 ghost use Rattle.lk_seats.specs.Left.{left_of};
 ghost use Rattle.lk_script.specs.Endings.{PrintsAll};
-ghost use Rattle.lk_inspect.specs.WorldStates.{IsStateOf, AreStatesOf};
+ghost use Rattle.lk_inspect.specs.Lines.{disk_line};
+ghost use Rattle.lk_inspect.specs.WorldStates.{IsStateOf, AreStatesOf, bound_for_nodes};
 
 use crate::inspect::{inspect_device, write_found};
 use crate::inspection::Inspection;
@@ -90,7 +91,9 @@ fn write_store<W: Write>(
 }
 
 /// Writes a line `disk NAME SYNCED of WRITTEN bytes synced`.
-fn write_disk<W: Write>(name: &str, synced: usize, written: usize, out: &mut W) -> io::Result<()> {
+fn write_disk<W: Write>(name: &str, synced: usize, written: usize, out: &mut W) -> io::Result<()>
+    ensures { OnOk result (Appends (W.contents out.old) (W.contents out.new) (disk_line name.now synced written)) }
+{
     writeln!(out, "disk {name} {synced} of {written} bytes synced")
 }
 
@@ -104,11 +107,13 @@ fn write_state<W: Write>(state: &NodeState, out: &mut W) -> io::Result<()> {
 }
 
 /// How many datagrams are bound for nodes.
-fn bound_for_nodes(sent: &[Datagram]) -> usize {
-    let mut count = 0usize;
+fn bound_for_nodes(sent: &[Datagram]) -> usize
+    ensures { result ≡ bound_for_nodes sent.now }
+{
+    let mut count = 0;
     for datagram in sent {
         if let Party::Node(_) = datagram.to {
-            count = count.saturating_add(1);
+            count += 1;
         }
     }
     count

@@ -19,5 +19,5 @@ one_more i first [] r are is = (is, tt)
 one_more i first (other ∷ rs) r are is = (are.0, one_more i first rs r are.1 is)
 
 -- what is shown as served was heard, and shows that
-pub shown : {S : Type 0} (next : S → Option (SocketAddr × List ℕ)) (tells : Type 0) (p : Plan) (ended : S) → Shows next tells p true ended → IsShownServed next tells p.inquiry ended
-shown next tells p ended s = record { first = s.first; reports = s.reports; heard = s.heard; served = s.only refl }
+pub shown : {S : Type 0} (next : S → Option (SocketAddr × List ℕ)) (tells : Type 0) (p : Plan) (ended : S) → Shows next tells p true ended → IsShownServed next tells p ended
+shown next tells p ended s = record { first = s.first; reports = s.reports; heard = s.heard; served = s.only refl; ready = λ waits. s.ready waits refl }

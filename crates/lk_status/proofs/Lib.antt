@@ -1,2 +1,4 @@
 mod Serving
 mod Gathered
+mod Measuring
+mod Writing

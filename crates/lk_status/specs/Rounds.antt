@@ -1,5 +1,5 @@
 -- Which reports answer the probes of a round, and how they are gathered from what comes.
-use Rattle.std.specs.Prelude.{◌≡◌, ◌⊎◌, ℕ, ◌+◌, ◌<◌, ◌≤◌, Bool, false, ◌==◌, ◌||◌, Option, Some, None, List, [], ◌∷◌, ◌++◌, length}
+use Rattle.std.specs.Prelude.{◌≡◌, ◌⊎◌, ℕ, ◌+◌, ◌<◌, ◌≤◌, Bool, false, ◌==◌, ◌||◌, Option, Some, None, List, [], ◌∷◌, ◌++◌, length, if◌then◌else◌}
 use Rattle.std.specs.List.{AllByRecursion}
 use Rattle.std.specs.declared.net.socket_addr.SocketAddr.{SocketAddr}
 use Rattle.lk_seal.specs.Seals.{key_list, replied}
@@ -24,6 +24,11 @@ AreOfRound i first rs = AllByRecursion (IsOfRound i first) rs
 abbrev pub has_token : ℕ → List Report → Bool
 has_token token [] = false
 has_token token (r ∷ rs) = r.token == token || has_token token rs
+
+-- the first that has it
+abbrev pub report_of : ℕ → List Report → Option Report
+report_of token [] = None
+report_of token (r ∷ rs) = if r.token == token then Some r else report_of token rs
 
 -- ---- what comes
 

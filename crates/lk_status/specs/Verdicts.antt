@@ -1,5 +1,5 @@
 -- When the reports of nodes show a cluster that is served.
-use Rattle.std.specs.Prelude.{◌≡◌, ◌⊎◌, ℕ, suc, ◌+◌, ◌*◌, ◌<◌, Bool, true, false, nat_eq, nat_lt, nat_le, ◌==◌, ◌&&◌, ◌||◌, if◌then◌else◌, List, [], ◌∷◌, length, IsTrue}
+use Rattle.std.specs.Prelude.{◌≡◌, ◌⊎◌, ℕ, suc, ◌*◌, ◌<◌, Bool, true, false, nat_eq, nat_lt, nat_le, ◌==◌, ◌&&◌, ◌||◌, if◌then◌else◌, Option, Some, None, List, [], ◌∷◌, length}
 use Rattle.std.specs.Cmp.Lexicographic.{pointwise}
 use Rattle.std.specs.List.{AllByRecursion}
 use Rattle.lk_types.specs.declared.member.Member.{Member}
@@ -58,3 +58,8 @@ all_have executed (r ∷ rs) = nat_le executed r.status.progress.executed && all
 -- the cluster is served, as many nodes report as were asked, and each has executed so many positions
 abbrev pub is_ready : ℕ → ℕ → List Report → Bool
 is_ready asked executed rs = length rs == asked && (all_have executed rs && is_served rs)
+
+-- so with the positions that were the goal, where there is one
+abbrev pub is_at : Option ℕ → ℕ → List Report → Bool
+is_at None asked rs = false
+is_at (Some executed) asked rs = is_ready asked executed rs

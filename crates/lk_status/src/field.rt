@@ -1,3 +1,7 @@
+ghost use Rattle.std.specs.Prelude.{◌≡◌};
+ghost use Rattle.lk_probe.specs.Grammar.{or_zero};
+ghost use Rattle.lk_status.specs.Fields.{field_value};
+
 use lk_probe::Report;
 use lk_types::NodeNo;
 
@@ -43,7 +47,9 @@ pub const FIELDS: [Row; 14] = [
 ];
 
 /// The number of a node, or 0.
-fn node_number(node: Option<NodeNo>) -> u64 {
+fn node_number(node: Option<NodeNo>) -> u64
+    ensures { result ≡ or_zero node }
+{
     match node {
         Some(node) => u64::from(node.get()),
         None => 0,
@@ -52,7 +58,9 @@ fn node_number(node: Option<NodeNo>) -> u64 {
 
 impl Field {
     /// Its value in a report.
-    pub fn value(self, report: &Report) -> u64 {
+    pub fn value(self, report: &Report) -> u64
+        ensures { result ≡ field_value self report.now }
+    {
         let status = &report.status;
         match self {
             Field::Leads => u64::from(status.leadership.leads),

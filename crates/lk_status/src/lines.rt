@@ -1,68 +1,135 @@
+ghost use Rattle.std.specs.Io.KnownBytes.{Appends};
+ghost use Rattle.std.specs.Option.{option_copied};
+ghost use Rattle.std.specs.Prelude.{Option, OnOk};
+ghost use Rattle.lk_probe.specs.declared.probe.Report.{Report as ReportValue};
+ghost use Rattle.lk_status.specs.Lines.{leadership_text, executed_text, snapshot_text, behind_text, promised_text, progress_text, members_text, count_text, traffic_text, node_line, target_line, target_lines, stranger_word, strangers_text, raised_text, majority_text, cluster_line, status_text};
+ghost use Rattle.lk_status.specs.Measures.{IsMeasureOf};
+
 use crate::target::{Inquiry, report_with};
 use crate::verdict::{executed_of, has_one_genesis, measure_in, up};
 use lk_probe::{Leadership, Report};
-use lk_types::Member;
+use lk_types::{Ballot, Member};
 use std::io;
 use std::io::Write;
 
 /// Writes whom a node follows: `leads`, `follows 1, heard 2 ticks ago` or `knows no leader for 28 ticks`.
-fn write_leadership<W: Write>(leadership: &Leadership, out: &mut W) -> io::Result<()> {
+fn write_leadership<W: Write>(leadership: &Leadership, out: &mut W) -> io::Result<()>
+    ensures { OnOk result (Appends (W.contents out.old) (W.contents out.new) (leadership_text leadership.now)) }
+{
     if leadership.leads {
-        return out.write_all(b"leads");
+        out.write_all(b"leads")?;
+        return Ok(());
     }
     let ticks = leadership.silence;
     match leadership.leader {
-        Some(leader) => write!(out, "follows {}, heard {ticks} ticks ago", leader.get()),
-        None => write!(out, "knows no leader for {ticks} ticks"),
+        Some(leader) => write!(out, "follows {}, heard {ticks} ticks ago", leader.get())?,
+        None => write!(out, "knows no leader for {ticks} ticks")?,
     }
+    Ok(())
 }
 
 /// Writes the numbers of the members.
-fn write_members<W: Write>(members: &[Member], out: &mut W) -> io::Result<()> {
+fn write_members<W: Write>(members: &[Member], out: &mut W) -> io::Result<()>
+    ensures { OnOk result (Appends (W.contents out.old) (W.contents out.new) (members_text members.now)) }
+{
     out.write_all(b", members")?;
-    for member in members {
+    'members: for member in members {
         write!(out, " {}", member.node.get())?;
     }
     Ok(())
 }
 
-/// Writes how far a node is: how many positions it has executed, how many fewer than that, its ballot and its snapshot.
-fn write_progress<W: Write>(report: &Report, most: u64, out: &mut W) -> io::Result<()> {
-    let executed = report.status.progress.executed.get();
-    write!(out, ", executed {executed}")?;
-    if executed < most {
-        write!(out, " ({} behind)", most - executed)?;
-    }
-    let promised = report.status.leadership.promised;
-    let snapshot = report.status.progress.snapshot.get();
-    let (round, node) = (promised.round(), promised.node());
-    write!(out, ", promised {round}.{node}, snapshot {snapshot}")
+/// Writes how many positions a node has executed.
+fn write_executed<W: Write>(report: &Report, out: &mut W) -> io::Result<()>
+    ensures { OnOk result (Appends (W.contents out.old) (W.contents out.new) (executed_text report.now)) }
+{
+    write!(out, ", executed {}", report.status.progress.executed.get())
 }
 
-/// Writes what waits and what failed, where there is any.
-fn write_traffic<W: Write>(report: &Report, out: &mut W) -> io::Result<()> {
-    let traffic = &report.status.traffic;
-    let pending = report.status.progress.pending;
-    if pending > 0 {
-        write!(out, ", a change takes effect in {pending} positions")?;
-    }
-    if traffic.waiting > 0 {
-        write!(out, ", {} requests wait", traffic.waiting)?;
-    }
-    if traffic.unsent > 0 {
-        write!(out, ", {} sends failed", traffic.unsent)?;
+/// Writes the position of a node's snapshot.
+fn write_snapshot<W: Write>(report: &Report, out: &mut W) -> io::Result<()>
+    ensures { OnOk result (Appends (W.contents out.old) (W.contents out.new) (snapshot_text report.now)) }
+{
+    write!(out, ", snapshot {}", report.status.progress.snapshot.get())
+}
+
+/// Writes how many positions behind a node is, if it is.
+fn write_behind<W: Write>(executed: u64, most: u64, out: &mut W) -> io::Result<()>
+    ensures { OnOk result (Appends (W.contents out.old) (W.contents out.new) (behind_text executed most)) }
+{
+    if executed < most {
+        write!(out, " ({} behind)", most - executed)?;
     }
     Ok(())
 }
 
+/// Writes the ballot that a node has promised.
+fn write_promised<W: Write>(promised: Ballot, out: &mut W) -> io::Result<()>
+    ensures { OnOk result (Appends (W.contents out.old) (W.contents out.new) (promised_text promised)) }
+{
+    write!(out, ", promised {}.{}", promised.round(), promised.node())
+}
+
+/// Writes how far a node is: how many positions it has executed, how many fewer than that, its ballot and its snapshot.
+fn write_progress<W: Write>(report: &Report, most: u64, out: &mut W) -> io::Result<()>
+    ensures { OnOk result (Appends (W.contents out.old) (W.contents out.new) (progress_text report.now most)) }
+{
+    write_executed(report, out)?;
+    write_behind(report.status.progress.executed.get(), most, out)?;
+    write_promised(report.status.leadership.promised, out)?;
+    write_snapshot(report, out)?;
+    Ok(())
+}
+
+/// Writes a count between words, unless it is 0.
+fn write_count<W: Write>(front: &str, count: u64, behind: &str, out: &mut W) -> io::Result<()>
+    ensures { OnOk result (Appends (W.contents out.old) (W.contents out.new) (count_text front.now count behind.now)) }
+{
+    if count > 0 {
+        write!(out, ", {front}{count} {behind}")?;
+    }
+    Ok(())
+}
+
+/// Writes what waits and what failed, where there is any.
+fn write_traffic<W: Write>(report: &Report, out: &mut W) -> io::Result<()>
+    ensures { OnOk result (Appends (W.contents out.old) (W.contents out.new) (traffic_text report.now)) }
+{
+    let traffic = &report.status.traffic;
+    let pending = u64::from(report.status.progress.pending);
+    write_count("a change takes effect in ", pending, "positions", out)?;
+    write_count("", u64::from(traffic.waiting), "requests wait", out)?;
+    write_count("", traffic.unsent, "sends failed", out)?;
+    Ok(())
+}
+
 /// Writes the line of a node.
-fn write_node<W: Write>(port: u16, report: &Report, most: u64, out: &mut W) -> io::Result<()> {
+fn write_node<W: Write>(port: u16, report: &Report, most: u64, out: &mut W) -> io::Result<()>
+    ensures { OnOk result (Appends (W.contents out.old) (W.contents out.new) (node_line port report.now most)) }
+{
     write!(out, "node {}, port {port}: ", report.node.get())?;
     write_leadership(&report.status.leadership, out)?;
     write_progress(report, most, out)?;
     write_members(report.status.members.as_slice(), out)?;
     write_traffic(report, out)?;
-    out.write_all(b"\n")
+    out.write_all(b"\n")?;
+    Ok(())
+}
+
+/// Writes the line of the target at that port.
+fn write_target<W: Write>(
+    port: u16,
+    report: Option<&Report>,
+    most: u64,
+    out: &mut W,
+) -> io::Result<()>
+    ensures { OnOk result (Appends (W.contents out.old) (W.contents out.new) (target_line port (option_copied report.entry) most)) }
+{
+    match report {
+        Some(report) => write_node(port, report, most, out)?,
+        None => writeln!(out, "port {port}: no answer")?,
+    }
+    Ok(())
 }
 
 /// Writes a line for each target.
@@ -72,47 +139,77 @@ fn write_targets<W: Write>(
     reports: &[Report],
     most: u64,
     out: &mut W,
-) -> io::Result<()> {
+) -> io::Result<()>
+    ensures { OnOk result (Appends (W.contents out.old) (W.contents out.new) (target_lines first inquiry.now.targets.items reports.now most)) }
+{
     let mut token = first;
-    for target in inquiry.targets.as_slice() {
-        let port = target.port.get();
-        match report_with(reports, token) {
-            Some(report) => write_node(port, report, most, out)?,
-            None => writeln!(out, "port {port}: no answer")?,
-        }
+    let targets = inquiry.targets.as_slice();
+    'targets: for target in targets {
+        write_target(target.port.get(), report_with(reports, token), most, out)?;
         token = token.wrapping_add(1);
     }
     Ok(())
 }
 
-/// Writes which nodes tell another genesis than the measure.
-fn write_strangers<W: Write>(measure: &Report, reports: &[Report], out: &mut W) -> io::Result<()> {
-    if has_one_genesis(reports) {
-        return Ok(());
-    }
-    out.write_all(b"; genesis differs:")?;
-    for report in reports {
-        if report.status.identity.genesis != measure.status.identity.genesis {
-            write!(out, " {}", report.node.get())?;
-        }
+/// Writes a node that tells another genesis than the measure.
+fn write_stranger<W: Write>(measure: &Report, report: &Report, out: &mut W) -> io::Result<()>
+    ensures { OnOk result (Appends (W.contents out.old) (W.contents out.new) (stranger_word measure.now report.now)) }
+{
+    if report.status.identity.genesis != measure.status.identity.genesis {
+        write!(out, " {}", report.node.get())?;
     }
     Ok(())
 }
 
-/// Writes the line of the cluster: `majority: 2 of 3 up; raised; genesis differs: 4`.
-fn write_cluster<W: Write>(measure: &Report, reports: &[Report], out: &mut W) -> io::Result<()> {
-    let members = measure.status.members.as_slice();
-    write!(
-        out,
-        "majority: {} of {} up",
-        up(members, reports),
-        members.len()
-    )?;
+/// Writes which nodes tell another genesis than the measure.
+fn write_strangers<W: Write>(measure: &Report, reports: &[Report], out: &mut W) -> io::Result<()>
+    ensures { OnOk result (Appends (W.contents out.old) (W.contents out.new) (strangers_text measure.now reports.now)) }
+{
+    if has_one_genesis(reports) {
+        return Ok(());
+    }
+    out.write_all(b"; genesis differs:")?;
+    'all: for report in reports {
+        write_stranger(measure, report, out)?;
+    }
+    Ok(())
+}
+
+/// Writes whether the table is raised.
+fn write_raised<W: Write>(measure: &Report, out: &mut W) -> io::Result<()>
+    ensures { OnOk result (Appends (W.contents out.old) (W.contents out.new) (raised_text measure.now)) }
+{
     if measure.status.identity.table >= 2 {
         out.write_all(b"; raised")?;
     }
+    Ok(())
+}
+
+/// Writes how many members are up.
+fn write_majority<W: Write>(measure: &Report, reports: &[Report], out: &mut W) -> io::Result<()>
+    ensures { OnOk result (Appends (W.contents out.old) (W.contents out.new) (majority_text measure.now reports.now)) }
+{
+    let members = measure.status.members.as_slice();
+    let (up, count) = (up(members, reports), members.len());
+    write!(out, "majority: {up} of {count} up")
+}
+
+/// Writes the line of the cluster, if any node reports: `majority: 2 of 3 up; raised; genesis differs: 4`.
+fn write_cluster<W: Write>(
+    measure: Option<&Report>,
+    reports: &[Report],
+    out: &mut W,
+) -> io::Result<()>
+    ensures { OnOk result (Appends (W.contents out.old) (W.contents out.new) (cluster_line (option_copied measure.entry) reports.now)) }
+{
+    let Some(measure) = measure else {
+        return Ok(());
+    };
+    write_majority(measure, reports, out)?;
+    write_raised(measure, out)?;
     write_strangers(measure, reports, out)?;
-    out.write_all(b"\n")
+    out.write_all(b"\n")?;
+    Ok(())
 }
 
 /// Writes a line for each target, and one for the cluster where any node reports.
@@ -121,11 +218,11 @@ pub fn write_lines<W: Write>(
     first: u64,
     reports: &[Report],
     out: &mut W,
-) -> io::Result<()> {
+) -> io::Result<()>
+    ensures { OnOk result ((measure : Option ReportValue) × IsMeasureOf reports.now measure × Appends (W.contents out.old) (W.contents out.new) (status_text first inquiry.now.targets.items reports.now measure)) }
+{
     let measure = measure_in(reports);
     write_targets(inquiry, first, reports, executed_of(measure), out)?;
-    match measure {
-        Some(measure) => write_cluster(measure, reports, out),
-        None => Ok(()),
-    }
+    write_cluster(measure, reports, out)?;
+    Ok(())
 }

@@ -1,10 +1,10 @@
 //! `locks status`.
 
-ghost use Rattle.std.specs.Prelude.{◌≡◌, ◌≤◌, ◌↔◌, true, IfOk, IsTrue};
+ghost use Rattle.std.specs.Prelude.{◌≡◌, ◌≢◌, ◌≤◌, ◌↔◌, true, false, length, IfOk, IsTrue};
 ghost use Rattle.lk_transport.specs.Hearing.{next_of};
 ghost use Rattle.lk_status.specs.Rounds.{AreHeard};
-ghost use Rattle.lk_status.specs.Outcomes.{Shows, IsShownServed};
-ghost use Rattle.lk_status.specs.Verdicts.{IsServed};
+ghost use Rattle.lk_status.specs.Outcomes.{IsReady, Shows, IsShownServed};
+ghost use Rattle.lk_status.specs.Verdicts.{IsServed, is_at};
 
 use crate::asking::ask_all;
 use crate::json::write_json;
@@ -82,7 +82,10 @@ fn goal_in(reports: &[Report]) -> Option<u64> {
 }
 
 /// Whether all that were asked report, and have executed what is the goal.
-fn is_at(goal: Option<u64>, inquiry: &Inquiry, reports: &[Report]) -> bool {
+fn is_at(goal: Option<u64>, inquiry: &Inquiry, reports: &[Report]) -> bool
+    ensures test { result ≡ is_at goal (length inquiry.now.targets.items) reports.now }
+    ensures ready { IsTrue result → IsReady inquiry.now reports.now }
+{
     match goal {
         Some(executed) => is_ready(inquiry.targets.len(), executed, reports),
         None => false,
@@ -97,7 +100,8 @@ fn wait_until_ready<S: DatagramSocket>(
     inquiry: &Inquiry,
     most: u32,
 ) -> Result<Round, ServiceFault>
-    ensures { IfOk result (λ r. AreHeard (next_of S.coming) inquiry.now r.first S.is_telling r.reports.items socket.new) }
+    ensures ready { IfOk result (λ r. IsTrue r.is_ready → IsReady inquiry.now r.reports.items) }
+    ensures heard { IfOk result (λ r. AreHeard (next_of S.coming) inquiry.now r.first S.is_telling r.reports.items socket.new) }
 {
     let (mut idle, mut goal) = (0, None);
     let mut round = ask_once(alloc, socket, inquiry, 0, &mut idle)?;
@@ -105,7 +109,7 @@ fn wait_until_ready<S: DatagramSocket>(
         goal = goal.or(goal_in(&round.reports));
         round.is_ready = is_at(goal, inquiry, &round.reports);
         if round.is_ready || idle >= most {
-            break;
+            return Ok(round);
         }
         pause(socket, &mut idle);
         round = ask_once(alloc, socket, inquiry, number * TOKENS, &mut idle)?;
@@ -121,7 +125,8 @@ fn ask_once<S: DatagramSocket>(
     first: u64,
     idle: &mut u32,
 ) -> Result<Round, ServiceFault>
-    ensures { IfOk result (λ r. AreHeard (next_of S.coming) inquiry.now r.first S.is_telling r.reports.items socket.new) }
+    ensures fresh { IfOk result (λ r. r.is_ready ≡ false) }
+    ensures heard { IfOk result (λ r. AreHeard (next_of S.coming) inquiry.now r.first S.is_telling r.reports.items socket.new) }
 {
     Ok(Round {
         first,
@@ -138,6 +143,7 @@ fn round_of<S: DatagramSocket>(
 ) -> Result<Round, ServiceFault>
     ensures heard { IfOk result (λ r. AreHeard (next_of S.coming) plan.now.inquiry r.first S.is_telling r.reports.items socket.new) }
     ensures ready { plan.now.seconds ≡ 0 → IfOk result (λ r. r.is_ready ≡ true) }
+    ensures waited { plan.now.seconds ≢ 0 → IfOk result (λ r. IsTrue r.is_ready → IsReady plan.now.inquiry r.reports.items) }
 {
     if plan.seconds > 0 {
         let most = plan.seconds.saturating_mul(A_SECOND);
@@ -174,9 +180,9 @@ pub fn status<S: DatagramSocket, W: Write, E: Write>(
     err: &mut E,
 ) -> u8
     ensures status { result ≤ 1 }
-    // Status 0 only where the reports to some round show that the cluster is served: they are what was heard then, each
-    // a datagram that came and reads as that report.
-    ensures served { result ≡ 0 → IsShownServed (next_of S.coming) S.is_telling plan.now.inquiry socket.new }
+    // Status 0 only where the reports to some round show that the cluster is served, and is ready if that is waited
+    // for: they are what was heard then, each a datagram that came and reads as that report.
+    ensures served { result ≡ 0 → IsShownServed (next_of S.coming) S.is_telling plan.now socket.new }
 {
     match ask_and_print(alloc, socket, plan, out) {
         Ok(true) => 0,

@@ -1,8 +1,11 @@
 //! Which nodes are asked, and by whose key.
 
-ghost use Rattle.std.specs.Prelude.{◌≡◌, None, is_some};
+ghost use Rattle.std.specs.Option.{option_copied};
+ghost use Rattle.std.specs.Net.Socket.{socket_ip, socket_port};
+ghost use Rattle.std.specs.Prelude.{◌≡◌, None, is_some, map, IfOk, IfSome};
 ghost use Rattle.lk_probe.specs.Grammar.{or_zero};
-ghost use Rattle.lk_status.specs.Rounds.{has_token};
+ghost use Rattle.lk_status.specs.Rounds.{has_token, report_of};
+ghost use Rattle.lk_status.specs.Targets.{SpellsPlace, SpellTargets, target_address};
 
 use lk_arguments::member::member_of;
 use lk_arguments::operation::port_of;
@@ -36,7 +39,9 @@ pub struct Inquiry {
 }
 
 /// A place: `PORT` or `NODE:PORT`.
-fn place_in(word: &[u8]) -> Option<(Option<NodeNo>, Port)> {
+fn place_in(word: &[u8]) -> Option<(Option<NodeNo>, Port)>
+    ensures { IfSome result (λ place. SpellsPlace word.now place.0 place.1) }
+{
     if let Some(member) = member_of(word) {
         return Some((Some(member.node), member.port));
     }
@@ -47,12 +52,14 @@ fn place_in(word: &[u8]) -> Option<(Option<NodeNo>, Port)> {
 }
 
 /// The places that words name, or `None` where one of them names none, or they are too many.
-pub fn targets_of(alloc: Global, words: &[&str]) -> Result<Option<Vec<Target>>, ServiceFault> {
+pub fn targets_of(alloc: Global, words: &[&str]) -> Result<Option<Vec<Target>>, ServiceFault>
+    ensures { IfOk result (λ targets. IfSome targets (λ ts. SpellTargets (map (λ word. word.now) words.now) ts.items)) }
+{
     if words.len() > MAX_TARGETS {
         return Ok(None);
     }
     let mut targets = Vec::new(alloc);
-    for word in words {
+    'words: for word in words {
         let Some((node, port)) = place_in(word.as_bytes()) else {
             return Ok(None);
         };
@@ -73,7 +80,10 @@ impl Inquiry {
     }
 
     /// The address of a target.
-    pub fn place_of(&self, target: &Target) -> SocketAddr {
+    pub fn place_of(&self, target: &Target) -> SocketAddr
+        ensures ip { socket_ip result ≡ target_address self.now target.now }
+        ensures port { socket_port result ≡ target.now.port }
+    {
         let known = match target.node {
             Some(node) => self.destination.hosts.address(node),
             None => None,
@@ -111,7 +121,8 @@ impl Inquiry {
 
 /// The report with that token.
 pub fn report_with<'a>(reports: &'a [Report], token: u64) -> Option<&'a Report>
-    ensures { is_some result ≡ has_token token reports.now }
+    ensures some { is_some result ≡ has_token token reports.now }
+    ensures report { option_copied result ≡ report_of token reports.now }
 {
     for report in reports {
         if report.token == token {

@@ -1,3 +1,6 @@
+ghost use Rattle.std.specs.Prelude.{◌≡◌};
+ghost use Rattle.lk_status.specs.Fields.{is_member, followed};
+
 use crate::verdict::{has_majority, has_one_genesis, leader_in, measure_in};
 use lk_probe::Report;
 use lk_types::{Member, NodeNo};
@@ -16,17 +19,16 @@ const TWO_GENESES: &[u8] =
     b"why: two geneses: stop the nodes that were started with another --genesis\n";
 
 /// Whether that node is one of these members.
-fn is_among(node: NodeNo, members: &[Member]) -> bool {
-    for member in members {
-        if member.node == node {
-            return true;
-        }
-    }
-    false
+fn is_among(node: NodeNo, members: &[Member]) -> bool
+    ensures { result ≡ is_member node members.now }
+{
+    members.iter().any(|member| member.node == node)
 }
 
 /// The node that another takes for the leader and hears.
-fn followed_in(reports: &[Report]) -> Option<NodeNo> {
+fn followed_in(reports: &[Report]) -> Option<NodeNo>
+    ensures { result ≡ followed reports.now }
+{
     for report in reports {
         let leadership = &report.status.leadership;
         if leadership.leader.is_some() && leadership.silence < SILENT {

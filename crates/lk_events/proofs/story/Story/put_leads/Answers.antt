@@ -1,5 +1,5 @@
-use Rattle.lk_events.proofs.Putting.{puts_both}
+use Rattle.lk_events.specs.Watches.{nothing, news}
 use Rattle.lk_events.proofs.story.Story.put_leads.Goals as goal
 
 pub returns : goal.returns
-returns c = puts_both c.put_news.ensures (puts_both c.put_news-2.ensures c.put_news-3.ensures)
+returns c = news c.ended.result c.ended.ensures c.put_some.ensures (news c.leads.result c.leads.ensures c.put_some-2.ensures (news c.follows.result c.follows.ensures c.put_some-3.ensures nothing))

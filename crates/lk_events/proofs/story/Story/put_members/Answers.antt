@@ -1,5 +1,5 @@
-use Rattle.lk_events.proofs.Putting.{puts_both}
+use Rattle.lk_events.specs.Watches.{nothing, news}
 use Rattle.lk_events.proofs.story.Story.put_members.Goals as goal
 
 pub returns : goal.returns
-returns c = puts_both c.put_news.ensures c.put_news-2.ensures
+returns c = news c.joined.result c.joined.ensures c.put_some.ensures (news c.left.result c.left.ensures c.put_some-2.ensures nothing)

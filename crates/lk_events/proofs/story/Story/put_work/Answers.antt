@@ -1,5 +1,5 @@
-use Rattle.lk_events.proofs.Putting.{puts_both}
+use Rattle.lk_events.specs.Watches.{nothing, news}
 use Rattle.lk_events.proofs.story.Story.put_work.Goals as goal
 
 pub returns : goal.returns
-returns c = puts_both c.put_news.ensures (puts_both c.put_news-2.ensures (puts_both c.put_news-3.ensures c.put_news-4.ensures))
+returns c = news c.wrote.result c.wrote.ensures c.put_some.ensures (news c.installed.result c.installed.ensures c.put_some-2.ensures (news c.unsent.result c.unsent.ensures c.put_some-3.ensures (news c.stranger.result c.stranger.ensures c.put_some-4.ensures nothing)))

@@ -1,0 +1,18 @@
+use Rattle.std.proofs.Common.{◌+◌, ◌∷◌, ◌++◌, [], ◌∙◌, List, Option, sym, ap, subst}
+use Rattle.std.proofs.lemmas.List.{take_more}
+use Rattle.std.specs.Option.{option_copied}
+use Rattle.std.specs.Prelude.{take}
+use Rattle.lk_probe.specs.declared.probe.Report.{Report}
+use Rattle.lk_status.specs.Measures.{IsLeaderOf, ahead}
+use Rattle.lk_status.proofs.Measuring.{one_ahead}
+use Rattle.lk_status.proofs.verdict.leader_in.Goals as goal
+
+pub all-preserved : goal.all-preserved
+all-preserved c =
+    let rs = c.args.reports.now in
+    let front = take c.all.report-index rs in
+    let before = option_copied c.all.leader in
+    let one = c.report-item.result in
+    let more = take_more rs c.all.report-index one c.all-test.true ∙ ap (λ (r : Report). front ++ r ∷ []) (sym c.report-item.is) in
+    subst (λ (best : Option Report). IsLeaderOf (take (c.all.report-index + 1) rs) best) (sym c.ahead.ensures)
+    (subst (λ (l : List Report). IsLeaderOf l (ahead before one)) (sym more) (one_ahead front before one c.all.invariant))
