@@ -72,8 +72,8 @@ class NodesTest(unittest.TestCase):
         self.assertIsNone(node.poll())
 
     def ticks_until_it_says(self, node, text, minutes=1.5):
-        """Sends datagrams that do not read, of which every 64th brings a tick, until the node says a line of that or so many minutes
-        of ticks have passed. Whether it has."""
+        """Sends datagrams that do not read, of which every 64th brings a tick, until the node says a line of that or so
+        many minutes of ticks have passed. Whether it has."""
         with socket.socket(socket.AF_INET, socket.SOCK_DGRAM) as it:
             for _ in range(int(minutes * 600)):
                 for _ in range(64):

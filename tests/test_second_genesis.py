@@ -49,7 +49,8 @@ def report(node, genesis, question):
 
 def ended(own, own_genesis, other, other_genesis):
     """The last line of a node that was led by a node of another genesis."""
-    return f"another genesis: node {own} of genesis {own_genesis.hex()} was led by node {other} of genesis {other_genesis.hex()}"
+    own, other = f"node {own} of genesis {own_genesis.hex()}", f"node {other} of genesis {other_genesis.hex()}"
+    return f"another genesis: {own} was led by {other}"
 
 
 @unittest.skipUnless(PROGRAM, "LOCKS_PROGRAM does not tell the program")
@@ -133,9 +134,10 @@ class QuestionsTest(unittest.TestCase):
         self.start()
         self.led()
         stranger = self.enterContext(self.node.bound(0))
-        for data in (report(1, OTHER, QUESTION[:25] + b"\3"), report(1, OTHER, QUESTION)[:-1], report(1, OTHER, QUESTION) + b"\0"):
+        whole = report(1, OTHER, QUESTION)
+        for data in (report(1, OTHER, QUESTION[:25] + b"\3"), whole[:-1], whole + b"\0"):
             self.node.send(data)
-        stranger.sendto(report(1, OTHER, QUESTION), ("127.0.0.1", self.node.ports[1]))
+        stranger.sendto(whole, ("127.0.0.1", self.node.ports[1]))
         self.is_asked_once_more()
         self.assertIsNone(self.node.process.poll())
 
@@ -185,7 +187,8 @@ class ProcessesTest(unittest.TestCase):
         os.makedirs(folder, exist_ok=True)
         members = ",".join(f"{node}:{port}" for node, port in ports.items())
         words = ["--genesis", f"5,8,{members}", "--number", "4", "--port", str(self.port), "--dir", folder]
-        process = subprocess.Popen([PROGRAM, "node", *words], stdin=subprocess.DEVNULL, stderr=subprocess.PIPE, text=True)
+        pipes = {"stdin": subprocess.DEVNULL, "stderr": subprocess.PIPE, "text": True}
+        process = subprocess.Popen([PROGRAM, "node", *words], **pipes)
         self.addCleanup(process.communicate)
         self.addCleanup(process.kill)
         return process, frames.genesis_digest(5, 8, ports)

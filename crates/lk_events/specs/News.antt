@@ -50,7 +50,7 @@ story_of view = record { leads = view.leads; follows = view.follows; members = v
 -- ---- news by what it is about
 
 -- who leads: that it leads no more, that it leads, and whom it follows; who is a member: who joined, and who left; and
--- its work: a snapshot that it wrote, one that it installed, and what it could not send
+-- its work: a snapshot that it wrote, one that it installed, what it could not send, and whom it heard of another genesis
 pub data Topic : Type 0 where
   ending : Topic
   leading : Topic
@@ -60,6 +60,7 @@ pub data Topic : Type 0 where
   writing : Topic
   installing : Topic
   failing : Topic
+  meeting : Topic
 
 abbrev pub lead_topics : List Topic
 lead_topics = ending ∷ leading ∷ following ∷ []
@@ -68,7 +69,7 @@ abbrev pub member_topics : List Topic
 member_topics = joining ∷ leaving ∷ []
 
 abbrev pub work_topics : List Topic
-work_topics = writing ∷ installing ∷ failing ∷ []
+work_topics = writing ∷ installing ∷ failing ∷ meeting ∷ []
 
 abbrev pub topics : List Topic
 topics = lead_topics ++ (member_topics ++ work_topics)
@@ -83,6 +84,7 @@ IsNewsOf leaving story view event = (node : ℕ) × (members : List Member) × (
 IsNewsOf writing story view event = (position : ℕ) × (event ≡ Wrote position) × IsNews story view (Wrote position)
 IsNewsOf installing story view event = (position : ℕ) × (node : ℕ) × (event ≡ Installed position node) × IsNews story view (Installed position node)
 IsNewsOf failing story view event = (node : ℕ) × (event ≡ Unsent node) × IsNews story view (Unsent node)
+IsNewsOf meeting story view event = (node : ℕ) × (event ≡ OtherGenesis node) × IsNews story view (OtherGenesis node)
 
 -- this is news about that, or there is none
 abbrev pub Gives : Topic → Story → View → Option Event → Type 0

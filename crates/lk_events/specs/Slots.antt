@@ -1,5 +1,5 @@
 -- What waits to be told of one kind of events, and when it may be.
-use Rattle.std.specs.Prelude.{◌≡◌, ◌+◌, ◌⊎◌, ℕ, nat_lt, nat_le, ◌||◌, Bool, true, false, Option, Some, None, if◌then◌else◌, min}
+use Rattle.std.specs.Prelude.{◌≡◌, ◌+◌, ◌⊎◌, ℕ, nat_lt, nat_le, ◌||◌, Bool, true, false, Option, Some, None, min}
 use Rattle.lk_events.specs.declared.event.Event.{Event}
 use Rattle.lk_events.specs.declared.slot.Line.{Line}
 use Rattle.lk_events.specs.declared.slot.Slot.{Slot}

@@ -1,5 +1,5 @@
 -- What is found in a store, and what is printed of it.
-use Rattle.std.proofs.Common.{◌≡◌, ◌∙◌, ℕ, ◌++◌, Bool, List, length, Option, Some, None, refl, sym, ap₂, subst}
+use Rattle.std.proofs.Common.{◌≡◌, ◌∙◌, ℕ, ◌++◌, Bool, List, length, Option, Some, None, refl, sym, subst}
 use Rattle.std.specs.Prelude.{IfSome, is_some, codes}
 use Rattle.std.specs.Io.KnownBytes.{Appends, Keeps}
 use Rattle.lk_types.specs.BallotValue.{BallotValue}

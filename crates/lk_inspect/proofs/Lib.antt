@@ -1,6 +1,4 @@
 mod Standing
 mod Leaving
 mod Printing
-mod Faults
-mod Writing
 mod Dumping
