@@ -14,5 +14,5 @@ all-preserved c =
     let before = option_copied c.all.furthest in
     let one = c.report-item.result in
     let more = take_more rs c.all.report-index one c.all-test.true ∙ ap (λ (r : Report). front ++ r ∷ []) (sym c.report-item.is) in
-    subst (λ (best : Option Report). IsFurthestOf (take (c.all.report-index + 1) rs) best) (sym c.further.ensures)
+    subst (λ (best : Option Report). IsFurthestOf (take (c.all.report-index + 1) rs) best) (sym c.further-furthest.ensures)
     (subst (λ (l : List Report). IsFurthestOf l (further before one)) (sym more) (one_further front before one c.all.invariant))

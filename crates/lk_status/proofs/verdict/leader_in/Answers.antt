@@ -14,5 +14,5 @@ all-preserved c =
     let before = option_copied c.all.leader in
     let one = c.report-item.result in
     let more = take_more rs c.all.report-index one c.all-test.true ∙ ap (λ (r : Report). front ++ r ∷ []) (sym c.report-item.is) in
-    subst (λ (best : Option Report). IsLeaderOf (take (c.all.report-index + 1) rs) best) (sym c.ahead.ensures)
+    subst (λ (best : Option Report). IsLeaderOf (take (c.all.report-index + 1) rs) best) (sym c.ahead-leader.ensures)
     (subst (λ (l : List Report). IsLeaderOf l (ahead before one)) (sym more) (one_ahead front before one c.all.invariant))
