@@ -3,7 +3,7 @@ use Rattle.std.proofs.Common.{ℕ, List, Option, Result, Ok, Err, inl, inr}
 use Rattle.std.specs.Prelude.{OnOk, OnErr}
 use Rattle.std.specs.declared.net.socket_addr.SocketAddr.{SocketAddr}
 use Rattle.lk_step.specs.Letters.{LetterValue}
-use Rattle.lk_seal.specs.declared.seals.Seals.{Seals}
+use Rattle.lk_transport.specs.Addresses.{Circle, circle_of}
 use Rattle.lk_transport.specs.Posts.{all_taken_as}
 use Rattle.lk_server.specs.Servers.{ServerValue, HandsOn, HasReceived, Turn, LastTurn, TakesTurn}
 
@@ -24,7 +24,7 @@ module _ {R : Type 0} (S T : R → List (Option (List ℕ)) → List LetterValue
   }
 
   pub taken_so : (tells : Type 0) (frames : List (SocketAddr × List ℕ)) (old new : ServerValue R) → TakesTurn S tells frames old new → TakesTurn T tells frames old new
-  taken_so tells frames old new (inl t) = inl (turn_so tells (all_taken_as old.addresses.seals frames) old new t)
+  taken_so tells frames old new (inl t) = inl (turn_so tells (all_taken_as (circle_of old.addresses) frames) old new t)
   taken_so tells frames old new (inr idle) = inr idle
 
   abbrev pub last_so : (tells : Type 0) (came : List (SocketAddr × List ℕ)) (old new : ServerValue R) → LastTurn S tells came old new → LastTurn T tells came old new
@@ -46,7 +46,7 @@ module _ {R : Type 0} (S T : R → List (Option (List ℕ)) → List LetterValue
   on_ok_so Keeps (Ok x) tells old new t = (t.0, t.1, taken_so tells t.0 old new t.2, t.3)
   on_ok_so Keeps (Err e) tells old new t = tt
 
-  pub on_err_so : {A E : Type 0} (r : Result A E) (tells : Type 0) (seals : Seals) (old new : ServerValue R) → OnErr r ((frames : List (SocketAddr × List ℕ)) × HasReceived tells frames old new × LastTurn S tells (all_taken_as seals frames) old new)
-      → OnErr r ((frames : List (SocketAddr × List ℕ)) × HasReceived tells frames old new × LastTurn T tells (all_taken_as seals frames) old new)
-  on_err_so (Ok x) tells seals old new t = tt
-  on_err_so (Err e) tells seals old new t = (t.0, t.1, last_so tells (all_taken_as seals t.0) old new t.2)
+  pub on_err_so : {A E : Type 0} (r : Result A E) (tells : Type 0) (circle : Circle) (old new : ServerValue R) → OnErr r ((frames : List (SocketAddr × List ℕ)) × HasReceived tells frames old new × LastTurn S tells (all_taken_as circle frames) old new)
+      → OnErr r ((frames : List (SocketAddr × List ℕ)) × HasReceived tells frames old new × LastTurn T tells (all_taken_as circle frames) old new)
+  on_err_so (Ok x) tells circle old new t = tt
+  on_err_so (Err e) tells circle old new t = (t.0, t.1, last_so tells (all_taken_as circle t.0) old new t.2)

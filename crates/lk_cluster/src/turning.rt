@@ -4,6 +4,7 @@ ghost use Rattle.std.specs.declared.net.socket_addr.SocketAddr.{SocketAddr as Ad
 ghost use Rattle.lk_types.specs.declared.genesis.Genesis.{Genesis as GenesisValue};
 ghost use Rattle.lk_node.specs.Leavings.{header_of};
 ghost use Rattle.lk_cluster.specs.Clusters.{IsBegun, Says};
+ghost use Rattle.lk_transport.specs.Addresses.{circle_of};
 ghost use Rattle.lk_transport.specs.Posts.{all_taken_as};
 ghost use Rattle.lk_transport.specs.Askers.{KeepsFirstOf};
 ghost use Rattle.lk_server.specs.Servers.{HasReceived, TakesTurn, LastTurn};
@@ -33,7 +34,7 @@ pub fn turn<D: LogDisk + Drop, S: DatagramSocket + Drop, C: Clock, L: Log>(
     log: &L,
 ) -> Result<(), ServiceFault>
     ensures turn { D.is_honest → OnOk result ((frames : List (Address × List ℕ)) × HasReceived S.is_telling frames server.old server.new × TakesTurn (Says D.is_metered) S.is_telling frames server.old server.new × KeepsFirstOf server.old.addresses.seals buffer.old.asked frames buffer.new.asked) }
-    ensures ends { D.is_honest → OnErr result ((frames : List (Address × List ℕ)) × HasReceived S.is_telling frames server.old server.new × LastTurn (Says D.is_metered) S.is_telling (all_taken_as server.old.addresses.seals frames) server.old server.new) }
+    ensures ends { D.is_honest → OnErr result ((frames : List (Address × List ℕ)) × HasReceived S.is_telling frames server.old server.new × LastTurn (Says D.is_metered) S.is_telling (all_taken_as (circle_of server.old.addresses) frames) server.old server.new) }
     ensures failed { server.new.failed ≡ server.new.replica.failed }
 {
     let taken = node_turn(server, buffer, metronome, log);

@@ -20,7 +20,7 @@ unfolding padded
 is_aside p bytes spelled = ap is_beside spelled.1
 
 -- so nobody asks by what a replica is given
-asks_nothing : (s : Seals) (d : SocketAddr × List ℕ) → is_beside (heard s d.1) ≡ false → IsKeptOf s d None
+pub asks_nothing : (s : Seals) (d : SocketAddr × List ℕ) → is_beside (heard s d.1) ≡ false → IsKeptOf s d None
 asks_nothing s d apart p asks = let both : false ≡ true = sym apart ∙ is_aside p (heard s d.1) asks.spelled in cc both
 
 keeps_apart : (s : Seals) (old : Option Asked) (d : SocketAddr × List ℕ) → IsKeptOf s d None → KeepsFirstOf s old (d ∷ []) old
@@ -93,6 +93,14 @@ keeps_beside s t d old mid new same asked is kept =
     keeps_one s old new.asked d
     (subst₂ (λ (l : Option (SocketAddr × List ℕ)) (a : Option Asked). KeepsFirst s l a new.asked) is asked
     (subst (λ (z : Seals). KeepsFirst z mid.last mid.asked new.asked) same kept.asked))
+
+-- of one that is no probe
+pub keeps_strange : (s : Seals) (d : SocketAddr × List ℕ) (old : BufferValue) → old.last ≡ Some d → is_beside (heard s d.1) ≡ false → Keeps s old old
+keeps_strange s d old is apart = record { last = refl; asked = subst (λ (l : Option (SocketAddr × List ℕ)). KeepsFirst s l old.asked old.asked) (sym is) (still old.asked) }
+  where
+    still : (a : Option Asked) → KeepsFirst s (Some d) a a
+    still None = asks_nothing s d apart
+    still (Some a) = refl
 
 -- of what came last, where a replica is given nothing of it
 pub keeps_found : (s t : Seals) (found : Found) (old : Option Asked) (mid new : BufferValue) → t ≡ s → mid.asked ≡ old → (found ≡ Nothing → mid.last ≡ None) → (found ≡ Beside → (d : SocketAddr × List ℕ) × (mid.last ≡ Some d))

@@ -2,6 +2,7 @@ mod Free
 mod Probed
 mod Asking
 mod Carrying
+mod Apart
 mod Acting
 mod Sayings
 mod Gatherings

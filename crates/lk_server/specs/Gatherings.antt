@@ -5,10 +5,8 @@ use Rattle.lk_step.specs.Letters.{LetterValue}
 use Rattle.lk_replica.specs.Groups.{GroupValue}
 use Rattle.lk_server.specs.declared.found.Found.{Found}
 use Rattle.lk_server.specs.declared.found.Found.TheVariants.{Nothing, Beside, Something}
-use Rattle.lk_seal.specs.Seals.{heard}
-use Rattle.lk_seal.specs.declared.seals.Seals.{Seals}
-use Rattle.lk_transport.specs.Addresses.{IsSameNetwork}
-use Rattle.lk_transport.specs.Posts.{HearsAll, is_beside, all_taken_as}
+use Rattle.lk_transport.specs.Addresses.{Circle, circle_of, IsSameCircle}
+use Rattle.lk_transport.specs.Posts.{HearsAll, is_apart, all_taken_as}
 use Rattle.lk_server.specs.Servers.{ServerValue, all_inputs, counted, datagrams_in, Given, GivenFirst, HasReceived, IsFront, TakesLetters, HandsOn}
 
 -- how a replica speaks: the effect of a group, and its letters
@@ -19,16 +17,17 @@ Sayings R = R → List (Option (List ℕ)) → List LetterValue → R → Type 0
 abbrev pub Gatherings : Type 0 → Type 1
 Gatherings R = R → List (Option (List ℕ)) → GroupValue → R → Type 0
 
--- a replica is given nothing of these frames: there is none, or one, which stands beside the protocol
-abbrev pub AreFound : Seals → Found → List (SocketAddr × List ℕ) → Type 0
+-- a replica is given nothing of these frames: there is none, or one, which stands beside the protocol or came from a
+-- node of another genesis
+abbrev pub AreFound : Circle → Found → List (SocketAddr × List ℕ) → Type 0
 AreFound s Nothing frames = frames ≡ []
-AreFound s Beside frames = (frame : SocketAddr × List ℕ) × (frames ≡ frame ∷ []) × (is_beside (heard s frame.1) ≡ true)
+AreFound s Beside frames = (frame : SocketAddr × List ℕ) × (frames ≡ frame ∷ []) × (is_apart s frame ≡ true)
 AreFound s Something frames = ⊥
 
 -- these frames were found at the socket, and a replica is given nothing of them; where there is none, nothing was to
 -- come, if the socket tells that; and nothing else is changed
 pub record Finds {R : Type 0} (tells : Type 0) (found : Found) (frames : List (SocketAddr × List ℕ)) (old new : ServerValue R) : Type 0 where
-  pub are : AreFound old.addresses.seals found frames
+  pub are : AreFound (circle_of old.addresses) found frames
   pub none : tells → frames ≡ [] → old.coming ≡ []
   pub comes : tells → old.coming ≡ frames ++ new.coming
   pub same : record new { coming = old.coming } ≡ old
@@ -52,9 +51,9 @@ module _ {R : Type 0} (Gathers : Gatherings R) where
 
   -- the content of these frames, and their senders' addresses were recorded
   pub record TakesHeard (frames : List (SocketAddr × List ℕ)) (group now : GroupValue) (old new : ServerValue R) : Type 0 where
-    pub takes : TakesAll (datagrams_in [] (all_taken_as old.addresses.seals frames)) group now old new
-    pub heard : HearsAll old.cluster (all_taken_as old.addresses.seals frames) old.addresses new.addresses
-    pub network : IsSameNetwork old.addresses new.addresses
+    pub takes : TakesAll (datagrams_in [] (all_taken_as (circle_of old.addresses) frames)) group now old new
+    pub heard : HearsAll old.cluster (all_taken_as (circle_of old.addresses) frames) old.addresses new.addresses
+    pub network : IsSameCircle old.addresses new.addresses
 
   -- exactly these frames came from the socket, in order
   pub record TakesSocket (tells : Type 0) (frames : List (SocketAddr × List ℕ)) (group now : GroupValue) (old new : ServerValue R) : Type 0 where
@@ -64,22 +63,22 @@ module _ {R : Type 0} (Gathers : Gatherings R) where
   -- what waits is taken: letters of the node to itself, or these frames of the socket
   pub record TakesWaiting (tells : Type 0) (frames : List (SocketAddr × List ℕ)) (group now : GroupValue) (old new : ServerValue R) : Type 0 where
     pub received : HasReceived tells frames old new
-    pub takes : TakesAll (datagrams_in (take 64 old.own) (all_taken_as old.addresses.seals frames)) group now old new
-    pub some : datagrams_in (take 64 old.own) (all_taken_as old.addresses.seals frames) ≢ []
+    pub takes : TakesAll (datagrams_in (take 64 old.own) (all_taken_as (circle_of old.addresses) frames)) group now old new
+    pub some : datagrams_in (take 64 old.own) (all_taken_as (circle_of old.addresses) frames) ≢ []
     pub left : new.own ≡ drop 64 old.own
-    pub heard : HearsAll old.cluster (all_taken_as old.addresses.seals frames) old.addresses new.addresses
-    pub network : IsSameNetwork old.addresses new.addresses
+    pub heard : HearsAll old.cluster (all_taken_as (circle_of old.addresses) frames) old.addresses new.addresses
+    pub network : IsSameCircle old.addresses new.addresses
 
   -- what is taken in a turn: what waits, and a tick where one is due
   pub record TakesGroup (tells : Type 0) (frames : List (SocketAddr × List ℕ)) (group now : GroupValue) (old new : ServerValue R) : Type 0 where
     pub received : HasReceived tells frames old new
     pub given : List (Option (List ℕ))
-    pub may : Given old.pace old.received (datagrams_in (take 64 old.own) (all_taken_as old.addresses.seals frames)) given
+    pub may : Given old.pace old.received (datagrams_in (take 64 old.own) (all_taken_as (circle_of old.addresses) frames)) given
     pub gathers : GathersMore given group now old.replica new.replica
-    pub counted : new.received ≡ counted old.received (datagrams_in (take 64 old.own) (all_taken_as old.addresses.seals frames))
+    pub counted : new.received ≡ counted old.received (datagrams_in (take 64 old.own) (all_taken_as (circle_of old.addresses) frames))
     pub left : new.own ≡ drop 64 old.own
-    pub heard : HearsAll old.cluster (all_taken_as old.addresses.seals frames) old.addresses new.addresses
-    pub network : IsSameNetwork old.addresses new.addresses
+    pub heard : HearsAll old.cluster (all_taken_as (circle_of old.addresses) frames) old.addresses new.addresses
+    pub network : IsSameCircle old.addresses new.addresses
 
 module _ {R : Type 0} (Says : Sayings R) (Gathers : Gatherings R) where
   -- whatever input the group had, this input has ended the replica, and nothing of the group is sent
@@ -103,9 +102,9 @@ module _ {R : Type 0} (Says : Sayings R) (Gathers : Gatherings R) where
 
   -- at the content of these frames
   pub record EndsHeard (frames : List (SocketAddr × List ℕ)) (group : GroupValue) (old new : ServerValue R) : Type 0 where
-    pub ends : EndsWithin (datagrams_in [] (all_taken_as old.addresses.seals frames)) group old new
-    pub heard : HearsAll old.cluster (all_taken_as old.addresses.seals frames) old.addresses new.addresses
-    pub network : IsSameNetwork old.addresses new.addresses
+    pub ends : EndsWithin (datagrams_in [] (all_taken_as (circle_of old.addresses) frames)) group old new
+    pub heard : HearsAll old.cluster (all_taken_as (circle_of old.addresses) frames) old.addresses new.addresses
+    pub network : IsSameCircle old.addresses new.addresses
 
   pub record EndsSocket (tells : Type 0) (frames : List (SocketAddr × List ℕ)) (group : GroupValue) (old new : ServerValue R) : Type 0 where
     pub ends : EndsHeard frames group old new
@@ -117,11 +116,11 @@ module _ {R : Type 0} (Says : Sayings R) (Gathers : Gatherings R) where
     pub count : ℕ
     pub letters : TakesLetters count old.own
     pub given : List (Option (List ℕ))
-    pub first : GivenFirst old.pace old.received (datagrams_in (take count old.own) (all_taken_as old.addresses.seals frames)) given
+    pub first : GivenFirst old.pace old.received (datagrams_in (take count old.own) (all_taken_as (circle_of old.addresses) frames)) given
     pub silent : SaysNoMore given group old.replica new.replica
     pub left : new.own ≡ drop count old.own
-    pub heard : HearsAll old.cluster (all_taken_as old.addresses.seals frames) old.addresses new.addresses
-    pub network : IsSameNetwork old.addresses new.addresses
+    pub heard : HearsAll old.cluster (all_taken_as (circle_of old.addresses) frames) old.addresses new.addresses
+    pub network : IsSameCircle old.addresses new.addresses
 
   -- ---- the end of a group
 

@@ -4,11 +4,10 @@ ghost use Rattle.std.specs.Prelude.{◌≡◌, ◌≢◌, ◌≤◌, ◌++◌, �
 ghost use Rattle.std.specs.declared.net.socket_addr.SocketAddr.{SocketAddr as Address};
 ghost use Rattle.lk_step.specs.Letters.{LetterValue};
 ghost use Rattle.lk_node.specs.Calls.{heard_by};
-ghost use Rattle.lk_transport.specs.Addresses.{IsSameNetwork};
+ghost use Rattle.lk_transport.specs.Addresses.{circle_of, IsSameCircle};
 ghost use Rattle.lk_server.specs.Gatherings.{GathersMore, SaysNoMore, Finds, TakesAll, EndsWithin, TakesOwn, EndsOwn, TakesHeard, EndsHeard, TakesSocket, EndsSocket, TakesWaiting, TakesGroup, EndsGroup};
 ghost use Rattle.lk_transport.specs.Hearing.{listed};
-ghost use Rattle.lk_transport.specs.Posts.{Hears, is_beside};
-ghost use Rattle.lk_seal.specs.Seals.{heard};
+ghost use Rattle.lk_transport.specs.Posts.{Hears, is_apart};
 ghost use Rattle.lk_transport.specs.Askers.{Keeps, KeepsFirstOf};
 ghost use Rattle.lk_server.specs.Servers.{HasReceived, IsIdle};
 
@@ -72,12 +71,11 @@ impl<R: NodeReplica, S: DatagramSocket + Drop> Server<R, S> {
     fn hear<L: Log>(&mut self, bytes: &[u8], from: SocketAddr, log: &L) -> Arrival
         ensures heard { Hears self.old.cluster bytes.now from self.old.addresses self.new.addresses }
         // Where nodes live and the keys do not change.
-        ensures network { IsSameNetwork self.old.addresses self.new.addresses }
+        ensures network { IsSameCircle self.old.addresses self.new.addresses }
         ensures others { self.new ≡ record self.old { addresses = self.new.addresses } }
     {
         let came = self.post.hear(self.cluster, bytes, from);
         self.ignored.count(&came, log);
-        self.note_stranger(&came, from, log);
         came
     }
 
@@ -180,18 +178,18 @@ impl<R: NodeReplica, S: DatagramSocket + Drop> Server<R, S> {
         Ok(())
     }
 
-    // The group takes the datagram in the buffer, out of its frame, unless it is beside the protocol: of
-    // that the first probe is kept. What was found.
+    // The group takes the datagram in the buffer, out of its frame, unless it is beside the protocol, of which the first
+    // probe and the first report are kept, or came from a node of another genesis. What was found.
     fn gather_heard<L: Log>(
         &mut self,
         buffer: &mut ReceiveBuffer,
         group: &mut Group,
         log: &L,
     ) -> Result<Found, ServiceFault>
-        ensures takes { IfOk result (λ found. found ≡ Found.Something → (frame : Address × List ℕ) × (buffer.old.last ≡ Some frame) × (is_beside (heard self.old.addresses.seals frame.1) ≡ false) × TakesHeard R.Gathers (frame ∷ []) group.old group.new self.old self.new) }
-        ensures beside { IfOk result (λ found. found ≡ Found.Beside → (frame : Address × List ℕ) × (buffer.old.last ≡ Some frame) × (is_beside (heard self.old.addresses.seals frame.1) ≡ true) × (self.new ≡ self.old) × (group.new ≡ group.old)) }
+        ensures takes { IfOk result (λ found. found ≡ Found.Something → (frame : Address × List ℕ) × (buffer.old.last ≡ Some frame) × (is_apart (circle_of self.old.addresses) frame ≡ false) × TakesHeard R.Gathers (frame ∷ []) group.old group.new self.old self.new) }
+        ensures beside { IfOk result (λ found. found ≡ Found.Beside → (frame : Address × List ℕ) × (buffer.old.last ≡ Some frame) × (is_apart (circle_of self.old.addresses) frame ≡ true) × (self.new ≡ self.old) × (group.new ≡ group.old)) }
         ensures none { IfOk result (λ found. found ≡ Found.Nothing → (buffer.old.last ≡ None) × (self.new ≡ self.old) × (group.new ≡ group.old)) }
-        ensures ends { OnErr result ((frame : Address × List ℕ) × (buffer.old.last ≡ Some frame) × (is_beside (heard self.old.addresses.seals frame.1) ≡ false) × EndsHeard R.Says R.Gathers (frame ∷ []) group.old self.old self.new) }
+        ensures ends { OnErr result ((frame : Address × List ℕ) × (buffer.old.last ≡ Some frame) × (is_apart (circle_of self.old.addresses) frame ≡ false) × EndsHeard R.Says R.Gathers (frame ∷ []) group.old self.old self.new) }
         ensures kept { IfOk result (λ found. found ≡ Found.Beside → Keeps self.old.addresses.seals buffer.old buffer.new) }
         ensures rest { IfOk result (λ found. (found ≡ Found.Beside → ⊥) → buffer.new ≡ buffer.old) }
         ensures spares { OnErr result (buffer.new ≡ buffer.old) }
@@ -210,6 +208,10 @@ impl<R: NodeReplica, S: DatagramSocket + Drop> Server<R, S> {
             buffer.keep_report(reported);
             return Ok(Found::Beside);
         }
+        if let Some(node) = self.post.stranger(from) {
+            self.tell_stranger(node, log);
+            return Ok(Found::Beside);
+        }
         let came = self.hear(datagram, from, log);
         self.gather_counted(datagram, &came, group, log)?;
         Ok(Found::Something)
@@ -222,9 +224,9 @@ impl<R: NodeReplica, S: DatagramSocket + Drop> Server<R, S> {
         group: &mut Group,
         log: &L,
     ) -> Result<Found, ServiceFault>
-        ensures takes { IfOk result (λ found. found ≡ Found.Something → (frame : Address × List ℕ) × (is_beside (heard self.old.addresses.seals frame.1) ≡ false) × TakesSocket R.Gathers S.is_telling (frame ∷ []) group.old group.new self.old self.new × KeepsFirstOf self.old.addresses.seals buffer.old.asked (frame ∷ []) buffer.new.asked) }
+        ensures takes { IfOk result (λ found. found ≡ Found.Something → (frame : Address × List ℕ) × (is_apart (circle_of self.old.addresses) frame ≡ false) × TakesSocket R.Gathers S.is_telling (frame ∷ []) group.old group.new self.old self.new × KeepsFirstOf self.old.addresses.seals buffer.old.asked (frame ∷ []) buffer.new.asked) }
         ensures none { IfOk result (λ found. (found ≡ Found.Something → ⊥) → (frames : List (Address × List ℕ)) × Finds S.is_telling found frames self.old self.new × (group.new ≡ group.old) × KeepsFirstOf self.old.addresses.seals buffer.old.asked frames buffer.new.asked) }
-        ensures ends { OnErr result ((frame : Address × List ℕ) × (is_beside (heard self.old.addresses.seals frame.1) ≡ false) × EndsSocket R.Says R.Gathers S.is_telling (frame ∷ []) group.old self.old self.new) }
+        ensures ends { OnErr result ((frame : Address × List ℕ) × (is_apart (circle_of self.old.addresses) frame ≡ false) × EndsSocket R.Says R.Gathers S.is_telling (frame ∷ []) group.old self.old self.new) }
         ensures others { self.new ≡ record self.old { replica = self.new.replica; failed = self.new.failed; received = self.new.received; addresses = self.new.addresses; coming = self.new.coming } }
         ensures passes { IfErr result (λ f. f ≡ ServiceFault.Send → ⊥) }
         ensures broken { OnErr result (self.new.failed ≡ true) }

@@ -12,12 +12,10 @@ use crate::node_replica::NodeReplica;
 use crate::server::Server;
 use crate::watching::log_stranger;
 use lk_probe::neighbours::{Neighbour, Origin};
-use lk_transport::arrival::Arrival;
 use lk_transport::receive_buffer::ReceiveBuffer;
 use lk_transport::socket::DatagramSocket;
 use lk_types::NodeNo;
 use log::Log;
-use std::net::SocketAddr;
 
 /// The ticks of a minute.
 const MINUTE: u64 = 600;
@@ -34,7 +32,7 @@ impl<R: NodeReplica, S: DatagramSocket + Drop> Server<R, S> {
     }
 
     // Tells at most once a minute that it hears a node of another genesis.
-    fn tell_stranger<L: Log>(&mut self, node: NodeNo, log: &L)
+    pub(crate) fn tell_stranger<L: Log>(&mut self, node: NodeNo, log: &L)
         ensures { self.new ≡ self.old }
     {
         match self.stranger_told {
@@ -44,18 +42,6 @@ impl<R: NodeReplica, S: DatagramSocket + Drop> Server<R, S> {
                 self.happened.stranger = Some(node);
                 log_stranger(log, node);
             }
-        }
-    }
-
-    // Tells so where a node's message came from the address of such a node.
-    pub(crate) fn note_stranger<L: Log>(&mut self, came: &Arrival, from: SocketAddr, log: &L)
-        ensures { self.new ≡ self.old }
-    {
-        if came.node().is_none() {
-            return;
-        }
-        if let Some(node) = self.post.stranger(from) {
-            self.tell_stranger(node, log);
         }
     }
 

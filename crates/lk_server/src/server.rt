@@ -4,7 +4,7 @@ ghost use Rattle.std.specs.Prelude.{◌≡◌, ℕ, List, ◌∷◌, [], None, t
 ghost use Rattle.std.specs.declared.net.socket_addr.SocketAddr.{SocketAddr as Address};
 ghost use Rattle.lk_types.specs.Ranges.{IsClient};
 ghost use Rattle.lk_recovery.specs.Faults.{fault_number};
-ghost use Rattle.lk_transport.specs.Addresses.{client_at, node_at, IsSameNetwork};
+ghost use Rattle.lk_transport.specs.Addresses.{circle_of, client_at, node_at, IsSameNetwork};
 ghost use Rattle.lk_server.specs.Gatherings.{Finds, HandsOnAll, SaysNothing};
 ghost use Rattle.lk_transport.specs.Posts.{all_taken_as};
 ghost use Rattle.lk_transport.specs.Askers.{KeepsFirstOf};
@@ -225,8 +225,8 @@ impl<R: NodeReplica, S: DatagramSocket + Drop> Server<R, S> {
         buffer: &mut ReceiveBuffer,
         log: &L,
     ) -> Result<bool, ServiceFault>
-        ensures turn { IfOk result (λ came. came ≡ true → (frames : List (Address × List ℕ)) × HasReceived S.is_telling frames self.old self.new × Turn R.Says S.is_telling (all_taken_as self.old.addresses.seals frames) self.old self.new × KeepsFirstOf self.old.addresses.seals buffer.old.asked frames buffer.new.asked) }
-        ensures ends { OnErr result ((frames : List (Address × List ℕ)) × HasReceived S.is_telling frames self.old self.new × LastTurn R.Says S.is_telling (all_taken_as self.old.addresses.seals frames) self.old self.new) }
+        ensures turn { IfOk result (λ came. came ≡ true → (frames : List (Address × List ℕ)) × HasReceived S.is_telling frames self.old self.new × Turn R.Says S.is_telling (all_taken_as (circle_of self.old.addresses) frames) self.old self.new × KeepsFirstOf self.old.addresses.seals buffer.old.asked frames buffer.new.asked) }
+        ensures ends { OnErr result ((frames : List (Address × List ℕ)) × HasReceived S.is_telling frames self.old self.new × LastTurn R.Says S.is_telling (all_taken_as (circle_of self.old.addresses) frames) self.old self.new) }
         ensures none { IfOk result (λ came. came ≡ false → (self.old.own ≡ []) × (found : Found) × (frames : List (Address × List ℕ)) × Finds S.is_telling found frames self.old self.new × KeepsFirstOf self.old.addresses.seals buffer.old.asked frames buffer.new.asked) }
         // Where nodes live and the keys do not change.
         ensures network { IsSameNetwork self.old.addresses self.new.addresses }
@@ -257,7 +257,7 @@ pub fn node_turn<R: NodeReplica, S: DatagramSocket + Drop, C: Clock, L: Log>(
     // probes in these frames the first is kept, unless one was kept before.
     ensures turn { OnOk result ((frames : List (Address × List ℕ)) × HasReceived S.is_telling frames server.old server.new × TakesTurn R.Says S.is_telling frames server.old server.new × KeepsFirstOf server.old.addresses.seals buffer.old.asked frames buffer.new.asked) }
     // After an error nothing of the group is sent.
-    ensures ends { OnErr result ((frames : List (Address × List ℕ)) × HasReceived S.is_telling frames server.old server.new × LastTurn R.Says S.is_telling (all_taken_as server.old.addresses.seals frames) server.old server.new) }
+    ensures ends { OnErr result ((frames : List (Address × List ℕ)) × HasReceived S.is_telling frames server.old server.new × LastTurn R.Says S.is_telling (all_taken_as (circle_of server.old.addresses) frames) server.old server.new) }
     // Where nodes live and the keys do not change.
     ensures network { IsSameNetwork server.old.addresses server.new.addresses }
     ensures passes { IfErr result (λ f. f ≡ ServiceFault.Send → ⊥) }

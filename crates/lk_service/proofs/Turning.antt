@@ -10,7 +10,7 @@ use Rattle.lk_step.specs.Letters.{LetterValue}
 use Rattle.lk_replica.specs.ReplicaValue.{ReplicaValue}
 use Rattle.lk_recovery.specs.Revivals.{IsRefusedFor}
 use Rattle.lk_probe.specs.declared.reported.Reported.{Reported}
-use Rattle.lk_transport.specs.Addresses.{IsSameNetwork}
+use Rattle.lk_transport.specs.Addresses.{IsSameNetwork, circle_of}
 use Rattle.lk_transport.specs.Askers.{KeepsFirstOf}
 use Rattle.lk_transport.specs.Posts.{all_taken_as}
 use Rattle.lk_server.specs.Sayings.{SaysOf}
@@ -39,8 +39,8 @@ module _ {Says : ReplicaValue → List (Option (List ℕ)) → List LetterValue 
 
 -- a turn that ended the replica
 pub turn_ended : {Says : ReplicaValue → List (Option (List ℕ)) → List LetterValue → ReplicaValue → Type 0} {tells : Type 0} (frames : List (SocketAddr × List ℕ)) (old new : ServerValue ReplicaValue)
-    → HasReceived tells frames old new → LastTurn Says tells (all_taken_as old.addresses.seals frames) old new → IsSameNetwork old.addresses new.addresses → TellsFailure new → EndsTurn Says tells old new
-turn_ended frames old new received turn network failure = record { frames = frames; came = all_taken_as old.addresses.seals frames; opened = refl; received = received; turn = turn; network = network; failure = failure }
+    → HasReceived tells frames old new → LastTurn Says tells (all_taken_as (circle_of old.addresses) frames) old new → IsSameNetwork old.addresses new.addresses → TellsFailure new → EndsTurn Says tells old new
+turn_ended frames old new received turn network failure = record { frames = frames; came = all_taken_as (circle_of old.addresses) frames; opened = refl; received = received; turn = turn; network = network; failure = failure }
 
 -- a turn, and what the server does beside the protocol after it
 pub turn_taken : {Says : ReplicaValue → List (Option (List ℕ)) → List LetterValue → ReplicaValue → Type 0} {tells : Type 0} (kept : Option Asked) (After : ServerValue ReplicaValue → Type 0) (frames : List (SocketAddr × List ℕ)) (asked : Option Asked) (reported : Option Reported)
@@ -48,7 +48,7 @@ pub turn_taken : {Says : ReplicaValue → List (Option (List ℕ)) → List Lett
     → IsSameNetwork old.addresses mid.addresses → TellsFailure new → After new → TakesTurnWith Says tells kept After old new
 turn_taken kept After frames asked reported old mid new received turn first acts network failure becomes = record {
   frames = frames;
-  came = all_taken_as old.addresses.seals frames;
+  came = all_taken_as (circle_of old.addresses) frames;
   opened = refl;
   received = received;
   mid = mid;

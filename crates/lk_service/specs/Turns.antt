@@ -8,7 +8,7 @@ use Rattle.lk_replica.specs.ReplicaValue.{ReplicaValue}
 use Rattle.lk_probe.specs.Neighbours.{bound_in}
 use Rattle.lk_probe.specs.declared.reported.Reported.{Reported}
 use Rattle.lk_seal.specs.declared.seals.Seals.{Seals}
-use Rattle.lk_transport.specs.Addresses.{IsSameNetwork}
+use Rattle.lk_transport.specs.Addresses.{IsSameNetwork, circle_of}
 use Rattle.lk_transport.specs.Posts.{all_taken_as}
 use Rattle.lk_server.specs.Beside.{ActsBeside}
 use Rattle.lk_server.specs.Probes.{IsShown}
@@ -41,7 +41,7 @@ module _ (Says : ReplicaValue → List (Option (List ℕ)) → List LetterValue 
   pub record TakesTurnWith (kept : Option Asked) (After : ServerValue ReplicaValue → Type 0) (old new : ServerValue ReplicaValue) : Type 0 where
     pub frames : List (SocketAddr × List ℕ)
     pub came : List (SocketAddr × List ℕ)
-    pub opened : came ≡ all_taken_as old.addresses.seals frames
+    pub opened : came ≡ all_taken_as (circle_of old.addresses) frames
     pub mid : ServerValue ReplicaValue
     pub received : HasReceived tells frames old mid
     pub turn : Turn Says tells came old mid ⊎ IsIdle tells frames old mid
@@ -66,7 +66,7 @@ module _ (Says : ReplicaValue → List (Option (List ℕ)) → List LetterValue 
   pub record EndsTurn (old new : ServerValue ReplicaValue) : Type 0 where
     pub frames : List (SocketAddr × List ℕ)
     pub came : List (SocketAddr × List ℕ)
-    pub opened : came ≡ all_taken_as old.addresses.seals frames
+    pub opened : came ≡ all_taken_as (circle_of old.addresses) frames
     pub received : HasReceived tells frames old new
     pub turn : LastTurn Says tells came old new
     pub network : IsSameNetwork old.addresses new.addresses

@@ -1,7 +1,7 @@
 -- The addresses of clients and nodes, what is known of the nodes there, and the keys that identify them.
 use Rattle.std.specs.Prelude.{◌≡◌, ℕ, ◌+◌, ◌-◌, ◌==◌, Bool, false, List, [], ◌∷◌, ◌++◌, Option, Some, None, if◌then◌else◌, length, take, drop, min, slice_index_or}
 use Rattle.std.specs.declared.net.socket_addr.SocketAddr.{SocketAddr}
-use Rattle.lk_probe.specs.Neighbours.{Entries}
+use Rattle.lk_probe.specs.Neighbours.{Entries, is_stranger}
 use Rattle.lk_seal.specs.declared.seals.Seals.{Seals}
 use Rattle.lk_transport.specs.declared.hosts.Hosts.{Hosts}
 
@@ -53,3 +53,15 @@ moved_up places node from = Some (node, from) ∷ without (min (place_in places 
 -- where nodes live and the keys are the same
 abbrev pub IsSameNetwork : AddressBook → AddressBook → Type 0
 IsSameNetwork old new = (new.hosts ≡ old.hosts) × (new.seals ≡ old.seals)
+
+-- by what a node takes what comes: its keys, and at which addresses nodes of another genesis are
+pub record Circle : Type 0 where
+  pub seals : Seals
+  pub strangers : SocketAddr → Bool
+
+abbrev pub circle_of : AddressBook → Circle
+circle_of b = record { seals = b.seals; strangers = is_stranger b.neighbours }
+
+-- where nodes live and by what a node takes what comes are the same
+abbrev pub IsSameCircle : AddressBook → AddressBook → Type 0
+IsSameCircle old new = (new.hosts ≡ old.hosts) × (circle_of new ≡ circle_of old)

@@ -1,5 +1,5 @@
 -- Where a letter goes and in which form, and what a contract sees of a post with a socket.
-use Rattle.std.specs.Prelude.{◌≡◌, ◌≢◌, ◌⊎◌, ◌==◌, ℕ, Bool, true, false, if◌then◌else◌, List, [], ◌∷◌, ◌++◌, Option, Some, None, MatchBool, MatchOption, IsSomeAnd}
+use Rattle.std.specs.Prelude.{◌≡◌, ◌≢◌, ◌⊎◌, ◌==◌, ◌||◌, ℕ, Bool, true, false, if◌then◌else◌, List, [], ◌∷◌, ◌++◌, Option, Some, None, MatchBool, MatchOption, IsSomeAnd}
 use Rattle.std.specs.Net.Socket.{socket_ip, socket_port}
 use Rattle.std.specs.declared.net.socket_addr.SocketAddr.{SocketAddr}
 use Rattle.lk_types.specs.Ranges.{IsClient}
@@ -17,7 +17,7 @@ use Rattle.lk_probe.specs.Neighbours.{Meets}
 use Rattle.lk_seal.specs.Clients.{client_keys}
 use Rattle.lk_seal.specs.Seals.{key_list, to_node, replying, framed_by, heard}
 use Rattle.lk_seal.specs.declared.seals.Seals.{Seals}
-use Rattle.lk_transport.specs.Addresses.{AddressBook, client_at, node_at, moved_up, IsSameNetwork}
+use Rattle.lk_transport.specs.Addresses.{AddressBook, Circle, client_at, node_at, moved_up, IsSameCircle}
 use Rattle.lk_transport.specs.Hosts.{host_of}
 
 -- its node, the addresses, the kept letters of the node to itself, what the socket has sent, how many of its sends
@@ -67,17 +67,21 @@ is_beside (l ∷ p ∷ rest) = if l == 76 then p == 80 else false
 is_beside _ = false
 
 -- what came, out of its frame
-abbrev pub opened_as : Seals → SocketAddr × List ℕ → SocketAddr × List ℕ
-opened_as s d = (d.0, heard s d.1)
+abbrev pub opened_as : Circle → SocketAddr × List ℕ → SocketAddr × List ℕ
+opened_as c d = (d.0, heard c.seals d.1)
 
--- what came, as a replica is given it: nothing where it stands beside the protocol
-abbrev pub unless_beside : SocketAddr × List ℕ → List (SocketAddr × List ℕ)
-unless_beside d = if is_beside d.1 then [] else d ∷ []
+-- a replica is given nothing of it: it stands beside the protocol, or came from a node of another genesis
+abbrev pub is_apart : Circle → SocketAddr × List ℕ → Bool
+is_apart c d = is_beside (heard c.seals d.1) || c.strangers d.0
 
--- so of each of these, out of its frame
-abbrev pub all_taken_as : Seals → List (SocketAddr × List ℕ) → List (SocketAddr × List ℕ)
-all_taken_as s [] = []
-all_taken_as s (d ∷ came) = unless_beside (opened_as s d) ++ all_taken_as s came
+-- what came, as a replica is given it
+abbrev pub let_in : Circle → SocketAddr × List ℕ → List (SocketAddr × List ℕ)
+let_in c d = if is_apart c d then [] else opened_as c d ∷ []
+
+-- so of each of these
+abbrev pub all_taken_as : Circle → List (SocketAddr × List ℕ) → List (SocketAddr × List ℕ)
+all_taken_as c [] = []
+all_taken_as c (d ∷ came) = let_in c d ++ all_taken_as c came
 
 -- what goes there; nothing if there is no address
 abbrev pub carried : Option SocketAddr → List ℕ → List (SocketAddr × List ℕ)
@@ -142,7 +146,7 @@ pub record HearsClient (client : ℕ) (from : SocketAddr) (old new : AddressBook
   pub others : (c : ℕ) → IsClient c → c ≢ client → client_at new c ≡ client_at old c
   pub nodes : new.nodes ≡ old.nodes
   pub neighbours : new.neighbours ≡ old.neighbours
-  pub network : IsSameNetwork old new
+  pub network : IsSameCircle old new
 
 -- that node's address replaces its last one, no other node's changes, except for the one that is dropped if all
 -- entries are taken, and no client's does; a node has written from that address, and binds this one or not
@@ -151,7 +155,7 @@ pub record HearsNode (node : ℕ) (from : SocketAddr) (binds : Bool) (old new : 
   pub places : new.nodes ≡ moved_up old.nodes node from
   pub clients : new.clients ≡ old.clients
   pub meets : Meets from binds old.neighbours new.neighbours
-  pub network : IsSameNetwork old new
+  pub network : IsSameCircle old new
 
 -- the address of the sender of this content is recorded
 abbrev pub HearsContent : Content → SocketAddr → AddressBook → AddressBook → Type 0

@@ -2,7 +2,7 @@
 
 ghost use Rattle.std.specs.Prelude.{◌≡◌};
 ghost use Rattle.lk_wire.specs.Shown.{shown_node};
-ghost use Rattle.lk_transport.specs.Addresses.{IsSameNetwork};
+ghost use Rattle.lk_transport.specs.Addresses.{IsSameCircle};
 ghost use Rattle.lk_transport.specs.Posts.{Hears, is_binding};
 
 use crate::addresses::Addresses;
@@ -28,7 +28,7 @@ impl Addresses {
     /// everything else. Returns what arrived, for the log.
     pub fn hear(&mut self, cluster: u64, bytes: &[u8], from: SocketAddr) -> Arrival
         ensures heard { Hears cluster bytes.now from self.old self.new }
-        ensures network { IsSameNetwork self.old self.new }
+        ensures network { IsSameCircle self.old self.new }
     {
         let Ok(message) = view(bytes) else {
             return Arrival::Bad;

@@ -3,7 +3,7 @@
 ghost use Rattle.std.specs.Prelude.{◌≡◌, ◌≢◌, ◌↔◌, ◌++◌, ◌∷◌, ℕ, [], Some, None, true, false, is_ok, OnOk, OnErr, IfOk, IsErr, IfSome, IsNone};
 ghost use Rattle.lk_types.specs.Ranges.{IsClient};
 ghost use Rattle.lk_disk.specs.Disk.{HasCause, one_more};
-ghost use Rattle.lk_transport.specs.Addresses.{client_at, node_at, IsSameNetwork};
+ghost use Rattle.lk_transport.specs.Addresses.{client_at, node_at, IsSameCircle};
 ghost use Rattle.lk_transport.specs.Hearing.{listed};
 ghost use Rattle.lk_seal.specs.Seals.{heard};
 ghost use Rattle.lk_transport.specs.Posts.{IsRoute, IsBoundFor, Becomes, Hears, tray_of, frame_of, keys_for};
@@ -158,7 +158,7 @@ impl<S: DatagramSocket + Drop> SocketPost<S> {
     /// Records the source of a datagram of the cluster, as `Addresses::hear` does.
     pub fn hear(&mut self, cluster: u64, bytes: &[u8], from: SocketAddr) -> Arrival
         ensures heard { Hears cluster bytes.now from self.old.addresses self.new.addresses }
-        ensures network { IsSameNetwork self.old.addresses self.new.addresses }
+        ensures network { IsSameCircle self.old.addresses self.new.addresses }
         ensures others { self.new ≡ record self.old { addresses = self.new.addresses } }
     {
         self.addresses.hear(cluster, bytes, from)

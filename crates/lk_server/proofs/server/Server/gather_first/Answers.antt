@@ -1,6 +1,8 @@
 use Rattle.std.proofs.Common.{◌≡◌, ◌∙◌, sym, ap}
 use Rattle.lk_server.specs.declared.found.Found.TheVariants.{Beside, Something}
+use Rattle.lk_transport.specs.Addresses.{circle_of}
 use Rattle.lk_server.specs.Servers.{ServerValue}
+use Rattle.lk_server.proofs.Apart.{not_beside}
 use Rattle.lk_server.proofs.Asking.{keeps_given, keeps_found}
 use Rattle.lk_server.proofs.Carrying.{if_ok_both, if_ok_four, if_err_on}
 use Rattle.lk_server.proofs.Gatherings.{socket_one, ends_socket, finds, apart_as}
@@ -19,7 +21,7 @@ returns-clause-takes g c =
       apart,
       socket_one g.R.NodeReplica.Gathers g.S.DatagramSocket.is_telling c.listen.new.buffer.last t.0 c.args.group.now c.gather_heard.new.group c.args.self.now c.listen.new.self c.gather_heard.new.self t.1 l.comes l.others
           (ap (λ (s : ServerValue _). s.coming) h.others) t.3,
-      keeps_given c.args.self.now.addresses.seals t.0 c.args.buffer.now.asked c.gather_heard.new.buffer.asked apart (ap (λ (b : BufferValue). b.asked) same ∙ l.asked),
+      keeps_given c.args.self.now.addresses.seals t.0 c.args.buffer.now.asked c.gather_heard.new.buffer.asked (not_beside (circle_of c.args.self.now.addresses) t.0 apart) (ap (λ (b : BufferValue). b.asked) same ∙ l.asked),
     )) h.takes h.rest
 
 pub returns-clause-none : goal.returns-clause-none

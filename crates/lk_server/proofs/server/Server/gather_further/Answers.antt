@@ -1,4 +1,5 @@
 use Rattle.std.proofs.Common.{◌≡◌, [], ◌∷◌, ◌++◌, refl, ap, ◌∙◌, length-append, arith}
+use Rattle.lk_transport.specs.Addresses.{Circle}
 use Rattle.lk_server.specs.Servers.{ServerValue}
 use Rattle.lk_server.proofs.Asking.{keeps_more, keeps_still, keeps_on}
 use Rattle.lk_server.proofs.Carrying.{on_err}
@@ -24,7 +25,7 @@ datagrams-preserved g c =
       socket_more g.R.NodeReplica.Gathers g.S.DatagramSocket.is_telling i.0 (t.0 ∷ []) c.args.group.now c.datagrams.group c.gather_waiting.new.group c.args.self.now c.datagrams.self new (ap (λ (s : ServerValue _). s.cluster) i.3) i.2 t.1,
       c.gather_waiting.ensures.others
           ∙ ap (λ (s : ServerValue _). record s { replica = new.replica; failed = new.failed; received = new.received; addresses = new.addresses; coming = new.coming }) i.3,
-      keeps_more c.args.self.now.addresses.seals c.datagrams.self.addresses.seals i.0 (t.0 ∷ []) c.args.buffer.now.asked c.datagrams.buffer.asked c.gather_waiting.new.buffer.asked i.2.takes.network.1 i.4 t.2,
+      keeps_more c.args.self.now.addresses.seals c.datagrams.self.addresses.seals i.0 (t.0 ∷ []) c.args.buffer.now.asked c.datagrams.buffer.asked c.gather_waiting.new.buffer.asked (ap (λ (c : Circle). c.seals) i.2.takes.network.1) i.4 t.2,
     )
 
 pub returns-then-not-branch-clause-takes : goal.returns-then-not-branch-clause-takes

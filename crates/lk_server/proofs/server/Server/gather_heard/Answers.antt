@@ -1,23 +1,40 @@
-use Rattle.std.proofs.Common.{rules}
+use Rattle.std.proofs.Common.{rules, ◌≡◌, false, Some, refl}
+use Rattle.lk_probe.specs.Neighbours.{is_stranger}
+use Rattle.lk_seal.specs.Seals.{heard}
+use Rattle.lk_transport.specs.Addresses.{circle_of}
+use Rattle.lk_transport.specs.Posts.{is_apart, is_beside}
+use Rattle.lk_server.proofs.Apart.{not_apart}
+use Rattle.lk_server.proofs.Asking.{keeps_strange}
 use Rattle.lk_server.proofs.Carrying.{on_err}
 use Rattle.lk_server.proofs.Gatherings.{heard_one, ends_heard}
 use Rattle.lk_server.proofs.server.Server.gather_heard.Goals as goal
 
 pub returns-clause-takes : goal.returns-clause-takes
-returns-clause-takes g c = λ yes. (
-  (c.in-Some.from, c.in-Some.frame.now),
-  c.in-Some.ensures.some,
-  search rules,
-  heard_one g.R.NodeReplica.Gathers (c.in-Some.from, c.in-Some.frame.now) (c.in-Some.from, c.open-datagram.result.now) c.args.group.now c.gather_counted.new.group c.args.self.now c.hear-came.new.self c.gather_counted.new.self
-      (search rules) (search rules) (search rules) (search rules) (search rules) (search rules) (search rules) (search rules) c.in_ok-gather_counted.ensures.takes,
-)
+returns-clause-takes g c = λ yes.
+    let beside : is_beside (heard c.args.self.now.addresses.seals c.in-Some.frame.now) ≡ false = search rules in
+    let known : is_stranger c.args.self.now.addresses.neighbours c.in-Some.from ≡ false = search rules in
+    let apart : is_apart (circle_of c.args.self.now.addresses) (c.in-Some.from, c.in-Some.frame.now) ≡ false = not_apart (circle_of c.args.self.now.addresses) (c.in-Some.from, c.in-Some.frame.now) beside known in (
+      (c.in-Some.from, c.in-Some.frame.now),
+      c.in-Some.ensures.some,
+      apart,
+      heard_one g.R.NodeReplica.Gathers (c.in-Some.from, c.in-Some.frame.now) (c.in-Some.from, c.open-datagram.result.now) c.args.group.now c.gather_counted.new.group c.args.self.now c.hear-came.new.self c.gather_counted.new.self
+          (search rules) apart (search rules) (search rules) (search rules) (search rules) (search rules) (search rules) c.in_ok-gather_counted.ensures.takes,
+    )
 
 pub returns-in_err-gather_counted-clause-ends : goal.returns-in_err-gather_counted-clause-ends
 returns-in_err-gather_counted-clause-ends g c =
+    let beside : is_beside (heard c.args.self.now.addresses.seals c.in-Some.frame.now) ≡ false = search rules in
+    let known : is_stranger c.args.self.now.addresses.neighbours c.in-Some.from ≡ false = search rules in
+    let apart : is_apart (circle_of c.args.self.now.addresses) (c.in-Some.from, c.in-Some.frame.now) ≡ false = not_apart (circle_of c.args.self.now.addresses) (c.in-Some.from, c.in-Some.frame.now) beside known in
     on_err c.from_residual.result (
       (c.in-Some.from, c.in-Some.frame.now),
       c.in-Some.ensures.some,
-      search rules,
+      apart,
       ends_heard g.R.NodeReplica.Says g.R.NodeReplica.Gathers (c.in-Some.from, c.in-Some.frame.now) (c.in-Some.from, c.open-datagram.result.now) c.args.group.now c.args.self.now c.hear-came.new.self c.gather_counted.new.self
-          (search rules) (search rules) (search rules) (search rules) (search rules) (search rules) (search rules) (search rules) c.in_err-gather_counted.ensures.ends,
+          (search rules) apart (search rules) (search rules) (search rules) (search rules) (search rules) (search rules) c.in_err-gather_counted.ensures.ends,
     )
+
+pub returns-in-Some-stranger-clause-kept : goal.returns-in-Some-stranger-clause-kept
+returns-in-Some-stranger-clause-kept g c = λ found.
+    let beside : is_beside (heard c.args.self.now.addresses.seals c.in-Some.frame.now) ≡ false = search rules in
+    keeps_strange c.args.self.now.addresses.seals (c.in-Some.from, c.in-Some.frame.now) c.args.buffer.now c.in-Some.ensures.some beside

@@ -1,5 +1,7 @@
-use Rattle.std.proofs.Common.{rules, ap, ◌∙◌}
+use Rattle.std.proofs.Common.{rules, ◌≡◌, ap, ◌∙◌}
+use Rattle.lk_transport.specs.Addresses.{circle_of}
 use Rattle.lk_server.specs.Servers.{ServerValue}
+use Rattle.lk_server.proofs.Apart.{not_beside}
 use Rattle.lk_server.proofs.Asking.{keeps_given, keeps_beside}
 use Rattle.lk_server.proofs.Carrying.{on_err}
 use Rattle.lk_server.proofs.Gatherings.{socket_one, socket_beside, ends_socket, none_came, apart_as}
@@ -14,7 +16,7 @@ returns-in-Something-clause-takes g c = λ came.
       t.0,
       socket_one g.R.NodeReplica.Gathers g.S.DatagramSocket.is_telling c.listen_waiting.new.buffer.last t.0 c.args.group.now c.gather_heard.new.group c.args.self.now c.listen_waiting.new.self c.gather_heard.new.self t.1 l.comes l.others
           (ap (λ (s : ServerValue _). s.coming) c.gather_heard.ensures.others) t.3,
-      keeps_given c.args.self.now.addresses.seals t.0 c.args.buffer.now.asked c.gather_heard.new.buffer.asked (apart_as c.args.self.now c.listen_waiting.new.self t.0 l.others t.2) (ap (λ (b : BufferValue). b.asked) same ∙ l.asked),
+      keeps_given c.args.self.now.addresses.seals t.0 c.args.buffer.now.asked c.gather_heard.new.buffer.asked (not_beside (circle_of c.args.self.now.addresses) t.0 (apart_as c.args.self.now c.listen_waiting.new.self t.0 l.others t.2)) (ap (λ (b : BufferValue). b.asked) same ∙ l.asked),
     )
 
 pub returns-in-Beside-clause-takes : goal.returns-in-Beside-clause-takes
