@@ -6,7 +6,7 @@ use Rattle.lk_types.specs.BallotValue.{BallotValue}
 use Rattle.lk_types.specs.Ballots.{IsBelow, IsAtMost, is_below}
 use Rattle.lk_types.specs.declared.vote.Vote.{Vote}
 use Rattle.lk_types.proofs.Values.{test_of_below}
-use Rattle.lk_wire.specs.Values.{are_votes_above}
+use Rattle.lk_types.specs.Votes.{are_votes_above}
 use Rattle.lk_agreement.specs.Acceptors.{AcceptorState, TakesVote, TakesSnapshot}
 use Rattle.lk_agreement.specs.Changes.{with_promise}
 use Rattle.lk_agreement.proofs.Histories.{at_most_trans, below_at_most, below_self, cons_cases, contains_more, filter_from, filtered_takes_snapshot, only}

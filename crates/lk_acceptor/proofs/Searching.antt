@@ -9,9 +9,8 @@ use Rattle.std.proofs.lemmas.Bool.Decides.{nat_tests}
 use Rattle.std.proofs.lemmas.List.{take_all, length-drop}
 use Rattle.std.proofs.lemmas.Option.{slice_get_within, get_or_from_slice_get}
 use Rattle.lk_types.specs.Ballots.{is_below}
-use Rattle.lk_types.specs.Votes.{IsVote}
+use Rattle.lk_types.specs.Votes.{IsVote, are_votes_above}
 use Rattle.lk_types.specs.declared.vote.Vote.{Vote}
-use Rattle.lk_wire.specs.Values.{are_votes_above}
 use Rattle.lk_agreement.proofs.Histories.{cons_cases, contains_more, filter_from}
 use Rattle.lk_entries.specs.VoteLists.{AreRising, votes_below, votes_with}
 use Rattle.lk_entries.proofs.VoteParts.{rising_parts}

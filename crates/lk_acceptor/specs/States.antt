@@ -4,11 +4,10 @@ use Rattle.std.specs.List.{AllByRecursion}
 use Rattle.lk_types.specs.BallotValue.{BallotValue}
 use Rattle.lk_types.specs.Ballots.{IsAtMost, IsMark, is_below}
 use Rattle.lk_types.specs.Ranges.{IsAlpha, IsTotal}
-use Rattle.lk_types.specs.Votes.{IsVote}
+use Rattle.lk_types.specs.Votes.{IsVote, are_votes_above}
 use Rattle.lk_types.specs.declared.entry.Entry.{Entry}
 use Rattle.lk_types.specs.declared.entry.Entry.TheVariants as entry
 use Rattle.lk_types.specs.declared.vote.Vote.{Vote}
-use Rattle.lk_wire.specs.Values.{are_votes_above}
 use Rattle.lk_agreement.specs.Acceptors.{AcceptorState}
 use Rattle.lk_agreement.specs.Changes.{with_promise}
 use Rattle.lk_acceptor.specs.AcceptorValue.{AcceptorValue}

@@ -5,7 +5,7 @@ ghost use Rattle.lk_types.specs.BallotValue.{BallotValue};
 ghost use Rattle.lk_types.specs.Ballots.{IsBelow};
 ghost use Rattle.lk_types.specs.declared.entry.Entry.TheVariants as entry;
 ghost use Rattle.lk_types.specs.declared.vote.Vote.{Vote};
-ghost use Rattle.lk_wire.specs.Values.{are_votes_above};
+ghost use Rattle.lk_types.specs.Votes.{are_votes_above};
 ghost use Rattle.lk_agreement.specs.Acceptors.{AcceptorState, Covers, TakesVote, TakesSnapshot};
 ghost use Rattle.lk_agreement.specs.Changes.{with_promise};
 ghost use Rattle.lk_agreement.specs.Datagrams.{Genesis, Datagram};

@@ -7,7 +7,7 @@ use Rattle.lk_types.specs.Ballots.{IsReal, IsMark}
 use Rattle.lk_types.specs.BallotValue.{BallotValue}
 use Rattle.lk_types.specs.Commands.{IsCommand, IsOp}
 use Rattle.lk_types.specs.Rosters.{IsMember, AreMembers}
-use Rattle.lk_types.specs.Votes.{IsVote}
+use Rattle.lk_types.specs.Votes.{IsVote, are_votes_above}
 use Rattle.lk_types.specs.declared.command.Command.{Command}
 use Rattle.lk_types.specs.declared.command.Command.TheVariants.{Noop, Request}
 use Rattle.lk_types.specs.declared.command.Op.{Op}
@@ -19,7 +19,6 @@ use Rattle.lk_types.specs.declared.vote.Vote.{Vote as VoteValue}
 use Rattle.lk_fields.specs.Fields.{one, two, four, eight, ballot, members, op, command, vote, pair}
 use Rattle.lk_fields.specs.Parser.{◌>>=◌, read_byte, tested, sized, whole}
 use Rattle.lk_fields.specs.FieldReading.{is_from_1_to, read_two, read_four, read_eight, read_node, read_count, read_total, read_ballot, read_mark, read_members, read_vote, read_pair}
-use Rattle.lk_wire.specs.Values.{are_votes_above}
 use Rattle.lk_fields.proofs.Spellings.{IsBytes, IsBytes-drop, IsBytes-take, Took, Reads, bind_ok, some_is, fitting, both_reads, made_reads, tested_reads, byte_reads, whole_takes, whole_again, two_reads, four_reads, eight_reads, sized_reads, counted_reads, TakesKinds, no_kind_takes, kind_takes, tagged_reads, ranged_reads, limited_reads, node_reads, count_reads, total_reads, ballot_reads, mark_reads, members_reads, vote_reads, pair_reads}
 use Rattle.lk_entries.specs.Values.{HeaderValue, StandingValue, BaseValue}
 use Rattle.lk_entries.specs.Formats.{IsFormat}

@@ -3,7 +3,7 @@ use Rattle.std.proofs.Common.{◌≡◌, ℕ, ◌<◌, ◌≤◌, inl, inr, true
 use Rattle.std.proofs.lemmas.Bool.{and_parts, and_from, ltb-true, lt-ltb, eq-eqb, ne_eqb, cases_order}
 use Rattle.lk_types.specs.declared.command.Command.{Command}
 use Rattle.lk_types.specs.declared.vote.Vote.{Vote}
-use Rattle.lk_wire.specs.Values.{are_votes_above}
+use Rattle.lk_types.specs.Votes.{are_votes_above}
 use Rattle.lk_entries.specs.Entries.{are_pairs_above}
 use Rattle.lk_entries.specs.Standings.{vote_at, decided_at, HasSnapshot, StandsFor}
 use Rattle.lk_entries.specs.Values.{StandingValue}

@@ -10,7 +10,7 @@ use Rattle.lk_types.specs.declared.command.Command.{Command}
 use Rattle.lk_types.specs.declared.entry.Entry.{Entry}
 use Rattle.lk_types.specs.declared.entry.Entry.TheVariants.{Promise, Vote, Decided}
 use Rattle.lk_types.specs.declared.vote.Vote.{Vote as VoteValue}
-use Rattle.lk_wire.specs.Values.{are_votes_above}
+use Rattle.lk_types.specs.Votes.{are_votes_above}
 use Rattle.lk_entries.specs.Entries.{are_pairs_above, IsBase, IsStored}
 use Rattle.lk_entries.specs.Bases.{has_base, is_misplaced, generation}
 use Rattle.lk_entries.specs.VoteLists.{votes_with}

@@ -5,14 +5,13 @@ use Rattle.lk_types.specs.Limits.{max_votes, max_base}
 use Rattle.lk_types.specs.Ranges.{IsCount, IsTotal}
 use Rattle.lk_types.specs.Ballots.{IsReal, IsMark}
 use Rattle.lk_types.specs.Commands.{IsCommand}
-use Rattle.lk_types.specs.Votes.{IsVote}
+use Rattle.lk_types.specs.Votes.{IsVote, are_votes_above}
 use Rattle.lk_types.specs.declared.command.Command.{Command}
 use Rattle.lk_types.specs.declared.entry.Entry.{Entry}
 use Rattle.lk_types.specs.declared.entry.Entry.TheVariants.{Promise, Vote, Decided}
 use Rattle.lk_types.specs.declared.vote.Vote.{Vote as VoteValue}
 pub use Rattle.lk_fields.specs.Fields.{members}
 use Rattle.lk_fields.specs.Fields.{one, two, four, eight, ballot, vote, pair}
-use Rattle.lk_wire.specs.Values.{are_votes_above}
 use Rattle.lk_entries.specs.Formats.{IsFormat}
 use Rattle.lk_entries.specs.Headers.{IsHeader}
 use Rattle.lk_entries.specs.Values.{HeaderValue, StandingValue, BaseValue}

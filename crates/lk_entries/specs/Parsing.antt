@@ -6,7 +6,7 @@ use Rattle.lk_types.specs.declared.entry.Entry.TheVariants.{Promise, Vote, Decid
 use Rattle.lk_types.specs.declared.vote.Vote.{Vote as VoteValue}
 use Rattle.lk_fields.specs.Parser.{◌>>=◌, read_byte, both, made, tested, counted, sized, tagged, kind, no_kind, whole}
 use Rattle.lk_fields.specs.FieldReading.{is_from_1_to, read_two, read_four, read_eight, read_node, read_count, read_total, read_ballot, read_mark, read_members, read_vote, read_pair}
-use Rattle.lk_wire.specs.Values.{are_votes_above}
+use Rattle.lk_types.specs.Votes.{are_votes_above}
 use Rattle.lk_entries.specs.Entries.{are_pairs_above}
 use Rattle.lk_entries.specs.Values.{HeaderValue, StandingValue, BaseValue}
 use Rattle.lk_entries.specs.declared.unread.Unread.{Unread}

@@ -6,7 +6,7 @@ use Rattle.lk_types.specs.declared.command.Command.{Command}
 use Rattle.lk_types.specs.declared.entry.Entry.{Entry}
 use Rattle.lk_types.specs.declared.entry.Entry.TheVariants.{Promise, Vote, Decided}
 use Rattle.lk_types.specs.declared.vote.Vote.{Vote as VoteValue}
-use Rattle.lk_wire.specs.Values.{are_votes_above}
+use Rattle.lk_types.specs.Votes.{are_votes_above}
 use Rattle.lk_entries.specs.VoteLists.{votes_with}
 use Rattle.lk_entries.specs.Entries.{are_pairs_above}
 use Rattle.lk_entries.specs.Values.{HeaderValue, StandingValue, BaseValue}

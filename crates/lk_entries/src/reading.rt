@@ -3,7 +3,7 @@ ghost use Rattle.std.specs.Prelude.{◌≡◌, ◌++◌, IfSome, IfOk, Err};
 ghost use Rattle.lk_types.specs.Ranges.{IsAlpha};
 ghost use Rattle.lk_fields.specs.FieldReading.{read_vote, read_pair};
 ghost use Rattle.lk_fields.specs.Parser.{Finds, many, whole};
-ghost use Rattle.lk_wire.specs.Values.{are_votes_above};
+ghost use Rattle.lk_types.specs.Votes.{are_votes_above};
 ghost use Rattle.lk_entries.specs.Entries.{are_pairs_above, spelling, IsStored};
 ghost use Rattle.lk_entries.specs.Files.{NoneBegins};
 ghost use Rattle.lk_entries.specs.Parsing.{Gives, read_alpha, read_format, read_header, read_snapshot, read_few, read_votes, read_pairs, is_in_order, read_standing, read_base, read_fields, read_body, read_size, read_entry};

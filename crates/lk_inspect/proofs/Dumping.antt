@@ -7,7 +7,7 @@ use Rattle.lk_entries.specs.Values.{StandingValue}
 use Rattle.lk_log.specs.Images.{Image, IsEmpty}
 use Rattle.lk_log.specs.Stores.{Shows}
 use Rattle.lk_log.specs.declared.reopening.LiveFile.{LiveFile}
-use Rattle.lk_script.proofs.ScriptLemmas.{appends_more}
+use Rattle.lk_types.proofs.Appending.{appends_more}
 use Rattle.lk_inspect.specs.Dumps.{number_line, promised_line, live_text, found_text, Dumps}
 
 appends_kept : (a b c : Option (List ℕ)) (x : List ℕ) → Appends a b x → Keeps b c → Appends a c x

@@ -1,4 +1,2 @@
 mod Standing
-mod Leaving
-mod Printing
 mod Dumping

@@ -1,4 +1,3 @@
 pub mod Inspections
-pub mod WorldStates
 pub mod Dumps
 pub mod Lines

@@ -19,7 +19,3 @@ holder_line name client fence = codes "held " ++ (name ++ (32 ∷ (decimal clien
 -- a count, and the most that it can be
 abbrev pub count_line : List ℕ → ℕ → ℕ → List ℕ
 count_line name count most = name ++ (32 ∷ (decimal count ++ (codes " of " ++ (decimal most ++ 10 ∷ []))))
-
--- how many bytes of a disk are synced
-abbrev pub disk_line : List ℕ → ℕ → ℕ → List ℕ
-disk_line name synced written = codes "disk " ++ (name ++ (32 ∷ (decimal synced ++ (codes " of " ++ (decimal written ++ codes " bytes synced\n")))))

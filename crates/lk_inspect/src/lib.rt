@@ -6,4 +6,3 @@ pub mod inspect;
 pub mod inspection;
 mod lines;
 mod state;
-pub mod world_state;

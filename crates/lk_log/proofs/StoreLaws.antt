@@ -6,7 +6,7 @@ use Rattle.lk_types.specs.declared.entry.Entry.{Entry}
 use Rattle.lk_disk.specs.Disk.{Disk}
 use Rattle.lk_disk.specs.declared.device.Side.{Side}
 use Rattle.lk_disk.specs.declared.device.Side.TheVariants.{A, B}
-use Rattle.lk_wire.specs.Values.{are_votes_above}
+use Rattle.lk_types.specs.Votes.{are_votes_above}
 use Rattle.lk_entries.specs.Entries.{IsBase, IsStored, are_pairs_above, plain}
 use Rattle.lk_entries.specs.Files.{IsFile}
 use Rattle.lk_entries.specs.Formats.{is_mixed}

@@ -4,7 +4,7 @@ use Rattle.std.specs.List.{AllByRecursion}
 use Rattle.lk_types.specs.Ballots.{zero_ballot}
 use Rattle.lk_types.specs.Limits.{max_base, max_votes}
 use Rattle.lk_types.specs.declared.entry.Entry.{Entry}
-use Rattle.lk_wire.specs.Values.{are_votes_above}
+use Rattle.lk_types.specs.Votes.{are_votes_above}
 use Rattle.lk_disk.specs.Disk.{Disk, other, contents, MayLeave}
 use Rattle.lk_disk.specs.declared.device.Side.{Side}
 use Rattle.lk_entries.specs.Entries.{spelling_of_all, IsStored, are_pairs_above}

@@ -1,12 +1,8 @@
 //! The program `locks`.
 #![tactic(auto)]
 
-mod commands;
-mod misread;
 mod plans;
-mod status_words;
 mod subcommand;
-mod wants;
 mod words;
 
 use std::alloc::Global;

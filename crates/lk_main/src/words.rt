@@ -2,12 +2,8 @@
 
 ghost use Rattle.std.specs.Prelude.{◌≤◌};
 
-use crate::commands::program;
-use crate::misread::Misread;
 use crate::plans::{AskPlan, ask_options, ask_plan, client_key_plan, fuzz_plan, node_plan};
-use crate::status_words::status_plan;
 use crate::subcommand::Subcommand;
-use crate::wants::warn_of_name;
 use clap::error::ErrorKind;
 use clap::{ArgMatches, Error};
 use lk_client::question::ask;
@@ -16,9 +12,12 @@ use lk_events::line::{Events, Observer, Unobserved};
 use lk_folder::causes::open_socket_at;
 use lk_inspect::dump::dump;
 use lk_inspect::inspect::inspect;
-use lk_inspect::world_state::run_to_state;
 use lk_lines::fault::ScriptFault;
 use lk_locks::LockTable;
+use lk_options::commands::program;
+use lk_options::misread::Misread;
+use lk_options::operation::warn_of_name;
+use lk_options::status_plan::status_plan;
 use lk_replica::Replica;
 use lk_schedules::fuzzing::{print_script, run_fuzz};
 use lk_script::ending::{end, tell};
@@ -30,6 +29,7 @@ use lk_service::resources::{NodePlan, open_resources};
 use lk_service::running::run_node;
 use lk_status::status::status;
 use lk_transport::fault::ServiceFault;
+use lk_world_state::node_state::run_to_state;
 use log::sink::{Console, Discard};
 use log::{Level, Log, Logged};
 use std::alloc::Global;

@@ -7,7 +7,7 @@ use Rattle.lk_types.specs.Ballots.{IsAtMost, is_below, zero_ballot}
 use Rattle.lk_types.specs.declared.entry.Entry.TheVariants.{Promise, Vote, Decided}
 use Rattle.lk_types.specs.declared.vote.Vote.{Vote as VoteValue}
 use Rattle.lk_types.proofs.Values.{below_by_test, at_most_by_test}
-use Rattle.lk_wire.specs.Values.{are_votes_above}
+use Rattle.lk_types.specs.Votes.{are_votes_above}
 use Rattle.lk_entries.specs.Standings.{greater, greatest_of, ballot_of, ballots_in, ballots, votes_in, all_votes, better, best_from, best_vote, vote_at, StandsFor}
 use Rattle.lk_entries.specs.Values.{StandingValue}
 use Rattle.lk_entries.specs.declared.stored.Stored.{Stored}

@@ -2,6 +2,7 @@
 use Rattle.std.proofs.Common.{◌≡◌, ◌≢◌, ℕ, ◌+◌, List, [], ◌∷◌, ◌++◌, Option, Some, None, IfSome, ◌⊎◌, inl, inr, refl, sym, ap, subst, ap₂, ◌∙◌, append_assoc, length}
 use Rattle.std.proofs.lemmas.List.{append-nil}
 use Rattle.std.specs.Io.KnownBytes.{Appends}
+use Rattle.lk_types.proofs.Appending.{appends_nothing, appends_more}
 use Rattle.lk_types.specs.declared.member.Member.{Member}
 use Rattle.lk_members.specs.Effects.{Command}
 use Rattle.lk_replica.specs.Behaviours.{Behaviour}
@@ -112,16 +113,6 @@ pub record SoFar {R : Type 0} (b : Behaviour R) (input : List ℕ) (before writt
   pub on : (more : List (List ℕ)) (out : List ℕ) (stop : Stop R) → Runs b state number more out stop → Runs b begun 1 (front ++ more) (text ++ out) stop
 
 -- nothing, and one text after another, that a writer took
-pub appends_nothing : (before : Option (List ℕ)) → Appends before before []
-appends_nothing None = tt
-appends_nothing (Some xs) = sym (append-nil xs)
-
-pub appends_more : (a b c : Option (List ℕ)) (x y : List ℕ) → Appends a b x → Appends b c y → Appends a c (x ++ y)
-appends_more None b c x y f g = tt
-appends_more (Some xs) None c x y f g = absurd f
-appends_more (Some xs) (Some ys) None x y f g = absurd g
-appends_more (Some xs) (Some ys) (Some zs) x y f g = g ∙ ap (λ (t : List ℕ). t ++ y) f ∙ append_assoc xs x y
-
 pub starts : {R : Type 0} (b : Behaviour R) (input : List ℕ) (before left : Option (List ℕ)) → left ≡ Some input → SoFar b input before before left mode.Begun 1
 starts b input before left is = record {
   front = [];

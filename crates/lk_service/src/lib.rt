@@ -3,7 +3,6 @@
 
 mod another_genesis;
 pub mod client_key;
-pub mod command_words;
 pub mod demo;
 pub mod digest;
 pub mod network;

@@ -1,3 +1,4 @@
+pub mod Appending
 mod BallotOrder
 mod SameGenesis
 pub mod Values

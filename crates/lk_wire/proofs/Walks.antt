@@ -3,14 +3,13 @@ use Rattle.std.proofs.Common.{◌≡◌, ℕ, Bool, true, false, ltb, ◌&&◌, 
 use Rattle.std.specs.List.{flat_map, AllByRecursion}
 use Rattle.std.proofs.Math.Seq.{take-append_seam}
 use Rattle.std.proofs.lemmas.List.{append-nil, length-append}
-use Rattle.lk_types.specs.Votes.{IsVote}
+use Rattle.lk_types.specs.Votes.{IsVote, are_votes_above}
 use Rattle.lk_types.specs.Commands.{IsCommand}
 use Rattle.lk_types.specs.declared.command.Command.{Command}
 use Rattle.lk_types.specs.declared.vote.Vote.{Vote}
 use Rattle.lk_fields.specs.Fields.{vote, command}
 use Rattle.lk_fields.specs.FieldReading.{read_command, read_vote}
 use Rattle.lk_fields.specs.Parser.{many, made}
-use Rattle.lk_wire.specs.Values.{are_votes_above}
 use Rattle.lk_fields.specs.Parser.{past}
 use Rattle.lk_wire.specs.Views.{IsAll, value_or}
 use Rattle.lk_fields.proofs.Spellings.{IsBytes, Reads, bind_ok, some_is, command_reads, vote_reads, with_front, goes_on, many_takes, many_again}

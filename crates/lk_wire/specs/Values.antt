@@ -1,12 +1,12 @@
 -- What a contract sees of messages whose fields depend on one another.
-use Rattle.std.specs.Prelude.{ℕ, ◌+◌, ◌<◌, ◌≤◌, ◌-◌, Bool, true, nat_lt, nat_le, ◌&&◌, List, [], ◌∷◌, length, IsTrue}
+use Rattle.std.specs.Prelude.{ℕ, ◌+◌, ◌<◌, ◌≤◌, ◌-◌, Bool, nat_le, ◌&&◌, List, length, IsTrue}
 use Rattle.std.specs.List.{AllByRecursion}
 use Rattle.lk_types.specs.Limits.{max_count, max_votes, max_commands, max_part, max_base}
 use Rattle.lk_types.specs.Ranges.{IsCount, IsClient}
 use Rattle.lk_types.specs.BallotValue.{BallotValue}
 use Rattle.lk_types.specs.Ballots.{IsReal}
 use Rattle.lk_types.specs.Commands.{IsCommand}
-use Rattle.lk_types.specs.Votes.{IsVote}
+use Rattle.lk_types.specs.Votes.{IsVote, are_votes_above}
 use Rattle.lk_types.specs.declared.command.Command.{Command}
 use Rattle.lk_types.specs.declared.vote.Vote.{Vote}
 
@@ -15,11 +15,6 @@ pub record PromiseValue : Type 0 where
   pub ballot : BallotValue
   pub first : ℕ
   pub votes : List Vote
-
--- the positions rise strictly, the first above low
-abbrev pub are_votes_above : ℕ → List Vote → Bool
-are_votes_above low [] = true
-are_votes_above low (v ∷ vs) = nat_lt low v.position && are_votes_above v.position vs
 
 -- at most 32 votes, strictly rising by position, all at first or above
 abbrev pub are_votes_from : ℕ → List Vote → Bool

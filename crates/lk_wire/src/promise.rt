@@ -1,12 +1,12 @@
 ghost use Rattle.std.specs.Prelude.{◌≡◌, ◌≤◌, ◌-◌, ◌↔◌, length, IsSome, IfSome, IfOk, IsTrue};
 ghost use Rattle.std.specs.List.{AllByRecursion};
-ghost use Rattle.lk_types.specs.Votes.{IsVote};
+ghost use Rattle.lk_types.specs.Votes.{IsVote, are_votes_above};
 ghost use Rattle.lk_wire.specs.declared.message.NodeMessage.TheVariants as kinds;
 ghost use Rattle.lk_fields.specs.FieldReading.{read_vote};
 ghost use Rattle.lk_fields.specs.Parser.{Finds, made, many};
 ghost use Rattle.lk_wire.specs.Reading.{read_promise};
 ghost use Rattle.lk_wire.specs.Shown.{shown_node};
-ghost use Rattle.lk_wire.specs.Values.{IsPromise, are_votes_above, are_votes_from};
+ghost use Rattle.lk_wire.specs.Values.{IsPromise, are_votes_from};
 ghost use Rattle.lk_wire.specs.Views.{votes_in, AreVotes};
 
 use crate::viewing::message::NodeMessageRef;

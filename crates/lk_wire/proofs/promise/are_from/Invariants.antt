@@ -1,5 +1,5 @@
 use Rattle.std.proofs.Common.{◌≡◌, ◌-◌, drop}
-use Rattle.lk_wire.specs.Values.{are_votes_above}
+use Rattle.lk_types.specs.Votes.{are_votes_above}
 use Rattle.lk_wire.proofs.promise.are_from.Given as goal
 
 -- what is left rises above the last position exactly where all do from first on

@@ -3,7 +3,7 @@ use Rattle.std.proofs.Common.{◌≡◌, ◌++◌, ◌-◌, ◌&&◌, List}
 use Rattle.lk_types.specs.declared.vote.Vote.{Vote}
 use Rattle.lk_fields.specs.FieldReading.{read_vote}
 use Rattle.lk_fields.specs.Parser.{many}
-use Rattle.lk_wire.specs.Values.{are_votes_above}
+use Rattle.lk_types.specs.Votes.{are_votes_above}
 use Rattle.lk_fields.proofs.Spellings.{with_front}
 use Rattle.lk_wire.proofs.promise.end_of.Given as goal
 

@@ -1,7 +1,7 @@
 use Rattle.std.proofs.Common.{List, ◌++◌}
-use Rattle.lk_inspect.specs.WorldStates.{AreStatesOf}
-use Rattle.lk_inspect.specs.declared.world_state.NodeState.{NodeState}
-use Rattle.lk_inspect.proofs.world_state.all_states.Given as goal
+use Rattle.lk_world_state.specs.NodeStates.{AreStatesOf}
+use Rattle.lk_world_state.specs.declared.node_state.NodeState.{NodeState}
+use Rattle.lk_world_state.proofs.node_state.all_states.Given as goal
 
 -- with the states of the nodes that are still to come, they are those of all
 abbrev pub invariant-each : goal.invariant-each

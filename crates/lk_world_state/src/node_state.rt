@@ -4,12 +4,12 @@ ghost use Rattle.std.specs.Prelude.{◌≡◌, ◌⊎◌, ◌++◌, ℕ, List, m
 ghost use Rattle.std.specs.Io.KnownBytes.{Appends};
 ghost use Rattle.lk_seats.specs.Left.{left_of};
 ghost use Rattle.lk_script.specs.Endings.{PrintsAll};
-ghost use Rattle.lk_inspect.specs.Lines.{disk_line};
-ghost use Rattle.lk_inspect.specs.WorldStates.{IsStateOf, AreStatesOf, bound_for_nodes};
+ghost use Rattle.lk_world_state.specs.Lines.{disk_line};
+ghost use Rattle.lk_world_state.specs.NodeStates.{IsStateOf, AreStatesOf, bound_for_nodes};
 
-use crate::inspect::{inspect_device, write_found};
-use crate::inspection::Inspection;
 use lk_agreement::Party;
+use lk_inspect::inspect::{inspect_device, write_found};
+use lk_inspect::inspection::Inspection;
 use lk_lines::fault::ScriptFault;
 use lk_replica::{Datagram, MemoryReplica};
 use lk_script::ending::end;

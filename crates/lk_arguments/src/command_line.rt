@@ -1,6 +1,6 @@
 //! The words of an operation on a command line.
 
-use lk_arguments::operation::read_operation;
+use crate::operation::read_operation;
 use lk_types::Op;
 use std::alloc::{AllocError, Global};
 

@@ -1,7 +1,7 @@
 //! What the words of `locks status` ask for.
 
 use crate::misread::{Misread, misread_argument, misread_word};
-use crate::plans::{client_in, number_in};
+use crate::values::{client_in, number_in};
 use clap::ArgMatches;
 use lk_arguments::number::read_number;
 use lk_client::destination::Destination;

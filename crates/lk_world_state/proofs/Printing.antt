@@ -5,7 +5,7 @@ use Rattle.std.specs.Io.KnownBytes.{Appends}
 use Rattle.lk_replica.specs.Behaviours.{Behaviour}
 use Rattle.lk_script.specs.Endings.{PrintsAll, SetsUp}
 use Rattle.lk_script.specs.declared.mode.Mode.{Mode}
-use Rattle.lk_script.proofs.ScriptLemmas.{appends_more}
+use Rattle.lk_types.proofs.Appending.{appends_more}
 
 -- what a script prints, and then what is printed after it
 pub prints_more : {R T E : Type 0} (b : Behaviour R) (mode : Mode R) (r : Result T E) (remaining old mid new : Option (List ℕ))

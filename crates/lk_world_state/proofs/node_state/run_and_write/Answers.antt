@@ -1,5 +1,5 @@
-use Rattle.lk_inspect.proofs.Printing.{prints_more}
-use Rattle.lk_inspect.proofs.world_state.run_and_write.Goals as goal
+use Rattle.lk_world_state.proofs.Printing.{prints_more}
+use Rattle.lk_world_state.proofs.node_state.run_and_write.Goals as goal
 
 pub returns : goal.returns
 returns g c =

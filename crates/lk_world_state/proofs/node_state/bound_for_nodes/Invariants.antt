@@ -1,6 +1,6 @@
 use Rattle.std.proofs.Common.{◌≡◌, ◌+◌, ◌≤◌, drop}
-use Rattle.lk_inspect.specs.WorldStates.{bound_for_nodes}
-use Rattle.lk_inspect.proofs.world_state.bound_for_nodes.Given as goal
+use Rattle.lk_world_state.specs.NodeStates.{bound_for_nodes}
+use Rattle.lk_world_state.proofs.node_state.bound_for_nodes.Given as goal
 
 -- those that were counted, and those that are left, are all
 abbrev pub invariant-loop-datagram : goal.invariant-loop-datagram

@@ -8,7 +8,7 @@ use Rattle.lk_log.specs.Images.{seen}
 use Rattle.lk_replica.specs.declared.datagram.Datagram.{Datagram}
 use Rattle.lk_seats.specs.declared.left.LeftNode.{LeftNode}
 use Rattle.lk_inspect.specs.Inspections.{Finds}
-use Rattle.lk_inspect.specs.declared.world_state.NodeState.{NodeState}
+use Rattle.lk_world_state.specs.declared.node_state.NodeState.{NodeState}
 
 -- the node's number, whether it is up, how many bytes its disks have and how many are synced, and what its store holds
 pub record IsStateOf (node : LeftNode) (state : NodeState) : Type 0 where

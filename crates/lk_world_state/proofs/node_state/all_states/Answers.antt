@@ -1,9 +1,9 @@
 use Rattle.std.proofs.Common.{◌≡◌, ◌++◌, ◌∷◌, ◌∙◌, [], List, sym, ap, subst, append_assoc, append-nil, rules}
 use Rattle.std.proofs.lemmas.List.{nil_from_length}
 use Rattle.lk_seats.specs.declared.left.LeftNode.{LeftNode}
-use Rattle.lk_inspect.specs.WorldStates.{AreStatesOf}
-use Rattle.lk_inspect.specs.declared.world_state.NodeState.{NodeState}
-use Rattle.lk_inspect.proofs.world_state.all_states.Goals as goal
+use Rattle.lk_world_state.specs.NodeStates.{AreStatesOf}
+use Rattle.lk_world_state.specs.declared.node_state.NodeState.{NodeState}
+use Rattle.lk_world_state.proofs.node_state.all_states.Goals as goal
 
 pub each-preserved : goal.each-preserved
 each-preserved c more tells =

@@ -1,0 +1,58 @@
+//! What `locks ask` is to send, and to which ports.
+
+use crate::misread::Misread;
+use crate::values::{client_in, number_in, port_in, read_port, request_in};
+use clap::ArgMatches;
+use lk_client::destination::Destination;
+use lk_client::question::Question;
+use lk_types::{Op, Port, Request};
+use std::alloc::{AllocError, Global};
+
+/// The question of an operation that `locks ask` is to send.
+pub fn question_of<'a>(matches: &ArgMatches<'a>, op: Op) -> Result<Question, Misread<'a>> {
+    let cluster = number_in(matches, "cluster", u64::MAX)?;
+    let port = port_in(matches)?;
+    let client = client_in(matches)?;
+    let number = request_in(matches)?;
+    Ok(Question {
+        cluster,
+        port,
+        request: Request { client, number, op },
+        destination: Destination::local(cluster),
+    })
+}
+
+/// How often each port is asked, where there are several.
+const ROUNDS: u32 = 3;
+
+/// Adds the ports of these words to those that are asked in turn.
+fn add_ports<'a>(
+    words: &[&'a str],
+    turns: &mut Vec<Port>,
+) -> Result<Result<(), Misread<'a>>, AllocError> {
+    for word in words {
+        match read_port(word) {
+            Ok(port) => turns.push(port)?,
+            Err(misread) => return Ok(Err(misread)),
+        }
+    }
+    Ok(Ok(()))
+}
+
+/// The ports that `locks ask` asks in turn, three times each; none where one alone is named.
+pub fn turns_of<'a>(
+    alloc: Global,
+    matches: &ArgMatches<'a>,
+) -> Result<Result<Vec<Port>, Misread<'a>>, AllocError> {
+    let words = matches.get_strs("port").unwrap_or(&[]);
+    let mut turns = Vec::new(alloc);
+    if words.len() < 2 {
+        return Ok(Ok(turns));
+    }
+    for _ in 0..ROUNDS {
+        if let Err(misread) = add_ports(words, &mut turns)? {
+            return Ok(Err(misread));
+        }
+    }
+    Ok(Ok(turns))
+}
