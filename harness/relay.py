@@ -1,4 +1,5 @@
-"""A relay between nodes on loopback: it cuts, loses, delays, repeats and reorders what they send each other."""
+"""Relays on loopback: one between nodes cuts, loses, delays, repeats and reorders; one carries a port to another."""
+import contextlib
 import heapq
 import itertools
 import random
@@ -58,3 +59,31 @@ class Relay:
         self.thread.join()
         for key in list(self.selector.get_map().values()):
             key.fileobj.close()
+
+
+class Forward:
+    """Carries what comes to a port of 127.0.0.1 on to another port there. `carried` are the datagrams so far."""
+
+    def __init__(self, port, to):
+        self.to, self.carried = ("127.0.0.1", to), []
+        self.socket = socket.socket(socket.AF_INET, socket.SOCK_DGRAM)
+        self.socket.bind(("127.0.0.1", port))
+        self.socket.settimeout(0.05)
+        self.is_over = False
+        self.thread = threading.Thread(target=self.run, daemon=True)
+        self.thread.start()
+
+    def __enter__(self):
+        return self
+
+    def __exit__(self, *_):
+        self.is_over = True
+        self.thread.join()
+        self.socket.close()
+
+    def run(self):
+        while not self.is_over:
+            with contextlib.suppress(TimeoutError):
+                data = self.socket.recv(9000)
+                self.carried.append(data)
+                self.socket.sendto(data, self.to)

@@ -9,11 +9,16 @@ import tempfile
 import time
 import unittest
 
+from harness.by_bytes import Node
 from harness.cluster import Cluster, free_ports
 
 PROGRAM = os.environ.get("LOCKS_PROGRAM")
 
 LINE = re.compile(r"\[(INFO |WARN ) locks\] (\d{4}-\d\d-\d\dT\d\d:\d\d:\d\d\.\d{3}Z) node (\d+) (.*)")
+
+# Node 1 leads in its first ballot and has executed one position, which is a no-op.
+LEAD = "4c4b010d 0000000000000005 00000001 0000000000000001 00000001 0000000000000001"
+DECIDED = "4c4b0106 0000000000000005 00000001 0000000000000001 01 00"
 
 
 class Told(Cluster):
@@ -22,7 +27,8 @@ class Told(Cluster):
     def start(self, node):
         folder = os.path.join(self.folder, str(node))
         os.makedirs(folder, exist_ok=True)
-        words = ["--genesis", self.genesis, "--number", str(node), "--port", str(self.ports[node]), "--dir", folder, "--events"]
+        place = ["--port", str(self.ports[node]), "--dir", folder]
+        words = ["--genesis", self.genesis, "--number", str(node), *place, "--events", *self.options]
         with open(f"{folder}.events", "a") as told:
             self.processes[node] = subprocess.Popen([self.program, "node", *words], stdin=subprocess.DEVNULL, stderr=told)
 
@@ -117,10 +123,61 @@ class EventsTest(unittest.TestCase):
             cluster.start(1)
             cluster.waits(1, r"found its store, \d+ positions executed")
 
+    def test_a_leader_that_leaves_leads_no_more(self):
+        with self.cluster as cluster:
+            old, ballot = self.leader()
+            self.assertEqual(self.asks("leave", str(old)), "left\n")
+            cluster.waits(old, f"no longer leads in ballot {re.escape(ballot)}: it is not a member")
+            self.assertNotEqual(self.leader()[0], old)
+
+    def test_what_cannot_be_sent_is_told_once_a_second(self):
+        """Node 3 lives at the address of all machines, to which the system lets nobody send."""
+        texts = {"hosts": "1 127.0.0.1\n2 127.0.0.1\n3 255.255.255.255\n", "key": "11" * 32 + "\n"}
+        for name, text in texts.items():
+            path = os.path.join(self.cluster.folder, name)
+            with open(os.open(path, os.O_CREAT | os.O_WRONLY, 0o600), "w", encoding="ascii") as file:
+                file.write(text)
+            self.cluster.options = [*self.cluster.options, f"--{name}", path]
+        with contextlib.ExitStack() as stack:
+            stack.callback(self.cluster.__exit__)
+            for node in (1, 2):
+                self.cluster.start(node)
+            leader, _ = self.leader()
+            self.cluster.waits(leader, r"could not send to node 3 \.\. and \d+ more")
+            time.sleep(2.0)
+            told = [it for it in self.cluster.events(leader) if it[2].startswith("could not send to node 3")]
+            self.assertEqual({level for level, _, _ in told}, {"WARN"})
+            self.assertLessEqual(len(told), 2 + (told[-1][1] - told[0][1]).total_seconds(), told)
+
     def add(self, node):
         """A port for one node more."""
         [self.cluster.ports[node]] = free_ports(1)
         return self.cluster.ports[node]
+
+
+@unittest.skipUnless(PROGRAM, "LOCKS_PROGRAM does not tell the program")
+class LagTest(unittest.TestCase):
+    """Node 2 of three. The test stands at the port of node 1, which leads."""
+
+    def setUp(self):
+        self.node = self.enterContext(Node(PROGRAM, self.enterContext(tempfile.TemporaryDirectory())))
+        self.node.words = ("--events",)
+
+    def leads(self, seconds):
+        """Node 1 leads for so many seconds, and answers nothing."""
+        end = time.monotonic() + seconds
+        while time.monotonic() < end:
+            self.node.send(self.node.bytes_of(LEAD))
+            time.sleep(0.05)
+
+    def test_a_node_is_behind_until_it_has_caught_up(self):
+        self.node.start()
+        self.leads(2.0)
+        self.node.send(self.node.bytes_of(DECIDED))
+        self.leads(2.0)
+        self.node.process.kill()
+        told = re.findall(r"node 2 (is behind.*|has caught up.*)", self.node.process.stderr.read())
+        self.assertEqual(told, ["is behind, asks node 1", "has caught up, 1 positions"])
 
 
 if __name__ == "__main__":

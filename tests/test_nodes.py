@@ -7,10 +7,18 @@ import tempfile
 import time
 import unittest
 
+from harness.by_bytes import bytes_of
 from harness.cluster import free_ports
+from harness.relay import Forward
 from locks_client import Client, Free, milliseconds
 
 PROGRAM = os.environ.get("LOCKS_PROGRAM")
+
+# The probe of node 1 to itself.
+PROBE = bytes_of("4c500109 0000000000000005 00000001 0000 0000000000000001").ljust(174, b"\0")
+
+# Client 9 asks with number 1 who holds `db`, and is told that nobody does.
+ASK = bytes_of("4c4b0109 0000000000000005 00000000 0009 0000000000000001 00 04 03026462")
 
 
 @unittest.skipUnless(PROGRAM, "LOCKS_PROGRAM does not tell the program")
@@ -19,13 +27,28 @@ class NodesTest(unittest.TestCase):
         self.folder = self.enterContext(tempfile.TemporaryDirectory())
         self.ports = free_ports(2)
 
-    def start(self, port, more=""):
+    def start(self, port, more="", options=()):
         """Starts node 1 of a cluster of its own, whose genesis names the first port, and further members, at that port."""
-        words = ["--genesis", f"5,8,1:{self.ports[0]}{more}", "--number", "1", "--port", str(port), "--dir", self.folder]
+        genesis = f"5,8,1:{self.ports[0]}{more}"
+        words = ["--genesis", genesis, "--number", "1", "--port", str(port), "--dir", self.folder, *options]
         node = subprocess.Popen([PROGRAM, "node", *words], stdin=subprocess.DEVNULL, stderr=subprocess.PIPE, text=True)
         self.addCleanup(node.communicate)
         self.addCleanup(node.kill)
         return node
+
+    def bound(self, port):
+        """A socket at a port."""
+        it = self.enterContext(socket.socket(socket.AF_INET, socket.SOCK_DGRAM))
+        it.bind(("127.0.0.1", port))
+        it.settimeout(10.0)
+        return it
+
+    def key(self):
+        """The options of a node with a key."""
+        path = os.path.join(self.folder, "key")
+        with open(os.open(path, os.O_CREAT | os.O_WRONLY, 0o600), "w", encoding="ascii") as file:
+            file.write("11" * 32 + "\n")
+        return "--key", path
 
     def wait_until_up(self):
         """Waits until the node at the first port answers."""
@@ -70,6 +93,60 @@ class NodesTest(unittest.TestCase):
         )
         time.sleep(0.5)
         self.assertIsNone(node.poll())
+
+    def is_silent(self, node, seconds):
+        """Whether a node says nothing within so many seconds."""
+        return not select.select([node.stderr], [], [], seconds)[0]
+
+    def carried(self, relay):
+        """What a relay has carried once something came, and nothing for half a second after that."""
+        end = time.monotonic() + 10.0
+        while not relay.carried and time.monotonic() < end:
+            time.sleep(0.01)
+        time.sleep(0.5)
+        return relay.carried
+
+    def test_a_node_that_a_relay_carries_its_probe_to_says_nothing(self):
+        with Forward(self.ports[0], self.ports[1]) as relay:
+            node = self.start(self.ports[1], f",2:{free_ports(1)[0]}")
+            self.assertEqual(self.carried(relay), [PROBE])
+            self.assertFalse(self.ticks_until_it_says(node, "warning"))
+            self.assertEqual(relay.carried, [PROBE])
+
+    def test_with_a_key_the_probe_is_sealed(self):
+        options = self.key()
+        with Forward(self.ports[0], self.ports[1]) as relay:
+            node = self.start(self.ports[1], options=options)
+            self.assertEqual([(data[:2], data[36:]) for data in self.carried(relay)], [(b"LS", PROBE)])
+            self.assertTrue(self.is_silent(node, 0.5))
+            node.kill()
+            node.wait()
+        self.assertIn("warning: the genesis names node 1", self.start(self.ports[1], options=options).stderr.readline())
+
+    def test_only_the_very_probe_tells_that_a_node_is_heard(self):
+        named = self.bound(self.ports[0])
+        node = self.start(self.ports[1])
+        data, sender = named.recvfrom(9000)
+        self.assertEqual((data, sender), (PROBE, ("127.0.0.1", self.ports[1])))
+        for other in (PROBE[:-1], PROBE + b"\0", PROBE[:25] + b"\2" + PROBE[26:], b"LP\1\x0a" + PROBE[4:], b""):
+            named.sendto(other, sender)
+        self.assertIn("warning: the genesis names node 1", node.stderr.readline())
+        named.settimeout(0.5)
+        with self.assertRaises(TimeoutError):
+            named.recv(9000)
+
+    def test_what_comes_before_the_probe_comes_back_is_lost(self):
+        named, client = self.bound(self.ports[0]), self.bound(0)
+        node = self.start(self.ports[1])
+        data, sender = named.recvfrom(9000)
+        client.sendto(ASK, sender)
+        named.sendto(data, sender)
+        client.settimeout(1.0)
+        with self.assertRaises(TimeoutError):
+            client.recv(9000)
+        client.sendto(ASK, sender)
+        self.assertEqual(client.recv(9000)[3], 10)
+        self.assertTrue(self.is_silent(node, 0.1))
 
     def ticks_until_it_says(self, node, text, minutes=1.5):
         """Sends datagrams that do not read, of which every 64th brings a tick, until the node says a line of that or so

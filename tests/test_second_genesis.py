@@ -34,8 +34,18 @@ NO_OP = "0000000a 04 0000000000000001 00"
 WANT = "4c4b0107 0000000000000005 00000003 0000000000000001 00000000"
 DECIDED = "4c4b0106 0000000000000005 00000002 0000000000000001 01 00"
 
-# Client 9 asks with number 1 to acquire `db`.
+# Node 3 asks node 2 for a promise in its ninth ballot.
+THIRD_PREPARE = "4c4b0101 0000000000000005 00000003 0000000000000009 00000003 0000000000000001"
+
+# Clients 9 and 8 ask with number 1 to acquire `db`.
 ACQUIRE = bytes_of("4c4b0109 0000000000000005 00000000 0009 0000000000000001 00 04 01026462")
+OTHER_ACQUIRE = ACQUIRE[:17] + b"\x08" + ACQUIRE[18:]
+
+# Whoever is nobody asks what a node counts.
+QUERY = bytes_of("4c500109 0000000000000005 00000000 0000 0000000000000001").ljust(174, b"\0")
+
+# What nodes send each other.
+PREPARES, PROMISES, ACCEPTS, ACCEPTEDS, ANSWERS, LEADS = 1, 2, 3, 4, 10, 13
 
 # What a report tells after the digest: program, format and table, counts that are 0, and one member.
 REST = bytes_of("000100 02 01") + bytes(68) + bytes_of("01 00000001 1b59")
@@ -45,6 +55,11 @@ def report(node, genesis, question):
     """The report by which a node of that genesis answers a question."""
     head = b"LP\1\x0a" + question[4:12] + node.to_bytes(4, "big") + question[16:26]
     return (head + genesis + REST).ljust(174, b"\0")
+
+
+def reply(node, kind, data):
+    """What a node says by the fields of a datagram."""
+    return data[:3] + bytes([kind]) + data[4:12] + node.to_bytes(4, "big") + data[16:]
 
 
 def ended(own, own_genesis, other, other_genesis):
@@ -90,6 +105,22 @@ class QuestionsTest(unittest.TestCase):
         self.node.send(self.node.bytes_of(PREPARE))
         self.assertEqual(self.node.socket.recv(9000).hex(), self.node.bytes_of(PROMISE).hex())
         self.assertEqual(self.node.socket.recv(9000).hex(), QUESTION.hex())
+
+    def third_tells_another(self):
+        """Node 3, which does not lead, is asked a question after what it wanted, and tells another genesis."""
+        self.from_third(self.node.bytes_of(WANT))
+        self.assertEqual(self.node.third.recv(9000).hex(), self.node.bytes_of(DECIDED).hex())
+        self.assertEqual(self.node.third.recv(9000).hex(), QUESTION.hex())
+        self.from_third(report(3, OTHER, QUESTION))
+
+    def from_third(self, data):
+        """Sends it a datagram from the address of node 3."""
+        self.node.third.sendto(data, ("127.0.0.1", self.node.ports[1]))
+
+    def ticks(self, it):
+        """How many ticks it counts."""
+        it.sendto(QUERY, ("127.0.0.1", self.node.ports[1]))
+        return int.from_bytes(it.recv(9000)[123:131], "big")
 
     def is_asked_once_more(self):
         self.assertEqual(self.questions(self.node.socket, 1.0), 1)
@@ -144,17 +175,78 @@ class QuestionsTest(unittest.TestCase):
     def test_a_node_that_was_not_led_says_so_and_goes_on(self):
         self.node.words = ("--events",)
         self.start(BEGUN, NO_OP)
-        to = ("127.0.0.1", self.node.ports[1])
-        self.node.third.sendto(self.node.bytes_of(WANT), to)
-        self.assertEqual(self.node.third.recv(9000).hex(), self.node.bytes_of(DECIDED).hex())
-        self.assertEqual(self.node.third.recv(9000).hex(), QUESTION.hex())
-        for data in (report(3, OTHER, QUESTION), self.node.bytes_of(WANT), self.node.bytes_of(WANT)):
-            self.node.third.sendto(data, to)
+        self.third_tells_another()
+        for _ in range(2):
+            self.from_third(self.node.bytes_of(WANT))
         self.assertEqual(self.questions(self.node.third, 0.5), 0)
         self.node.send(self.node.bytes_of(NEXT_PREPARE))
-        self.assertIn(2, [data[3] for data in self.came(self.node.socket, 0.5)])
+        self.assertIn(PROMISES, [data[3] for data in self.came(self.node.socket, 0.5)])
         self.node.process.kill()
         self.assertEqual(self.node.process.stderr.read().count("node 2 hears node 3 of another genesis\n"), 1)
+
+    def a_minute_passes(self):
+        """Sends it datagrams until it has counted 601 more ticks: each 64th brings one."""
+        it = self.enterContext(self.node.bound(0))
+        end = self.ticks(it) + 601
+        while self.ticks(it) < end:
+            for _ in range(128):
+                it.sendto(b"?", ("127.0.0.1", self.node.ports[1]))
+
+    def test_a_stranger_that_writes_a_minute_later_is_asked_again_and_heard_if_it_was_started_anew(self):
+        self.node.words = ("--events",)
+        self.start(BEGUN, NO_OP)
+        self.third_tells_another()
+        self.a_minute_passes()
+        self.assertNotIn(QUESTION, self.came(self.node.third, 0.5))
+        for told in (OTHER, self.genesis):
+            self.from_third(self.node.bytes_of(WANT))
+            found = self.came(self.node.third, 0.5)
+            self.assertEqual((found.count(QUESTION), self.node.bytes_of(DECIDED) in found), (1, False))
+            self.from_third(report(3, told, QUESTION))
+            if told == OTHER:
+                self.a_minute_passes()
+                self.came(self.node.third, 0.5)
+        self.from_third(self.node.bytes_of(WANT))
+        self.assertIn(self.node.bytes_of(DECIDED), self.came(self.node.third, 0.5))
+        self.node.process.kill()
+        self.assertEqual(self.node.process.stderr.read().count("node 2 hears node 3 of another genesis\n"), 3)
+
+    def test_what_comes_from_the_address_of_a_stranger_changes_nothing(self):
+        self.start(BEGUN, NO_OP)
+        self.third_tells_another()
+        for data in (self.node.bytes_of(WANT), self.node.bytes_of(THIRD_PREPARE), OTHER_ACQUIRE):
+            self.from_third(data)
+        end = time.monotonic() + 2.0
+        while time.monotonic() < end:  # it asks for promises again and again, and gets none that counts
+            for data in self.came(self.node.third, 0.1):
+                self.assertIn(data[3], (PREPARES, LEADS), data.hex())
+                if data[3] == PREPARES:
+                    self.from_third(reply(3, PROMISES, data) + b"\0")
+        found = self.came(self.node.socket, 0.1)
+        self.assertEqual({data[3] for data in found}, {PREPARES, LEADS})
+        self.is_led_by_node_2()
+
+    def is_led_by_node_2(self):
+        """Node 1 promises and votes, and client 9 is served."""
+        client = self.enterContext(self.node.bound(0))
+        client.sendto(ACQUIRE, ("127.0.0.1", self.node.ports[1]))
+        while (data := self.node.socket.recv(9000))[3] != ACCEPTS:
+            if data[3] == PREPARES:
+                self.node.send(reply(1, PROMISES, data) + b"\0")
+        self.assertEqual(data[37:39], ACQUIRE[16:18])
+        self.node.send(reply(1, ACCEPTEDS, data))
+        self.assertEqual(client.recv(9000)[3], ANSWERS)
+
+    def test_what_is_dropped_brings_no_tick(self):
+        self.start(BEGUN, NO_OP)
+        self.third_tells_another()
+        it = self.enterContext(self.node.bound(0))
+        began, before = time.monotonic(), self.ticks(it)
+        for _ in range(40):  # of others each 64 bring a tick
+            for _ in range(64):
+                self.from_third(self.node.bytes_of(WANT))
+            time.sleep(0.005)
+        self.assertLess(self.ticks(it) - before, 10 * (time.monotonic() - began) + 2)
 
     def test_with_a_key_nothing_is_asked(self):
         key = self.node.path("key")

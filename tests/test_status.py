@@ -159,6 +159,22 @@ class StatusTest(unittest.TestCase):
         answers = [node(1, leads=1), node(2), node(3), node(4, genesis=OTHER_GENESIS)]
         self.tells(answers, 1, "genesis differs: 4", "why: two geneses")
 
+    def test_the_genesis_that_most_nodes_tell_is_the_measure(self):
+        alone = node(4, genesis=OTHER_GENESIS, leads=1, promised=9, executed=90, members="01 00000004 1b5c")
+        lines = self.tells([alone, node(1, leads=1), node(2), node(3)], 1, "majority: 3 of 3 up; genesis differs: 4")
+        self.assertNotIn("behind", "\n".join(lines))
+        self.tells([alone, node(1, leader=0), node(2, leader=0)], 1, "2 of 3 up; genesis differs: 4", "why: nobody leads")
+
+    def test_of_two_geneses_that_as_many_tell_that_of_the_leader_is_the_measure(self):
+        other = lambda number, **parts: node(number, genesis=OTHER_GENESIS, **parts)
+        self.tells([node(1, leads=1), node(2), other(3, leads=1, promised=4), other(4)], 1, "genesis differs: 1 2\n")
+        self.tells([node(1), node(2), other(3, leads=1, promised=1), other(4, promised=9)], 1, "genesis differs: 1 2\n")
+        self.tells([other(3), node(2), node(1), other(4)], 1, "genesis differs: 3 4\n")
+
+    def test_a_node_that_is_asked_twice_tells_its_genesis_once(self):
+        other = node(4, genesis=OTHER_GENESIS)
+        self.tells([other, other, node(1)], 1, "genesis differs: 4 4\n")
+
     def test_nothing_else_is_a_report(self):
         """Whatever is spoiled in one report: its place, and the byte that stands there then."""
         spoils = [(0, 0x4B), (1, 0x4B), (2, 2), (3, 9), (11, 6), (12, 0xFF), (17, 1), (25, 1), (63, 2), (64, 0xFF), (131, 8), (131, 0), (135, 2), (141, 1), (173, 1)]

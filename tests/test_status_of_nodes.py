@@ -1,6 +1,8 @@
-"""What `locks status` tells of nodes as processes: who is up, who leads, who is behind, what is raised, and a second genesis."""
+"""What `locks status` tells of nodes as processes: who is up, who leads, who is behind or at a wrong port, what is
+raised, and a second genesis."""
 import json
 import os
+import resource
 import signal
 import subprocess
 import tempfile
@@ -12,6 +14,7 @@ from locks_client import Client
 
 PROGRAM = os.environ.get("LOCKS_PROGRAM")
 UNIT = os.path.join(TOP, "tools", "systemd", "locks@.service")
+FILE = 4096  # bytes, at most, of a file on a disk that is full soon
 PAIRS = 150  # 300 positions: a node that is behind by so many is given a snapshot
 
 
@@ -75,6 +78,77 @@ class NodesStatusTest(unittest.TestCase):
             self.assertIn(self.ask("ask", "db"), ("free 0",))
         self.cluster.start(3)
         self.assertNotIn("behind", [line for line in self.ready().splitlines() if line.startswith("node 3")][0])
+
+    def restarts_at_another_port(self, node):
+        """The node comes back at a port that the others do not know. That which they know."""
+        named = self.cluster.ports[node]
+        self.cluster.kill(node)
+        [self.cluster.ports[node]] = free_ports(1)
+        self.cluster.start(node)
+        return named
+
+    def test_a_node_that_sends_and_does_not_hear_is_named_until_it_is_stopped(self):
+        self.ready()
+        named = self.restarts_at_another_port(3)
+        why = "why: nobody leads: an election takes seconds; if it lasts, node 3 sends and hears nobody"
+        self.comes(1, f"node 3, port {self.cluster.ports[3]}: ", ": follows 3, ", "majority: 3 of 3 up\n", why)
+        self.cluster.kill(3)
+        self.cluster.ports[3] = named
+        self.comes(0, f"port {named}: no answer", "majority: 2 of 3 up\n", ": leads")
+        self.cluster.start(3)
+        self.assertNotIn("why:", self.ready())
+
+    def test_a_newcomer_that_hears_nobody_is_named(self):
+        self.ready()
+        self.assertIn(self.ask("join", "4", str(free_ports(1)[0])), ("joined", "used"))
+        [self.cluster.ports[4]] = free_ports(1)
+        self.cluster.start(4)
+        why = "why: node 4 hears nobody: see its --port, the hosts and the keys\n"
+        text = self.comes(0, "majority: 4 of 4 up\n", why)
+        line = r"node 4, port \d+: knows no leader for 28 ticks, executed 0 \(\d+ behind\), promised 0\.0,"
+        self.assertRegex(text, line)
+
+    def test_a_node_that_has_left_is_named_until_it_is_stopped(self):
+        self.ready()
+        self.assertIn(self.ask("leave", "3"), ("left", "not a member"))
+        self.comes(0, "majority: 2 of 2 up\n", "why: node 3 is not a member: it has left, or has to join\n", ": leads")
+        self.cluster.kill(3)
+        self.assertNotIn("why:", self.comes(0, f"port {self.cluster.ports[3]}: no answer", "majority: 2 of 2 up\n"))
+
+    def test_nobody_answers(self):
+        for node in (1, 2, 3):
+            self.cluster.kill(node)
+        why = "why: nobody answers: no node runs there, or it has another cluster number or other keys\n"
+        text = self.comes(1, why)
+        self.assertEqual(text.count(": no answer\n"), 3, text)
+
+    def starts_on_a_full_disk(self, node):
+        """The node comes back where no file may have more bytes than that. Its process, whose errors are piped."""
+        def limit():
+            signal.signal(signal.SIGXFSZ, signal.SIG_IGN)
+            resource.setrlimit(resource.RLIMIT_FSIZE, (FILE, FILE))
+
+        place = ["--port", str(self.cluster.ports[node]), "--dir", os.path.join(self.folder, str(node))]
+        words = ["--genesis", self.cluster.genesis, "--number", str(node), *place]
+        pipes = {"stdin": subprocess.DEVNULL, "stderr": subprocess.PIPE, "text": True}
+        process = subprocess.Popen([PROGRAM, "node", *words], preexec_fn=limit, **pipes)
+        self.addCleanup(process.communicate)
+        self.addCleanup(process.kill)
+        return process
+
+    def test_a_node_whose_disk_is_full_ends_and_comes_back_with_what_it_had(self):
+        self.ready()
+        self.cluster.kill(3)
+        process = self.starts_on_a_full_disk(3)
+        with self.cluster.client(Client, 9, patience=60.0) as client:
+            while process.poll() is None:
+                client.release("db", client.acquire("db"))
+        found = process.communicate(timeout=60)[1].splitlines()
+        self.assertRegex(found[-2], rf"^{self.folder}/3/[ab]: File too large \(os error 27\)$")
+        self.assertEqual((found[-1], process.returncode), ("fault 7", 1))
+        self.comes(0, f"port {self.cluster.ports[3]}: no answer", "majority: 2 of 3 up\n", ": leads")
+        self.cluster.start(3)
+        self.assertNotIn("why:", self.ready())
 
     def test_the_unit_waits_until_all_are_ready(self):
         with open(UNIT) as unit:

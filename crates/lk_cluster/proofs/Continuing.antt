@@ -272,8 +272,8 @@ module _ (May : Network) (Metered tells : Type 0) where
       taken_comes genesis old all place n first next at came frames may (inr idle) failure = ([], idle_comes genesis old all place n first next at frames idle)
 
       -- one of them with what is done beside the protocol after it
-      module _ (kept : Option Asked) (After : ServerValue ReplicaValue → Type 0) (genesis : Genesis) (old : Cluster) (all : IsReachable May Metered tells genesis old) (place n : ℕ) (first next : ServerValue ReplicaValue) (at : HasNode old place n (Up first))
-          (turn : TakesTurnWith S tells kept After first next) (may : May old.genesis old.sent first turn.came) where
+      module _ (kept : Option Asked) (told : Option Reported) (After : ServerValue ReplicaValue → Type 0) (genesis : Genesis) (old : Cluster) (all : IsReachable May Metered tells genesis old) (place n : ℕ) (first next : ServerValue ReplicaValue) (at : HasNode old place n (Up first))
+          (turn : TakesTurnWith S tells kept told After first next) (may : May old.genesis old.sent first turn.came) where
         turn_and_acts : (trace : List Note) × IsReachable May Metered tells genesis (continued (continued old place n (Up turn.mid) (letters_in S tells turn.turn) trace) place n (Up next) [] [])
         turn_and_acts =
             let mid = turn.mid in
@@ -300,7 +300,7 @@ module _ (May : Network) (Metered tells : Type 0) where
           let said = letters_in S tells turns.0.turn in
           let mid = turns.0.mid in
           let rest = letters_of S tells next states last turns.1 in
-          let t = turn_and_acts None GoesOn genesis old all place n first next at turns.0 may.0 in
+          let t = turn_and_acts None None GoesOn genesis old all place n first next at turns.0 may.0 in
           let turned = continued old place n (Up mid) said t.0 in
           let there : HasNode turned place n (Up mid) = at_set_here old.seats place (node_of n (Up mid)) at.0 in
           twice genesis old place n (Up mid) (Up last) said rest t.0

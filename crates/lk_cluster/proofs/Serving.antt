@@ -112,7 +112,7 @@ module _ (May : Network) (Metered tells : Type 0) (unforged : Unforged May) (Hon
       let c = turns_after_start honest genesis cluster all place n device at old same served.begun served.begins b.turns.states b.last b.turns.chain may in
       let may_last : May c.cluster.genesis c.cluster.sent b.last b.leave.came = subst₂ (λ (g : Genesis) (l : List Datagram). May g l b.last b.leave.came) (sym c.began) (sym c.sent) last_may in
       let here = has_node May Metered tells unforged genesis cluster place n (Down device) (Up b.last) said at c in
-      let d = one_turn_continues May Metered tells unforged S so None LeavesOff genesis c.cluster c.reachable place n b.last served.ended here b.leave may_last in
+      let d = one_turn_continues May Metered tells unforged S so None None LeavesOff genesis c.cluster c.reachable place n b.last served.ended here b.leave may_last in
       let e = joined_continues May Metered tells unforged genesis cluster place n (Up b.last) (Up served.ended) said last_said c d in
       let there = has_node May Metered tells unforged genesis cluster place n (Down device) (Up served.ended) (said ++ last_said) at e in
       subst (λ (l : List LetterValue). Continues May Metered tells genesis cluster place n (Down left) l) (append-nil (said ++ last_said))

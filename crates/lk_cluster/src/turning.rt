@@ -6,7 +6,7 @@ ghost use Rattle.lk_node.specs.Leavings.{header_of};
 ghost use Rattle.lk_cluster.specs.Clusters.{IsBegun, Says};
 ghost use Rattle.lk_transport.specs.Addresses.{circle_of};
 ghost use Rattle.lk_transport.specs.Posts.{all_taken_as};
-ghost use Rattle.lk_transport.specs.Askers.{KeepsFirstOf};
+ghost use Rattle.lk_transport.specs.Kept.{KeepsOf};
 ghost use Rattle.lk_server.specs.Servers.{HasReceived, TakesTurn, LastTurn};
 
 use lk_disk::LogDisk;
@@ -33,7 +33,7 @@ pub fn turn<D: LogDisk + Drop, S: DatagramSocket + Drop, C: Clock, L: Log>(
     metronome: &mut Metronome<C>,
     log: &L,
 ) -> Result<(), ServiceFault>
-    ensures turn { D.is_honest → OnOk result ((frames : List (Address × List ℕ)) × HasReceived S.is_telling frames server.old server.new × TakesTurn (Says D.is_metered) S.is_telling frames server.old server.new × KeepsFirstOf server.old.addresses.seals buffer.old.asked frames buffer.new.asked) }
+    ensures turn { D.is_honest → OnOk result ((frames : List (Address × List ℕ)) × HasReceived S.is_telling frames server.old server.new × TakesTurn (Says D.is_metered) S.is_telling frames server.old server.new × KeepsOf server.old.node server.old.addresses.seals frames buffer.old buffer.new) }
     ensures ends { D.is_honest → OnErr result ((frames : List (Address × List ℕ)) × HasReceived S.is_telling frames server.old server.new × LastTurn (Says D.is_metered) S.is_telling (all_taken_as (circle_of server.old.addresses) frames) server.old server.new) }
     ensures failed { server.new.failed ≡ server.new.replica.failed }
 {

@@ -3,7 +3,7 @@
 ghost use Rattle.std.specs.Prelude.{◌≡◌, ◌≤◌, ◌<◌, true, false, Some, length, is_some, slice_get, IfSome, IsNone};
 ghost use Rattle.std.specs.List.{list_any};
 ghost use Rattle.std.specs.declared.net.socket_addr.SocketAddr.{SocketAddr as Address};
-ghost use Rattle.lk_probe.specs.Neighbours.{Asks, Learns, Meets, bound_at, bound_by, bound_in, entry_for, having_asked, having_met, having_told, is_due, is_due_at, is_for, is_open, is_open_at, is_stranger, other_of, is_stranger_at};
+ghost use Rattle.lk_probe.specs.Neighbours.{Asks, Doubts, Learns, Meets, bound_at, bound_by, bound_in, entry_for, having_asked, having_doubted, having_met, having_told, is_due, is_due_at, is_for, is_open, is_open_at, is_stranger, other_of, is_stranger_at};
 
 use crate::status::DIGEST;
 use lk_types::NodeNo;
@@ -33,6 +33,10 @@ pub enum Knowledge {
     Same,
     /// It is another one.
     Other(Origin),
+    /// It was another one, and is to be asked for again.
+    Doubted(Origin),
+    /// It was another one, and was asked for again.
+    AskedAgain(Origin),
 }
 
 /// An address from which a node writes.
@@ -64,9 +68,9 @@ impl Knowledge {
         ensures { result ≡ is_due now self.now }
     {
         match self {
-            Knowledge::Unknown => true,
+            Knowledge::Unknown | Knowledge::Doubted(_) => true,
             Knowledge::Asked(ticks) => *ticks < now,
-            Knowledge::AskedTwice | Knowledge::Same | Knowledge::Other(_) => false,
+            _ => false,
         }
     }
 
@@ -77,6 +81,17 @@ impl Knowledge {
         match self {
             Knowledge::Unknown => Knowledge::Asked(now),
             Knowledge::Asked(_) => Knowledge::AskedTwice,
+            Knowledge::Doubted(origin) => Knowledge::AskedAgain(origin),
+            known => known,
+        }
+    }
+
+    /// What is known once it is doubted that it is another one.
+    fn having_doubted(self) -> Knowledge
+        ensures { result ≡ having_doubted self }
+    {
+        match self {
+            Knowledge::Other(origin) | Knowledge::AskedAgain(origin) => Knowledge::Doubted(origin),
             known => known,
         }
     }
@@ -86,7 +101,8 @@ impl Knowledge {
         ensures { result ≡ other_of self.now }
     {
         match self {
-            Knowledge::Other(origin) => Some(*origin),
+            Knowledge::Other(origin) | Knowledge::Doubted(origin) | Knowledge::AskedAgain(origin) =>
+                Some(*origin),
             _ => None,
         }
     }
@@ -95,7 +111,10 @@ impl Knowledge {
     fn is_open(self) -> bool
         ensures { result ≡ is_open self }
     {
-        matches!(self, Knowledge::Asked(_) | Knowledge::AskedTwice)
+        matches!(
+            self,
+            Knowledge::Asked(_) | Knowledge::AskedTwice | Knowledge::AskedAgain(_)
+        )
     }
 
     /// What is known of a node that tells this, by one of that genesis.
@@ -142,13 +161,7 @@ fn stranger_at(place: SocketAddr, entry: &Option<Neighbour>) -> Option<NodeNo>
     ensures { is_some result ≡ is_stranger_at place entry.now }
 {
     match entry {
-        Some(
-            Neighbour {
-                place: there,
-                knowledge: Knowledge::Other(origin),
-                ..
-            },
-        ) if *there == place => Some(origin.node),
+        Some(neighbour) if neighbour.place == place => Some(neighbour.other()?.node),
         _ => None,
     }
 }
@@ -271,6 +284,24 @@ impl Neighbours {
             ..neighbour
         });
         Some(neighbour.place)
+    }
+
+    /// It is doubted that the node at that address is of another genesis: a probe is due there again.
+    #[tactic(auto, using(crate::proofs::Strangers::doubted_strangers))]
+    pub fn doubt(&mut self, place: SocketAddr)
+        ensures doubts { Doubts place self.old self.new }
+        ensures strangers { is_stranger self.new ≡ is_stranger self.old }
+    {
+        let at = entry_for(place, &self.entries);
+        if at >= ROOM {
+            return;
+        }
+        if let Some(neighbour) = self.entries[at] {
+            self.entries[at] = Some(Neighbour {
+                knowledge: neighbour.knowledge.having_doubted(),
+                ..neighbour
+            });
+        }
     }
 
     /// What is known of the node at an address that was asked and tells this. `None`, and nothing is changed, where it

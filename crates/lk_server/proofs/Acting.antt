@@ -2,7 +2,7 @@
 use Rattle.std.proofs.Common.{◌≡◌, ◌∙◌, ℕ, Option, Some, None, ap, subst, subst₂}
 use Rattle.lk_probe.specs.declared.reported.Reported.{Reported}
 use Rattle.lk_transport.specs.Addresses.{AddressBook, IsSameNetwork}
-use Rattle.lk_transport.specs.Inquiring.{AsksOne, LearnsKept}
+use Rattle.lk_transport.specs.Inquiring.{Inquires, LearnsKept}
 use Rattle.lk_transport.specs.Posts.{Tray}
 use Rattle.lk_transport.specs.declared.asked.Asked.{Asked}
 use Rattle.lk_server.specs.Beside.{ActsBeside}
@@ -19,7 +19,7 @@ module _ {R : Type 0} (Shows : R → Shown → Type 0) (tells : Type 0) (asked :
   -- it answers, learns and asks
   pub acted : AnswersKept Shows tells asked old answered → answered ≡ record old { sent = answered.sent; socket_failures = answered.socket_failures; coming = answered.coming }
       → LearnsKept reported answered.addresses learned.addresses → IsSameNetwork answered.addresses learned.addresses → learned ≡ record answered { addresses = learned.addresses }
-      → AsksOne tells now learned.node learned.addresses new.addresses (tray_at learned.own learned) (tray_at new.own new) → IsSameNetwork learned.addresses new.addresses → (tells → new.coming ≡ learned.coming)
+      → Inquires tells now learned.node learned.addresses new.addresses (tray_at learned.own learned) (tray_at new.own new) → IsSameNetwork learned.addresses new.addresses → (tells → new.coming ≡ learned.coming)
       → new ≡ record learned { addresses = new.addresses; sent = new.sent; socket_failures = new.socket_failures; coming = new.coming }
       → ActsBeside Shows tells asked reported old new
   acted answers answered_so learns known learned_so asks kept still new_so =
@@ -34,7 +34,7 @@ module _ {R : Type 0} (Shows : R → Shown → Type 0) (tells : Type 0) (asked :
         learned = learned.addresses;
         learns = subst (λ (b : AddressBook). LearnsKept reported b learned.addresses) book learns;
         now = now;
-        asks = subst₂ (λ (n : ℕ) (t : Tray). AsksOne tells now n learned.addresses new.addresses t (tray_at new.own new)) node tray asks;
+        asks = subst₂ (λ (n : ℕ) (t : Tray). Inquires tells now n learned.addresses new.addresses t (tray_at new.own new)) node tray asks;
         network = (kept.0 ∙ known.0 ∙ ap (λ (b : AddressBook). b.hosts) book, kept.1 ∙ known.1 ∙ ap (λ (b : AddressBook). b.seals) book);
         still = λ t. still t ∙ ap (λ (s : ServerValue R). s.coming) learned_so ∙ answer_still Shows tells asked old answered answers t;
         same = new_so ∙ ap (λ (s : ServerValue R). record s { addresses = new.addresses; sent = new.sent; socket_failures = new.socket_failures; coming = new.coming }) since;

@@ -1,114 +1,147 @@
--- Which probe is kept of the frames that came.
+-- What is kept of the frames that came: the first probe and the first report.
 use Rattle.std.proofs.Common.{◌≡◌, true, false, List, [], ◌∷◌, ◌++◌, ℕ, Option, Some, None, refl, ap, sym, ◌∙◌, subst, subst₂, append_assoc}
 use Rattle.std.specs.declared.net.socket_addr.SocketAddr.{SocketAddr}
-use Rattle.lk_probe.specs.Grammar.{padded, SpellsProbe}
+use Rattle.lk_probe.specs.Grammar.{padded, SpellsProbe, SpellsReport}
 use Rattle.lk_probe.specs.declared.probe.Probe.{Probe}
+use Rattle.lk_probe.specs.declared.probe.Report.{Report}
+use Rattle.lk_probe.specs.declared.reported.Reported.{Reported}
 use Rattle.lk_seal.specs.Seals.{heard}
 use Rattle.lk_seal.specs.declared.seals.Seals.{Seals}
 use Rattle.lk_server.specs.declared.found.Found.{Found}
 use Rattle.lk_server.specs.declared.found.Found.TheVariants.{Nothing, Beside, Something}
-use Rattle.lk_transport.specs.Askers.{IsKeptOf, KeepsFirst, Keeps, AskNothing, AsksFirst, IsFirstAsked, KeepsFirstOf}
+use Rattle.lk_transport.specs.Askers.{IsKeptOf}
 use Rattle.lk_transport.specs.Hearing.{BufferValue, listed}
+use Rattle.lk_transport.specs.Inquiring.{IsToldBy}
+use Rattle.lk_transport.specs.Kept.{BringNothing, BringsFirst, IsFirstOf, KeepsFirst, KeepsFirstOf, Keeps, KeepsOf}
 use Rattle.lk_transport.specs.Posts.{is_beside}
 use Rattle.lk_transport.specs.declared.asked.Asked.{Asked}
 
 -- ---- a frame
 
--- a probe stands beside the protocol
+-- a probe stands beside the protocol, and so does a report
 is_aside : (p : Probe) (bytes : List ℕ) → SpellsProbe p bytes → is_beside bytes ≡ true
 unfolding padded
 is_aside p bytes spelled = ap is_beside spelled.1
 
--- so nobody asks by what a replica is given
-pub asks_nothing : (s : Seals) (d : SocketAddr × List ℕ) → is_beside (heard s d.1) ≡ false → IsKeptOf s d None
+tells_aside : (r : Report) (bytes : List ℕ) → SpellsReport r bytes → is_beside bytes ≡ true
+unfolding padded
+tells_aside r bytes spelled = ap is_beside spelled.1
+
+-- so nobody asks by what a replica is given, and it tells nothing
+asks_nothing : (s : Seals) (d : SocketAddr × List ℕ) → is_beside (heard s d.1) ≡ false → IsKeptOf s d None
 asks_nothing s d apart p asks = let both : false ≡ true = sym apart ∙ is_aside p (heard s d.1) asks.spelled in cc both
 
-keeps_apart : (s : Seals) (old : Option Asked) (d : SocketAddr × List ℕ) → IsKeptOf s d None → KeepsFirstOf s old (d ∷ []) old
-keeps_apart s None d none = (none, tt)
-keeps_apart s (Some a) d none = refl
+tells_nothing : (n : ℕ) (s : Seals) (d : SocketAddr × List ℕ) → is_beside (heard s d.1) ≡ false → IsToldBy n s d None
+tells_nothing n s d apart r spelled answers = let both : false ≡ true = sym apart ∙ tells_aside r (heard s d.1) spelled in cc both
 
-keeps_one : (s : Seals) (old new : Option Asked) (d : SocketAddr × List ℕ) → KeepsFirst s (Some d) old new → KeepsFirstOf s old (d ∷ []) new
-keeps_one s (Some a) new d kept = kept
-keeps_one s None None d kept = (kept, tt)
-keeps_one s None (Some a) d kept = record { before = []; frame = d; after = []; are = refl; none = tt; asks = kept }
+module _ {K : Type 0} (Brings : SocketAddr × List ℕ → Option K → Type 0) where
+  -- of one that brings nothing
+  first_apart : (old : Option K) (d : SocketAddr × List ℕ) → Brings d None → KeepsFirstOf Brings old (d ∷ []) old
+  first_apart None d none = (none, tt)
+  first_apart (Some k) d none = refl
 
--- ---- frames
+  first_still : (old : Option K) (d : SocketAddr × List ℕ) → Brings d None → KeepsFirst Brings (Some d) old old
+  first_still None d none = none
+  first_still (Some k) d none = refl
 
--- of none
-keeps_none : (s : Seals) (old : Option Asked) → KeepsFirstOf s old [] old
-keeps_none s None = tt
-keeps_none s (Some a) = refl
+  first_one : (old new : Option K) (d : SocketAddr × List ℕ) → KeepsFirst Brings (Some d) old new → KeepsFirstOf Brings old (d ∷ []) new
+  first_one (Some k) new d kept = kept
+  first_one None None d kept = (kept, tt)
+  first_one None (Some k) d kept = record { before = []; frame = d; after = []; are = refl; none = tt; brings = kept }
 
-none_more : (s : Seals) (xs ys : List (SocketAddr × List ℕ)) → AskNothing s xs → AskNothing s ys → AskNothing s (xs ++ ys)
-none_more s [] ys a b = b
-none_more s (x ∷ xs) ys a b = (a.0, none_more s xs ys a.1 b)
+  -- ---- frames
 
-first_then : (s : Seals) (xs ys : List (SocketAddr × List ℕ)) (a : Asked) → AsksFirst s xs a → AsksFirst s (xs ++ ys) a
-first_then s xs ys a f = record {
-  before = f.before;
-  frame = f.frame;
-  after = f.after ++ ys;
-  are = ap (λ (l : List (SocketAddr × List ℕ)). l ++ ys) f.are ∙ append_assoc f.before (f.frame ∷ f.after) ys;
-  none = f.none;
-  asks = f.asks;
-}
+  -- of none
+  first_none : (old : Option K) → KeepsFirstOf Brings old [] old
+  first_none None = tt
+  first_none (Some k) = refl
 
-then_first : (s : Seals) (xs ys : List (SocketAddr × List ℕ)) (a : Asked) → AskNothing s xs → AsksFirst s ys a → AsksFirst s (xs ++ ys) a
-then_first s xs ys a none f = record {
-  before = xs ++ f.before;
-  frame = f.frame;
-  after = f.after;
-  are = ap (λ (l : List (SocketAddr × List ℕ)). xs ++ l) f.are ∙ sym (append_assoc xs f.before (f.frame ∷ f.after));
-  none = none_more s xs f.before none f.none;
-  asks = f.asks;
-}
+  none_more : (xs ys : List (SocketAddr × List ℕ)) → BringNothing Brings xs → BringNothing Brings ys → BringNothing Brings (xs ++ ys)
+  none_more [] ys a b = b
+  none_more (x ∷ xs) ys a b = (a.0, none_more xs ys a.1 b)
 
-keeps_then : (s : Seals) (xs ys : List (SocketAddr × List ℕ)) (old mid new : Option Asked) → KeepsFirstOf s old xs mid → KeepsFirstOf s mid ys new → KeepsFirstOf s old (xs ++ ys) new
-keeps_then s xs ys (Some a) mid new one two = subst (λ (o : Option Asked). KeepsFirstOf s o ys new) one two
-keeps_then s xs ys None (Some a) new one two = subst (λ (o : Option Asked). IsFirstAsked s (xs ++ ys) o) (sym two) (first_then s xs ys a one)
-keeps_then s xs ys None None None one two = none_more s xs ys one two
-keeps_then s xs ys None None (Some a) one two = then_first s xs ys a one two
+  first_then : (xs ys : List (SocketAddr × List ℕ)) (k : K) → BringsFirst Brings xs k → BringsFirst Brings (xs ++ ys) k
+  first_then xs ys k f = record {
+    before = f.before;
+    frame = f.frame;
+    after = f.after ++ ys;
+    are = ap (λ (l : List (SocketAddr × List ℕ)). l ++ ys) f.are ∙ append_assoc f.before (f.frame ∷ f.after) ys;
+    none = f.none;
+    brings = f.brings;
+  }
 
--- more frames, by the same seals
-pub keeps_more : (s t : Seals) (xs ys : List (SocketAddr × List ℕ)) (old mid new : Option Asked) → t ≡ s → KeepsFirstOf s old xs mid → KeepsFirstOf t mid ys new → KeepsFirstOf s old (xs ++ ys) new
-keeps_more s t xs ys old mid new same one two = keeps_then s xs ys old mid new one (subst (λ (z : Seals). KeepsFirstOf z mid ys new) same two)
+  then_first : (xs ys : List (SocketAddr × List ℕ)) (k : K) → BringNothing Brings xs → BringsFirst Brings ys k → BringsFirst Brings (xs ++ ys) k
+  then_first xs ys k none f = record {
+    before = xs ++ f.before;
+    frame = f.frame;
+    after = f.after;
+    are = ap (λ (l : List (SocketAddr × List ℕ)). xs ++ l) f.are ∙ sym (append_assoc xs f.before (f.frame ∷ f.after));
+    none = none_more xs f.before none f.none;
+    brings = f.brings;
+  }
+
+  -- of more of them
+  first_more : (xs ys : List (SocketAddr × List ℕ)) (old mid new : Option K) → KeepsFirstOf Brings old xs mid → KeepsFirstOf Brings mid ys new → KeepsFirstOf Brings old (xs ++ ys) new
+  first_more xs ys (Some k) mid new one two = subst (λ (o : Option K). KeepsFirstOf Brings o ys new) one two
+  first_more xs ys None (Some k) new one two = subst (λ (o : Option K). IsFirstOf Brings (xs ++ ys) o) (sym two) (first_then xs ys k one)
+  first_more xs ys None None None one two = none_more xs ys one two
+  first_more xs ys None None (Some k) one two = then_first xs ys k one two
 
 -- ---- what a buffer keeps
 
--- as it did
-pub keeps_still : (s : Seals) (old new : Option Asked) → new ≡ old → KeepsFirstOf s old [] new
-keeps_still s old new same = subst (λ (a : Option Asked). KeepsFirstOf s old [] a) (sym same) (keeps_none s old)
+-- more frames, of the same node by the same seals
+pub keeps_more : (n m : ℕ) (s t : Seals) (xs ys : List (SocketAddr × List ℕ)) (old mid new : BufferValue) → m ≡ n → t ≡ s → KeepsOf n s xs old mid → KeepsOf m t ys mid new → KeepsOf n s (xs ++ ys) old new
+keeps_more n m s t xs ys old mid new node seals one two =
+    let next : KeepsOf n s ys mid new = subst₂ (λ (k : ℕ) (z : Seals). KeepsOf k z ys mid new) node seals two in
+    record {
+      asked = first_more (IsKeptOf s) xs ys old.asked mid.asked new.asked one.asked next.asked;
+      reported = first_more (IsToldBy n s) xs ys old.reported mid.reported new.reported one.reported next.reported;
+    }
 
--- and no frame more
-pub keeps_on : (s : Seals) (xs : List (SocketAddr × List ℕ)) (old mid new : Option Asked) → KeepsFirstOf s old xs mid → new ≡ mid → KeepsFirstOf s old xs new
-keeps_on s xs old mid new kept same = subst (λ (a : Option Asked). KeepsFirstOf s old xs a) (sym same) kept
+-- no frame more
+pub keeps_on : (n : ℕ) (s : Seals) (xs : List (SocketAddr × List ℕ)) (old mid new : BufferValue) → KeepsOf n s xs old mid → new.asked ≡ mid.asked → new.reported ≡ mid.reported → KeepsOf n s xs old new
+keeps_on n s xs old mid new kept asked reported = record {
+  asked = subst (λ (a : Option Asked). KeepsFirstOf (IsKeptOf s) old.asked xs a) (sym asked) kept.asked;
+  reported = subst (λ (r : Option Reported). KeepsFirstOf (IsToldBy n s) old.reported xs r) (sym reported) kept.reported;
+}
+
+-- as it did
+pub keeps_still : (n : ℕ) (s : Seals) (old new : BufferValue) → new.asked ≡ old.asked → new.reported ≡ old.reported → KeepsOf n s [] old new
+keeps_still n s old new asked reported = keeps_on n s [] old old new (record { asked = first_none (IsKeptOf s) old.asked; reported = first_none (IsToldBy n s) old.reported }) asked reported
 
 -- of a frame that a replica is given
-pub keeps_given : (s : Seals) (d : SocketAddr × List ℕ) (old new : Option Asked) → is_beside (heard s d.1) ≡ false → new ≡ old → KeepsFirstOf s old (d ∷ []) new
-keeps_given s d old new apart same = subst (λ (a : Option Asked). KeepsFirstOf s old (d ∷ []) a) (sym same) (keeps_apart s old d (asks_nothing s d apart))
+pub keeps_given : (n : ℕ) (s : Seals) (d : SocketAddr × List ℕ) (old new : BufferValue) → is_beside (heard s d.1) ≡ false → new.asked ≡ old.asked → new.reported ≡ old.reported → KeepsOf n s (d ∷ []) old new
+keeps_given n s d old new apart asked reported = keeps_on n s (d ∷ []) old old new (record {
+  asked = first_apart (IsKeptOf s) old.asked d (asks_nothing s d apart);
+  reported = first_apart (IsToldBy n s) old.reported d (tells_nothing n s d apart);
+}) asked reported
 
 -- of one that stands beside the protocol
-pub keeps_beside : (s t : Seals) (d : SocketAddr × List ℕ) (old : Option Asked) (mid new : BufferValue) → t ≡ s → mid.asked ≡ old → mid.last ≡ Some d → Keeps t mid new → KeepsFirstOf s old (d ∷ []) new.asked
-keeps_beside s t d old mid new same asked is kept =
-    keeps_one s old new.asked d
-    (subst₂ (λ (l : Option (SocketAddr × List ℕ)) (a : Option Asked). KeepsFirst s l a new.asked) is asked
-    (subst (λ (z : Seals). KeepsFirst z mid.last mid.asked new.asked) same kept.asked))
+pub keeps_beside : (n m : ℕ) (s t : Seals) (d : SocketAddr × List ℕ) (old mid new : BufferValue) → m ≡ n → t ≡ s → mid.asked ≡ old.asked → mid.reported ≡ old.reported → mid.last ≡ Some d → Keeps m t mid new
+    → KeepsOf n s (d ∷ []) old new
+keeps_beside n m s t d old mid new node seals asked reported is keeps =
+    let kept : Keeps n s mid new = subst₂ (λ (k : ℕ) (z : Seals). Keeps k z mid new) node seals keeps in
+    record {
+      asked = first_one (IsKeptOf s) old.asked new.asked d (subst₂ (λ (l : Option (SocketAddr × List ℕ)) (a : Option Asked). KeepsFirst (IsKeptOf s) l a new.asked) is asked kept.asked);
+      reported = first_one (IsToldBy n s) old.reported new.reported d (subst₂ (λ (l : Option (SocketAddr × List ℕ)) (r : Option Reported). KeepsFirst (IsToldBy n s) l r new.reported) is reported kept.reported);
+    }
 
--- of one that is no probe
-pub keeps_strange : (s : Seals) (d : SocketAddr × List ℕ) (old : BufferValue) → old.last ≡ Some d → is_beside (heard s d.1) ≡ false → Keeps s old old
-keeps_strange s d old is apart = record { last = refl; asked = subst (λ (l : Option (SocketAddr × List ℕ)). KeepsFirst s l old.asked old.asked) (sym is) (still old.asked) }
-  where
-    still : (a : Option Asked) → KeepsFirst s (Some d) a a
-    still None = asks_nothing s d apart
-    still (Some a) = refl
+-- of one that is neither a probe nor a report
+pub keeps_strange : (n : ℕ) (s : Seals) (d : SocketAddr × List ℕ) (old : BufferValue) → old.last ≡ Some d → is_beside (heard s d.1) ≡ false → Keeps n s old old
+keeps_strange n s d old is apart = record {
+  last = refl;
+  asked = subst (λ (l : Option (SocketAddr × List ℕ)). KeepsFirst (IsKeptOf s) l old.asked old.asked) (sym is) (first_still (IsKeptOf s) old.asked d (asks_nothing s d apart));
+  reported = subst (λ (l : Option (SocketAddr × List ℕ)). KeepsFirst (IsToldBy n s) l old.reported old.reported) (sym is) (first_still (IsToldBy n s) old.reported d (tells_nothing n s d apart));
+}
 
 -- of what came last, where a replica is given nothing of it
-pub keeps_found : (s t : Seals) (found : Found) (old : Option Asked) (mid new : BufferValue) → t ≡ s → mid.asked ≡ old → (found ≡ Nothing → mid.last ≡ None) → (found ≡ Beside → (d : SocketAddr × List ℕ) × (mid.last ≡ Some d))
-    → (found ≡ Beside → Keeps t mid new) → ((found ≡ Beside → ⊥) → new ≡ mid) → (found ≡ Something → ⊥) → KeepsFirstOf s old (listed mid.last) new.asked
-keeps_found s t Nothing old mid new same asked nothing beside kept rest apart =
-    subst (λ (l : List (SocketAddr × List ℕ)). KeepsFirstOf s old l new.asked) (sym (ap listed (nothing refl)))
-    (keeps_still s old new.asked (ap (λ (b : BufferValue). b.asked) (rest (λ is. cc is)) ∙ asked))
-keeps_found s t Beside old mid new same asked nothing beside kept rest apart =
+pub keeps_found : (n m : ℕ) (s t : Seals) (found : Found) (old mid new : BufferValue) → m ≡ n → t ≡ s → mid.asked ≡ old.asked → mid.reported ≡ old.reported → (found ≡ Nothing → mid.last ≡ None)
+    → (found ≡ Beside → (d : SocketAddr × List ℕ) × (mid.last ≡ Some d)) → (found ≡ Beside → Keeps m t mid new) → ((found ≡ Beside → ⊥) → new ≡ mid) → (found ≡ Something → ⊥) → KeepsOf n s (listed mid.last) old new
+keeps_found n m s t Nothing old mid new node seals asked reported nothing beside kept rest apart =
+    let same = rest (λ is. cc is) in
+    subst (λ (l : List (SocketAddr × List ℕ)). KeepsOf n s l old new) (sym (ap listed (nothing refl)))
+    (keeps_still n s old new (ap (λ (b : BufferValue). b.asked) same ∙ asked) (ap (λ (b : BufferValue). b.reported) same ∙ reported))
+keeps_found n m s t Beside old mid new node seals asked reported nothing beside kept rest apart =
     let b = beside refl in
-    subst (λ (l : List (SocketAddr × List ℕ)). KeepsFirstOf s old l new.asked) (sym (ap listed b.1)) (keeps_beside s t b.0 old mid new same asked b.1 (kept refl))
-keeps_found s t Something old mid new same asked nothing beside kept rest apart = absurd (apart refl)
+    subst (λ (l : List (SocketAddr × List ℕ)). KeepsOf n s l old new) (sym (ap listed b.1)) (keeps_beside n m s t b.0 old mid new node seals asked reported b.1 (kept refl))
+keeps_found n m s t Something old mid new node seals asked reported nothing beside kept rest apart = absurd (apart refl)

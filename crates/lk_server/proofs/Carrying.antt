@@ -14,15 +14,6 @@ pub on_err : {T E P : Type 0} (r : Result T E) → P → OnErr r P
 on_err (Ok x) p = tt
 on_err (Err e) p = p
 
--- what follows of two things that stand where a call went on, or after a refusal
-pub both_on_ok : {T E P Q Z : Type 0} (r : Result T E) → (P → Q → Z) → OnOk r P → OnOk r Q → OnOk r Z
-both_on_ok (Ok x) f p q = f p q
-both_on_ok (Err e) f p q = tt
-
-pub both_on_err : {T E P Q Z : Type 0} (r : Result T E) → (P → Q → Z) → OnErr r P → OnErr r Q → OnErr r Z
-both_on_err (Ok x) f p q = tt
-both_on_err (Err e) f p q = f p q
-
 -- what follows of what stands after a refusal
 pub if_err_on : {T E P Q : Type 0} (r : Result T E) → (P → Q) → OnErr r P → OnErr r Q
 if_err_on (Ok x) f p = tt

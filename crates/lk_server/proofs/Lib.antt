@@ -7,3 +7,4 @@ mod Acting
 mod Sayings
 mod Gatherings
 mod Turning
+mod Ticking

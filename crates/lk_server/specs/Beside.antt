@@ -2,7 +2,7 @@
 use Rattle.std.specs.Prelude.{◌≡◌, ℕ, Option}
 use Rattle.lk_probe.specs.declared.reported.Reported.{Reported}
 use Rattle.lk_transport.specs.Addresses.{AddressBook, IsSameNetwork}
-use Rattle.lk_transport.specs.Inquiring.{AsksOne, LearnsKept}
+use Rattle.lk_transport.specs.Inquiring.{Inquires, LearnsKept}
 use Rattle.lk_transport.specs.declared.asked.Asked.{Asked}
 use Rattle.lk_server.specs.Probes.{AnswersKept}
 use Rattle.lk_server.specs.Servers.{ServerValue, tray_at}
@@ -17,7 +17,7 @@ pub record ActsBeside {R : Type 0} (Shows : R → Shown → Type 0) (tells : Typ
   pub learned : AddressBook
   pub learns : LearnsKept reported old.addresses learned
   pub now : ℕ
-  pub asks : AsksOne tells now old.node learned new.addresses (tray_at answered.own answered) (tray_at new.own new)
+  pub asks : Inquires tells now old.node learned new.addresses (tray_at answered.own answered) (tray_at new.own new)
   pub network : IsSameNetwork old.addresses new.addresses
   pub still : tells → new.coming ≡ old.coming
   pub same : new ≡ record old { addresses = new.addresses; sent = new.sent; socket_failures = new.socket_failures; coming = new.coming }

@@ -7,3 +7,4 @@ pub mod Statuses
 pub mod Sayings
 pub mod Premises
 pub mod TableVersions
+pub mod Metronomes

@@ -1,6 +1,5 @@
 -- Probes: what a node tells, and how a server answers one.
-use Rattle.std.specs.Prelude.{◌≡◌, ◌≢◌, ◌⊎◌, ◌↔◌, ◌==◌, ◌+◌, ◌-◌, ◌++◌, ℕ, if◌then◌else◌, List, [], ◌∷◌, length, min, slice_get, Option, Some, None, IsSome, IsTrue}
-use Rattle.std.specs.declared.net.socket_addr.SocketAddr.{SocketAddr}
+use Rattle.std.specs.Prelude.{◌≡◌, ◌↔◌, ◌==◌, ◌+◌, ◌-◌, ℕ, if◌then◌else◌, List, length, min, slice_get, Option, Some, None, IsTrue}
 use Rattle.lk_members.specs.Windows.{RosterValue}
 use Rattle.lk_leader.specs.Proposing.{Leads}
 use Rattle.lk_probe.specs.Grammar.{SpellsReport, Answers}

@@ -1,6 +1,6 @@
 //! How a server collects one group. It sends nothing until the group ends.
 
-ghost use Rattle.std.specs.Prelude.{◌≡◌, ◌≢◌, ◌≤◌, ◌++◌, ℕ, List, ◌∷◌, [], length, Some, None, true, false, OnOk, OnErr, IfOk, IfErr, IfSome, IsNone};
+ghost use Rattle.std.specs.Prelude.{◌≡◌, ◌≤◌, ◌++◌, ℕ, List, ◌∷◌, [], length, Some, None, true, false, OnOk, OnErr, IfOk, IfErr, IfSome, IsNone};
 ghost use Rattle.std.specs.declared.net.socket_addr.SocketAddr.{SocketAddr as Address};
 ghost use Rattle.lk_step.specs.Letters.{LetterValue};
 ghost use Rattle.lk_node.specs.Calls.{heard_by};
@@ -8,7 +8,7 @@ ghost use Rattle.lk_transport.specs.Addresses.{circle_of, IsSameCircle};
 ghost use Rattle.lk_server.specs.Gatherings.{GathersMore, SaysNoMore, Finds, TakesAll, EndsWithin, TakesOwn, EndsOwn, TakesHeard, EndsHeard, TakesSocket, EndsSocket, TakesWaiting, TakesGroup, EndsGroup};
 ghost use Rattle.lk_transport.specs.Hearing.{listed};
 ghost use Rattle.lk_transport.specs.Posts.{Hears, is_apart};
-ghost use Rattle.lk_transport.specs.Askers.{Keeps, KeepsFirstOf};
+ghost use Rattle.lk_transport.specs.Kept.{Keeps, KeepsOf};
 ghost use Rattle.lk_server.specs.Servers.{HasReceived, IsIdle};
 
 use crate::found::Found;
@@ -52,6 +52,7 @@ impl<R: NodeReplica, S: DatagramSocket + Drop> Server<R, S> {
         ensures comes { S.is_telling → self.old.coming ≡ listed buffer.new.last ++ self.new.coming }
         ensures none { S.is_telling → buffer.new.last ≡ None → self.old.coming ≡ [] }
         ensures asked { buffer.new.asked ≡ buffer.old.asked }
+        ensures reported { buffer.new.reported ≡ buffer.old.reported }
         ensures others { self.new ≡ record self.old { coming = self.new.coming } }
     {
         self.post.listen(buffer);
@@ -62,9 +63,32 @@ impl<R: NodeReplica, S: DatagramSocket + Drop> Server<R, S> {
         ensures comes { S.is_telling → self.old.coming ≡ listed buffer.new.last ++ self.new.coming }
         ensures none { S.is_telling → buffer.new.last ≡ None → self.old.coming ≡ [] }
         ensures asked { buffer.new.asked ≡ buffer.old.asked }
+        ensures reported { buffer.new.reported ≡ buffer.old.reported }
         ensures others { self.new ≡ record self.old { coming = self.new.coming } }
     {
         self.post.listen_waiting(buffer);
+    }
+
+    // The same, and where none is waiting, for one that comes in a pause, if one is due before the group's sync.
+    fn listen_further<C: Clock>(
+        &mut self,
+        buffer: &mut ReceiveBuffer,
+        metronome: &Metronome<C>,
+        group: &Group,
+    )
+        ensures comes { S.is_telling → self.old.coming ≡ listed buffer.new.last ++ self.new.coming }
+        ensures none { S.is_telling → buffer.new.last ≡ None → self.old.coming ≡ [] }
+        ensures asked { buffer.new.asked ≡ buffer.old.asked }
+        ensures reported { buffer.new.reported ≡ buffer.old.reported }
+        ensures others { self.new ≡ record self.old { coming = self.new.coming } }
+    {
+        self.listen_waiting(buffer);
+        if buffer.heard().is_some() {
+            return;
+        }
+        if self.pauses(metronome, group) {
+            self.listen_waiting(buffer);
+        }
     }
 
     // Records the source of a datagram of this cluster, and counts a datagram that means nothing to it.
@@ -190,7 +214,7 @@ impl<R: NodeReplica, S: DatagramSocket + Drop> Server<R, S> {
         ensures beside { IfOk result (λ found. found ≡ Found.Beside → (frame : Address × List ℕ) × (buffer.old.last ≡ Some frame) × (is_apart (circle_of self.old.addresses) frame ≡ true) × (self.new ≡ self.old) × (group.new ≡ group.old)) }
         ensures none { IfOk result (λ found. found ≡ Found.Nothing → (buffer.old.last ≡ None) × (self.new ≡ self.old) × (group.new ≡ group.old)) }
         ensures ends { OnErr result ((frame : Address × List ℕ) × (buffer.old.last ≡ Some frame) × (is_apart (circle_of self.old.addresses) frame ≡ false) × EndsHeard R.Says R.Gathers (frame ∷ []) group.old self.old self.new) }
-        ensures kept { IfOk result (λ found. found ≡ Found.Beside → Keeps self.old.addresses.seals buffer.old buffer.new) }
+        ensures kept { IfOk result (λ found. found ≡ Found.Beside → Keeps self.old.node self.old.addresses.seals buffer.old buffer.new) }
         ensures rest { IfOk result (λ found. (found ≡ Found.Beside → ⊥) → buffer.new ≡ buffer.old) }
         ensures spares { OnErr result (buffer.new ≡ buffer.old) }
         ensures others { self.new ≡ record self.old { replica = self.new.replica; failed = self.new.failed; received = self.new.received; addresses = self.new.addresses } }
@@ -209,7 +233,7 @@ impl<R: NodeReplica, S: DatagramSocket + Drop> Server<R, S> {
             return Ok(Found::Beside);
         }
         if let Some(node) = self.post.stranger(from) {
-            self.tell_stranger(node, log);
+            self.pass_over(node, from, log);
             return Ok(Found::Beside);
         }
         let came = self.hear(datagram, from, log);
@@ -224,8 +248,8 @@ impl<R: NodeReplica, S: DatagramSocket + Drop> Server<R, S> {
         group: &mut Group,
         log: &L,
     ) -> Result<Found, ServiceFault>
-        ensures takes { IfOk result (λ found. found ≡ Found.Something → (frame : Address × List ℕ) × (is_apart (circle_of self.old.addresses) frame ≡ false) × TakesSocket R.Gathers S.is_telling (frame ∷ []) group.old group.new self.old self.new × KeepsFirstOf self.old.addresses.seals buffer.old.asked (frame ∷ []) buffer.new.asked) }
-        ensures none { IfOk result (λ found. (found ≡ Found.Something → ⊥) → (frames : List (Address × List ℕ)) × Finds S.is_telling found frames self.old self.new × (group.new ≡ group.old) × KeepsFirstOf self.old.addresses.seals buffer.old.asked frames buffer.new.asked) }
+        ensures takes { IfOk result (λ found. found ≡ Found.Something → (frame : Address × List ℕ) × (is_apart (circle_of self.old.addresses) frame ≡ false) × TakesSocket R.Gathers S.is_telling (frame ∷ []) group.old group.new self.old self.new × KeepsOf self.old.node self.old.addresses.seals (frame ∷ []) buffer.old buffer.new) }
+        ensures none { IfOk result (λ found. (found ≡ Found.Something → ⊥) → (frames : List (Address × List ℕ)) × Finds S.is_telling found frames self.old self.new × (group.new ≡ group.old) × KeepsOf self.old.node self.old.addresses.seals frames buffer.old buffer.new) }
         ensures ends { OnErr result ((frame : Address × List ℕ) × (is_apart (circle_of self.old.addresses) frame ≡ false) × EndsSocket R.Says R.Gathers S.is_telling (frame ∷ []) group.old self.old self.new) }
         ensures others { self.new ≡ record self.old { replica = self.new.replica; failed = self.new.failed; received = self.new.received; addresses = self.new.addresses; coming = self.new.coming } }
         ensures passes { IfErr result (λ f. f ≡ ServiceFault.Send → ⊥) }
@@ -235,16 +259,17 @@ impl<R: NodeReplica, S: DatagramSocket + Drop> Server<R, S> {
         self.gather_heard(buffer, group, log)
     }
 
-    // The group takes the next datagram of the socket that waits there already, if one does, and if the group has
-    // something to send. Whether one came.
-    fn gather_waiting<L: Log>(
+    // The group takes the next datagram of the socket that waits there already, or comes in a pause before the sync, if
+    // one does, and if the group has something to send. Whether one came.
+    fn gather_waiting<C: Clock, L: Log>(
         &mut self,
         buffer: &mut ReceiveBuffer,
+        metronome: &Metronome<C>,
         group: &mut Group,
         log: &L,
     ) -> Result<bool, ServiceFault>
-        ensures takes { IfOk result (λ came. came ≡ true → (frame : Address × List ℕ) × TakesSocket R.Gathers S.is_telling (frame ∷ []) group.old group.new self.old self.new × KeepsFirstOf self.old.addresses.seals buffer.old.asked (frame ∷ []) buffer.new.asked) }
-        ensures none { IfOk result (λ came. came ≡ false → (S.is_telling → self.new.coming ≡ self.old.coming) × (record self.new { coming = self.old.coming } ≡ self.old) × (group.new ≡ group.old) × (buffer.new.asked ≡ buffer.old.asked)) }
+        ensures takes { IfOk result (λ came. came ≡ true → (frame : Address × List ℕ) × TakesSocket R.Gathers S.is_telling (frame ∷ []) group.old group.new self.old self.new × KeepsOf self.old.node self.old.addresses.seals (frame ∷ []) buffer.old buffer.new) }
+        ensures none { IfOk result (λ came. came ≡ false → (S.is_telling → self.new.coming ≡ self.old.coming) × (record self.new { coming = self.old.coming } ≡ self.old) × (group.new ≡ group.old) × (buffer.new.asked ≡ buffer.old.asked) × (buffer.new.reported ≡ buffer.old.reported)) }
         ensures ends { OnErr result ((frame : Address × List ℕ) × EndsSocket R.Says R.Gathers S.is_telling (frame ∷ []) group.old self.old self.new) }
         ensures others { self.new ≡ record self.old { replica = self.new.replica; failed = self.new.failed; received = self.new.received; addresses = self.new.addresses; coming = self.new.coming } }
         ensures passes { IfErr result (λ f. f ≡ ServiceFault.Send → ⊥) }
@@ -253,7 +278,7 @@ impl<R: NodeReplica, S: DatagramSocket + Drop> Server<R, S> {
         if group.letters().is_empty() {
             return Ok(false);
         }
-        self.listen_waiting(buffer);
+        self.listen_further(buffer, metronome, group);
         match self.gather_heard(buffer, group, log)? {
             Found::Nothing => Ok(false),
             Found::Beside => Ok(true),
@@ -261,22 +286,23 @@ impl<R: NodeReplica, S: DatagramSocket + Drop> Server<R, S> {
         }
     }
 
-    // The group takes up to 63 further datagrams in order: those that are already waiting, as long as it has something
-    // to send.
-    fn gather_further<L: Log>(
+    // The group takes up to 63 further datagrams in order: those that are already waiting or come in a pause, as long as
+    // it has something to send.
+    fn gather_further<C: Clock, L: Log>(
         &mut self,
         buffer: &mut ReceiveBuffer,
+        metronome: &Metronome<C>,
         group: &mut Group,
         log: &L,
     ) -> Result<(), ServiceFault>
-        ensures takes { OnOk result ((frames : List (Address × List ℕ)) × (length frames ≤ 63) × TakesSocket R.Gathers S.is_telling frames group.old group.new self.old self.new × KeepsFirstOf self.old.addresses.seals buffer.old.asked frames buffer.new.asked) }
+        ensures takes { OnOk result ((frames : List (Address × List ℕ)) × (length frames ≤ 63) × TakesSocket R.Gathers S.is_telling frames group.old group.new self.old self.new × KeepsOf self.old.node self.old.addresses.seals frames buffer.old buffer.new) }
         ensures ends { OnErr result ((frames : List (Address × List ℕ)) × (length frames ≤ 63) × EndsSocket R.Says R.Gathers S.is_telling frames group.old self.old self.new) }
         ensures others { self.new ≡ record self.old { replica = self.new.replica; failed = self.new.failed; received = self.new.received; addresses = self.new.addresses; coming = self.new.coming } }
         ensures passes { IfErr result (λ f. f ≡ ServiceFault.Send → ⊥) }
         ensures broken { OnErr result (self.new.failed ≡ true) }
     {
         'datagrams: for _ in 0..FURTHER {
-            if !self.gather_waiting(buffer, group, log)? {
+            if !self.gather_waiting(buffer, metronome, group, log)? {
                 return Ok(());
             }
         }
@@ -284,15 +310,16 @@ impl<R: NodeReplica, S: DatagramSocket + Drop> Server<R, S> {
     }
 
     // The group takes what comes to the socket: the next datagram, and those that wait behind it. What was found.
-    fn gather_socket<L: Log>(
+    fn gather_socket<C: Clock, L: Log>(
         &mut self,
         buffer: &mut ReceiveBuffer,
+        metronome: &Metronome<C>,
         group: &mut Group,
         log: &L,
     ) -> Result<Found, ServiceFault>
         requires { self.old.own ≡ [] }
-        ensures takes { IfOk result (λ found. found ≡ Found.Something → (frames : List (Address × List ℕ)) × TakesWaiting R.Gathers S.is_telling frames group.old group.new self.old self.new × KeepsFirstOf self.old.addresses.seals buffer.old.asked frames buffer.new.asked) }
-        ensures none { IfOk result (λ found. (found ≡ Found.Something → ⊥) → (self.old.own ≡ []) × (frames : List (Address × List ℕ)) × Finds S.is_telling found frames self.old self.new × (group.new ≡ group.old) × KeepsFirstOf self.old.addresses.seals buffer.old.asked frames buffer.new.asked) }
+        ensures takes { IfOk result (λ found. found ≡ Found.Something → (frames : List (Address × List ℕ)) × TakesWaiting R.Gathers S.is_telling frames group.old group.new self.old self.new × KeepsOf self.old.node self.old.addresses.seals frames buffer.old buffer.new) }
+        ensures none { IfOk result (λ found. (found ≡ Found.Something → ⊥) → (self.old.own ≡ []) × (frames : List (Address × List ℕ)) × Finds S.is_telling found frames self.old self.new × (group.new ≡ group.old) × KeepsOf self.old.node self.old.addresses.seals frames buffer.old buffer.new) }
         ensures ends { OnErr result ((frames : List (Address × List ℕ)) × EndsGroup R.Says R.Gathers S.is_telling frames group.old self.old self.new) }
         ensures others { self.new ≡ record self.old { replica = self.new.replica; failed = self.new.failed; received = self.new.received; addresses = self.new.addresses; coming = self.new.coming } }
         ensures passes { IfErr result (λ f. f ≡ ServiceFault.Send → ⊥) }
@@ -302,28 +329,29 @@ impl<R: NodeReplica, S: DatagramSocket + Drop> Server<R, S> {
         if !found.is_something() {
             return Ok(found);
         }
-        self.gather_further(buffer, group, log)?;
+        self.gather_further(buffer, metronome, group, log)?;
         Ok(Found::Something)
     }
 
     // The group takes what waits: the letters of the node to itself, the first 64 of them, and where there is none
     // what comes to the socket. What was found. A letter that the group says is sent at its end, so it waits for
     // another group.
-    pub(crate) fn gather_all<L: Log>(
+    pub(crate) fn gather_all<C: Clock, L: Log>(
         &mut self,
         buffer: &mut ReceiveBuffer,
+        metronome: &Metronome<C>,
         group: &mut Group,
         log: &L,
     ) -> Result<Found, ServiceFault>
-        ensures takes { IfOk result (λ found. found ≡ Found.Something → (frames : List (Address × List ℕ)) × TakesWaiting R.Gathers S.is_telling frames group.old group.new self.old self.new × KeepsFirstOf self.old.addresses.seals buffer.old.asked frames buffer.new.asked) }
-        ensures none { IfOk result (λ found. (found ≡ Found.Something → ⊥) → (self.old.own ≡ []) × (frames : List (Address × List ℕ)) × Finds S.is_telling found frames self.old self.new × (group.new ≡ group.old) × KeepsFirstOf self.old.addresses.seals buffer.old.asked frames buffer.new.asked) }
+        ensures takes { IfOk result (λ found. found ≡ Found.Something → (frames : List (Address × List ℕ)) × TakesWaiting R.Gathers S.is_telling frames group.old group.new self.old self.new × KeepsOf self.old.node self.old.addresses.seals frames buffer.old buffer.new) }
+        ensures none { IfOk result (λ found. (found ≡ Found.Something → ⊥) → (self.old.own ≡ []) × (frames : List (Address × List ℕ)) × Finds S.is_telling found frames self.old self.new × (group.new ≡ group.old) × KeepsOf self.old.node self.old.addresses.seals frames buffer.old buffer.new) }
         ensures ends { OnErr result ((frames : List (Address × List ℕ)) × EndsGroup R.Says R.Gathers S.is_telling frames group.old self.old self.new) }
         ensures others { self.new ≡ record self.old { replica = self.new.replica; failed = self.new.failed; received = self.new.received; own = self.new.own; addresses = self.new.addresses; coming = self.new.coming } }
         ensures passes { IfErr result (λ f. f ≡ ServiceFault.Send → ⊥) }
         ensures broken { OnErr result (self.new.failed ≡ true) }
     {
         if !self.gather_letter(group, log)? {
-            return self.gather_socket(buffer, group, log);
+            return self.gather_socket(buffer, metronome, group, log);
         }
         self.gather_letters(group, log)?;
         Ok(Found::Something)
@@ -337,15 +365,15 @@ impl<R: NodeReplica, S: DatagramSocket + Drop> Server<R, S> {
         group: &mut Group,
         log: &L,
     ) -> Result<bool, ServiceFault>
-        ensures takes { IfOk result (λ some. some ≡ true → (frames : List (Address × List ℕ)) × TakesGroup R.Gathers S.is_telling frames group.old group.new self.old self.new × KeepsFirstOf self.old.addresses.seals buffer.old.asked frames buffer.new.asked) }
-        ensures idle { IfOk result (λ some. some ≡ false → (frames : List (Address × List ℕ)) × HasReceived S.is_telling frames self.old self.new × IsIdle S.is_telling frames self.old self.new × KeepsFirstOf self.old.addresses.seals buffer.old.asked frames buffer.new.asked) }
+        ensures takes { IfOk result (λ some. some ≡ true → (frames : List (Address × List ℕ)) × TakesGroup R.Gathers S.is_telling frames group.old group.new self.old self.new × KeepsOf self.old.node self.old.addresses.seals frames buffer.old buffer.new) }
+        ensures idle { IfOk result (λ some. some ≡ false → (frames : List (Address × List ℕ)) × HasReceived S.is_telling frames self.old self.new × IsIdle S.is_telling frames self.old self.new × KeepsOf self.old.node self.old.addresses.seals frames buffer.old buffer.new) }
         ensures ends { OnErr result ((frames : List (Address × List ℕ)) × EndsGroup R.Says R.Gathers S.is_telling frames group.old self.old self.new) }
         ensures others { self.new ≡ record self.old { replica = self.new.replica; failed = self.new.failed; received = self.new.received; own = self.new.own; addresses = self.new.addresses; coming = self.new.coming } }
         ensures passes { IfErr result (λ f. f ≡ ServiceFault.Send → ⊥) }
         ensures broken { OnErr result (self.new.failed ≡ true) }
     {
         self.wait_for(metronome.left());
-        let found = self.gather_all(buffer, group, log)?;
+        let found = self.gather_all(buffer, metronome, group, log)?;
         if !self.pace.is_due(found, metronome) {
             return Ok(found.is_something());
         }

@@ -1,5 +1,8 @@
 //! What has happened to a node in a turn, for whoever is told its events.
 
+ghost use Rattle.std.specs.Prelude.{◌≡◌, ◌≤◌, ◌<◌, ℕ, Some, None};
+ghost use Rattle.lk_transport.specs.Arrivals.{sender};
+
 use crate::replica_status::ReplicaStatus;
 use lk_transport::arrival::Arrival;
 use lk_transport::post::Carried;
@@ -25,7 +28,13 @@ impl Happened {
     };
 
     /// Notes what has changed by what came.
-    pub fn note(&mut self, came: &Arrival, before: &ReplicaStatus, after: &ReplicaStatus) {
+    pub fn note(&mut self, came: &Arrival, before: &ReplicaStatus, after: &ReplicaStatus)
+        // A snapshot of more positions than were executed before was installed, and the node that sent what came sent
+        // the last part of it.
+        ensures installed { (n : ℕ) → sender came.now ≡ Some n → before.now.executed < after.now.snapshot → self.new ≡ record self.old { installed = Some (after.now.snapshot, n) } }
+        ensures no_more { after.now.snapshot ≤ before.now.executed → self.new ≡ self.old }
+        ensures no_node { sender came.now ≡ None → self.new ≡ self.old }
+    {
         match came.node() {
             Some(node) if after.snapshot.get() > before.executed.get() => {
                 self.installed = Some((after.snapshot, node));

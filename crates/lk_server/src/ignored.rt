@@ -1,5 +1,8 @@
 //! Counts of datagrams that mean nothing to a server.
 
+ghost use Rattle.std.specs.Prelude.{◌≡◌, ◌≢◌};
+ghost use Rattle.lk_disk.specs.Disk.{one_more};
+
 use lk_transport::arrival::Arrival;
 use log::{Log, debug};
 
@@ -19,17 +22,25 @@ fn log_count<L: Log>(log: &L, what: &str, count: u64) {
 
 impl IgnoredCounts {
     /// No such datagram has arrived.
-    pub fn new() -> IgnoredCounts {
+    pub fn new() -> IgnoredCounts
+        ensures { result ≡ record { bad = 0; foreign = 0 } }
+    {
         IgnoredCounts { bad: 0, foreign: 0 }
     }
 
     /// How many datagrams came that do not read.
-    pub fn unread(&self) -> u64 {
+    pub fn unread(&self) -> u64
+        ensures { result ≡ self.now.bad }
+    {
         self.bad
     }
 
     /// Counts a datagram if it is one of them. Each count that is a power of two is logged at level debug.
-    pub fn count<L: Log>(&mut self, came: &Arrival, log: &L) {
+    pub fn count<L: Log>(&mut self, came: &Arrival, log: &L)
+        ensures bad { came.now ≡ Arrival.Bad → self.new ≡ record self.old { bad = one_more self.old.bad } }
+        ensures foreign { came.now ≡ Arrival.Foreign → self.new ≡ record self.old { foreign = one_more self.old.foreign } }
+        ensures others { came.now ≢ Arrival.Bad → came.now ≢ Arrival.Foreign → self.new ≡ self.old }
+    {
         match came {
             Arrival::Bad => {
                 self.bad = self.bad.saturating_add(1);

@@ -16,5 +16,6 @@ mod probing;
 pub mod replica_status;
 pub mod server;
 pub mod shown;
+mod sync_pause;
 pub mod table_version;
 pub mod watching;

@@ -1,10 +1,11 @@
 //! What a server does beside the protocol after a turn: it finds out which genesis each node that writes to it was
 //! started with.
 
-ghost use Rattle.std.specs.Prelude.{◌≡◌, None};
+ghost use Rattle.std.specs.Prelude.{◌≡◌, Option, None};
+ghost use Rattle.std.specs.declared.net.socket_addr.SocketAddr.{SocketAddr as Address};
 ghost use Rattle.lk_probe.specs.Neighbours.{bound_in};
 ghost use Rattle.lk_transport.specs.Addresses.{IsSameNetwork};
-ghost use Rattle.lk_transport.specs.Inquiring.{AsksOne, LearnsKept};
+ghost use Rattle.lk_transport.specs.Inquiring.{AsksOne, DoubtsMaybe, Inquires, LearnsKept};
 ghost use Rattle.lk_server.specs.Beside.{ActsBeside};
 ghost use Rattle.lk_server.specs.Servers.{tray_at};
 
@@ -16,6 +17,7 @@ use lk_transport::receive_buffer::ReceiveBuffer;
 use lk_transport::socket::DatagramSocket;
 use lk_types::NodeNo;
 use log::Log;
+use std::net::SocketAddr;
 
 /// The ticks of a minute.
 const MINUTE: u64 = 600;
@@ -31,17 +33,27 @@ impl<R: NodeReplica, S: DatagramSocket + Drop> Server<R, S> {
         }
     }
 
-    // Tells at most once a minute that it hears a node of another genesis.
-    pub(crate) fn tell_stranger<L: Log>(&mut self, node: NodeNo, log: &L)
+    // Tells at most once a minute that it hears a node of another genesis. Returns whether it does.
+    fn tell_stranger<L: Log>(&mut self, node: NodeNo, log: &L) -> bool
         ensures { self.new ≡ self.old }
     {
         match self.stranger_told {
-            Some(ticks) if self.ticks.saturating_sub(ticks) < MINUTE => {}
+            Some(ticks) if self.ticks.saturating_sub(ticks) < MINUTE => false,
             _ => {
                 self.stranger_told = Some(self.ticks);
                 self.happened.stranger = Some(node);
                 log_stranger(log, node);
+                true
             }
+        }
+    }
+
+    // Passes over a datagram of a node of another genesis. Where it tells so, that node is to be asked again.
+    pub(crate) fn pass_over<L: Log>(&mut self, node: NodeNo, from: SocketAddr, log: &L)
+        ensures { self.new ≡ self.old }
+    {
+        if self.tell_stranger(node, log) {
+            self.told_place = Some(from);
         }
     }
 
@@ -53,7 +65,7 @@ impl<R: NodeReplica, S: DatagramSocket + Drop> Server<R, S> {
             return;
         };
         if let Some(other) = neighbour.other() {
-            self.tell_stranger(other.node, log);
+            let _ = self.tell_stranger(other.node, log);
         }
     }
 
@@ -83,6 +95,28 @@ impl<R: NodeReplica, S: DatagramSocket + Drop> Server<R, S> {
         }
     }
 
+    // Doubts the node that it has passed over and told of, if there is one: it may have been started anew.
+    fn doubt(&mut self)
+        ensures doubts { (place : Option Address) × DoubtsMaybe place self.old.addresses self.new.addresses }
+        ensures network { IsSameNetwork self.old.addresses self.new.addresses }
+        ensures others { self.new ≡ record self.old { addresses = self.new.addresses } }
+    {
+        if let Some(place) = self.told_place.take() {
+            self.post.doubt(place);
+        }
+    }
+
+    // Asks one node where that is due at this count of ticks, also one that it doubts from now on.
+    fn inquire(&mut self, now: u64)
+        ensures inquires { Inquires S.is_telling now self.old.node self.old.addresses self.new.addresses (tray_at self.old.own self.old) (tray_at self.new.own self.new) }
+        ensures network { IsSameNetwork self.old.addresses self.new.addresses }
+        ensures still { S.is_telling → self.new.coming ≡ self.old.coming }
+        ensures others { self.new ≡ record self.old { addresses = self.new.addresses; sent = self.new.sent; socket_failures = self.new.socket_failures; coming = self.new.coming } }
+    {
+        self.doubt();
+        self.ask(now);
+    }
+
     // The ticks that its replica was given since its start.
     fn now(&self) -> u64 {
         self.ticks
@@ -106,7 +140,7 @@ impl<R: NodeReplica, S: DatagramSocket + Drop> Server<R, S> {
         self.answer(buffer);
         self.learn(buffer, log);
         let now = self.now();
-        self.ask(now);
+        self.inquire(now);
         self.bound()
     }
 }

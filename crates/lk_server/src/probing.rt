@@ -1,6 +1,6 @@
 //! What a server tells of its node, and how it answers a probe.
 
-ghost use Rattle.std.specs.Prelude.{◌≡◌, None, true, IsTrue};
+ghost use Rattle.std.specs.Prelude.{◌≡◌, None};
 ghost use Rattle.lk_server.specs.Probes.{AnswersKept, IsAnswer, Tells};
 ghost use Rattle.lk_server.specs.declared.shown.Shown.{Shown as ShownValue};
 

@@ -7,16 +7,17 @@ ghost use Rattle.lk_recovery.specs.Faults.{fault_number};
 ghost use Rattle.lk_transport.specs.Addresses.{circle_of, client_at, node_at, IsSameNetwork};
 ghost use Rattle.lk_server.specs.Gatherings.{Finds, HandsOnAll, SaysNothing};
 ghost use Rattle.lk_transport.specs.Posts.{all_taken_as};
-ghost use Rattle.lk_transport.specs.Askers.{KeepsFirstOf};
+ghost use Rattle.lk_transport.specs.Kept.{KeepsOf};
 ghost use Rattle.lk_server.specs.Servers.{HandsOn, HandsNothing, HasReceived, IsSameServer, LastTurn, Runs, ServesOn, TakesTurn, Turn};
 
 use crate::found::Found;
 use crate::happened::Happened;
 use crate::ignored::IgnoredCounts;
-use crate::metronome::Metronome;
+use crate::metronome::{Metronome, Still};
 use crate::node_replica::NodeReplica;
 use crate::notes::log_notes;
 use crate::pace::Pace;
+use crate::sync_pause::SyncPause;
 use crate::table_version::TableVersion;
 use crate::watching::log_carried;
 use lk_recovery::ReplicaFault;
@@ -30,6 +31,7 @@ use lk_types::NodeNo;
 use log::Log;
 use std::alloc::Global;
 use std::marker::Model;
+use std::net::SocketAddr;
 use std::time::Clock;
 
 /// A replica, and the post with the socket on which it serves.
@@ -52,8 +54,12 @@ pub struct Server<R: NodeReplica, S: DatagramSocket + Drop> {
     pub(crate) unsent: u64,
     // what it knows of the version of the lock table
     pub(crate) table: TableVersion,
+    // whether it waits for more before a sync
+    pub(crate) sync_pause: SyncPause,
     // at which count of ticks it told last that it hears a node of another genesis
     pub(crate) stranger_told: Option<u64>,
+    // the address of that node, until it is doubted
+    pub(crate) told_place: Option<SocketAddr>,
 }
 
 impl<R: NodeReplica, S: DatagramSocket + Drop> Model for Server<R, S> {
@@ -99,7 +105,9 @@ impl<R: NodeReplica, S: DatagramSocket + Drop> Server<R, S> {
             ticks: 0,
             unsent: 0,
             table: TableVersion::Unread,
+            sync_pause: SyncPause::NONE,
             stranger_told: None,
+            told_place: None,
         }
     }
 
@@ -142,7 +150,9 @@ impl<R: NodeReplica, S: DatagramSocket + Drop> Server<R, S> {
             ticks: _,
             unsent: _,
             table: _,
+            sync_pause: _,
             stranger_told: _,
+            told_place: _,
         } = self;
         replica
     }
@@ -225,15 +235,16 @@ impl<R: NodeReplica, S: DatagramSocket + Drop> Server<R, S> {
         buffer: &mut ReceiveBuffer,
         log: &L,
     ) -> Result<bool, ServiceFault>
-        ensures turn { IfOk result (λ came. came ≡ true → (frames : List (Address × List ℕ)) × HasReceived S.is_telling frames self.old self.new × Turn R.Says S.is_telling (all_taken_as (circle_of self.old.addresses) frames) self.old self.new × KeepsFirstOf self.old.addresses.seals buffer.old.asked frames buffer.new.asked) }
+        ensures turn { IfOk result (λ came. came ≡ true → (frames : List (Address × List ℕ)) × HasReceived S.is_telling frames self.old self.new × Turn R.Says S.is_telling (all_taken_as (circle_of self.old.addresses) frames) self.old self.new × KeepsOf self.old.node self.old.addresses.seals frames buffer.old buffer.new) }
         ensures ends { OnErr result ((frames : List (Address × List ℕ)) × HasReceived S.is_telling frames self.old self.new × LastTurn R.Says S.is_telling (all_taken_as (circle_of self.old.addresses) frames) self.old self.new) }
-        ensures none { IfOk result (λ came. came ≡ false → (self.old.own ≡ []) × (found : Found) × (frames : List (Address × List ℕ)) × Finds S.is_telling found frames self.old self.new × KeepsFirstOf self.old.addresses.seals buffer.old.asked frames buffer.new.asked) }
+        ensures none { IfOk result (λ came. came ≡ false → (self.old.own ≡ []) × (found : Found) × (frames : List (Address × List ℕ)) × Finds S.is_telling found frames self.old self.new × KeepsOf self.old.node self.old.addresses.seals frames buffer.old buffer.new) }
         // Where nodes live and the keys do not change.
         ensures network { IsSameNetwork self.old.addresses self.new.addresses }
         ensures passes { IfErr result (λ f. f ≡ ServiceFault.Send → ⊥) }
     {
         let mut group = self.begin();
-        let found = self.gather_all(buffer, &mut group, log)?;
+        let metronome = Metronome::new(Still);
+        let found = self.gather_all(buffer, &metronome, &mut group, log)?;
         if !found.is_something() {
             return Ok(false);
         }
@@ -255,7 +266,7 @@ pub fn node_turn<R: NodeReplica, S: DatagramSocket + Drop, C: Clock, L: Log>(
     // where one was due. The letters that it said were each sent where they go, kept for the node itself, or lost by a
     // send that failed, in order, and nothing else was sent. A turn in which it was given nothing is idle. Of the
     // probes in these frames the first is kept, unless one was kept before.
-    ensures turn { OnOk result ((frames : List (Address × List ℕ)) × HasReceived S.is_telling frames server.old server.new × TakesTurn R.Says S.is_telling frames server.old server.new × KeepsFirstOf server.old.addresses.seals buffer.old.asked frames buffer.new.asked) }
+    ensures turn { OnOk result ((frames : List (Address × List ℕ)) × HasReceived S.is_telling frames server.old server.new × TakesTurn R.Says S.is_telling frames server.old server.new × KeepsOf server.old.node server.old.addresses.seals frames buffer.old buffer.new) }
     // After an error nothing of the group is sent.
     ensures ends { OnErr result ((frames : List (Address × List ℕ)) × HasReceived S.is_telling frames server.old server.new × LastTurn R.Says S.is_telling (all_taken_as (circle_of server.old.addresses) frames) server.old server.new) }
     // Where nodes live and the keys do not change.
@@ -266,5 +277,8 @@ pub fn node_turn<R: NodeReplica, S: DatagramSocket + Drop, C: Clock, L: Log>(
     if !server.gather_turn(buffer, metronome, &mut group, log)? {
         return Ok(());
     }
-    server.release(&group, log)
+    let began = metronome.now();
+    server.release(&group, log)?;
+    server.note_sync(&group, metronome, began);
+    Ok(())
 }

@@ -1,1 +1,2 @@
 mod Turning
+mod OwnProbing

@@ -9,15 +9,14 @@ use Rattle.lk_state.specs.Meanings.{Meaning}
 use Rattle.lk_step.specs.Letters.{LetterValue}
 use Rattle.lk_replica.specs.ReplicaValue.{ReplicaValue}
 use Rattle.lk_recovery.specs.Revivals.{IsRefusedFor}
-use Rattle.lk_probe.specs.declared.reported.Reported.{Reported}
 use Rattle.lk_transport.specs.Addresses.{IsSameNetwork, circle_of}
-use Rattle.lk_transport.specs.Askers.{KeepsFirstOf}
+use Rattle.lk_transport.specs.Hearing.{BufferValue}
+use Rattle.lk_transport.specs.Kept.{KeepsOf}
 use Rattle.lk_transport.specs.Posts.{all_taken_as}
 use Rattle.lk_server.specs.Sayings.{SaysOf}
 use Rattle.lk_server.specs.Beside.{ActsBeside}
 use Rattle.lk_server.specs.Probes.{IsShown}
 use Rattle.lk_server.specs.Servers.{ServerValue, HasReceived, TakesTurn as ServerTurn, LastTurn}
-use Rattle.lk_transport.specs.declared.asked.Asked.{Asked}
 use Rattle.lk_transport.specs.Chains.{Repeats}
 use Rattle.lk_service.specs.Revivals.{StaysDown}
 use Rattle.lk_service.specs.Turns.{TakesTurn, TakesTurnWith, TakesLeave, EndsTurn, BreaksOff, Leaves, TellsFailure}
@@ -43,19 +42,20 @@ pub turn_ended : {Says : ReplicaValue → List (Option (List ℕ)) → List Lett
 turn_ended frames old new received turn network failure = record { frames = frames; came = all_taken_as (circle_of old.addresses) frames; opened = refl; received = received; turn = turn; network = network; failure = failure }
 
 -- a turn, and what the server does beside the protocol after it
-pub turn_taken : {Says : ReplicaValue → List (Option (List ℕ)) → List LetterValue → ReplicaValue → Type 0} {tells : Type 0} (kept : Option Asked) (After : ServerValue ReplicaValue → Type 0) (frames : List (SocketAddr × List ℕ)) (asked : Option Asked) (reported : Option Reported)
-    (old mid new : ServerValue ReplicaValue) → HasReceived tells frames old mid → ServerTurn Says tells frames old mid → KeepsFirstOf old.addresses.seals kept frames asked → ActsBeside IsShown tells asked reported mid new
-    → IsSameNetwork old.addresses mid.addresses → TellsFailure new → After new → TakesTurnWith Says tells kept After old new
-turn_taken kept After frames asked reported old mid new received turn first acts network failure becomes = record {
+pub turn_taken : {Says : ReplicaValue → List (Option (List ℕ)) → List LetterValue → ReplicaValue → Type 0} {tells : Type 0} (After : ServerValue ReplicaValue → Type 0) (frames : List (SocketAddr × List ℕ)) (kept left : BufferValue)
+    (old mid new : ServerValue ReplicaValue) → HasReceived tells frames old mid → ServerTurn Says tells frames old mid → KeepsOf old.node old.addresses.seals frames kept left → ActsBeside IsShown tells left.asked left.reported mid new
+    → IsSameNetwork old.addresses mid.addresses → TellsFailure new → After new → TakesTurnWith Says tells kept.asked kept.reported After old new
+turn_taken After frames kept left old mid new received turn keeps acts network failure becomes = record {
   frames = frames;
   came = all_taken_as (circle_of old.addresses) frames;
   opened = refl;
   received = received;
   mid = mid;
   turn = turn;
-  asked = asked;
-  first = first;
-  reported = reported;
+  asked = left.asked;
+  first_asked = keeps.asked;
+  reported = left.reported;
+  first_reported = keeps.reported;
   acts = acts;
   network = (acts.network.0 ∙ network.0, acts.network.1 ∙ network.1);
   failure = failure;

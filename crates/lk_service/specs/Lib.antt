@@ -4,3 +4,5 @@ pub mod Ports
 pub mod Revivals
 pub mod Turns
 pub mod ClientKeys
+pub mod OwnProbes
+pub mod Reminders

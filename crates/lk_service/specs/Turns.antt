@@ -13,7 +13,9 @@ use Rattle.lk_transport.specs.Posts.{all_taken_as}
 use Rattle.lk_server.specs.Beside.{ActsBeside}
 use Rattle.lk_server.specs.Probes.{IsShown}
 use Rattle.lk_server.specs.Servers.{ServerValue, HasReceived, Turn, LastTurn, IsIdle}
-use Rattle.lk_transport.specs.Askers.{KeepsFirstOf}
+use Rattle.lk_transport.specs.Askers.{IsKeptOf}
+use Rattle.lk_transport.specs.Inquiring.{IsToldBy}
+use Rattle.lk_transport.specs.Kept.{KeepsFirstOf}
 use Rattle.lk_transport.specs.declared.asked.Asked.{Asked}
 use Rattle.lk_transport.specs.Chains.{Repeats}
 use Rattle.lk_service.specs.Digests.{genesis_digest}
@@ -35,10 +37,10 @@ LeavesOff s = IsSome (bound_in s.addresses.neighbours)
 module _ (Says : ReplicaValue → List (Option (List ℕ)) → List LetterValue → ReplicaValue → Type 0) (tells : Type 0) where
   -- a turn: the replica was given the first letters of the node to itself as one group, or where none waited what was
   -- taken of the frames that came, and a tick where one was due, and goes on; or it is idle, and given nothing. After
-  -- that the probe that was kept from before is answered, or else the first in those frames, what a report tells is
-  -- learned, one question is sent where one is due, and nothing else is sent. Where nodes live, and the keys, are the
-  -- same. `After` holds of the server then
-  pub record TakesTurnWith (kept : Option Asked) (After : ServerValue ReplicaValue → Type 0) (old new : ServerValue ReplicaValue) : Type 0 where
+  -- that the probe kept from before, or else the first in those frames, is answered; what the report kept from before
+  -- told, or else the first in those frames that answers the node's question, is learned; one question is sent where
+  -- one is due; and nothing else is sent. Where nodes live, and the keys, are the same. `After` holds of the server then
+  pub record TakesTurnWith (kept : Option Asked) (told : Option Reported) (After : ServerValue ReplicaValue → Type 0) (old new : ServerValue ReplicaValue) : Type 0 where
     pub frames : List (SocketAddr × List ℕ)
     pub came : List (SocketAddr × List ℕ)
     pub opened : came ≡ all_taken_as (circle_of old.addresses) frames
@@ -46,21 +48,22 @@ module _ (Says : ReplicaValue → List (Option (List ℕ)) → List LetterValue 
     pub received : HasReceived tells frames old mid
     pub turn : Turn Says tells came old mid ⊎ IsIdle tells frames old mid
     pub asked : Option Asked
-    pub first : KeepsFirstOf old.addresses.seals kept frames asked
+    pub first_asked : KeepsFirstOf (IsKeptOf old.addresses.seals) kept frames asked
     pub reported : Option Reported
+    pub first_reported : KeepsFirstOf (IsToldBy old.node old.addresses.seals) told frames reported
     pub acts : ActsBeside IsShown tells asked reported mid new
     pub network : IsSameNetwork old.addresses new.addresses
     pub failure : TellsFailure new
     pub becomes : After new
 
-  -- a turn before which no probe was kept, so that the first in the frames that came is answered, and after which it goes
-  -- on
+  -- a turn before which no probe and no report was kept, so that the first probe in the frames that came is answered
+  -- and what the first report tells is learned, and after which it goes on
   abbrev pub TakesTurn : ServerValue ReplicaValue → ServerValue ReplicaValue → Type 0
-  TakesTurn = TakesTurnWith None GoesOn
+  TakesTurn = TakesTurnWith None None GoesOn
 
   -- such a turn after which it ends, since it has followed a node of another genesis
   abbrev pub TakesLeave : ServerValue ReplicaValue → ServerValue ReplicaValue → Type 0
-  TakesLeave = TakesTurnWith None LeavesOff
+  TakesLeave = TakesTurnWith None None LeavesOff
 
   -- a turn that ended the replica
   pub record EndsTurn (old new : ServerValue ReplicaValue) : Type 0 where

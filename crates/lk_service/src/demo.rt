@@ -101,6 +101,7 @@ fn start<M: Machine, S: DatagramSocket + Drop>(
         socket,
         network: Network::local(genesis.cluster, node),
         pace: Pace::Datagrams,
+        unheard: None,
     };
     revive::<M, _, _, _>(alloc, &header, resources, &Discard).map_err(
         |refused| ServiceFault::of_replica(&refused.fault),

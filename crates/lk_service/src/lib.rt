@@ -7,6 +7,7 @@ pub mod demo;
 pub mod digest;
 pub mod network;
 mod observing;
+mod own_probe;
 mod port_reminder;
 pub mod resources;
 pub mod running;

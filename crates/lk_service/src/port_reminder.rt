@@ -1,81 +1,98 @@
-//! The warning, each minute, of a node that hears nobody and does not listen at the port that the genesis names.
+//! The warning, each minute, of a node that hears nobody and is not heard at the port that the genesis names.
 
-ghost use Rattle.std.specs.Prelude.{◌≡◌, ◌↔◌, ◌≤◌, ◌<◌, ◌+◌, None, true, false, min};
-ghost use Rattle.lk_service.specs.Ports.{misnamed};
+ghost use Rattle.std.specs.Io.KnownBytes.{Appends};
+ghost use Rattle.std.specs.Prelude.{◌≡◌, ◌↔◌, None, Some, IsTrue, IfSome, IsNone, OnOk, OnErr, ℕ};
+ghost use Rattle.lk_probe.specs.declared.status.Status.{Status as StatusValue};
+ghost use Rattle.lk_service.specs.Reminders.{IsDue, IsNoneDue, IsStatusOf, KnowsNobody, Reminds, having_warned, reminder_line};
 
-use crate::resources::{NodePlan, other_port};
-use lk_probe::Leadership;
+use crate::resources::NodePlan;
+use lk_probe::{Leadership, Status};
 use lk_server::node_replica::NodeReplica;
 use lk_server::server::Server;
 use lk_transport::socket::DatagramSocket;
 use lk_types::Port;
+use std::io;
 use std::io::Write;
 
 /// The ticks between two warnings: a minute, since a node to which nobody writes ticks each 100 ms.
 const MINUTE: u64 = 600;
 
-/// When the next warning is due, and the port that the genesis names, if the node listens at another one.
+/// When the next warning is due, and the port that the genesis names, if the node is not heard there.
 #[derive(Clone, Copy)]
 pub struct PortReminder {
-    pub named: Option<Port>,
+    pub unheard: Option<Port>,
     pub due: u64,
 }
 
-/// Warns that the node has heard of no leader since its start.
-fn write_reminder<E: Write>(plan: &NodePlan<'_>, named: Port, err: &mut E) {
-    let (node, named, own) = (plan.header.node().get(), named.get(), plan.port.get());
-    let _ = writeln!(
+/// Writes the line of a warning: the node, the port at which it listens, and the one that the genesis names.
+#[tactic(auto, unfolding(crate::specs::Reminders::reminder_line))]
+fn write_line<E: Write>(node: u32, own: u16, named: u16, err: &mut E) -> io::Result<()>
+    ensures { OnOk result (Appends (E.contents err.old) (E.contents err.new) (reminder_line node own named)) }
+{
+    writeln!(
         err,
         "warning: node {node} has heard of no leader, and listens at port {own}; the genesis names port {named}"
-    );
+    )
+}
+
+/// Warns that the node has heard of no leader since its start.
+fn write_reminder<E: Write>(plan: &NodePlan<'_>, named: Port, err: &mut E) -> io::Result<()>
+    ensures { OnOk result (Appends (E.contents err.old) (E.contents err.new) (reminder_line plan.now.header.node plan.now.port named)) }
+{
+    let (node, own) = (plan.header.node().get(), plan.port.get());
+    write_line(node, own, named.get(), err)
 }
 
 /// Whether a node neither leads nor has heard of a leader since its start.
 fn knows_nobody(leadership: &Leadership) -> bool
-    ensures { result ≡ true ↔ (leadership.now.leads ≡ false) × (leadership.now.leader ≡ None) }
+    ensures { IsTrue result ↔ KnowsNobody leadership.now }
 {
     !leadership.leads && leadership.leader.is_none()
 }
 
 impl PortReminder {
-    /// The reminder of a plan's node. The first warning is due after a minute.
-    pub fn of(plan: &NodePlan<'_>) -> PortReminder
-        ensures { result ≡ record { named = misnamed plan.now.header plan.now.port; due = 600 } }
+    /// The reminder of a node that is not heard at that port. The first warning is due after a minute.
+    pub fn of(unheard: Option<Port>) -> PortReminder
+        ensures { result ≡ record { unheard = unheard; due = 600 } }
     {
         PortReminder {
-            named: other_port(plan),
+            unheard,
             due: MINUTE,
         }
     }
 
-    /// Whether a warning is due at that count of ticks. The next one is then a minute away.
-    fn is_due(&mut self, ticks: u64) -> bool
-        ensures due { result ≡ true → (self.old.due ≤ ticks) × (self.new ≡ record self.old { due = min (ticks + 600) 18446744073709551615 }) }
-        ensures early { result ≡ false → (ticks < self.old.due) × (self.new ≡ self.old) }
+    /// The port of which a warning is due. The next one is then a minute away.
+    fn take_due(&mut self, status: &Status) -> Option<Port>
+        ensures some { IfSome result (λ port. IsDue self.old status.now port × (self.new ≡ having_warned self.old status.now)) }
+        ensures none { IsNone result → IsNoneDue self.old status.now × (self.new ≡ self.old) }
     {
-        if ticks < self.due {
-            return false;
+        let Some(named) = self.unheard else {
+            return None;
+        };
+        if status.traffic.ticks < self.due || !knows_nobody(&status.leadership) {
+            return None;
         }
-        self.due = ticks.saturating_add(MINUTE);
-        true
+        self.due = status.traffic.ticks.saturating_add(MINUTE);
+        Some(named)
     }
 
-    /// A turn has passed: warns if that is due and the node has heard of no leader since its start.
+    /// A turn has passed: warns if that is due. The error is that of a warning.
     pub fn turn<R: NodeReplica, S: DatagramSocket + Drop, E: Write>(
         &mut self,
         server: &Server<R, S>,
         plan: &NodePlan<'_>,
         err: &mut E,
-    )
-        // A node at the port that the genesis names is never warned of.
-        ensures { self.old.named ≡ None → (self.new ≡ self.old) × (err.new ≡ err.old) }
+    ) -> io::Result<()>
+        ensures reminds { OnOk result ((status : StatusValue) × IsStatusOf R.Shows server.now status
+            × Reminds plan.now.header.node plan.now.port status self.old self.new (E.contents err.old) (E.contents err.new)) }
+        ensures fails { OnErr result ((status : StatusValue) × IsStatusOf R.Shows server.now status × (port : ℕ) × IsDue self.old status port) }
+        // A node that is heard at the port that the genesis names is never warned of.
+        ensures heard { self.old.unheard ≡ None → (self.new ≡ self.old) × (err.new ≡ err.old) }
     {
-        let Some(named) = self.named else {
-            return;
-        };
         let status = server.status();
-        if self.is_due(status.traffic.ticks) && knows_nobody(&status.leadership) {
-            write_reminder(plan, named, err);
+        match self.take_due(&status) {
+            Some(named) => write_reminder(plan, named, err),
+            None => Ok(()),
         }
     }
 }

@@ -1,12 +1,14 @@
 //! The resources of a node.
 
-ghost use Rattle.std.specs.Prelude.{◌≡◌, ◌≢◌, [], IfOk};
+ghost use Rattle.std.specs.Prelude.{◌≡◌, ◌≢◌, [], Some, None, IfOk, IfSome, OnErr};
 ghost use Rattle.lk_members.specs.Ports.{port_in};
 ghost use Rattle.lk_seal.specs.Seals.{key_list};
+ghost use Rattle.lk_service.specs.OwnProbes.{FindsUnheard, socket_value};
 ghost use Rattle.lk_service.specs.Ports.{misnamed};
 ghost use Rattle.lk_service.specs.Turns.{AreSealsOf};
 
 use crate::network::{NetworkOptions, network_of};
+use crate::own_probe::unheard_port;
 use lk_disk::SystemDisk;
 use lk_entries::Header;
 use lk_folder::causes::open_socket_at;
@@ -15,7 +17,7 @@ use lk_seal::{Keys, Seals};
 use lk_server::pace::Pace;
 use lk_transport::fault::ServiceFault;
 use lk_transport::network::Network;
-use lk_transport::socket::LocalSocket;
+use lk_transport::socket::{DatagramSocket, LocalSocket};
 use lk_types::{Member, NodeNo, Port};
 use std::alloc::Global;
 use std::fs::{File, Files};
@@ -33,14 +35,15 @@ pub struct NodePlan<'a> {
     pub options: NetworkOptions<'a>,
 }
 
-/// What a node runs on: the device of its store, its socket, what it knows of the machines outside, and what its ticks
-/// go by.
+/// What a node runs on: the device of its store, its socket, what it knows of the machines outside, what its ticks go
+/// by, and the port that the genesis names, if the node listens at another one and is not heard there.
 #[derive(Drop)]
 pub struct Resources<D: Drop, S: Drop> {
     pub device: D,
     pub socket: S,
     pub network: Network,
     pub pace: Pace,
+    pub unheard: Option<Port>,
 }
 
 /// The files of a folder as a device.
@@ -58,7 +61,8 @@ fn named_port(members: &[Member], node: NodeNo) -> Option<Port>
     None
 }
 
-/// Warns that the node does not listen at the port that the genesis names.
+/// Warns that the node does not listen at the port that the genesis names: without a relay in between, it would send
+/// but not receive.
 fn write_warning<E: Write>(plan: &NodePlan<'_>, named: Port, err: &mut E) {
     let (node, named, own) = (plan.header.node().get(), named.get(), plan.port.get());
     let _ = writeln!(
@@ -68,7 +72,7 @@ fn write_warning<E: Write>(plan: &NodePlan<'_>, named: Port, err: &mut E) {
 }
 
 /// The port that the genesis gives the node, if it listens at another one.
-pub(crate) fn other_port(plan: &NodePlan<'_>) -> Option<Port>
+fn other_port(plan: &NodePlan<'_>) -> Option<Port>
     ensures { result ≡ misnamed plan.now.header plan.now.port }
 {
     let members = plan.header.genesis().members.as_slice();
@@ -78,12 +82,29 @@ pub(crate) fn other_port(plan: &NodePlan<'_>) -> Option<Port>
     }
 }
 
-/// Warns if the genesis gives the node another port than the one on which it listens: without a relay in between, it
-/// would send but not receive.
-fn warn_of_port<E: Write>(plan: &NodePlan<'_>, err: &mut E) {
-    if let Some(named) = other_port(plan) {
+/// Finds out whether the node is heard at the port that the genesis names, if it listens at another one. Warns if it is
+/// not, and returns that port.
+fn warn_of_port<S: DatagramSocket, E: Write>(
+    alloc: Global,
+    plan: &NodePlan<'_>,
+    network: &Network,
+    socket: &mut S,
+    err: &mut E,
+) -> Result<Option<Port>, ServiceFault>
+    ensures finds { S.is_telling → IfOk result (λ unheard. FindsUnheard plan.now.header network.now (misnamed plan.now.header plan.now.port) unheard
+        (socket_value S.sent S.failures S.coming socket.old) (socket_value S.sent S.failures S.coming socket.new)) }
+    // Where the ports agree nothing is sent and nothing received.
+    ensures alike { misnamed plan.now.header plan.now.port ≡ None → socket.new ≡ socket.old }
+    ensures some { IfOk result (λ unheard. IfSome unheard (λ port. misnamed plan.now.header plan.now.port ≡ Some port)) }
+    // Where it is heard nothing is warned.
+    ensures quiet { IfOk result (λ unheard. unheard ≡ None → err.new ≡ err.old) }
+    ensures err { OnErr result (socket.new ≡ socket.old) }
+{
+    let unheard = unheard_port(alloc, socket, &plan.header, network, other_port(plan))?;
+    if let Some(named) = unheard {
         write_warning(plan, named, err);
     }
+    Ok(unheard)
 }
 
 /// What the ticks of a node go by that has these seals: with a key of the nodes by the clock, so that a stranger's
@@ -143,11 +164,13 @@ pub fn open_resources<R: Files<File = File> + Net, E: Write>(
     ensures seals { IfOk result (λ r. AreSealsOf plan.now.header r.0.network.seals) }
     // Where the nodes have a key, ticks go by the clock.
     ensures pace { IfOk result (λ r. key_list r.0.network.seals.nodes ≢ [] → r.0.pace ≡ Pace.Clock) }
+    // Only the port that the genesis names, where the node listens at another one, may be one at which it is not heard.
+    ensures unheard { IfOk result (λ r. IfSome r.0.unheard (λ port. misnamed plan.now.header plan.now.port ≡ Some port)) }
 {
     warn_of_members(plan, err);
-    warn_of_port(plan, err);
     let (network, place) = network_of(rt, alloc, &plan.header, plan.port, &plan.options, err)?;
-    let socket = open_socket_at(rt, place, err)?;
+    let mut socket = open_socket_at(rt, place, err)?;
+    let unheard = warn_of_port(alloc, plan, &network, &mut socket, err)?;
     let lock = FolderLock::take(rt, alloc, plan.folder, err)?;
     let device = open_device(rt, alloc, plan.folder, err)?;
     let pace = pace_with(&network.seals, plan.pace);
@@ -156,6 +179,7 @@ pub fn open_resources<R: Files<File = File> + Net, E: Write>(
         socket,
         network,
         pace,
+        unheard,
     };
     Ok((resources, lock))
 }

@@ -1,6 +1,6 @@
 //! A node: its start from a device, and its turns.
 
-ghost use Rattle.std.specs.Prelude.{◌≡◌, ◌≤◌, ◌^◌, ◌⊎◌, ℕ, None, IfOk, IfErr, OnOk, OnErr};
+ghost use Rattle.std.specs.Prelude.{◌≡◌, ◌≤◌, ◌^◌, ◌⊎◌, None, IfOk, IfErr, OnOk, OnErr};
 ghost use Rattle.lk_recovery.specs.Faults.{fault_number};
 ghost use Rattle.lk_replica.specs.ReplicaValue.{ReplicaValue};
 ghost use Rattle.lk_replica.specs.Revived.{MayGoOn};
@@ -87,6 +87,7 @@ pub fn revive<M: Machine, D: LogDisk + Drop, S: DatagramSocket + Drop, L: Log>(
         socket,
         network,
         pace,
+        unheard: _,
     } = resources;
     let replica = take_up::<M, D, L>(alloc, header, device, log)?;
     let cluster = header.genesis().cluster;
@@ -142,7 +143,7 @@ fn end_turn<M: Machine, D: LogDisk + Drop, S: DatagramSocket + Drop, L: Log, O: 
     ensures acts { ActsBeside IsShown S.is_telling buffer.old.asked buffer.old.reported server.old server.new }
     ensures goes_on { OnOk result (GoesOn server.new) }
     ensures leaves { OnErr result (LeavesOff server.new) }
-    ensures spent { buffer.new.asked ≡ None }
+    ensures spent { (buffer.new.asked ≡ None) × (buffer.new.reported ≡ None) }
     ensures failure { TellsFailure server.new }
     ensures passes { IfErr result (λ f. f ≡ ServiceFault.Send → ⊥) }
 {
@@ -175,13 +176,14 @@ fn take_turn<
 ) -> Result<(), ServiceFault>
     // Its replica was given as one group just what it wrote to itself, or what was taken of what came, and a tick
     // where one was due. Of the letters that it said it keeps none but those of the node to itself, after the ones
-    // that wait. After that the probe that was kept, or else the first of those that came, is answered, and a node is
-    // asked where that is due. No node of another genesis has led it.
-    ensures turn { OnOk result (TakesTurnWith ⟦<Replica<M, D> as NodeReplica>⟧.Says S.is_telling buffer.old.asked GoesOn server.old server.new) }
-    ensures spent { OnOk result (buffer.new.asked ≡ None) }
+    // that wait. After that the probe that was kept, or else the first of those that came, is answered, what the report
+    // tells that was kept, or else the first of those that came, is learned, and a node is asked where that is due. No
+    // node of another genesis has led it.
+    ensures turn { OnOk result (TakesTurnWith ⟦<Replica<M, D> as NodeReplica>⟧.Says S.is_telling buffer.old.asked buffer.old.reported GoesOn server.old server.new) }
+    ensures spent { OnOk result ((buffer.new.asked ≡ None) × (buffer.new.reported ≡ None)) }
     // The turn ended the replica, and after that nothing is sent and no probe is answered; or it is such a turn, and a
     // node of another genesis has led the node.
-    ensures ends { OnErr result (EndsTurn ⟦<Replica<M, D> as NodeReplica>⟧.Says S.is_telling server.old server.new ⊎ TakesTurnWith ⟦<Replica<M, D> as NodeReplica>⟧.Says S.is_telling buffer.old.asked LeavesOff server.old server.new) }
+    ensures ends { OnErr result (EndsTurn ⟦<Replica<M, D> as NodeReplica>⟧.Says S.is_telling server.old server.new ⊎ TakesTurnWith ⟦<Replica<M, D> as NodeReplica>⟧.Says S.is_telling buffer.old.asked buffer.old.reported LeavesOff server.old server.new) }
     ensures passes { IfErr result (λ f. f ≡ ServiceFault.Send → ⊥) }
 {
     match node_turn(server, buffer, metronome, log) {
@@ -203,6 +205,7 @@ fn take_turns<
     clock: &C,
     server: &mut NodeServer<M, D, S>,
     plan: &NodePlan<'_>,
+    reminder: PortReminder,
     log: &L,
     observer: &mut O,
     err: &mut E,
@@ -216,7 +219,7 @@ fn take_turns<
 {
     let mut buffer = ReceiveBuffer::new();
     let mut metronome = Metronome::new(clock);
-    let mut reminder = PortReminder::of(plan);
+    let mut reminder = reminder;
     'turns: for _ in 0..TURNS {
         take_turn::<M, D, S, &C, L, O, E>(
             server,
@@ -227,7 +230,7 @@ fn take_turns<
             observer,
             err,
         )?;
-        reminder.turn(server, plan, err);
+        let _ = reminder.turn(server, plan, err);
     }
     Ok(())
 }
@@ -246,6 +249,7 @@ fn serve_turns<
     clock: &C,
     server: NodeServer<M, D, S>,
     plan: &NodePlan<'_>,
+    reminder: PortReminder,
     log: &L,
     observer: &mut O,
     err: &mut E,
@@ -256,7 +260,7 @@ fn serve_turns<
     let mut server = server;
     log_port(log, plan.port);
     observe_start(server.replica(), observer);
-    take_turns(clock, &mut server, plan, log, observer, err)
+    take_turns(clock, &mut server, plan, reminder, log, observer, err)
 }
 
 /// Starts the server of a node, and takes 2^48 turns.
@@ -283,8 +287,9 @@ fn serve<
         ⊎ EndsEarly (IsBegun M.meaning D.is_honest (D.disk resources.device) plan.now.header) plan.now.header resources.network.seals ⟦<Replica<M, D> as NodeReplica>⟧.Says S.is_telling (2 ^ 48)
         ⊎ LeavesEarly (IsBegun M.meaning D.is_honest (D.disk resources.device) plan.now.header) plan.now.header resources.network.seals ⟦<Replica<M, D> as NodeReplica>⟧.Says S.is_telling (2 ^ 48)) }
 {
+    let reminder = PortReminder::of(resources.unheard);
     let server = revive_plan::<M, D, S, L, E>(alloc, plan, resources, log, err)?;
-    serve_turns(clock, server, plan, log, observer, err)
+    serve_turns(clock, server, plan, reminder, log, observer, err)
 }
 
 /// Runs a node on these resources, and tells an observer what happens to it. The status is 0 after 2^48 turns, and 1

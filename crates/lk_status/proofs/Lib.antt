@@ -2,3 +2,4 @@ mod Serving
 mod Gathered
 mod Measuring
 mod Writing
+mod Showing

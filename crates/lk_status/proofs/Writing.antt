@@ -2,7 +2,7 @@
 use Rattle.std.proofs.Common.{◌≡◌, ℕ, ◌+◌, false, List, [], ◌∷◌, ◌++◌, Option, Some, None, take, sym, ap, subst, ◌∙◌, append_assoc}
 use Rattle.std.specs.List.{flat_map}
 use Rattle.std.proofs.lemmas.List.{append-nil, flat_map_more}
-use Rattle.std.specs.Io.KnownBytes.{Appends}
+use Rattle.std.specs.Io.KnownBytes.{Appends, Keeps}
 use Rattle.std.specs.Prelude.{codes}
 use Rattle.lk_probe.specs.declared.probe.Report.{Report}
 use Rattle.lk_status.specs.Lines.{count_text, traffic_text, stranger_word, strangers_text}
@@ -17,6 +17,13 @@ appends_more None b c x y f g = tt
 appends_more (Some xs) None c x y f g = absurd f
 appends_more (Some xs) (Some ys) None x y f g = absurd g
 appends_more (Some xs) (Some ys) (Some zs) x y f g = g ∙ ap (λ (t : List ℕ). t ++ y) f ∙ append_assoc xs x y
+
+-- what is flushed stays
+pub appends_kept : (a b c : Option (List ℕ)) (x : List ℕ) → Appends a b x → Keeps b c → Appends a c x
+appends_kept None b c x f g = tt
+appends_kept (Some xs) None c x f g = absurd f
+appends_kept (Some xs) (Some ys) None x f g = absurd g
+appends_kept (Some xs) (Some ys) (Some zs) x f g = g ∙ f
 
 -- one more of a list
 pub writes_more : {X : Type 0} (f : X → List ℕ) (front : List ℕ) (a b c : Option (List ℕ)) (xs : List X) (i : ℕ) (x : X) → take (i + 1) xs ≡ take i xs ++ x ∷ []

@@ -5,3 +5,5 @@ pub mod Fields
 pub mod Measures
 pub mod Targets
 pub mod Lines
+pub mod Reasons
+pub mod Prints

@@ -1,12 +1,16 @@
--- Which reports answer the probes of a round, and how they are gathered from what comes.
-use Rattle.std.specs.Prelude.{◌≡◌, ◌⊎◌, ℕ, ◌+◌, ◌<◌, ◌≤◌, Bool, false, ◌==◌, ◌||◌, Option, Some, None, List, [], ◌∷◌, ◌++◌, length, if◌then◌else◌}
+-- A round: what is asked, which reports answer its probes, and how they are gathered from what comes.
+use Rattle.std.specs.Prelude.{◌≡◌, ◌⊎◌, ℕ, ◌+◌, ◌%◌, ◌^◌, ◌<◌, ◌≤◌, Bool, true, false, ◌==◌, ◌||◌, Option, Some, None, List, [], ◌∷◌, ◌++◌, length, if◌then◌else◌}
 use Rattle.std.specs.List.{AllByRecursion}
 use Rattle.std.specs.declared.net.socket_addr.SocketAddr.{SocketAddr}
-use Rattle.lk_seal.specs.Seals.{key_list, replied}
-use Rattle.lk_probe.specs.Grammar.{SpellsReport, or_zero}
+use Rattle.lk_seal.specs.Seals.{key_list, asking, framed_by, replied}
+use Rattle.lk_probe.specs.Grammar.{SpellsReport, probe_spelling, or_zero}
 use Rattle.lk_probe.specs.declared.probe.Report.{Report}
 use Rattle.lk_transport.specs.Chains.{Repeats}
+use Rattle.lk_transport.specs.Hearing.{listed, next_of}
+use Rattle.lk_client.specs.Questions.{SendsOnce}
+use Rattle.lk_status.specs.Targets.{target_address}
 use Rattle.lk_status.specs.declared.target.Inquiry.{Inquiry}
+use Rattle.lk_status.specs.declared.target.Target.{Target}
 
 -- ---- the reports of a round
 
@@ -52,21 +56,87 @@ abbrev pub Hears : Inquiry → ℕ → Option (SocketAddr × List ℕ) → List 
 Hears i first None old new = new ≡ old
 Hears i first (Some d) old new = Adds i first d.1 old new
 
--- whoever asks: its socket, and the reports that it has gathered
+-- ---- what is sent
+
+-- the bytes of the probe with this token, in a frame of its client if there is a key
+abbrev pub probe_frame : Inquiry → ℕ → List ℕ
+probe_frame i token =
+    framed_by (key_list i.destination.seals.keys) (asking i.destination.seals.cluster (or_zero i.client))
+    (probe_spelling (record { cluster = i.cluster; node = None; client = i.client; token = token }))
+
+-- what a kind of socket has sent, what is to come to it, and how many of its sends have failed
+module _ {S : Type 0} (sent coming : S → List (SocketAddr × List ℕ)) (failures : S → ℕ) (i : Inquiry) where
+  -- the probe goes to a target, or its send fails, which is counted; nothing comes meanwhile
+  pub record Probes (token : ℕ) (t : Target) (old new : S) : Type 0 where
+    pub sends : SendsOnce (target_address i t, t.port) (probe_frame i token) (sent old) (failures old) (sent new) (failures new)
+    pub still : coming new ≡ coming old
+
+  -- nothing is sent to one that has answered
+  abbrev pub ProbesUnless : Bool → ℕ → Target → S → S → Type 0
+  ProbesUnless true token t old new = new ≡ old
+  ProbesUnless false token t old new = Probes token t old new
+
+  -- each target that has not answered is asked, in turn: the first with this token, and each other with the next
+  abbrev pub ProbesEach : ℕ → List Target → List Report → S → S → Type 0
+  ProbesEach token [] rs old new = new ≡ old
+  ProbesEach token (t ∷ ts) rs old new =
+      (mid : S) × ProbesUnless (has_token token rs) token t old mid × ProbesEach ((token + 1) % (2 ^ 64)) ts rs mid new
+
+-- ---- a round
+
+-- whoever asks: its socket, the reports that it has gathered, and how often nothing came
 pub record Asker (S : Type 0) : Type 0 where
   pub socket : S
   pub reports : List Report
+  pub silences : ℕ
 
--- what comes next to a kind of socket
-module _ {S : Type 0} (next : S → Option (SocketAddr × List ℕ)) (i : Inquiry) (first : ℕ) where
-  abbrev pub Receives : Asker S → Asker S → Type 0
-  Receives old new = Hears i first (next old.socket) old.reports new.reports
+-- some target has not answered, and there is patience left
+abbrev pub GoesOn : Inquiry → List Report → ℕ → Type 0
+GoesOn i rs silences = (length rs < length i.targets.items) × (silences < i.patience)
 
-  -- one receive after another
-  abbrev pub HearsOn : Asker S → Asker S → Type 0
-  HearsOn old new = (count : ℕ) × Repeats Receives count old new
+-- each target has answered, or nothing came as often as there is patience
+abbrev pub IsOver : Inquiry → List Report → ℕ → Type 0
+IsOver i rs silences = (length i.targets.items ≤ length rs) ⊎ (i.patience ≤ silences)
 
-  -- these reports, and no others, are what was heard of some socket on, up to this one, if the socket tells what comes
-  pub record AreHeard (tells : Type 0) (reports : List Report) (ended : S) : Type 0 where
-    pub of_round : AreOfRound i first reports
-    pub heard : tells → (begun : S) × HearsOn (record { socket = begun; reports = [] }) (record { socket = ended; reports = reports })
+module _ {S : Type 0} (sent coming : S → List (SocketAddr × List ℕ)) (failures : S → ℕ) where
+  -- what comes next is received, if anything does, and nothing is sent
+  pub record Receives (old new : S) : Type 0 where
+    pub comes : coming old ≡ listed (next_of coming old) ++ coming new
+    pub silent : sent new ≡ sent old
+    pub spared : failures new ≡ failures old
+
+  module _ (i : Inquiry) (first : ℕ) where
+    -- where nothing came, that is counted, and each target is asked again that has not answered
+    abbrev pub Reacts : Option (SocketAddr × List ℕ) → S → Asker S → Asker S → Type 0
+    Reacts None heard old new =
+        (new.silences ≡ old.silences + 1) × ProbesEach sent coming failures i first i.targets.items new.reports heard new.socket
+    Reacts (Some d) heard old new = (new.silences ≡ old.silences) × (new.socket ≡ heard)
+
+    -- a receive: what came is added if it is a report that is awaited
+    pub record HearsOne (old new : Asker S) : Type 0 where
+      pub heard : S
+      pub receives : Receives old.socket heard
+      pub hears : Hears i first (next_of coming old.socket) old.reports new.reports
+      pub reacts : Reacts (next_of coming old.socket) heard old new
+
+    -- the same while the round goes on
+    abbrev pub HearsNext : Asker S → Asker S → Type 0
+    HearsNext old new = GoesOn i old.reports old.silences × HearsOne old new
+
+    -- one receive after another, until the round is over, or there were 10,000
+    pub record HearsOut (old new : Asker S) : Type 0 where
+      pub receives : ℕ
+      pub heard : Repeats HearsNext receives old new
+      pub over : IsOver i new.reports new.silences ⊎ (receives ≡ 10000)
+
+    -- a round: all targets are asked, and then these reports, and no others, are what is heard
+    pub record IsRound (reports : List Report) (old new : S) : Type 0 where
+      pub asked : S
+      pub silences : ℕ
+      pub asks : ProbesEach sent coming failures i first i.targets.items [] old asked
+      pub hears : HearsOut (record { socket = asked; reports = []; silences = 0 }) (record { socket = new; reports = reports; silences = silences })
+
+    -- they are the reports of a round up to this socket, if it tells what it sends and what comes
+    pub record AreHeard (tells : Type 0) (reports : List Report) (ended : S) : Type 0 where
+      pub of_round : AreOfRound i first reports
+      pub heard : tells → (begun : S) × IsRound reports begun ended

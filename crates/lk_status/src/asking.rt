@@ -1,9 +1,9 @@
-ghost use Rattle.std.specs.Prelude.{◌≡◌, ◌↔◌, IfOk, OnOk, IfSome, IsNone, IsSomeAnd, IsTrue};
+ghost use Rattle.std.specs.Prelude.{◌≡◌, ◌↔◌, ◌<◌, false, is_some, IfOk, OnOk, IfSome, IsNone, IsSomeAnd, IsTrue};
 ghost use Rattle.lk_probe.specs.declared.probe.Report.{Report as ReportValue};
 ghost use Rattle.lk_transport.specs.Hearing.{next_of};
-ghost use Rattle.lk_status.specs.Rounds.{IsOfRound, AreOfRound, IsReport, IsAwaited, Adds, Hears, HearsOn, AreHeard};
+ghost use Rattle.lk_status.specs.Rounds.{IsOfRound, AreOfRound, IsReport, IsAwaited, Adds, Hears, has_token, Probes, ProbesUnless, ProbesEach, GoesOn, IsOver, Receives, HearsOne, HearsOut, IsRound};
 
-use crate::target::{Inquiry, is_answered};
+use crate::target::{Inquiry, Target, is_answered};
 use lk_probe::Report;
 use lk_transport::fault::ServiceFault;
 use lk_transport::receive_buffer::ReceiveBuffer;
@@ -13,6 +13,40 @@ use std::alloc::Global;
 /// The receives of a round.
 const RECEIVES: u32 = 10_000;
 
+// Sends the probe with that token to a target. What could not be sent is lost.
+fn send_probe<S: DatagramSocket>(
+    socket: &mut S,
+    inquiry: &Inquiry,
+    target: &Target,
+    token: u64,
+    frame: &mut Vec<u8>,
+) -> Result<(), ServiceFault>
+    ensures { OnOk result (S.is_telling → Probes S.sent S.coming S.failures inquiry.now token target.now socket.old socket.new) }
+{
+    let probe = inquiry.probe(token).datagram();
+    let seals = &inquiry.destination.seals;
+    let framed = seals.frame_of(inquiry.client_number(), &probe, frame)?;
+    let _ = socket.send_to(inquiry.place_of(target), framed);
+    Ok(())
+}
+
+// Sends the probe with that token to a target, unless a report has the token.
+fn ask_target<S: DatagramSocket>(
+    socket: &mut S,
+    inquiry: &Inquiry,
+    target: &Target,
+    token: u64,
+    reports: &[Report],
+    frame: &mut Vec<u8>,
+) -> Result<(), ServiceFault>
+    ensures { OnOk result (S.is_telling → ProbesUnless S.sent S.coming S.failures inquiry.now (has_token token reports.now) token target.now socket.old socket.new) }
+{
+    if is_answered(reports, token) {
+        return Ok(());
+    }
+    send_probe(socket, inquiry, target, token, frame)
+}
+
 /// Sends a probe to each target that has not reported, the first with that token and each other with the next. What
 /// could not be sent is lost.
 fn send_probes<S: DatagramSocket>(
@@ -21,16 +55,14 @@ fn send_probes<S: DatagramSocket>(
     inquiry: &Inquiry,
     first: u64,
     reports: &[Report],
-) -> Result<(), ServiceFault> {
+) -> Result<(), ServiceFault>
+    ensures { OnOk result (S.is_telling → ProbesEach S.sent S.coming S.failures inquiry.now first inquiry.now.targets.items reports.now socket.old socket.new) }
+{
     let mut frame = Vec::new(alloc);
     let mut token = first;
-    for target in inquiry.targets.as_slice() {
-        if !is_answered(reports, token) {
-            let probe = inquiry.probe(token).datagram();
-            let seals = &inquiry.destination.seals;
-            let framed = seals.frame_of(inquiry.client_number(), &probe, &mut frame)?;
-            let _ = socket.send_to(inquiry.place_of(target), framed);
-        }
+    let targets = inquiry.targets.as_slice();
+    'targets: for target in targets {
+        ask_target(socket, inquiry, target, token, reports, &mut frame)?;
         token = token.wrapping_add(1);
     }
     Ok(())
@@ -93,6 +125,15 @@ fn add(
     Ok(())
 }
 
+// Receives what comes next.
+#[tactic(auto, using(crate::proofs::Gathered::received))]
+fn receive<S: DatagramSocket>(socket: &mut S, buffer: &mut ReceiveBuffer)
+    ensures receives { S.is_telling → Receives S.sent S.coming S.failures socket.old socket.new }
+    ensures last { S.is_telling → next_of S.coming socket.old ≡ buffer.new.last }
+{
+    buffer.receive(socket);
+}
+
 /// Hears what comes next, and adds it if it is a report that is awaited. Whether anything came.
 #[tactic(auto, using(crate::proofs::Gathered::hears_none, crate::proofs::Gathered::hears_some))]
 fn hear<S: DatagramSocket>(
@@ -102,10 +143,12 @@ fn hear<S: DatagramSocket>(
     first: u64,
     reports: &mut Vec<Report>,
 ) -> Result<bool, ServiceFault>
+    ensures receives { S.is_telling → Receives S.sent S.coming S.failures socket.old socket.new }
+    ensures came { IfOk result (λ is. S.is_telling → is_some (next_of S.coming socket.old) ≡ is) }
     ensures hears { OnOk result (S.is_telling → Hears inquiry.now first (next_of S.coming socket.old) reports.old.items reports.new.items) }
     ensures of_round { OnOk result (AreOfRound inquiry.now first reports.old.items → AreOfRound inquiry.now first reports.new.items) }
 {
-    buffer.receive(socket);
+    receive(socket, buffer);
     let Some((bytes, _)) = buffer.heard() else {
         return Ok(false);
     };
@@ -114,6 +157,7 @@ fn hear<S: DatagramSocket>(
 }
 
 /// Hears what comes next. Where nothing came, that is counted, and whoever is silent is asked again.
+#[tactic(auto, using(crate::proofs::Gathered::hears_some_one, crate::proofs::Gathered::hears_no_one))]
 fn hear_or_ask<S: DatagramSocket>(
     alloc: Global,
     socket: &mut S,
@@ -123,14 +167,26 @@ fn hear_or_ask<S: DatagramSocket>(
     reports: &mut Vec<Report>,
     silences: &mut u32,
 ) -> Result<(), ServiceFault>
-    ensures hears { OnOk result (S.is_telling → Hears inquiry.now first (next_of S.coming socket.old) reports.old.items reports.new.items) }
+    requires { silences.old < 4294967295 }
+    ensures hears { OnOk result (S.is_telling → HearsOne S.sent S.coming S.failures inquiry.now first
+        (record { socket = socket.old; reports = reports.old.items; silences = silences.old })
+        (record { socket = socket.new; reports = reports.new.items; silences = silences.new })) }
     ensures of_round { OnOk result (AreOfRound inquiry.now first reports.old.items → AreOfRound inquiry.now first reports.new.items) }
 {
     if !hear(socket, buffer, inquiry, first, reports)? {
-        *silences = silences.saturating_add(1);
+        *silences += 1;
         send_probes(alloc, socket, inquiry, first, reports)?;
     }
     Ok(())
+}
+
+// Whether each target has reported, or nothing came as often as the inquiry has patience.
+fn is_over(inquiry: &Inquiry, reports: &[Report], silences: u32) -> bool
+    ensures over { IsTrue result ↔ IsOver inquiry.now reports.now silences }
+    ensures goes_on { result ≡ false → GoesOn inquiry.now reports.now silences }
+    ensures room { result ≡ false → silences < 4294967295 }
+{
+    reports.len() >= inquiry.targets.len() || silences >= inquiry.patience
 }
 
 /// Hears until each target has reported, or nothing came as often as the inquiry has patience. How often that was is
@@ -143,13 +199,14 @@ fn gather<S: DatagramSocket>(
     reports: &mut Vec<Report>,
     silences: &mut u32,
 ) -> Result<(), ServiceFault>
-    ensures hears { OnOk result (S.is_telling → HearsOn (next_of S.coming) inquiry.now first
-        (record { socket = socket.old; reports = reports.old.items }) (record { socket = socket.new; reports = reports.new.items })) }
+    ensures hears { OnOk result (S.is_telling → HearsOut S.sent S.coming S.failures inquiry.now first
+        (record { socket = socket.old; reports = reports.old.items; silences = silences.old })
+        (record { socket = socket.new; reports = reports.new.items; silences = silences.new })) }
     ensures of_round { OnOk result (AreOfRound inquiry.now first reports.old.items → AreOfRound inquiry.now first reports.new.items) }
 {
     let mut buffer = ReceiveBuffer::new();
     'receives: for _ in 0..RECEIVES {
-        if reports.len() >= inquiry.targets.len() || *silences >= inquiry.patience {
+        if is_over(inquiry, reports, *silences) {
             return Ok(());
         }
         hear_or_ask(
@@ -174,7 +231,8 @@ pub fn ask_all<S: DatagramSocket>(
     first: u64,
     idle: &mut u32,
 ) -> Result<Vec<Report>, ServiceFault>
-    ensures { IfOk result (λ rs. AreHeard (next_of S.coming) inquiry.now first S.is_telling rs.items socket.new) }
+    ensures round { IfOk result (λ rs. S.is_telling → IsRound S.sent S.coming S.failures inquiry.now first rs.items socket.old socket.new) }
+    ensures of_round { IfOk result (λ rs. AreOfRound inquiry.now first rs.items) }
 {
     let (mut reports, mut silences) = (Vec::new(alloc), 0u32);
     send_probes(alloc, socket, inquiry, first, &reports)?;

@@ -6,6 +6,7 @@ mod asking;
 mod field;
 mod json;
 mod lines;
+mod measure;
 mod prometheus;
 pub mod status;
 pub mod target;

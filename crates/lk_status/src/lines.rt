@@ -1,12 +1,11 @@
 ghost use Rattle.std.specs.Io.KnownBytes.{Appends};
 ghost use Rattle.std.specs.Option.{option_copied};
-ghost use Rattle.std.specs.Prelude.{Option, OnOk};
-ghost use Rattle.lk_probe.specs.declared.probe.Report.{Report as ReportValue};
+ghost use Rattle.std.specs.Prelude.{OnOk};
 ghost use Rattle.lk_status.specs.Lines.{leadership_text, executed_text, snapshot_text, behind_text, promised_text, progress_text, members_text, count_text, traffic_text, node_line, target_line, target_lines, stranger_word, strangers_text, raised_text, majority_text, cluster_line, status_text};
-ghost use Rattle.lk_status.specs.Measures.{IsMeasureOf};
 
+use crate::measure::executed_of;
 use crate::target::{Inquiry, report_with};
-use crate::verdict::{executed_of, has_one_genesis, measure_in, up};
+use crate::verdict::{has_one_genesis, up};
 use lk_probe::{Leadership, Report};
 use lk_types::{Ballot, Member};
 use std::io;
@@ -217,11 +216,11 @@ pub fn write_lines<W: Write>(
     inquiry: &Inquiry,
     first: u64,
     reports: &[Report],
+    measure: Option<&Report>,
     out: &mut W,
 ) -> io::Result<()>
-    ensures { OnOk result ((measure : Option ReportValue) × IsMeasureOf reports.now measure × Appends (W.contents out.old) (W.contents out.new) (status_text first inquiry.now.targets.items reports.now measure)) }
+    ensures { OnOk result (Appends (W.contents out.old) (W.contents out.new) (status_text first inquiry.now.targets.items reports.now (option_copied measure.entry))) }
 {
-    let measure = measure_in(reports);
     write_targets(inquiry, first, reports, executed_of(measure), out)?;
     write_cluster(measure, reports, out)?;
     Ok(())

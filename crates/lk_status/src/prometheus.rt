@@ -1,6 +1,7 @@
 use crate::field::{FIELDS, Row};
+use crate::measure::measure_in;
 use crate::target::{Inquiry, report_with};
-use crate::verdict::{has_one_genesis, is_served, measure_in, up};
+use crate::verdict::{has_one_genesis, is_served, up};
 use lk_probe::Report;
 use std::io;
 use std::io::Write;

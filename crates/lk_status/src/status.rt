@@ -1,7 +1,9 @@
 //! `locks status`.
 
-ghost use Rattle.std.specs.Prelude.{◌≡◌, ◌≢◌, ◌≤◌, ◌↔◌, true, false, length, IfOk, IsTrue};
-ghost use Rattle.lk_transport.specs.Hearing.{next_of};
+ghost use Rattle.std.specs.Io.KnownBytes.{Appends};
+ghost use Rattle.std.specs.Option.{option_copied};
+ghost use Rattle.std.specs.Prelude.{◌≡◌, ◌≢◌, ◌≤◌, ◌↔◌, ◌&&◌, true, false, length, IfOk, OnOk, IsTrue};
+ghost use Rattle.lk_status.specs.Prints.{lines_text, PrintsLines, Prints};
 ghost use Rattle.lk_status.specs.Rounds.{AreHeard};
 ghost use Rattle.lk_status.specs.Outcomes.{IsReady, Shows, IsShownServed};
 ghost use Rattle.lk_status.specs.Verdicts.{IsServed, is_at};
@@ -9,9 +11,10 @@ ghost use Rattle.lk_status.specs.Verdicts.{IsServed, is_at};
 use crate::asking::ask_all;
 use crate::json::write_json;
 use crate::lines::write_lines;
+use crate::measure::measure_in;
 use crate::prometheus::write_metrics;
 use crate::target::Inquiry;
-use crate::verdict::{is_ready, is_served, leader_in};
+use crate::verdict::{is_ready, is_served};
 use crate::why::write_why;
 use lk_probe::Report;
 use lk_transport::fault::ServiceFault;
@@ -52,19 +55,46 @@ struct Round {
     is_ready: bool,
 }
 
+// Writes the lines of a round, and why requests may not be answered.
+#[tactic(auto, using(crate::proofs::Writing::appends_more))]
+fn write_text<W: Write>(
+    inquiry: &Inquiry,
+    first: u64,
+    reports: &[Report],
+    measure: Option<&Report>,
+    out: &mut W,
+) -> io::Result<()>
+    ensures { OnOk result (Appends (W.contents out.old) (W.contents out.new) (lines_text first inquiry.now reports.now (option_copied measure.entry))) }
+{
+    write_lines(inquiry, first, reports, measure, out)?;
+    write_why(measure, reports, out)?;
+    Ok(())
+}
+
+// The same by the measure of the round.
+fn print_lines<W: Write>(
+    inquiry: &Inquiry,
+    first: u64,
+    reports: &[Report],
+    out: &mut W,
+) -> io::Result<()>
+    ensures { OnOk result (PrintsLines first inquiry.now reports.now (W.contents out.old) (W.contents out.new)) }
+{
+    write_text(inquiry, first, reports, measure_in(reports), out)?;
+    out.flush()?;
+    Ok(())
+}
+
 /// Prints the reports of a round. Whether they show that the cluster is served.
 fn print<W: Write>(plan: &Plan, first: u64, reports: &[Report], out: &mut W) -> io::Result<bool>
     ensures served { IfOk result (λ is. IsTrue is ↔ IsServed reports.now) }
+    ensures printed { OnOk result (Prints plan.now.form first plan.now.inquiry reports.now (W.contents out.old) (W.contents out.new)) }
 {
     match plan.form {
-        Form::Lines => {
-            write_lines(&plan.inquiry, first, reports, out)?;
-            write_why(reports, out)?;
-        }
+        Form::Lines => print_lines(&plan.inquiry, first, reports, out)?,
         Form::Json => write_json(&plan.inquiry, first, reports, out)?,
         Form::Prometheus => write_metrics(&plan.inquiry, first, reports, out)?,
     }
-    out.flush()?;
     Ok(is_served(reports))
 }
 
@@ -75,10 +105,14 @@ fn pause<S: DatagramSocket>(socket: &mut S, idle: &mut u32) {
     *idle = idle.saturating_add(1);
 }
 
-/// How many positions the leader has executed, where one reports.
+/// How many positions the measure has executed, where it leads.
 fn goal_in(reports: &[Report]) -> Option<u64> {
-    let leader = leader_in(reports)?;
-    Some(leader.status.progress.executed.get())
+    match measure_in(reports) {
+        Some(measure) if measure.status.leadership.leads => {
+            Some(measure.status.progress.executed.get())
+        }
+        _ => None,
+    }
 }
 
 /// Whether all that were asked report, and have executed what is the goal.
@@ -101,7 +135,7 @@ fn wait_until_ready<S: DatagramSocket>(
     most: u32,
 ) -> Result<Round, ServiceFault>
     ensures ready { IfOk result (λ r. IsTrue r.is_ready → IsReady inquiry.now r.reports.items) }
-    ensures heard { IfOk result (λ r. AreHeard (next_of S.coming) inquiry.now r.first S.is_telling r.reports.items socket.new) }
+    ensures heard { IfOk result (λ r. AreHeard S.sent S.coming S.failures inquiry.now r.first S.is_telling r.reports.items socket.new) }
 {
     let (mut idle, mut goal) = (0, None);
     let mut round = ask_once(alloc, socket, inquiry, 0, &mut idle)?;
@@ -126,7 +160,7 @@ fn ask_once<S: DatagramSocket>(
     idle: &mut u32,
 ) -> Result<Round, ServiceFault>
     ensures fresh { IfOk result (λ r. r.is_ready ≡ false) }
-    ensures heard { IfOk result (λ r. AreHeard (next_of S.coming) inquiry.now r.first S.is_telling r.reports.items socket.new) }
+    ensures heard { IfOk result (λ r. AreHeard S.sent S.coming S.failures inquiry.now r.first S.is_telling r.reports.items socket.new) }
 {
     Ok(Round {
         first,
@@ -141,7 +175,7 @@ fn round_of<S: DatagramSocket>(
     socket: &mut S,
     plan: &Plan,
 ) -> Result<Round, ServiceFault>
-    ensures heard { IfOk result (λ r. AreHeard (next_of S.coming) plan.now.inquiry r.first S.is_telling r.reports.items socket.new) }
+    ensures heard { IfOk result (λ r. AreHeard S.sent S.coming S.failures plan.now.inquiry r.first S.is_telling r.reports.items socket.new) }
     ensures ready { plan.now.seconds ≡ 0 → IfOk result (λ r. r.is_ready ≡ true) }
     ensures waited { plan.now.seconds ≢ 0 → IfOk result (λ r. IsTrue r.is_ready → IsReady plan.now.inquiry r.reports.items) }
 {
@@ -154,6 +188,13 @@ fn round_of<S: DatagramSocket>(
     Ok(round)
 }
 
+// Whether both are so.
+fn are_both(one: bool, other: bool) -> bool
+    ensures { result ≡ (one && other) }
+{
+    one && other
+}
+
 /// Asks, and prints what is reported. Whether the cluster is served, and ready where that was waited for.
 fn ask_and_print<S: DatagramSocket, W: Write>(
     alloc: Global,
@@ -161,11 +202,11 @@ fn ask_and_print<S: DatagramSocket, W: Write>(
     plan: &Plan,
     out: &mut W,
 ) -> Result<bool, ServiceFault>
-    ensures { IfOk result (λ is. Shows (next_of S.coming) S.is_telling plan.now is socket.new) }
+    ensures { IfOk result (λ is. Shows S.sent S.coming S.failures S.is_telling plan.now is socket.new) }
 {
     let round = round_of(alloc, socket, plan)?;
     match print(plan, round.first, &round.reports, out) {
-        Ok(is_served) => Ok(is_served && round.is_ready),
+        Ok(is_served) => Ok(are_both(is_served, round.is_ready)),
         Err(_) => Err(ServiceFault::Write),
     }
 }
@@ -180,9 +221,9 @@ pub fn status<S: DatagramSocket, W: Write, E: Write>(
     err: &mut E,
 ) -> u8
     ensures status { result ≤ 1 }
-    // Status 0 only where the reports to some round show that the cluster is served, and is ready if that is waited
-    // for: they are what was heard then, each a datagram that came and reads as that report.
-    ensures served { result ≡ 0 → IsShownServed (next_of S.coming) S.is_telling plan.now socket.new }
+    // Status 0 only where all targets were asked, and the reports to that show that the cluster is served, and is ready
+    // if that is waited for: they are what was heard then, each a datagram that came and reads as that report.
+    ensures served { result ≡ 0 → IsShownServed S.sent S.coming S.failures S.is_telling plan.now socket.new }
 {
     match ask_and_print(alloc, socket, plan, out) {
         Ok(true) => 0,

@@ -2,8 +2,6 @@
 
 ghost use Rattle.std.specs.Prelude.{◌≡◌, ◌↔◌, ◌≤◌, IsTrue, length};
 ghost use Rattle.lk_status.specs.Verdicts.{IsServed, has_answered, up, has_majority, some_leads, tells, one_genesis, is_served, all_have, is_ready};
-ghost use Rattle.std.specs.Option.{option_copied};
-ghost use Rattle.lk_status.specs.Measures.{IsLeaderOf, IsFurthestOf, IsMeasureOf, is_after, ahead, executed_of, further};
 
 use lk_probe::{DIGEST, Report};
 use lk_types::{Member, NodeNo};
@@ -108,81 +106,4 @@ pub fn is_ready(asked: usize, executed: u64, reports: &[Report]) -> bool
     ensures { result ≡ is_ready asked executed reports.now }
 {
     reports.len() == asked && all_have(executed, reports) && is_served(reports)
-}
-
-/// Whether its ballot is above that of the other.
-fn is_after(report: &Report, other: Option<&Report>) -> bool
-    ensures { result ≡ is_after report.now (option_copied other.entry) }
-{
-    match other {
-        Some(other) => {
-            let promised = other.status.leadership.promised;
-            promised.is_below(report.status.leadership.promised)
-        }
-        None => true,
-    }
-}
-
-/// The one that leads, by the greater ballot where both do.
-fn ahead<'a>(leader: Option<&'a Report>, report: &'a Report) -> Option<&'a Report>
-    ensures { option_copied result ≡ ahead (option_copied leader.entry) report.now }
-{
-    if report.status.leadership.leads && is_after(report, leader) {
-        Some(report)
-    } else {
-        leader
-    }
-}
-
-/// The report of a node that leads, by the greatest ballot where several say so.
-pub fn leader_in<'a>(reports: &'a [Report]) -> Option<&'a Report>
-    ensures { IsLeaderOf reports.now (option_copied result) }
-{
-    let mut leader: Option<&Report> = None;
-    'all: for report in reports {
-        leader = ahead(leader, report);
-    }
-    leader
-}
-
-/// The one that has executed more.
-fn further<'a>(furthest: Option<&'a Report>, report: &'a Report) -> Option<&'a Report>
-    ensures { option_copied result ≡ further (option_copied furthest.entry) report.now }
-{
-    if executed_of(furthest) <= report.status.progress.executed.get() {
-        Some(report)
-    } else {
-        furthest
-    }
-}
-
-/// The report of a node that has executed most.
-fn furthest_in<'a>(reports: &'a [Report]) -> Option<&'a Report>
-    ensures { IsFurthestOf reports.now (option_copied result) }
-{
-    let mut furthest: Option<&Report> = None;
-    'all: for report in reports {
-        furthest = further(furthest, report);
-    }
-    furthest
-}
-
-/// The report by which the others are measured: that of the leader, or of who has executed most where nobody leads.
-pub fn measure_in<'a>(reports: &'a [Report]) -> Option<&'a Report>
-    ensures { IsMeasureOf reports.now (option_copied result) }
-{
-    match leader_in(reports) {
-        Some(leader) => Some(leader),
-        None => furthest_in(reports),
-    }
-}
-
-/// How many positions the node of a report has executed, 0 where there is none.
-pub fn executed_of(report: Option<&Report>) -> u64
-    ensures { result ≡ executed_of (option_copied report.entry) }
-{
-    match report {
-        Some(report) => report.status.progress.executed.get(),
-        None => 0,
-    }
 }

@@ -1,7 +1,10 @@
-ghost use Rattle.std.specs.Prelude.{◌≡◌};
+ghost use Rattle.std.specs.Io.KnownBytes.{Appends};
+ghost use Rattle.std.specs.Option.{option_copied};
+ghost use Rattle.std.specs.Prelude.{◌≡◌, OnOk};
 ghost use Rattle.lk_status.specs.Fields.{is_member, followed};
+ghost use Rattle.lk_status.specs.Reasons.{deaf_line, outside_line, node_reason, node_reasons, nobody_line, majority_line, mute_text, leaderless_line, geneses_reason, leader_reason, members_reason, why_text};
 
-use crate::verdict::{has_majority, has_one_genesis, leader_in, measure_in};
+use crate::verdict::{has_majority, has_one_genesis};
 use lk_probe::Report;
 use lk_types::{Member, NodeNo};
 use std::io;
@@ -9,14 +12,6 @@ use std::io::Write;
 
 /// The ticks without a leader from which on a node hears nobody: so long waits the last of seven members.
 const SILENT: u64 = 28;
-
-const NOBODY: &[u8] =
-    b"why: nobody answers: no node runs there, or it has another cluster number or other keys\n";
-
-const NO_MAJORITY: &[u8] = b"why: no majority: start more of the members, on their own folders\n";
-
-const TWO_GENESES: &[u8] =
-    b"why: two geneses: stop the nodes that were started with another --genesis\n";
 
 /// Whether that node is one of these members.
 fn is_among(node: NodeNo, members: &[Member]) -> bool
@@ -38,60 +33,150 @@ fn followed_in(reports: &[Report]) -> Option<NodeNo>
     None
 }
 
-/// Writes that nobody leads, and of whom that comes if it lasts: a node that is followed and does not lead sends and
-/// does not hear.
-fn write_leaderless<W: Write>(reports: &[Report], out: &mut W) -> io::Result<()> {
-    out.write_all(b"why: nobody leads: an election takes seconds; if it lasts, ")?;
-    match followed_in(reports) {
-        Some(node) => writeln!(
-            out,
-            "node {} sends and hears nobody: stop it, and see its --port, the hosts and the keys",
-            node.get()
-        ),
-        None => out.write_all(b"the members do not hear each other\n"),
-    }
+// Writes that nobody answers.
+fn write_nobody<W: Write>(out: &mut W) -> io::Result<()>
+    ensures { OnOk result (Appends (W.contents out.old) (W.contents out.new) nobody_line) }
+{
+    out.write_all(
+        b"why: nobody answers: no node runs there, or it has another cluster number or other keys\n",
+    )?;
+    Ok(())
 }
 
-/// Writes which nodes are no members, and which hear nobody.
-fn write_deaf<W: Write>(members: &[Member], reports: &[Report], out: &mut W) -> io::Result<()> {
-    for report in reports {
-        let (node, leadership) = (report.node, &report.status.leadership);
-        if !is_among(node, members) {
-            writeln!(
-                out,
-                "why: node {} is not a member: it has left, or has to join",
-                node.get()
-            )?;
-        } else if !leadership.leads && leadership.silence >= SILENT {
-            writeln!(
-                out,
-                "why: node {} hears nobody: see its --port, the hosts and the keys",
-                node.get()
-            )?;
-        }
+// Writes that too few answer.
+fn write_no_majority<W: Write>(out: &mut W) -> io::Result<()>
+    ensures { OnOk result (Appends (W.contents out.old) (W.contents out.new) majority_line) }
+{
+    out.write_all(b"why: no majority: start more of the members, on their own folders\n")?;
+    Ok(())
+}
+
+// Writes that the reports tell two geneses, if they do.
+fn write_geneses<W: Write>(reports: &[Report], out: &mut W) -> io::Result<()>
+    ensures { OnOk result (Appends (W.contents out.old) (W.contents out.new) (geneses_reason reports.now)) }
+{
+    if !has_one_genesis(reports) {
+        out.write_all(
+            b"why: two geneses: stop the nodes that were started with another --genesis\n",
+        )?;
     }
     Ok(())
 }
 
-/// Writes why a cluster that somebody answers for is not served. Without a majority nobody can lead, and who is up hears
-/// nobody.
-fn write_reasons<W: Write>(measure: &Report, reports: &[Report], out: &mut W) -> io::Result<()> {
-    if !has_one_genesis(reports) {
-        out.write_all(TWO_GENESES)?;
+// Writes of whom it comes that nobody leads: of a node that is followed and does not lead, which sends and does not
+// hear, or else of all.
+fn write_mute<W: Write>(node: Option<NodeNo>, out: &mut W) -> io::Result<()>
+    ensures { OnOk result (Appends (W.contents out.old) (W.contents out.new) (mute_text node)) }
+{
+    match node {
+        Some(node) => writeln!(
+            out,
+            "node {} sends and hears nobody: stop it, and see its --port, the hosts and the keys",
+            node.get()
+        )?,
+        None => out.write_all(b"the members do not hear each other\n")?,
     }
-    if !has_majority(measure, reports) {
-        return out.write_all(NO_MAJORITY);
+    Ok(())
+}
+
+// Writes that nobody leads, and of whom that comes if it lasts.
+#[tactic(auto, using(crate::proofs::Writing::appends_more))]
+fn write_leaderless<W: Write>(node: Option<NodeNo>, out: &mut W) -> io::Result<()>
+    ensures { OnOk result (Appends (W.contents out.old) (W.contents out.new) (leaderless_line node)) }
+{
+    out.write_all(b"why: nobody leads: an election takes seconds; if it lasts, ")?;
+    write_mute(node, out)?;
+    Ok(())
+}
+
+// Writes that the measure does not lead, if it does not.
+fn write_unled<W: Write>(measure: &Report, reports: &[Report], out: &mut W) -> io::Result<()>
+    ensures { OnOk result (Appends (W.contents out.old) (W.contents out.new) (leader_reason measure.now reports.now)) }
+{
+    if !measure.status.leadership.leads {
+        write_leaderless(followed_in(reports), out)?;
     }
-    if leader_in(reports).is_none() {
-        write_leaderless(reports, out)?;
+    Ok(())
+}
+
+// Writes that a node hears nobody, if it does not.
+fn write_deaf<W: Write>(report: &Report, out: &mut W) -> io::Result<()>
+    ensures { OnOk result (Appends (W.contents out.old) (W.contents out.new) (deaf_line report.now)) }
+{
+    let leadership = &report.status.leadership;
+    if !leadership.leads && leadership.silence >= SILENT {
+        writeln!(
+            out,
+            "why: node {} hears nobody: see its --port, the hosts and the keys",
+            report.node.get()
+        )?;
     }
-    write_deaf(measure.status.members.as_slice(), reports, out)
+    Ok(())
+}
+
+// Writes that a node is no member.
+fn write_outside<W: Write>(node: NodeNo, out: &mut W) -> io::Result<()>
+    ensures { OnOk result (Appends (W.contents out.old) (W.contents out.new) (outside_line node)) }
+{
+    let node = node.get();
+    writeln!(
+        out,
+        "why: node {node} is not a member: it has left, or has to join"
+    )?;
+    Ok(())
+}
+
+// Writes that a node is none of these members, or hears nobody.
+fn write_node<W: Write>(members: &[Member], report: &Report, out: &mut W) -> io::Result<()>
+    ensures { OnOk result (Appends (W.contents out.old) (W.contents out.new) (node_reason members.now report.now)) }
+{
+    if is_among(report.node, members) {
+        write_deaf(report, out)?;
+    } else {
+        write_outside(report.node, out)?;
+    }
+    Ok(())
+}
+
+// Writes which nodes are no members, and which hear nobody.
+fn write_nodes<W: Write>(members: &[Member], reports: &[Report], out: &mut W) -> io::Result<()>
+    ensures { OnOk result (Appends (W.contents out.old) (W.contents out.new) (node_reasons members.now reports.now)) }
+{
+    'all: for report in reports {
+        write_node(members, report, out)?;
+    }
+    Ok(())
+}
+
+// Writes that there is no majority, or else that nobody leads and of whom that comes.
+#[tactic(auto, using(crate::proofs::Writing::appends_more))]
+fn write_members<W: Write>(measure: &Report, reports: &[Report], out: &mut W) -> io::Result<()>
+    ensures { OnOk result (Appends (W.contents out.old) (W.contents out.new) (members_reason measure.now reports.now)) }
+{
+    if has_majority(measure, reports) {
+        write_unled(measure, reports, out)?;
+        write_nodes(measure.status.members.as_slice(), reports, out)?;
+    } else {
+        write_no_majority(out)?;
+    }
+    Ok(())
 }
 
 /// Writes in words why requests may not be answered, where that can be told.
-pub fn write_why<W: Write>(reports: &[Report], out: &mut W) -> io::Result<()> {
-    match measure_in(reports) {
-        Some(measure) => write_reasons(measure, reports, out),
-        None => out.write_all(NOBODY),
+#[tactic(auto, using(crate::proofs::Writing::appends_more))]
+pub fn write_why<W: Write>(
+    measure: Option<&Report>,
+    reports: &[Report],
+    out: &mut W,
+) -> io::Result<()>
+    ensures { OnOk result (Appends (W.contents out.old) (W.contents out.new) (why_text (option_copied measure.entry) reports.now)) }
+{
+    match measure {
+        Some(measure) => {
+            write_geneses(reports, out)?;
+            write_members(measure, reports, out)?;
+        }
+        None => write_nobody(out)?,
     }
+    Ok(())
 }

@@ -42,6 +42,7 @@ fn begun(alloc: Global, node: u32, port: u16) -> Result<LockServer, Fail> {
         socket: MemorySocket::new(alloc, port),
         network: Network::local(header.genesis().cluster, header.node()),
         pace: Pace::Datagrams,
+        unheard: None,
     };
     match revive::<LockTable, _, _, _>(alloc, &header, resources, &Discard) {
         Ok(server) => Ok(server),

@@ -1,6 +1,5 @@
 -- Who asks a node by a probe, and where the answer goes.
 use Rattle.std.specs.Prelude.{◌≡◌, ◌≢◌, ◌⊎◌, ◌++◌, ℕ, List, [], ◌∷◌, length, Option, Some, None, IsSome}
-use Rattle.std.specs.List.{AllByRecursion}
 use Rattle.std.specs.declared.net.socket_addr.SocketAddr.{SocketAddr}
 use Rattle.lk_probe.specs.Grammar.{SpellsProbe}
 use Rattle.lk_probe.specs.declared.probe.Probe.{Probe}
@@ -8,7 +7,6 @@ use Rattle.lk_seal.specs.Seals.{key_list, heard}
 use Rattle.lk_seal.specs.declared.seals.Seals.{Seals}
 use Rattle.lk_step.specs.declared.to.To.{To}
 use Rattle.lk_step.specs.declared.to.To.TheVariants.{Node, Client}
-use Rattle.lk_transport.specs.Hearing.{BufferValue}
 use Rattle.lk_transport.specs.Posts.{Tray, Loses, frame_of, keys_for}
 use Rattle.lk_transport.specs.declared.asked.Asked.{Asked}
 
@@ -27,43 +25,6 @@ pub record Asks (s : Seals) (frame : List ℕ) (p : Probe) : Type 0 where
 abbrev pub IsKeptOf : Seals → SocketAddr × List ℕ → Option Asked → Type 0
 IsKeptOf s d None = (p : Probe) → Asks s d.1 p → ⊥
 IsKeptOf s d (Some a) = (a.from ≡ d.0) × Asks s d.1 a.probe
-
--- what is kept of what came last, if something did
-abbrev pub IsKeptOfLast : Seals → Option (SocketAddr × List ℕ) → Option Asked → Type 0
-IsKeptOfLast s None asked = asked ≡ None
-IsKeptOfLast s (Some d) asked = IsKeptOf s d asked
-
--- one probe is kept, the first: where none was, the one that came last, if it is one
-abbrev pub KeepsFirst : Seals → Option (SocketAddr × List ℕ) → Option Asked → Option Asked → Type 0
-KeepsFirst s last (Some a) new = new ≡ Some a
-KeepsFirst s last None new = IsKeptOfLast s last new
-
-pub record Keeps (s : Seals) (old new : BufferValue) : Type 0 where
-  pub last : new.last ≡ old.last
-  pub asked : KeepsFirst s old.last old.asked new.asked
-
--- nobody asks by any of these frames
-abbrev pub AskNothing : Seals → List (SocketAddr × List ℕ) → Type 0
-AskNothing s frames = AllByRecursion (λ (d : SocketAddr × List ℕ). IsKeptOf s d None) frames
-
--- somebody asks by one of these frames, and nobody by an earlier one
-pub record AsksFirst (s : Seals) (frames : List (SocketAddr × List ℕ)) (a : Asked) : Type 0 where
-  pub before : List (SocketAddr × List ℕ)
-  pub frame : SocketAddr × List ℕ
-  pub after : List (SocketAddr × List ℕ)
-  pub are : frames ≡ before ++ frame ∷ after
-  pub none : AskNothing s before
-  pub asks : IsKeptOf s frame (Some a)
-
--- the first probe by which somebody asks in these frames, if there is one
-abbrev pub IsFirstAsked : Seals → List (SocketAddr × List ℕ) → Option Asked → Type 0
-IsFirstAsked s frames None = AskNothing s frames
-IsFirstAsked s frames (Some a) = AsksFirst s frames a
-
--- one probe is kept of these frames: the one that was kept before, or else the first
-abbrev pub KeepsFirstOf : Seals → Option Asked → List (SocketAddr × List ℕ) → Option Asked → Type 0
-KeepsFirstOf s (Some a) frames new = new ≡ Some a
-KeepsFirstOf s None frames new = IsFirstAsked s frames new
 
 -- the client or the node that asks, if the probe names one
 abbrev pub who : Option ℕ → Option ℕ → Option To

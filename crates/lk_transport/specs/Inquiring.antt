@@ -3,12 +3,13 @@ use Rattle.std.specs.Prelude.{◌≡◌, ◌≢◌, ◌⊎◌, ℕ, false, List,
 use Rattle.std.specs.List.{list_any}
 use Rattle.std.specs.declared.net.socket_addr.SocketAddr.{SocketAddr}
 use Rattle.lk_probe.specs.Grammar.{SpellsProbe}
-use Rattle.lk_probe.specs.Neighbours.{Asks, Learns, entry_for, is_due_at, is_open_at}
-use Rattle.lk_probe.specs.Questions.{question}
+use Rattle.lk_probe.specs.Neighbours.{Asks, Doubts, Learns, entry_for, is_due_at, is_open_at}
+use Rattle.lk_probe.specs.Questions.{IsReportedOf, question}
 use Rattle.lk_probe.specs.declared.neighbours.Neighbour.{Neighbour}
 use Rattle.lk_probe.specs.declared.probe.Probe.{Probe}
 use Rattle.lk_probe.specs.declared.reported.Reported.{Reported}
-use Rattle.lk_seal.specs.Seals.{key_list}
+use Rattle.lk_seal.specs.Seals.{key_list, heard}
+use Rattle.lk_seal.specs.declared.seals.Seals.{Seals}
 use Rattle.lk_transport.specs.Addresses.{AddressBook}
 use Rattle.lk_transport.specs.Askers.{SendsTo}
 use Rattle.lk_transport.specs.Posts.{Tray, Loses}
@@ -33,7 +34,25 @@ pub record AsksOne (tells : Type 0) (now node : ℕ) (old new : AddressBook) (be
   pub asked : IsAskedAt now place old new
   pub sends : SendsProbe tells (question old.seals.cluster node) place before after
 
+-- ---- whom it asks again
+
+-- it is doubted that the node at that address is of another genesis, if an address is named
+abbrev pub DoubtsMaybe : Option SocketAddr → AddressBook → AddressBook → Type 0
+DoubtsMaybe None old new = new ≡ old
+DoubtsMaybe (Some place) old new = Doubts place old.neighbours new.neighbours × (new ≡ record old { neighbours = new.neighbours })
+
+-- a node of another genesis may be doubted, and then one question is sent where one is due
+pub record Inquires (tells : Type 0) (now node : ℕ) (old new : AddressBook) (before after : Tray) : Type 0 where
+  pub place : Option SocketAddr
+  pub doubted : AddressBook
+  pub doubts : DoubtsMaybe place old doubted
+  pub asks : AsksOne tells now node doubted new before after
+
 -- ---- what it learns
+
+-- what a frame that came from there tells, if it is a report that answers the question of the node of that number
+abbrev pub IsToldBy : ℕ → Seals → SocketAddr × List ℕ → Option Reported → Type 0
+IsToldBy node s d told = IsReportedOf (question s.cluster node) (d.0, heard s d.1) told
 
 -- what a report tells is known from now on of the node at its address, which was asked and had not told; a report of
 -- another address changes nothing

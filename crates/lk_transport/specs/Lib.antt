@@ -7,3 +7,5 @@ pub mod Hearing
 pub mod Sockets
 pub mod Askers
 pub mod Inquiring
+pub mod Kept
+pub mod Arrivals

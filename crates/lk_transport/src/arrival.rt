@@ -1,5 +1,8 @@
 //! What arrived at a server, for its log.
 
+ghost use Rattle.std.specs.Prelude.{◌≡◌};
+ghost use Rattle.lk_transport.specs.Arrivals.{sender};
+
 use lk_types::{ClientNo, NodeNo};
 use lk_wire::{ContentRef, MessageRef, NodeMessageRef, view};
 use std::fmt;
@@ -54,7 +57,9 @@ impl Arrival {
     }
 
     /// The node that said it, if one did.
-    pub fn node(&self) -> Option<NodeNo> {
+    pub fn node(&self) -> Option<NodeNo>
+        ensures { result ≡ sender self.now }
+    {
         match self {
             Arrival::Want(node) | Arrival::Said(_, node) => Some(*node),
             Arrival::Tick | Arrival::Bad | Arrival::Foreign | Arrival::Request(_) => None,

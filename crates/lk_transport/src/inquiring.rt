@@ -1,9 +1,9 @@
 //! How a node finds out which genesis each node that writes to it was started with.
 
 ghost use Rattle.std.specs.Prelude.{◌≡◌, Some, is_some};
-ghost use Rattle.lk_probe.specs.Neighbours.{bound_in, is_stranger};
+ghost use Rattle.lk_probe.specs.Neighbours.{Doubts, bound_in, is_stranger};
 ghost use Rattle.lk_probe.specs.Questions.{IsReportedOf, question};
-ghost use Rattle.lk_transport.specs.Addresses.{IsSameNetwork};
+ghost use Rattle.lk_transport.specs.Addresses.{IsSameCircle, IsSameNetwork};
 ghost use Rattle.lk_transport.specs.Inquiring.{AsksOne, IsAskedAt, LearnsOf, SendsProbe};
 ghost use Rattle.lk_transport.specs.Posts.{tray_of};
 
@@ -28,6 +28,15 @@ impl Addresses {
             return None;
         }
         self.neighbours.ask(now)
+    }
+
+    // It is doubted that the node at that address is of another genesis: a question is due there again.
+    fn doubt(&mut self, place: SocketAddr)
+        ensures doubts { Doubts place self.old.neighbours self.new.neighbours }
+        ensures circle { IsSameCircle self.old self.new }
+        ensures others { self.new ≡ record self.old { neighbours = self.new.neighbours } }
+    {
+        self.neighbours.doubt(place);
     }
 
     // Learns what a report tells of the node at an address that was asked.
@@ -63,6 +72,15 @@ impl<S: DatagramSocket + Drop> SocketPost<S> {
         ensures others { self.new ≡ record self.old { addresses = self.new.addresses } }
     {
         self.addresses.learn(reported)
+    }
+
+    /// It is doubted that the node at that address is of another genesis: a question is due there again.
+    pub fn doubt(&mut self, place: SocketAddr)
+        ensures doubts { Doubts place self.old.addresses.neighbours self.new.addresses.neighbours }
+        ensures circle { IsSameCircle self.old.addresses self.new.addresses }
+        ensures others { self.new ≡ record self.old { addresses = record self.old.addresses { neighbours = self.new.addresses.neighbours } } }
+    {
+        self.addresses.doubt(place);
     }
 
     // Sends the question of this node to an address.

@@ -186,6 +186,7 @@ impl<S: DatagramSocket + Drop> SocketPost<S> {
         ensures comes { S.is_telling → self.old.coming ≡ listed buffer.new.last ++ self.new.coming }
         ensures none { S.is_telling → buffer.new.last ≡ None → self.old.coming ≡ [] }
         ensures asked { buffer.new.asked ≡ buffer.old.asked }
+        ensures reported { buffer.new.reported ≡ buffer.old.reported }
         ensures others { self.new ≡ record self.old { coming = self.new.coming } }
     {
         buffer.receive(&mut self.socket);
@@ -196,6 +197,7 @@ impl<S: DatagramSocket + Drop> SocketPost<S> {
         ensures comes { S.is_telling → self.old.coming ≡ listed buffer.new.last ++ self.new.coming }
         ensures none { S.is_telling → buffer.new.last ≡ None → self.old.coming ≡ [] }
         ensures asked { buffer.new.asked ≡ buffer.old.asked }
+        ensures reported { buffer.new.reported ≡ buffer.old.reported }
         ensures others { self.new ≡ record self.old { coming = self.new.coming } }
     {
         buffer.receive_waiting(&mut self.socket);

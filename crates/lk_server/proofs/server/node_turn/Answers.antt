@@ -1,6 +1,8 @@
-use Rattle.std.proofs.Common.{inl, inr, ap}
-use Rattle.lk_server.specs.Servers.{ServerValue}
-use Rattle.lk_server.proofs.Carrying.{on_err, both_on_ok, both_on_err}
+use Rattle.std.proofs.Common.{ℕ, List, inl, inr, ap, sym, subst}
+use Rattle.std.specs.declared.net.socket_addr.SocketAddr.{SocketAddr}
+use Rattle.lk_transport.specs.Kept.{KeepsOf}
+use Rattle.lk_server.specs.Servers.{ServerValue, HasReceived, TakesTurn}
+use Rattle.lk_server.proofs.Carrying.{on_err}
 use Rattle.lk_server.proofs.Turning.{same_by, received_on, turn_of, last_of, last_within}
 use Rattle.lk_server.proofs.server.node_turn.Goals as goal
 
@@ -12,29 +14,31 @@ returns-then-not-branch-clause-turn g c =
 pub returns-clause-turn : goal.returns-clause-turn
 returns-clause-turn g c =
     let r = g.R.NodeReplica in
+    let tells = g.S.DatagramSocket.is_telling in
     let o = c.gather_turn.ensures.others in
     let t = c.in_ok-gather_turn.ensures.takes (cc c.if-not-branch.false) in
     let e = c.release.ensures in
-    both_on_ok c.release.result (λ gives alive. (
+    subst (λ (s : ServerValue _). (frames : List (SocketAddr × List ℕ)) × HasReceived tells frames c.args.server.now s × TakesTurn r.Says tells frames c.args.server.now s × KeepsOf c.args.server.now.node c.args.server.now.addresses.seals frames c.args.buffer.now c.gather_turn.new.buffer) (sym c.note_sync.ensures) (
       t.0,
-      received_on g.S.DatagramSocket.is_telling t.0 c.args.server.now c.gather_turn.new.self c.release.new.self e.still t.1.received,
-      inl (turn_of r.Says r.Gathers g.S.DatagramSocket.is_telling t.0 c.begin-group.result c.gather_turn.new.group c.args.server.now c.gather_turn.new.self c.release.new.self c.begin-group.ensures t.1 gives
-          (ap (λ (s : ServerValue _). s.sent) o) (ap (λ (s : ServerValue _). s.socket_failures) o) (same_by c.args.server.now c.gather_turn.new.self o) e.addresses e.received e.same alive),
+      received_on tells t.0 c.args.server.now c.gather_turn.new.self c.release.new.self e.still t.1.received,
+      inl (turn_of r.Says r.Gathers tells t.0 c.begin-group.result c.gather_turn.new.group c.args.server.now c.gather_turn.new.self c.release.new.self c.begin-group.ensures t.1 c.in_ok-release.ensures.gives
+          (ap (λ (s : ServerValue _). s.sent) o) (ap (λ (s : ServerValue _). s.socket_failures) o) (same_by c.args.server.now c.gather_turn.new.self o) e.addresses e.received e.same c.in_ok-release.ensures.alive),
       t.2,
-    )) e.gives e.alive
+    )
 
-pub returns-clause-ends : goal.returns-clause-ends
-returns-clause-ends g c =
+pub returns-in_err-release-clause-ends : goal.returns-in_err-release-clause-ends
+returns-in_err-release-clause-ends g c =
     let r = g.R.NodeReplica in
+    let tells = g.S.DatagramSocket.is_telling in
     let o = c.gather_turn.ensures.others in
     let t = c.in_ok-gather_turn.ensures.takes (cc c.if-not-branch.false) in
     let e = c.release.ensures in
-    both_on_err c.release.result (λ silent broken. (
+    on_err c.from_residual-in_err-release.result (
       t.0,
-      received_on g.S.DatagramSocket.is_telling t.0 c.args.server.now c.gather_turn.new.self c.release.new.self e.still t.1.received,
-      last_of r.Says r.Gathers g.S.DatagramSocket.is_telling t.0 c.begin-group.result c.gather_turn.new.group c.args.server.now c.gather_turn.new.self c.release.new.self c.begin-group.ensures t.1 silent
-          (ap (λ (s : ServerValue _). s.sent) o) (ap (λ (s : ServerValue _). s.socket_failures) o) (same_by c.args.server.now c.gather_turn.new.self o) e.addresses e.same broken,
-    )) e.silent e.broken
+      received_on tells t.0 c.args.server.now c.gather_turn.new.self c.release.new.self e.still t.1.received,
+      last_of r.Says r.Gathers tells t.0 c.begin-group.result c.gather_turn.new.group c.args.server.now c.gather_turn.new.self c.release.new.self c.begin-group.ensures t.1 c.in_err-release.ensures.silent
+          (ap (λ (s : ServerValue _). s.sent) o) (ap (λ (s : ServerValue _). s.socket_failures) o) (same_by c.args.server.now c.gather_turn.new.self o) e.addresses e.same c.in_err-release.ensures.broken,
+    )
 
 pub returns-in_err-gather_turn-clause-ends : goal.returns-in_err-gather_turn-clause-ends
 returns-in_err-gather_turn-clause-ends g c =

@@ -1,4 +1,5 @@
-use Rattle.std.proofs.Common.{rules, ◌≡◌, ◌⊎◌, [], Option, refl, subst, arith}
+use Rattle.std.proofs.Common.{rules, ◌≡◌, ◌⊎◌, [], Option, refl, subst₂, arith}
+use Rattle.lk_probe.specs.declared.reported.Reported.{Reported}
 use Rattle.lk_transport.specs.declared.asked.Asked.{Asked}
 use Rattle.lk_transport.proofs.Chaining.{repeats_as, repeats_more}
 use Rattle.lk_service.specs.Turns.{TakesTurnWith, GoesOn, LeavesOff, EndsTurn}
@@ -6,22 +7,22 @@ use Rattle.lk_service.proofs.Turning.{on_err, turns_end}
 use Rattle.lk_service.proofs.running.take_turns.Goals as goal
 
 pub turns-init : goal.turns-init
-turns-init g c = (search rules, record { states = []; are = refl; chain = refl })
+turns-init g c = (search rules, search rules, record { states = []; are = refl; chain = refl })
 
 pub turns-preserved : goal.turns-preserved
 turns-preserved g c =
     let i = c.turns.invariant in
     let e = c.in_ok-take_turn.ensures in
-    (e.spent, repeats_more i.1 (subst (λ (kept : Option Asked). TakesTurnWith _ g.S.DatagramSocket.is_telling kept GoesOn c.turns.server c.take_turn.new.server) i.0 e.turn))
+    (e.spent.0, e.spent.1, repeats_more i.2 (subst₂ (λ (kept : Option Asked) (told : Option Reported). TakesTurnWith _ g.S.DatagramSocket.is_telling kept told GoesOn c.turns.server c.take_turn.new.server) i.0 i.1 e.turn))
 
 pub returns-clause-ok : goal.returns-clause-ok
 returns-clause-ok g c =
     let all : c.turns.counter ≡ 281474976710656 = omega arith in
-    repeats_as all c.turns.invariant.1
+    repeats_as all c.turns.invariant.2
 
 pub returns-in_err-take_turn-clause-err : goal.returns-in_err-take_turn-clause-err
 returns-in_err-take_turn-clause-err g c =
     let i = c.turns.invariant in
     let tells = g.S.DatagramSocket.is_telling in
-    on_err c.from_residual.result (turns_end 281474976710656 c.turns-test.true i.1
-    (subst (λ (kept : Option Asked). EndsTurn _ tells c.turns.server c.take_turn.new.server ⊎ TakesTurnWith _ tells kept LeavesOff c.turns.server c.take_turn.new.server) i.0 c.in_err-take_turn.ensures.ends))
+    on_err c.from_residual.result (turns_end 281474976710656 c.turns-test.true i.2
+    (subst₂ (λ (kept : Option Asked) (told : Option Reported). EndsTurn _ tells c.turns.server c.take_turn.new.server ⊎ TakesTurnWith _ tells kept told LeavesOff c.turns.server c.take_turn.new.server) i.0 i.1 c.in_err-take_turn.ensures.ends))

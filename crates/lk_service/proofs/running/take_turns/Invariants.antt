@@ -1,4 +1,4 @@
--- So many turns were taken, and no probe is kept between two of them.
+-- So many turns were taken, and no probe and no report is kept between two of them.
 use Rattle.std.proofs.Common.{◌≡◌, None}
 use Rattle.lk_transport.specs.Chains.{Repeats}
 use Rattle.lk_service.specs.Turns.{TakesTurn}
@@ -8,4 +8,4 @@ use Rattle.lk_service.proofs.running.take_turns.Given as goal
 abbrev pub invariant-turns : goal.invariant-turns
 invariant-turns g l =
     let device = g.D.LogDisk in
-    (l.buffer.asked ≡ None) × Repeats (TakesTurn (SaysOn device.is_honest device.is_metered g.M.Machine.meaning g.M.Machine.IsText) g.S.DatagramSocket.is_telling) l.counter l.fn.server l.server
+    (l.buffer.asked ≡ None) × (l.buffer.reported ≡ None) × Repeats (TakesTurn (SaysOn device.is_honest device.is_metered g.M.Machine.meaning g.M.Machine.IsText) g.S.DatagramSocket.is_telling) l.counter l.fn.server l.server

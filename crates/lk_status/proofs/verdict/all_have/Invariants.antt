@@ -1,4 +1,4 @@
-use Rattle.std.proofs.Common.{◌≡◌, ◌+◌, ◌≤◌, drop}
+use Rattle.std.proofs.Common.{◌≡◌, drop}
 use Rattle.lk_status.specs.Verdicts.{all_have}
 use Rattle.lk_status.proofs.verdict.all_have.Given as goal
 

@@ -1,4 +1,4 @@
-use Rattle.std.proofs.Common.{◌≡◌, ◌+◌, ◌≤◌, drop}
+use Rattle.std.proofs.Common.{◌≡◌, drop}
 use Rattle.lk_status.specs.Verdicts.{has_answered}
 use Rattle.lk_status.proofs.verdict.has_answered.Given as goal
 

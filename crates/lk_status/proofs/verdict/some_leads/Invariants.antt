@@ -1,4 +1,4 @@
-use Rattle.std.proofs.Common.{◌≡◌, ◌+◌, ◌≤◌, drop}
+use Rattle.std.proofs.Common.{◌≡◌, drop}
 use Rattle.lk_status.specs.Verdicts.{some_leads}
 use Rattle.lk_status.proofs.verdict.some_leads.Given as goal
 

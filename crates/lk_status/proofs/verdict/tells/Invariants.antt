@@ -1,4 +1,4 @@
-use Rattle.std.proofs.Common.{◌≡◌, ◌+◌, ◌≤◌, drop}
+use Rattle.std.proofs.Common.{◌≡◌, drop}
 use Rattle.lk_status.specs.Verdicts.{tells}
 use Rattle.lk_status.proofs.verdict.tells.Given as goal
 

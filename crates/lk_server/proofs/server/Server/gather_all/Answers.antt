@@ -9,18 +9,18 @@ use Rattle.lk_server.proofs.Asking.{keeps_still}
 use Rattle.lk_server.proofs.Carrying.{on_err}
 use Rattle.lk_server.proofs.Turning.{own_group, own_ends_first, own_ends}
 use Rattle.lk_server.proofs.server.Server.gather_all.Goals as goal
-use Rattle.lk_transport.specs.Askers.{KeepsFirstOf}
+use Rattle.lk_transport.specs.Kept.{KeepsOf}
 
 pub returns-then-not-branch-clause-takes : goal.returns-then-not-branch-clause-takes
 returns-then-not-branch-clause-takes g c =
     let n = c.in_ok-gather_letter.ensures.none (cc c.if-not-branch.true) in
-    subst₂ (λ (x : GroupValue) (s : ServerValue _). IfOk c.gather_socket.result (λ found. found ≡ Something → (frames : List (SocketAddr × List ℕ)) × TakesWaiting g.R.NodeReplica.Gathers g.S.DatagramSocket.is_telling frames x c.gather_socket.new.group s c.gather_socket.new.self × KeepsFirstOf s.addresses.seals c.args.buffer.now.asked frames c.gather_socket.new.buffer.asked))
+    subst₂ (λ (x : GroupValue) (s : ServerValue _). IfOk c.gather_socket.result (λ found. found ≡ Something → (frames : List (SocketAddr × List ℕ)) × TakesWaiting g.R.NodeReplica.Gathers g.S.DatagramSocket.is_telling frames x c.gather_socket.new.group s c.gather_socket.new.self × KeepsOf s.node s.addresses.seals frames c.args.buffer.now c.gather_socket.new.buffer))
     n.2 n.1 c.gather_socket.ensures.takes
 
 pub returns-then-not-branch-clause-none : goal.returns-then-not-branch-clause-none
 returns-then-not-branch-clause-none g c =
     let n = c.in_ok-gather_letter.ensures.none (cc c.if-not-branch.true) in
-    subst₂ (λ (x : GroupValue) (s : ServerValue _). IfOk c.gather_socket.result (λ found. (found ≡ Something → ⊥) → (s.own ≡ []) × (frames : List (SocketAddr × List ℕ)) × Finds g.S.DatagramSocket.is_telling found frames s c.gather_socket.new.self × (c.gather_socket.new.group ≡ x) × KeepsFirstOf s.addresses.seals c.args.buffer.now.asked frames c.gather_socket.new.buffer.asked))
+    subst₂ (λ (x : GroupValue) (s : ServerValue _). IfOk c.gather_socket.result (λ found. (found ≡ Something → ⊥) → (s.own ≡ []) × (frames : List (SocketAddr × List ℕ)) × Finds g.S.DatagramSocket.is_telling found frames s c.gather_socket.new.self × (c.gather_socket.new.group ≡ x) × KeepsOf s.node s.addresses.seals frames c.args.buffer.now c.gather_socket.new.buffer))
     n.2 n.1 c.gather_socket.ensures.none
 
 pub returns-then-not-branch-clause-ends : goal.returns-then-not-branch-clause-ends
@@ -37,7 +37,7 @@ returns-clause-takes g c = λ yes.
       own_group r.Says r.Gathers g.S.DatagramSocket.is_telling first.0 c.args.group.now c.gather_letter.new.group c.gather_letters.new.group c.args.self.now c.gather_letter.new.self c.gather_letters.new.self first.1
           (ap (λ (s : ServerValue _). s.addresses) c.gather_letters.ensures.others ∙ ap (λ (s : ServerValue _). s.addresses) c.gather_letter.ensures.others)
           (ap (λ (s : ServerValue _). s.coming) c.gather_letters.ensures.others ∙ ap (λ (s : ServerValue _). s.coming) c.gather_letter.ensures.others) first.2 c.in_ok-gather_letters.ensures.takes,
-      keeps_still c.args.self.now.addresses.seals c.args.buffer.now.asked c.args.buffer.now.asked refl,
+      keeps_still c.args.self.now.node c.args.self.now.addresses.seals c.args.buffer.now c.args.buffer.now refl refl,
     )
 
 pub returns-in_err-gather_letter-clause-ends : goal.returns-in_err-gather_letter-clause-ends

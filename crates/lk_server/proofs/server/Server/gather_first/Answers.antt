@@ -21,7 +21,8 @@ returns-clause-takes g c =
       apart,
       socket_one g.R.NodeReplica.Gathers g.S.DatagramSocket.is_telling c.listen.new.buffer.last t.0 c.args.group.now c.gather_heard.new.group c.args.self.now c.listen.new.self c.gather_heard.new.self t.1 l.comes l.others
           (ap (λ (s : ServerValue _). s.coming) h.others) t.3,
-      keeps_given c.args.self.now.addresses.seals t.0 c.args.buffer.now.asked c.gather_heard.new.buffer.asked (not_beside (circle_of c.args.self.now.addresses) t.0 apart) (ap (λ (b : BufferValue). b.asked) same ∙ l.asked),
+      keeps_given c.args.self.now.node c.args.self.now.addresses.seals t.0 c.args.buffer.now c.gather_heard.new.buffer (not_beside (circle_of c.args.self.now.addresses) t.0 apart)
+          (ap (λ (b : BufferValue). b.asked) same ∙ l.asked) (ap (λ (b : BufferValue). b.reported) same ∙ l.reported),
     )) h.takes h.rest
 
 pub returns-clause-none : goal.returns-clause-none
@@ -33,7 +34,8 @@ returns-clause-none g c =
       listed c.listen.new.buffer.last,
       f.0,
       f.1,
-      keeps_found c.args.self.now.addresses.seals c.listen.new.self.addresses.seals found c.args.buffer.now.asked c.listen.new.buffer c.gather_heard.new.buffer (ap (λ (s : ServerValue _). s.addresses.seals) l.others) l.asked
+      keeps_found c.args.self.now.node c.listen.new.self.node c.args.self.now.addresses.seals c.listen.new.self.addresses.seals found c.args.buffer.now c.listen.new.buffer c.gather_heard.new.buffer
+          (ap (λ (s : ServerValue _). s.node) l.others) (ap (λ (s : ServerValue _). s.addresses.seals) l.others) l.asked l.reported
           (λ is. (none is).0) (λ is. let b = beside is in (b.0, b.1)) kept rest apart,
     )) h.none h.beside h.kept h.rest
 

@@ -12,7 +12,7 @@ datagrams-init g c = (
   refl,
   socket_nothing g.R.NodeReplica.Gathers g.S.DatagramSocket.is_telling c.args.group.now c.args.group.now c.args.self.now c.args.self.now refl refl,
   refl,
-  keeps_still c.args.self.now.addresses.seals c.args.buffer.now.asked c.args.buffer.now.asked refl,
+  keeps_still c.args.self.now.node c.args.self.now.addresses.seals c.args.buffer.now c.args.buffer.now refl refl,
 )
 
 pub datagrams-preserved : goal.datagrams-preserved
@@ -25,7 +25,8 @@ datagrams-preserved g c =
       socket_more g.R.NodeReplica.Gathers g.S.DatagramSocket.is_telling i.0 (t.0 ∷ []) c.args.group.now c.datagrams.group c.gather_waiting.new.group c.args.self.now c.datagrams.self new (ap (λ (s : ServerValue _). s.cluster) i.3) i.2 t.1,
       c.gather_waiting.ensures.others
           ∙ ap (λ (s : ServerValue _). record s { replica = new.replica; failed = new.failed; received = new.received; addresses = new.addresses; coming = new.coming }) i.3,
-      keeps_more c.args.self.now.addresses.seals c.datagrams.self.addresses.seals i.0 (t.0 ∷ []) c.args.buffer.now.asked c.datagrams.buffer.asked c.gather_waiting.new.buffer.asked (ap (λ (c : Circle). c.seals) i.2.takes.network.1) i.4 t.2,
+      keeps_more c.args.self.now.node c.datagrams.self.node c.args.self.now.addresses.seals c.datagrams.self.addresses.seals i.0 (t.0 ∷ []) c.args.buffer.now c.datagrams.buffer c.gather_waiting.new.buffer
+          (ap (λ (s : ServerValue _). s.node) i.3) (ap (λ (c : Circle). c.seals) i.2.takes.network.1) i.4 t.2,
     )
 
 pub returns-then-not-branch-clause-takes : goal.returns-then-not-branch-clause-takes
@@ -35,7 +36,7 @@ returns-then-not-branch-clause-takes g c =
       i.0,
       omega (arith, i.1, c.datagrams-test.true),
       socket_still g.R.NodeReplica.Gathers g.S.DatagramSocket.is_telling i.0 c.args.group.now c.datagrams.group c.gather_waiting.new.group c.args.self.now c.datagrams.self c.gather_waiting.new.self i.2 n.2 n.1 n.0,
-      keeps_on c.args.self.now.addresses.seals i.0 c.args.buffer.now.asked c.datagrams.buffer.asked c.gather_waiting.new.buffer.asked i.4 n.3,
+      keeps_on c.args.self.now.node c.args.self.now.addresses.seals i.0 c.args.buffer.now c.datagrams.buffer c.gather_waiting.new.buffer i.4 n.3 n.4,
     )
 
 pub returns-clause-takes : goal.returns-clause-takes

@@ -1,4 +1,4 @@
-use Rattle.std.proofs.Common.{rules, ◌≡◌, false, Some, refl}
+use Rattle.std.proofs.Common.{rules, ◌≡◌, false, Some}
 use Rattle.lk_probe.specs.Neighbours.{is_stranger}
 use Rattle.lk_seal.specs.Seals.{heard}
 use Rattle.lk_transport.specs.Addresses.{circle_of}
@@ -37,4 +37,4 @@ returns-in_err-gather_counted-clause-ends g c =
 pub returns-in-Some-stranger-clause-kept : goal.returns-in-Some-stranger-clause-kept
 returns-in-Some-stranger-clause-kept g c = λ found.
     let beside : is_beside (heard c.args.self.now.addresses.seals c.in-Some.frame.now) ≡ false = search rules in
-    keeps_strange c.args.self.now.addresses.seals (c.in-Some.from, c.in-Some.frame.now) c.args.buffer.now c.in-Some.ensures.some beside
+    keeps_strange c.args.self.now.node c.args.self.now.addresses.seals (c.in-Some.from, c.in-Some.frame.now) c.args.buffer.now c.in-Some.ensures.some beside

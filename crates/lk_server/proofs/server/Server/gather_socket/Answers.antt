@@ -25,7 +25,8 @@ returns-clause-takes g c = λ yes.
       socket_group r.Says r.Gathers tells first.0 more.0 c.args.group.now c.gather_further.new.group c.args.self.now c.gather_further.new.self c.requires
           (ap (λ (s : ServerValue _). s.own) two ∙ ap (λ (s : ServerValue _). s.own) one) more.1 first.1
           (socket_more r.Gathers tells (first.0 ∷ []) more.0 c.args.group.now c.gather_first.new.group c.gather_further.new.group c.args.self.now c.gather_first.new.self c.gather_further.new.self (ap (λ (s : ServerValue _). s.cluster) one) first.2 more.2),
-      keeps_more c.args.self.now.addresses.seals c.gather_first.new.self.addresses.seals (first.0 ∷ []) more.0 c.args.buffer.now.asked c.gather_first.new.buffer.asked c.gather_further.new.buffer.asked (ap (λ (c : Circle). c.seals) first.2.takes.network.1) first.3 more.3,
+      keeps_more c.args.self.now.node c.gather_first.new.self.node c.args.self.now.addresses.seals c.gather_first.new.self.addresses.seals (first.0 ∷ []) more.0 c.args.buffer.now c.gather_first.new.buffer c.gather_further.new.buffer
+          (ap (λ (s : ServerValue _). s.node) one) (ap (λ (c : Circle). c.seals) first.2.takes.network.1) first.3 more.3,
     )
 
 pub returns-in_err-found-clause-ends : goal.returns-in_err-found-clause-ends

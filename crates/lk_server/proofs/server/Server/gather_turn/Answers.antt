@@ -5,14 +5,14 @@ use Rattle.lk_server.specs.Servers.{ServerValue, HasReceived, IsIdle}
 use Rattle.lk_server.proofs.Carrying.{on_err, apart_by}
 use Rattle.lk_server.proofs.Turning.{untimely_takes, untimely_rests, tick_turn, tick_turn_ends}
 use Rattle.lk_server.proofs.server.Server.gather_turn.Goals as goal
-use Rattle.lk_transport.specs.Askers.{KeepsFirstOf}
+use Rattle.lk_transport.specs.Kept.{KeepsOf}
 
 pub returns-then-not-is_due-clause-takes : goal.returns-then-not-is_due-clause-takes
 returns-then-not-is_due-clause-takes g c = λ is.
     let r = g.R.NodeReplica in
     let tells = g.S.DatagramSocket.is_telling in
-    subst (λ (s : ServerValue _). (frames : List (SocketAddr × List ℕ)) × TakesGroup r.Gathers tells frames c.args.group.now c.gather_all.new.group s c.gather_all.new.self × KeepsFirstOf s.addresses.seals c.args.buffer.now.asked frames c.gather_all.new.buffer.asked) c.wait_for.ensures
-    (untimely_takes r.Says r.Gathers tells (λ frames. KeepsFirstOf c.wait_for.new.self.addresses.seals c.args.buffer.now.asked frames c.gather_all.new.buffer.asked) c.args.group.now c.gather_all.new.group c.wait_for.new.self c.gather_all.new.self (c.in_ok-found.ensures.takes (c.is_something.ensures.0 is)))
+    subst (λ (s : ServerValue _). (frames : List (SocketAddr × List ℕ)) × TakesGroup r.Gathers tells frames c.args.group.now c.gather_all.new.group s c.gather_all.new.self × KeepsOf s.node s.addresses.seals frames c.args.buffer.now c.gather_all.new.buffer) c.wait_for.ensures
+    (untimely_takes r.Says r.Gathers tells (λ frames. KeepsOf c.wait_for.new.self.node c.wait_for.new.self.addresses.seals frames c.args.buffer.now c.gather_all.new.buffer) c.args.group.now c.gather_all.new.group c.wait_for.new.self c.gather_all.new.self (c.in_ok-found.ensures.takes (c.is_something.ensures.0 is)))
 
 pub returns-then-not-is_due-clause-idle : goal.returns-then-not-is_due-clause-idle
 returns-then-not-is_due-clause-idle g c = λ isnt.
@@ -20,8 +20,8 @@ returns-then-not-is_due-clause-idle g c = λ isnt.
     let tells = g.S.DatagramSocket.is_telling in
     let pace : c.self.inside.pace ≡ c.gather_all.new.self.pace = search rules in
     let apart = apart_by isnt c.is_something.ensures.1 in
-    subst (λ (s : ServerValue _). (frames : List (SocketAddr × List ℕ)) × HasReceived tells frames s c.gather_all.new.self × IsIdle tells frames s c.gather_all.new.self × KeepsFirstOf s.addresses.seals c.args.buffer.now.asked frames c.gather_all.new.buffer.asked) c.wait_for.ensures
-    (untimely_rests r.Says r.Gathers tells (λ frames. KeepsFirstOf c.wait_for.new.self.addresses.seals c.args.buffer.now.asked frames c.gather_all.new.buffer.asked) c.in_ok-found.found c.is_due.result c.args.group.now c.gather_all.new.group c.wait_for.new.self c.gather_all.new.self
+    subst (λ (s : ServerValue _). (frames : List (SocketAddr × List ℕ)) × HasReceived tells frames s c.gather_all.new.self × IsIdle tells frames s c.gather_all.new.self × KeepsOf s.node s.addresses.seals frames c.args.buffer.now c.gather_all.new.buffer) c.wait_for.ensures
+    (untimely_rests r.Says r.Gathers tells (λ frames. KeepsOf c.wait_for.new.self.node c.wait_for.new.self.addresses.seals frames c.args.buffer.now c.gather_all.new.buffer) c.in_ok-found.found c.is_due.result c.args.group.now c.gather_all.new.group c.wait_for.new.self c.gather_all.new.self
     (ap (λ (s : ServerValue _). s.pace) c.gather_all.ensures.others) (cc c.if-not-is_due.true) (λ is. c.is_due.ensures.none (pace ∙ is)) (c.in_ok-found.ensures.none apart))
 
 pub returns-clause-takes : goal.returns-clause-takes
@@ -30,8 +30,8 @@ returns-clause-takes g c = λ is.
     let tells = g.S.DatagramSocket.is_telling in
     let a = c.in_ok-found.ensures in
     let pace : c.self.inside.pace ≡ c.gather_all.new.self.pace = search rules in
-    subst (λ (s : ServerValue _). (frames : List (SocketAddr × List ℕ)) × TakesGroup r.Gathers tells frames c.args.group.now c.gather_tick.new.group s c.gather_tick.new.self × KeepsFirstOf s.addresses.seals c.args.buffer.now.asked frames c.gather_all.new.buffer.asked) c.wait_for.ensures
-    (tick_turn r.Says r.Gathers tells (λ frames. KeepsFirstOf c.wait_for.new.self.addresses.seals c.args.buffer.now.asked frames c.gather_all.new.buffer.asked) c.is_due.result c.args.group.now c.gather_all.new.group c.wait_for.new.self c.gather_all.new.self c.gather_tick.new.self (ap (λ (s : ServerValue _). s.pace) c.gather_all.ensures.others)
+    subst (λ (s : ServerValue _). (frames : List (SocketAddr × List ℕ)) × TakesGroup r.Gathers tells frames c.args.group.now c.gather_tick.new.group s c.gather_tick.new.self × KeepsOf s.node s.addresses.seals frames c.args.buffer.now c.gather_all.new.buffer) c.wait_for.ensures
+    (tick_turn r.Says r.Gathers tells (λ frames. KeepsOf c.wait_for.new.self.node c.wait_for.new.self.addresses.seals frames c.args.buffer.now c.gather_all.new.buffer) c.is_due.result c.args.group.now c.gather_all.new.group c.wait_for.new.self c.gather_all.new.self c.gather_tick.new.self (ap (λ (s : ServerValue _). s.pace) c.gather_all.ensures.others)
     (cc c.if-not-is_due.false) c.gather_tick.ensures.others c.in_ok-found.found c.gather_tick.new.group a.takes a.none (λ same. c.is_due.ensures.given (pace ∙ same)) c.in_ok-gather_tick.ensures.gathers)
 
 pub returns-in_err-found-clause-ends : goal.returns-in_err-found-clause-ends
@@ -49,5 +49,5 @@ returns-in_err-gather_tick-clause-ends g c =
     let pace : c.self.inside.pace ≡ c.gather_all.new.self.pace = search rules in
     on_err c.from_residual-in_err-gather_tick.result
     (subst (λ (s : ServerValue _). (frames : List (SocketAddr × List ℕ)) × EndsGroup r.Says r.Gathers tells frames c.args.group.now s c.gather_tick.new.self) c.wait_for.ensures
-    (tick_turn_ends r.Says r.Gathers tells (λ frames. KeepsFirstOf c.wait_for.new.self.addresses.seals c.args.buffer.now.asked frames c.gather_all.new.buffer.asked) c.is_due.result c.args.group.now c.gather_all.new.group c.wait_for.new.self c.gather_all.new.self c.gather_tick.new.self (ap (λ (s : ServerValue _). s.pace) c.gather_all.ensures.others)
+    (tick_turn_ends r.Says r.Gathers tells (λ frames. KeepsOf c.wait_for.new.self.node c.wait_for.new.self.addresses.seals frames c.args.buffer.now c.gather_all.new.buffer) c.is_due.result c.args.group.now c.gather_all.new.group c.wait_for.new.self c.gather_all.new.self c.gather_tick.new.self (ap (λ (s : ServerValue _). s.pace) c.gather_all.ensures.others)
     (cc c.if-not-is_due.false) c.gather_tick.ensures.others c.in_ok-found.found a.takes a.none (λ same. c.is_due.ensures.given (pace ∙ same)) c.in_err-gather_tick.ensures.silent))

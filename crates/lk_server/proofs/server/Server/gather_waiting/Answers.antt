@@ -1,4 +1,4 @@
-use Rattle.std.proofs.Common.{rules, ◌≡◌, ap, ◌∙◌}
+use Rattle.std.proofs.Common.{rules, ap, ◌∙◌}
 use Rattle.lk_transport.specs.Addresses.{circle_of}
 use Rattle.lk_server.specs.Servers.{ServerValue}
 use Rattle.lk_server.proofs.Apart.{not_beside}
@@ -10,38 +10,40 @@ use Rattle.lk_transport.specs.Hearing.{BufferValue}
 
 pub returns-in-Something-clause-takes : goal.returns-in-Something-clause-takes
 returns-in-Something-clause-takes g c = λ came.
-    let l = c.listen_waiting.ensures in
+    let l = c.listen_further.ensures in
     let t = c.in_ok-gather_heard.ensures.takes (search rules) in
     let same = c.in_ok-gather_heard.ensures.rest (λ is. cc is) in (
       t.0,
-      socket_one g.R.NodeReplica.Gathers g.S.DatagramSocket.is_telling c.listen_waiting.new.buffer.last t.0 c.args.group.now c.gather_heard.new.group c.args.self.now c.listen_waiting.new.self c.gather_heard.new.self t.1 l.comes l.others
+      socket_one g.R.NodeReplica.Gathers g.S.DatagramSocket.is_telling c.listen_further.new.buffer.last t.0 c.args.group.now c.gather_heard.new.group c.args.self.now c.listen_further.new.self c.gather_heard.new.self t.1 l.comes l.others
           (ap (λ (s : ServerValue _). s.coming) c.gather_heard.ensures.others) t.3,
-      keeps_given c.args.self.now.addresses.seals t.0 c.args.buffer.now.asked c.gather_heard.new.buffer.asked (not_beside (circle_of c.args.self.now.addresses) t.0 (apart_as c.args.self.now c.listen_waiting.new.self t.0 l.others t.2)) (ap (λ (b : BufferValue). b.asked) same ∙ l.asked),
+      keeps_given c.args.self.now.node c.args.self.now.addresses.seals t.0 c.args.buffer.now c.gather_heard.new.buffer (not_beside (circle_of c.args.self.now.addresses) t.0 (apart_as c.args.self.now c.listen_further.new.self t.0 l.others t.2))
+          (ap (λ (b : BufferValue). b.asked) same ∙ l.asked) (ap (λ (b : BufferValue). b.reported) same ∙ l.reported),
     )
 
 pub returns-in-Beside-clause-takes : goal.returns-in-Beside-clause-takes
 returns-in-Beside-clause-takes g c = λ came.
-    let l = c.listen_waiting.ensures in
+    let l = c.listen_further.ensures in
     let b = c.in_ok-gather_heard.ensures.beside (search rules) in (
       b.0,
-      socket_beside g.R.NodeReplica.Gathers g.S.DatagramSocket.is_telling c.listen_waiting.new.buffer.last b.0 c.args.group.now c.gather_heard.new.group c.args.self.now c.listen_waiting.new.self c.gather_heard.new.self b.1 l.comes l.others b.2 b.3 b.4,
-      keeps_beside c.args.self.now.addresses.seals c.listen_waiting.new.self.addresses.seals b.0 c.args.buffer.now.asked c.listen_waiting.new.buffer c.gather_heard.new.buffer (ap (λ (s : ServerValue _). s.addresses.seals) l.others) l.asked b.1
-          (c.in_ok-gather_heard.ensures.kept (search rules)),
+      socket_beside g.R.NodeReplica.Gathers g.S.DatagramSocket.is_telling c.listen_further.new.buffer.last b.0 c.args.group.now c.gather_heard.new.group c.args.self.now c.listen_further.new.self c.gather_heard.new.self b.1 l.comes l.others b.2 b.3 b.4,
+      keeps_beside c.args.self.now.node c.listen_further.new.self.node c.args.self.now.addresses.seals c.listen_further.new.self.addresses.seals b.0 c.args.buffer.now c.listen_further.new.buffer c.gather_heard.new.buffer
+          (ap (λ (s : ServerValue _). s.node) l.others) (ap (λ (s : ServerValue _). s.addresses.seals) l.others) l.asked l.reported b.1 (c.in_ok-gather_heard.ensures.kept (search rules)),
     )
 
 pub returns-in-Nothing-clause-none : goal.returns-in-Nothing-clause-none
 returns-in-Nothing-clause-none g c = λ came.
-    let l = c.listen_waiting.ensures in
+    let l = c.listen_further.ensures in
     let n = c.in_ok-gather_heard.ensures.none (search rules) in
-    let so = none_came g.S.DatagramSocket.is_telling c.listen_waiting.new.buffer.last c.args.self.now c.listen_waiting.new.self c.gather_heard.new.self n.0 l.comes l.others n.1 in
-    (so.0, so.1, n.2, ap (λ (b : BufferValue). b.asked) (c.in_ok-gather_heard.ensures.rest (λ is. cc is)) ∙ l.asked)
+    let so = none_came g.S.DatagramSocket.is_telling c.listen_further.new.buffer.last c.args.self.now c.listen_further.new.self c.gather_heard.new.self n.0 l.comes l.others n.1 in
+    let same = c.in_ok-gather_heard.ensures.rest (λ is. cc is) in
+    (so.0, so.1, n.2, ap (λ (b : BufferValue). b.asked) same ∙ l.asked, ap (λ (b : BufferValue). b.reported) same ∙ l.reported)
 
 pub returns-in_err-gather_heard-clause-ends : goal.returns-in_err-gather_heard-clause-ends
 returns-in_err-gather_heard-clause-ends g c =
-    let l = c.listen_waiting.ensures in
+    let l = c.listen_further.ensures in
     let e = c.in_err-gather_heard.ensures.ends in
     on_err c.from_residual.result (
       e.0,
-      ends_socket g.R.NodeReplica.Says g.R.NodeReplica.Gathers g.S.DatagramSocket.is_telling c.listen_waiting.new.buffer.last e.0 c.args.group.now c.args.self.now c.listen_waiting.new.self c.gather_heard.new.self e.1 l.comes l.others
+      ends_socket g.R.NodeReplica.Says g.R.NodeReplica.Gathers g.S.DatagramSocket.is_telling c.listen_further.new.buffer.last e.0 c.args.group.now c.args.self.now c.listen_further.new.self c.gather_heard.new.self e.1 l.comes l.others
           (ap (λ (s : ServerValue _). s.coming) c.gather_heard.ensures.others) e.3,
     )

@@ -1,0 +1,58 @@
+-- What a receive buffer keeps of the frames that come: the first probe by which somebody asks, and the first report
+-- that answers the node's question.
+use Rattle.std.specs.Prelude.{◌≡◌, ◌++◌, ℕ, List, ◌∷◌, Option, Some, None}
+use Rattle.std.specs.List.{AllByRecursion}
+use Rattle.std.specs.declared.net.socket_addr.SocketAddr.{SocketAddr}
+use Rattle.lk_seal.specs.declared.seals.Seals.{Seals}
+use Rattle.lk_transport.specs.Askers.{IsKeptOf}
+use Rattle.lk_transport.specs.Hearing.{BufferValue}
+use Rattle.lk_transport.specs.Inquiring.{IsToldBy}
+
+-- ---- the first of what frames bring. `Brings` says what a frame brings, if anything
+
+module _ {K : Type 0} (Brings : SocketAddr × List ℕ → Option K → Type 0) where
+  -- none of these frames brings anything
+  abbrev pub BringNothing : List (SocketAddr × List ℕ) → Type 0
+  BringNothing frames = AllByRecursion (λ (d : SocketAddr × List ℕ). Brings d None) frames
+
+  -- one of these frames brings this, and no earlier one anything
+  pub record BringsFirst (frames : List (SocketAddr × List ℕ)) (k : K) : Type 0 where
+    pub before : List (SocketAddr × List ℕ)
+    pub frame : SocketAddr × List ℕ
+    pub after : List (SocketAddr × List ℕ)
+    pub are : frames ≡ before ++ frame ∷ after
+    pub none : BringNothing before
+    pub brings : Brings frame (Some k)
+
+  -- what the first of these frames that brings anything brings, if there is one
+  abbrev pub IsFirstOf : List (SocketAddr × List ℕ) → Option K → Type 0
+  IsFirstOf frames None = BringNothing frames
+  IsFirstOf frames (Some k) = BringsFirst frames k
+
+  -- one is kept of these frames: the one that was kept before, or else the first
+  abbrev pub KeepsFirstOf : Option K → List (SocketAddr × List ℕ) → Option K → Type 0
+  KeepsFirstOf (Some k) frames new = new ≡ Some k
+  KeepsFirstOf None frames new = IsFirstOf frames new
+
+  -- what the frame that came last brings, if one did
+  abbrev pub IsBroughtLast : Option (SocketAddr × List ℕ) → Option K → Type 0
+  IsBroughtLast None new = new ≡ None
+  IsBroughtLast (Some d) new = Brings d new
+
+  -- one is kept: the one that was kept before, or else what came last
+  abbrev pub KeepsFirst : Option (SocketAddr × List ℕ) → Option K → Option K → Type 0
+  KeepsFirst last (Some k) new = new ≡ Some k
+  KeepsFirst last None new = IsBroughtLast last new
+
+-- ---- what the buffer of the node of that number keeps
+
+-- of the frame that came last
+pub record Keeps (node : ℕ) (s : Seals) (old new : BufferValue) : Type 0 where
+  pub last : new.last ≡ old.last
+  pub asked : KeepsFirst (IsKeptOf s) old.last old.asked new.asked
+  pub reported : KeepsFirst (IsToldBy node s) old.last old.reported new.reported
+
+-- of these frames
+pub record KeepsOf (node : ℕ) (s : Seals) (frames : List (SocketAddr × List ℕ)) (old new : BufferValue) : Type 0 where
+  pub asked : KeepsFirstOf (IsKeptOf s) old.asked frames new.asked
+  pub reported : KeepsFirstOf (IsToldBy node s) old.reported frames new.reported
