@@ -155,6 +155,16 @@ class StatusTest(unittest.TestCase):
     def test_a_node_that_hears_nobody_is_named(self):
         self.tells([node(1, leads=1), node(2), node(3, leader=0, silence=28)], 0, "why: node 3 hears nobody")
 
+    def test_a_node_that_seeks_votes_is_named_and_follows_nobody(self):
+        seeks = node(1, leader=3, silence=0)
+        lines = self.tells([seeks, node(2, leads=1), node(3, leader=2)], 0, "why: node 1 seeks votes: if that lasts, see")
+        self.assertIn("node 1, port a: seeks votes, executed 10", lines[0])
+        self.tells([seeks, node(2, leader=0), silent], 1, "if it lasts, the members do not hear each other")
+
+    def test_who_is_no_member_is_named_where_there_is_no_majority(self):
+        lines = self.tells([node(1, leads=1), silent, silent, node(4)], 1, "why: no majority", "why: node 4 is not a member")
+        self.assertEqual("\n".join(lines).count("why:"), 2, lines)
+
     def test_two_geneses_are_told(self):
         answers = [node(1, leads=1), node(2), node(3), node(4, genesis=OTHER_GENESIS)]
         self.tells(answers, 1, "genesis differs: 4", "why: two geneses")

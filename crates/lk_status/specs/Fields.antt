@@ -1,5 +1,5 @@
 -- The numbers that a node tells, and the node that others follow.
-use Rattle.std.specs.Prelude.{ℕ, nat_lt, ◌==◌, ◌&&◌, Bool, is_some, Option, None, List, [], ◌∷◌, length, if◌then◌else◌}
+use Rattle.std.specs.Prelude.{ℕ, nat_lt, ◌==◌, not, ◌&&◌, Bool, is_some, Option, None, List, [], ◌∷◌, length, if◌then◌else◌}
 use Rattle.std.specs.List.{list_any}
 use Rattle.lk_types.specs.declared.member.Member.{Member}
 use Rattle.lk_probe.specs.Grammar.{flag, or_zero}
@@ -28,7 +28,15 @@ field_value Table r = r.status.identity.table
 abbrev pub is_member : ℕ → List Member → Bool
 is_member node members = list_any (λ m. m.node == node) members
 
--- the leader of the first of these reports that tells one of which it has heard in the last 28 ticks
+-- it does not lead, the ballot that it has promised is its own, and it counts no tick without a leader: it has a term
+abbrev pub seeks_votes : Report → Bool
+seeks_votes r = not r.status.leadership.leads && r.status.leadership.promised.node == r.node && r.status.leadership.silence == 0
+
+-- it follows a leader, of which it has heard in the last 28 ticks
+abbrev pub follows : Report → Bool
+follows r = is_some r.status.leadership.leader && nat_lt r.status.leadership.silence 28 && not (seeks_votes r)
+
+-- the leader that the first of these reports follows
 abbrev pub followed : List Report → Option ℕ
 followed [] = None
-followed (r ∷ rs) = if is_some r.status.leadership.leader && nat_lt r.status.leadership.silence 28 then r.status.leadership.leader else followed rs
+followed (r ∷ rs) = if follows r then r.status.leadership.leader else followed rs

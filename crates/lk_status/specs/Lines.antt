@@ -7,6 +7,7 @@ use Rattle.lk_types.specs.BallotValue.{BallotValue}
 use Rattle.lk_types.specs.declared.member.Member.{Member}
 use Rattle.lk_probe.specs.declared.probe.Report.{Report}
 use Rattle.lk_probe.specs.declared.status.Leadership.{Leadership}
+use Rattle.lk_status.specs.Fields.{seeks_votes}
 use Rattle.lk_status.specs.Measures.{executed_of}
 use Rattle.lk_status.specs.Rounds.{report_of}
 use Rattle.lk_status.specs.Verdicts.{up, one_genesis}
@@ -19,8 +20,11 @@ abbrev pub following : Option ℕ → ℕ → List ℕ
 following (Some leader) ticks = codes "follows " ++ (decimal leader ++ (codes ", heard " ++ (decimal ticks ++ codes " ticks ago")))
 following None ticks = codes "knows no leader for " ++ (decimal ticks ++ codes " ticks")
 
-abbrev pub leadership_text : Leadership → List ℕ
-leadership_text l = if l.leads then codes "leads" else following l.leader l.silence
+abbrev pub following_text : Leadership → List ℕ
+following_text l = if l.leads then codes "leads" else following l.leader l.silence
+
+abbrev pub leadership_text : Report → List ℕ
+leadership_text r = if seeks_votes r then codes "seeks votes" else following_text r.status.leadership
 
 -- how many positions fewer than these it has executed, if it has
 abbrev pub behind_text : ℕ → ℕ → List ℕ
@@ -57,7 +61,7 @@ name_text node port = codes "node " ++ (decimal node ++ (codes ", port " ++ (dec
 abbrev pub node_line : ℕ → Report → ℕ → List ℕ
 node_line port r most =
     name_text r.node port
-    ++ (leadership_text r.status.leadership ++ (progress_text r most ++ (members_text r.status.members ++ (traffic_text r ++ 10 ∷ []))))
+    ++ (leadership_text r ++ (progress_text r most ++ (members_text r.status.members ++ (traffic_text r ++ 10 ∷ []))))
 
 -- ---- of all
 

@@ -1,19 +1,19 @@
 ghost use Rattle.std.specs.Io.KnownBytes.{Appends};
 ghost use Rattle.std.specs.Option.{option_copied};
 ghost use Rattle.std.specs.Prelude.{OnOk};
-ghost use Rattle.lk_status.specs.Lines.{leadership_text, executed_text, snapshot_text, behind_text, promised_text, progress_text, members_text, count_text, traffic_text, node_line, target_line, target_lines, stranger_word, strangers_text, raised_text, majority_text, cluster_line, status_text};
+ghost use Rattle.lk_status.specs.Lines.{following_text, leadership_text, executed_text, snapshot_text, behind_text, promised_text, progress_text, members_text, count_text, traffic_text, node_line, target_line, target_lines, stranger_word, strangers_text, raised_text, majority_text, cluster_line, status_text};
 
 use crate::measure::executed_of;
 use crate::target::{Inquiry, report_with};
-use crate::verdict::{has_one_genesis, up};
+use crate::verdict::{has_one_genesis, seeks_votes, up};
 use lk_probe::{Leadership, Report};
 use lk_types::{Ballot, Member};
 use std::io;
 use std::io::Write;
 
 /// Writes whom a node follows: `leads`, `follows 1, heard 2 ticks ago` or `knows no leader for 28 ticks`.
-fn write_leadership<W: Write>(leadership: &Leadership, out: &mut W) -> io::Result<()>
-    ensures { OnOk result (Appends (W.contents out.old) (W.contents out.new) (leadership_text leadership.now)) }
+fn write_following<W: Write>(leadership: &Leadership, out: &mut W) -> io::Result<()>
+    ensures { OnOk result (Appends (W.contents out.old) (W.contents out.new) (following_text leadership.now)) }
 {
     if leadership.leads {
         out.write_all(b"leads")?;
@@ -24,6 +24,18 @@ fn write_leadership<W: Write>(leadership: &Leadership, out: &mut W) -> io::Resul
         Some(leader) => write!(out, "follows {}, heard {ticks} ticks ago", leader.get())?,
         None => write!(out, "knows no leader for {ticks} ticks")?,
     }
+    Ok(())
+}
+
+/// Writes that a node `seeks votes`, or whom it follows.
+fn write_leadership<W: Write>(report: &Report, out: &mut W) -> io::Result<()>
+    ensures { OnOk result (Appends (W.contents out.old) (W.contents out.new) (leadership_text report.now)) }
+{
+    if seeks_votes(report) {
+        out.write_all(b"seeks votes")?;
+        return Ok(());
+    }
+    write_following(&report.status.leadership, out)?;
     Ok(())
 }
 
@@ -107,7 +119,7 @@ fn write_node<W: Write>(port: u16, report: &Report, most: u64, out: &mut W) -> i
     ensures { OnOk result (Appends (W.contents out.old) (W.contents out.new) (node_line port report.now most)) }
 {
     write!(out, "node {}, port {port}: ", report.node.get())?;
-    write_leadership(&report.status.leadership, out)?;
+    write_leadership(report, out)?;
     write_progress(report, most, out)?;
     write_members(report.status.members.as_slice(), out)?;
     write_traffic(report, out)?;

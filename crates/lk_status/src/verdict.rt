@@ -1,6 +1,7 @@
 //! What the reports of nodes come to.
 
 ghost use Rattle.std.specs.Prelude.{◌≡◌, ◌↔◌, ◌≤◌, IsTrue, length};
+ghost use Rattle.lk_status.specs.Fields.{seeks_votes};
 ghost use Rattle.lk_status.specs.Verdicts.{IsServed, has_answered, up, has_majority, some_leads, tells, one_genesis, is_served, all_have, is_ready};
 
 use lk_probe::{DIGEST, Report};
@@ -30,6 +31,15 @@ pub fn up(members: &[Member], reports: &[Report]) -> usize
         }
     }
     count
+}
+
+/// Whether a node seeks votes: it does not lead, the ballot that it has promised is its own, and it counts no tick
+/// without a leader, as long as it has a term.
+pub fn seeks_votes(report: &Report) -> bool
+    ensures { result ≡ seeks_votes report.now }
+{
+    let leadership = &report.status.leadership;
+    !leadership.leads && leadership.promised.node() == report.node.get() && leadership.silence == 0
 }
 
 /// Whether a majority of the members of the next position report, as this one knows them.

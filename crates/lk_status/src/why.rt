@@ -1,10 +1,10 @@
 ghost use Rattle.std.specs.Io.KnownBytes.{Appends};
 ghost use Rattle.std.specs.Option.{option_copied};
 ghost use Rattle.std.specs.Prelude.{◌≡◌, OnOk};
-ghost use Rattle.lk_status.specs.Fields.{is_member, followed};
-ghost use Rattle.lk_status.specs.Reasons.{deaf_line, outside_line, node_reason, node_reasons, nobody_line, majority_line, mute_text, leaderless_line, geneses_reason, leader_reason, members_reason, why_text};
+ghost use Rattle.lk_status.specs.Fields.{is_member, follows, followed};
+ghost use Rattle.lk_status.specs.Reasons.{deaf_line, seeking_line, hearing_reason, outside_line, node_reason, node_reasons, nobody_line, majority_line, mute_text, leaderless_line, geneses_reason, leader_reason, leaders_reason, members_reason, why_text};
 
-use crate::verdict::{has_majority, has_one_genesis};
+use crate::verdict::{has_majority, has_one_genesis, seeks_votes};
 use lk_probe::Report;
 use lk_types::{Member, NodeNo};
 use std::io;
@@ -20,14 +20,21 @@ fn is_among(node: NodeNo, members: &[Member]) -> bool
     members.iter().any(|member| member.node == node)
 }
 
-/// The node that another takes for the leader and hears.
+/// Whether a node follows a leader, of which it has heard in the last 28 ticks.
+fn follows(report: &Report) -> bool
+    ensures { result ≡ follows report.now }
+{
+    let leadership = &report.status.leadership;
+    leadership.leader.is_some() && leadership.silence < SILENT && !seeks_votes(report)
+}
+
+/// The leader that the first of these follows.
 fn followed_in(reports: &[Report]) -> Option<NodeNo>
     ensures { result ≡ followed reports.now }
 {
     for report in reports {
-        let leadership = &report.status.leadership;
-        if leadership.leader.is_some() && leadership.silence < SILENT {
-            return leadership.leader;
+        if follows(report) {
+            return report.status.leadership.leader;
         }
     }
     None
@@ -47,7 +54,9 @@ fn write_nobody<W: Write>(out: &mut W) -> io::Result<()>
 fn write_no_majority<W: Write>(out: &mut W) -> io::Result<()>
     ensures { OnOk result (Appends (W.contents out.old) (W.contents out.new) majority_line) }
 {
-    out.write_all(b"why: no majority: start more of the members, on their own folders\n")?;
+    out.write_all(
+        b"why: no majority: ask every member, and start those that are down, on their own folders\n",
+    )?;
     Ok(())
 }
 
@@ -99,17 +108,39 @@ fn write_unled<W: Write>(measure: &Report, reports: &[Report], out: &mut W) -> i
     Ok(())
 }
 
-// Writes that a node hears nobody, if it does not.
-fn write_deaf<W: Write>(report: &Report, out: &mut W) -> io::Result<()>
-    ensures { OnOk result (Appends (W.contents out.old) (W.contents out.new) (deaf_line report.now)) }
+// Writes that a node seeks votes.
+fn write_seeking<W: Write>(node: NodeNo, out: &mut W) -> io::Result<()>
+    ensures { OnOk result (Appends (W.contents out.old) (W.contents out.new) (seeking_line node)) }
+{
+    let node = node.get();
+    writeln!(
+        out,
+        "why: node {node} seeks votes: if that lasts, see its --port, the hosts and the keys"
+    )?;
+    Ok(())
+}
+
+// Writes that a node hears nobody.
+fn write_deaf<W: Write>(node: NodeNo, out: &mut W) -> io::Result<()>
+    ensures { OnOk result (Appends (W.contents out.old) (W.contents out.new) (deaf_line node)) }
+{
+    let node = node.get();
+    writeln!(
+        out,
+        "why: node {node} hears nobody: see its --port, the hosts and the keys"
+    )?;
+    Ok(())
+}
+
+// Writes that a node seeks votes, or hears nobody, if it does.
+fn write_hearing<W: Write>(report: &Report, out: &mut W) -> io::Result<()>
+    ensures { OnOk result (Appends (W.contents out.old) (W.contents out.new) (hearing_reason report.now)) }
 {
     let leadership = &report.status.leadership;
-    if !leadership.leads && leadership.silence >= SILENT {
-        writeln!(
-            out,
-            "why: node {} hears nobody: see its --port, the hosts and the keys",
-            report.node.get()
-        )?;
+    if seeks_votes(report) {
+        write_seeking(report.node, out)?;
+    } else if !leadership.leads && leadership.silence >= SILENT {
+        write_deaf(report.node, out)?;
     }
     Ok(())
 }
@@ -126,39 +157,63 @@ fn write_outside<W: Write>(node: NodeNo, out: &mut W) -> io::Result<()>
     Ok(())
 }
 
-// Writes that a node is none of these members, or hears nobody.
-fn write_node<W: Write>(members: &[Member], report: &Report, out: &mut W) -> io::Result<()>
-    ensures { OnOk result (Appends (W.contents out.old) (W.contents out.new) (node_reason members.now report.now)) }
+// Writes that a node is none of these members, or, where a majority of them is up, what it hears.
+fn write_node<W: Write>(
+    majority: bool,
+    members: &[Member],
+    report: &Report,
+    out: &mut W,
+) -> io::Result<()>
+    ensures { OnOk result (Appends (W.contents out.old) (W.contents out.new) (node_reason majority members.now report.now)) }
 {
-    if is_among(report.node, members) {
-        write_deaf(report, out)?;
-    } else {
+    if !is_among(report.node, members) {
         write_outside(report.node, out)?;
+    } else if majority {
+        write_hearing(report, out)?;
     }
     Ok(())
 }
 
-// Writes which nodes are no members, and which hear nobody.
-fn write_nodes<W: Write>(members: &[Member], reports: &[Report], out: &mut W) -> io::Result<()>
-    ensures { OnOk result (Appends (W.contents out.old) (W.contents out.new) (node_reasons members.now reports.now)) }
+// Writes which nodes are no members, and, where a majority of them is up, which seek votes or hear nobody.
+fn write_nodes<W: Write>(
+    majority: bool,
+    members: &[Member],
+    reports: &[Report],
+    out: &mut W,
+) -> io::Result<()>
+    ensures { OnOk result (Appends (W.contents out.old) (W.contents out.new) (node_reasons majority members.now reports.now)) }
 {
     'all: for report in reports {
-        write_node(members, report, out)?;
+        write_node(majority, members, report, out)?;
     }
     Ok(())
 }
 
-// Writes that there is no majority, or else that nobody leads and of whom that comes.
+// Writes that nobody leads and of whom that comes, or, without a majority, that there is none.
+fn write_leaders<W: Write>(
+    majority: bool,
+    measure: &Report,
+    reports: &[Report],
+    out: &mut W,
+) -> io::Result<()>
+    ensures { OnOk result (Appends (W.contents out.old) (W.contents out.new) (leaders_reason majority measure.now reports.now)) }
+{
+    if majority {
+        write_unled(measure, reports, out)?;
+    } else {
+        write_no_majority(out)?;
+    }
+    Ok(())
+}
+
+// Writes what is wrong with the members, or with a node that is none.
 #[tactic(auto, using(crate::proofs::Writing::appends_more))]
 fn write_members<W: Write>(measure: &Report, reports: &[Report], out: &mut W) -> io::Result<()>
     ensures { OnOk result (Appends (W.contents out.old) (W.contents out.new) (members_reason measure.now reports.now)) }
 {
-    if has_majority(measure, reports) {
-        write_unled(measure, reports, out)?;
-        write_nodes(measure.status.members.as_slice(), reports, out)?;
-    } else {
-        write_no_majority(out)?;
-    }
+    let majority = has_majority(measure, reports);
+    write_leaders(majority, measure, reports, out)?;
+    write_nodes(majority, measure.status.members.as_slice(), reports, out)?;
     Ok(())
 }
 
