@@ -96,7 +96,8 @@ class NodesStatusTest(unittest.TestCase):
         self.cluster.ports[3] = named
         self.comes(0, f"port {named}: no answer", "majority: 2 of 3 up\n", ": leads")
         self.cluster.start(3)
-        self.assertNotIn("why:", self.ready())
+        self.ready()
+        self.comes(0, "majority: 3 of 3 up\n", count=("why:", 0))
 
     def test_a_newcomer_that_hears_nobody_is_named(self):
         self.ready()
